@@ -1,0 +1,5 @@
+pub mod Tables
+pub mod Columns
+pub mod KeyWords
+pub mod RoundSteps
+pub mod Chains

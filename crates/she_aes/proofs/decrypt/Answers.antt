@@ -1,0 +1,21 @@
+use Rattle.std.proofs.Common.{◌≡◌, ◌∙◌, arith}
+use Rattle.she_aes.specs.Cipher.{round_keys}
+use Rattle.she_aes.proofs.RoundSteps.{undo_last, undo_more, undo_first}
+use Rattle.she_aes.proofs.decrypt.Goals as goal
+use Rattle.she_aes.proofs.decrypt.Goals.{After-schedule}
+
+-- the round keys that the schedule holds are those of its key
+made : (c : After-schedule) → c.schedule.inside.keys ≡ round_keys c.args.schedule.now
+made c = rw c.schedule.view_is at c.schedule.invariant
+
+pub loop-number-init : goal.loop-number-init
+loop-number-init c =
+    (rw c.block.view_is at c.undo_last_round-state.ensures) ∙ undo_last c.args.schedule.now c.args.block.now c.schedule.inside.keys (made (goal.at.loop-number-init c).After-schedule)
+
+pub loop-number-preserved : goal.loop-number-preserved
+loop-number-preserved c =
+    c.undo_round-state.ensures ∙ undo_more c.args.schedule.now c.args.block.now c.schedule.inside.keys (made (goal.at.loop-number-preserved c).After-schedule) c.loop-number.state c.loop-number.number c.loop-number.auto.number c.loop-number-test.true c.loop-number.invariant
+
+pub returns : goal.returns
+returns c =
+    c.of.ensures ∙ c.add_round_key.ensures ∙ undo_first c.args.schedule.now c.args.block.now c.schedule.inside.keys (made (goal.at.returns c).After-schedule) c.loop-number.state c.loop-number.number (omega arith) c.loop-number.invariant

@@ -1,0 +1,21 @@
+use Rattle.std.proofs.Common.{◌≡◌, ◌∙◌, arith}
+use Rattle.she_aes.specs.Cipher.{round_keys}
+use Rattle.she_aes.proofs.RoundSteps.{first_round, round_more, round_last}
+use Rattle.she_aes.proofs.encrypt.Goals as goal
+use Rattle.she_aes.proofs.encrypt.Goals.{After-schedule}
+
+-- the round keys that the schedule holds are those of its key
+made : (c : After-schedule) → c.schedule.inside.keys ≡ round_keys c.args.schedule.now
+made c = rw c.schedule.view_is at c.schedule.invariant
+
+pub loop-number-init : goal.loop-number-init
+loop-number-init c =
+    (rw c.block.view_is at c.add_round_key-state.ensures) ∙ first_round c.args.schedule.now c.args.block.now c.schedule.inside.keys (made (goal.at.loop-number-init c).After-schedule)
+
+pub loop-number-preserved : goal.loop-number-preserved
+loop-number-preserved c =
+    c.round-state.ensures ∙ round_more c.args.schedule.now c.args.block.now c.schedule.inside.keys (made (goal.at.loop-number-preserved c).After-schedule) c.loop-number.state c.loop-number.number c.loop-number.auto.number c.loop-number-test.true c.loop-number.invariant
+
+pub returns : goal.returns
+returns c =
+    c.of.ensures ∙ c.last_round.ensures ∙ round_last c.args.schedule.now c.args.block.now c.schedule.inside.keys (made (goal.at.returns c).After-schedule) c.loop-number.state c.loop-number.number (omega arith) c.loop-number.invariant

@@ -1,0 +1,5 @@
+use Rattle.she_aes.specs.ModeLaws.{ecb_inverse-ecb}
+use Rattle.she_aes.proofs.laws.ecb_decryption_undoes_encryption.Goals as goal
+
+pub returns : goal.returns
+returns c = ecb_inverse-ecb

@@ -1,0 +1,5 @@
+use Rattle.she_aes.specs.ModeLaws.{ecb-ecb_inverse}
+use Rattle.she_aes.proofs.laws.ecb_encryption_undoes_decryption.Goals as goal
+
+pub returns : goal.returns
+returns c = ecb-ecb_inverse

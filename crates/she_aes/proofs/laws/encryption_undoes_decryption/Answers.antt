@@ -1,0 +1,5 @@
+use Rattle.she_aes.specs.Undoing.{enc-dec}
+use Rattle.she_aes.proofs.laws.encryption_undoes_decryption.Goals as goal
+
+pub returns : goal.returns
+returns c = enc-dec

@@ -1,0 +1,19 @@
+use Rattle.std.proofs.Common.{arith, sym, ap, ◌∙◌, ◌∷◌, refl}
+use Rattle.std.proofs.lemmas.List.{length-set}
+use Rattle.she_aes.specs.Modes.{ecb_inverse}
+use Rattle.she_aes.proofs.Chains.{chain_more, chain_all}
+use Rattle.she_aes.proofs.modes.ecb_decrypt.Goals as goal
+
+pub loop-i-preserved : goal.loop-i-preserved
+unfolding ecb_inverse
+loop-i-preserved g c =
+    let key = c.args.schedule.now in (
+      length-set c.loop-i.out c.loop-i.i c.decrypt.result ∙ c.loop-i.invariant.0,
+      chain_more ecb_inverse key key (ecb_inverse key c.args.text.now) c.loop-i.out c.args.text.now c.loop-i.i c.index-text-i.result c.decrypt.result (omega arith) (omega arith) (λ rest. ap (λ y. y ∷ ecb_inverse key rest) (sym c.decrypt.ensures)) c.loop-i.invariant.1,
+    )
+
+pub returns : goal.returns
+unfolding ecb_inverse
+returns g c =
+    let key = c.args.schedule.now in
+    chain_all ecb_inverse key (ecb_inverse key c.args.text.now) c.loop-i.out c.args.text.now c.loop-i.i (omega arith) (omega arith) refl c.loop-i.invariant.1

@@ -1,0 +1,10 @@
+pub mod Field
+pub mod FieldFacts
+pub mod SBoxFacts
+pub mod Cipher
+pub mod CipherFacts
+pub mod Mixing
+pub mod Undoing
+pub mod Modes
+pub mod ModeLaws
+pub mod Examples

@@ -1,0 +1,133 @@
+//! AES-128, the block cipher of FIPS 197, with keys of 16 bytes.
+//!
+//! [`expand`] makes the round keys of a key. [`encrypt`] takes a block of 16 bytes to the block that the
+//! standard gives for it, and [`decrypt`] takes it back. The modes CBC and ECB (SP 800-38A) do the same
+//! with any number of blocks. [`laws`] says of the definitions that each direction undoes the other.
+//! No call refuses, and none takes memory.
+#![tactic(auto)]
+
+mod field;
+mod inverse;
+pub mod laws;
+mod modes;
+mod rounds;
+mod words;
+
+ghost use Rattle.std.specs.Prelude.{◌≡◌, ◌<◌, All};
+ghost use Rattle.she_aes.specs.Cipher.{IsBlock, xor_blocks, enc, dec};
+
+pub use modes::{cbc_decrypt, cbc_encrypt, ecb_decrypt, ecb_encrypt};
+use rounds::State;
+use std::marker::Model;
+
+/// A block of 16 bytes: a key, a text, or a value that is made of them.
+#[derive(Clone, Copy, Debug, PartialEq, Eq)]
+pub struct Block {
+    bytes: [u8; 16],
+}
+
+impl Model for Block {
+    ghost use Rattle.std.specs.Prelude.{List, ℕ};
+
+    ghost Value = { List ℕ };
+
+    ghost view = { λ b. b.bytes };
+
+    ghost inverse = { λ bytes. record { bytes = bytes } };
+}
+
+impl Block {
+    /// The block with these 16 bytes.
+    pub fn of(bytes: [u8; 16]) -> Block
+        ensures { result ≡ bytes }
+    {
+        Block { bytes }
+    }
+
+    /// The 16 bytes, in the standard's order.
+    pub fn bytes(&self) -> &[u8; 16]
+        ensures { result.now ≡ self.now }
+    {
+        &self.bytes
+    }
+
+    /// The same bytes as a slice. This call also tells a proof what every block is: 16 numbers below 256.
+    pub fn as_slice(&self) -> &[u8]
+        ensures value { result.now ≡ self.now }
+        ensures is_block { IsBlock self.now }
+    {
+        told(&self.bytes)
+    }
+
+    /// The exclusive or of the two blocks, byte by byte.
+    pub fn xor(&self, other: &Block) -> Block
+        ensures { result ≡ xor_blocks self.now other.now }
+    {
+        Block::of(rounds::xor(&self.bytes, &other.bytes))
+    }
+}
+
+// The same bytes: of a slice that is passed a proof knows that its items are bytes.
+fn told(bytes: &[u8]) -> &[u8]
+    ensures value { result.now ≡ bytes.now }
+    ensures bytes { All (λ b. b < 256) bytes.now }
+{
+    bytes
+}
+
+/// The eleven round keys of a key (FIPS 197, section 5.2). A contract sees the key itself.
+#[derive(Clone, Copy)]
+pub struct Schedule {
+    keys: [State; 11],
+}
+
+impl Model for Schedule {
+    ghost use Rattle.std.specs.Prelude.{◌≡◌, List, [], ℕ, slice_index_or};
+    ghost use Rattle.she_aes.specs.Cipher.{round_keys};
+
+    ghost Value = { List ℕ };
+
+    ghost view = { λ s. slice_index_or s.keys 0 [] };
+
+    ghost invariant = { λ s. s.keys ≡ round_keys (slice_index_or s.keys 0 []) };
+
+    ghost inverse = { λ key. record { keys = round_keys key } };
+}
+
+/// The round keys of a key, by the key expansion of FIPS 197, section 5.2.
+pub fn expand(key: &Block) -> Schedule
+    ensures { result ≡ key.now }
+{
+    let words = words::key_words(&key.bytes);
+    Schedule {
+        keys: words::round_keys(&words),
+    }
+}
+
+/// The block encrypted under the key of the schedule (FIPS 197, section 5.1).
+pub fn encrypt(schedule: &Schedule, block: &Block) -> Block
+    ensures { result ≡ enc schedule.now block.now }
+{
+    let keys = &schedule.keys;
+    let mut state = rounds::add_round_key(&keys[0], &block.bytes);
+    for number in 1..10 {
+        state = rounds::round(&keys[number], &state);
+    }
+    Block::of(rounds::last_round(&keys[10], &state))
+}
+
+/// The block decrypted under the key of the schedule (FIPS 197, section 5.3): the block that `encrypt`
+/// takes to this one.
+pub fn decrypt(schedule: &Schedule, block: &Block) -> Block
+    ensures { result ≡ dec schedule.now block.now }
+{
+    let keys = &schedule.keys;
+    let mut state = inverse::undo_last_round(&keys[10], &block.bytes);
+    for number in 1..10 {
+        state = inverse::undo_round(&keys[10 - number], &state);
+    }
+    Block::of(rounds::add_round_key(&keys[0], &state))
+}
+
+#[cfg(test)]
+mod tests;
