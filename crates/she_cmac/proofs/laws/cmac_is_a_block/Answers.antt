@@ -1,0 +1,5 @@
+use Rattle.she_cmac.specs.Length.{IsBlock-cmac}
+use Rattle.she_cmac.proofs.laws.cmac_is_a_block.Goals as goal
+
+pub returns : goal.returns
+returns c = λ key message. IsBlock-cmac key message

@@ -1,0 +1,4 @@
+pub mod Cmac
+pub mod Examples
+pub mod Length
+pub mod Took
