@@ -1,0 +1,14 @@
+use Rattle.std.specs.Prelude.{ℕ, List, [], ◌∷◌, Bool, ◌&&◌, ◌==◌}
+use Rattle.std.specs.List.{list_any}
+
+-- the pairs of a target slot and a slot whose key may authorise its update (SHE specification, memory update)
+abbrev pub pairs : List (ℕ × ℕ)
+pairs =
+    (1, 1) ∷ (2, 1) ∷ (2, 2) ∷ (3, 1) ∷ (3, 2) ∷ (4, 1) ∷ (4, 4) ∷ (5, 1) ∷ (5, 5) ∷ (6, 1) ∷ (6, 6) ∷ (7, 1) ∷ (7, 7) ∷ (8, 1) ∷ (8, 8) ∷ (9, 1) ∷ (9, 9) ∷ (10, 1) ∷ (10, 10) ∷ (11, 1) ∷ (11, 11) ∷ (12, 1) ∷ (12, 12) ∷ (13, 1) ∷ (13, 13) ∷ []
+
+abbrev pub same_pair : ℕ × ℕ → ℕ × ℕ → Bool
+same_pair p q = (p.0 == q.0) && (p.1 == q.1)
+
+-- the same as a test: the key of the second slot may authorise an update of the first
+unfoldable pub is_pair : ℕ → ℕ → Bool
+is_pair target auth = list_any (same_pair (target, auth)) pairs

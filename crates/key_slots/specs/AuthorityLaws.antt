@@ -1,0 +1,41 @@
+-- The pairs as a set and as a test
+use Rattle.std.proofs.Common.{◌≡◌, ℕ, Bool, true, false, ◌&&◌, ◌==◌, ◌↔◌, IsTrue, Contains, refl, sym, ap, ◌∙◌}
+use Rattle.std.proofs.lemmas.Bool.Decides.{Decides-eqb}
+use Rattle.std.proofs.lemmas.List.Folds.{list_any_at}
+use Rattle.std.proofs.lemmas.Map.Views.{Contains-from_any}
+use Rattle.key_slots.specs.Authority.{pairs, same_pair, is_pair}
+
+both : (p q : Bool) → p ≡ true → q ≡ true → (p && q) ≡ true
+both p q e f = ap (λ x. x && q) e ∙ f
+
+parts : (p q : Bool) → (p && q) ≡ true → (p ≡ true) × (q ≡ true)
+parts true q e = (refl, e)
+parts false q e = cc
+
+same_self : (target auth : ℕ) → same_pair (target, auth) (target, auth) ≡ true
+same_self target auth = both (target == target) (auth == auth) ((Decides-eqb target target).1 refl) ((Decides-eqb auth auth).1 refl)
+
+same_is : (p q : ℕ × ℕ) → same_pair p q ≡ true → p ≡ q
+same_is p q e =
+    let x = parts (p.0 == q.0) (p.1 == q.1) e in
+    let Make : ℕ → ℕ → ℕ × ℕ = λ a b. (a, b) in
+    ap (λ a. Make a p.1) ((Decides-eqb p.0 q.0).0 x.0) ∙ ap (Make q.0) ((Decides-eqb p.1 q.1).0 x.1)
+
+pub is_pair_listed : (target auth : ℕ) → is_pair target auth ≡ true → Contains pairs (target, auth)
+unfolding is_pair
+is_pair_listed target auth e = Contains-from_any same_is (target, auth) pairs e
+
+pub listed_is_pair : (target auth : ℕ) → Contains pairs (target, auth) → is_pair target auth ≡ true
+unfolding is_pair
+listed_is_pair target auth c =
+    list_any_at (same_pair (target, auth)) pairs c.0 (target, auth) c.1 (ap (same_pair (target, auth)) c.2 ∙ same_self target auth)
+
+not_true : (b : Bool) → (b ≡ true → ⊥) → false ≡ b
+not_true true h = absurd (h refl)
+not_true false h = refl
+
+-- an answer that is true exactly for the listed pairs is the test
+pub answer_is_pair : (answer : Bool) (target auth : ℕ) → (IsTrue answer ↔ Contains pairs (target, auth)) → answer ≡ is_pair target auth
+answer_is_pair true target auth decides = sym (listed_is_pair target auth (decides.0 refl))
+answer_is_pair false target auth decides =
+    not_true (is_pair target auth) (λ e. let impossible : false ≡ true = decides.1 (is_pair_listed target auth e) in cc)

@@ -1,0 +1,17 @@
+//! The key memory of the Secure Hardware Extensions (SHE): fourteen slots, who may authorise an
+//! update of a slot, and when a slot's key may be used.
+#![tactic(auto)]
+
+mod authority;
+mod memory;
+mod numbers;
+mod refusals;
+#[cfg(test)]
+mod tests;
+mod usage;
+
+pub use authority::may_authorise;
+pub use memory::{Flags, Slot, Slots};
+pub use numbers::{Counter28, SlotId};
+pub use refusals::Erc;
+pub use usage::{Purpose, usable};

@@ -1,0 +1,144 @@
+//! Vectors from the SHE specification, the printed names, and each call once.
+use crate::{Counter28, Erc, Flags, Purpose, Slot, SlotId, Slots, may_authorise, usable};
+use she_aes::Block;
+use std::test::Fail;
+
+const NO_FLAGS: Flags = Flags {
+    write: false,
+    boot: false,
+    debugger: false,
+    usage: false,
+    wildcard: false,
+};
+
+fn filled(flags: Flags) -> Result<Slot, &'static str> {
+    Ok(Slot::Filled {
+        key: Block::of([7; 16]),
+        counter: Counter28::new(1).ok_or("a counter")?,
+        flags,
+    })
+}
+
+#[test]
+fn of_the_196_pairs_25_are_allowed(rt: HostRuntime) {
+    let mut allowed = 0u32;
+    for target in 0..14 {
+        for by in 0..14 {
+            if let (Some(id), Some(auth)) = (SlotId::new(target), SlotId::new(by)) {
+                if may_authorise(id, auth) {
+                    allowed = allowed.wrapping_add(1);
+                }
+            }
+        }
+    }
+    assert_eq!(rt; allowed, 25);
+}
+
+#[test]
+fn slots_and_counters_have_their_bounds(rt: HostRuntime) -> Result<(), Fail> {
+    assert_eq!(rt; SlotId::new(13).ok_or("slot 13")?.number(), 13);
+    assert!(rt; SlotId::new(14).is_none());
+    assert!(rt; SlotId::new(255).is_none());
+    assert_eq!(rt;
+        Counter28::new(268435455).ok_or("the last")?.number(),
+        268435455
+    );
+    assert!(rt; Counter28::new(268435456).is_none());
+    Ok(())
+}
+
+#[test]
+fn flags_are_five_bits(rt: HostRuntime) {
+    for (number, flags) in [
+        (
+            16,
+            Flags {
+                write: true,
+                ..NO_FLAGS
+            },
+        ),
+        (
+            8,
+            Flags {
+                boot: true,
+                ..NO_FLAGS
+            },
+        ),
+        (
+            4,
+            Flags {
+                debugger: true,
+                ..NO_FLAGS
+            },
+        ),
+        (
+            2,
+            Flags {
+                usage: true,
+                ..NO_FLAGS
+            },
+        ),
+        (
+            1,
+            Flags {
+                wildcard: true,
+                ..NO_FLAGS
+            },
+        ),
+    ] {
+        assert_eq!(rt; flags.number(), number);
+        assert!(rt; Flags::of(flags.number()) == flags);
+    }
+}
+
+#[test]
+fn a_slot_that_was_set_is_there(rt: HostRuntime) -> Result<(), Fail> {
+    let mut slots = Slots::empty();
+    let slot = filled(NO_FLAGS)?;
+    slots.set(SlotId::new(13).ok_or("slot 13")?, slot);
+    assert!(rt; *slots.get(SlotId::new(13).ok_or("slot 13")?) == slot);
+    assert!(rt; *slots.get(SlotId::new(12).ok_or("slot 12")?) == Slot::Empty);
+    Ok(())
+}
+
+fn protected() -> Result<Slot, &'static str> {
+    filled(Flags {
+        boot: true,
+        ..NO_FLAGS
+    })
+}
+
+#[test]
+fn the_first_refusal_is_answered(rt: HostRuntime) -> Result<(), Fail> {
+    for (slot, booted, purpose, answer) in [
+        (Slot::Empty, true, Purpose::Mac, Err(Erc::KeyEmpty)),
+        (protected()?, false, Purpose::Mac, Err(Erc::KeyInvalid)),
+        (
+            protected()?,
+            false,
+            Purpose::Cipher,
+            Err(Erc::KeyNotAvailable),
+        ),
+        (protected()?, true, Purpose::Cipher, Ok(())),
+    ] {
+        assert!(rt; usable(&slot, booted, purpose) == answer);
+    }
+    Ok(())
+}
+
+#[test]
+fn refusals_have_their_printed_names(rt: HostRuntime) -> Result<(), Fail> {
+    for (refusal, name) in [
+        (Erc::KeyNotAvailable, "KEY_NOT_AVAILABLE"),
+        (Erc::KeyInvalid, "KEY_INVALID"),
+        (Erc::KeyEmpty, "KEY_EMPTY"),
+        (Erc::NoSecureBoot, "NO_SECURE_BOOT"),
+        (Erc::KeyWriteProtected, "KEY_WRITE_PROTECTED"),
+        (Erc::KeyUpdateError, "KEY_UPDATE_ERROR"),
+        (Erc::SequenceError, "SEQUENCE_ERROR"),
+    ] {
+        assert_eq!(rt; refusal.name(), name);
+        assert_eq!(rt; format!(in rt.alloc(); "{refusal}")?.as_str(), name);
+    }
+    Ok(())
+}
