@@ -1,0 +1,11 @@
+pub mod Arming
+pub mod State
+pub mod Images
+pub mod Calls
+pub mod Splices
+pub mod CallLaws
+pub mod ImageLaws
+pub mod Memory
+pub mod Lasting
+pub mod MemoryLaws
+pub mod MemDisk

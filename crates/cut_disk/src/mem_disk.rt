@@ -1,0 +1,206 @@
+//! A disk in memory.
+ghost use Rattle.std.specs.Prelude.{◌≡◌, ◌+◌, ◌^◌, ◌≤◌, List, length, replicate, slice_range, true, false, not, is_ok, IfOk, OnOk, OnErr};
+ghost use Rattle.cut_disk.specs.State.{last_count};
+ghost use Rattle.cut_disk.specs.Images.{splice};
+ghost use Rattle.cut_disk.specs.Memory.{torn_byte, left_bytes};
+
+use crate::arming::{Arms, count_call};
+use crate::{CutDisk, Disk, DiskFailed, Memory, Torn};
+use std::alloc::{AllocError, Global};
+
+impl From<AllocError> for Memory {
+    fn from(_: AllocError) -> Self {
+        Memory
+    }
+}
+
+/// A disk in memory. It tells its bytes. Its calls fail exactly where a stop or an arm says so, and a write that
+/// fails places its bytes all the same.
+#[derive(Drop)]
+pub struct MemDisk {
+    bytes: Vec<u8>,
+    /// The bytes of the last sync.
+    synced: Vec<u8>,
+    /// For each byte whether it was written since then.
+    loose: Vec<bool>,
+    arms: Arms,
+    /// How many calls have failed, or the last value of a `u64`.
+    faults: u64,
+    ghost as_many_synced: { length synced.items ≡ length bytes.items },
+    ghost as_many_loose: { length loose.items ≡ length bytes.items },
+    ghost sized: { length bytes.items ≤ 2 ^ 24 },
+    ghost counted: { faults ≤ last_count },
+}
+
+impl MemDisk {
+    ghost use Rattle.cut_disk.specs.Memory.{fresh};
+    ghost use Rattle.cut_disk.specs.MemDisk.{contents};
+
+    /// A disk of so many zero bytes, at most 2^24, none of them loose.
+    pub fn new(alloc: Global, size: usize) -> Result<MemDisk, Memory>
+        requires { size ≤ 2 ^ 24 }
+        ensures { IfOk result (λ disk. contents disk ≡ fresh (replicate size 0)) }
+    {
+        Ok(MemDisk {
+            bytes: vec![in alloc; 0; size]?,
+            synced: vec![in alloc; 0; size]?,
+            loose: vec![in alloc; false; size]?,
+            arms: Arms::none(),
+            faults: 0,
+        })
+    }
+
+    /// A disk of these bytes, at most 2^24, none of them loose.
+    pub fn of(alloc: Global, bytes: &[u8]) -> Result<MemDisk, Memory>
+        requires { length bytes.now ≤ 2 ^ 24 }
+        ensures { IfOk result (λ disk. contents disk ≡ fresh bytes.now) }
+    {
+        Ok(MemDisk {
+            bytes: bytes.to_vec(alloc)?,
+            synced: bytes.to_vec(alloc)?,
+            loose: vec![in alloc; false; bytes.len()]?,
+            arms: Arms::none(),
+            faults: 0,
+        })
+    }
+}
+
+impl Disk for MemDisk {
+    ghost use Rattle.std.specs.Prelude.{None};
+    ghost use Rattle.cut_disk.specs.Arming.{fails};
+    ghost use Rattle.cut_disk.specs.Calls.{Call};
+    ghost use Rattle.cut_disk.specs.Memory.{disk_of, counted, placed, after_sync};
+    ghost use Rattle.cut_disk.specs.MemoryLaws.{contents_are_a_disk};
+    ghost use Rattle.cut_disk.specs.MemDisk.{contents};
+
+    ghost state = { λ disk. disk_of (contents disk) };
+
+    fn size(&self) -> u64 {
+        self.bytes.len() as u64
+    }
+
+    fn read(&mut self, at: u64, out: &mut [u8]) -> Result<(), DiskFailed>
+        requires inside { at + length out.old ≤ length (contents self.old).bytes }
+        ensures call { Call None (disk_of (contents self.old)) (disk_of (contents self.new)) }
+        ensures exactly { is_ok result ≡ not (fails (contents self.old).arms) }
+        ensures contents { contents self.new ≡ counted (contents self.old) }
+        ensures bytes { OnOk result (out.new ≡ slice_range (contents self.old).bytes at (at + length out.old)) }
+        ensures unread { OnErr result (out.new ≡ out.old) }
+    {
+        count_call(&mut self.arms, &mut self.faults)?;
+        let from = at as usize;
+        out.copy_from_slice(&self.bytes[from..from + out.len()]);
+        Ok(())
+    }
+
+    fn write(&mut self, at: u64, bytes: &[u8]) -> Result<(), DiskFailed>
+        requires inside { at + length bytes.now ≤ length (contents self.old).bytes }
+        ensures call { Call None (disk_of (contents self.old)) (disk_of (contents self.new)) }
+        ensures exactly { is_ok result ≡ not (fails (contents self.old).arms) }
+        ensures contents { contents self.new ≡ placed at bytes.now (counted (contents self.old)) }
+    {
+        let outcome = count_call(&mut self.arms, &mut self.faults);
+        place(&mut self.bytes, at as usize, bytes);
+        loosen(&mut self.loose, at as usize, bytes.len());
+        outcome
+    }
+
+    fn sync(&mut self) -> Result<(), DiskFailed>
+        ensures call { Call None (disk_of (contents self.old)) (disk_of (contents self.new)) }
+        ensures exactly { is_ok result ≡ not (fails (contents self.old).arms) }
+        ensures synced { OnOk result (contents self.new ≡ after_sync (counted (contents self.old))) }
+        ensures unsynced { OnErr result (contents self.new ≡ counted (contents self.old)) }
+    {
+        count_call(&mut self.arms, &mut self.faults)?;
+        firm_up(&self.bytes, &mut self.synced, &mut self.loose);
+        Ok(())
+    }
+
+    ghost is_disk = { λ disk. contents_are_a_disk (contents disk) disk.as_many_loose disk.sized disk.counted };
+}
+
+impl CutDisk for MemDisk {
+    ghost use Rattle.cut_disk.specs.Arming.{with_stop, with_fail};
+    ghost use Rattle.std.specs.Prelude.{Some};
+    ghost use Rattle.cut_disk.specs.State.{Cut, Stop, Fail};
+    ghost use Rattle.cut_disk.specs.Images.{CutsTo};
+    ghost use Rattle.cut_disk.specs.Calls.{Call};
+    ghost use Rattle.cut_disk.specs.Memory.{disk_of, cut};
+    ghost use Rattle.cut_disk.specs.MemDisk.{contents};
+
+    fn power_cut(&mut self, torn: Torn)
+        ensures contents { contents self.new ≡ cut torn (contents self.old) }
+        ensures call { Call (Some (Cut torn)) (disk_of (contents self.old)) (disk_of (contents self.new)) }
+        ensures left { CutsTo (disk_of (contents self.old)).told (disk_of (contents self.new)).told }
+    {
+        tear(torn, &mut self.bytes, &self.synced, &self.loose);
+        firm_up(&self.bytes, &mut self.synced, &mut self.loose);
+        self.arms.cut();
+    }
+
+    fn stop_at(&mut self, calls: u64)
+        requires first { 1 ≤ calls }
+        ensures call { Call (Some (Stop calls)) (disk_of (contents self.old)) (disk_of (contents self.new)) }
+        ensures contents { contents self.new ≡ record (contents self.old) { arms = with_stop calls (contents self.old).arms } }
+    {
+        self.arms.stop_at(calls);
+    }
+
+    fn fail_at(&mut self, calls: u64)
+        requires first { 1 ≤ calls }
+        ensures call { Call (Some (Fail calls)) (disk_of (contents self.old)) (disk_of (contents self.new)) }
+        ensures contents { contents self.new ≡ record (contents self.old) { arms = with_fail calls (contents self.old).arms } }
+    {
+        self.arms.fail_at(calls);
+    }
+}
+
+/// Copies the bytes into `into` from the index `at` on.
+fn place(into: &mut [u8], at: usize, bytes: &[u8])
+    requires { at + length bytes.now ≤ length into.old }
+    ensures { into.new ≡ splice at bytes.now into.old }
+{
+    into[at..at + bytes.len()].copy_from_slice(bytes);
+}
+
+/// Marks so many bytes as loose, from the index `at` on.
+fn loosen(loose: &mut [bool], at: usize, count: usize)
+    requires { at + count ≤ length loose.old }
+    ensures { loose.new ≡ splice at (replicate count true) loose.old }
+{
+    loose[at..at + count].fill(true);
+}
+
+/// Makes the bytes those of the last sync, none of them loose.
+fn firm_up(bytes: &[u8], synced: &mut [u8], loose: &mut [bool])
+    requires { length synced.old ≡ length bytes.now }
+    ensures synced { synced.new ≡ bytes.now }
+    ensures loose { loose.new ≡ replicate (length loose.old) false }
+{
+    synced.copy_from_slice(bytes);
+    loose.fill(false);
+}
+
+/// Leaves of each loose byte what a power cut leaves of it.
+fn tear(torn: Torn, bytes: &mut [u8], synced: &[u8], loose: &[bool])
+    requires synced { length synced.now ≡ length bytes.old }
+    requires loose { length loose.now ≡ length bytes.old }
+    ensures { bytes.new ≡ left_bytes torn bytes.old synced.now loose.now }
+{
+    for (address, byte) in bytes.iter_mut().enumerate() {
+        if loose[address] {
+            *byte = torn_byte(torn, address, *byte, synced[address]);
+        }
+    }
+}
+
+fn torn_byte(torn: Torn, address: usize, read: u8, synced: u8) -> u8
+    ensures { result ≡ torn_byte torn address read synced }
+{
+    match torn {
+        Torn::Keep => read,
+        Torn::Old => synced,
+        Torn::Half => { if address % 2 == 0 { read } else { synced } }
+        Torn::Fill(byte) => byte,
+    }
+}
