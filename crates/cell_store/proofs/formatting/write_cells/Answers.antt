@@ -1,0 +1,14 @@
+-- The writes, and then a sync.
+use Rattle.std.proofs.Common.{arith}
+use Rattle.cut_disk.specs.CallLaws.{runs_then, runs_more, grows_after, grows_of_call}
+use Rattle.cell_store.proofs.Results.{OnOk-from}
+use Rattle.cell_store.proofs.formatting.write_cells.Goals as goal
+
+pub returns-in_err-write_pairs-clause-runs : goal.returns-in_err-write_pairs-clause-runs
+returns-in_err-write_pairs-clause-runs g c = runs_more _ (omega arith) c.write_pairs.ensures.runs
+
+pub returns-clause-runs : goal.returns-clause-runs
+returns-clause-runs g c = runs_then c.write_pairs.ensures.runs c.sync.ensures.call
+
+pub returns-clause-grows : goal.returns-clause-grows
+returns-clause-grows g c = OnOk-from c.sync.result (grows_after c.write_pairs.ensures.runs (grows_of_call c.sync.ensures.call))

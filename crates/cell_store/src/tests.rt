@@ -1,0 +1,185 @@
+// Stores over disks in memory.
+ghost use Rattle.std.specs.Prelude.{◌≡◌, ◌<◌, ◌≤◌, length, false, IfOk};
+
+use super::*;
+use cut_disk::{CutDisk, Disk, MemDisk, Torn};
+use std::alloc::Global;
+use std::test::Fail;
+
+const ZEROS: [u8; 32] = [0; 32];
+
+const ELEVENS: [u8; 32] = [0x11; 32];
+
+/// The header of a store of one cell, and its two copies when it is fresh.
+fn fresh_bytes() -> [u8; 100] {
+    let mut bytes = [0; 100];
+    let head = [0x53, 0x45, 0x43, 0x4f, 0x43, 0x53, 0x54, 0x31, 1, 1, 0, 1];
+    bytes[..12].copy_from_slice(&head);
+    bytes[32] = 0xa7;
+    bytes[66] = 0xa7;
+    bytes[67] = 2;
+    bytes
+}
+
+fn bytes_of(disk: &mut MemDisk) -> Result<[u8; 100], Fail> {
+    let mut out = [0; 100];
+    if disk.size() < 100 {
+        return Err(Fail::from("the disk is too small"));
+    }
+    disk.read(0, &mut out)?;
+    Ok(out)
+}
+
+/// A fresh store of one cell of zeros on a disk of 100 bytes.
+fn fresh_store(alloc: Global) -> Result<TwinCells<MemDisk>, Fail>
+    ensures count { IfOk result (λ s. length s.cells ≡ 1) }
+    ensures whole { IfOk result (λ s. s.broken ≡ false) }
+{
+    let disk = MemDisk::new(alloc, 100)?;
+    let disk = match TwinCells::format(disk, &[ZEROS]) {
+        Ok(disk) => disk,
+        Err(refused) => return Err(Fail::from(refused.fault)),
+    };
+    match TwinCells::attach(alloc, disk, 1) {
+        Ok(store) => Ok(store),
+        Err(refused) => Err(Fail::from(refused.fault)),
+    }
+}
+
+/// Puts elevens into cell 0 of a store whose disk stops at this call, and cuts the power: whether
+/// the put was done, and the cell that is read then.
+fn put_and_cut<C: CutCells>(store: &mut C, calls: u64, torn: Torn) -> Result<(bool, [u8; 32]), Fail>
+    requires calls { 1 ≤ calls }
+    requires cell { 0 < length (C.state store.old).cells }
+    requires whole { (C.state store.old).broken ≡ false }
+{
+    let mut cell = [0x5a; 32];
+    store.stop_at(calls);
+    let done = store.put(0, &ELEVENS).is_ok();
+    store.power_cut(torn)?;
+    store.get(0, &mut cell);
+    Ok((done, cell))
+}
+
+#[test]
+fn a_store_is_formatted_and_a_cell_is_put(rt: HostRuntime) -> Result<(), Fail> {
+    let alloc = rt.alloc();
+    let mut store = fresh_store(alloc)?;
+    assert_eq!(rt; store.count(), 1);
+    let put = store.put(0, &ELEVENS);
+    assert!(rt; put.is_ok());
+    let mut disk = store.release();
+    let mut expected = fresh_bytes();
+    expected[67] = 1;
+    expected[68..].copy_from_slice(&ELEVENS);
+    assert_eq!(rt; bytes_of(&mut disk)?.as_slice(), expected.as_slice());
+    Ok(())
+}
+
+#[test]
+fn a_fresh_store_has_these_bytes(rt: HostRuntime) -> Result<(), Fail> {
+    let mut disk = fresh_store(rt.alloc())?.release();
+    assert_eq!(rt; bytes_of(&mut disk)?.as_slice(), fresh_bytes().as_slice());
+    Ok(())
+}
+
+#[test]
+fn a_smaller_disk_is_too_small(rt: HostRuntime) -> Result<(), Fail> {
+    let alloc = rt.alloc();
+    assert_eq!(rt; twin_size(1), 100);
+    let disk = MemDisk::new(alloc, 99)?;
+    let Err(refused) = TwinCells::format(disk, &[ZEROS]) else {
+        return Err(Fail::from("it was formatted"));
+    };
+    assert_eq!(rt; refused.fault, StoreFault::TooSmall);
+    let Err(refused) = TwinCells::attach(alloc, refused.disk, 1) else {
+        return Err(Fail::from("it was attached"));
+    };
+    assert_eq!(rt; refused.fault, StoreFault::TooSmall);
+    Ok(())
+}
+
+/// Attaches the fresh bytes with two of them changed.
+fn attach_damaged(alloc: Global, changes: &[(usize, u8); 2]) -> Result<Option<StoreFault>, Fail> {
+    let mut bytes = fresh_bytes();
+    for (place, byte) in changes {
+        if *place < 100 {
+            bytes[*place] = *byte;
+        }
+    }
+    let disk = MemDisk::of(alloc, &bytes)?;
+    match TwinCells::attach(alloc, disk, 1) {
+        Ok(_) => Ok(None),
+        Err(refused) => Ok(Some(refused.fault)),
+    }
+}
+
+#[test]
+fn damaged_bytes_are_found(rt: HostRuntime) -> Result<(), Fail> {
+    let rows = [
+        ([(32, 0), (66, 0)], Some(StoreFault::Damaged(0))),
+        ([(33, 2), (33, 2)], Some(StoreFault::Damaged(0))),
+        ([(0, 0), (0, 0)], Some(StoreFault::NotFormatted)),
+        ([(66, 0), (66, 0)], None),
+    ];
+    for (changes, fault) in &rows {
+        assert_eq!(rt; attach_damaged(rt.alloc(), changes)?, *fault);
+    }
+    Ok(())
+}
+
+#[test]
+fn a_put_is_whole_or_absent_after_a_cut(rt: HostRuntime) -> Result<(), Fail> {
+    let torn = [
+        Torn::Keep,
+        Torn::Old,
+        Torn::Half,
+        Torn::Fill(0xa7),
+        Torn::Fill(0),
+    ];
+    let old = [false; 5];
+    let either = [true, false, true, true, false];
+    let new = [true; 5];
+    let rows = [old, old, old, old, either, either, new];
+    for (stop, row) in rows.iter().enumerate() {
+        let calls = stop as u64 + 1;
+        for (torn, is_new) in torn.iter().zip(row) {
+            let mut store = fresh_store(rt.alloc())?;
+            let (done, cell) = put_and_cut(&mut store, calls, *torn)?;
+            assert_eq!(rt; done, calls == 7);
+            assert_eq!(rt; cell, if *is_new { ELEVENS } else { ZEROS });
+        }
+    }
+    Ok(())
+}
+
+#[test]
+fn the_first_bytes_are_probed(rt: HostRuntime) -> Result<(), Fail> {
+    let alloc = rt.alloc();
+    let mut disk = MemDisk::new(alloc, 32)?;
+    assert_eq!(rt; probe(&mut disk), Ok(Probe::Blank));
+    let mut disk = MemDisk::new(alloc, 31)?;
+    assert_eq!(rt; probe(&mut disk), Err(StoreFault::TooSmall));
+    let mut bytes = fresh_bytes();
+    let mut disk = MemDisk::of(alloc, &bytes)?;
+    let found = Probe::Store {
+        kind: Kind::Twin,
+        cells: 1,
+    };
+    assert_eq!(rt; probe(&mut disk), Ok(found));
+    bytes[8] = 2;
+    let mut disk = MemDisk::of(alloc, &bytes)?;
+    assert_eq!(rt; probe(&mut disk), Ok(Probe::Foreign));
+    disk.stop_at(1);
+    assert_eq!(rt; probe(&mut disk), Err(StoreFault::DiskFailed));
+    Ok(())
+}
+
+#[test]
+fn a_call_that_fails_once_is_told(rt: HostRuntime) -> Result<(), Fail> {
+    let mut store = fresh_store(rt.alloc())?;
+    store.fail_at(2);
+    assert_eq!(rt; store.power_cut(Torn::Keep), Err(Reread::DiskFailed));
+    assert_eq!(rt; store.power_cut(Torn::Keep), Ok(()));
+    Ok(())
+}
