@@ -1,0 +1,34 @@
+-- The Secured I-PDU of AUTOSAR SecOC, profile 1 (24Bit-CMAC-8Bit-FV), where the full freshness has 64 bits
+use Rattle.std.specs.Prelude.{◌≡◌, ℕ, ◌+◌, ◌%◌, ◌^◌, ◌<◌, ◌≤◌, List, ◌∷◌, ◌++◌, length, take}
+use Rattle.std.specs.Int.{w16, w64, to_be_bytes}
+use Rattle.she_cmac.specs.Cmac.{cmac}
+
+-- the bytes that the authenticator covers: the Data ID in two bytes, the payload, the full freshness in eight bytes, all big-endian
+unfoldable pub authenticated_input : ℕ → List ℕ → ℕ → List ℕ
+authenticated_input id payload freshness = to_be_bytes w16 id ++ payload ++ to_be_bytes w64 freshness
+
+-- the payload, the low byte of the freshness, and the first three bytes of the authenticator
+unfoldable pub assembled : List ℕ → ℕ → List ℕ → List ℕ
+assembled payload freshness mac = payload ++ (freshness % 256) ∷ take 3 mac
+
+-- the one frame of this payload and freshness
+unfoldable pub secured_frame : List ℕ → ℕ → List ℕ → ℕ → List ℕ
+secured_frame key id payload freshness = assembled payload freshness (cmac key (authenticated_input id payload freshness))
+
+abbrev pub IsPayload : List ℕ → Type 0
+IsPayload payload = (1 ≤ length payload) × (length payload ≤ 60)
+
+abbrev pub IsFrame : List ℕ → Type 0
+IsFrame frame = (5 ≤ length frame) × (length frame ≤ 64)
+
+-- the frame is the Secured I-PDU of this payload and freshness under this key and Data ID
+pub record Secured (key : List ℕ) (id : ℕ) (payload : List ℕ) (freshness : ℕ) (frame : List ℕ) : Type 0 where
+  pub is_payload : IsPayload payload
+  pub frame_is : frame ≡ secured_frame key id payload freshness
+
+-- the freshness has this low byte, and is one to 256 above the counter
+pub record Ahead (counter low freshness : ℕ) : Type 0 where
+  pub above : counter < freshness
+  pub near : freshness ≤ counter + 256
+  pub low_is : freshness % 256 ≡ low
+  pub fits : freshness < 2 ^ 64

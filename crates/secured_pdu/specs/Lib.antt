@@ -1,0 +1,5 @@
+pub mod Frame
+pub mod FrameLaws
+pub mod Verdict
+pub mod VerdictLaws
+pub mod Judged

@@ -1,0 +1,13 @@
+//! The Secured I-PDU of AUTOSAR SecOC profile 1 (24Bit-CMAC-8Bit-FV), and a receiver's verdict on one.
+//! A payload has 1 to 60 bytes, so a PDU has 5 to 64. Nothing here takes memory.
+#![tactic(auto)]
+
+mod frame;
+pub mod laws;
+mod verdict;
+
+pub use frame::{Parts, assemble, build, input_bytes, input_mac, split};
+pub use verdict::{Judgement, candidate_of, judge};
+
+#[cfg(test)]
+mod tests;

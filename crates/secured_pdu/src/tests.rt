@@ -1,0 +1,128 @@
+//! Frames and verdicts under the key of NIST's examples for the CMAC. The first three frames have the inputs of 16, 40 and 64
+//! bytes of these examples; the authenticators of the others were made by OpenSSL.
+use crate::{
+    Judgement, Parts, assemble, build, candidate_of, input_bytes, input_mac, judge, split,
+};
+use she_aes::{Block, expand};
+
+const KEY: [u8; 16] = [
+    0x2b, 0x7e, 0x15, 0x16, 0x28, 0xae, 0xd2, 0xa6, 0xab, 0xf7, 0x15, 0x88, 0x09, 0xcf, 0x4f, 0x3c,
+];
+
+const ID: u16 = 0x6bc1;
+
+const PAYLOAD: [u8; 60] = [
+    0xbe, 0xe2, 0x2e, 0x40, 0x9f, 0x96, 0xe9, 0x3d, 0x7e, 0x11, 0x73, 0x93, 0x17, 0x2a, 0xae, 0x2d,
+    0x8a, 0x57, 0x1e, 0x03, 0xac, 0x9c, 0x9e, 0xb7, 0x6f, 0xac, 0x45, 0xaf, 0x8e, 0x51, 0x30, 0xc8,
+    0x1c, 0x46, 0xa3, 0x5c, 0xe4, 0x11, 0xe5, 0xfb, 0xc1, 0x19, 0x1a, 0x0a, 0x52, 0xef, 0xf6, 0x9f,
+    0x24, 0x45, 0xdf, 0x4f, 0x9b, 0x17, 0xad, 0x2b, 0x41, 0x7b, 0xe6, 0x6c,
+];
+
+// the bytes of payload, the freshness, and the last four bytes of the frame
+const FRAMES: [(usize, u64, [u8; 4]); 5] = [
+    (6, 0xe93d7e11_7393172a, [0x2a, 0x07, 0x0a, 0x16]),
+    (30, 0x30c81c46_a35ce411, [0x11, 0xdf, 0xa6, 0x67]),
+    (54, 0xad2b417b_e66c3710, [0x10, 0x51, 0xf0, 0xbe]),
+    (60, 0xffffffff_fffffffe, [0xfe, 0x30, 0x38, 0xa2]),
+    (1, 0x100, [0x00, 0x75, 0x5e, 0xbe]),
+];
+
+const PDU: [u8; 10] = [0xbe, 0xe2, 0x2e, 0x40, 0x9f, 0x96, 0x2a, 0x07, 0x0a, 0x16];
+
+#[test]
+fn a_frame_has_the_payload_the_low_byte_and_three_bytes_of_the_cmac(rt: HostRuntime) {
+    let schedule = expand(&Block::of(KEY));
+    for (size, freshness, trailer) in FRAMES {
+        assert!(rt; size <= 60);
+        let mut out = [0xaa; 64];
+        let length = build(&schedule, ID, &PAYLOAD[..size], freshness, &mut out);
+        assert_eq!(rt; length, Some(size + 4));
+        assert_eq!(rt; &out[..size], &PAYLOAD[..size], "{size} bytes");
+        assert_eq!(rt; &out[size..size + 4], trailer.as_slice(), "{size} bytes");
+    }
+}
+
+#[test]
+fn the_parts_of_a_frame_are_made_one_by_one(rt: HostRuntime) {
+    let mut input = [0; 70];
+    assert_eq!(rt;
+        input_bytes(ID, &PAYLOAD[..6], 0xe93d7e11_7393172a, &mut input),
+        16
+    );
+    assert_eq!(rt; &input[..2], [0x6b, 0xc1].as_slice());
+    assert_eq!(rt; &input[2..16], &PAYLOAD[..14]);
+    let mac = input_mac(
+        &expand(&Block::of(KEY)),
+        ID,
+        &PAYLOAD[..6],
+        0xe93d7e11_7393172a,
+    );
+    assert_eq!(rt;
+        u128::from_be_bytes(*mac.bytes()),
+        0x070a16b4_6b4d4144_f79bdd9d_d04a287c
+    );
+    let mut out = [0; 64];
+    assert_eq!(rt;
+        assemble(&PAYLOAD[..6], 0xe93d7e11_7393172a, &mac, &mut out),
+        10
+    );
+    assert_eq!(rt; &out[..10], PDU.as_slice());
+}
+
+#[test]
+fn other_lengths_are_refused(rt: HostRuntime) {
+    let schedule = expand(&Block::of(KEY));
+    let mut out = [0xaa; 64];
+    assert_eq!(rt; build(&schedule, ID, &[], 1, &mut out), None);
+    assert_eq!(rt; build(&schedule, ID, &[0; 61], 1, &mut out), None);
+    assert_eq!(rt; out, [0xaa; 64]);
+    assert!(rt; split(&[]).is_none());
+    assert!(rt; split(&PDU[6..]).is_none());
+    assert!(rt; split(&[0; 65]).is_none());
+}
+
+// the receiver's counter, what is changed in the last byte of the frame, and the verdict
+const VERDICTS: [(u64, u8, Judgement); 5] = [
+    (
+        0xe93d7e11_73931729,
+        0,
+        Judgement::Accepted(0xe93d7e11_7393172a),
+    ),
+    (
+        0xe93d7e11_7393162a,
+        0,
+        Judgement::Accepted(0xe93d7e11_7393172a),
+    ),
+    (0xe93d7e11_7393172a, 0, Judgement::VerificationFailure),
+    (0xe93d7e11_73931729, 1, Judgement::VerificationFailure),
+    (0xffffffff_ffffffff, 0, Judgement::FreshnessFailure),
+];
+
+#[test]
+fn a_frame_is_judged_by_its_freshness_and_its_tag(rt: HostRuntime) {
+    let schedule = expand(&Block::of(KEY));
+    let parts = split(&PDU).expect(&rt, "ten bytes");
+    assert_eq!(rt; parts.payload, &PAYLOAD[..6]);
+    for (counter, change, verdict) in VERDICTS {
+        let [first, second, third] = parts.tag;
+        let tag = [first, second, third ^ change];
+        let received = Parts {
+            payload: parts.payload,
+            low: parts.low,
+            tag,
+        };
+        assert_eq!(rt;
+            judge(&schedule, ID, counter, &received),
+            verdict,
+            "{counter:x}"
+        );
+    }
+}
+
+#[test]
+fn the_candidate_is_one_to_256_ahead(rt: HostRuntime) {
+    assert_eq!(rt; candidate_of(0, 0), Some(256));
+    assert_eq!(rt; candidate_of(0, 1), Some(1));
+    assert_eq!(rt; candidate_of(u64::MAX - 1, 0xff), Some(u64::MAX));
+    assert_eq!(rt; candidate_of(u64::MAX - 1, 0xfe), None);
+}
