@@ -1,0 +1,3 @@
+pub mod FieldSteps
+pub mod HeadSteps
+pub mod OpeningSteps

@@ -1,0 +1,5 @@
+use Rattle.memory_update.specs.MessageLaws.{same_update}
+use Rattle.memory_update.proofs.laws.a_carried_update_is_one.Goals as goal
+
+pub returns : goal.returns
+returns c = same_update

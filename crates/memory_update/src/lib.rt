@@ -1,0 +1,20 @@
+//! Key updates of the Secure Hardware Extensions (SHE): the messages M1, M2, M3 that put a key into
+//! a slot, and the answer M4, M5 that confirms it.
+//!
+//! No call takes memory.
+#![tactic(auto)]
+
+mod blocks;
+mod confirmation;
+mod laws;
+mod messages;
+mod requests;
+#[cfg(test)]
+mod tests;
+mod words;
+
+pub use confirmation::{confirm_for, is_confirmed};
+pub use laws::{a_carried_update_is_one, a_whole_request_carries_an_update};
+pub use messages::{Head, Reply, Request, Uid, Unseal, Update};
+pub use requests::{build, head, unseal};
+pub use words::{place, take};

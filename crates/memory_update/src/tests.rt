@@ -1,0 +1,108 @@
+//! The example of a memory update in the SHE specification, and each call once.
+use crate::{
+    Reply, Request, Uid, Unseal, Update, build, confirm_for, head, is_confirmed, place, take,
+    unseal,
+};
+use key_slots::{Counter28, Flags, SlotId};
+use she_aes::Block;
+use std::test::Fail;
+
+const AUTHORISING_KEY: u128 = 0x000102030405060708090a0b0c0d0e0f;
+
+const NEW_KEY: u128 = 0x0f0e0d0c0b0a09080706050403020100;
+
+const M1: u128 = 0x00000000000000000000000000000141;
+
+const M2: [u128; 2] = [
+    0x2b111e2d93f486566bcbba1d7f7a9797,
+    0xc94643b050fc5d4d7de14cff682203c3,
+];
+
+const M3: u128 = 0xb9d745e5ace7d41860bc63c2b9f5bb46;
+
+const M4: [u128; 2] = [M1, 0xb472e8d8727d70d57295e74849a27917];
+
+const M5: u128 = 0x820d8d95dc11b4668878160cb2a4e23e;
+
+fn block(number: u128) -> Block {
+    Block::of(number.to_be_bytes())
+}
+
+fn uid() -> Uid {
+    Uid::of([0, 0, 0, 0, 0, 0, 0, 0, 0, 0, 0, 0, 0, 0, 1])
+}
+
+fn example() -> Result<Update, &'static str> {
+    Ok(Update {
+        uid: uid(),
+        id: SlotId::new(4).ok_or("slot 4")?,
+        auth: SlotId::new(1).ok_or("slot 1")?,
+        counter: Counter28::new(1).ok_or("counter 1")?,
+        flags: Flags::of(0),
+        key: block(NEW_KEY),
+    })
+}
+
+fn request(m1: u128, m3: u128) -> Request {
+    Request {
+        m1: block(m1),
+        m2: [block(M2[0]), block(M2[1])],
+        m3: block(m3),
+    }
+}
+
+#[test]
+fn fields_are_counted_from_the_top(rt: HostRuntime) {
+    let word = 0x0000001f800000000000000000000000;
+    assert_eq!(rt; take::<28>(word, 0), 1);
+    assert_eq!(rt; take::<5>(word, 28), 31);
+    let counter = place::<28>(0, 0, 1);
+    assert_eq!(rt; counter, 0x00000010000000000000000000000000);
+    assert_eq!(rt; place::<1>(0, 127, 1), 1);
+}
+
+#[test]
+fn the_example_is_built(rt: HostRuntime) -> Result<(), Fail> {
+    let made = build(&example()?, &block(AUTHORISING_KEY));
+    assert!(rt; made == request(M1, M3));
+    Ok(())
+}
+
+#[test]
+fn the_example_is_read(rt: HostRuntime) -> Result<(), Fail> {
+    let update = unseal(&request(M1, M3), &block(AUTHORISING_KEY));
+    assert!(rt; update == Ok(example()?));
+    let other_mac = unseal(&request(M1, M3 + 1), &block(AUTHORISING_KEY));
+    assert!(rt; other_mac == Err(Unseal::BadMac));
+    let other_id = unseal(&request(0x1e1, M3), &block(AUTHORISING_KEY));
+    assert!(rt; other_id == Err(Unseal::BadId));
+    Ok(())
+}
+
+#[test]
+fn an_m1_says_who_is_updated(rt: HostRuntime) -> Result<(), Fail> {
+    let found = head(&block(M1)).ok_or("a head")?;
+    assert!(rt; found.uid == uid());
+    assert!(rt; !found.uid.is_zero());
+    assert_eq!(rt; found.uid.as_slice().len(), 15);
+    assert_eq!(rt; found.uid.bytes()[14], 1);
+    assert_eq!(rt; found.id.number(), 4);
+    assert_eq!(rt; found.auth.number(), 1);
+    assert!(rt; head(&block(0x1e1)).is_none());
+    assert!(rt; head(&block(0x11e)).is_none());
+    Ok(())
+}
+
+#[test]
+fn the_example_is_confirmed(rt: HostRuntime) -> Result<(), Fail> {
+    let m4 = [block(M4[0]), block(M4[1])];
+    let reply = Reply { m4, m5: block(M5) };
+    assert!(rt; confirm_for(&example()?, uid()) == reply);
+    assert!(rt; is_confirmed(&reply, &example()?, uid()));
+    let other = Reply {
+        m4,
+        m5: block(M5 + 1),
+    };
+    assert!(rt; !is_confirmed(&other, &example()?, uid()));
+    Ok(())
+}
