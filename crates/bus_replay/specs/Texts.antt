@@ -1,0 +1,54 @@
+-- The texts that the commands print, in lower-case digits, each line with its line feed.
+use Rattle.std.specs.Prelude.{◌≡◌, ◌⊎◌, ℕ, List, [], ◌∷◌, ◌++◌, Option, Ok, codes}
+use Rattle.std.specs.Result.{result_err}
+use Rattle.std.specs.Int.{w64, to_be_bytes}
+use Rattle.hex.specs.Hex.{encode_lower}
+use Rattle.secured_pdu.specs.Frame.{Secured, IsFrame}
+use Rattle.secured_pdu.specs.Verdict.{Outcome, Accepted, FreshnessFailure, VerificationFailure, Verdict}
+use Rattle.bus_script.specs.declared.frames.FrameLine.{FrameLine}
+use Rattle.bus_script.specs.declared.judges.JudgeLine.{JudgeLine}
+use Rattle.bus_script.specs.Frames.{frames_of, judges_of}
+use Rattle.bus_script.specs.Readings.{Fault}
+use Rattle.bus_replay.specs.declared.words.Command.{Command}
+use Rattle.bus_replay.specs.declared.words.Command.TheVariants.{Frame, Judge}
+
+-- a text and the line feed behind it, which is 10
+abbrev pub line : List ℕ → List ℕ
+line text = text ++ 10 ∷ []
+
+-- the line of words that is printed where the words are of no form
+abbrev pub usage : List ℕ
+usage = line (codes "usage: frame F, judge F, check B F, replay B F, trial B N SEED, node B F DISK")
+
+-- a line of `frame` is answered by the digits of the frame that is its Secured I-PDU
+abbrev pub TellsFrame : FrameLine → List ℕ → Type 0
+TellsFrame l text = (frame : List ℕ) × Secured l.key l.id l.payload l.freshness frame × (text ≡ line (encode_lower frame))
+
+-- the text of a verdict: the freshness has 16 digits
+abbrev pub outcome_text : Outcome → List ℕ
+outcome_text (Accepted payload freshness) =
+    line (codes "VERIFICATIONSUCCESS " ++ encode_lower (to_be_bytes w64 freshness) ++ codes " " ++ encode_lower payload)
+outcome_text FreshnessFailure = line (codes "FRESHNESSFAILURE")
+outcome_text VerificationFailure = line (codes "VERIFICATIONFAILURE")
+
+-- a line of `judge` is answered by the verdict on its PDU, or by its bad length
+abbrev pub TellsJudgement : JudgeLine → List ℕ → Type 0
+TellsJudgement l text =
+    (¬ IsFrame l.pdu × (text ≡ line (codes "BadLength")))
+    ⊎ (IsFrame l.pdu × (outcome : Outcome) × Verdict l.key l.id l.counter l.pdu outcome × (text ≡ outcome_text outcome))
+
+-- the text has the answer of each line, one behind the other, and nothing else
+abbrev pub TellsEach : {A : Type 0} → (A → List ℕ → Type 0) → List A → List ℕ → Type 0
+TellsEach Tells [] text = text ≡ []
+TellsEach Tells (l ∷ lines) text =
+    (first rest : List ℕ) × Tells l first × TellsEach Tells lines rest × (text ≡ first ++ rest)
+
+-- the text is what a command prints of an input
+abbrev pub Prints : Command → List ℕ → List ℕ → Type 0
+Prints Frame input text = (lines : List FrameLine) × (frames_of input ≡ Ok lines) × TellsEach TellsFrame lines text
+Prints Judge input text = (lines : List JudgeLine) × (judges_of input ≡ Ok lines) × TellsEach TellsJudgement lines text
+
+-- the first fault of an input, if it has one
+abbrev pub fault_of : Command → List ℕ → Option Fault
+fault_of Frame input = result_err (frames_of input)
+fault_of Judge input = result_err (judges_of input)

@@ -1,0 +1,21 @@
+-- The words of the command line, and what they ask for.
+use Rattle.std.specs.Prelude.{◌≡◌, ℕ, List, [], ◌∷◌, codes}
+use Rattle.bus_replay.specs.declared.words.Command.{Command}
+use Rattle.bus_replay.specs.declared.words.Command.TheVariants.{Frame, Judge}
+
+-- the first of two words, of which the second names a file, asks for this command
+abbrev pub Names : List ℕ → Command → Type 0
+Names word Frame = word ≡ codes "frame"
+Names word Judge = word ≡ codes "judge"
+
+-- with no words it is `frame` over standard input
+abbrev pub IsDefault : Command → Type 0
+IsDefault Frame = Unit {0}
+IsDefault Judge = ⊥
+
+-- the words ask for this command; words of another form ask for none
+abbrev pub Asks : List (List ℕ) → Command → Type 0
+Asks [] command = IsDefault command
+Asks (word ∷ []) command = ⊥
+Asks (word ∷ file ∷ []) command = Names word command
+Asks (word ∷ file ∷ more ∷ words) command = ⊥

@@ -1,0 +1,169 @@
+//! Whole runs over ports in memory: the words, the bytes that come in, the status and the bytes that go out.
+use crate::run::run;
+use bus_port::{CleanSource, MemSink, MemSource};
+use std::alloc::{AllocError, Global};
+use std::process::Abort;
+use std::test::Fail;
+
+const USAGE: &str =
+    "usage: frame F, judge F, check B F, replay B F, trial B N SEED, node B F DISK\n";
+
+/// A line of `frame` and what it prints: the message of the second CMAC example of SP 800-38B as Data ID, payload and freshness.
+const LINE: &str = "2b7e151628aed2a6abf7158809cf4f3c 6bc1 e93d7e117393172a bee22e409f96\n";
+
+const PDU: &str = "bee22e409f962a070a16\n";
+
+/// The words of a command line.
+fn words_of(alloc: Global, line: &str) -> Result<Vec<String>, AllocError> {
+    let mut words = Vec::new(alloc);
+    for word in line.split_whitespace() {
+        words.push(String::from_str(alloc, word)?)?;
+    }
+    Ok(words)
+}
+
+/// Runs the words over an input, with room for all output, and compares the status and the output.
+fn check(
+    rt: &impl Abort,
+    alloc: Global,
+    line: &str,
+    input: &str,
+    status: u8,
+    output: &str,
+) -> Result<(), Fail> {
+    let words = words_of(alloc, line)?;
+    let mut script = CleanSource::new(Vec::from_slice(alloc, input.as_bytes())?);
+    let mut sink = MemSink::new(alloc, 1024, Vec::new(alloc), 1024)?;
+    let answer = run(alloc, words.as_slice(), &mut script, &mut sink);
+    assert_eq!(rt; answer, status, "{line}: {input}");
+    assert_eq!(rt; sink.bytes(), output.as_bytes(), "{line}: {input}");
+    Ok(())
+}
+
+#[test]
+fn frame_prints_the_secured_pdus(rt: HostRuntime) -> Result<(), Fail> {
+    for (input, output) in [
+        (LINE, PDU),
+        (
+            "2b7e151628aed2a6abf7158809cf4f3c 6bc1 30c81c46a35ce411 bee22e409f96e93d7e117393172aae2d8a571e03ac9c9eb76fac45af8e51\n",
+            "bee22e409f96e93d7e117393172aae2d8a571e03ac9c9eb76fac45af8e5111dfa667\n",
+        ),
+        (
+            "2b7e151628aed2a6abf7158809cf4f3c 6bc1 ad2b417be66c3710 bee22e409f96e93d7e117393172aae2d8a571e03ac9c9eb76fac45af8e5130c81c46a35ce411e5fbc1191a0a52eff69f2445df4f9b17",
+            "bee22e409f96e93d7e117393172aae2d8a571e03ac9c9eb76fac45af8e5130c81c46a35ce411e5fbc1191a0a52eff69f2445df4f9b171051f0be\n",
+        ),
+        (
+            "# sixty bytes of payload\r\n\n2B7E151628AED2A6ABF7158809CF4F3C\t6BC1  E93D7E117393172A 000102030405060708090a0b0c0d0e0f101112131415161718191a1b1c1d1e1f202122232425262728292a2b2c2d2e2f303132333435363738393a3b\r\n",
+            "000102030405060708090a0b0c0d0e0f101112131415161718191a1b1c1d1e1f202122232425262728292a2b2c2d2e2f303132333435363738393a3b2a7df13c\n",
+        ),
+        ("", ""),
+    ] {
+        check(&rt, rt.alloc(), "frame F", input, 0, output)?;
+        check(&rt, rt.alloc(), "", input, 0, output)?;
+    }
+    Ok(())
+}
+
+#[test]
+fn judge_prints_the_verdicts(rt: HostRuntime) -> Result<(), Fail> {
+    let accepted = "VERIFICATIONSUCCESS e93d7e117393172a bee22e409f96\n";
+    for (counter, pdu, output) in [
+        ("e93d7e1173931729", "bee22e409f962a070a16", accepted),
+        // 256 ahead, with equal low bytes
+        ("e93d7e117393162a", "bee22e409f962a070a16", accepted),
+        (
+            "e93d7e1173931629",
+            "bee22e409f962a070a16",
+            "VERIFICATIONFAILURE\n",
+        ),
+        // a repeat
+        (
+            "e93d7e117393172a",
+            "bee22e409f962a070a16",
+            "VERIFICATIONFAILURE\n",
+        ),
+        // a changed bit of the last authenticator byte
+        (
+            "e93d7e1173931729",
+            "bee22e409f962a070a17",
+            "VERIFICATIONFAILURE\n",
+        ),
+        ("e93d7e1173931729", "2a070a16", "BadLength\n"),
+        ("e93d7e1173931729", "-", "BadLength\n"),
+        // the counter at its end
+        (
+            "ffffffffffffffff",
+            "bee22e409f962a070a16",
+            "FRESHNESSFAILURE\n",
+        ),
+    ] {
+        let input = format!(in rt.alloc();
+            "2b7e151628aed2a6abf7158809cf4f3c 6bc1 {counter} {pdu}\n"
+        )?;
+        check(&rt, rt.alloc(), "judge F", input.as_str(), 0, output)?;
+    }
+    Ok(())
+}
+
+#[test]
+fn refused_words_and_lines_are_named(rt: HostRuntime) -> Result<(), Fail> {
+    let sixty_one =
+        "2b7e151628aed2a6abf7158809cf4f3c 6bc1 e93d7e117393172a bee22e409f96\n2b7e151628aed2a6abf7158809cf4f3c 6bc1 e93d7e117393172a 000102030405060708090a0b0c0d0e0f101112131415161718191a1b1c1d1e1f202122232425262728292a2b2c2d2e2f303132333435363738393a3b3c";
+    for (line, input, status, output) in [
+        ("replay", LINE, 2, USAGE),
+        ("replay B F", LINE, 2, USAGE),
+        ("frame", LINE, 2, USAGE),
+        ("frame F G", LINE, 2, USAGE),
+        ("Frame F", LINE, 2, USAGE),
+        ("frame F", sixty_one, 4, "script: line 2: word 4\n"),
+        (
+            "frame F",
+            "# none\n\nkey id\n",
+            4,
+            "script: line 3: wrong number of words\n",
+        ),
+        ("frame F", "a b c d", 4, "script: line 1: word 1\n"),
+        (
+            "judge F",
+            "2b7e151628aed2a6abf7158809cf4f3c 6bc1 e93d7e117393172 -",
+            4,
+            "script: line 1: word 3\n",
+        ),
+    ] {
+        check(&rt, rt.alloc(), line, input, status, output)?;
+    }
+    Ok(())
+}
+
+#[test]
+fn faults_of_the_ports_and_a_long_input_are_told(rt: HostRuntime) -> Result<(), Fail> {
+    let alloc = rt.alloc();
+    let words = words_of(alloc, "frame F")?;
+    let text = LINE.as_bytes();
+
+    // The source fails at its first read.
+    let mut script = MemSource::new(Vec::from_slice(alloc, text)?, vec![in alloc; 1]?, 16);
+    let mut sink = MemSink::new(alloc, 64, Vec::new(alloc), 64)?;
+    assert_eq!(rt; run(alloc, words.as_slice(), &mut script, &mut sink), 5);
+    assert_eq!(rt; sink.bytes(), b"read fault\n".as_slice());
+
+    // The input has one byte more than it may have; then as many as it may have, all of them a comment.
+    for (len, status, output) in [(1_048_577, 8, "input too long\n"), (1_048_576, 0, "")] {
+        let mut script = CleanSource::new(vec![in alloc; b'#'; len]?);
+        let mut sink = MemSink::new(alloc, 64, Vec::new(alloc), 64)?;
+        assert_eq!(rt;
+            run(alloc, words.as_slice(), &mut script, &mut sink),
+            status
+        );
+        assert_eq!(rt; sink.bytes(), output.as_bytes());
+    }
+
+    // The sink fails at its first write, at a later one, and where its room is full.
+    for (room, failing, piece, written) in [(64, 1, 64, 0), (64, 6, 1, 5), (12, 0, 5, 12)] {
+        let mut script = CleanSource::new(Vec::from_slice(alloc, text)?);
+        let mut sink = MemSink::new(alloc, room, vec![in alloc; failing]?, piece)?;
+        assert_eq!(rt; run(alloc, words.as_slice(), &mut script, &mut sink), 6);
+        assert_eq!(rt; sink.bytes(), &PDU.as_bytes()[..written]);
+    }
+    Ok(())
+}

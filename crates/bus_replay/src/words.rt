@@ -1,0 +1,37 @@
+//! The words of the command line.
+ghost use Rattle.std.specs.Prelude.{map, string_bytes, IfSome, IfNone};
+ghost use Rattle.bus_replay.specs.Words.{Asks, Names};
+ghost use Rattle.bus_replay.specs.declared.words.Command.{Command};
+
+/// What the words ask for.
+#[derive(Clone, Copy, Debug, PartialEq, Eq)]
+pub enum Command {
+    /// `frame F`, or no words: one Secured I-PDU a line.
+    Frame,
+    /// `judge F`: one verdict a line.
+    Judge,
+}
+
+/// The command that the words ask for, the program's name left out. `F` may be any text.
+pub fn command_of(words: &[String]) -> Option<Command>
+    ensures found { IfSome result (Asks (map string_bytes words.now)) }
+    ensures none { IfNone result ((command : Command) → ¬ Asks (map string_bytes words.now) command) }
+{
+    match words {
+        [] => Some(Command::Frame),
+        [name, _file] => named(name.as_str()),
+        _ => None,
+    }
+}
+
+/// The command of this name.
+fn named(name: &str) -> Option<Command>
+    ensures found { IfSome result (Names name.now) }
+    ensures none { IfNone result ((command : Command) → ¬ Names name.now command) }
+{
+    match name {
+        "frame" => Some(Command::Frame),
+        "judge" => Some(Command::Judge),
+        _ => None,
+    }
+}
