@@ -1,0 +1,5 @@
+pub mod Subcommands
+pub mod Parsing
+pub mod Tasks
+pub mod Texts
+pub mod Ending

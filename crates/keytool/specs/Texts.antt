@@ -1,0 +1,68 @@
+-- The texts that are printed, in lower-case digits, each line with its line feed.
+use Rattle.std.specs.Prelude.{◌≡◌, ◌≢◌, ◌⊎◌, ℕ, List, [], ◌∷◌, ◌++◌, codes}
+use Rattle.std.specs.List.{flat_map}
+use Rattle.std.specs.Fmt.{decimal}
+use Rattle.hex.specs.Hex.{encode_lower}
+use Rattle.key_slots.specs.Flags.{bit}
+use Rattle.key_slots.specs.declared.memory.Flags.{Flags}
+use Rattle.memory_update.specs.declared.messages.Request.{Request}
+use Rattle.memory_update.specs.declared.messages.Update.{Update}
+use Rattle.memory_update.specs.Messages.{Builds, Carries, Confirms, HasSlots, IsUpdate, request_mac}
+use Rattle.keytool.specs.declared.tasks.Task.{Task}
+use Rattle.keytool.specs.declared.tasks.Task.TheVariants.{Make, Read, Confirm}
+
+-- a text and the line feed behind it, which is 10
+abbrev pub line : List ℕ → List ℕ
+line text = text ++ 10 ∷ []
+
+-- the line that is printed where the words are of no form
+abbrev pub usage : List ℕ
+usage = line (codes "usage: make, read, confirm, bootmac, load")
+
+-- the line that names the first value that isn't of its form
+abbrev pub value_text : ℕ → List ℕ
+value_text number = codes "value " ++ (decimal number ++ 10 ∷ [])
+
+-- M1, M2 and M3, a line each
+abbrev pub request_text : Request → List ℕ
+request_text r =
+    encode_lower r.m1 ++ (10 ∷ (flat_map encode_lower r.m2 ++ (10 ∷ (encode_lower r.m3 ++ 10 ∷ []))))
+
+-- five digits 0 or 1, in the order WRITE_PROTECTION, BOOT_PROTECTION, DEBUGGER_PROTECTION, KEY_USAGE, WILDCARD
+abbrev pub flags_text : Flags → List ℕ
+flags_text f =
+    decimal (bit f.write) ++ (decimal (bit f.boot) ++ (decimal (bit f.debugger) ++ (decimal (bit f.usage) ++ decimal (bit f.wildcard))))
+
+-- a line of a name, a space, which is 32, and a text, before other lines
+abbrev pub row : List ℕ → List ℕ → List ℕ → List ℕ
+row name text lines = name ++ (32 ∷ (text ++ (10 ∷ lines)))
+
+-- the lines of whom an update is for, before other lines
+abbrev pub target_rows : Update → List ℕ → List ℕ
+target_rows u lines =
+    row (codes "uid") (encode_lower u.uid) (row (codes "id") (decimal u.id) (row (codes "auth") (decimal u.auth) lines))
+
+-- the lines of what it puts there
+abbrev pub content_rows : Update → List ℕ
+content_rows u =
+    row (codes "counter") (decimal u.counter) (row (codes "flags") (flags_text u.flags) (row (codes "key") (encode_lower u.key) []))
+
+-- the six values of an update, a line each
+abbrev pub update_text : Update → List ℕ
+update_text u = target_rows u (content_rows u)
+
+-- what is printed where a task is done: the request that is built, the update that is carried, or the confirmation
+abbrev pub Prints : Task → List ℕ → Type 0
+Prints (Make update authkey) text =
+    (request : Request) × Builds request authkey update × (text ≡ request_text request)
+Prints (Read request authkey) text =
+    (update : Update) × IsUpdate update × Carries request authkey update × (text ≡ update_text update)
+Prints (Confirm reply update) text = Confirms reply update update.uid × (text ≡ line (codes "confirmed"))
+
+-- what is printed where the messages are refused: ID or AuthID is no slot's, M3 is wrong, or M4 and M5 are not the update's
+abbrev pub Denies : Task → List ℕ → Type 0
+Denies (Make update authkey) text = ⊥
+Denies (Read request authkey) text =
+    (¬ HasSlots request.m1 × (text ≡ line (codes "BadId")))
+    ⊎ (HasSlots request.m1 × (request.m3 ≢ request_mac authkey request.m1 request.m2) × (text ≡ line (codes "BadMac")))
+Denies (Confirm reply update) text = ¬ Confirms reply update update.uid × (text ≡ line (codes "not confirmed"))

@@ -1,0 +1,122 @@
+//! What the values of a subcommand ask for.
+ghost use Rattle.std.specs.Prelude.{◌≡◌};
+ghost use Rattle.clap.specs.Words.{rows_of, found_of};
+ghost use Rattle.keytool.specs.Subcommands.{values_of as names_of};
+ghost use Rattle.keytool.specs.Parsing.{values_in};
+ghost use Rattle.keytool.specs.Tasks.{field, engine_uid_of, make_of, read_of, confirm_of, task_of as task_by};
+ghost use Rattle.keytool.specs.declared.subcommands.Subcommand.TheVariants as subcommand;
+
+use crate::parsing::value_of;
+use crate::subcommands::Subcommand;
+use bus_script::forms;
+use clap::ArgMatches;
+use key_slots::Flags;
+use memory_update::{Reply, Request, Uid, Update};
+use she_aes::Block;
+
+/// What a subcommand is to do.
+#[derive(Clone, Copy, Debug, PartialEq, Eq)]
+pub enum Task {
+    /// Make the request that puts the update into an engine whose slot `auth` holds this key.
+    Make { update: Update, authkey: Block },
+    /// Read the update that the request carries under this key.
+    Read { request: Request, authkey: Block },
+    /// Check that the reply confirms the update to the engine with the update's identifier. The flags aren't asked for.
+    Confirm { reply: Reply, update: Update },
+}
+
+/// The first value of a subcommand that isn't of its form, by its number, counted from 1.
+#[derive(Clone, Copy, Debug, PartialEq, Eq)]
+pub struct BadValue {
+    pub number: u8,
+}
+
+/// What the values ask a subcommand for, or the first value that isn't of its form.
+pub fn task_of(subcommand: Subcommand, matches: &ArgMatches<'_>) -> Result<Task, BadValue>
+    ensures { result ≡ task_by subcommand (values_in (names_of subcommand) (rows_of (found_of matches.now))) }
+{
+    match subcommand {
+        Subcommand::Make => make_of(matches),
+        Subcommand::Read => read_of(matches),
+        Subcommand::Confirm => confirm_of(matches),
+    }
+}
+
+#[tactic(auto, unfolding(crate::specs::Tasks::make_of))]
+fn make_of(matches: &ArgMatches<'_>) -> Result<Task, BadValue>
+    ensures { result ≡ make_of (values_in (names_of subcommand.Make) (rows_of (found_of matches.now))) }
+{
+    let uid = value_at(1, forms::uid(value_of(matches, "UID")))?;
+    let id = value_at(2, forms::slot(value_of(matches, "ID")))?;
+    let auth = value_at(3, forms::slot(value_of(matches, "AUTH")))?;
+    let counter = value_at(4, forms::counter(value_of(matches, "COUNTER")))?;
+    let flags = value_at(5, forms::flags(value_of(matches, "FLAGS")))?;
+    let key = value_at(6, forms::key(value_of(matches, "NEWKEY")))?;
+    let authkey = value_at(7, forms::key(value_of(matches, "AUTHKEY")))?;
+    let update = Update {
+        uid,
+        id,
+        auth,
+        counter,
+        flags,
+        key,
+    };
+    Ok(Task::Make { update, authkey })
+}
+
+#[tactic(auto, unfolding(crate::specs::Tasks::read_of))]
+fn read_of(matches: &ArgMatches<'_>) -> Result<Task, BadValue>
+    ensures { result ≡ read_of (values_in (names_of subcommand.Read) (rows_of (found_of matches.now))) }
+{
+    let authkey = value_at(1, forms::key(value_of(matches, "AUTHKEY")))?;
+    let m1 = value_at(2, forms::key(value_of(matches, "M1")))?;
+    let m2 = value_at(3, forms::two(value_of(matches, "M2")))?;
+    let m3 = value_at(4, forms::key(value_of(matches, "M3")))?;
+    let request = Request { m1, m2, m3 };
+    Ok(Task::Read { request, authkey })
+}
+
+#[tactic(auto, unfolding(crate::specs::Tasks::confirm_of))]
+fn confirm_of(matches: &ArgMatches<'_>) -> Result<Task, BadValue>
+    ensures { result ≡ confirm_of (values_in (names_of subcommand.Confirm) (rows_of (found_of matches.now))) }
+{
+    let uid = value_at(1, engine_uid(value_of(matches, "UID")))?;
+    let id = value_at(2, forms::slot(value_of(matches, "ID")))?;
+    let auth = value_at(3, forms::slot(value_of(matches, "AUTH")))?;
+    let counter = value_at(4, forms::counter(value_of(matches, "COUNTER")))?;
+    let key = value_at(5, forms::key(value_of(matches, "NEWKEY")))?;
+    let m4 = value_at(6, forms::two(value_of(matches, "M4")))?;
+    let m5 = value_at(7, forms::key(value_of(matches, "M5")))?;
+    let update = Update {
+        uid,
+        id,
+        auth,
+        counter,
+        flags: Flags {
+            write: false,
+            boot: false,
+            debugger: false,
+            usage: false,
+            wildcard: false,
+        },
+        key,
+    };
+    let reply = Reply { m4, m5 };
+    Ok(Task::Confirm { reply, update })
+}
+
+/// The value with this number, counted from 1, where it is of its form.
+fn value_at<T: Drop>(number: u8, value: Option<T>) -> Result<T, BadValue>
+    ensures { result ≡ field number value }
+{
+    value.ok_or(BadValue { number })
+}
+
+/// The identifier of an engine: 30 hexadecimal digits, not all of them 0.
+#[tactic(auto, unfolding(crate::specs::Tasks::engine_uid_of), using(crate::proofs::Values::none_where_zero, crate::proofs::Values::kept_where_not_zero))]
+fn engine_uid(word: &[u8]) -> Option<Uid>
+    ensures { result ≡ engine_uid_of word.now }
+{
+    let uid = forms::uid(word)?;
+    if uid.is_zero() { None } else { Some(uid) }
+}
