@@ -11,8 +11,8 @@
 //!
 //! A put changes the copy that doesn't count, in three steps, each of them a write and a sync: it
 //! closes the gate, unless that is closed already; it writes the next mark and the cell behind the
-//! closed gate; and it opens the gate. Only a gate is ever open or closed over what else is being
-//! written, so whatever is left of a torn write, the old copy or the new one counts.
+//! closed gate; and it opens the gate. While a copy is being written its gate stands closed and
+//! synced, and a gate is one byte, so whatever a torn write leaves, the old copy or the new one counts.
 #![tactic(auto)]
 
 mod cells;

@@ -1,5 +1,5 @@
 -- A task that is denied isn't done.
-use Rattle.std.proofs.Common.{◌≡◌, ◌⊎◌, ◌∙◌, ℕ, List, [], Ok, ap, sym, refl, subst, inl, inr}
+use Rattle.std.proofs.Common.{◌≡◌, ◌⊎◌, ℕ, List, [], Ok, sym, refl, subst, inl, inr}
 use Rattle.std.specs.Prelude.{Result}
 use Rattle.bus_port.specs.Sink.{SinkState}
 use Rattle.memory_update.specs.Messages.{HasSlots}
@@ -10,7 +10,6 @@ use Rattle.keytool.specs.declared.tasks.Task.TheVariants.{Make, Read, Confirm}
 use Rattle.keytool.specs.declared.tasks.BadValue.{BadValue}
 use Rattle.keytool.specs.declared.ending.Ending.{Ending}
 use Rattle.keytool.specs.declared.ending.Ending.TheVariants.{Usage, WrongValue, NoMemory, Printed, BadId, BadMac, Confirmed, NotConfirmed}
-use Rattle.keytool.specs.Subcommands.{Names}
 use Rattle.keytool.specs.Parsing.{given, refusals}
 use Rattle.keytool.specs.Tasks.{task_of}
 use Rattle.keytool.specs.Texts.{Denies, Prints}
