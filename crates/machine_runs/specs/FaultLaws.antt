@@ -2,7 +2,7 @@
 use Rattle.std.specs.Prelude.{◌≡◌, ℕ, ◌+◌, ◌<◌, ◌≤◌, ◌⊎◌, List, [], ◌∷◌, Bool, true, false, cond, count_by}
 use Rattle.std.proofs.Common.{refl, ap, subst, sym, ◌∙◌, arith, inl, inr}
 use Rattle.std.proofs.lemmas.List.Sums.{sum_by-append}
-use Rattle.machine_runs.specs.Run.{Moment, Run, lines_of}
+use Rattle.machine_runs.specs.Run.{Moment, Run, lines_in}
 use Rattle.machine_runs.specs.Faults.{Counts, FailsWithin, QuietUntilArmed}
 
 -- a step, and then a rise of n or the last value
@@ -27,8 +27,8 @@ Run-fails_within steps fails count last each start (m ∷ ms) now run =
     let rest = Run-fails_within steps fails count last each m.after ms now run.1 in
     record {
       later = omega (arith, step.later, rest.later);
-      within = subst (λ n. (count start + n ≤ count now) ⊎ (last ≤ count now)) (sym (count_by-cons fails m.line (lines_of ms)))
-          (counted_on (fails m.line) (count start) (count m.after) (count now) last (count_by fails (lines_of ms)) step.later step.rose rest.later rest.within);
+      within = subst (λ n. (count start + n ≤ count now) ⊎ (last ≤ count now)) (sym (count_by-cons fails m.line (lines_in ms)))
+          (counted_on (fails m.line) (count start) (count m.after) (count now) last (count_by fails (lines_in ms)) step.later step.rose rest.later rest.within);
     }
 
 -- where a step from a quiet state that arms nothing stays quiet and doesn't fail, a run from a quiet state is quiet until something is armed

@@ -7,11 +7,11 @@ pub record Moment (C L S : Type 0) : Type 0 where
   pub line : L
   pub after : S
 
-abbrev pub commands_of : {C L S : Type 0} → List (Moment C L S) → List C
-commands_of moments = map (λ m. m.command) moments
+abbrev pub commands_in : {C L S : Type 0} → List (Moment C L S) → List C
+commands_in moments = map (λ m. m.command) moments
 
-abbrev pub lines_of : {C L S : Type 0} → List (Moment C L S) → List L
-lines_of moments = map (λ m. m.line) moments
+abbrev pub lines_in : {C L S : Type 0} → List (Moment C L S) → List L
+lines_in moments = map (λ m. m.line) moments
 
 -- from the state `start` these moments are steps, one after another, and the last leaves the state `now`
 abbrev pub Run : {C L S : Type 0} → (S → C → L → S → Type 0) → S → List (Moment C L S) → S → Type 0
