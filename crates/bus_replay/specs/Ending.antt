@@ -4,8 +4,8 @@ use Rattle.bus_port.specs.Fault.{Rose}
 use Rattle.bus_port.specs.Source.{SourceState}
 use Rattle.bus_port.specs.Sink.{SinkState, Appended}
 use Rattle.bus_port.specs.Whole.{ReadsAll, CameWithin, CameBeyond, AppendedPart}
-use Rattle.bus_script.specs.Readings.{Fault}
-use Rattle.bus_script.specs.Texts.{fault_text_of}
+use Rattle.text_lines.specs.Readings.{Fault}
+use Rattle.text_lines.specs.Texts.{fault_text_of}
 use Rattle.bus_replay.specs.declared.words.Command.{Command}
 use Rattle.bus_replay.specs.declared.ending.Ending.{Ending}
 use Rattle.bus_replay.specs.declared.ending.Ending.TheVariants.{Usage, ReadFault, TooLong, Refused, NoMemory, Done}

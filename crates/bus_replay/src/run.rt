@@ -3,7 +3,7 @@ ghost use Rattle.std.specs.Prelude.{◌≡◌, ◌⊎◌, ℕ, ◌+◌, ◌<◌,
 ghost use Rattle.bus_port.specs.Fault.{Rose, last_count};
 ghost use Rattle.bus_port.specs.Sink.{Appended};
 ghost use Rattle.bus_port.specs.Whole.{CameBeyond};
-ghost use Rattle.bus_script.specs.Readings.{Fault};
+ghost use Rattle.text_lines.specs.Readings.{Fault};
 ghost use Rattle.bus_replay.specs.declared.words.Command.{Command};
 ghost use Rattle.bus_replay.specs.Words.{Asks};
 ghost use Rattle.bus_replay.specs.Texts.{line, usage, fault_of};
