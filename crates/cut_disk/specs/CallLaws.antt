@@ -4,7 +4,9 @@ use Rattle.std.specs.Option.{option_to_list}
 use Rattle.std.proofs.lemmas.List.{append_assoc, append-nil, length-append}
 use Rattle.std.proofs.lemmas.List.Elements.{filter_map-append}
 use Rattle.std.proofs.lemmas.Bool.{false≢true}
-use Rattle.cut_disk.specs.State.{Told, Mark, Cut, Stop, Fail, Entry, entry, DiskState, last_count}
+use Rattle.cut_disk.specs.State.{Told, Mark, Cut, Stop, Fail, Entry, entry, DiskState}
+use Rattle.fault_count.specs.FaultCount.{last_count}
+pub use Rattle.fault_count.specs.CountLaws.{rose_then, rose_after}
 use Rattle.cut_disk.specs.Calls.{Rose, KeepsQuiet, StaysQuiet, IsQuiet, arms_nothing, Call, marks_of, newest, Adds, Runs, Later, Grows, AsBefore}
 
 -- of marks and of the last state, over joined lists
@@ -145,12 +147,6 @@ grows_after runs grown = record {
 }
 
 -- of causes
-pub rose_then : (a b c : ℕ) → Rose a b → b ≤ c → Rose a c
-rose_then a b c rose le = omega arith
-
-pub rose_after : (a b c : ℕ) → a ≤ b → Rose b c → Rose a c
-rose_after a b c le rose = omega arith
-
 pub rose_is : (a b : ℕ) → b ≤ last_count → Rose a b → (a < b) ⊎ (b ≡ last_count)
 rose_is a b le rose = grind arith
 

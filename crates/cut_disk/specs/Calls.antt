@@ -1,12 +1,10 @@
 -- What one call of a disk keeps and adds, and what any stretch of calls does.
-use Rattle.std.specs.Prelude.{◌≡◌, ℕ, ◌+◌, ◌^◌, ◌<◌, ◌≤◌, min, Bool, true, false, List, [], ◌∷◌, ◌++◌, length, Option, Some, is_some}
+use Rattle.std.specs.Prelude.{◌≡◌, ℕ, ◌^◌, ◌<◌, ◌≤◌, Bool, true, false, List, [], ◌∷◌, ◌++◌, length, Option, Some, is_some}
 use Rattle.std.specs.List.{filter_map}
 use Rattle.std.specs.Option.{option_to_list}
-use Rattle.cut_disk.specs.State.{Told, Mark, Cut, Stop, Fail, Entry, entry, DiskState, last_count}
-
--- the count of faults is greater than before, or stands at its last value
-abbrev pub Rose : ℕ → ℕ → Type 0
-Rose before after = min (before + 1) last_count ≤ after
+pub use Rattle.fault_count.specs.FaultCount.{Rose}
+use Rattle.fault_count.specs.FaultCount.{last_count}
+use Rattle.cut_disk.specs.State.{Told, Mark, Cut, Stop, Fail, Entry, entry, DiskState}
 
 -- no call fails until one is armed: the disk says so, and its count is below the last value
 pub record IsQuiet (s : DiskState) : Type 0 where

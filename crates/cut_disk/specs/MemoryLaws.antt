@@ -5,7 +5,8 @@ use Rattle.std.proofs.lemmas.Bool.{false≢true, ltb-true}
 use Rattle.std.proofs.lemmas.List.FromFn.{length-map-range_with_len, get_or-map-range_with_len}
 use Rattle.cut_disk.specs.Arming.{is_unarmed}
 use Rattle.cut_disk.specs.declared.Torn.{Torn}
-use Rattle.cut_disk.specs.State.{Mark, Entry, last_count}
+use Rattle.cut_disk.specs.State.{Mark, Entry}
+use Rattle.fault_count.specs.FaultCount.{last_count}
 use Rattle.cut_disk.specs.Images.{Image, CutsTo}
 use Rattle.cut_disk.specs.Calls.{IsDisk, Call}
 use Rattle.cut_disk.specs.Memory.{Contents, is_calm, disk_of, left_byte, left_bytes}
