@@ -1,13 +1,15 @@
-use Rattle.std.proofs.Common.{arith, rules}
+use Rattle.std.proofs.Common.{arith, ◌<◌, length}
 use Rattle.std.proofs.lemmas.List.Elements.{All-more}
 use Rattle.she_aes.specs.Cipher.{IsBlock}
-use Rattle.she_kdf.specs.Derivation.{miyaguchi_preneel}
+use Rattle.she_kdf.proofs.Outputs.{output_more}
 use Rattle.she_kdf.proofs.compress.Goals as goal
 
 pub loop-block-preserved : goal.loop-block-preserved
-unfolding miyaguchi_preneel
-loop-block-preserved g c = (
-  search rules,
-  c.step-out.ensures.is_block,
-  All-more IsBlock c.args.blocks.now c.loop-block.block-index c.block-item.result (omega arith) c.loop-block.invariant.2 c.step-out.ensures.of_block,
-)
+loop-block-preserved g c =
+    let blocks = c.args.blocks.now in
+    let i = c.loop-block.block-index in
+    let within : i < length blocks = omega arith in (
+      output_more blocks i c.block-item.result c.loop-block.out c.step-out.result within c.loop-block.invariant.0 c.step-out.ensures.value,
+      c.step-out.ensures.is_block,
+      All-more IsBlock blocks i c.block-item.result within c.loop-block.invariant.2 c.step-out.ensures.of_block,
+    )
