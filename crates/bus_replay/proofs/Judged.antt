@@ -2,7 +2,7 @@
 use Rattle.std.proofs.Common.{◌≡◌, ℕ, List, ◌++◌, refl, inr, subst, sym, ◌∙◌}
 use Rattle.secured_pdu.specs.Frame.{IsFrame}
 use Rattle.secured_pdu.specs.Verdict.{Outcome, Verdict}
-use Rattle.bus_script.specs.declared.judges.JudgeLine.{JudgeLine}
+use Rattle.text_lines.specs.declared.judges.JudgeLine.{JudgeLine}
 use Rattle.bus_replay.specs.Texts.{outcome_text, TellsJudgement}
 use Rattle.bus_replay.specs.Steps.{Adds}
 

@@ -1,10 +1,10 @@
 -- From the fault that a reader answered to the ending that tells it.
 use Rattle.std.proofs.Common.{ℕ, List, Err, ap}
 use Rattle.std.specs.Result.{result_err}
-use Rattle.bus_script.specs.declared.fault.ScriptFault.{ScriptFault}
-use Rattle.bus_script.specs.declared.fault.ScriptFault.TheVariants.{At, Memory}
-use Rattle.bus_script.specs.Readings.{Gives}
-use Rattle.bus_script.specs.Frames.{frames_of, judges_of}
+use Rattle.text_lines.specs.declared.fault.ScriptFault.{ScriptFault}
+use Rattle.text_lines.specs.declared.fault.ScriptFault.TheVariants.{At, Memory}
+use Rattle.text_lines.specs.Readings.{Gives}
+use Rattle.text_lines.specs.Frames.{frames_of, judges_of}
 use Rattle.bus_replay.specs.declared.words.Command.TheVariants.{Frame, Judge}
 use Rattle.bus_replay.specs.declared.ending.Ending.{Ending}
 use Rattle.bus_replay.specs.declared.ending.Ending.TheVariants.{Usage, ReadFault, TooLong, Refused, NoMemory, Done}

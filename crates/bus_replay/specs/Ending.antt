@@ -4,8 +4,8 @@ use Rattle.bus_port.specs.Fault.{Rose}
 use Rattle.bus_port.specs.Source.{SourceState}
 use Rattle.bus_port.specs.Sink.{SinkState, Appended}
 use Rattle.bus_port.specs.Whole.{ReadsAll, CameWithin, CameBeyond, AppendedPart}
-use Rattle.bus_script.specs.Readings.{Fault}
-use Rattle.bus_script.specs.Texts.{fault_text_of}
+use Rattle.text_lines.specs.Readings.{Fault}
+use Rattle.text_lines.specs.Texts.{fault_text_of}
 use Rattle.bus_replay.specs.declared.words.Command.{Command}
 use Rattle.bus_replay.specs.declared.ending.Ending.{Ending}
 use Rattle.bus_replay.specs.declared.ending.Ending.TheVariants.{Usage, ReadFault, TooLong, Refused, NoMemory, Done}
@@ -48,13 +48,14 @@ Answers command input (Done text) = Prints command input text.items
 abbrev pub Works : Command → SourceState → SourceState → Ending → Type 0
 Works command before after ending = (input : List ℕ) × ReadsAll before after input_limit input × Answers command input ending
 
--- when each ending of a command comes, by what was known of the source before and after
+-- when each ending of a command comes, by what was known of the source before and after: a fault was counted only where it is
+-- the cause
 abbrev pub Follows : Command → SourceState → SourceState → Ending → Type 0
 Follows command before after Usage = ⊥
 Follows command before after ReadFault = Rose before.faults after.faults × CameWithin before after input_limit
-Follows command before after TooLong = CameBeyond before after input_limit
+Follows command before after TooLong = (after.faults ≡ before.faults) × CameBeyond before after input_limit
 Follows command before after (Refused text) = Works command before after (Refused text)
-Follows command before after NoMemory = CameWithin before after input_limit
+Follows command before after NoMemory = (after.faults ≡ before.faults) × CameWithin before after input_limit
 Follows command before after (Done text) = Works command before after (Done text)
 
 -- the words ask for no command
@@ -67,10 +68,11 @@ Ends words before after ending =
     (AsksNothing words × (ending ≡ Usage) × (after ≡ before))
     ⊎ ((command : Command) × Asks words command × Follows command before after ending)
 
--- the whole text of an ending was printed and its status answered, or a proper front of it where the sink failed
+-- the whole text of an ending was printed, with no fault counted, and its status answered; or the sink failed, and has a proper
+-- front of it
 abbrev pub Told : SinkState → SinkState → Ending → ℕ → Type 0
 Told before after ending status =
-    ((status ≡ status_of ending) × Appended before after (text_of ending))
+    ((status ≡ status_of ending) × (after.faults ≡ before.faults) × Appended before after (text_of ending))
     ⊎ ((status ≡ 6) × Rose before.faults after.faults × AppendedPart before after (text_of ending))
 
 -- how a run of the program ends, and what it answers and prints

@@ -3,10 +3,10 @@ use Rattle.std.specs.Prelude.{◌≡◌, ℕ, List, ◌++◌, Result, Ok, Err, s
 use Rattle.std.specs.declared.alloc.AllocError.{AllocError}
 use Rattle.std.specs.declared.alloc.Global.{Global}
 use Rattle.secured_pdu.specs.Frame.{IsPayload}
-use Rattle.bus_script.specs.declared.frames.FrameLine.{FrameLine}
-use Rattle.bus_script.specs.declared.fault.ScriptFault.{ScriptFault}
-use Rattle.bus_script.specs.declared.fault.ScriptFault.TheVariants.{At, Memory}
-use Rattle.bus_script.specs.Texts.{fault_text_of}
+use Rattle.text_lines.specs.declared.frames.FrameLine.{FrameLine}
+use Rattle.text_lines.specs.declared.fault.ScriptFault.{ScriptFault}
+use Rattle.text_lines.specs.declared.fault.ScriptFault.TheVariants.{At, Memory}
+use Rattle.text_lines.specs.Texts.{fault_text_of}
 use Rattle.bus_replay.specs.declared.ending.Ending.{Ending}
 use Rattle.bus_replay.specs.declared.ending.Ending.TheVariants.{Usage, ReadFault, TooLong, Refused, NoMemory, Done}
 

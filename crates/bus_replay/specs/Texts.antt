@@ -5,10 +5,10 @@ use Rattle.std.specs.Int.{w64, to_be_bytes}
 use Rattle.hex.specs.Hex.{encode_lower}
 use Rattle.secured_pdu.specs.Frame.{Secured, IsFrame}
 use Rattle.secured_pdu.specs.Verdict.{Outcome, Accepted, FreshnessFailure, VerificationFailure, Verdict}
-use Rattle.bus_script.specs.declared.frames.FrameLine.{FrameLine}
-use Rattle.bus_script.specs.declared.judges.JudgeLine.{JudgeLine}
-use Rattle.bus_script.specs.Frames.{frames_of, judges_of}
-use Rattle.bus_script.specs.Readings.{Fault}
+use Rattle.text_lines.specs.declared.frames.FrameLine.{FrameLine}
+use Rattle.text_lines.specs.declared.judges.JudgeLine.{JudgeLine}
+use Rattle.text_lines.specs.Frames.{frames_of, judges_of}
+use Rattle.text_lines.specs.Readings.{Fault}
 use Rattle.bus_replay.specs.declared.words.Command.{Command}
 use Rattle.bus_replay.specs.declared.words.Command.TheVariants.{Frame, Judge}
 

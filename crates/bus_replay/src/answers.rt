@@ -8,8 +8,8 @@ ghost use Rattle.bus_replay.specs.declared.words.Command.TheVariants.{Frame, Jud
 use crate::ending::Ending;
 use crate::lines::{push_frame, push_judgement};
 use crate::words::Command;
-use bus_script::texts::fault_text;
-use bus_script::{FrameLine, JudgeLine, Memory, ScriptFault, read_frames, read_judges};
+use text_lines::texts::fault_text;
+use text_lines::{FrameLine, JudgeLine, Memory, ScriptFault, read_frames, read_judges};
 use std::alloc::{AllocError, Global};
 
 /// How a command over an input ends.

@@ -7,7 +7,7 @@ ghost use Rattle.secured_pdu.specs.Verdict.{Accepted};
 ghost use Rattle.bus_replay.specs.Texts.{line as line_of, outcome_text, TellsFrame, TellsJudgement};
 ghost use Rattle.bus_replay.specs.Steps.{HasPayload, Adds};
 
-use bus_script::{FrameLine, JudgeLine};
+use text_lines::{FrameLine, JudgeLine};
 use hex::encode_to_slice;
 use secured_pdu::{Judgement, build, judge, split};
 use she_aes::expand;

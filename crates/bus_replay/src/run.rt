@@ -3,7 +3,7 @@ ghost use Rattle.std.specs.Prelude.{◌≡◌, ◌⊎◌, ℕ, ◌+◌, ◌<◌,
 ghost use Rattle.bus_port.specs.Fault.{Rose, last_count};
 ghost use Rattle.bus_port.specs.Sink.{Appended};
 ghost use Rattle.bus_port.specs.Whole.{CameBeyond};
-ghost use Rattle.bus_script.specs.Readings.{Fault};
+ghost use Rattle.text_lines.specs.Readings.{Fault};
 ghost use Rattle.bus_replay.specs.declared.words.Command.{Command};
 ghost use Rattle.bus_replay.specs.Words.{Asks};
 ghost use Rattle.bus_replay.specs.Texts.{line, usage, fault_of};
@@ -47,8 +47,12 @@ pub fn run<T: Source, K: Sink>(alloc: Global, words: &[String], script: &mut T, 
     ensures read_fault { result ≡ 5 → Rose (T.state script.old).faults (T.state script.new).faults
         × Appended (K.state sink.old) (K.state sink.new) (line (codes "read fault")) }
 
+    ensures read_fault_only { (T.state script.old).faults < (T.state script.new).faults → (result ≡ 5) ⊎ (result ≡ 6) }
+
     // 6: only where the sink's count of faults rose; what was written is a front of the text of another ending.
     ensures write_fault { result ≡ 6 → Rose (K.state sink.old).faults (K.state sink.new).faults }
+
+    ensures write_fault_only { (K.state sink.old).faults < (K.state sink.new).faults → result ≡ 6 }
 
     // 7: nothing was written.
     ensures no_memory { result ≡ 7 → Appended (K.state sink.old) (K.state sink.new) [] }

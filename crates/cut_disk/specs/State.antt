@@ -1,5 +1,5 @@
 -- What a disk means to a proof.
-use Rattle.std.specs.Prelude.{ℕ, ◌-◌, ◌^◌, Bool, List, Option}
+use Rattle.std.specs.Prelude.{ℕ, Bool, List, Option}
 use Rattle.cut_disk.specs.declared.Torn.{Torn}
 use Rattle.cut_disk.specs.declared.arming.Arms.{Arms}
 
@@ -31,7 +31,3 @@ pub record DiskState : Type 0 where
   pub faults : ℕ
   pub quiet : Bool
   pub past : Option (List Entry)
-
--- the last value of a count of faults, at which it stands
-abbrev pub last_count : ℕ
-last_count = 2 ^ 64 - 1

@@ -1,6 +1,6 @@
 //! A disk in memory.
 ghost use Rattle.std.specs.Prelude.{◌≡◌, ◌+◌, ◌^◌, ◌≤◌, List, length, replicate, slice_range, true, false, not, is_ok, IfOk, OnOk, OnErr};
-ghost use Rattle.cut_disk.specs.State.{last_count};
+ghost use Rattle.fault_count.specs.FaultCount.{last_count};
 ghost use Rattle.cut_disk.specs.Images.{splice};
 ghost use Rattle.cut_disk.specs.Memory.{torn_byte, left_bytes};
 
@@ -69,7 +69,7 @@ impl Disk for MemDisk {
     ghost use Rattle.std.specs.Prelude.{None};
     ghost use Rattle.cut_disk.specs.Arming.{fails};
     ghost use Rattle.cut_disk.specs.Calls.{Call};
-    ghost use Rattle.cut_disk.specs.Memory.{disk_of, counted, placed, after_sync};
+    ghost use Rattle.cut_disk.specs.Memory.{disk_of, called, after_write, after_sync};
     ghost use Rattle.cut_disk.specs.MemoryLaws.{contents_are_a_disk};
     ghost use Rattle.cut_disk.specs.MemDisk.{contents};
 
@@ -83,7 +83,7 @@ impl Disk for MemDisk {
         requires inside { at + length out.old ≤ length (contents self.old).bytes }
         ensures call { Call None (disk_of (contents self.old)) (disk_of (contents self.new)) }
         ensures exactly { is_ok result ≡ not (fails (contents self.old).arms) }
-        ensures contents { contents self.new ≡ counted (contents self.old) }
+        ensures contents { contents self.new ≡ called (contents self.old) }
         ensures bytes { OnOk result (out.new ≡ slice_range (contents self.old).bytes at (at + length out.old)) }
         ensures unread { OnErr result (out.new ≡ out.old) }
     {
@@ -97,7 +97,7 @@ impl Disk for MemDisk {
         requires inside { at + length bytes.now ≤ length (contents self.old).bytes }
         ensures call { Call None (disk_of (contents self.old)) (disk_of (contents self.new)) }
         ensures exactly { is_ok result ≡ not (fails (contents self.old).arms) }
-        ensures contents { contents self.new ≡ placed at bytes.now (counted (contents self.old)) }
+        ensures contents { contents self.new ≡ after_write at bytes.now (called (contents self.old)) }
     {
         let outcome = count_call(&mut self.arms, &mut self.faults);
         place(&mut self.bytes, at as usize, bytes);
@@ -108,8 +108,8 @@ impl Disk for MemDisk {
     fn sync(&mut self) -> Result<(), DiskFailed>
         ensures call { Call None (disk_of (contents self.old)) (disk_of (contents self.new)) }
         ensures exactly { is_ok result ≡ not (fails (contents self.old).arms) }
-        ensures synced { OnOk result (contents self.new ≡ after_sync (counted (contents self.old))) }
-        ensures unsynced { OnErr result (contents self.new ≡ counted (contents self.old)) }
+        ensures synced { OnOk result (contents self.new ≡ after_sync (called (contents self.old))) }
+        ensures unsynced { OnErr result (contents self.new ≡ called (contents self.old)) }
     {
         count_call(&mut self.arms, &mut self.faults)?;
         firm_up(&self.bytes, &mut self.synced, &mut self.loose);

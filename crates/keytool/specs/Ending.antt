@@ -76,10 +76,11 @@ abbrev pub Ends : List (List ℕ) → Ending → Type 0
 Ends words ending =
     (NamesNone words × (ending ≡ Usage)) ⊎ ((s : Subcommand) × Names words s × Follows s words ending)
 
--- the whole text of an ending was printed and its status answered, or a proper front of it where the sink failed
+-- the whole text of an ending was printed, with no fault counted, and its status answered; or the sink failed, and has a proper
+-- front of it
 abbrev pub Told : SinkState → SinkState → Ending → ℕ → Type 0
 Told before after ending status =
-    ((status ≡ status_of ending) × Appended before after (text_of ending))
+    ((status ≡ status_of ending) × (after.faults ≡ before.faults) × Appended before after (text_of ending))
     ⊎ ((status ≡ 6) × Rose before.faults after.faults × AppendedPart before after (text_of ending))
 
 -- how a run of the program ends, and what it answers and prints

@@ -1,5 +1,5 @@
 //! The key command.
-ghost use Rattle.std.specs.Prelude.{◌≡◌, ◌⊎◌, [], ◌∷◌, drop, length, map, string_bytes, true, List, ℕ, Ok, Err};
+ghost use Rattle.std.specs.Prelude.{◌≡◌, ◌⊎◌, ◌<◌, [], ◌∷◌, drop, length, map, string_bytes, true, List, ℕ, Ok, Err};
 ghost use Rattle.bus_port.specs.Fault.{Rose};
 ghost use Rattle.bus_port.specs.Sink.{Appended};
 ghost use Rattle.keytool.specs.declared.tasks.Task.{Task};
@@ -58,6 +58,8 @@ pub fn run_key<S: Source, K: Sink, D: Disk>(
 
     // 6: only where the sink's count of faults rose; what was written is a front of the text of another ending.
     ensures write_fault { result ≡ 6 → Rose (K.state sink.old).faults (K.state sink.new).faults }
+
+    ensures write_fault_only { (K.state sink.old).faults < (K.state sink.new).faults → result ≡ 6 }
 
     // 7: nothing was written.
     ensures no_memory { result ≡ 7 → Appended (K.state sink.old) (K.state sink.new) [] }
