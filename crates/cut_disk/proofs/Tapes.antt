@@ -19,9 +19,9 @@ AllSized-push size xs y bytes loose all k e below is =
     ⊎_elim
     (λ early. all k e early (is ∙ get_or-append xs (y ∷ []) e k early))
     (λ late.
-        let last : k ≡ length xs = omega (arith, length-append xs (y ∷ [])) in
-        let same : e ≡ y = is ∙ ap (λ (n : ℕ). get_or (xs ++ y ∷ []) n e) last ∙ get_or-append_seam xs y [] e in
-        (ap (λ (x : PastEntry). length x.bytes.items) same ∙ bytes, ap (λ (x : PastEntry). length x.loose.items) same ∙ loose))
+    let last : k ≡ length xs = omega (arith, length-append xs (y ∷ [])) in
+    let same : e ≡ y = is ∙ ap (λ (n : ℕ). get_or (xs ++ y ∷ []) n e) last ∙ get_or-append_seam xs y [] e in
+    (ap (λ (x : PastEntry). length x.bytes.items) same ∙ bytes, ap (λ (x : PastEntry). length x.loose.items) same ∙ loose))
     (cases_lt k (length xs))
 
 -- a past that is told after a call was told before it, and has one entry more

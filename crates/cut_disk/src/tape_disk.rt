@@ -1,13 +1,13 @@
 //! A disk in memory that tells its past.
 ghost use Rattle.std.specs.Prelude.{◌≡◌, ◌+◌, ◌*◌, ◌^◌, ◌≤◌, List, length, map, replicate, slice_range, Some, None, not, is_ok, IfOk, OnOk, OnErr};
 ghost use Rattle.std.specs.Option.{option_map};
-ghost use Rattle.cut_disk.specs.State.{Entry, Cut, Stop, Fail};
+ghost use Rattle.cut_disk.specs.State.{Entry, entry, Cut, Stop, Fail};
 ghost use Rattle.cut_disk.specs.Arming.{fails, with_stop, with_fail};
 ghost use Rattle.cut_disk.specs.Images.{CutsTo};
 ghost use Rattle.cut_disk.specs.Calls.{Call, newest};
 ghost use Rattle.cut_disk.specs.Memory.{told_of, called, after_write, after_sync, cut};
 ghost use Rattle.cut_disk.specs.MemDisk.{contents};
-ghost use Rattle.cut_disk.specs.Tape.{entry_of};
+ghost use Rattle.cut_disk.specs.Tape.{entry_of, with_entry};
 
 use crate::tape::{PastEntry, Tape};
 use crate::{CutDisk, Disk, DiskFailed, Mark, MemDisk, Memory, Torn};
@@ -37,7 +37,7 @@ impl TapeDisk {
     {
         let disk = MemDisk::new(alloc, size)?;
         let mut tape = Tape::new(alloc, size, entries)?;
-        tape.add(disk.bytes(), disk.loose(), None);
+        note(&mut tape, &disk, None);
         Ok(TapeDisk { disk, tape })
     }
 
@@ -68,7 +68,7 @@ impl Disk for TapeDisk {
         ensures unread { OnErr result (out.new ≡ out.old) }
     {
         let outcome = self.disk.read(at, out);
-        self.tape.add(self.disk.bytes(), self.disk.loose(), None);
+        note(&mut self.tape, &self.disk, None);
         outcome
     }
 
@@ -79,7 +79,7 @@ impl Disk for TapeDisk {
         ensures contents { tape_contents self.new ≡ noted None (after_write at bytes.now (called (tape_contents self.old).disk)) (tape_contents self.old) }
     {
         let outcome = self.disk.write(at, bytes);
-        self.tape.add(self.disk.bytes(), self.disk.loose(), None);
+        note(&mut self.tape, &self.disk, None);
         outcome
     }
 
@@ -90,7 +90,7 @@ impl Disk for TapeDisk {
         ensures unsynced { OnErr result (tape_contents self.new ≡ noted None (called (tape_contents self.old).disk) (tape_contents self.old)) }
     {
         let outcome = self.disk.sync();
-        self.tape.add(self.disk.bytes(), self.disk.loose(), None);
+        note(&mut self.tape, &self.disk, None);
         outcome
     }
 
@@ -106,8 +106,7 @@ impl CutDisk for TapeDisk {
         ensures left { CutsTo (tape_disk_of (tape_contents self.old)).told (tape_disk_of (tape_contents self.new)).told }
     {
         self.disk.power_cut(torn);
-        let mark = Some(Mark::Cut(torn));
-        self.tape.add(self.disk.bytes(), self.disk.loose(), mark);
+        note(&mut self.tape, &self.disk, Some(Mark::Cut(torn)));
     }
 
     fn stop_at(&mut self, calls: u64)
@@ -116,8 +115,7 @@ impl CutDisk for TapeDisk {
         ensures contents { tape_contents self.new ≡ noted (Some (Stop calls)) (record (tape_contents self.old).disk { arms = with_stop calls (tape_contents self.old).disk.arms }) (tape_contents self.old) }
     {
         self.disk.stop_at(calls);
-        let mark = Some(Mark::Stop(calls));
-        self.tape.add(self.disk.bytes(), self.disk.loose(), mark);
+        note(&mut self.tape, &self.disk, Some(Mark::Stop(calls)));
     }
 
     fn fail_at(&mut self, calls: u64)
@@ -126,7 +124,14 @@ impl CutDisk for TapeDisk {
         ensures contents { tape_contents self.new ≡ noted (Some (Fail calls)) (record (tape_contents self.old).disk { arms = with_fail calls (tape_contents self.old).disk.arms }) (tape_contents self.old) }
     {
         self.disk.fail_at(calls);
-        let mark = Some(Mark::Fail(calls));
-        self.tape.add(self.disk.bytes(), self.disk.loose(), mark);
+        note(&mut self.tape, &self.disk, Some(Mark::Fail(calls)));
     }
+}
+
+/// Adds the state of the disk to its past, with the mark of the call that left it.
+fn note(tape: &mut Tape, disk: &MemDisk, mark: Option<Mark>)
+    requires { tape.old.size ≡ length (contents disk.now).bytes }
+    ensures { tape.new ≡ record tape.old { past = with_entry tape.old.room (entry (told_of (contents disk.now)) mark) tape.old.past } }
+{
+    tape.add(disk.bytes(), disk.loose(), mark);
 }
