@@ -58,8 +58,8 @@ pub fn run_is_a_run_of_each_member<M: Members>()
 /// it stands at its last value.
 pub fn failures_are_within_the_rise_of_the_count<M: Faults>()
     ensures { (start now : M.State) (moments : List (Moment M.Command M.Line M.State))
-        → ((s : M.State) (c : M.Command) (l : M.Line) (t : M.State) → M.steps s c l t → Counts M.fails M.count M.last s l t)
-        → Run M.steps start moments now → FailsWithin M.fails M.count M.last start moments now }
+        → ((s : M.State) (c : M.Command) (l : M.Line) (t : M.State) → M.steps s c l t → Counts M.fails M.count s l t)
+        → Run M.steps start moments now → FailsWithin M.fails M.count start moments now }
 {}
 
 /// Where a step from a quiet state that arms nothing stays quiet and doesn't fail, a run from a quiet

@@ -95,10 +95,8 @@ pub trait Faults {
     /// The line tells a failure.
     ghost fails: { Self.Line → Bool };
 
-    /// The count of faults, and its last value, at which it stands still.
+    /// The count of faults, which stands still at 2^64 - 1.
     ghost count: { State → ℕ };
-
-    ghost last: { ℕ };
 
     /// The command makes a later failure possible.
     ghost arms: { Self.Command → Bool };

@@ -1,0 +1,4 @@
+pub mod Driven
+pub mod Printed
+pub mod PrintedUntil
+pub mod Counted
