@@ -4,7 +4,8 @@ use Rattle.std.proofs.Common.{◌∙◌, subst, sym, ap, append-nil, arith, leng
 use Rattle.std.proofs.Math.Seq.{take-add}
 use Rattle.bus_port.specs.declared.whole_streams.ReadAll.{ReadAll}
 use Rattle.bus_port.specs.declared.whole_streams.ReadAll.TheVariants.{Failed, TooLong, Memory}
-use Rattle.bus_port.specs.Fault.{Rose, Rose-after_later}
+use Rattle.fault_count.specs.CountLaws.{rose_after}
+use Rattle.bus_port.specs.Fault.{Rose}
 use Rattle.bus_port.specs.Source.{SourceState, Came, Came-more}
 use Rattle.bus_port.specs.Sink.{SinkState, Appended, Appended-more, WriteFails}
 
@@ -61,7 +62,7 @@ pub ReadsPart-more : {first before : SourceState} {some : List ℕ} (after : Sou
     → before.faults ≡ first.faults → Came first before some → ReadsPart before after (limit - length some) cause → ReadsPart first after limit cause
 ReadsPart-more {some} after limit Failed fits no_fault so_far h =
     let bytes = h.1.0 in
-    (Rose-after_later so_far.later h.0, (some ++ bytes, omega (arith, length-append some bytes, h.1.1), Came-more so_far h.1.2))
+    (rose_after _ _ _ so_far.later h.0, (some ++ bytes, omega (arith, length-append some bytes, h.1.1), Came-more so_far h.1.2))
 ReadsPart-more {some} after limit TooLong fits no_fault so_far h =
     let bytes = h.1.0 in
     (h.0 ∙ no_fault, (some ++ bytes, omega (arith, length-append some bytes, h.1.1), Came-more so_far h.1.2))

@@ -1,3 +1,5 @@
 mod Cuts
 mod Slices
+mod Tearing
+mod UnderWrites
 mod Vectors

@@ -53,7 +53,7 @@ newest told [] = told
 newest told (e ∷ entries) = newest (Some e.state) entries
 
 -- a past gets at most this many entries, with these marks in order, and the last of them left the state now
-pub record Adds (marks : List Mark) (most : ℕ) (old new : DiskState) (all : List Entry) : Type 0 where
+pub record AddsEntries (marks : List Mark) (most : ℕ) (old new : DiskState) (all : List Entry) : Type 0 where
   pub earlier : List Entry
   pub added : List Entry
   pub was : old.past ≡ Some earlier
@@ -68,7 +68,7 @@ pub record Runs (marks : List Mark) (most : ℕ) (old new : DiskState) : Type 0 
   pub later : old.faults ≤ new.faults
   pub tells : is_some new.told ≡ is_some old.told
   pub quiet : arms_nothing marks ≡ true → KeepsQuiet old new
-  pub past : (all : List Entry) → new.past ≡ Some all → Adds marks most old new all
+  pub past : (all : List Entry) → new.past ≡ Some all → AddsEntries marks most old new all
 
 -- the entries that a past had before stand first in it
 pub record Continues (before : Option (List Entry)) (all : List Entry) : Type 0 where

@@ -46,8 +46,8 @@ abbrev pub called : Contents → Contents
 called c = record c { arms = after_call c.arms; faults = faults_after c.arms c.faults }
 
 -- the bytes were placed, whether the write fails or not
-abbrev pub placed : ℕ → List ℕ → Contents → Contents
-placed at bytes c = record c {
+abbrev pub after_write : ℕ → List ℕ → Contents → Contents
+after_write at bytes c = record c {
   bytes = splice at bytes c.bytes;
   loose = splice at (replicate (length bytes) true) c.loose;
 }

@@ -69,7 +69,7 @@ impl Disk for MemDisk {
     ghost use Rattle.std.specs.Prelude.{None};
     ghost use Rattle.cut_disk.specs.Arming.{fails};
     ghost use Rattle.cut_disk.specs.Calls.{Call};
-    ghost use Rattle.cut_disk.specs.Memory.{disk_of, called, placed, after_sync};
+    ghost use Rattle.cut_disk.specs.Memory.{disk_of, called, after_write, after_sync};
     ghost use Rattle.cut_disk.specs.MemoryLaws.{contents_are_a_disk};
     ghost use Rattle.cut_disk.specs.MemDisk.{contents};
 
@@ -97,7 +97,7 @@ impl Disk for MemDisk {
         requires inside { at + length bytes.now ≤ length (contents self.old).bytes }
         ensures call { Call None (disk_of (contents self.old)) (disk_of (contents self.new)) }
         ensures exactly { is_ok result ≡ not (fails (contents self.old).arms) }
-        ensures contents { contents self.new ≡ placed at bytes.now (called (contents self.old)) }
+        ensures contents { contents self.new ≡ after_write at bytes.now (called (contents self.old)) }
     {
         let outcome = count_call(&mut self.arms, &mut self.faults);
         place(&mut self.bytes, at as usize, bytes);

@@ -26,9 +26,13 @@ pub record Secured (key : List ℕ) (id : ℕ) (payload : List ℕ) (freshness :
   pub is_payload : IsPayload payload
   pub frame_is : frame ≡ secured_frame key id payload freshness
 
--- the freshness has this low byte, and is one to 256 above the counter
-pub record Ahead (counter low freshness : ℕ) : Type 0 where
+-- a receiver accepts freshness up to its window above its counter
+abbrev pub IsWindow : ℕ → Type 0
+IsWindow window = (1 ≤ window) × (window ≤ 256)
+
+-- the freshness has this low byte, and is one to the window above the counter
+pub record Ahead (counter window low freshness : ℕ) : Type 0 where
   pub above : counter < freshness
-  pub near : freshness ≤ counter + 256
+  pub near : freshness ≤ counter + window
   pub low_is : freshness % 256 ≡ low
   pub fits : freshness < 2 ^ 64
