@@ -1,14 +1,14 @@
 -- What was driven into a printer is printed.
-use Rattle.std.proofs.Common.{◌≡◌, ℕ, ◌+◌, List, [], ◌∷◌, ◌++◌, length, Result, Ok, Err, sym, ◌∙◌, subst}
+use Rattle.std.proofs.Common.{◌≡◌, ℕ, ◌+◌, List, [], ◌∷◌, ◌++◌, length, Result, Ok, Err, refl, sym, ◌∙◌, subst}
 use Rattle.std.proofs.lemmas.Result.{MatchResult-weaker}
 use Rattle.fault_count.specs.CountLaws.{rose_after}
 use Rattle.bus_port.specs.Sink.{SinkState, Appended-nothing, Appended-more}
 use Rattle.machine_runs.specs.Run.{Moment, lines_in}
 use Rattle.numbered_run.specs.Driven.{TakenUp, Driven}
+use Rattle.numbered_run.specs.DrivenLaws.{FirstDone-weaker}
 use Rattle.numbered_run.specs.Printed.{texts, AppendedWell, WritesLine, WrittenPart, Printed}
 use Rattle.numbered_run.specs.declared.printing.Unwritten.{Unwritten}
 use Rattle.numbered_run.specs.declared.printing.Unwritten.TheVariants.{SinkFailed, Memory}
-use Rattle.std.proofs.Common.{refl}
 
 pub AppendedWell-nothing : (before after : SinkState) → after ≡ before → AppendedWell before after []
 AppendedWell-nothing before after same = subst (λ t. AppendedWell before t []) (sym same) (Appended-nothing before, refl)
@@ -35,17 +35,13 @@ WrittenPart-after text before mid after whole number line Memory written failed 
 
 pub Driven-printed : {C L S : Type 0} (steps : S → C → L → S → Type 0) (text : ℕ → L → List ℕ) (start now : S) (before after : SinkState) (commands : List C) (result : Result (Unit {0}) Unwritten)
     → Driven steps (WritesLine text) start now before after commands result → Printed steps text start now before after commands result
-Driven-printed steps text start now before after commands result d = record {
-  moments = d.moments;
-  run = d.run;
-  first = d.first;
-  holds = MatchResult-weaker result d.holds
-      (λ _ all. (all.0, TakenUp-written text 1 before (lines_in d.moments) after all.1))
-      (λ cause part. record {
-        front = part.front;
-        last = part.last;
-        all = part.all;
-        written = WrittenPart-after text before part.mid after (texts text 1 (lines_in part.front)) (length d.moments) part.last.line cause
-            (TakenUp-written text 1 before (lines_in part.front) part.mid part.taken) part.refused;
-      });
-}
+Driven-printed steps text start now before after commands result d =
+    FirstDone-weaker d (λ ms run first consumed. MatchResult-weaker result consumed
+    (λ _ all. (all.0, TakenUp-written text 1 before (lines_in ms) after all.1))
+    (λ cause part. record {
+      front = part.front;
+      last = part.last;
+      all = part.all;
+      written = WrittenPart-after text before part.mid after (texts text 1 (lines_in part.front)) (length ms) part.last.line cause
+          (TakenUp-written text 1 before (lines_in part.front) part.mid part.taken) part.refused;
+    }))

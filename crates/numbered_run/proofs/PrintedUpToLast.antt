@@ -5,6 +5,7 @@ use Rattle.std.proofs.lemmas.Result.{MatchResult-weaker}
 use Rattle.bus_port.specs.Sink.{SinkState}
 use Rattle.machine_runs.specs.Run.{Moment, lines_in}
 use Rattle.numbered_run.specs.Driven.{TakenUp, Driven}
+use Rattle.numbered_run.specs.DrivenLaws.{FirstDone-weaker}
 use Rattle.numbered_run.specs.Printed.{texts, AppendedWell, WritesLine}
 use Rattle.numbered_run.specs.PrintedUntil.{WritesUntil, EndsBy, PrintedUntil}
 use Rattle.numbered_run.specs.declared.last_line.Stop.{Stop}
@@ -29,22 +30,18 @@ EndsBy-after text ends before mid after whole number line (Unprinted cause) writ
 
 pub Driven-printed_until : {C L S : Type 0} (steps : S → C → L → S → Type 0) (text : ℕ → L → List ℕ) (ends : L → Bool) (start now : S) (before after : SinkState) (commands : List C) (result : Result (Unit {0}) Stop)
     → Driven steps (WritesUntil text ends) start now before after commands result → PrintedUntil steps text ends start now before after commands result
-Driven-printed_until steps text ends start now before after commands result d = record {
-  moments = d.moments;
-  run = d.run;
-  first = d.first;
-  holds = MatchResult-weaker result d.holds
-      (λ _ all.
-      let taken = TakenUp-until text ends 1 before (lines_in d.moments) after all.1 in
-      (all.0, taken.1, TakenUp-written text 1 before (lines_in d.moments) after taken.0))
-      (λ stop part.
-      let taken = TakenUp-until text ends 1 before (lines_in part.front) part.mid part.taken in
-      record {
-        front = part.front;
-        last = part.last;
-        all = part.all;
-        none_ends = taken.1;
-        written = EndsBy-after text ends before part.mid after (texts text 1 (lines_in part.front)) (length d.moments) part.last.line stop
-            (TakenUp-written text 1 before (lines_in part.front) part.mid taken.0) part.refused;
-      });
-}
+Driven-printed_until steps text ends start now before after commands result d =
+    FirstDone-weaker d (λ ms run first consumed. MatchResult-weaker result consumed
+    (λ _ all.
+    let taken = TakenUp-until text ends 1 before (lines_in ms) after all.1 in
+    (all.0, taken.1, TakenUp-written text 1 before (lines_in ms) after taken.0))
+    (λ stop part.
+    let taken = TakenUp-until text ends 1 before (lines_in part.front) part.mid part.taken in
+    record {
+      front = part.front;
+      last = part.last;
+      all = part.all;
+      none_ends = taken.1;
+      written = EndsBy-after text ends before part.mid after (texts text 1 (lines_in part.front)) (length ms) part.last.line stop
+          (TakenUp-written text 1 before (lines_in part.front) part.mid taken.0) part.refused;
+    }))

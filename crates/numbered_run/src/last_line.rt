@@ -69,8 +69,6 @@ pub fn print_run_until_last<M: Machine, W: EndingText<M::Line>, K: Sink>(
     commands: &[M::Command],
     sink: &mut K,
 ) -> Result<(), Stop>
-where
-    M::Line: Drop,
     requires few { length commands.now < 2 ^ 32 }
     requires ready { M.ready machine.old commands.now }
     ensures borrows { M.borrows machine.new ≡ M.borrows machine.old }

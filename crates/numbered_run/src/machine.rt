@@ -6,7 +6,7 @@ ghost use Rattle.numbered_run.specs.Driven.{Driven};
 pub trait Machine {
     type Command;
 
-    type Line;
+    type Line: Drop;
 
     /// What is known of a machine between two commands.
     ghost State: { Type 0 };
@@ -33,7 +33,7 @@ pub trait Machine {
 /// What lines are handed to, one after another.
 pub trait Consumer<L> {
     /// Why a line was refused.
-    type Refusal;
+    type Refusal: Drop;
 
     /// What is known of a consumer between two lines.
     ghost State: { Type 0 };

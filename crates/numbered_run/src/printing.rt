@@ -84,8 +84,6 @@ pub fn print_run<M: Machine, W: LineText<M::Line>, K: Sink>(
     commands: &[M::Command],
     sink: &mut K,
 ) -> Result<(), Unwritten>
-where
-    M::Line: Drop,
     requires few { length commands.now < 2 ^ 32 }
     requires ready { M.ready machine.old commands.now }
     ensures borrows { M.borrows machine.new ≡ M.borrows machine.old }
