@@ -13,7 +13,7 @@ use Rattle.cell_store.specs.Twin.{twin_size, is_live, mark, payload, next, count
 use Rattle.cell_store.specs.Copies.{other, side_at, copy, Keeps}
 use Rattle.cell_store.specs.Writing.{Unfinished}
 use Rattle.cell_store.specs.Kept.{KeepsAll, cells_of}
-use Rattle.cell_store.specs.Store.{FewCells, Holds, Stands, store_size, twin_put, Puts, Put}
+use Rattle.cell_store.specs.Store.{FewCells, Holds, Stands, store_size, twin_put, PutsAs, Put}
 use Rattle.cell_store.proofs.LayoutLaws.{part-same, part-drop, SameOutside-drop, SameOutside-splice, SameOutside-widen, splice-drop}
 use Rattle.cell_store.proofs.TwinLaws.{counts-once, counting}
 use Rattle.cell_store.proofs.CopiesLaws.{other-other, SameOutside-put, copy-put, counts-put, cell_at-kept, side_bounds, same_copy, cell_at-others, Keeps-others, cell_at-unfinished}
@@ -181,7 +181,7 @@ module _ (version : Version) (x : List ℕ) (held : List Held) (i : ℕ) (h : He
   long = ap (λ n. suc (suc n)) sized
 
   pub put-kept : Put (twin_layout version) x i cell put_bytes
-  unfolding Puts
+  unfolding PutsAs
   put-kept =
       let m : Keeps (from_base version x) i h = subst (λ (g : Held). Keeps (from_base version x) i g) (sym is) (kept.each i h below) in
       twin_put-counts version x i cell h.side m.counting ∙ ap (λ n. Some (splice (base version + put_at i h) (live_copy (next n) cell) x)) m.marked

@@ -14,7 +14,7 @@ use Rattle.cell_store.specs.declared.copies.Held.{Held}
 use Rattle.cell_store.specs.Layout.{part, base, from_base, header, twin_layout}
 use Rattle.cell_store.specs.Twin.{twin_size, mark, next, counts, cell_at, live_copy}
 use Rattle.cell_store.specs.Copies.{other, side_at, copy}
-use Rattle.cell_store.specs.Store.{FewCells, Holds, Stands, twin_put, Puts, Put}
+use Rattle.cell_store.specs.Store.{FewCells, Holds, Stands, twin_put, PutsAs, Put}
 use Rattle.cell_store.proofs.LayoutLaws.{part-same, splice-drop}
 use Rattle.cell_store.proofs.CopiesLaws.{side_bounds, SameOutside-put, cell_at-put, cell_at-others}
 use Rattle.cell_store.proofs.KeptLaws.{HoldsAll, stands-held, held-stands}
@@ -59,8 +59,8 @@ module _ (version : Version) (x y : List ℕ) (cells : List (List ℕ)) (i : ℕ
     ]
   ]
 
-by_kind : (kind : Kind) (version : Version) (x y : List ℕ) (cells : List (List ℕ)) (i : ℕ) (c : List ℕ) → Stands (record { kind = kind; version = version }) x cells → i < length cells → length c ≡ 32 → Puts kind version x i c y → Stands (record { kind = kind; version = version }) y (set cells i c)
-unfolding Puts
+by_kind : (kind : Kind) (version : Version) (x y : List ℕ) (cells : List (List ℕ)) (i : ℕ) (c : List ℕ) → Stands (record { kind = kind; version = version }) x cells → i < length cells → length c ≡ 32 → PutsAs kind version x i c y → Stands (record { kind = kind; version = version }) y (set cells i c)
+unfolding PutsAs
 by_kind Twin version x y cells i c stands below sized put = twin_put-stands version x y cells i c stands below sized put
 by_kind Log version x y cells i c stands below sized put = absurd put
 

@@ -4,7 +4,7 @@ use Rattle.cell_store.specs.declared.kinds.Version.TheVariants.{One, Two}
 use Rattle.cell_store.specs.Layout.{header, twin_layout}
 use Rattle.cut_disk.specs.Images.{splice}
 use Rattle.cell_store.specs.Twin.{is_live, counts, cell_of, cell_at}
-use Rattle.cell_store.specs.Store.{fresh_cells, Fresh, twin_put, Puts, Put, HasHeader}
+use Rattle.cell_store.specs.Store.{fresh_cells, Fresh, twin_put, PutsAs, Put, HasHeader}
 
 abbrev head : List ℕ
 head = 0x53 ∷ 0x45 ∷ 0x43 ∷ 0x4f ∷ 0x43 ∷ 0x53 ∷ 0x54 ∷ 0x31 ∷ 1 ∷ 1 ∷ 0 ∷ 1 ∷ replicate 20 0
@@ -40,7 +40,7 @@ unfolding cell_at cell_of counts is_live
 the_fresh_cell = refl
 
 a_put_of_elevens : Put (twin_layout One) fresh 0 elevens (head ++ (0xa7 ∷ 0 ∷ zeros) ++ (0xa7 ∷ 1 ∷ elevens))
-unfolding Puts twin_put counts is_live splice
+unfolding PutsAs twin_put counts is_live splice
 a_put_of_elevens = refl
 
 the_cell_that_was_put : cell_at (head ++ (0xa7 ∷ 0 ∷ zeros) ++ (0xa7 ∷ 1 ∷ elevens)) 0 ≡ Some elevens
@@ -49,7 +49,7 @@ the_cell_that_was_put = refl
 
 -- the next put goes back to the first copy
 a_second_put : Put (twin_layout One) (head ++ (0xa7 ∷ 0 ∷ zeros) ++ (0xa7 ∷ 1 ∷ elevens)) 0 zeros (head ++ (0xa7 ∷ 2 ∷ zeros) ++ (0xa7 ∷ 1 ∷ elevens))
-unfolding Puts twin_put counts is_live splice
+unfolding PutsAs twin_put counts is_live splice
 a_second_put = refl
 
 both_gates_closed : cell_at (set (set fresh 32 0) 66 0) 0 ≡ None

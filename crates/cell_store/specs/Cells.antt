@@ -1,8 +1,8 @@
 -- What a store of cells means, and what its calls leave.
-use Rattle.std.specs.Prelude.{◌≡◌, ℕ, Bool, false, Option, Some, List, ◌⊎◌, set, length}
+use Rattle.std.specs.Prelude.{◌≡◌, ℕ, Bool, true, false, Option, Some, List, [], ◌⊎◌, set, length}
 use Rattle.cut_disk.specs.State.{DiskState, Told}
 use Rattle.cut_disk.specs.Images.{firm, Image, EachImage}
-use Rattle.cut_disk.specs.Calls.{Rose}
+use Rattle.cut_disk.specs.Calls.{Rose, Runs}
 use Rattle.cell_store.specs.declared.kinds.Layout.{Layout}
 use Rattle.cell_store.specs.declared.faults.Reread.{Reread}
 use Rattle.cell_store.specs.declared.faults.Reread.TheVariants as reread
@@ -44,6 +44,27 @@ LeavesBesides s new = (b : List ℕ) → s.disk.told ≡ Some (firm b) → EachI
 -- bytes that stand for the list before a put, or for the list after it
 abbrev pub StandsForEither : CellsState → ℕ → List ℕ → List ℕ → Type 0
 StandsForEither s i c x = Stands s.layout x s.cells ⊎ Stands s.layout x (set s.cells i c)
+
+-- what a put of c at cell i leaves where it answers Ok
+pub record Puts (i : ℕ) (c : List ℕ) (old new : CellsState) : Type 0 where
+  pub layout : new.layout ≡ old.layout
+  pub runs : Runs [] 6 old.disk new.disk
+  pub besides : LeavesBesides old new.disk.told
+  pub faults : new.disk.faults ≡ old.disk.faults
+  pub cells : new.cells ≡ set old.cells i c
+  pub whole : new.broken ≡ false
+  pub settled : TellsCells old → Settled new
+  pub done : TellsCells old → PutDone i c old new
+
+-- what it leaves where it fails
+pub record FailsPut (i : ℕ) (c : List ℕ) (old new : CellsState) : Type 0 where
+  pub layout : new.layout ≡ old.layout
+  pub runs : Runs [] 6 old.disk new.disk
+  pub besides : LeavesBesides old new.disk.told
+  pub failed : Rose old.disk.faults new.disk.faults
+  pub kept : new.cells ≡ old.cells
+  pub broken : new.broken ≡ true
+  pub images : Settled old → EachImage new.disk.told (StandsForEither old i c)
 
 -- what the bytes read anew have that are no store of this layout and number of cells
 abbrev pub RereadFinds : Layout → ℕ → List ℕ → Reread → Type 0

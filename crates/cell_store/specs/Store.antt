@@ -81,13 +81,13 @@ twin_put version x i c =
     if counts first second then Some (splice (base version + second_at i) (live_copy (next (mark first)) c) x) else
     if counts second first then Some (splice (base version + first_at i) (live_copy (next (mark second)) c) x) else None
 
-unfoldable pub Puts : Kind → Version → List ℕ → ℕ → List ℕ → List ℕ → Type 0
-Puts Twin version x i c y = twin_put version x i c ≡ Some y
-Puts Log version x i c y = ⊥
+unfoldable pub PutsAs : Kind → Version → List ℕ → ℕ → List ℕ → List ℕ → Type 0
+PutsAs Twin version x i c y = twin_put version x i c ≡ Some y
+PutsAs Log version x i c y = ⊥
 
 -- y comes from x by a finished put of c at cell i
 abbrev pub Put : Layout → List ℕ → ℕ → List ℕ → List ℕ → Type 0
-Put layout x i c y = Puts layout.kind layout.version x i c y
+Put layout x i c y = PutsAs layout.kind layout.version x i c y
 
 -- what the 32 bytes at the base of a store of this version are
 abbrev pub Probes : Version → List ℕ → Probe → Type 0
