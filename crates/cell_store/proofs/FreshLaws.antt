@@ -1,28 +1,31 @@
 -- A fresh store stands for its cells.
-use Rattle.std.proofs.Common.{◌≡◌, ℕ, suc, zero, ◌+◌, ◌*◌, ◌<◌, ◌≤◌, inr, Some, List, [], ◌∷◌, ◌++◌, length, take, drop, get_or, refl, sym, ap, ◌∙◌, arith, length-append, length-drop}
+use Rattle.std.proofs.Common.{◌≡◌, ℕ, suc, zero, ◌+◌, ◌*◌, ◌<◌, ◌≤◌, inr, Some, List, [], ◌∷◌, ◌++◌, length, take, drop, get_or, refl, sym, ap, subst, ◌∙◌, arith, length-append, length-drop}
 use Rattle.std.specs.List.{flat_map}
 use Rattle.std.proofs.lemmas.List.{append_assoc, take_at, drop_at, take-append-le, drop-append-le, take-take, drop-drop, drop-take}
-use Rattle.cell_store.specs.declared.kinds.Kind.{Kind}
-use Rattle.cell_store.specs.declared.kinds.Kind.TheVariants.{Twin, Log}
-use Rattle.cell_store.specs.Layout.{part, header}
-use Rattle.cell_store.specs.Twin.{size_of, first_at, cell_of, cell_at, live_copy, fresh_cell}
-use Rattle.cell_store.specs.TwinLaws.{counts-from, cell_of-first, is_live-live_copy}
-use Rattle.cell_store.specs.Store.{FewCells, Stands, fresh_twin, Fresh}
-use Rattle.cell_store.specs.StoreLaws.{length-header}
+use Rattle.cut_disk.specs.Images.{splice}
+use Rattle.cut_disk.specs.Splices.{length-splice}
+use Rattle.cell_store.specs.declared.kinds.Kind.TheVariants.{Twin}
+use Rattle.cell_store.specs.declared.kinds.Version.{Version}
+use Rattle.cell_store.specs.Layout.{part, base, from_base, header, twin_layout}
+use Rattle.cell_store.specs.Twin.{first_at, cell_of, cell_at, live_copy, fresh_cell}
+use Rattle.cell_store.specs.Store.{FewCells, Holds, Stands, store_size, fresh_cells, fresh_store, Fresh}
+use Rattle.cell_store.proofs.LayoutLaws.{splice-at_base}
+use Rattle.cell_store.proofs.TwinLaws.{counts-from, cell_of-first, is_live-live_copy}
+use Rattle.cell_store.proofs.StoreLaws.{length-header}
 
 -- each piece of xs has this width
 abbrev pub Wide : {X : Type 0} → (X → List ℕ) → ℕ → X → List X → Type 0
 Wide f w d xs = (i : ℕ) → i < length xs → length (f (get_or xs i d)) ≡ w
 
 -- pieces of one width, joined: their length, and the piece at a place
-length_pieces : {X : Type 0} → (f : X → List ℕ) (w : ℕ) (d : X) (xs : List X) → Wide f w d xs → length (flat_map f xs) ≡ w * length xs
+pub length_pieces : {X : Type 0} → (f : X → List ℕ) (w : ℕ) (d : X) (xs : List X) → Wide f w d xs → length (flat_map f xs) ≡ w * length xs
 length_pieces f w d [] wide = omega arith
 length_pieces f w d (x ∷ xs) wide =
     let rest = length_pieces f w d xs (λ i below. wide (suc i) (omega arith)) in
     let first = wide 0 (omega arith) in
     length-append (f x) (flat_map f xs) ∙ omega arith
 
-piece_at : {X : Type 0} → (f : X → List ℕ) (w : ℕ) (d : X) (xs : List X) (i : ℕ) → Wide f w d xs → i < length xs → take w (drop (w * i) (flat_map f xs)) ≡ f (get_or xs i d)
+pub piece_at : {X : Type 0} → (f : X → List ℕ) (w : ℕ) (d : X) (xs : List X) (i : ℕ) → Wide f w d xs → i < length xs → take w (drop (w * i) (flat_map f xs)) ≡ f (get_or xs i d)
 piece_at f w d [] i wide below = absurd (omega arith)
 piece_at f w d (x ∷ xs) zero wide below =
     let none : w * 0 ≡ 0 = omega arith in
@@ -87,7 +90,7 @@ cell_at-fresh x i cell sized pair =
     rw (two.0, at, two.1) (cell_of-fresh cell)
 
 -- a part of what stands behind a header
-behind_head : (h p r : List ℕ) (w k n : ℕ) → length h ≡ w → k + n ≤ length p → take n (drop (w + k) (h ++ p ++ r)) ≡ take n (drop k p)
+pub behind_head : (h p r : List ℕ) (w k n : ℕ) → length h ≡ w → k + n ≤ length p → take n (drop (w + k) (h ++ p ++ r)) ≡ take n (drop k p)
 behind_head h p r w k n head within =
     let split : drop (w + k) (h ++ p ++ r) ≡ drop k p ++ r =
     ap (drop (w + k)) (append_assoc h p r)
@@ -100,21 +103,35 @@ behind_head h p r w k n head within =
 at_head : (h p r : List ℕ) (w : ℕ) → length h ≡ w → take w (h ++ p ++ r) ≡ h
 at_head h p r w head = ap (take w) (append_assoc h p r) ∙ take_at h (p ++ r) w head
 
-long_enough : (h p r : List ℕ) (n : ℕ) → length h + length p ≡ n → n ≤ length (h ++ p ++ r)
-long_enough h p r n sized = omega (arith, length-append (h ++ p) r, length-append h p)
+-- what stands behind the header has the rest of the store's size
+pub length-fresh_cells : (cells : List (List ℕ)) → Sized cells → length (fresh_cells Twin cells) ≡ 68 * length cells
+unfolding fresh_cells
+length-fresh_cells cells sized = length-pairs cells sized
 
-pub fresh_stands : (kind : Kind) (cells : List (List ℕ)) (x y : List ℕ) → FewCells (length cells) → size_of (length cells) ≤ length x → Sized cells → Fresh kind cells x y → Stands kind y cells
-unfolding Fresh Stands fresh_twin
-fresh_stands Twin cells x y few room sized fresh =
-    let head = length-header Twin (length cells) in
-    let pairs = length-pairs cells sized in
-    let rest = drop (size_of (length cells)) x in
+fresh_holds : (cells : List (List ℕ)) (h r : List ℕ) → Sized cells → length h ≡ 32 → Holds Twin (h ++ fresh_cells Twin cells ++ r) cells
+unfolding Holds fresh_cells
+fresh_holds cells h r sized head i below =
+    cell_at-fresh (h ++ flat_map fresh_cell cells ++ r) i (get_or cells i []) (sized i below)
+    (behind_head h (flat_map fresh_cell cells) r 32 (68 * i) 68 head (omega (arith, length-pairs cells sized)) ∙ pair-pairs cells i sized below)
+
+-- the bytes of a fresh twin store hold the cells
+pub fresh_twin_stands : (version : Version) (cells : List (List ℕ)) (x : List ℕ) → FewCells (length cells) → store_size (twin_layout version) (length cells) ≤ length x → Sized cells
+    → Stands (twin_layout version) (splice (base version) (fresh_store (twin_layout version) cells) x) cells
+fresh_twin_stands version cells x few room sized =
+    let h = header (twin_layout version) (length cells) in
+    let f = fresh_cells Twin cells in
+    let r = drop (base version + length (h ++ f)) x in
+    let head : length (header (twin_layout version) (length cells)) ≡ 32 = length-header (twin_layout version) (length cells) in
+    let wide : length (fresh_cells Twin cells) ≡ 68 * length cells = length-fresh_cells cells sized in
+    let long = length-append h f in
+    let from : from_base version (splice (base version) (h ++ f) x) ≡ h ++ f ++ r = splice-at_base (base version) (h ++ f) x (omega arith) in
     record {
       few = few;
-      room = rw fresh (long_enough (header Twin (length cells)) (flat_map fresh_cell cells) rest (size_of (length cells)) (omega (arith, head, pairs)));
-      head = rw fresh (at_head (header Twin (length cells)) (flat_map fresh_cell cells) rest 32 head);
-      held = λ i below.
-          cell_at-fresh y i (get_or cells i []) (sized i below)
-          (rw fresh (behind_head (header Twin (length cells)) (flat_map fresh_cell cells) rest 32 (68 * i) 68 head (omega (arith, pairs)) ∙ pair-pairs cells i sized below));
+      room = (let l = length-splice (base version) (h ++ f) x (omega (arith, long, head, wide)) in omega arith);
+      head = ap (take 32) from ∙ at_head h f r 32 head;
+      holds = subst (λ (s : List ℕ). Holds Twin s cells) (sym from) (fresh_holds cells h r sized head);
     }
-fresh_stands Log cells x y few room sized fresh = fresh
+
+pub fresh_stands : (version : Version) (cells : List (List ℕ)) (x y : List ℕ) → FewCells (length cells) → store_size (twin_layout version) (length cells) ≤ length x → Sized cells → Fresh (twin_layout version) cells x y → Stands (twin_layout version) y cells
+unfolding Fresh
+fresh_stands version cells x y few room sized fresh = subst (λ (z : List ℕ). Stands (twin_layout version) z cells) (sym fresh) (fresh_twin_stands version cells x few room sized)

@@ -6,10 +6,11 @@ use Rattle.cell_store.specs.declared.copies.Side.TheVariants.{First, Second}
 use Rattle.cell_store.specs.declared.copies.Held.{Held}
 use Rattle.cut_disk.specs.Images.{splice}
 use Rattle.cell_store.specs.Layout.{part, SameOutside}
-use Rattle.cell_store.specs.LayoutLaws.{part-same, part-splice, SameOutside-splice}
-use Rattle.cell_store.specs.Twin.{size_of, is_live, mark, payload, next, counts, cell_of, cell_at, live_copy}
-use Rattle.cell_store.specs.TwinLaws.{cell_of-first, cell_of-second, counts-beside_closed, counts-next}
+use Rattle.cell_store.proofs.LayoutLaws.{part-same, part-splice, SameOutside-splice}
+use Rattle.cell_store.specs.Twin.{twin_size, is_live, mark, payload, next, counts, cell_of, cell_at, live_copy}
+use Rattle.cell_store.proofs.TwinLaws.{cell_of-first, cell_of-second, counts-beside_closed, counts-next}
 use Rattle.cell_store.specs.Copies.{other, side_at, copy, Keeps}
+use Rattle.cell_store.specs.Writing.{Unfinished}
 
 -- the copy that counts is the cell, whichever side it is on
 pub cell_at-counts : (x : List ℕ) (i : ℕ) (side : Side) → counts (copy x i side) (copy x i (other side)) ≡ true → cell_at x i ≡ Some (payload (copy x i side))
@@ -19,11 +20,6 @@ cell_at-counts x i Second h = cell_of-second _ _ h
 
 pub cell_at-kept : (x : List ℕ) (i : ℕ) (held : Held) → Keeps x i held → cell_at x i ≡ Some held.payload
 cell_at-kept x i held k = cell_at-counts x i held.side k.counting ∙ ap Some k.bytes
-
--- what a put of a copy at a place may leave of x: nothing else is changed, and the copy there is closed, or as it was, or the new one
-pub record Unfinished (at : ℕ) (new x y : List ℕ) : Type 0 where
-  pub same : SameOutside at 34 x y
-  pub spare : (is_live (part at 34 y) ≡ false) ⊎ ((part at 34 y ≡ part at 34 x) ⊎ (part at 34 y ≡ new))
 
 -- the copies of one cell stand apart, and so do those of two cells
 pub sides_apart : (i : ℕ) (side : Side) → (side_at i side + 34 ≤ side_at i (other side)) ⊎ (side_at i (other side) + 34 ≤ side_at i side)
@@ -70,7 +66,7 @@ module _ (x y : List ℕ) (i : ℕ) (held : Held) where
       }
 
   -- an unfinished put leaves the old cell or the new one
-  pub cell_at-unfinished : (cell : List ℕ) → Keeps x i held → Unfinished (side_at i (other held.side)) (live_copy (next held.mark) cell) x y → (cell_at y i ≡ Some held.payload) ⊎ (cell_at y i ≡ Some cell)
+  pub cell_at-unfinished : (cell : List ℕ) → Keeps x i held → Unfinished 33 (side_at i (other held.side)) (live_copy (next held.mark) cell) x y → (cell_at y i ≡ Some held.payload) ⊎ (cell_at y i ≡ Some cell)
   cell_at-unfinished cell k u =
       let a : copy y i held.side ≡ copy x i held.side = same_copy u.same in
       elim u.spare [
@@ -96,7 +92,7 @@ pub other-other : (s : Side) → other (other s) ≡ s
 other-other First = refl
 other-other Second = refl
 
-module _ (x y : List ℕ) (i : ℕ) (side : Side) (cell : List ℕ) (sized : length cell ≡ 32) (room : size_of (i + 1) ≤ length x) (done : y ≡ splice (side_at i (other side)) (live_copy (next (mark (copy x i side))) cell) x) where
+module _ (x y : List ℕ) (i : ℕ) (side : Side) (cell : List ℕ) (sized : length cell ≡ 32) (room : twin_size (i + 1) ≤ length x) (done : y ≡ splice (side_at i (other side)) (live_copy (next (mark (copy x i side))) cell) x) where
   long : length (live_copy (next (mark (copy x i side))) cell) ≡ 34
   long = ap (λ n. suc (suc n)) sized
 
