@@ -6,3 +6,4 @@ pub mod KeyLanes
 pub mod KeyWords
 pub mod RoundSteps
 pub mod Chains
+pub mod Inverses
