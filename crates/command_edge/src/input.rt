@@ -36,13 +36,13 @@ impl InputFault {
     }
 
     /// What is printed then: a line with its line feed, or nothing for want of memory.
-    pub fn text(self) -> &'static [u8]
+    pub fn text(self) -> &'static str
         ensures { result.now ≡ input_fault_text self }
     {
         match self {
-            InputFault::ReadFault => b"read fault\n",
-            InputFault::TooLong => b"input too long\n",
-            InputFault::Memory => b"",
+            InputFault::ReadFault => "read fault\n",
+            InputFault::TooLong => "input too long\n",
+            InputFault::Memory => "",
         }
     }
 }
