@@ -27,6 +27,7 @@ refuses_value s words rows bad refusal names taken rows_are is tells = named ref
   where
     asks : AsksFor words (Err bad)
     asks = (s, names, taken, ap (λ (r : List Row). task_of s (values_in (values_of s) r)) (sym rows_are) ∙ sym is)
+
     named : (r : Refusal) → TellsValue bad r → RefusesWords words r
     named (Value text) t = (wrong_value bad, asks, t, refl)
     named Memory t = (no_memory, (s, names), refl, refl)

@@ -3,7 +3,8 @@ use Rattle.std.specs.Prelude.{ℕ, List, string_bytes, codes}
 use Rattle.keytool.specs.declared.tasks.Task.{Task}
 use Rattle.keytool.specs.declared.outcome.Outcome.{Outcome}
 use Rattle.keytool.specs.declared.outcome.Outcome.TheVariants.{Printed, Confirmed, BadId, BadMac, NotConfirmed}
-use Rattle.keytool.specs.Texts.{line, Prints, Denies}
+use Rattle.text_lines.specs.Texts.{line}
+use Rattle.keytool.specs.Texts.{Prints, Denies}
 
 -- the status of an outcome
 abbrev pub outcome_status : Outcome → ℕ
