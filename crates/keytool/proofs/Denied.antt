@@ -3,7 +3,7 @@ use Rattle.std.proofs.Common.{◌≡◌, ◌⊎◌, ℕ, List, [], Ok, sym, refl
 use Rattle.std.specs.Prelude.{Result}
 use Rattle.bus_port.specs.Sink.{SinkState}
 use Rattle.memory_update.specs.Messages.{HasSlots}
-use Rattle.memory_update.specs.MessageLaws.{HasSlots-head}
+use Rattle.memory_update.specs.MessageLaws.{HasSlots-Carries}
 use Rattle.keytool.specs.declared.subcommands.Subcommand.{Subcommand}
 use Rattle.keytool.specs.declared.tasks.Task.{Task}
 use Rattle.keytool.specs.declared.tasks.Task.TheVariants.{Make, Read, Confirm}
@@ -19,12 +19,10 @@ use Rattle.keytool.proofs.Complete.{names_one}
 not_both : (task : Task) (done denied : List ℕ) → Prints task done → Denies task denied → ⊥
 not_both (Make update authkey) done denied prints denies = denies
 not_both (Read request authkey) done denied prints denies =
-    let u = prints.0 in
-    let slots : HasSlots request.m1 = HasSlots-head request.m1 (record { uid = u.uid; id = u.id; auth = u.auth })
-    (record { is_uid = prints.1.is_uid; id_fits = prints.1.id_fits; auth_fits = prints.1.auth_fits }) prints.2.padded.m1_is in
+    let slots : HasSlots request.m1 = HasSlots-Carries request authkey prints.0 prints.1 in
     elim denies [
       | inl no_slots ↦ no_slots.0 slots
-      | inr wrong ↦ wrong.1 prints.2.padded.m3_is
+      | inr wrong ↦ wrong.1 prints.1.padded.m3_is
     ]
 not_both (Confirm reply update) done denied prints denies = denies.0 prints.0
 

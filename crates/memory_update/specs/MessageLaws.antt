@@ -27,9 +27,9 @@ use Rattle.memory_update.specs.declared.messages.Reply.{Reply}
 -- ---- a number of 256 bits as two blocks
 
 -- a list of two, from its items
-pub two_of : (bs : List (List ℕ)) (x y : List ℕ) → length bs ≡ 2 → bs ≡ get_or bs 0 x ∷ get_or bs 1 y ∷ []
-two_of (a ∷ b ∷ []) x y h = refl
-two_of bs x y h = absurd (omega arith)
+pub list_of_two : (bs : List (List ℕ)) (x y : List ℕ) → length bs ≡ 2 → bs ≡ get_or bs 0 x ∷ get_or bs 1 y ∷ []
+list_of_two (a ∷ b ∷ []) x y h = refl
+list_of_two bs x y h = absurd (omega arith)
 
 length-two_blocks : (n : ℕ) → length (two_blocks n) ≡ 2
 unfolding two_blocks
@@ -257,7 +257,7 @@ Carries-update_in request authkey is_authkey is_request slots mac =
     let two : length text ≡ 2 = length-cbc_inverse (kdf authkey Enc) zero_block request.m2 ∙ is_request.m2_has_2 in
     let x : List ℕ = get_or text 0 [] in
     let y : List ℕ = get_or text 1 [] in
-    carries_opened request authkey x y is_authkey is_request slots (opened_at request.m2 authkey x y is_authkey is_request.m2_is (two_of text [] [] two)) mac
+    carries_opened request authkey x y is_authkey is_request slots (opened_at request.m2 authkey x y is_authkey is_request.m2_is (list_of_two text [] [] two)) mac
 
 -- the head of a request that carries an update
 pub HeadOf-Carries : (request : Request) (authkey : List ℕ) (u : Update) → Carries request authkey u → HeadOf request.m1 (record { uid = u.uid; id = u.id; auth = u.auth })
