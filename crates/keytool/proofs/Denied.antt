@@ -3,7 +3,7 @@ use Rattle.std.proofs.Common.{◌≡◌, ◌⊎◌, ◌∙◌, ℕ, List, [], Ok
 use Rattle.std.specs.Prelude.{Result}
 use Rattle.bus_port.specs.Sink.{SinkState}
 use Rattle.memory_update.specs.Messages.{HasSlots}
-use Rattle.memory_update.specs.MessageLaws.{HasSlots-head}
+use Rattle.memory_update.specs.MessageLaws.{HasSlots-Carries}
 use Rattle.keytool.specs.declared.subcommands.Subcommand.{Subcommand}
 use Rattle.keytool.specs.declared.tasks.Task.{Task}
 use Rattle.keytool.specs.declared.tasks.Task.TheVariants.{Make, Read, Confirm}
@@ -16,12 +16,10 @@ use Rattle.keytool.proofs.Named.{asks_one, names_one}
 not_both : (task : Task) (first second : List ℕ) → Prints task first → Denies task second → ⊥
 not_both (Make update authkey) first second prints denies = denies
 not_both (Read request authkey) first second prints denies =
-    let u = prints.0 in
-    let slots : HasSlots request.m1 = HasSlots-head request.m1 (record { uid = u.uid; id = u.id; auth = u.auth })
-    (record { is_uid = prints.1.is_uid; id_fits = prints.1.id_fits; auth_fits = prints.1.auth_fits }) prints.2.padded.m1_is in
+    let slots : HasSlots request.m1 = HasSlots-Carries request authkey prints.0 prints.1 in
     elim denies [
       | inl no_slots ↦ no_slots.0 slots
-      | inr wrong ↦ wrong.1 prints.2.padded.m3_is
+      | inr wrong ↦ wrong.1 prints.1.padded.m3_is
     ]
 not_both (Confirm reply update) first second prints denies = denies.0 prints.0
 
