@@ -20,6 +20,11 @@ pub fn product_with_the_inverse()
     ensures { (a : ℕ) → 0 < a → a < 256 → mul a (inv a) ≡ 1 }
 {}
 
+/// No other byte has that product with it.
+pub fn inverse_is_the_only_one()
+    ensures { (a b : ℕ) → a < 256 → b < 256 → mul a b ≡ 1 → b ≡ inv a }
+{}
+
 /// What is encrypted under a key and decrypted under it is the block again.
 pub fn decryption_undoes_encryption()
     ensures { (key block : List ℕ) → IsBlock key → IsBlock block → dec key (enc key block) ≡ block }
@@ -50,6 +55,6 @@ pub fn cbc_decryption_undoes_encryption()
 
 /// CBC encryption gives every text back that was decrypted, under every key and from every IV.
 pub fn cbc_encryption_undoes_decryption()
-    ensures { (key iv : List ℕ) (text : List (List ℕ)) → IsBlock key → IsBlock iv → All IsBlock text
+    ensures { (key iv : List ℕ) (text : List (List ℕ)) → IsBlock key → All IsBlock text
         → cbc key iv (cbc_inverse key iv text) ≡ text }
 {}
