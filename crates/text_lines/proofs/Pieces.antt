@@ -6,7 +6,8 @@ use Rattle.std.proofs.lemmas.Bool.{cases_lt}
 use Rattle.std.proofs.lemmas.List.{take_all, drop_all, length-take-le}
 use Rattle.std.proofs.lemmas.List.Sums.{prefix_len-le-length, fails_before_first}
 use Rattle.std.proofs.lemmas.List.Splits.{slice_split_first, slice_split_none}
-use Rattle.text_lines.specs.Lines.{Piece, placed, is_blank, is_word, words_from}
+use Rattle.text_lines.specs.Lines.{is_blank}
+use Rattle.text_lines.specs.Places.{Piece, placed, is_word_piece, words_from}
 
 -- the first place that passes is within the list, or its length
 pub position_or_len_within : (p : ℕ → Bool) (s : List ℕ) → position_or_len p s ≤ length s
@@ -36,11 +37,11 @@ placed-first p at s lt =
     ∙ ap (λ (n : ℕ). record { at = at; bytes = take (position_or_len p s) s } ∷ placed (at + n + 1) (slice_split p (drop (position_or_len p s + 1) s))) len
 
 -- a piece that isn't empty is kept
-filter-word : (piece : Piece) (rest : List Piece) → 0 < length piece.bytes → filter is_word (piece ∷ rest) ≡ piece ∷ filter is_word rest
+filter-word : (piece : Piece) (rest : List Piece) → 0 < length piece.bytes → filter is_word_piece (piece ∷ rest) ≡ piece ∷ filter is_word_piece rest
 filter-word piece rest h = grind arith
 
 -- and an empty one is not
-filter-empty : (piece : Piece) (rest : List Piece) → length piece.bytes ≡ 0 → filter is_word (piece ∷ rest) ≡ filter is_word rest
+filter-empty : (piece : Piece) (rest : List Piece) → length piece.bytes ≡ 0 → filter is_word_piece (piece ∷ rest) ≡ filter is_word_piece rest
 filter-empty piece rest h = grind arith
 
 -- nothing has no word
@@ -59,13 +60,13 @@ words_from-word at s h =
     elim (cases_lt (position_or_len is_blank s) (length s)) [
       | inl lt ↦
           let len : length (take (position_or_len is_blank s) s) ≡ position_or_len is_blank s = length-take-le (position_or_len is_blank s) s bound in
-          ap (filter is_word) (placed-first is_blank at s lt)
+          ap (filter is_word_piece) (placed-first is_blank at s lt)
           ∙ filter-word _ (placed (at + position_or_len is_blank s + 1) (slice_split is_blank (drop (position_or_len is_blank s + 1) s))) (omega (arith, len))
       | inr ge ↦
           let all : position_or_len is_blank s ≡ length s = omega arith in
           let nonempty : 0 < length s = omega arith in
           rw (take_all (position_or_len is_blank s) s (omega arith), drop_all (position_or_len is_blank s + 1) s (omega arith))
-          (ap (filter is_word) (placed-last is_blank at s all) ∙ filter-word (record { at = at; bytes = s }) [] nonempty
+          (ap (filter is_word_piece) (placed-last is_blank at s all) ∙ filter-word (record { at = at; bytes = s }) [] nonempty
           ∙ ap (λ (l : List Piece). record { at = at; bytes = s } ∷ l) (sym (words_from-nil (at + position_or_len is_blank s + 1))))
     ]
 
@@ -77,7 +78,7 @@ words_from-blank at [] h = words_from-nil at ∙ sym (words_from-nil (at + 1))
 words_from-blank at (c ∷ s) h =
     let lt : position_or_len is_blank (c ∷ s) < length (c ∷ s) = omega arith in
     let len : length (take (position_or_len is_blank (c ∷ s)) (c ∷ s)) ≡ position_or_len is_blank (c ∷ s) = length-take-le (position_or_len is_blank (c ∷ s)) (c ∷ s) (omega arith) in
-    ap (filter is_word) (placed-first is_blank at (c ∷ s) lt)
+    ap (filter is_word_piece) (placed-first is_blank at (c ∷ s) lt)
     ∙ filter-empty _ (placed (at + position_or_len is_blank (c ∷ s) + 1) (slice_split is_blank (drop (position_or_len is_blank (c ∷ s) + 1) (c ∷ s)))) (len ∙ h)
     ∙ ap (λ (m : ℕ). words_from (at + m + 1) (drop (m + 1) (c ∷ s))) h
     ∙ ap (λ (m : ℕ). words_from m s) (let e : at + 0 + 1 ≡ at + 1 = omega arith in e)

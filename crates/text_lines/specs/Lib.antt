@@ -2,8 +2,8 @@ pub mod Forms
 pub mod Frames
 pub mod KeyForms
 pub mod Lines
+pub mod Places
 pub mod Readings
 pub mod Spans
 pub mod Texts
 pub mod Written
-pub mod WrittenFrames

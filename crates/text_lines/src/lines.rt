@@ -1,13 +1,13 @@
 //! Where lines and words of a text begin and end. Places count its bytes from 0.
 
-ghost use Rattle.std.specs.Prelude.{◌≡◌, ◌+◌, ◌-◌, ◌<◌, ◌≤◌, ◌^◌, length, take, drop, map, IfOk, IfSome, option_to_list};
+ghost use Rattle.std.specs.Prelude.{◌≡◌, ◌+◌, ◌-◌, ◌<◌, ◌≤◌, ◌^◌, length, take, drop, map, OnOk};
 ghost use Rattle.std.specs.List.{position_or_len};
-ghost use Rattle.text_lines.specs.Lines.{is_blank as blank, is_line_feed, without_return, words_from, is_skipped as skipped, kept, line_between};
-ghost use Rattle.text_lines.specs.Spans.{piece_at, line_at, AllWithin};
+ghost use Rattle.text_lines.specs.Lines.{is_blank as blank, is_line_feed, without_return, is_skipped as skipped};
+ghost use Rattle.text_lines.specs.Places.{words_from, placed_words_of};
+ghost use Rattle.text_lines.specs.Spans.{word_at, piece_at, EndWithin};
 
 use crate::fault::Memory;
-use crate::span::{Cut, Span, Spans};
-use std::alloc::Global;
+use crate::span::Span;
 
 fn is_blank(byte: u8) -> bool
     ensures { result ≡ blank byte }
@@ -73,15 +73,15 @@ fn word_end(text: &[u8], at: usize, end: usize) -> usize
     at + until_blank(&text[at..end])
 }
 
-// The words between two places.
-fn words(alloc: Global, text: &[u8], start: usize, end: usize) -> Result<Vec<Span>, Memory>
+// The words between two places, in place of what was in `spans`.
+fn put_words(spans: &mut Vec<Span>, text: &[u8], start: usize, end: usize) -> Result<(), Memory>
     requires ordered { start ≤ end }
     requires within { end ≤ length text.now }
     requires short { length text.now < 2 ^ 32 }
-    ensures exact { IfOk result (λ spans. map (piece_at text.now) spans.items ≡ words_from start (take (end - start) (drop start text.now))) }
-    ensures inside { IfOk result (λ spans. AllWithin (length text.now) spans.items) }
+    ensures exact { OnOk result (map (piece_at text.now) spans.new.items ≡ words_from start (take (end - start) (drop start text.now))) }
+    ensures inside { OnOk result (EndWithin (length text.now) spans.new.items) }
 {
-    let mut spans = Vec::new(alloc);
+    spans.clear();
     let mut at = start;
     while at < end {
         let stop = word_end(text, at, end);
@@ -93,14 +93,25 @@ fn words(alloc: Global, text: &[u8], start: usize, end: usize) -> Result<Vec<Spa
         }
         at = stop + 1;
     }
-    Ok(spans)
+    Ok(())
 }
 
-// Whether a line with these words is skipped.
+/// The words of the line between two places, in place of what was in `spans`. Without memory nothing is said of `spans`.
+pub fn put_line(spans: &mut Vec<Span>, text: &[u8], at: usize, end: usize) -> Result<(), Memory>
+    requires ordered { at ≤ end }
+    requires within { end ≤ length text.now }
+    requires short { length text.now < 2 ^ 32 }
+    ensures exact { OnOk result (map (piece_at text.now) spans.new.items ≡ placed_words_of (record { at = at; bytes = take (end - at) (drop at text.now) })) }
+    ensures inside { OnOk result (EndWithin (length text.now) spans.new.items) }
+{
+    put_words(spans, text, at, content_end(text, at, end))
+}
+
+/// Whether a line with these words is skipped.
 #[tactic(auto, unfolding(crate::specs::Lines::is_skipped))]
-fn is_skipped(text: &[u8], words: &[Span]) -> bool
-    requires { AllWithin (length text.now) words.now }
-    ensures { result ≡ skipped (map (piece_at text.now) words.now) }
+pub fn is_skipped(text: &[u8], words: &[Span]) -> bool
+    requires { EndWithin (length text.now) words.now }
+    ensures { result ≡ skipped (map (word_at text.now) words.now) }
 {
     match words.first() {
         None => true,
@@ -109,29 +120,4 @@ fn is_skipped(text: &[u8], words: &[Span]) -> bool
             text[at..at + word.len as usize].first() == Some(&b'#')
         }
     }
-}
-
-/// The line with this number between two places, unless it is skipped.
-#[tactic(auto, unfolding(crate::specs::Lines::kept))]
-pub fn cut_line(
-    alloc: Global,
-    text: &[u8],
-    number: u32,
-    at: usize,
-    end: usize,
-) -> Result<Option<Cut>, Memory>
-    requires ordered { at ≤ end }
-    requires within { end ≤ length text.now }
-    requires short { length text.now < 2 ^ 32 }
-    ensures exact { IfOk result (λ found. map (line_at text.now) (option_to_list found) ≡ kept (line_between text.now number at end)) }
-    ensures inside { IfOk result (λ found. IfSome found (λ cut. AllWithin (length text.now) cut.words)) }
-{
-    let words = words(alloc, text, at, content_end(text, at, end))?;
-    if is_skipped(text, &words) {
-        return Ok(None);
-    }
-    Ok(Some(Cut {
-        line: number,
-        words: Spans::of(words),
-    }))
 }
