@@ -20,6 +20,7 @@ HandsOut-from_left before after old new left most n told left_now taken faults s
         later = omega arith;
       };
       beyond = beyond;
+      no_fault = faults;
       ended = λ room bytes known.
           let same : length bytes ≡ length left = ap length (same_Some bytes left (sym known ∙ told)) in
           let piece = some room in

@@ -13,11 +13,12 @@ pub record Appended (before after : SinkState) (bytes : List ℕ) : Type 0 where
   pub grown : (held : List ℕ) → before.told ≡ Some held → after.told ≡ Some (held ++ bytes)
   pub later : before.faults ≤ after.faults
 
--- the first n of these bytes were appended, at least one
+-- the first n of these bytes were appended, at least one, and no fault was counted
 pub record TakesUp (before after : SinkState) (bytes : List ℕ) (n : ℕ) : Type 0 where
   pub some : 0 < n
   pub fits : n ≤ length bytes
   pub appended : Appended before after (take n bytes)
+  pub no_fault : after.faults ≡ before.faults
 
 -- the count of faults rose, and nothing was appended
 pub record WriteFails (before after : SinkState) : Type 0 where

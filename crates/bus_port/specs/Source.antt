@@ -15,12 +15,13 @@ pub record Came (before after : SourceState) (bytes : List ℕ) : Type 0 where
   pub counted : RoseBy before.taken after.taken (length bytes)
   pub later : before.faults ≤ after.faults
 
--- n bytes came, and stand at the front of the buffer, whose rest is as before;
+-- n bytes came, and stand at the front of the buffer, whose rest is as before, and no fault was counted;
 -- for a buffer that isn't empty, n is 0 exactly at the end of the bytes
 pub record HandsOut (before after : SourceState) (old new : List ℕ) (n : ℕ) : Type 0 where
   pub fits : n ≤ length old
   pub came : Came before after (take n new)
   pub beyond : drop n new ≡ drop n old
+  pub no_fault : after.faults ≡ before.faults
   pub ended : 0 < length old → (left : List ℕ) → before.told ≡ Some left → ((n ≡ 0) ↔ (left ≡ []))
 
 -- the count of faults rose, nothing came, and the buffer is as before

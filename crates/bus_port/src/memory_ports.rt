@@ -7,6 +7,7 @@ ghost use Rattle.bus_port.specs.MemSource.{MemReads, mem_source, clean_source};
 ghost use Rattle.bus_port.specs.MemSink.{MemWrites, mem_sink};
 
 use crate::port::{Memory, PortFailed, Sink, Source};
+use fault_count::count_fault;
 use std::alloc::Global;
 use std::marker::Model;
 
@@ -44,7 +45,7 @@ impl Plan {
     fn add_fault(&mut self)
         ensures { self.new ≡ record self.old { faults = counted self.old.faults } }
     {
-        self.faults = self.faults.saturating_add(1);
+        count_fault(&mut self.faults);
     }
 }
 

@@ -1,8 +1,8 @@
 //! Whole streams: all that a source has, and all of a text into a sink.
 ghost use Rattle.std.specs.Prelude.{◌≡◌, ◌↔◌, ℕ, ◌+◌, ◌^◌, ◌<◌, ◌≤◌, List, length, OnOk, OnErr, IfOk, IfErr, IsErrOf, Some, vec_len};
 ghost use Rattle.bus_port.specs.Fault.{Rose, last_count};
-ghost use Rattle.bus_port.specs.Sink.{Appended};
-ghost use Rattle.bus_port.specs.Whole.{ReadsAll, ReadsPart, AppendedPart, AddsPiece};
+ghost use Rattle.bus_port.specs.Sink.{Appended, WriteFails};
+ghost use Rattle.bus_port.specs.Whole.{ReadsAll, ReadsPart, AppendedPart, AddsPiece, PieceWritten};
 ghost use Rattle.bus_port.specs.declared.whole_streams.ReadAll.TheVariants.{Failed, Memory as NoMemory};
 
 use crate::port::{PIECE, PortFailed, Sink, Source};
@@ -71,15 +71,26 @@ pub fn read_all<S: Source>(alloc: Global, source: &mut S, limit: usize) -> Resul
     Ok(bytes)
 }
 
+/// Appends the next piece of `bytes`, of which the first `done` are written, and returns how many then are.
+fn write_piece<K: Sink>(sink: &mut K, bytes: &[u8], done: usize) -> Result<usize, PortFailed>
+    requires { done < length bytes.now }
+    ensures piece { IfOk result (PieceWritten (K.state sink.old) (K.state sink.new) bytes.now done) }
+    ensures failed { OnErr result (WriteFails (K.state sink.old) (K.state sink.new)) }
+{
+    let count = sink.write(&bytes[done..])?;
+    Ok(done + count)
+}
+
 /// Appends all of `bytes` to the sink. Where it fails, what came before the failing call stays.
 pub fn write_all<K: Sink>(sink: &mut K, bytes: &[u8]) -> Result<(), PortFailed>
     ensures ok { OnOk result (Appended (K.state sink.old) (K.state sink.new) bytes.now) }
+    ensures no_fault { OnOk result ((K.state sink.new).faults ≡ (K.state sink.old).faults) }
     ensures failed { OnErr result (Rose (K.state sink.old).faults (K.state sink.new).faults) }
     ensures part { OnErr result (AppendedPart (K.state sink.old) (K.state sink.new) bytes.now) }
 {
     let mut done = 0;
     while done < bytes.len() {
-        done += sink.write(&bytes[done..])?;
+        done = write_piece(sink, bytes, done)?;
     }
     Ok(())
 }

@@ -5,10 +5,10 @@ use Rattle.std.specs.Int.{w64, to_be_bytes}
 use Rattle.hex.specs.Hex.{encode_lower}
 use Rattle.secured_pdu.specs.Frame.{Secured, IsFrame}
 use Rattle.secured_pdu.specs.Verdict.{Outcome, Accepted, FreshnessFailure, VerificationFailure, Verdict}
-use Rattle.bus_script.specs.declared.frames.FrameLine.{FrameLine}
-use Rattle.bus_script.specs.declared.judges.JudgeLine.{JudgeLine}
-use Rattle.bus_script.specs.Frames.{frames_of, judges_of}
-use Rattle.bus_script.specs.Readings.{Fault}
+use Rattle.text_lines.specs.declared.frames.FrameLine.{FrameLine}
+use Rattle.text_lines.specs.declared.judges.JudgeLine.{JudgeLine}
+use Rattle.text_lines.specs.Frames.{frames_of, judges_of}
+use Rattle.text_lines.specs.Readings.{Fault}
 use Rattle.bus_replay.specs.declared.words.Command.{Command}
 use Rattle.bus_replay.specs.declared.words.Command.TheVariants.{Frame, Judge}
 
@@ -31,11 +31,11 @@ outcome_text (Accepted payload freshness) =
 outcome_text FreshnessFailure = line (codes "FRESHNESSFAILURE")
 outcome_text VerificationFailure = line (codes "VERIFICATIONFAILURE")
 
--- a line of `judge` is answered by the verdict on its PDU, or by its bad length
+-- a line of `judge` is answered by the verdict on its PDU, of a receiver with the widest window, or by its bad length
 abbrev pub TellsJudgement : JudgeLine → List ℕ → Type 0
 TellsJudgement l text =
     (¬ IsFrame l.pdu × (text ≡ line (codes "BadLength")))
-    ⊎ (IsFrame l.pdu × (outcome : Outcome) × Verdict l.key l.id l.counter l.pdu outcome × (text ≡ outcome_text outcome))
+    ⊎ (IsFrame l.pdu × (outcome : Outcome) × Verdict l.key l.id l.counter 256 l.pdu outcome × (text ≡ outcome_text outcome))
 
 -- the text has the answer of each line, one behind the other, and nothing else
 abbrev pub TellsEach : {A : Type 0} → (A → List ℕ → Type 0) → List A → List ℕ → Type 0

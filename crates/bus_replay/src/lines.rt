@@ -7,11 +7,11 @@ ghost use Rattle.secured_pdu.specs.Verdict.{Accepted};
 ghost use Rattle.bus_replay.specs.Texts.{line as line_of, outcome_text, TellsFrame, TellsJudgement};
 ghost use Rattle.bus_replay.specs.Steps.{HasPayload, Adds};
 
-use bus_script::{FrameLine, JudgeLine};
 use hex::encode_to_slice;
 use secured_pdu::{Judgement, build, judge, split};
 use she_aes::expand;
 use std::alloc::AllocError;
+use text_lines::{FrameLine, JudgeLine};
 
 /// Adds the answer of a line of `frame`.
 pub fn push_frame(text: &mut Vec<u8>, line: &FrameLine) -> Result<(), AllocError>
@@ -27,6 +27,9 @@ pub fn push_frame(text: &mut Vec<u8>, line: &FrameLine) -> Result<(), AllocError
     Ok(())
 }
 
+/// The window of the receiver that `judge` asks, the widest one.
+const WINDOW: u16 = 256;
+
 /// Adds the answer of a line of `judge`.
 pub fn push_judgement(text: &mut Vec<u8>, line: &JudgeLine) -> Result<(), AllocError>
     ensures { OnOk result (Adds text.old.items text.new.items (TellsJudgement line.now)) }
@@ -34,7 +37,7 @@ pub fn push_judgement(text: &mut Vec<u8>, line: &JudgeLine) -> Result<(), AllocE
     let Some(parts) = split(line.pdu.bytes()) else {
         return text.extend_from_slice(b"BadLength\n");
     };
-    let judgement = judge(&expand(&line.key), line.id, line.counter, &parts);
+    let judgement = judge(&expand(&line.key), line.id, line.counter, WINDOW, &parts);
     push_outcome(text, parts.payload, &judgement)
 }
 

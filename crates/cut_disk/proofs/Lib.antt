@@ -1,3 +1,7 @@
 mod Cuts
+mod Ranges
 mod Slices
+mod Tapes
+mod Tearing
+mod UnderWrites
 mod Vectors

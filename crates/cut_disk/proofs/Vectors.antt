@@ -5,11 +5,11 @@ use Rattle.cut_disk.specs.declared.Torn.TheVariants.{Keep, Old, Half, Fill}
 use Rattle.cut_disk.specs.declared.arming.Arms.{Arms}
 use Rattle.cut_disk.specs.Arming.{no_arms, fails, after_call, after_cut, with_stop, with_fail}
 use Rattle.cut_disk.specs.Images.{splice}
-use Rattle.cut_disk.specs.Memory.{fresh, placed, cut, left_bytes}
+use Rattle.cut_disk.specs.Memory.{fresh, after_write, cut, left_bytes}
 
 -- what a cut leaves of four bytes that were written over zeros from this place on, and not synced
 abbrev left_of : Torn → ℕ → List ℕ
-left_of torn at = (cut torn (placed at (1 ∷ 2 ∷ 3 ∷ 4 ∷ []) (fresh (replicate 6 0)))).bytes
+left_of torn at = (cut torn (after_write at (1 ∷ 2 ∷ 3 ∷ 4 ∷ []) (fresh (replicate 6 0)))).bytes
 
 kept : left_of Keep 0 ≡ 1 ∷ 2 ∷ 3 ∷ 4 ∷ 0 ∷ 0 ∷ []
 unfolding splice left_bytes

@@ -1,11 +1,13 @@
 -- Laws of calls and of stretches of calls.
-use Rattle.std.proofs.Common.{◌≡◌, ℕ, ◌+◌, ◌<◌, ◌≤◌, ◌⊎◌, Bool, true, false, ◌&&◌, List, [], ◌∷◌, ◌++◌, length, Option, Some, None, arith, refl, sym, ap, ◌∙◌}
+use Rattle.std.proofs.Common.{◌≡◌, ℕ, ◌+◌, ◌≤◌, Bool, true, false, ◌&&◌, List, [], ◌∷◌, ◌++◌, length, Option, Some, None, arith, refl, sym, ap, ◌∙◌}
 use Rattle.std.specs.Option.{option_to_list}
 use Rattle.std.proofs.lemmas.List.{append_assoc, append-nil, length-append}
 use Rattle.std.proofs.lemmas.List.Elements.{filter_map-append}
 use Rattle.std.proofs.lemmas.Bool.{false≢true}
-use Rattle.cut_disk.specs.State.{Told, Mark, Cut, Stop, Fail, Entry, entry, DiskState, last_count}
-use Rattle.cut_disk.specs.Calls.{Rose, KeepsQuiet, StaysQuiet, IsQuiet, arms_nothing, Call, marks_of, newest, Adds, Runs, Later, Grows, AsBefore}
+use Rattle.cut_disk.specs.declared.Mark.TheVariants.{Cut, Stop, Fail}
+use Rattle.cut_disk.specs.State.{Told, Mark, Entry, entry, DiskState}
+pub use Rattle.fault_count.specs.CountLaws.{rose_then, rose_after}
+use Rattle.cut_disk.specs.Calls.{Rose, KeepsQuiet, StaysQuiet, IsQuiet, arms_nothing, Call, marks_of, newest, AddsEntries, Runs, Later, Grows, AsBefore}
 
 -- of marks and of the last state, over joined lists
 pub arms_nothing-append : (ms ns : List Mark) → arms_nothing (ms ++ ns) ≡ arms_nothing ms && arms_nothing ns
@@ -67,7 +69,7 @@ both_true : (p q : Bool) → p && q ≡ true → (p ≡ true) × (q ≡ true)
 both_true true q h = (refl, h)
 both_true false q h = absurd (false≢true h)
 
-join_adds : {ms ns : List Mark} {m n : ℕ} {a b c : DiskState} {all : List Entry} → (second : Adds ns n b c all) → Adds ms m a b second.earlier → Adds (ms ++ ns) (m + n) a c all
+join_adds : {ms ns : List Mark} {m n : ℕ} {a b c : DiskState} {all : List Entry} → (second : AddsEntries ns n b c all) → AddsEntries ms m a b second.earlier → AddsEntries (ms ++ ns) (m + n) a c all
 join_adds {a = a} second first = record {
   earlier = first.earlier;
   added = first.added ++ second.added;
@@ -143,16 +145,6 @@ grows_after runs grown = record {
       let one = runs.past two.earlier two.was in
       record { earlier = one.earlier; was = one.was; more = omega (arith, longer one.earlier one.added one.whole) };
 }
-
--- of causes
-pub rose_then : (a b c : ℕ) → Rose a b → b ≤ c → Rose a c
-rose_then a b c rose le = omega arith
-
-pub rose_after : (a b c : ℕ) → a ≤ b → Rose b c → Rose a c
-rose_after a b c le rose = omega arith
-
-pub rose_is : (a b : ℕ) → b ≤ last_count → Rose a b → (a < b) ⊎ (b ≡ last_count)
-rose_is a b le rose = grind arith
 
 -- a call of a quiet disk doesn't fail
 pub quiet_never_rose : {a b : DiskState} → IsQuiet a → StaysQuiet a b → Rose a.faults b.faults → ⊥

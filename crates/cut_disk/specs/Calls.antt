@@ -1,12 +1,11 @@
 -- What one call of a disk keeps and adds, and what any stretch of calls does.
-use Rattle.std.specs.Prelude.{◌≡◌, ℕ, ◌+◌, ◌^◌, ◌<◌, ◌≤◌, min, Bool, true, false, List, [], ◌∷◌, ◌++◌, length, Option, Some, is_some}
+use Rattle.std.specs.Prelude.{◌≡◌, ℕ, ◌^◌, ◌<◌, ◌≤◌, Bool, true, false, List, [], ◌∷◌, ◌++◌, length, Option, Some, is_some}
 use Rattle.std.specs.List.{filter_map}
 use Rattle.std.specs.Option.{option_to_list}
-use Rattle.cut_disk.specs.State.{Told, Mark, Cut, Stop, Fail, Entry, entry, DiskState, last_count}
-
--- the count of faults is greater than before, or stands at its last value
-abbrev pub Rose : ℕ → ℕ → Type 0
-Rose before after = min (before + 1) last_count ≤ after
+pub use Rattle.fault_count.specs.FaultCount.{Rose}
+use Rattle.fault_count.specs.FaultCount.{last_count}
+use Rattle.cut_disk.specs.declared.Mark.TheVariants.{Cut, Stop, Fail}
+use Rattle.cut_disk.specs.State.{Told, Mark, Entry, entry, DiskState}
 
 -- no call fails until one is armed: the disk says so, and its count is below the last value
 pub record IsQuiet (s : DiskState) : Type 0 where
@@ -55,7 +54,7 @@ newest told [] = told
 newest told (e ∷ entries) = newest (Some e.state) entries
 
 -- a past gets at most this many entries, with these marks in order, and the last of them left the state now
-pub record Adds (marks : List Mark) (most : ℕ) (old new : DiskState) (all : List Entry) : Type 0 where
+pub record AddsEntries (marks : List Mark) (most : ℕ) (old new : DiskState) (all : List Entry) : Type 0 where
   pub earlier : List Entry
   pub added : List Entry
   pub was : old.past ≡ Some earlier
@@ -70,7 +69,7 @@ pub record Runs (marks : List Mark) (most : ℕ) (old new : DiskState) : Type 0 
   pub later : old.faults ≤ new.faults
   pub tells : is_some new.told ≡ is_some old.told
   pub quiet : arms_nothing marks ≡ true → KeepsQuiet old new
-  pub past : (all : List Entry) → new.past ≡ Some all → Adds marks most old new all
+  pub past : (all : List Entry) → new.past ≡ Some all → AddsEntries marks most old new all
 
 -- the entries that a past had before stand first in it
 pub record Continues (before : Option (List Entry)) (all : List Entry) : Type 0 where

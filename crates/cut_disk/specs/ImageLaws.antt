@@ -1,11 +1,11 @@
 -- Laws of the lists that a power cut may leave.
-use Rattle.std.proofs.Common.{◌≡◌, ℕ, ◌+◌, ◌<◌, ◌≤◌, true, false, List, length, get_or, slice_index, replicate, ⊎_elim, arith, refl, sym, ap, ◌∙◌}
+use Rattle.std.proofs.Common.{◌≡◌, ℕ, ◌+◌, ◌<◌, ◌≤◌, true, false, List, length, get_or, slice_index, replicate, ⊎_elim, arith, rules, refl, sym, ap, ◌∙◌}
 use Rattle.std.specs.List.{slice_range}
 use Rattle.std.proofs.lemmas.List.{ext_get_or, length-replicate, get_or-replicate, get_or_default, places}
 use Rattle.std.proofs.lemmas.Bool.{cases_lt}
 use Rattle.cut_disk.specs.State.{Told}
-use Rattle.cut_disk.specs.Images.{splice, Image, firm, with_bytes}
-use Rattle.cut_disk.specs.Splices.{length-splice, get_or-splice_before, get_or-splice_behind, length-part, splice-alike}
+use Rattle.cut_disk.specs.Images.{splice, Image, firm, with_bytes, Patched, UnderWrite}
+use Rattle.cut_disk.specs.Splices.{length-splice, get_or-splice_before, get_or-splice_behind, splice-alike}
 
 -- the bytes as read are always one of the images
 pub image_is_read : (t : Told) → Image t t.bytes
@@ -16,17 +16,9 @@ pub image_of_firm : {x y : List ℕ} → Image (firm x) y → y ≡ x
 image_of_firm {x} {y} image =
     ext_get_or 0 y x image.sized (λ i h. image.agrees i h (get_or-replicate (length x) i false false (omega (arith, image.sized))))
 
--- y is x with something in the place of so many bytes from `at` on
-pub record Patched (at count : ℕ) (x y : List ℕ) : Type 0 where
-  pub left : List ℕ
-  pub sized : length left ≡ count
-  pub is : y ≡ splice at left x
-
--- an image under a write: one that was allowed before it, with something in the range
-pub record UnderWrite (at count : ℕ) (t : Told) (y : List ℕ) : Type 0 where
-  pub before : List ℕ
-  pub image : Image t before
-  pub patched : Patched at count before y
+-- the part that is cut out has as many elements
+length-left : (at n : ℕ) (xs : List ℕ) → at + n ≤ length xs → length (slice_range xs at (at + n)) ≡ n
+length-left at n xs inside = search (rules, places)
 
 -- where y agrees with x but in a range, y is patched there
 pub patched_alike : (at count : ℕ) (x y : List ℕ) → at + count ≤ length x → length y ≡ length x
@@ -35,7 +27,7 @@ pub patched_alike : (at count : ℕ) (x y : List ℕ) → at + count ≤ length 
     → Patched at count x y
 patched_alike at count x y inside sized before behind = record {
   left = slice_range y at (at + count);
-  sized = length-part at count y (omega arith);
+  sized = length-left at count y (omega arith);
   is = splice-alike at count x y inside sized (λ i d h. grind (arith, get_or_default, before i h)) (λ i d h l. grind (arith, get_or_default, behind i h l));
 }
 
@@ -63,7 +55,7 @@ put_back at n xs y i inside same from to = grind (arith, places)
 unwritten : (at : ℕ) (ys : List ℕ) (t : Told) (y : List ℕ) → at + length ys ≤ length t.bytes → length t.loose ≡ length t.bytes
     → Image (with_bytes at ys t) y → Image t (splice at (slice_range t.bytes at (at + length ys)) y)
 unwritten at ys t y inside sized image =
-    let part = length-part at (length ys) t.bytes inside in
+    let part = length-left at (length ys) t.bytes inside in
     let same : length y ≡ length t.bytes = image.sized ∙ length-splice at ys t.bytes inside in
     let fits : at + length (slice_range t.bytes at (at + length ys)) ≤ length y = omega (arith, part, same) in
     let all : length (splice at (slice_range t.bytes at (at + length ys)) y) ≡ length y = length-splice at (slice_range t.bytes at (at + length ys)) y fits in
@@ -82,7 +74,7 @@ unwritten at ys t y inside sized image =
 pub image_under_write : (at : ℕ) (ys : List ℕ) (t : Told) (y : List ℕ) → at + length ys ≤ length t.bytes → length t.loose ≡ length t.bytes
     → Image (with_bytes at ys t) y → UnderWrite at (length ys) t y
 image_under_write at ys t y inside sized image =
-    let part = length-part at (length ys) t.bytes inside in
+    let part = length-left at (length ys) t.bytes inside in
     let same : length y ≡ length t.bytes = image.sized ∙ length-splice at ys t.bytes inside in
     let fits : at + length (slice_range t.bytes at (at + length ys)) ≤ length y = omega (arith, part, same) in
     let all : length (splice at (slice_range t.bytes at (at + length ys)) y) ≡ length y = length-splice at (slice_range t.bytes at (at + length ys)) y fits in

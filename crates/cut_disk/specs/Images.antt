@@ -26,6 +26,18 @@ with_bytes at bytes t = record {
   loose = splice at (replicate (length bytes) true) t.loose;
 }
 
+-- y is x with something in the place of so many bytes from `at` on
+pub record Patched (at count : ℕ) (x y : List ℕ) : Type 0 where
+  pub left : List ℕ
+  pub sized : length left ≡ count
+  pub is : y ≡ splice at left x
+
+-- an image under a write: one that was allowed before it, with something in the range
+pub record UnderWrite (at count : ℕ) (t : Told) (y : List ℕ) : Type 0 where
+  pub before : List ℕ
+  pub image : Image t before
+  pub patched : Patched at count before y
+
 -- What a call leaves is said by what the disk told before and what it tells after.
 
 -- the bytes from `at` on are these

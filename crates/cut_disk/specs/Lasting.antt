@@ -1,8 +1,7 @@
 -- What a write, a sync and a power cut leave together.
 use Rattle.std.specs.Prelude.{◌≡◌, ℕ, List, Option, Some}
 use Rattle.cut_disk.specs.State.{Told}
-use Rattle.cut_disk.specs.Images.{Image, splice, firm}
-use Rattle.cut_disk.specs.ImageLaws.{Patched}
+use Rattle.cut_disk.specs.Images.{Image, splice, firm, Patched}
 
 -- these bytes stand from `at` on, all else is as it was read, and no byte is loose
 abbrev pub Lasts : ℕ → List ℕ → Option Told → Option Told → Type 0

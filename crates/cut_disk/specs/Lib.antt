@@ -6,6 +6,10 @@ pub mod Splices
 pub mod CallLaws
 pub mod ImageLaws
 pub mod Memory
+pub mod Ranges
 pub mod Lasting
 pub mod MemoryLaws
 pub mod MemDisk
+pub mod Tape
+pub mod TapeDisk
+pub mod TapeLaws

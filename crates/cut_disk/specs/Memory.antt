@@ -1,10 +1,11 @@
 -- A disk in memory: what its bytes mean, and what each call makes of them.
-use Rattle.std.specs.Prelude.{ℕ, ◌+◌, ◌%◌, min, Bool, true, false, ◌&&◌, ◌==◌, nat_lt, if◌then◌else◌, List, length, map, replicate, slice_index, slice_index_or, Some, None}
+use Rattle.std.specs.Prelude.{ℕ, ◌%◌, Bool, true, false, ◌&&◌, ◌==◌, nat_lt, if◌then◌else◌, List, length, map, replicate, slice_index, slice_index_or, Some, None}
 use Rattle.std.specs.List.{range_with_len}
 use Rattle.cut_disk.specs.declared.Torn.{Torn}
 use Rattle.cut_disk.specs.declared.Torn.TheVariants.{Keep, Old, Half, Fill}
 use Rattle.cut_disk.specs.declared.arming.Arms.{Arms}
-use Rattle.cut_disk.specs.State.{DiskState, last_count}
+use Rattle.cut_disk.specs.State.{Told, DiskState}
+use Rattle.fault_count.specs.FaultCount.{last_count, counted}
 use Rattle.cut_disk.specs.Arming.{no_arms, fails, after_call, after_cut, is_unarmed}
 use Rattle.cut_disk.specs.Images.{splice}
 
@@ -25,32 +26,32 @@ fresh bytes = record { bytes = bytes; synced = bytes; loose = replicate (length 
 abbrev pub is_calm : Arms → ℕ → Bool
 is_calm arms faults = is_unarmed arms && nat_lt faults last_count
 
+-- the bytes as read, and which of them are loose
+abbrev pub told_of : Contents → Told
+told_of c = record { bytes = c.bytes; loose = c.loose }
+
 -- what the disk means: it tells its bytes, and no past
 abbrev pub disk_of : Contents → DiskState
 disk_of c = record {
   size = length c.bytes;
-  told = Some (record { bytes = c.bytes; loose = c.loose });
+  told = Some (told_of c);
   arms = c.arms;
   faults = c.faults;
   quiet = is_calm c.arms c.faults;
   past = None;
 }
 
--- the count after one more failure
-abbrev pub one_more : ℕ → ℕ
-one_more faults = min (faults + 1) last_count
-
 -- the count after a call
 abbrev pub faults_after : Arms → ℕ → ℕ
-faults_after arms faults = if fails arms then one_more faults else faults
+faults_after arms faults = if fails arms then counted faults else faults
 
 -- one call was counted
-abbrev pub counted : Contents → Contents
-counted c = record c { arms = after_call c.arms; faults = faults_after c.arms c.faults }
+abbrev pub called : Contents → Contents
+called c = record c { arms = after_call c.arms; faults = faults_after c.arms c.faults }
 
 -- the bytes were placed, whether the write fails or not
-abbrev pub placed : ℕ → List ℕ → Contents → Contents
-placed at bytes c = record c {
+abbrev pub after_write : ℕ → List ℕ → Contents → Contents
+after_write at bytes c = record c {
   bytes = splice at bytes c.bytes;
   loose = splice at (replicate (length bytes) true) c.loose;
 }

@@ -21,32 +21,6 @@ pub get_or-splice_behind : {X : Type 0} → (at : ℕ) (ys xs : List X) (i : ℕ
 unfolding splice
 get_or-splice_behind at ys xs i d inside behind = search (rules, places)
 
--- a part that is cut out: its length, and its elements
-pub length-part : {X : Type 0} → (at n : ℕ) (xs : List X) → at + n ≤ length xs → length (slice_range xs at (at + n)) ≡ n
-length-part at n xs inside = search (rules, places)
-
-pub get_or-part : {X : Type 0} → (at n : ℕ) (xs : List X) (i : ℕ) (d : X) → at + n ≤ length xs → i < n → get_or (slice_range xs at (at + n)) i d ≡ get_or xs (at + i) d
-get_or-part at n xs i d inside below = search (rules, places)
-
--- the new part, cut out again
-pub part-splice : {X : Type 0} → (at : ℕ) (ys xs : List X) → at + length ys ≤ length xs → slice_range (splice at ys xs) at (at + length ys) ≡ ys
-unfolding splice
-part-splice at ys xs inside = same_lists _ _ (search (rules, places)) (λ k d h. grind (arith, places))
-
--- a part that lies before it or behind it
-pub part-splice_before : {X : Type 0} → (at : ℕ) (ys xs : List X) (from n : ℕ) → at + length ys ≤ length xs → from + n ≤ at → slice_range (splice at ys xs) from (from + n) ≡ slice_range xs from (from + n)
-unfolding splice
-part-splice_before at ys xs from n inside apart = same_lists _ _ (search (rules, places)) (λ k d h. grind (arith, places))
-
-pub part-splice_behind : {X : Type 0} → (at : ℕ) (ys xs : List X) (from n : ℕ) → at + length ys ≤ length xs → at + length ys ≤ from → from + n ≤ length xs → slice_range (splice at ys xs) from (from + n) ≡ slice_range xs from (from + n)
-unfolding splice
-part-splice_behind at ys xs from n inside apart within = same_lists _ _ (search (rules, places)) (λ k d h. grind (arith, places))
-
--- a part of it
-pub part-splice_in : {X : Type 0} → (at : ℕ) (ys xs : List X) (from n : ℕ) → at + length ys ≤ length xs → at ≤ from → from + n ≤ at + length ys → slice_range (splice at ys xs) from (from + n) ≡ slice_range ys (from - at) (from - at + n)
-unfolding splice
-part-splice_in at ys xs from n inside low high = same_lists _ _ (search (rules, places)) (λ k d h. grind (arith, places))
-
 -- a list that agrees with another but in this part
 pub splice-alike : {X : Type 0} → (at n : ℕ) (xs ys : List X) → at + n ≤ length xs → length ys ≡ length xs
     → ((i : ℕ) (d : X) → i < at → get_or ys i d ≡ get_or xs i d)
@@ -59,11 +33,6 @@ splice-alike at n xs ys inside sized before behind = same_lists _ _ (search (rul
 pub splice-splice : {X : Type 0} → (at : ℕ) (zs ys xs : List X) → at + length ys ≤ length xs → length zs ≡ length ys → splice at zs (splice at ys xs) ≡ splice at zs xs
 unfolding splice
 splice-splice at zs ys xs inside sized = same_lists _ _ (search (rules, places)) (λ k d h. grind (arith, places))
-
--- what stands there already changes nothing
-pub splice-same : {X : Type 0} → (at n : ℕ) (xs : List X) → at + n ≤ length xs → splice at (slice_range xs at (at + n)) xs ≡ xs
-unfolding splice
-splice-same at n xs inside = same_lists _ _ (search (rules, places)) (λ k d h. grind (arith, places))
 
 -- two parts side by side are one
 pub splice-beside : {X : Type 0} → (at : ℕ) (ys zs xs : List X) → at + length ys + length zs ≤ length xs → splice (at + length ys) zs (splice at ys xs) ≡ splice at (ys ++ zs) xs

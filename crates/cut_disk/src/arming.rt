@@ -1,10 +1,10 @@
 //! Which calls of a disk are to fail.
 ghost use Rattle.std.specs.Prelude.{◌≡◌, ◌≤◌, not, is_ok};
-ghost use Rattle.cut_disk.specs.State.{last_count};
 ghost use Rattle.cut_disk.specs.Arming.{no_arms, stops_next, stop_after, rearmed, fails_next, fail_after, fails, after_call, after_cut, with_stop, with_fail};
 ghost use Rattle.cut_disk.specs.Memory.{faults_after};
 
 use crate::DiskFailed;
+use fault_count::count_fault;
 
 /// A stop, from which on every call fails until the power is cut.
 #[derive(Clone, Copy, Drop)]
@@ -127,7 +127,7 @@ pub fn count_call(arms: &mut Arms, faults: &mut u64) -> Result<(), DiskFailed>
     ensures faults { faults.new ≡ faults_after arms.old faults.old }
 {
     if arms.count() {
-        *faults = faults.saturating_add(1);
+        count_fault(faults);
         return Err(DiskFailed);
     }
     Ok(())

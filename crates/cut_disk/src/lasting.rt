@@ -33,6 +33,7 @@ pub fn write_and_cut<D: CutDisk>(
 ) -> Result<(), DiskFailed>
     requires inside { at + length bytes.now ≤ (D.state disk.old).size }
     ensures runs { Runs (Cut torn ∷ []) 3 (D.state disk.old) (D.state disk.new) }
+    ensures count { OnOk result ((D.state disk.new).faults ≡ (D.state disk.old).faults) }
     ensures failed { OnErr result (Rose (D.state disk.old).faults (D.state disk.new).faults) }
     ensures lasts { OnOk result (Lasts at bytes.now (D.state disk.old).told (D.state disk.new).told) }
     ensures torn { OnErr result (LastsTorn at (length bytes.now) (D.state disk.old).told (D.state disk.new).told) }

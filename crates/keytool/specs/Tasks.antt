@@ -2,9 +2,9 @@
 use Rattle.std.specs.Prelude.{ℕ, if◌then◌else◌, List, replicate, Option, Some, None, Result, Ok, Err, false}
 use Rattle.std.specs.Str.{bytes_eq}
 use Rattle.key_slots.specs.declared.memory.Flags.{Flags}
-use Rattle.bus_script.specs.Forms.{key_of, two_of}
-use Rattle.bus_script.specs.KeyForms.{uid_of, slot_of, counter_of, flags_of}
-use Rattle.bus_script.specs.Readings.{◌>>=◌, word}
+use Rattle.text_lines.specs.Forms.{key_of, two_of}
+use Rattle.text_lines.specs.KeyForms.{uid_of, slot_of, counter_of, flags_of}
+use Rattle.text_lines.specs.Readings.{◌>>=◌, word}
 use Rattle.keytool.specs.declared.tasks.Task.{Task}
 use Rattle.keytool.specs.declared.tasks.Task.TheVariants as task
 use Rattle.keytool.specs.declared.tasks.BadValue.{BadValue}

@@ -7,7 +7,7 @@ use Rattle.key_slots.specs.Flags.{bit}
 use Rattle.key_slots.specs.declared.memory.Flags.{Flags}
 use Rattle.memory_update.specs.declared.messages.Request.{Request}
 use Rattle.memory_update.specs.declared.messages.Update.{Update}
-use Rattle.memory_update.specs.Messages.{Builds, Carries, Confirms, HasSlots, IsUpdate, request_mac}
+use Rattle.memory_update.specs.Messages.{Builds, Carries, Confirms, HasSlots, request_mac}
 use Rattle.keytool.specs.declared.tasks.Task.{Task}
 use Rattle.keytool.specs.declared.tasks.Task.TheVariants.{Make, Read, Confirm}
 
@@ -56,7 +56,7 @@ abbrev pub Prints : Task → List ℕ → Type 0
 Prints (Make update authkey) text =
     (request : Request) × Builds request authkey update × (text ≡ request_text request)
 Prints (Read request authkey) text =
-    (update : Update) × IsUpdate update × Carries request authkey update × (text ≡ update_text update)
+    (update : Update) × Carries request authkey update × (text ≡ update_text update)
 Prints (Confirm reply update) text = Confirms reply update update.uid × (text ≡ line (codes "confirmed"))
 
 -- what is printed where the messages are refused: ID or AuthID is no slot's, M3 is wrong, or M4 and M5 are not the update's

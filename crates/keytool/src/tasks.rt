@@ -8,7 +8,7 @@ ghost use Rattle.keytool.specs.declared.subcommands.Subcommand.TheVariants as su
 
 use crate::parsing::value_of;
 use crate::subcommands::Subcommand;
-use bus_script::forms;
+use text_lines::forms;
 use clap::ArgMatches;
 use key_slots::Flags;
 use memory_update::{Reply, Request, Uid, Update};

@@ -1,1 +1,1 @@
-pub mod ByParts
+pub mod Deciding

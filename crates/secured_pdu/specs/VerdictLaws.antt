@@ -1,129 +1,78 @@
--- The candidate is the freshness that is ahead, and the verdict as a function is the verdict as a relation
-use Rattle.std.specs.Prelude.{◌≡◌, ℕ, zero, suc, ◌+◌, ◌-◌, ◌%◌, ◌^◌, ◌<◌, ◌≤◌, ◌==◌, nat_lt, ◌&&◌, Bool, true, false, Option, None, Some, MatchOption, List, length, find}
-use Rattle.std.specs.List.{range_with_len}
-use Rattle.std.specs.Str.{bytes_eq}
-use Rattle.std.proofs.Common.{refl, sym, ap, ◌∙◌, arith, subst, eqb, ltb, inl, inr}
-use Rattle.std.proofs.lemmas.Bool.{cases_eq, cases_Bool, false≢true, cond-true, cond-false, eq-eqb, lt-ltb, eqb-true, ltb-true, and_from, and_parts, false_from_ne_true}
-use Rattle.std.proofs.lemmas.List.{length-take}
-use Rattle.std.proofs.lemmas.Slice.Eq.{bytes_eq-Decides}
-use Rattle.secured_pdu.specs.Frame.{secured_frame, IsPayload, IsFrame, Secured, Ahead}
+-- Laws of a receiver's verdict
+use Rattle.std.specs.Prelude.{◌≡◌, ℕ, ◌-◌, ◌%◌, ◌≤◌, List, ◌∷◌, ◌++◌, length, take}
+use Rattle.std.proofs.Common.{refl, sym, ap, ◌∙◌, arith, subst}
+use Rattle.std.proofs.lemmas.List.{take_at, get_or_at, append_cancel_left, length-append}
+use Rattle.she_cmac.specs.Cmac.{cmac}
+use Rattle.secured_pdu.specs.Frame.{authenticated_input, assembled, secured_frame, IsPayload, IsWindow, Secured, Ahead}
 use Rattle.secured_pdu.specs.FrameLaws.{same_from_Ahead, payload_of_secured, low_of_secured}
-use Rattle.secured_pdu.specs.Verdict.{Outcome, Accepted, FreshnessFailure, VerificationFailure, payload_of, low_of, Verdict, candidate, judged, verdict}
+use Rattle.secured_pdu.specs.Verdict.{Outcome, Accepted, FreshnessFailure, VerificationFailure, payload_of, low_of, Verdict}
 
--- the first number from a on that passes, and none
-find_first : (p : ℕ → Bool) (a n v : ℕ) → a ≤ v → v < a + n → p v ≡ true → ((u : ℕ) → a ≤ u → u < v → p u ≡ false) → find p (range_with_len a n) ≡ Some v
-find_first p a zero v low high passes before = absurd (omega arith)
-find_first p a (suc n) v low high passes before =
-    elim (cases_eq a v) [
-      | inl e ↦ cond-true (p a) (Some a) (find p (range_with_len (a + 1) n)) (ap p e ∙ passes) ∙ ap Some e
-      | inr ne ↦
-          cond-false (p a) (Some a) (find p (range_with_len (a + 1) n)) (before a (omega arith) (omega arith)) ∙ find_first p (a + 1) n v (omega arith) (omega arith) passes (λ u h g. before u (omega arith) g)
-    ]
+-- a freshness that is accepted is not one that fails
+accepted_not_failed : (key : List ℕ) (id c w : ℕ) (frame p : List ℕ) (v : ℕ) → IsWindow w → Verdict key id c w frame (Accepted p v) → ¬ Verdict key id c w frame VerificationFailure
+accepted_not_failed key id c w frame p v is_window accepted failed =
+    let same_v : v ≡ failed.0 = same_from_Ahead c w (low_of frame) v failed.0 is_window.1 accepted.0 failed.1 in
+    let Is : List ℕ → Type 0 = λ q. Secured key id q v frame in
+    let Has : ℕ → Type 0 = λ u. Secured key id (payload_of frame) u frame in
+    failed.2 (subst Has same_v (subst Is accepted.1 accepted.2))
 
-find_none : (p : ℕ → Bool) (a n : ℕ) → ((u : ℕ) → a ≤ u → u < a + n → p u ≡ false) → find p (range_with_len a n) ≡ None
-find_none p a zero h = refl
-find_none p a (suc n) h =
-    cond-false (p a) (Some a) (find p (range_with_len (a + 1) n)) (h a (omega arith) (omega arith)) ∙ find_none p (a + 1) n (λ u l g. h u (omega arith) (omega arith))
-
--- the test of the candidate
-abbrev passes : ℕ → ℕ → Bool
-passes f v = v % 256 == f && nat_lt v (2 ^ 64)
-
-passes_ahead : (c f v : ℕ) → Ahead c f v → passes f v ≡ true
-passes_ahead c f v h = and_from _ _ (eq-eqb (v % 256) f h.low_is) (lt-ltb v (2 ^ 64) h.fits)
-
-ahead_passes : (c f v : ℕ) → c < v → v ≤ c + 256 → passes f v ≡ true → Ahead c f v
-ahead_passes c f v low high h =
-    let both = and_parts (eqb (v % 256) f) (ltb v (2 ^ 64)) h in
-    record { above = low; near = high; low_is = eqb-true (v % 256) f both.0; fits = ltb-true v (2 ^ 64) both.1 }
-
-pub candidate_is : (c f v : ℕ) → Ahead c f v → candidate c f ≡ Some v
-unfolding candidate
-candidate_is c f v h =
-    find_first (passes f) (c + 1) 256 v (omega (arith, h.above)) (omega (arith, h.near)) (passes_ahead c f v h) (λ u l g. false_from_ne_true (passes f u) (λ e.
-    let other = ahead_passes c f u (omega arith) (omega (arith, h.near)) e in
-    absurd (omega (arith, same_from_Ahead c f u v other h))))
-
-pub candidate_none : (c f : ℕ) → ((v : ℕ) → ¬ Ahead c f v) → candidate c f ≡ None
-unfolding candidate
-candidate_none c f h =
-    find_none (passes f) (c + 1) 256 (λ u l g. false_from_ne_true (passes f u) (λ e. h u (ahead_passes c f u (omega arith) (omega arith) e)))
-
-found_later : (p : ℕ → Bool) (a n : ℕ) (o : Option ℕ) → p a ≡ false → MatchOption o ((u : ℕ) → a + 1 ≤ u → u < a + 1 + n → p u ≡ false) (λ v. (a + 1 ≤ v) × (v < a + 1 + n) × (p v ≡ true)) → MatchOption o ((u : ℕ) → a ≤ u → u < a + suc n → p u ≡ false) (λ v. (a ≤ v) × (v < a + suc n) × (p v ≡ true))
-found_later p a n None e h = λ u l g.
-    elim (cases_eq u a) [ inl same ↦ ap p same ∙ e | inr ne ↦ h u (omega arith) (omega arith) ]
-found_later p a n (Some v) e h = (omega (arith, h.0), omega (arith, h.1), h.2)
-
--- what the search finds
-find_at : (p : ℕ → Bool) (a n : ℕ) → MatchOption (find p (range_with_len a n)) ((u : ℕ) → a ≤ u → u < a + n → p u ≡ false) (λ v. (a ≤ v) × (v < a + n) × (p v ≡ true))
-find_at p a zero = λ u l g. absurd (omega arith)
-find_at p a (suc n) =
-    let rest = find p (range_with_len (a + 1) n) in
-    let Found : Option ℕ → Type 0 = λ o. MatchOption o ((u : ℕ) → a ≤ u → u < a + suc n → p u ≡ false) (λ v. (a ≤ v) × (v < a + suc n) × (p v ≡ true)) in
-    elim (cases_Bool (p a)) [
-      | inl e ↦ subst Found (sym (cond-true (p a) (Some a) rest e)) (omega arith, omega arith, e)
-      | inr e ↦
-          subst Found (sym (cond-false (p a) (Some a) rest e)) (found_later p a n rest e (find_at p (a + 1) n))
-    ]
-
-candidate_from : (c f : ℕ) (o : Option ℕ) → MatchOption o ((u : ℕ) → c + 1 ≤ u → u < c + 1 + 256 → passes f u ≡ false) (λ v. (c + 1 ≤ v) × (v < c + 1 + 256) × (passes f v ≡ true)) → MatchOption o ((v : ℕ) → ¬ Ahead c f v) (Ahead c f)
-candidate_from c f None h = λ v a.
-    false≢true (sym (h v (omega (arith, a.above)) (omega (arith, a.near))) ∙ passes_ahead c f v a)
-candidate_from c f (Some v) h = ahead_passes c f v (omega (arith, h.0)) (omega (arith, h.1)) h.2
-
-pub candidate_at : (c f : ℕ) → MatchOption (candidate c f) ((v : ℕ) → ¬ Ahead c f v) (Ahead c f)
-unfolding candidate
-candidate_at c f = candidate_from c f (find (passes f) (range_with_len (c + 1) 256)) (find_at (passes f) (c + 1) 256)
-
--- ---- the verdict
-
-verdict_accepted : (key : List ℕ) (id : ℕ) (frame : List ℕ) (v : ℕ) → frame ≡ secured_frame key id (payload_of frame) v → judged key id frame (Some v) ≡ Accepted (payload_of frame) v
-verdict_accepted key id frame v e =
-    let other = secured_frame key id (payload_of frame) v in
-    cond-true (bytes_eq frame other) (Accepted (payload_of frame) v) VerificationFailure ((bytes_eq-Decides frame other).1 e)
-
-verdict_failed : (key : List ℕ) (id : ℕ) (frame : List ℕ) (v : ℕ) → ¬ (frame ≡ secured_frame key id (payload_of frame) v) → judged key id frame (Some v) ≡ VerificationFailure
-verdict_failed key id frame v ne =
-    let other = secured_frame key id (payload_of frame) v in
-    cond-false (bytes_eq frame other) (Accepted (payload_of frame) v) VerificationFailure (false_from_ne_true (bytes_eq frame other) (λ t. ne ((bytes_eq-Decides frame other).0 t)))
-
-is_payload_of : (frame : List ℕ) → IsFrame frame → IsPayload (payload_of frame)
-is_payload_of frame h =
-    (omega (arith, length-take (length frame - 4) frame, h.0, h.1), omega (arith, length-take (length frame - 4) frame, h.0, h.1))
-
--- the verdict that holds is the one that the function gives
-pub verdict_is : (key : List ℕ) (id c : ℕ) (frame : List ℕ) (o : Outcome) → IsFrame frame → Verdict key id c frame o → verdict key id c frame ≡ o
-unfolding verdict
-verdict_is key id c frame (Accepted p v) size h =
-    let frame_is = h.2.frame_is ∙ ap (λ q. secured_frame key id q v) h.1 in
-    ap (judged key id frame) (candidate_is c (low_of frame) v h.0) ∙ verdict_accepted key id frame v frame_is ∙ ap (λ q. Accepted q v) (sym h.1)
-verdict_is key id c frame FreshnessFailure size h =
-    ap (judged key id frame) (candidate_none c (low_of frame) h)
-verdict_is key id c frame VerificationFailure size h =
-    ap (judged key id frame) (candidate_is c (low_of frame) h.0 h.1) ∙ verdict_failed key id frame h.0 (λ e. h.2 (record { is_payload = is_payload_of frame size; frame_is = e }))
-
-judged_holds : (key : List ℕ) (id c : ℕ) (frame : List ℕ) (o : Option ℕ) → IsFrame frame → MatchOption o ((v : ℕ) → ¬ Ahead c (low_of frame) v) (Ahead c (low_of frame)) → Verdict key id c frame (judged key id frame o)
-judged_holds key id c frame None size h = h
-judged_holds key id c frame (Some v) size h =
-    let other = secured_frame key id (payload_of frame) v in
-    let Holds : Outcome → Type 0 = λ o. Verdict key id c frame o in
-    elim (cases_Bool (bytes_eq frame other)) [
-      | inl t ↦
-          let e = (bytes_eq-Decides frame other).0 t in
-          subst Holds (sym (verdict_accepted key id frame v e)) (h, refl, record { is_payload = is_payload_of frame size; frame_is = e })
-      | inr f ↦
-          let ne : ¬ (frame ≡ other) = λ e. false≢true (sym f ∙ (bytes_eq-Decides frame other).1 e) in
-          subst Holds (sym (verdict_failed key id frame v ne)) (v, h, λ s. ne s.frame_is)
-    ]
-
--- the function gives a verdict that holds
-pub Verdict_of_verdict : (key : List ℕ) (id c : ℕ) (frame : List ℕ) → IsFrame frame → Verdict key id c frame (verdict key id c frame)
-unfolding verdict
-Verdict_of_verdict key id c frame size =
-    judged_holds key id c frame (candidate c (low_of frame)) size (candidate_at c (low_of frame))
+-- at most one verdict holds
+pub same_from_Verdict : (key : List ℕ) (id c w : ℕ) (frame : List ℕ) (o o' : Outcome) → IsWindow w → Verdict key id c w frame o → Verdict key id c w frame o' → o ≡ o'
+same_from_Verdict key id c w frame (Accepted p v) (Accepted q u) is_window x y =
+    ap (λ r. Accepted r v) (x.1 ∙ sym y.1) ∙ ap (Accepted q) (same_from_Ahead c w (low_of frame) v u is_window.1 x.0 y.0)
+same_from_Verdict key id c w frame (Accepted p v) FreshnessFailure is_window x y = absurd (y v x.0)
+same_from_Verdict key id c w frame (Accepted p v) VerificationFailure is_window x y = absurd (accepted_not_failed key id c w frame p v is_window x y)
+same_from_Verdict key id c w frame FreshnessFailure (Accepted q u) is_window x y = absurd (x u y.0)
+same_from_Verdict key id c w frame FreshnessFailure FreshnessFailure is_window x y = refl
+same_from_Verdict key id c w frame FreshnessFailure VerificationFailure is_window x y = absurd (x y.0 y.1)
+same_from_Verdict key id c w frame VerificationFailure (Accepted q u) is_window x y = absurd (accepted_not_failed key id c w frame q u is_window y x)
+same_from_Verdict key id c w frame VerificationFailure FreshnessFailure is_window x y = absurd (y x.0 x.1)
+same_from_Verdict key id c w frame VerificationFailure VerificationFailure is_window x y = refl
 
 -- a frame that is secured with a freshness ahead is accepted with it
-pub Verdict_of_secured : (key : List ℕ) (id c : ℕ) (p : List ℕ) (v : ℕ) (frame : List ℕ) → length key ≡ 16 → Secured key id p v frame → Ahead c (v % 256) v → Verdict key id c frame (Accepted p v)
-Verdict_of_secured key id c p v frame h s a =
-    let low_is = low_of_secured key id p v frame h s in
-    (record { above = a.above; near = a.near; low_is = sym low_is; fits = a.fits }, sym (payload_of_secured key id p v frame h s), s)
+pub Verdict_of_secured : (key : List ℕ) (id c w : ℕ) (p : List ℕ) (v : ℕ) (frame : List ℕ) → Secured key id p v frame → Ahead c w (v % 256) v → Verdict key id c w frame (Accepted p v)
+Verdict_of_secured key id c w p v frame s a =
+    let low_is = low_of_secured key id p v frame s in
+    (record { above = a.above; near = a.near; low_is = sym low_is; fits = a.fits }, sym (payload_of_secured key id p v frame s), s)
+
+-- what is ahead within a window is ahead within a larger one
+pub Ahead-wider : (c w w' f v : ℕ) → w ≤ w' → Ahead c w f v → Ahead c w' f v
+Ahead-wider c w w' f v wider a = record { above = a.above; near = omega (arith, a.near); low_is = a.low_is; fits = a.fits }
+
+-- what is accepted with a window is accepted with a larger one
+pub Verdict-wider : (key : List ℕ) (id c w w' : ℕ) (frame p : List ℕ) (v : ℕ) → w ≤ w' → Verdict key id c w frame (Accepted p v) → Verdict key id c w' frame (Accepted p v)
+Verdict-wider key id c w w' frame p v wider x = (Ahead-wider c w w' (low_of frame) v wider x.0, x.1, x.2)
+
+-- ---- the verdict on a frame that is given by its parts: a payload, a low byte and a tag of three bytes
+
+low_of_parts : (p : List ℕ) (low : ℕ) (tag : List ℕ) → length tag ≡ 3 → low_of (p ++ low ∷ tag) ≡ low
+low_of_parts p low tag h =
+    get_or_at p low tag 0 (length (p ++ low ∷ tag) - 4) (omega (arith, length-append p (low ∷ tag)))
+
+payload_of_parts : (p : List ℕ) (low : ℕ) (tag : List ℕ) → length tag ≡ 3 → payload_of (p ++ low ∷ tag) ≡ p
+payload_of_parts p low tag h =
+    take_at p (low ∷ tag) (length (p ++ low ∷ tag) - 4) (omega (arith, length-append p (low ∷ tag)))
+
+-- a freshness is ahead, and the tag is that of the authenticator
+pub accepted_parts : (key : List ℕ) (id c w : ℕ) (p : List ℕ) (low : ℕ) (tag : List ℕ) (v : ℕ) → IsPayload p → length tag ≡ 3 → Ahead c w low v → tag ≡ take 3 (cmac key (authenticated_input id p v)) → Verdict key id c w (p ++ low ∷ tag) (Accepted p v)
+unfolding secured_frame assembled
+accepted_parts key id c w p low tag v size h a e =
+    let low_is = low_of_parts p low tag h in
+    (subst (λ f. Ahead c w f v) (sym low_is) a, sym (payload_of_parts p low tag h), record { is_payload = size; frame_is = ap (λ l. p ++ l ∷ tag) (sym a.low_is) ∙ ap (λ t. p ++ (v % 256) ∷ t) e })
+
+-- a freshness is ahead, and the tag is another
+pub failed_parts : (key : List ℕ) (id c w : ℕ) (p : List ℕ) (low : ℕ) (tag : List ℕ) (v : ℕ) → length tag ≡ 3 → Ahead c w low v → ¬ (tag ≡ take 3 (cmac key (authenticated_input id p v))) → Verdict key id c w (p ++ low ∷ tag) VerificationFailure
+unfolding secured_frame assembled
+failed_parts key id c w p low tag v h a ne =
+    let low_is = low_of_parts p low tag h in (
+      v,
+      subst (λ f. Ahead c w f v) (sym low_is) a,
+      λ s.
+          let frame_is : p ++ low ∷ tag ≡ secured_frame key id p v = s.frame_is ∙ ap (λ q. secured_frame key id q v) (payload_of_parts p low tag h) in
+          let ends = append_cancel_left p (low ∷ tag) ((v % 256) ∷ take 3 (cmac key (authenticated_input id p v))) frame_is in
+          ne (cc),
+    )
+
+-- no freshness is ahead
+pub stale_parts : (key : List ℕ) (id c w : ℕ) (p : List ℕ) (low : ℕ) (tag : List ℕ) → length tag ≡ 3 → ((v : ℕ) → ¬ Ahead c w low v) → Verdict key id c w (p ++ low ∷ tag) FreshnessFailure
+stale_parts key id c w p low tag h none = λ v a.
+    none v (subst (λ f. Ahead c w f v) (low_of_parts p low tag h) a)

@@ -18,13 +18,14 @@ const PAYLOAD: [u8; 60] = [
     0x24, 0x45, 0xdf, 0x4f, 0x9b, 0x17, 0xad, 0x2b, 0x41, 0x7b, 0xe6, 0x6c,
 ];
 
-// the bytes of payload, the freshness, and the last four bytes of the frame
-const FRAMES: [(usize, u64, [u8; 4]); 5] = [
-    (6, 0xe93d7e11_7393172a, [0x2a, 0x07, 0x0a, 0x16]),
-    (30, 0x30c81c46_a35ce411, [0x11, 0xdf, 0xa6, 0x67]),
-    (54, 0xad2b417b_e66c3710, [0x10, 0x51, 0xf0, 0xbe]),
-    (60, 0xffffffff_fffffffe, [0xfe, 0x30, 0x38, 0xa2]),
-    (1, 0x100, [0x00, 0x75, 0x5e, 0xbe]),
+// the Data ID, the bytes of payload, the freshness, and the last four bytes of the frame
+const FRAMES: [(u16, usize, u64, [u8; 4]); 6] = [
+    (ID, 6, 0xe93d7e11_7393172a, [0x2a, 0x07, 0x0a, 0x16]),
+    (ID, 30, 0x30c81c46_a35ce411, [0x11, 0xdf, 0xa6, 0x67]),
+    (ID, 54, 0xad2b417b_e66c3710, [0x10, 0x51, 0xf0, 0xbe]),
+    (ID, 60, 0xffffffff_fffffffe, [0xfe, 0x30, 0x38, 0xa2]),
+    (ID, 1, 0x100, [0x00, 0x75, 0x5e, 0xbe]),
+    (0xffff, 6, u64::MAX, [0xff, 0x24, 0xae, 0xb9]),
 ];
 
 const PDU: [u8; 10] = [0xbe, 0xe2, 0x2e, 0x40, 0x9f, 0x96, 0x2a, 0x07, 0x0a, 0x16];
@@ -32,10 +33,10 @@ const PDU: [u8; 10] = [0xbe, 0xe2, 0x2e, 0x40, 0x9f, 0x96, 0x2a, 0x07, 0x0a, 0x1
 #[test]
 fn a_frame_has_the_payload_the_low_byte_and_three_bytes_of_the_cmac(rt: HostRuntime) {
     let schedule = expand(&Block::of(KEY));
-    for (size, freshness, trailer) in FRAMES {
+    for (id, size, freshness, trailer) in FRAMES {
         assert!(rt; size <= 60);
         let mut out = [0xaa; 64];
-        let length = build(&schedule, ID, &PAYLOAD[..size], freshness, &mut out);
+        let length = build(&schedule, id, &PAYLOAD[..size], freshness, &mut out);
         assert_eq!(rt; length, Some(size + 4));
         assert_eq!(rt; &out[..size], &PAYLOAD[..size], "{size} bytes");
         assert_eq!(rt; &out[size..size + 4], trailer.as_slice(), "{size} bytes");
@@ -81,29 +82,26 @@ fn other_lengths_are_refused(rt: HostRuntime) {
     assert!(rt; split(&[0; 65]).is_none());
 }
 
-// the receiver's counter, what is changed in the last byte of the frame, and the verdict
-const VERDICTS: [(u64, u8, Judgement); 5] = [
-    (
-        0xe93d7e11_73931729,
-        0,
-        Judgement::Accepted(0xe93d7e11_7393172a),
-    ),
-    (
-        0xe93d7e11_7393162a,
-        0,
-        Judgement::Accepted(0xe93d7e11_7393172a),
-    ),
-    (0xe93d7e11_7393172a, 0, Judgement::VerificationFailure),
-    (0xe93d7e11_73931729, 1, Judgement::VerificationFailure),
-    (0xffffffff_ffffffff, 0, Judgement::FreshnessFailure),
+// the receiver's counter and window, what is changed in the last byte of the frame, and the verdict
+const VERDICTS: [(u64, u16, u8, Judgement); 8] = [
+    (0xe93d7e11_73931729, 1, 0, ACCEPTED),
+    (0xe93d7e11_73931728, 1, 0, Judgement::FreshnessFailure),
+    (0xe93d7e11_73931728, 2, 0, ACCEPTED),
+    (0xe93d7e11_7393162a, 256, 0, ACCEPTED),
+    (0xe93d7e11_7393162a, 255, 0, Judgement::FreshnessFailure),
+    (0xe93d7e11_7393172a, 256, 0, Judgement::VerificationFailure),
+    (0xe93d7e11_73931729, 256, 1, Judgement::VerificationFailure),
+    (u64::MAX, 256, 0, Judgement::FreshnessFailure),
 ];
+
+const ACCEPTED: Judgement = Judgement::Accepted(0xe93d7e11_7393172a);
 
 #[test]
 fn a_frame_is_judged_by_its_freshness_and_its_tag(rt: HostRuntime) {
     let schedule = expand(&Block::of(KEY));
     let parts = split(&PDU).expect(&rt, "ten bytes");
     assert_eq!(rt; parts.payload, &PAYLOAD[..6]);
-    for (counter, change, verdict) in VERDICTS {
+    for (counter, window, change, verdict) in VERDICTS {
         let [first, second, third] = parts.tag;
         let tag = [first, second, third ^ change];
         let received = Parts {
@@ -111,18 +109,37 @@ fn a_frame_is_judged_by_its_freshness_and_its_tag(rt: HostRuntime) {
             low: parts.low,
             tag,
         };
+        assert!(rt; window >= 1 && window <= 256);
         assert_eq!(rt;
-            judge(&schedule, ID, counter, &received),
+            judge(&schedule, ID, counter, window, &received),
             verdict,
-            "{counter:x}"
+            "{counter:x} {window}"
         );
     }
 }
 
+// the counter, the window, the low byte, and the candidate
+const CANDIDATES: [(u64, u16, u8, Option<u64>); 10] = [
+    (0, 256, 0, Some(256)),
+    (0, 255, 0, None),
+    (0, 1, 1, Some(1)),
+    (0, 1, 2, None),
+    (0x2f0, 16, 0x00, Some(0x300)),
+    (0x2f0, 15, 0x00, None),
+    (0x2f0, 256, 0xf0, Some(0x3f0)),
+    (u64::MAX - 1, 1, 0xff, Some(u64::MAX)),
+    (u64::MAX - 1, 256, 0xfe, None),
+    (u64::MAX, 256, 0xff, None),
+];
+
 #[test]
-fn the_candidate_is_one_to_256_ahead(rt: HostRuntime) {
-    assert_eq!(rt; candidate_of(0, 0), Some(256));
-    assert_eq!(rt; candidate_of(0, 1), Some(1));
-    assert_eq!(rt; candidate_of(u64::MAX - 1, 0xff), Some(u64::MAX));
-    assert_eq!(rt; candidate_of(u64::MAX - 1, 0xfe), None);
+fn the_candidate_is_one_to_the_window_ahead(rt: HostRuntime) {
+    for (counter, window, low, candidate) in CANDIDATES {
+        assert!(rt; window >= 1 && window <= 256);
+        assert_eq!(rt;
+            candidate_of(counter, window, low),
+            candidate,
+            "{counter:x} {window} {low}"
+        );
+    }
 }

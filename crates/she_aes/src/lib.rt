@@ -4,34 +4,43 @@
 //! standard gives for it, and [`decrypt`] takes it back. The modes CBC and ECB (SP 800-38A) do the same
 //! with any number of blocks. [`laws`] says of the definitions that each direction undoes the other.
 //! No call refuses, and none takes memory.
+//!
+//! All of them work on the 16 bytes of a block at once and read no table at a place that depends on a key or a text, but for
+//! [`encrypt_by_tables`], which stands beside for processors that shuffle no bytes.
 #![tactic(auto)]
 
-mod field;
+mod by_tables;
+mod expansion;
 mod inverse;
 pub mod laws;
 mod modes;
 mod rounds;
-mod words;
+mod substitution;
 
 ghost use Rattle.std.specs.Prelude.{◌≡◌, ◌<◌, All};
-ghost use Rattle.she_aes.specs.Cipher.{IsBlock, xor_blocks, enc, dec};
+ghost use Rattle.she_aes.specs.Cipher.{IsBlock, zero_block, xor_blocks, enc, dec};
 
 pub use modes::{cbc_decrypt, cbc_encrypt, ecb_decrypt, ecb_encrypt};
 use rounds::State;
+use std::fmt;
 use std::marker::Model;
+use std::simd::prelude::*;
 
-/// A block of 16 bytes: a key, a text, or a value that is made of them.
-#[derive(Clone, Copy, Debug, PartialEq, Eq)]
+/// A block of 16 bytes: a key, a text, or a value that is made of them. Printed for debugging it shows no byte, since it may be a key.
+#[derive(Clone, Copy, PartialEq, Eq)]
 pub struct Block {
     bytes: [u8; 16],
 }
 
 impl Model for Block {
     ghost use Rattle.std.specs.Prelude.{List, ℕ};
+    ghost use Rattle.she_aes.specs.Cipher.{IsBlock};
 
     ghost Value = { List ℕ };
 
     ghost view = { λ b. b.bytes };
+
+    ghost invariant = { λ b. IsBlock b.bytes };
 
     ghost inverse = { λ bytes. record { bytes = bytes } };
 }
@@ -39,31 +48,50 @@ impl Model for Block {
 impl Block {
     /// The block with these 16 bytes.
     pub fn of(bytes: [u8; 16]) -> Block
-        ensures { result ≡ bytes }
+        ensures value { result ≡ bytes }
+        ensures is_block { IsBlock result }
     {
+        let _bytes = told(&bytes);
         Block { bytes }
+    }
+
+    /// The block of zero bytes.
+    pub fn zero() -> Block
+        ensures value { result ≡ zero_block }
+        ensures is_block { IsBlock result }
+    {
+        Block::of([0; 16])
     }
 
     /// The 16 bytes, in the standard's order.
     pub fn bytes(&self) -> &[u8; 16]
-        ensures { result.now ≡ self.now }
+        ensures value { result.now ≡ self.now }
+        ensures is_block { IsBlock self.now }
     {
         &self.bytes
     }
 
-    /// The same bytes as a slice. This call also tells a proof what every block is: 16 numbers below 256.
+    /// The 16 bytes as a slice.
     pub fn as_slice(&self) -> &[u8]
         ensures value { result.now ≡ self.now }
         ensures is_block { IsBlock self.now }
     {
-        told(&self.bytes)
+        &self.bytes
     }
 
     /// The exclusive or of the two blocks, byte by byte.
     pub fn xor(&self, other: &Block) -> Block
-        ensures { result ≡ xor_blocks self.now other.now }
+        ensures value { result ≡ xor_blocks self.now other.now }
+        ensures is_block { IsBlock result }
+        ensures of_blocks { IsBlock self.now × IsBlock other.now }
     {
         Block::of(rounds::xor(&self.bytes, &other.bytes))
+    }
+}
+
+impl fmt::Debug for Block {
+    fn fmt<W: fmt::Write>(&self, f: &mut fmt::Formatter<W>) -> fmt::Result {
+        f.write_str("Block")
     }
 }
 
@@ -82,51 +110,83 @@ pub struct Schedule {
 }
 
 impl Model for Schedule {
-    ghost use Rattle.std.specs.Prelude.{◌≡◌, List, [], ℕ, slice_index_or};
+    ghost use Rattle.std.specs.Prelude.{List, [], ℕ, slice_index_or};
     ghost use Rattle.she_aes.specs.Cipher.{round_keys};
+    ghost use Rattle.she_aes.specs.RoundKeys.{AreRoundKeys};
 
     ghost Value = { List ℕ };
 
     ghost view = { λ s. slice_index_or s.keys 0 [] };
 
-    ghost invariant = { λ s. s.keys ≡ round_keys (slice_index_or s.keys 0 []) };
+    ghost invariant = { λ s. AreRoundKeys s.keys };
 
     ghost inverse = { λ key. record { keys = round_keys key } };
 }
 
 /// The round keys of a key, by the key expansion of FIPS 197, section 5.2.
 pub fn expand(key: &Block) -> Schedule
-    ensures { result ≡ key.now }
+    ensures value { result ≡ key.now }
+    ensures is_block { IsBlock result }
 {
-    let words = words::key_words(&key.bytes);
     Schedule {
-        keys: words::round_keys(&words),
+        keys: expansion::round_keys(&key.bytes),
     }
 }
 
 /// The block encrypted under the key of the schedule (FIPS 197, section 5.1).
 pub fn encrypt(schedule: &Schedule, block: &Block) -> Block
-    ensures { result ≡ enc schedule.now block.now }
+    ensures value { result ≡ enc schedule.now block.now }
+    ensures is_block { IsBlock result }
+    ensures of_blocks { IsBlock schedule.now × IsBlock block.now }
 {
     let keys = &schedule.keys;
-    let mut state = rounds::add_round_key(&keys[0], &block.bytes);
+    let s0 = rounds::add_round_key(&keys[0], u8x16::from_array(block.bytes));
+    let s1 = rounds::round(&keys[1], s0);
+    let s2 = rounds::round(&keys[2], s1);
+    let s3 = rounds::round(&keys[3], s2);
+    let s4 = rounds::round(&keys[4], s3);
+    let s5 = rounds::round(&keys[5], s4);
+    let s6 = rounds::round(&keys[6], s5);
+    let s7 = rounds::round(&keys[7], s6);
+    let s8 = rounds::round(&keys[8], s7);
+    let s9 = rounds::round(&keys[9], s8);
+    Block::of(rounds::last_round(&keys[10], s9).to_array())
+}
+
+/// What [`encrypt`] gives, by tables of words, for processors that shuffle no bytes. It reads them at places that depend on the key and
+/// the block.
+pub fn encrypt_by_tables(schedule: &Schedule, block: &Block) -> Block
+    ensures value { result ≡ enc schedule.now block.now }
+    ensures is_block { IsBlock result }
+    ensures of_blocks { IsBlock schedule.now × IsBlock block.now }
+{
+    let keys = &schedule.keys;
+    let mut state = rounds::xor(&block.bytes, &keys[0]);
     for number in 1..10 {
-        state = rounds::round(&keys[number], &state);
+        state = by_tables::round(&keys[number], &state);
     }
-    Block::of(rounds::last_round(&keys[10], &state))
+    Block::of(by_tables::last_round(&keys[10], &state))
 }
 
 /// The block decrypted under the key of the schedule (FIPS 197, section 5.3): the block that `encrypt`
 /// takes to this one.
 pub fn decrypt(schedule: &Schedule, block: &Block) -> Block
-    ensures { result ≡ dec schedule.now block.now }
+    ensures value { result ≡ dec schedule.now block.now }
+    ensures is_block { IsBlock result }
+    ensures of_blocks { IsBlock schedule.now × IsBlock block.now }
 {
     let keys = &schedule.keys;
-    let mut state = inverse::undo_last_round(&keys[10], &block.bytes);
-    for number in 1..10 {
-        state = inverse::undo_round(&keys[10 - number], &state);
-    }
-    Block::of(rounds::add_round_key(&keys[0], &state))
+    let s9 = inverse::undo_last_round(&keys[10], u8x16::from_array(block.bytes));
+    let s8 = inverse::undo_round(&keys[9], s9);
+    let s7 = inverse::undo_round(&keys[8], s8);
+    let s6 = inverse::undo_round(&keys[7], s7);
+    let s5 = inverse::undo_round(&keys[6], s6);
+    let s4 = inverse::undo_round(&keys[5], s5);
+    let s3 = inverse::undo_round(&keys[4], s4);
+    let s2 = inverse::undo_round(&keys[3], s3);
+    let s1 = inverse::undo_round(&keys[2], s2);
+    let s0 = inverse::undo_round(&keys[1], s1);
+    Block::of(rounds::add_round_key(&keys[0], s0).to_array())
 }
 
 #[cfg(test)]

@@ -1,5 +1,7 @@
 use super::*;
 
+mod known_answers;
+
 // Key, text and ciphertext of FIPS 197, appendices B and C.1, and of SP 800-38A, F.1.1.
 const VECTORS: [([u8; 16], [u8; 16], [u8; 16]); 3] = [
     (
@@ -54,6 +56,7 @@ fn the_vectors_of_the_standards_are_encrypted_and_decrypted(rt: HostRuntime) {
         let text = Block::of(text);
         let ciphertext = Block::of(ciphertext);
         assert_eq!(rt; encrypt(&schedule, &text), ciphertext);
+        assert_eq!(rt; encrypt_by_tables(&schedule, &text), ciphertext);
         assert_eq!(rt; decrypt(&schedule, &ciphertext), text);
     }
 }

@@ -2,4 +2,4 @@ use Rattle.secured_pdu.specs.VerdictLaws.{Verdict_of_secured}
 use Rattle.secured_pdu.proofs.laws.secured_frame_is_accepted.Goals as goal
 
 pub returns : goal.returns
-returns c = λ key id counter p v frame. Verdict_of_secured key id counter p v frame
+returns c = Verdict_of_secured

@@ -2,7 +2,7 @@
 use Rattle.std.proofs.Common.{arith}
 use Rattle.std.proofs.lemmas.Grind.{common_steps}
 use Rattle.cut_disk.specs.MemDisk.{contents}
-use Rattle.cut_disk.specs.MemoryLaws.{cut_leaves}
+use Rattle.cut_disk.proofs.Tearing.{cut_leaves}
 use Rattle.cut_disk.proofs.mem_disk.MemDiskCutDisk.power_cut.Goals as goal
 
 pub returns-clause-left : goal.returns-clause-left

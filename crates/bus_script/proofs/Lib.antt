@@ -1,6 +1,0 @@
-pub mod Cuts
-pub mod Folds
-pub mod Numbers
-pub mod Pieces
-pub mod Rows
-pub mod Sizes

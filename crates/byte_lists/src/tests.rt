@@ -1,0 +1,30 @@
+use super::*;
+use std::test::Fail;
+
+// Lengths of PDUs that can be held: none, the most of CAN, and the most of CAN FD.
+const LENGTHS: [usize; 4] = [0, 1, 8, 64];
+
+#[test]
+fn a_pdu_has_the_bytes_that_it_was_made_of(rt: HostRuntime) {
+    let bytes: [u8; 65] = [0xa5; 65];
+    for len in LENGTHS {
+        assert!(rt; len < 65);
+        let pdu = Pdu::of(&bytes[..len]).map(|p| p.bytes().len());
+        assert_eq!(rt; pdu, Some(len));
+    }
+    assert!(rt; Pdu::of(&bytes).is_none());
+}
+
+#[test]
+fn pdus_are_the_same_where_their_bytes_are(rt: HostRuntime) {
+    assert_eq!(rt; Pdu::of(b"\x01\x00"), Pdu::of(b"\x01\x00"));
+    assert_ne!(rt; Pdu::of(b"\x01\x00"), Pdu::of(b"\x01"));
+}
+
+#[test]
+fn bytes_are_those_of_the_vector(rt: HostRuntime) -> Result<(), Fail> {
+    let bytes = Bytes::of([0x5a, 0xff, 0].to_vec(rt.alloc())?);
+    assert_eq!(rt; bytes.bytes(), b"\x5a\xff\x00".as_slice());
+    assert_eq!(rt; bytes.into_vec().as_slice(), b"\x5a\xff\x00".as_slice());
+    Ok(())
+}

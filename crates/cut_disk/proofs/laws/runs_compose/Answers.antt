@@ -1,0 +1,5 @@
+use Rattle.cut_disk.specs.CallLaws.{runs_join}
+use Rattle.cut_disk.proofs.laws.runs_compose.Goals as goal
+
+pub returns : goal.returns
+returns c = λ first second m n a b c. runs_join

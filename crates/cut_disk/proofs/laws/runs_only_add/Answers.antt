@@ -1,0 +1,5 @@
+use Rattle.cut_disk.specs.CallLaws.{later_of_runs}
+use Rattle.cut_disk.proofs.laws.runs_only_add.Goals as goal
+
+pub returns : goal.returns
+returns c = λ marks most old new. later_of_runs

@@ -1,0 +1,15 @@
+use super::*;
+
+#[test]
+fn a_count_rises_by_one_and_stands_at_its_last_value(rt: HostRuntime) {
+    for (before, after) in [
+        (0, 1),
+        (1, 2),
+        (u64::MAX - 1, u64::MAX),
+        (u64::MAX, u64::MAX),
+    ] {
+        let mut faults = before;
+        count_fault(&mut faults);
+        assert_eq!(rt; faults, after);
+    }
+}

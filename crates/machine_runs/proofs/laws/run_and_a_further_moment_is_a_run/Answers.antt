@@ -1,0 +1,5 @@
+use Rattle.machine_runs.specs.RunLaws.{Run-more}
+use Rattle.machine_runs.proofs.laws.run_and_a_further_moment_is_a_run.Goals as goal
+
+pub returns : goal.returns
+returns g c = λ start now moments m run step. Run-more g.M.Steps.steps start moments now m run step

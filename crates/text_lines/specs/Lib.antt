@@ -1,0 +1,9 @@
+pub mod Forms
+pub mod Frames
+pub mod KeyForms
+pub mod Lines
+pub mod Places
+pub mod Readings
+pub mod Spans
+pub mod Texts
+pub mod Written

@@ -1,0 +1,527 @@
+use crate::fault::{Cause, LineFault, Memory, ScriptFault};
+use crate::frames::{FrameReader, read_frames};
+use crate::judges::{JudgeReader, read_judges};
+use crate::loads::{LoadReader, read_loads};
+use crate::reader::{LineReader, MOST_LINES, read_lines};
+use crate::texts::fault_text;
+use crate::verdicts::{push_bad_length, push_digits, push_line, push_outcome};
+use crate::words::Words;
+use crate::{forms, laws};
+use byte_lists::Bytes;
+use secured_pdu::Judgement;
+use std::alloc::{AllocError, Global};
+use std::test::Fail;
+
+const LINE: &str = "2b7e151628aed2a6abf7158809cf4f3c 6bc1 e93d7e117393172a bee22e409f96\n";
+
+// Texts of `frame` lines, and beside each its lines as they would be written, or the printed fault.
+const FRAMES: [(&str, &str); 17] = [
+    (
+        "2b7e151628aed2a6abf7158809cf4f3c 6bc1 e93d7e117393172a bee22e409f96",
+        LINE,
+    ),
+    (
+        "\t2B7E151628AED2A6abf7158809cf4f3c  \t6bC1 e93d7e117393172A\tBEE22E409F96 \r\n",
+        LINE,
+    ),
+    (
+        "# a comment\n\n \t \n  #2b7e\n2b7e151628aed2a6abf7158809cf4f3c 6bc1 e93d7e117393172a bee22e409f96\n\r\n",
+        LINE,
+    ),
+    (
+        "2b7e151628aed2a6abf7158809cf4f3c 6bc1 e93d7e117393172a bee22e409f96\n2b7e151628aed2a6abf7158809cf4f3c 6bc1 e93d7e117393172a bee22e409f96",
+        "2b7e151628aed2a6abf7158809cf4f3c 6bc1 e93d7e117393172a bee22e409f96\n2b7e151628aed2a6abf7158809cf4f3c 6bc1 e93d7e117393172a bee22e409f96\n",
+    ),
+    ("", ""),
+    ("\n\r\n#", ""),
+    ("x", "script: line 1: wrong number of words\n"),
+    (
+        "\n# x\n2b7e 6bc1\n",
+        "script: line 3: wrong number of words\n",
+    ),
+    (
+        "2b7e 6bc1 e93d7e117393172a 00 00",
+        "script: line 1: wrong number of words\n",
+    ),
+    ("2b7e 6bc1 e93d7e117393172a 00", "script: line 1: word 1\n"),
+    (
+        "2b7e151628aed2a6abf7158809cf4f3g 6bc 0 0",
+        "script: line 1: word 1\n",
+    ),
+    (
+        "2b7e151628aed2a6abf7158809cf4f3c 6bc 0 0",
+        "script: line 1: word 2\n",
+    ),
+    (
+        "2b7e151628aed2a6abf7158809cf4f3c 6bc1 0e93d7e117393172a 0",
+        "script: line 1: word 3\n",
+    ),
+    (
+        "2b7e151628aed2a6abf7158809cf4f3c 6bc1 e93d7e117393172a 0",
+        "script: line 1: word 4\n",
+    ),
+    (
+        "2b7e151628aed2a6abf7158809cf4f3c 6bc1 e93d7e117393172a -",
+        "script: line 1: word 4\n",
+    ),
+    (
+        "2b7e151628aed2a6abf7158809cf4f3c 6bc1 e93d7e117393172a 00\r\r\n",
+        "script: line 1: word 4\n",
+    ),
+    (
+        "2b7e151628aed2a6abf7158809cf4f3c 6bc1 e93d7e117393172a 000102030405060708090a0b0c0d0e0f101112131415161718191a1b1c1d1e1f202122232425262728292a2b2c2d2e2f303132333435363738393a3b3c",
+        "script: line 1: word 4\n",
+    ),
+];
+
+// The same of `judge` lines.
+const JUDGES: [(&str, &str); 6] = [
+    (
+        "2b7e151628aed2a6abf7158809cf4f3c 6bc1 e93d7e1173931729 BEE22e409f962a070a16",
+        "2b7e151628aed2a6abf7158809cf4f3c 6bc1 e93d7e1173931729 bee22e409f962a070a16\n",
+    ),
+    (
+        "2b7e151628aed2a6abf7158809cf4f3c 6bc1 ffffffffffffffff -\n",
+        "2b7e151628aed2a6abf7158809cf4f3c 6bc1 ffffffffffffffff \n",
+    ),
+    (
+        "2b7e151628aed2a6abf7158809cf4f3c 6bc1 e93d7e1173931729 -\n2b7e151628aed2a6abf7158809cf4f3c ffff 0000000000000000 00\n",
+        "2b7e151628aed2a6abf7158809cf4f3c 6bc1 e93d7e1173931729 \n2b7e151628aed2a6abf7158809cf4f3c ffff 0000000000000000 00\n",
+    ),
+    (
+        "\n2b7e151628aed2a6abf7158809cf4f3c 6bc1 e93d7e117393172a --",
+        "script: line 2: word 4\n",
+    ),
+    (
+        "2b7e151628aed2a6abf7158809cf4f3c 6bc1 e93d7e117393172a bee",
+        "script: line 1: word 4\n",
+    ),
+    (
+        "2b7e151628aed2a6abf7158809cf4f3c 6bc1 e93d7e117393172a",
+        "script: line 1: wrong number of words\n",
+    ),
+];
+
+// The same of `load` lines.
+const LOADS: [(&str, &str); 7] = [
+    (
+        "00000000000000000000000000000141 2b111e2d93f486566bcbba1d7f7a9797c94643b050fc5d4d7de14cff682203c3 B9D745E5ACE7D41860BC63C2B9F5BB46\r\n#\n00000000000000000000000000000142 2b111e2d93f486566bcbba1d7f7a9797c94643b050fc5d4d7de14cff682203c3 b9d745e5ace7d41860bc63c2b9f5bb46",
+        "00000000000000000000000000000141 2b111e2d93f486566bcbba1d7f7a9797c94643b050fc5d4d7de14cff682203c3 b9d745e5ace7d41860bc63c2b9f5bb46\n00000000000000000000000000000142 2b111e2d93f486566bcbba1d7f7a9797c94643b050fc5d4d7de14cff682203c3 b9d745e5ace7d41860bc63c2b9f5bb46\n",
+    ),
+    ("# none", ""),
+    (
+        "00000000000000000000000000000141 2b111e2d93f486566bcbba1d7f7a9797",
+        "script: line 1: wrong number of words\n",
+    ),
+    ("0 0 0 0", "script: line 1: wrong number of words\n"),
+    ("0 0 0", "script: line 1: word 1\n"),
+    (
+        "\n00000000000000000000000000000141 2b111e2d93f486566bcbba1d7f7a9797 0",
+        "script: line 2: word 2\n",
+    ),
+    (
+        "00000000000000000000000000000141 2b111e2d93f486566bcbba1d7f7a9797c94643b050fc5d4d7de14cff682203c3 -",
+        "script: line 1: word 3\n",
+    ),
+];
+
+// A key, a Data ID, a freshness and bytes, as a line writes them.
+fn written(
+    alloc: Global,
+    key: &[u8],
+    id: u16,
+    freshness: u64,
+    bytes: &[u8],
+) -> Result<String, AllocError> {
+    let key = hex::encode(alloc, key)?;
+    let bytes = hex::encode(alloc, bytes)?;
+    format!(in alloc; "{key} {id:04x} {freshness:016x} {bytes}\n")
+}
+
+fn fault_of(alloc: Global, fault: &ScriptFault) -> Result<String, Fail> {
+    match fault {
+        ScriptFault::At { line, cause } => Ok(fault_text(alloc, *line, cause)?),
+        ScriptFault::Memory => Err("no memory")?,
+    }
+}
+
+fn frames_shown(alloc: Global, text: &[u8]) -> Result<String, Fail> {
+    if text.len() > 1000 {
+        return Err("a long text")?;
+    }
+    let lines = match read_frames(alloc, text) {
+        Ok(lines) => lines,
+        Err(fault) => return fault_of(alloc, &fault),
+    };
+    let mut shown = String::new(alloc);
+    for line in &lines {
+        shown.push_str(written(
+            alloc,
+            line.key.bytes().as_slice(),
+            line.id,
+            line.freshness,
+            line.payload.bytes(),
+        )?
+        .as_str())?;
+    }
+    Ok(shown)
+}
+
+fn judges_shown(alloc: Global, text: &[u8]) -> Result<String, Fail> {
+    if text.len() > 1000 {
+        return Err("a long text")?;
+    }
+    let lines = match read_judges(alloc, text) {
+        Ok(lines) => lines,
+        Err(fault) => return fault_of(alloc, &fault),
+    };
+    let mut shown = String::new(alloc);
+    for line in &lines {
+        shown.push_str(written(
+            alloc,
+            line.key.bytes().as_slice(),
+            line.id,
+            line.counter,
+            line.pdu.bytes(),
+        )?
+        .as_str())?;
+    }
+    Ok(shown)
+}
+
+fn loads_shown(alloc: Global, text: &[u8]) -> Result<String, Fail> {
+    if text.len() > 1000 {
+        return Err("a long text")?;
+    }
+    let lines = match read_loads(alloc, text) {
+        Ok(lines) => lines,
+        Err(fault) => return fault_of(alloc, &fault),
+    };
+    let mut shown = String::new(alloc);
+    for line in &lines {
+        let m1 = hex::encode(alloc, line.m1.as_slice())?;
+        let [first, second] = line.m2;
+        let front = hex::encode(alloc, first.as_slice())?;
+        let back = hex::encode(alloc, second.as_slice())?;
+        let m3 = hex::encode(alloc, line.m3.as_slice())?;
+        shown.push_str(format!(in alloc; "{m1} {front}{back} {m3}\n")?.as_str())?;
+    }
+    Ok(shown)
+}
+
+#[test]
+fn frame_lines_are_read_or_refused(rt: HostRuntime) -> Result<(), Fail> {
+    for (text, shown) in FRAMES {
+        assert_eq!(rt;
+            frames_shown(rt.alloc(), text.as_bytes())?.as_str(),
+            shown,
+            "{text}"
+        );
+    }
+    Ok(())
+}
+
+#[test]
+fn judge_lines_are_read_or_refused(rt: HostRuntime) -> Result<(), Fail> {
+    for (text, shown) in JUDGES {
+        assert_eq!(rt;
+            judges_shown(rt.alloc(), text.as_bytes())?.as_str(),
+            shown,
+            "{text}"
+        );
+    }
+    Ok(())
+}
+
+#[test]
+fn load_lines_are_read_or_refused(rt: HostRuntime) -> Result<(), Fail> {
+    for (text, shown) in LOADS {
+        assert_eq!(rt;
+            loads_shown(rt.alloc(), text.as_bytes())?.as_str(),
+            shown,
+            "{text}"
+        );
+    }
+    Ok(())
+}
+
+// Takes any line.
+struct AnyLine;
+
+impl LineReader for AnyLine {
+    ghost use Rattle.std.specs.Prelude.{Ok};
+
+    type Item = ();
+
+    ghost means = { λ _ _ _. Ok tt };
+
+    fn read(&self, _alloc: Global, _words: &Words<'_>, _before: &[()]) -> Result<(), LineFault> {
+        Ok(())
+    }
+}
+
+fn short_lines(
+    alloc: Global,
+    count: usize,
+    most: usize,
+) -> Result<Result<usize, ScriptFault>, Fail> {
+    let mut text = Vec::new(alloc);
+    for _ in 0..count {
+        text.extend_from_slice(b"a\n")?;
+    }
+    if text.len() > 1_000_000 {
+        return Err("a long text")?;
+    }
+    Ok(read_lines(alloc, &text, most, &AnyLine).map(|lines| lines.len()))
+}
+
+#[test]
+fn one_line_may_be_too_many(rt: HostRuntime) -> Result<(), Fail> {
+    for (count, most) in [(0, 0), (1, 1), (256, 256), (MOST_LINES, MOST_LINES)] {
+        assert_eq!(rt; short_lines(rt.alloc(), count, most)?, Ok(count));
+        let fault = ScriptFault::At {
+            line: count as u32 + 1,
+            cause: Cause::TooMany,
+        };
+        assert_eq!(rt; short_lines(rt.alloc(), count + 1, most)?, Err(fault));
+    }
+    Ok(())
+}
+
+// Gives the number of lines before a line, and refuses the first word of the fourth.
+struct FewLines;
+
+impl LineReader for FewLines {
+    ghost use Rattle.std.specs.Prelude.{◌==◌, length, if◌then◌else◌, Ok, Err};
+    ghost use Rattle.text_lines.specs.declared.fault.Cause.TheVariants.{Field};
+
+    type Item = usize;
+
+    ghost means = { λ _ before _. if length before == 3 then Err (Field 1) else Ok (length before) };
+
+    fn read(
+        &self,
+        _alloc: Global,
+        _words: &Words<'_>,
+        before: &[usize],
+    ) -> Result<usize, LineFault> {
+        if before.len() == 3 {
+            return Err(LineFault::Refused(Cause::Field(1)));
+        }
+        Ok(before.len())
+    }
+}
+
+#[test]
+fn a_reader_sees_what_the_lines_before_gave(rt: HostRuntime) -> Result<(), Fail> {
+    let read = read_lines(rt.alloc(), b"a\n#\nb\nc\n", MOST_LINES, &FewLines);
+    assert_eq!(rt;
+        read.map(|values| values.as_slice() == [0, 1, 2].as_slice()),
+        Ok(true)
+    );
+    let fault = ScriptFault::At {
+        line: 5,
+        cause: Cause::Field(1),
+    };
+    let read = read_lines(rt.alloc(), b"a\n#\nb\nc\nd\n", MOST_LINES, &FewLines);
+    assert_eq!(rt; read.map(|values| values.len()), Err(fault));
+    Ok(())
+}
+
+#[test]
+fn a_kind_of_line_is_read_through_its_reader(rt: HostRuntime) -> Result<(), Fail> {
+    let read = read_lines(rt.alloc(), LINE.as_bytes(), 1, &FrameReader);
+    assert_eq!(rt; read.map(|lines| lines.len()), Ok(1));
+    let read = read_lines(rt.alloc(), LINE.as_bytes(), 1, &JudgeReader);
+    assert_eq!(rt; read.map(|lines| lines.len()), Ok(1));
+    let read = read_lines(rt.alloc(), b"# none", 1, &LoadReader);
+    assert_eq!(rt; read.map(|lines| lines.len()), Ok(0));
+    laws::values_are_those_of_the_lines::<FrameReader>();
+    laws::a_fault_is_the_first::<FewLines>();
+    Ok(())
+}
+
+#[test]
+fn words_are_read_by_their_forms(rt: HostRuntime) -> Result<(), Fail> {
+    let alloc = rt.alloc();
+    assert_eq!(rt; forms::data_id(b"6BC1"), Some(0x6bc1));
+    assert_eq!(rt; forms::data_id(b"6bc"), None);
+    assert_eq!(rt;
+        forms::fresh(b"e93d7e117393172a"),
+        Some(0xe93d_7e11_7393_172a)
+    );
+    let digits = b"000102030405060708090a0b0c0d0e0f0F0E0D0C0B0A09080706050403020100";
+    let [first, second] = forms::two(digits).ok_or("no two blocks")?;
+    assert_eq!(rt;
+        first.bytes(),
+        b"\x00\x01\x02\x03\x04\x05\x06\x07\x08\x09\x0a\x0b\x0c\x0d\x0e\x0f"
+    );
+    assert_eq!(rt;
+        second.bytes(),
+        b"\x0f\x0e\x0d\x0c\x0b\x0a\x09\x08\x07\x06\x05\x04\x03\x02\x01\x00"
+    );
+    assert_eq!(rt; forms::key(digits), None);
+    let numbers: [(&[u8], Option<u64>); 9] = [
+        (b"0", Some(0)),
+        (b"65536", Some(65_536)),
+        (b"65537", None),
+        (b"01", None),
+        (b"00", None),
+        (b"+1", None),
+        (b"", None),
+        (b"1a", None),
+        (b"18446744073709551616", None),
+    ];
+    for (word, number) in numbers {
+        assert_eq!(rt; forms::number(word, 0, 65_536), number, "{word:?}");
+    }
+    assert_eq!(rt; forms::number(b"3", 4, 13), None);
+    assert_eq!(rt;
+        forms::number(b"18446744073709551615", 1, u64::MAX),
+        Some(u64::MAX)
+    );
+    let bytes: Option<Bytes> = forms::bytes(alloc, b"00fF")?;
+    assert_eq!(rt;
+        bytes.ok_or("no bytes")?.into_vec().as_slice(),
+        b"\x00\xff".as_slice()
+    );
+    let none: Option<Bytes> = forms::bytes(alloc, b"-")?;
+    assert_eq!(rt; none.ok_or("no form")?.bytes().len(), 0);
+    assert_eq!(rt; forms::bytes(alloc, b"")?.is_none(), true);
+    Ok(())
+}
+
+#[test]
+fn bytes_are_of_a_least_and_a_most_number(rt: HostRuntime) -> Result<(), Fail> {
+    let words: [(&[u8], usize, usize, Option<usize>); 9] = [
+        (b"00fF", 1, 60, Some(2)),
+        (b"00fF", 2, 2, Some(2)),
+        (b"00fF", 3, 60, None),
+        (b"00fF", 0, 1, None),
+        (b"00f", 1, 1, None),
+        (b"0g", 1, 1, None),
+        (b"", 0, 60, Some(0)),
+        (b"", 1, 60, None),
+        (b"-", 0, 60, None),
+    ];
+    for (word, least, most, len) in words {
+        let found: Option<Bytes> = forms::hex_bytes(rt.alloc(), word, least, most)?;
+        assert_eq!(rt; found.map(|bytes| bytes.bytes().len()), len, "{word:?}");
+    }
+    Ok(())
+}
+
+#[test]
+fn a_text_is_cut_into_words_with_their_places(rt: HostRuntime) -> Result<(), Fail> {
+    let cuts = forms::cut(rt.alloc(), b"# x\n\n a\tbc \r\nd")?;
+    let mut places = Vec::new(rt.alloc());
+    for cut in cuts {
+        for span in cut.words.into_vec() {
+            places.push((cut.line, span.at, span.len))?;
+        }
+    }
+    assert_eq!(rt;
+        places.as_slice(),
+        [(3, 6, 1), (3, 8, 2), (4, 13, 1)].as_slice()
+    );
+    Ok(())
+}
+
+#[test]
+fn an_unknown_event_has_its_text(rt: HostRuntime) -> Result<(), Memory> {
+    let text = fault_text(rt.alloc(), 4_294_967_295, &Cause::Event)?;
+    assert_eq!(rt; text.as_str(), "script: line 4294967295: unknown event\n");
+    Ok(())
+}
+
+#[test]
+fn words_of_a_key_update_are_read_by_their_forms(rt: HostRuntime) -> Result<(), Fail> {
+    let uid = forms::uid(b"0000000000000000000000000000fF").ok_or("no identifier")?;
+    assert_eq!(rt; uid.bytes()[14], 255);
+    assert_eq!(rt;
+        forms::uid(b"0000000000000000000000000000f").is_none(),
+        true
+    );
+    let engine = forms::engine_uid(b"000000000000000000000000000001").ok_or("no engine")?;
+    assert_eq!(rt; engine.bytes()[14], 1);
+    let zero = b"000000000000000000000000000000";
+    assert_eq!(rt; forms::engine_uid(zero).is_none(), true);
+    assert_eq!(rt; forms::uid(zero).is_some(), true);
+    let slot = forms::slot(b"13").ok_or("no slot")?;
+    assert_eq!(rt; slot.number(), 13);
+    assert_eq!(rt; forms::slot(b"14").is_none(), true);
+    let counter = forms::counter(b"268435455").ok_or("no counter")?;
+    assert_eq!(rt; counter.number(), 268_435_455);
+    assert_eq!(rt; forms::counter(b"268435456").is_none(), true);
+    let flags = forms::flags(b"10010").ok_or("no flags")?;
+    assert_eq!(rt; flags.number(), 0b10010);
+    assert_eq!(rt; forms::flags(b"10012").is_none(), true);
+    assert_eq!(rt; forms::flags(b"1001").is_none(), true);
+    Ok(())
+}
+
+#[test]
+fn faults_are_displayed(rt: HostRuntime) -> Result<(), Fail> {
+    let causes = [
+        (Cause::Event, "unknown event", "line 3: unknown event"),
+        (
+            Cause::Count,
+            "wrong number of words",
+            "line 3: wrong number of words",
+        ),
+        (Cause::Field(9), "word 9", "line 3: word 9"),
+        (Cause::TooMany, "too many events", "line 3: too many events"),
+    ];
+    for (cause, text, with_line) in causes {
+        let refused = LineFault::Refused(cause);
+        let fault = ScriptFault::At { line: 3, cause };
+        assert_eq!(rt; format!(in rt.alloc(); "{cause}")?.as_str(), text);
+        assert_eq!(rt; format!(in rt.alloc(); "{refused}")?.as_str(), text);
+        assert_eq!(rt; format!(in rt.alloc(); "{fault}")?.as_str(), with_line);
+    }
+    let memory = (LineFault::OutOfMemory, ScriptFault::Memory);
+    assert_eq!(rt;
+        format!(in rt.alloc(); "{}", memory.0)?.as_str(),
+        "out of memory"
+    );
+    assert_eq!(rt;
+        format!(in rt.alloc(); "{}", memory.1)?.as_str(),
+        "out of memory"
+    );
+    Ok(())
+}
+
+#[test]
+fn verdicts_have_their_texts(rt: HostRuntime) -> Result<(), Fail> {
+    let mut text = Vec::new(rt.alloc());
+    push_outcome(
+        &mut text,
+        b"\xbe\xe2\x2e\x40\x9f\x96",
+        &Judgement::Accepted(0xe93d_7e11_7393_172a),
+    )?;
+    push_outcome(&mut text, b"\x00", &Judgement::FreshnessFailure)?;
+    push_outcome(&mut text, b"\x00", &Judgement::VerificationFailure)?;
+    push_bad_length(&mut text)?;
+    push_line(&mut text, b"waiting")?;
+    assert_eq!(rt;
+        text.as_slice(),
+        b"VERIFICATIONSUCCESS e93d7e117393172a bee22e409f96\nFRESHNESSFAILURE\nVERIFICATIONFAILURE\nBadLength\nwaiting\n".as_slice()
+    );
+    Ok(())
+}
+
+#[test]
+fn digits_of_any_number_of_bytes_are_added(rt: HostRuntime) -> Result<(), Fail> {
+    for len in [0usize, 1, 64, 65, 200] {
+        let bytes = vec![in rt.alloc(); 0x0a; len]?;
+        let mut text = Vec::new(rt.alloc());
+        push_digits(&mut text, &bytes)?;
+        assert_eq!(rt; text.len(), 2 * len);
+        assert_eq!(rt;
+            text.chunks(2).all(|digits| digits == b"0a".as_slice()),
+            true,
+            "{len}"
+        );
+    }
+    Ok(())
+}
