@@ -6,7 +6,7 @@ use Rattle.std.proofs.lemmas.List.FromFn.{get_or-map-range_with_len, length-map-
 use Rattle.std.proofs.lemmas.Bool.{cases_eq}
 use Rattle.cell_store.specs.declared.copies.Side.{Side}
 use Rattle.cell_store.specs.declared.copies.Side.TheVariants.{First, Second}
-use Rattle.cell_store.specs.Layout.{part, SameOutside}
+use Rattle.cell_store.specs.Layout.{part, SameOutside, header, log_layout}
 use Rattle.cell_store.proofs.LayoutLaws.{part-same, length-part, get_or-part}
 use Rattle.cell_store.specs.Twin.{is_live, mark, next, counts, live_copy}
 use Rattle.cell_store.proofs.TwinLaws.{counts-next, counts-beside_closed}
@@ -72,6 +72,47 @@ module _ (n m : ℕ) (cells : List (List ℕ)) (sized : Sized cells) (count : le
       (let e : 2 + 32 * n + 35 * p ≡ 2 + (32 * n + 35 * p) = omega arith in ap (λ k. get_or (live_bank m cells) k 0) e)
       ∙ (split ∙ behind-cells (flat_map (λ c. c) cells) (32 * n + 35 * p) (omega arith) (omega arith))
 
+  -- where it stands in a store: it is a bank with these cells and no live place
+  module _ (side : Side) (y : List ℕ) (room : log_size n ≤ length y) (is : part (bank_at n side) (suc (2241 + 32 * n)) y ≡ live_bank m cells) where
+    inside : bank_at n side + suc (2241 + 32 * n) ≤ length y
+    inside = let b = bank_bounds n side in omega arith
+
+    piece : (j k : ℕ) → j + k ≤ suc (2241 + 32 * n) → part (bank_at n side + j) k y ≡ part j k (live_bank m cells)
+    piece j k l = part-part (bank_at n side) (suc (2241 + 32 * n)) j k y l inside ∙ ap (part j k) is
+
+    pub whole-head : bank_head n side y ≡ live_copy m []
+    whole-head = (let e : bank_at n side ≡ bank_at n side + 0 = omega arith in ap (λ a. part a 2 y) e) ∙ (piece 0 2 (omega arith) ∙ live-head)
+
+    whole-place : (p : ℕ) → p < 64 → is_live (place n side y p) ≡ false
+    whole-place p l =
+        let gate : get_or y (place_at n side p) 0 ≡ 0 =
+        (let e : place_at n side p ≡ bank_at n side + (2 + 32 * n + 35 * p) = omega arith in ap (λ a. get_or y a 0) e)
+        ∙ (sym (get_or-part (bank_at n side) (suc (2241 + 32 * n)) y (2 + 32 * n + 35 * p) (omega arith))
+        ∙ (ap (λ (b : List ℕ). get_or b (2 + 32 * n + 35 * p) 0) is ∙ live-gate p l)) in
+        is_live-part 34 (place_at n side p) y ∙ ap (λ b. eqb b 167) gate
+
+    whole-cells : bank_cells n side y ≡ cells
+    whole-cells = ext_get_or [] (bank_cells n side y) cells (length-map-range_with_len (bank_cell n side y) 0 n ∙ sym count) (λ i l.
+        let small : i < n = omega (arith, length-map-range_with_len (bank_cell n side y) 0 n) in
+        get_or-map-range_with_len (bank_cell n side y) 0 n i i [] small (omega arith)
+        ∙ ((let e : bank_at n side + 2 + 32 * i ≡ bank_at n side + (2 + 32 * i) = omega arith in ap (λ a. part a 32 y) e)
+        ∙ (piece (2 + 32 * i) 32 (omega arith) ∙ live-cell i small)))
+
+    pub whole-holds : (version : Version) → part 0 32 y ≡ header (log_layout version) n → BankCounts n side y → HoldsInBank version n y cells side 0
+    whole-holds version head counting = record {
+      count = count;
+      room = room;
+      head = head;
+      counting = counting;
+      places = record {
+        most = omega arith;
+        live = λ p l. absurd (omega arith);
+        below = λ p l. absurd (omega arith);
+        free = λ p l k. whole-place p k;
+      };
+      list = whole-cells;
+    }
+
 -- the other bank has changed, and nothing else
 module _ (n : ℕ) (side : Side) (x y : List ℕ) (s : SameOutside (bank_at n (other side)) (suc (2241 + 32 * n)) x y) where
   banks-apart : (that : Side) → (bank_at n that + 2242 + 32 * n ≤ bank_at n (other that)) ⊎ (bank_at n (other that) + suc (2241 + 32 * n) ≤ bank_at n that)
@@ -115,44 +156,11 @@ module _ (version : Version) (n : ℕ) (x y : List ℕ) (cells : List (List ℕ)
 
   -- the other bank is a whole one now, with the next mark
   module _ (now : List (List ℕ)) (sized : Sized now) (as-many : length now ≡ n) (is : part (bank_at n (other side)) (suc (2241 + 32 * n)) y ≡ live_bank (next (mark (bank_head n side x))) now) where
-    inside : bank_at n (other side) + suc (2241 + 32 * n) ≤ length y
-    inside = let b = bank_bounds n (other side) in let r = room in omega arith
-
-    piece : (j k : ℕ) → j + k ≤ suc (2241 + 32 * n) → part (bank_at n (other side) + j) k y ≡ part j k (live_bank (next (mark (bank_head n side x))) now)
-    piece j k l = part-part (bank_at n (other side)) (suc (2241 + 32 * n)) j k y l inside ∙ ap (part j k) is
-
     pub new-head : bank_head n (other side) y ≡ live_copy (next (mark (bank_head n side x))) []
-    new-head = (let e : bank_at n (other side) ≡ bank_at n (other side) + 0 = omega arith in ap (λ a. part a 2 y) e) ∙ (piece 0 2 (omega arith) ∙ live-head n _ now sized as-many)
+    new-head = whole-head n (next (mark (bank_head n side x))) now sized as-many (other side) y room is
 
     new-counting : BankCounts n (other side) y
     new-counting = rw (other-other side, new-head, same-head n side x y s) (counts-next (bank_head n side x) (bank_head n (other side) x) [] h.counting)
 
-    new-place : (p : ℕ) → p < 64 → is_live (place n (other side) y p) ≡ false
-    new-place p l =
-        let gate : get_or y (place_at n (other side) p) 0 ≡ 0 =
-        (let e : place_at n (other side) p ≡ bank_at n (other side) + (2 + 32 * n + 35 * p) = omega arith in ap (λ a. get_or y a 0) e)
-        ∙ (sym (get_or-part (bank_at n (other side)) (suc (2241 + 32 * n)) y (2 + 32 * n + 35 * p) (omega arith))
-        ∙ (ap (λ (b : List ℕ). get_or b (2 + 32 * n + 35 * p) 0) is ∙ live-gate n _ now sized as-many p l)) in
-        is_live-part 34 (place_at n (other side) p) y ∙ ap (λ b. eqb b 167) gate
-
-    new-cells : bank_cells n (other side) y ≡ now
-    new-cells = ext_get_or [] (bank_cells n (other side) y) now (length-map-range_with_len (bank_cell n (other side) y) 0 n ∙ sym as-many) (λ i l.
-        let small : i < n = omega (arith, length-map-range_with_len (bank_cell n (other side) y) 0 n) in
-        get_or-map-range_with_len (bank_cell n (other side) y) 0 n i i [] small (omega arith)
-        ∙ ((let e : bank_at n (other side) + 2 + 32 * i ≡ bank_at n (other side) + (2 + 32 * i) = omega arith in ap (λ a. part a 32 y) e)
-        ∙ (piece (2 + 32 * i) 32 (omega arith) ∙ live-cell n _ now sized as-many i small)))
-
     pub holds-refilled : HoldsInBank version n y now (other side) 0
-    holds-refilled = record {
-      count = as-many;
-      room = room;
-      head = same-header n side x y s ∙ h.head;
-      counting = new-counting;
-      places = record {
-        most = omega arith;
-        live = λ p l. absurd (omega arith);
-        below = λ p l. absurd (omega arith);
-        free = λ p l m. new-place p m;
-      };
-      list = new-cells;
-    }
+    holds-refilled = whole-holds n (next (mark (bank_head n side x))) now sized as-many (other side) y room is version (same-header n side x y s ∙ h.head) new-counting

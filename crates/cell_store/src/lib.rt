@@ -40,6 +40,7 @@ mod formatting;
 mod kinds;
 pub mod laws;
 mod layout;
+mod log_formatting;
 mod log_reading;
 mod logs;
 mod probing;
