@@ -2,37 +2,28 @@
 
 ghost use Rattle.std.specs.Prelude.{◌≡◌, ◌+◌, ◌-◌, ◌<◌, ◌≤◌, ◌^◌, length, take, drop, map, OnOk};
 ghost use Rattle.std.specs.List.{position_or_len};
-ghost use Rattle.text_lines.specs.Lines.{is_blank as blank, is_line_feed, without_return, is_skipped as skipped};
+ghost use Rattle.text_lines.specs.Lines.{is_blank, is_line_feed, without_return, is_skipped as skipped};
 ghost use Rattle.text_lines.specs.Places.{words_from, placed_words_of};
 ghost use Rattle.text_lines.specs.Spans.{word_at, piece_at, EndWithin};
 
 use crate::fault::Memory;
 use crate::span::Span;
-
-fn is_blank(byte: u8) -> bool
-    ensures { result ≡ blank byte }
-{
-    byte == b' ' || byte == b'\t'
-}
+use memchr::{memchr, memchr2};
 
 // How many bytes stand before the first line feed, or all where there is none.
+#[tactic(auto, using(crate::proofs::Pieces::first_or_length))]
 fn until_line_feed(bytes: &[u8]) -> usize
     ensures { result ≡ position_or_len is_line_feed bytes.now }
 {
-    bytes
-        .iter()
-        .position(|byte| *byte == b'\n')
-        .unwrap_or(bytes.len())
+    memchr(b'\n', bytes).unwrap_or(bytes.len())
 }
 
 // How many bytes stand before the first blank, or all where there is none.
+#[tactic(auto, using(crate::proofs::Pieces::first_or_length))]
 fn until_blank(bytes: &[u8]) -> usize
-    ensures { result ≡ position_or_len blank bytes.now }
+    ensures { result ≡ position_or_len is_blank bytes.now }
 {
-    bytes
-        .iter()
-        .position(|byte| is_blank(*byte))
-        .unwrap_or(bytes.len())
+    memchr2(b' ', b'\t', bytes).unwrap_or(bytes.len())
 }
 
 /// The end of the line that begins at `at`: the next line feed, or the end of the text.
@@ -66,7 +57,7 @@ fn content_end(text: &[u8], at: usize, end: usize) -> usize
 fn word_end(text: &[u8], at: usize, end: usize) -> usize
     requires ordered { at ≤ end }
     requires within { end ≤ length text.now }
-    ensures exact { result ≡ at + position_or_len blank (take (end - at) (drop at text.now)) }
+    ensures exact { result ≡ at + position_or_len is_blank (take (end - at) (drop at text.now)) }
     ensures behind { at ≤ result }
     ensures inside { result ≤ end }
 {

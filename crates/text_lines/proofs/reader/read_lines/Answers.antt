@@ -1,5 +1,6 @@
 use Rattle.std.proofs.Common.{◌∙◌, ap, Err, arith}
 use Rattle.std.proofs.lemmas.Result.{err_from_is_err_and}
+use Rattle.text_lines.specs.Readings.{read_all}
 use Rattle.text_lines.proofs.Folds.{fold_begin, fold_kept, fold_skipped, fold_ended, fold_done}
 use Rattle.text_lines.proofs.reader.read_lines.Goals as goal
 use Rattle.text_lines.proofs.reader.read_lines.Goals.{then-not-is_skipped+in_ok-read_line, else-not-is_skipped}
@@ -16,7 +17,7 @@ pub returns-in_err-read_line : goal.returns-in_err-read_line
 returns-in_err-read_line g c =
     let out = err_from_is_err_and c.from_residual-in_err-read_line.result c.from_residual-in_err-read_line.ensures.1 in
     fold_ended (g.R.LineReader.means c.args.reader.now) c.args.most c.args.text.now c.loop-at.number c.loop-at.at c.line_end-end.result c.put_line.new.spans.items
-    c.of.result c.loop-at.items.items c.read_line.new.items.items _ c.read_line.result c.in_err-read_line.field-0.0 c.from_residual-in_err-read_line.result
+    c.of.result c.loop-at.items.items c.read_line.new.items.items (read_all (g.R.LineReader.means c.args.reader.now) c.args.most c.args.text.now) c.read_line.result c.in_err-read_line.field-0.0 c.from_residual-in_err-read_line.result
     c.line_end-end.ensures.exact c.in_ok-put_line.ensures.exact (cc) (cc)
     c.read_line.ensures c.in_err-read_line.was (out.1 ∙ ap Err out.2) c.loop-at.invariant.whole
 
@@ -27,7 +28,7 @@ loop-at-preserved g c =
       | then-not-is_skipped+in_ok-read_line w ↦
           record {
             whole = fold_kept (g.R.LineReader.means c.args.reader.now) c.args.most c.args.text.now c.loop-at.number c.loop-at.at c.line_end-end.result c.put_line.new.spans.items
-                w.of.result c.loop-at.items.items c.if-not-is_skipped.items.items w.in_ok-read_line.ensures.0 _
+                w.of.result c.loop-at.items.items c.if-not-is_skipped.items.items w.in_ok-read_line.ensures.0 (read_all (g.R.LineReader.means c.args.reader.now) c.args.most c.args.text.now)
                 c.line_end-end.ensures.exact c.in_ok-put_line.ensures.exact (cc) (cc) w.in_ok-read_line.ensures.1 (cc w.in_ok-read_line.ensures.2) so_far.whole;
             numbered = omega arith;
             inside = omega arith;
@@ -35,7 +36,7 @@ loop-at-preserved g c =
           }
       | else-not-is_skipped w ↦ record {
         whole = fold_skipped (g.R.LineReader.means c.args.reader.now) c.args.most c.args.text.now c.loop-at.number c.loop-at.at c.line_end-end.result c.put_line.new.spans.items
-            c.loop-at.items.items c.if-not-is_skipped.items.items _ c.line_end-end.ensures.exact c.in_ok-put_line.ensures.exact (cc) (cc) so_far.whole;
+            c.loop-at.items.items c.if-not-is_skipped.items.items (read_all (g.R.LineReader.means c.args.reader.now) c.args.most c.args.text.now) c.line_end-end.ensures.exact c.in_ok-put_line.ensures.exact (cc) (cc) so_far.whole;
         numbered = omega arith;
         inside = omega arith;
         short = so_far.short;
