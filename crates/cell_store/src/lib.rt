@@ -58,4 +58,6 @@ pub use probing::{probe, probe_as};
 pub use twin::TwinCells;
 
 #[cfg(test)]
+mod log_tests;
+#[cfg(test)]
 mod tests;

@@ -1,3 +1,4 @@
+pub mod DiskForms
 pub mod Forms
 pub mod Frames
 pub mod KeyForms

@@ -9,6 +9,7 @@ ghost use Rattle.hex.specs.Hex.{decode_of};
 ghost use Rattle.text_lines.specs.Forms.{key_form, two_form, data_id_form, fresh_form, is_number as is_numeral, number_form, hex_bytes_form, bytes_form};
 
 pub use crate::cutting::cut;
+pub use crate::disk_forms::torn;
 use crate::fault::Memory;
 pub use crate::key_forms::{counter, engine_uid, flags, slot, uid};
 pub use crate::span::{Cut, Span, Spans};

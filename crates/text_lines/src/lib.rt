@@ -3,6 +3,7 @@
 #![tactic(auto)]
 
 mod cutting;
+mod disk_forms;
 pub mod fault;
 pub mod forms;
 pub mod frames;

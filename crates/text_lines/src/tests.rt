@@ -8,6 +8,7 @@ use crate::verdicts::{push_bad_length, push_digits, push_line, push_outcome};
 use crate::words::Words;
 use crate::{forms, laws};
 use byte_lists::Bytes;
+use cut_disk::Torn;
 use secured_pdu::Judgement;
 use std::alloc::{AllocError, Global};
 use std::test::Fail;
@@ -524,4 +525,23 @@ fn digits_of_any_number_of_bytes_are_added(rt: HostRuntime) -> Result<(), Fail> 
         );
     }
     Ok(())
+}
+
+#[test]
+fn what_a_power_cut_leaves_is_read(rt: HostRuntime) {
+    let words: [(&[u8], Option<Torn>); 10] = [
+        (b"keep", Some(Torn::Keep)),
+        (b"old", Some(Torn::Old)),
+        (b"half", Some(Torn::Half)),
+        (b"a7", Some(Torn::Fill(0xa7))),
+        (b"A7", Some(Torn::Fill(0xa7))),
+        (b"Keep", None),
+        (b"keep0", None),
+        (b"", None),
+        (b"a", None),
+        (b"0a7", None),
+    ];
+    for (word, torn) in words {
+        assert_eq!(rt; forms::torn(word), torn, "{word:?}");
+    }
 }
