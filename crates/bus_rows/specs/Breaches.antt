@@ -41,7 +41,7 @@ keyed_bus = record {
   sent = [];
 }
 
--- a frame is accepted whose CMAC is that of another bus_payload
+-- a frame is accepted whose CMAC is that of another payload
 abbrev pub OtherCmacIsNoAuthentic : Type 0
 OtherCmacIsNoAuthentic = (nodes : List Node) → ¬ Authentic keyed_bus (
     instant (Inject 1 0x6bc1 altered_frame) (Accepted 0x6bc1 0xe93d7e117393172a altered_payload None) nodes ∷ [])
