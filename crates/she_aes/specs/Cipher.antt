@@ -1,7 +1,8 @@
 -- AES-128 (FIPS 197, section 5). A block is a list of 16 bytes. It fills the state column by column: byte i
 -- stands in row i mod 4 and column i div 4.
-use Rattle.std.specs.Prelude.{◌≡◌, refl, ◌<◌, All, ℕ, zero, suc, ◌+◌, ◌-◌, ◌*◌, ◌/◌, ◌%◌, ◌==◌, if◌then◌else◌, List, [], ◌∷◌, ◌++◌, length, map, slice_index, slice_index_or, bit_xor}
+use Rattle.std.specs.Prelude.{ℕ, zero, suc, ◌+◌, ◌-◌, ◌*◌, ◌/◌, ◌%◌, ◌==◌, if◌then◌else◌, List, [], ◌∷◌, ◌++◌, length, map, replicate, slice_index, slice_index_or, bit_xor}
 use Rattle.std.specs.List.{range_with_len}
+use Rattle.byte_lists.specs.Bytes.{IsBytes}
 use Rattle.she_aes.specs.Field.{mul, sub_byte, inv_sub_byte}
 
 -- the block with the bytes f 0 to f 15
@@ -13,9 +14,12 @@ abbrev pub word_of : (ℕ → ℕ) → List ℕ
 word_of f = map f (range_with_len 0 4)
 
 -- 16 bytes
-pub record IsBlock (s : List ℕ) : Type 0 where
-  pub size : length s ≡ 16
-  pub bytes : All (λ b. b < 256) s
+abbrev pub IsBlock : List ℕ → Type 0
+IsBlock s = IsBytes 16 s
+
+-- the block of zero bytes
+abbrev pub zero_block : List ℕ
+zero_block = replicate 16 0
 
 -- ---- the maps of a round (section 5.1)
 
@@ -118,10 +122,6 @@ cipher words block = add_round_key (round_key words 10) (shift_rows (sub_bytes (
 unfoldable pub enc : List ℕ → List ℕ → List ℕ
 enc key block = cipher (key_words key) block
 
-pub length-enc : (key block : List ℕ) → length key ≡ 16 → length block ≡ 16 → length (enc key block) ≡ 16
-unfolding enc cipher add_round_key xor_blocks
-length-enc key block k b = refl
-
 -- ---- decryption (section 5.3)
 
 unfoldable pub inv_sub_bytes : List ℕ → List ℕ
@@ -147,7 +147,3 @@ inverse_cipher words block = add_round_key (round_key words 0) (undone_rounds wo
 -- the block decrypted under the key
 unfoldable pub dec : List ℕ → List ℕ → List ℕ
 dec key block = inverse_cipher (key_words key) block
-
-pub length-dec : (key block : List ℕ) → length key ≡ 16 → length block ≡ 16 → length (dec key block) ≡ 16
-unfolding dec inverse_cipher add_round_key xor_blocks
-length-dec key block k b = refl

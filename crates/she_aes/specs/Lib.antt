@@ -2,6 +2,8 @@ pub mod Field
 pub mod FieldFacts
 pub mod SBoxFacts
 pub mod Cipher
+pub mod RoundKeys
+pub mod ReadBytes
 pub mod CipherFacts
 pub mod Mixing
 pub mod Undoing

@@ -6,7 +6,8 @@ use Rattle.std.proofs.lemmas.Bool.{agree_below, agree_below_at, and_parts, eqb-t
 use Rattle.she_aes.specs.Field.{product, cancelled, remainder, mul}
 use Rattle.she_aes.specs.FieldFacts.{xor_swap, mul-xor}
 use Rattle.she_aes.specs.Cipher.{circulant, on_columns, mix_columns, inv_mix_columns}
-use Rattle.she_aes.specs.CipherFacts.{Bytes, block_of_self}
+use Rattle.she_aes.specs.ReadBytes.{ReadsBytes}
+use Rattle.she_aes.specs.CipherFacts.{block_of_self}
 
 -- ---- sums of four and sixteen
 
@@ -95,7 +96,7 @@ module _ (p q r s a b c d : ℕ) (ok : all_keep p q r s a b c d ≡ true) where
   column_kept w x y z lw lx ly lz =
       list_same (twice w x y z lw lx ly lz) (twice x y z w lx ly lz lw) (twice y z w x ly lz lw lx) (twice z w x y lz lw lx ly)
 
-  columns_kept : (t : List ℕ) → length t ≡ 16 → Bytes t → on_columns (circulant p q r s) (on_columns (circulant a b c d) t) ≡ t
+  columns_kept : (t : List ℕ) → length t ≡ 16 → ReadsBytes t → on_columns (circulant p q r s) (on_columns (circulant a b c d) t) ≡ t
   unfolding circulant
   columns_kept t long bytes =
       let at = λ (i : ℕ). slice_index t i in
@@ -109,10 +110,10 @@ back : all_keep 2 3 1 1 14 11 13 9 ≡ true
 unfolding product cancelled remainder mul
 back = refl
 
-pub inv_mix_columns-mix_columns : (s : List ℕ) → length s ≡ 16 → Bytes s → inv_mix_columns (mix_columns s) ≡ s
+pub inv_mix_columns-mix_columns : (s : List ℕ) → length s ≡ 16 → ReadsBytes s → inv_mix_columns (mix_columns s) ≡ s
 unfolding inv_mix_columns mix_columns
 inv_mix_columns-mix_columns s long bytes = columns_kept 14 11 13 9 2 3 1 1 there s long bytes
 
-pub mix_columns-inv_mix_columns : (s : List ℕ) → length s ≡ 16 → Bytes s → mix_columns (inv_mix_columns s) ≡ s
+pub mix_columns-inv_mix_columns : (s : List ℕ) → length s ≡ 16 → ReadsBytes s → mix_columns (inv_mix_columns s) ≡ s
 unfolding inv_mix_columns mix_columns
 mix_columns-inv_mix_columns s long bytes = columns_kept 2 3 1 1 14 11 13 9 back s long bytes

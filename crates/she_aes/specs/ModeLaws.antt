@@ -5,16 +5,13 @@ use Rattle.std.specs.List.{All}
 use Rattle.std.proofs.lemmas.List.{length-map}
 use Rattle.std.proofs.lemmas.List.Elements.{All-nil, All-cons, All-head, All-tail}
 use Rattle.std.proofs.lemmas.List.FromFn.{get_or-map-range_with_len}
-use Rattle.she_aes.specs.Cipher.{IsBlock, xor_blocks, enc, dec, length-dec}
-pub use Rattle.she_aes.specs.CipherFacts.{IsBlock-xor_blocks, IsBlock-enc, IsBlock-dec}
+use Rattle.she_aes.specs.Cipher.{IsBlock, xor_blocks, enc, dec}
+use Rattle.she_aes.specs.CipherFacts.{length-dec}
+pub use Rattle.she_aes.specs.CipherFacts.{IsBlock-zero_block, length-xor_blocks, IsBlock-xor_blocks, IsBlock-enc, IsBlock-dec}
 pub use Rattle.she_aes.specs.Undoing.{xor_blocks-xor_blocks, dec-enc, enc-dec}
 use Rattle.she_aes.specs.Modes.{ecb, ecb_inverse, cbc, cbc_inverse}
 
 -- ---- the exclusive or
-
-pub length-xor_blocks : (a b : List ℕ) → length (xor_blocks a b) ≡ 16
-unfolding xor_blocks
-length-xor_blocks a b = refl
 
 pub get_or-xor_blocks : (a b : List ℕ) (i d : ℕ) → i < 16 → get_or (xor_blocks a b) i d ≡ bit_xor (get_or a i 0) (get_or b i 0)
 unfolding xor_blocks
@@ -30,15 +27,15 @@ pub length-ecb_inverse : (key : List ℕ) (text : List (List ℕ)) → length (e
 unfolding ecb_inverse
 length-ecb_inverse key text = length-map text (dec key)
 
-pub All-ecb : (key : List ℕ) (text : List (List ℕ)) → IsBlock key → All IsBlock text → All IsBlock (ecb key text)
+pub All-ecb : (key : List ℕ) (text : List (List ℕ)) → IsBlock key → All IsBlock (ecb key text)
 unfolding ecb
-All-ecb key [] k all = All-nil IsBlock
-All-ecb key (x ∷ xs) k all = All-cons IsBlock (enc key x) (ecb key xs) (IsBlock-enc key x k) (All-ecb key xs k (All-tail IsBlock x xs all))
+All-ecb key [] k = All-nil IsBlock
+All-ecb key (x ∷ xs) k = All-cons IsBlock (enc key x) (ecb key xs) (IsBlock-enc key x k) (All-ecb key xs k)
 
-pub All-ecb_inverse : (key : List ℕ) (text : List (List ℕ)) → IsBlock key → All IsBlock text → All IsBlock (ecb_inverse key text)
+pub All-ecb_inverse : (key : List ℕ) (text : List (List ℕ)) → IsBlock key → All IsBlock (ecb_inverse key text)
 unfolding ecb_inverse
-All-ecb_inverse key [] k all = All-nil IsBlock
-All-ecb_inverse key (x ∷ xs) k all = All-cons IsBlock (dec key x) (ecb_inverse key xs) (IsBlock-dec key x k) (All-ecb_inverse key xs k (All-tail IsBlock x xs all))
+All-ecb_inverse key [] k = All-nil IsBlock
+All-ecb_inverse key (x ∷ xs) k = All-cons IsBlock (dec key x) (ecb_inverse key xs) (IsBlock-dec key x k) (All-ecb_inverse key xs k)
 
 pub ecb_inverse-ecb : (key : List ℕ) (text : List (List ℕ)) → IsBlock key → All IsBlock text → ecb_inverse key (ecb key text) ≡ text
 unfolding ecb ecb_inverse
@@ -66,13 +63,13 @@ unfolding cbc_inverse
 length-cbc_inverse key iv [] = refl
 length-cbc_inverse key iv (x ∷ xs) = ap suc (length-cbc_inverse key x xs)
 
-pub All-cbc : (key iv : List ℕ) (text : List (List ℕ)) → IsBlock key → IsBlock iv → All IsBlock text → All IsBlock (cbc key iv text)
+pub All-cbc : (key iv : List ℕ) (text : List (List ℕ)) → IsBlock key → All IsBlock (cbc key iv text)
 unfolding cbc
-All-cbc key iv [] k i all = All-nil IsBlock
-All-cbc key iv (x ∷ xs) k i all =
+All-cbc key iv [] k = All-nil IsBlock
+All-cbc key iv (x ∷ xs) k =
     let cipher = enc key (xor_blocks x iv) in
     let is_block = IsBlock-enc key (xor_blocks x iv) k in
-    All-cons IsBlock cipher (cbc key cipher xs) is_block (All-cbc key cipher xs k is_block (All-tail IsBlock x xs all))
+    All-cons IsBlock cipher (cbc key cipher xs) is_block (All-cbc key cipher xs k)
 
 pub All-cbc_inverse : (key iv : List ℕ) (text : List (List ℕ)) → IsBlock key → IsBlock iv → All IsBlock text → All IsBlock (cbc_inverse key iv text)
 unfolding cbc_inverse
@@ -92,11 +89,11 @@ cbc_inverse-cbc key iv (x ∷ xs) k i all =
     ∙ ap (λ y. y ∷ cbc_inverse key cipher (cbc key cipher xs)) (xor_blocks-xor_blocks x iv head.size)
     ∙ ap (λ ys. x ∷ ys) (cbc_inverse-cbc key cipher xs k (IsBlock-enc key (xor_blocks x iv) k) (All-tail IsBlock x xs all))
 
-pub cbc-cbc_inverse : (key iv : List ℕ) (text : List (List ℕ)) → IsBlock key → IsBlock iv → All IsBlock text → cbc key iv (cbc_inverse key iv text) ≡ text
+pub cbc-cbc_inverse : (key iv : List ℕ) (text : List (List ℕ)) → IsBlock key → All IsBlock text → cbc key iv (cbc_inverse key iv text) ≡ text
 unfolding cbc cbc_inverse
-cbc-cbc_inverse key iv [] k i all = refl
-cbc-cbc_inverse key iv (x ∷ xs) k i all =
+cbc-cbc_inverse key iv [] k all = refl
+cbc-cbc_inverse key iv (x ∷ xs) k all =
     let head = All-head IsBlock x xs all in
-    let again = ap (enc key) (xor_blocks-xor_blocks (dec key x) iv (length-dec key x k.size head.size)) ∙ enc-dec key x k head in
+    let again = ap (enc key) (xor_blocks-xor_blocks (dec key x) iv (length-dec key x)) ∙ enc-dec key x k head in
     ap (λ y. y ∷ cbc key y (cbc_inverse key x xs)) again
-    ∙ ap (λ ys. x ∷ ys) (cbc-cbc_inverse key x xs k head (All-tail IsBlock x xs all))
+    ∙ ap (λ ys. x ∷ ys) (cbc-cbc_inverse key x xs k (All-tail IsBlock x xs all))

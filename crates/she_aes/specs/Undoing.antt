@@ -4,7 +4,8 @@ use Rattle.std.specs.Int.Bits.{bit_xor, xor_assoc, xor_self, xor_zero_r}
 use Rattle.std.proofs.lemmas.List.FromFn.{fill_by_all, get_or-map-range_with_len}
 use Rattle.she_aes.specs.Field.{sub_byte, inv_sub_byte}
 use Rattle.she_aes.specs.Cipher.{block_of, IsBlock, xor_blocks, add_round_key, sub_bytes, shift_rows, circulant, mix_columns, key_words, round_key, after_rounds, cipher, enc, inv_sub_bytes, inv_shift_rows, inv_mix_columns, undone_rounds, inverse_cipher, dec}
-use Rattle.she_aes.specs.CipherFacts.{Bytes, block_of_self, IsBlock-bytes, add_round_key-bytes, sub_bytes-bytes, shift_rows-bytes, inv_shift_rows-bytes, inv_mix_columns-bytes, round_key-bytes, after_rounds-bytes, undone_rounds-bytes}
+use Rattle.she_aes.specs.ReadBytes.{ReadsBytes}
+use Rattle.she_aes.specs.CipherFacts.{block_of_self, IsBlock-bytes, add_round_key-bytes, sub_bytes-bytes, shift_rows-bytes, inv_shift_rows-bytes, inv_mix_columns-bytes, round_key-bytes, after_rounds-bytes, undone_rounds-bytes}
 use Rattle.she_aes.specs.SBoxFacts.{inv_sub_byte-sub_byte, sub_byte-inv_sub_byte}
 use Rattle.she_aes.specs.Mixing.{inv_mix_columns-mix_columns, mix_columns-inv_mix_columns}
 
@@ -29,12 +30,12 @@ add_round_key-twice : (key s : List ℕ) → length s ≡ 16 → add_round_key k
 unfolding add_round_key
 add_round_key-twice key s long = xor_blocks-xor_blocks s key long
 
-inv_sub_bytes-sub_bytes : (s : List ℕ) → length s ≡ 16 → Bytes s → inv_sub_bytes (sub_bytes s) ≡ s
+inv_sub_bytes-sub_bytes : (s : List ℕ) → length s ≡ 16 → ReadsBytes s → inv_sub_bytes (sub_bytes s) ≡ s
 unfolding inv_sub_bytes sub_bytes
 inv_sub_bytes-sub_bytes s long bytes =
     by_bytes (λ i. inv_sub_byte (slice_index (block_of (λ i. sub_byte (slice_index s i))) i)) s long (λ i h. ap inv_sub_byte (byte_of (λ i. sub_byte (slice_index s i)) i h) ∙ inv_sub_byte-sub_byte (slice_index s i) (bytes i))
 
-sub_bytes-inv_sub_bytes : (s : List ℕ) → length s ≡ 16 → Bytes s → sub_bytes (inv_sub_bytes s) ≡ s
+sub_bytes-inv_sub_bytes : (s : List ℕ) → length s ≡ 16 → ReadsBytes s → sub_bytes (inv_sub_bytes s) ≡ s
 unfolding inv_sub_bytes sub_bytes
 sub_bytes-inv_sub_bytes s long bytes =
     by_bytes (λ i. sub_byte (slice_index (block_of (λ i. inv_sub_byte (slice_index s i))) i)) s long (λ i h. ap sub_byte (byte_of (λ i. inv_sub_byte (slice_index s i)) i h) ∙ sub_byte-inv_sub_byte (slice_index s i) (bytes i))
@@ -78,7 +79,7 @@ unfolding inv_mix_columns circulant
 length-inv_mix_columns s = refl
 
 -- a round whose key is k, of a state s
-module _ (k s : List ℕ) (long : length s ≡ 16) (bytes : Bytes s) where
+module _ (k s : List ℕ) (long : length s ≡ 16) (bytes : ReadsBytes s) where
   substitution_undone : inv_sub_bytes (inv_shift_rows (shift_rows (sub_bytes s))) ≡ s
   substitution_undone =
       ap inv_sub_bytes (inv_shift_rows-shift_rows (sub_bytes s) (length-sub_bytes s)) ∙ inv_sub_bytes-sub_bytes s long bytes
@@ -96,12 +97,12 @@ module _ (k s : List ℕ) (long : length s ≡ 16) (bytes : Bytes s) where
   substitution_redone =
       ap shift_rows (sub_bytes-inv_sub_bytes (inv_shift_rows s) (length-inv_shift_rows s) (inv_shift_rows-bytes s bytes)) ∙ shift_rows-inv_shift_rows s long
 
-last_redone : (k s : List ℕ) → length s ≡ 16 → Bytes s → Bytes k → add_round_key k (shift_rows (sub_bytes (inv_sub_bytes (inv_shift_rows (add_round_key k s))))) ≡ s
+last_redone : (k s : List ℕ) → length s ≡ 16 → ReadsBytes s → ReadsBytes k → add_round_key k (shift_rows (sub_bytes (inv_sub_bytes (inv_shift_rows (add_round_key k s))))) ≡ s
 last_redone k s long bytes key_bytes =
     let keyed = add_round_key k s in
     ap (λ t. add_round_key k t) (substitution_redone k keyed (length-add_round_key k s) (add_round_key-bytes k s key_bytes bytes)) ∙ add_round_key-twice k s long
 
-round_redone : (k s : List ℕ) → length s ≡ 16 → Bytes s → Bytes k → add_round_key k (mix_columns (shift_rows (sub_bytes (inv_sub_bytes (inv_shift_rows (inv_mix_columns (add_round_key k s))))))) ≡ s
+round_redone : (k s : List ℕ) → length s ≡ 16 → ReadsBytes s → ReadsBytes k → add_round_key k (mix_columns (shift_rows (sub_bytes (inv_sub_bytes (inv_shift_rows (inv_mix_columns (add_round_key k s))))))) ≡ s
 round_redone k s long bytes key_bytes =
     let keyed = add_round_key k s in
     let keyed_bytes = add_round_key-bytes k s key_bytes bytes in

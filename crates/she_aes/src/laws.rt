@@ -50,6 +50,6 @@ pub fn cbc_decryption_undoes_encryption()
 
 /// CBC encryption gives every text back that was decrypted, under every key and from every IV.
 pub fn cbc_encryption_undoes_decryption()
-    ensures { (key iv : List ℕ) (text : List (List ℕ)) → IsBlock key → IsBlock iv → All IsBlock text
+    ensures { (key iv : List ℕ) (text : List (List ℕ)) → IsBlock key → All IsBlock text
         → cbc key iv (cbc_inverse key iv text) ≡ text }
 {}

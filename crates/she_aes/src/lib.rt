@@ -14,24 +14,28 @@ mod rounds;
 mod words;
 
 ghost use Rattle.std.specs.Prelude.{◌≡◌, ◌<◌, All};
-ghost use Rattle.she_aes.specs.Cipher.{IsBlock, xor_blocks, enc, dec};
+ghost use Rattle.she_aes.specs.Cipher.{IsBlock, zero_block, xor_blocks, enc, dec};
 
 pub use modes::{cbc_decrypt, cbc_encrypt, ecb_decrypt, ecb_encrypt};
 use rounds::State;
+use std::fmt;
 use std::marker::Model;
 
-/// A block of 16 bytes: a key, a text, or a value that is made of them.
-#[derive(Clone, Copy, Debug, PartialEq, Eq)]
+/// A block of 16 bytes: a key, a text, or a value that is made of them. Printed for debugging it shows no byte, since it may be a key.
+#[derive(Clone, Copy, PartialEq, Eq)]
 pub struct Block {
     bytes: [u8; 16],
 }
 
 impl Model for Block {
     ghost use Rattle.std.specs.Prelude.{List, ℕ};
+    ghost use Rattle.she_aes.specs.Cipher.{IsBlock};
 
     ghost Value = { List ℕ };
 
     ghost view = { λ b. b.bytes };
+
+    ghost invariant = { λ b. IsBlock b.bytes };
 
     ghost inverse = { λ bytes. record { bytes = bytes } };
 }
@@ -39,31 +43,50 @@ impl Model for Block {
 impl Block {
     /// The block with these 16 bytes.
     pub fn of(bytes: [u8; 16]) -> Block
-        ensures { result ≡ bytes }
+        ensures value { result ≡ bytes }
+        ensures is_block { IsBlock result }
     {
+        let _bytes = told(&bytes);
         Block { bytes }
+    }
+
+    /// The block of zero bytes.
+    pub fn zero() -> Block
+        ensures value { result ≡ zero_block }
+        ensures is_block { IsBlock result }
+    {
+        Block::of([0; 16])
     }
 
     /// The 16 bytes, in the standard's order.
     pub fn bytes(&self) -> &[u8; 16]
-        ensures { result.now ≡ self.now }
+        ensures value { result.now ≡ self.now }
+        ensures is_block { IsBlock self.now }
     {
         &self.bytes
     }
 
-    /// The same bytes as a slice. This call also tells a proof what every block is: 16 numbers below 256.
+    /// The 16 bytes as a slice.
     pub fn as_slice(&self) -> &[u8]
         ensures value { result.now ≡ self.now }
         ensures is_block { IsBlock self.now }
     {
-        told(&self.bytes)
+        &self.bytes
     }
 
     /// The exclusive or of the two blocks, byte by byte.
     pub fn xor(&self, other: &Block) -> Block
-        ensures { result ≡ xor_blocks self.now other.now }
+        ensures value { result ≡ xor_blocks self.now other.now }
+        ensures is_block { IsBlock result }
+        ensures of_blocks { IsBlock self.now × IsBlock other.now }
     {
         Block::of(rounds::xor(&self.bytes, &other.bytes))
+    }
+}
+
+impl fmt::Debug for Block {
+    fn fmt<W: fmt::Write>(&self, f: &mut fmt::Formatter<W>) -> fmt::Result {
+        f.write_str("Block")
     }
 }
 
@@ -82,21 +105,23 @@ pub struct Schedule {
 }
 
 impl Model for Schedule {
-    ghost use Rattle.std.specs.Prelude.{◌≡◌, List, [], ℕ, slice_index_or};
+    ghost use Rattle.std.specs.Prelude.{List, [], ℕ, slice_index_or};
     ghost use Rattle.she_aes.specs.Cipher.{round_keys};
+    ghost use Rattle.she_aes.specs.RoundKeys.{AreRoundKeys};
 
     ghost Value = { List ℕ };
 
     ghost view = { λ s. slice_index_or s.keys 0 [] };
 
-    ghost invariant = { λ s. s.keys ≡ round_keys (slice_index_or s.keys 0 []) };
+    ghost invariant = { λ s. AreRoundKeys s.keys };
 
     ghost inverse = { λ key. record { keys = round_keys key } };
 }
 
 /// The round keys of a key, by the key expansion of FIPS 197, section 5.2.
 pub fn expand(key: &Block) -> Schedule
-    ensures { result ≡ key.now }
+    ensures value { result ≡ key.now }
+    ensures is_block { IsBlock result }
 {
     let words = words::key_words(&key.bytes);
     Schedule {
@@ -106,7 +131,9 @@ pub fn expand(key: &Block) -> Schedule
 
 /// The block encrypted under the key of the schedule (FIPS 197, section 5.1).
 pub fn encrypt(schedule: &Schedule, block: &Block) -> Block
-    ensures { result ≡ enc schedule.now block.now }
+    ensures value { result ≡ enc schedule.now block.now }
+    ensures is_block { IsBlock result }
+    ensures of_blocks { IsBlock schedule.now × IsBlock block.now }
 {
     let keys = &schedule.keys;
     let mut state = rounds::add_round_key(&keys[0], &block.bytes);
@@ -119,7 +146,9 @@ pub fn encrypt(schedule: &Schedule, block: &Block) -> Block
 /// The block decrypted under the key of the schedule (FIPS 197, section 5.3): the block that `encrypt`
 /// takes to this one.
 pub fn decrypt(schedule: &Schedule, block: &Block) -> Block
-    ensures { result ≡ dec schedule.now block.now }
+    ensures value { result ≡ dec schedule.now block.now }
+    ensures is_block { IsBlock result }
+    ensures of_blocks { IsBlock schedule.now × IsBlock block.now }
 {
     let keys = &schedule.keys;
     let mut state = inverse::undo_last_round(&keys[10], &block.bytes);

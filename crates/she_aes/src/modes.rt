@@ -1,14 +1,17 @@
 //! Modes of operation of AES-128 (NIST SP 800-38A), over arrays of whole blocks.
 //!
 //! No call refuses, takes memory or pads.
-ghost use Rattle.std.specs.Prelude.{◌≡◌};
+ghost use Rattle.std.specs.Prelude.{◌≡◌, All};
+ghost use Rattle.she_aes.specs.Cipher.{IsBlock};
 ghost use Rattle.she_aes.specs.Modes.{ecb, ecb_inverse, cbc, cbc_inverse};
 
 use crate::{Block, Schedule, decrypt, encrypt};
 
 /// ECB encryption (section 6.1): each block by itself.
 pub fn ecb_encrypt<const N: usize>(schedule: &Schedule, text: &[Block; N]) -> [Block; N]
-    ensures { result ≡ ecb schedule.now text.now }
+    ensures value { result ≡ ecb schedule.now text.now }
+    ensures are_blocks { All IsBlock result }
+    ensures of_blocks { All IsBlock text.now }
 {
     let mut out = *text;
     for (i, block) in text.iter().enumerate() {
@@ -19,7 +22,9 @@ pub fn ecb_encrypt<const N: usize>(schedule: &Schedule, text: &[Block; N]) -> [B
 
 /// ECB decryption (section 6.1): each block by itself.
 pub fn ecb_decrypt<const N: usize>(schedule: &Schedule, text: &[Block; N]) -> [Block; N]
-    ensures { result ≡ ecb_inverse schedule.now text.now }
+    ensures value { result ≡ ecb_inverse schedule.now text.now }
+    ensures are_blocks { All IsBlock result }
+    ensures of_blocks { All IsBlock text.now }
 {
     let mut out = *text;
     for (i, block) in text.iter().enumerate() {
@@ -30,7 +35,9 @@ pub fn ecb_decrypt<const N: usize>(schedule: &Schedule, text: &[Block; N]) -> [B
 
 /// CBC encryption (section 6.2) from the given IV.
 pub fn cbc_encrypt<const N: usize>(schedule: &Schedule, iv: &Block, text: &[Block; N]) -> [Block; N]
-    ensures { result ≡ cbc schedule.now iv.now text.now }
+    ensures value { result ≡ cbc schedule.now iv.now text.now }
+    ensures are_blocks { All IsBlock result }
+    ensures of_blocks { All IsBlock text.now }
 {
     let mut before = *iv;
     let mut out = *text;
@@ -44,7 +51,9 @@ pub fn cbc_encrypt<const N: usize>(schedule: &Schedule, iv: &Block, text: &[Bloc
 
 /// CBC decryption (section 6.2) from the given IV.
 pub fn cbc_decrypt<const N: usize>(schedule: &Schedule, iv: &Block, text: &[Block; N]) -> [Block; N]
-    ensures { result ≡ cbc_inverse schedule.now iv.now text.now }
+    ensures value { result ≡ cbc_inverse schedule.now iv.now text.now }
+    ensures are_blocks { All IsBlock result }
+    ensures of_blocks { All IsBlock text.now }
 {
     let mut before = *iv;
     let mut out = *text;

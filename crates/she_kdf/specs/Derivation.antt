@@ -1,18 +1,14 @@
 -- Key derivation (SHE specification): the compression of Miyaguchi and Preneel over AES-128. Keys and blocks are lists of 16 bytes.
-use Rattle.std.specs.Prelude.{ℕ, List, [], ◌∷◌, fold, replicate}
-use Rattle.she_aes.specs.Cipher.{xor_blocks, enc}
+use Rattle.std.specs.Prelude.{ℕ, List, [], ◌∷◌, fold}
+use Rattle.she_aes.specs.Cipher.{zero_block, xor_blocks, enc}
 use Rattle.she_kdf.specs.declared.Constant.{Constant}
 use Rattle.she_kdf.specs.declared.Constant.TheVariants.{Enc, Mac}
-
--- the block of 16 zero bytes, OUT(0)
-abbrev pub zero_block : List ℕ
-zero_block = replicate 16 0
 
 -- OUT(i) from OUT(i - 1) and the block x(i): x(i) encrypted under OUT(i - 1), and both of them added
 unfoldable pub next_out : List ℕ → List ℕ → List ℕ
 next_out out x = xor_blocks (xor_blocks (enc out x) x) out
 
--- the last OUT over these blocks
+-- the last OUT over these blocks, from the zero block on, OUT(0)
 unfoldable pub miyaguchi_preneel : List (List ℕ) → List ℕ
 miyaguchi_preneel blocks = fold next_out zero_block blocks
 

@@ -1,15 +1,12 @@
 -- What is derived is a block.
-use Rattle.std.proofs.Common.{◌<◌, ℕ, List, [], ◌∷◌, refl, fold, lit<, rules}
+use Rattle.std.proofs.Common.{◌<◌, ℕ, List, [], ◌∷◌, refl, fold, rules}
 use Rattle.std.specs.List.{All}
-use Rattle.std.proofs.lemmas.List.Elements.{All-nil, All-cons, All-head, All-tail, All-replicate, All-from_recursion}
-use Rattle.she_aes.specs.Cipher.{IsBlock, xor_blocks, enc}
-use Rattle.she_aes.specs.CipherFacts.{IsBlock-xor_blocks, IsBlock-enc}
-use Rattle.she_kdf.specs.Derivation.{zero_block, next_out, miyaguchi_preneel, constant_block, kdf}
+use Rattle.std.proofs.lemmas.List.Elements.{All-nil, All-cons, All-head, All-tail, All-from_recursion}
+use Rattle.she_aes.specs.Cipher.{IsBlock, zero_block, xor_blocks, enc}
+use Rattle.she_aes.specs.CipherFacts.{IsBlock-zero_block, IsBlock-xor_blocks, IsBlock-enc}
+use Rattle.she_kdf.specs.Derivation.{next_out, miyaguchi_preneel, constant_block, kdf}
 use Rattle.she_kdf.specs.declared.Constant.{Constant}
 use Rattle.she_kdf.specs.declared.Constant.TheVariants.{Enc, Mac}
-
-pub IsBlock-zero_block : IsBlock zero_block
-IsBlock-zero_block = record { size = refl; bytes = All-replicate (λ x. x < 256) 16 0 (lit< tt) }
 
 pub IsBlock-next_out : (out x : List ℕ) → IsBlock out → IsBlock x → IsBlock (next_out out x)
 unfolding next_out

@@ -3,7 +3,8 @@
 //! No call refuses or takes memory.
 #![tactic(auto)]
 
-ghost use Rattle.std.specs.Prelude.{◌≡◌};
+ghost use Rattle.std.specs.Prelude.{◌≡◌, All};
+ghost use Rattle.she_aes.specs.Cipher.{IsBlock};
 ghost use Rattle.she_kdf.specs.Derivation.{next_out, miyaguchi_preneel, constant_block, kdf};
 
 use she_aes::{Block, encrypt, expand};
@@ -31,7 +32,8 @@ pub enum Constant {
 impl Constant {
     /// The 16 bytes of the constant: its text, the padding, and the length in bits of what is compressed.
     pub fn block(self) -> Block
-        ensures { result ≡ constant_block self }
+        ensures value { result ≡ constant_block self }
+        ensures is_block { IsBlock result }
     {
         match self {
             Constant::Enc => Block::of(ENC_BYTES),
@@ -43,7 +45,9 @@ impl Constant {
 // The output after one more block.
 #[tactic(auto, unfolding(crate::specs::Derivation::next_out))]
 fn step(out: &Block, block: &Block) -> Block
-    ensures { result ≡ next_out out.now block.now }
+    ensures value { result ≡ next_out out.now block.now }
+    ensures is_block { IsBlock result }
+    ensures of_block { IsBlock block.now }
 {
     let encrypted = encrypt(&expand(out), block);
     encrypted.xor(block).xor(out)
@@ -52,9 +56,11 @@ fn step(out: &Block, block: &Block) -> Block
 /// The compression of whole blocks, from the zero block on. Of no blocks it is the zero block.
 #[tactic(auto, unfolding(crate::specs::Derivation::miyaguchi_preneel))]
 pub fn compress<const N: usize>(blocks: &[Block; N]) -> Block
-    ensures { result ≡ miyaguchi_preneel blocks.now }
+    ensures value { result ≡ miyaguchi_preneel blocks.now }
+    ensures is_block { IsBlock result }
+    ensures of_blocks { All IsBlock blocks.now }
 {
-    let mut out = Block::of([0; 16]);
+    let mut out = Block::zero();
     for block in blocks {
         out = step(&out, block);
     }
@@ -64,7 +70,9 @@ pub fn compress<const N: usize>(blocks: &[Block; N]) -> Block
 /// The key that is derived from a key: the compression of the key and the constant.
 #[tactic(auto, unfolding(crate::specs::Derivation::kdf))]
 pub fn derive(key: &Block, constant: Constant) -> Block
-    ensures { result ≡ kdf key.now constant }
+    ensures value { result ≡ kdf key.now constant }
+    ensures is_block { IsBlock result }
+    ensures of_block { IsBlock key.now }
 {
     compress(&[*key, constant.block()])
 }

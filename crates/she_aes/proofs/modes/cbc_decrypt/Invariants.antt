@@ -1,8 +1,9 @@
-use Rattle.std.proofs.Common.{◌≡◌, take, drop, ◌++◌, length}
+use Rattle.std.proofs.Common.{◌≡◌, take, drop, ◌++◌, length, All}
+use Rattle.she_aes.specs.Cipher.{IsBlock}
 use Rattle.she_aes.specs.Modes.{cbc_inverse}
 use Rattle.she_aes.proofs.modes.cbc_decrypt.Given as goal
 
--- the blocks done, and those that come from the rest, are the whole text
+-- the blocks done, and those that come from the rest, are the whole text; those done and those taken are blocks
 abbrev pub invariant-loop-i : goal.invariant-loop-i
 invariant-loop-i g l =
-    (length l.out ≡ g.row.N) × (cbc_inverse l.schedule l.iv l.text ≡ take l.i l.out ++ cbc_inverse l.schedule l.before (drop l.i l.text))
+    (length l.out ≡ g.row.N) × (cbc_inverse l.schedule l.iv l.text ≡ take l.i l.out ++ cbc_inverse l.schedule l.before (drop l.i l.text)) × All IsBlock (take l.i l.out) × All IsBlock (take l.i l.text)
