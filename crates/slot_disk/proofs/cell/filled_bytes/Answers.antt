@@ -7,4 +7,4 @@ use Rattle.slot_disk.proofs.cell.filled_bytes.Goals as goal
 pub returns : goal.returns
 unfolding slot_cell bytes_of
 returns c =
-    rw (div-one c.args.counter, c.to_be_bytes.ensures, c.number.ensures.value, c.number-2.ensures.value, c.copy_from_slice.ensures.after, c.bytes.ensures) refl
+    rw (div-one c.args.counter, c.to_be_bytes.ensures, c.number.ensures.value, c.number-2.ensures.value, c.copy_from_slice.ensures.after, c.bytes.ensures.value) refl

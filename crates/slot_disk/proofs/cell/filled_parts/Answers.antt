@@ -22,5 +22,5 @@ returns-clause-whole c key counter flags h =
     let is = c.from_be_bytes.ensures ∙ from_be_bytes-32 (get_or c.args.cell.now 2 0 ∷ get_or c.args.cell.now 3 0 ∷ get_or c.args.cell.now 4 0 ∷ get_or c.args.cell.now 5 0 ∷ []) refl ∙ counter_is _ _ _ _ h.cell_is h.is_slot.1 in
     let same : c.of-2.result ≡ flags = same_flags c.of-2.result flags (c.of-2.ensures.number ∙ flags_are _ _ _ _ h.cell_is) in
     let is_key = c.of.ensures.value ∙ c.copy_from_slice.ensures.after ∙ key_is _ _ _ _ h.cell_is h.is_slot.0.size in
-    let count = c.in_ok-counter.ensures in
-    ?
+    let count : c.in_ok-counter.counter ≡ counter = c.in_ok-counter.ensures.1 ∙ is in
+    rw (is_key, count, same) refl
