@@ -1,4 +1,4 @@
-pub mod Refusals
 pub mod Each
 pub mod Judged
 pub mod Joined
+pub mod Phases

@@ -1,4 +1,5 @@
 pub mod Words
 pub mod Texts
+pub mod Refusals
+pub mod Answers
 pub mod Steps
-pub mod Ending

@@ -19,3 +19,11 @@ Asks [] command = IsDefault command
 Asks (word ∷ []) command = ⊥
 Asks (word ∷ file ∷ []) command = Names word command
 Asks (word ∷ file ∷ more ∷ words) command = ⊥
+
+-- the words are of no form
+abbrev pub AsksNothing : List (List ℕ) → Type 0
+AsksNothing words = (command : Command) → ¬ Asks words command
+
+-- the words are of a form
+abbrev pub AsksSomething : List (List ℕ) → Type 0
+AsksSomething words = (command : Command) × Asks words command

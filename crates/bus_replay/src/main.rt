@@ -4,9 +4,10 @@
 //! that it works on: standard output, and standard input or the file that the words name.
 #![tactic(auto)]
 
-mod answers;
-mod ending;
+mod job;
 mod lines;
+mod questions;
+mod refusal;
 mod run;
 #[cfg(test)]
 mod tests;

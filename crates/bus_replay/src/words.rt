@@ -1,6 +1,6 @@
 //! The words of the command line.
 ghost use Rattle.std.specs.Prelude.{map, string_bytes, IfSome, IfNone};
-ghost use Rattle.bus_replay.specs.Words.{Asks, Names};
+ghost use Rattle.bus_replay.specs.Words.{Asks, Names, AsksNothing};
 ghost use Rattle.bus_replay.specs.declared.words.Command.{Command};
 
 /// What the words ask for.
@@ -15,7 +15,7 @@ pub enum Command {
 /// The command that the words ask for, the program's name left out. `F` may be any text.
 pub fn command_of(words: &[String]) -> Option<Command>
     ensures found { IfSome result (Asks (map string_bytes words.now)) }
-    ensures none { IfNone result ((command : Command) → ¬ Asks (map string_bytes words.now) command) }
+    ensures none { IfNone result (AsksNothing (map string_bytes words.now)) }
 {
     match words {
         [] => Some(Command::Frame),

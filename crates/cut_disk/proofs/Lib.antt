@@ -1,5 +1,6 @@
 mod Cuts
 mod Slices
+mod Tapes
 mod Tearing
 mod UnderWrites
 mod Vectors

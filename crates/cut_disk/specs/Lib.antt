@@ -9,3 +9,6 @@ pub mod Memory
 pub mod Lasting
 pub mod MemoryLaws
 pub mod MemDisk
+pub mod Tape
+pub mod TapeDisk
+pub mod TapeLaws

@@ -4,7 +4,7 @@ use Rattle.std.specs.List.{range_with_len}
 use Rattle.cut_disk.specs.declared.Torn.{Torn}
 use Rattle.cut_disk.specs.declared.Torn.TheVariants.{Keep, Old, Half, Fill}
 use Rattle.cut_disk.specs.declared.arming.Arms.{Arms}
-use Rattle.cut_disk.specs.State.{DiskState}
+use Rattle.cut_disk.specs.State.{Told, DiskState}
 use Rattle.fault_count.specs.FaultCount.{last_count, counted}
 use Rattle.cut_disk.specs.Arming.{no_arms, fails, after_call, after_cut, is_unarmed}
 use Rattle.cut_disk.specs.Images.{splice}
@@ -26,11 +26,15 @@ fresh bytes = record { bytes = bytes; synced = bytes; loose = replicate (length 
 abbrev pub is_calm : Arms → ℕ → Bool
 is_calm arms faults = is_unarmed arms && nat_lt faults last_count
 
+-- the bytes as read, and which of them are loose
+abbrev pub told_of : Contents → Told
+told_of c = record { bytes = c.bytes; loose = c.loose }
+
 -- what the disk means: it tells its bytes, and no past
 abbrev pub disk_of : Contents → DiskState
 disk_of c = record {
   size = length c.bytes;
-  told = Some (record { bytes = c.bytes; loose = c.loose });
+  told = Some (told_of c);
   arms = c.arms;
   faults = c.faults;
   quiet = is_calm c.arms c.faults;

@@ -1,18 +1,13 @@
 -- What a disk means to a proof.
 use Rattle.std.specs.Prelude.{ℕ, Bool, List, Option}
-use Rattle.cut_disk.specs.declared.Torn.{Torn}
 use Rattle.cut_disk.specs.declared.arming.Arms.{Arms}
+pub use Rattle.cut_disk.specs.declared.Mark.{Mark}
+pub use Rattle.cut_disk.specs.declared.Mark.TheVariants.{Cut, Stop, Fail}
 
 -- the bytes as a read gives them, and for each byte whether it is loose: whether a power cut may change it
 pub record Told : Type 0 where
   pub bytes : List ℕ
   pub loose : List Bool
-
--- a call that is no read, write or sync, with its argument
-pub data Mark : Type 0 where
-  Cut : Torn → Mark
-  Stop : ℕ → Mark
-  Fail : ℕ → Mark
 
 -- one call in a disk's past: the state that it left, and its mark, which a read, a write and a sync don't have
 pub record Entry : Type 0 where

@@ -49,11 +49,15 @@ mod arming;
 mod lasting;
 pub mod laws;
 mod mem_disk;
+mod tape;
+mod tape_disk;
 #[cfg(test)]
 mod tests;
 
 pub use lasting::{write_and_cut, write_and_sync};
 pub use mem_disk::MemDisk;
+pub use tape::PastEntry;
+pub use tape_disk::TapeDisk;
 
 /// A read, a write or a sync failed.
 #[derive(Clone, Copy, Debug, PartialEq, Eq, Drop)]
@@ -74,6 +78,14 @@ pub enum Torn {
     Half,
     /// This byte.
     Fill(u8),
+}
+
+/// A call that is no read, write or sync, with its argument: what marks an entry of a disk's past.
+#[derive(Clone, Copy, Debug, PartialEq, Eq, Drop)]
+pub enum Mark {
+    Cut(Torn),
+    Stop(u64),
+    Fail(u64),
 }
 
 /// A disk of a fixed number of bytes, with addresses from 0. A byte that was written is loose until a sync:

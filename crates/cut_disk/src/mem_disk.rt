@@ -63,6 +63,20 @@ impl MemDisk {
             faults: 0,
         })
     }
+
+    /// The bytes as a read gives them.
+    pub(crate) fn bytes(&self) -> &[u8]
+        ensures { result.now ≡ (contents self.now).bytes }
+    {
+        &self.bytes
+    }
+
+    /// For each byte whether it is loose.
+    pub(crate) fn loose(&self) -> &[bool]
+        ensures { result.now ≡ (contents self.now).loose }
+    {
+        &self.loose
+    }
 }
 
 impl Disk for MemDisk {

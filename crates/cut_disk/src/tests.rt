@@ -1,15 +1,21 @@
+// Each table is tried over a disk in memory and over one that tells its past.
+ghost use Rattle.std.specs.Prelude.{◌≤◌};
+
 use super::*;
 use std::test::Fail;
 
-/// The answers of so many syncs: a dot where one is Ok, an x where it fails.
-fn answers<D: Disk>(disk: &mut D) -> [u8; 4] {
-    let mut answers = *b"....";
-    for answer in answers.iter_mut() {
-        if disk.sync().is_err() {
-            *answer = b'x';
-        }
+/// What a disk of six zeros reads as after a write of 1, 2, 3 and 4 from this address on and a power cut.
+fn left_after<D: CutDisk>(disk: &mut D, at: u64, torn: Torn) -> Result<[u8; 6], Fail>
+    requires { at ≤ 2 }
+{
+    if disk.size() != 6 {
+        return Err(Fail::from("the disk has another size"));
     }
-    answers
+    disk.write(at, &[1, 2, 3, 4])?;
+    disk.power_cut(torn);
+    let mut out = [9; 6];
+    disk.read(0, &mut out)?;
+    Ok(out)
 }
 
 #[test]
@@ -22,14 +28,35 @@ fn a_cut_leaves_loose_bytes_as_its_kind_says(rt: HostRuntime) -> Result<(), Fail
         (Torn::Fill(0xa7), 0, [0xa7, 0xa7, 0xa7, 0xa7, 0, 0]),
         (Torn::Fill(0xa7), 2, [0, 0, 0xa7, 0xa7, 0xa7, 0xa7]),
     ] {
-        let mut disk = MemDisk::new(rt.alloc(), 6)?;
-        disk.write(at, &[1, 2, 3, 4])?;
-        disk.power_cut(torn);
-        let mut out = [9; 6];
-        disk.read(0, &mut out)?;
-        assert_eq!(rt; out, left);
+        let mut memory = MemDisk::new(rt.alloc(), 6)?;
+        assert_eq!(rt; left_after(&mut memory, at, torn)?, left);
+        let mut tape = TapeDisk::new(rt.alloc(), 6, 4)?;
+        assert_eq!(rt; left_after(&mut tape, at, torn)?, left);
     }
     Ok(())
+}
+
+/// The answers of so many syncs: a dot where one is Ok, an x where it fails.
+fn answers<D: Disk>(disk: &mut D) -> [u8; 4] {
+    let mut answers = *b"....";
+    for answer in answers.iter_mut() {
+        if disk.sync().is_err() {
+            *answer = b'x';
+        }
+    }
+    answers
+}
+
+/// The answers of four syncs with these arms, and of four more after a power cut.
+fn armed_answers<D: CutDisk>(disk: &mut D, stop: u64, fail: u64) -> [[u8; 4]; 2]
+    requires stops { 1 ≤ stop }
+    requires fails { 1 ≤ fail }
+{
+    disk.stop_at(stop);
+    disk.fail_at(fail);
+    let before = answers(disk);
+    disk.power_cut(Torn::Keep);
+    [before, answers(disk)]
 }
 
 #[test]
@@ -42,12 +69,10 @@ fn a_stop_lasts_until_a_cut_and_one_failure_comes_once(rt: HostRuntime) -> Resul
         (1, 1, b"xxxx", b"...."),
         (4, 3, b"..xx", b"...."),
     ] {
-        let mut disk = MemDisk::new(rt.alloc(), 1)?;
-        disk.stop_at(stop);
-        disk.fail_at(fail);
-        assert_eq!(rt; answers(&mut disk), *before);
-        disk.power_cut(Torn::Keep);
-        assert_eq!(rt; answers(&mut disk), *after);
+        let mut memory = MemDisk::new(rt.alloc(), 1)?;
+        assert_eq!(rt; armed_answers(&mut memory, stop, fail), [*before, *after]);
+        let mut tape = TapeDisk::new(rt.alloc(), 1, 1)?;
+        assert_eq!(rt; armed_answers(&mut tape, stop, fail), [*before, *after]);
     }
     Ok(())
 }
@@ -80,21 +105,32 @@ fn a_cut_is_the_last_sync_of_what_it_left(rt: HostRuntime) -> Result<(), Fail> {
     Ok(())
 }
 
+/// What a write and a cut answer on a disk of four zeros, of which this call is the last that comes through, and what is
+/// read then.
+fn cut_short<D: CutDisk>(disk: &mut D, stop: u64) -> Result<(bool, [u8; 4]), Fail>
+    requires { 1 ≤ stop }
+{
+    if disk.size() != 4 {
+        return Err(Fail::from("the disk has another size"));
+    }
+    disk.stop_at(stop);
+    let outcome = write_and_cut(disk, 1, &[1, 2], Torn::Fill(0xa7));
+    let mut out = [9; 4];
+    disk.read(0, &mut out)?;
+    Ok((outcome.is_ok(), out))
+}
+
 #[test]
 fn a_write_and_a_sync_outlast_a_cut(rt: HostRuntime) -> Result<(), Fail> {
-    for (stop, outcome, left) in [
-        (9, Ok(()), [0, 1, 2, 0]),
-        (2, Err(DiskFailed), [0, 0xa7, 0xa7, 0]),
+    for (stop, is_ok, left) in [
+        (9, true, [0, 1, 2, 0]),
+        (2, false, [0, 0xa7, 0xa7, 0]),
+        (1, false, [0, 0xa7, 0xa7, 0]),
     ] {
-        let mut disk = MemDisk::new(rt.alloc(), 4)?;
-        disk.stop_at(stop);
-        assert_eq!(rt;
-            write_and_cut(&mut disk, 1, &[1, 2], Torn::Fill(0xa7)),
-            outcome
-        );
-        let mut out = [9; 4];
-        disk.read(0, &mut out)?;
-        assert_eq!(rt; out, left);
+        let mut memory = MemDisk::new(rt.alloc(), 4)?;
+        assert_eq!(rt; cut_short(&mut memory, stop)?, (is_ok, left));
+        let mut tape = TapeDisk::new(rt.alloc(), 4, 9)?;
+        assert_eq!(rt; cut_short(&mut tape, stop)?, (is_ok, left));
     }
     Ok(())
 }
@@ -110,5 +146,47 @@ fn a_new_disk_reads_zeros(rt: HostRuntime) -> Result<(), Fail> {
     let mut end = [9; 3];
     disk.read(97, &mut end)?;
     assert_eq!(rt; end, [0, 1, 2]);
+    Ok(())
+}
+
+/// Makes one call of each kind, of which the second write fails.
+fn one_of_each<D: CutDisk>(disk: &mut D) -> Result<bool, Fail> {
+    if disk.size() != 2 {
+        return Err(Fail::from("the disk has another size"));
+    }
+    disk.write(0, &[7])?;
+    let mut out = [9];
+    disk.read(1, &mut out)?;
+    disk.fail_at(2);
+    disk.sync()?;
+    let fails = disk.write(1, &[8]).is_err();
+    disk.stop_at(9);
+    disk.power_cut(Torn::Old);
+    Ok(fails && out == [0])
+}
+
+#[test]
+fn a_tape_tells_the_state_and_the_mark_of_each_call(rt: HostRuntime) -> Result<(), Fail> {
+    let mut disk = TapeDisk::new(rt.alloc(), 2, 8)?;
+    assert!(rt; one_of_each(&mut disk)?);
+    let told = disk.past().ok_or("the past isn't told")?;
+    assert_eq!(rt; told.len(), 8);
+    let wanted = [
+        ([0, 0], [false, false], None),
+        ([7, 0], [true, false], None),
+        ([7, 0], [true, false], None),
+        ([7, 0], [true, false], Some(Mark::Fail(2))),
+        ([7, 0], [false, false], None),
+        ([7, 8], [false, true], None),
+        ([7, 8], [false, true], Some(Mark::Stop(9))),
+        ([7, 0], [false, false], Some(Mark::Cut(Torn::Old))),
+    ];
+    for (entry, (bytes, loose, mark)) in told.iter().zip(wanted) {
+        assert_eq!(rt; entry.bytes.as_slice(), bytes.as_slice());
+        assert_eq!(rt; entry.loose.as_slice(), loose.as_slice());
+        assert_eq!(rt; entry.mark, mark);
+    }
+    disk.sync()?;
+    assert!(rt; disk.past().is_none());
     Ok(())
 }

@@ -1,1 +1,2 @@
+pub mod PairRule
 pub mod Places

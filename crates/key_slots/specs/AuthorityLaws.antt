@@ -1,23 +1,17 @@
 -- The pairs as a set and as a test
-use Rattle.std.proofs.Common.{◌≡◌, ℕ, Bool, true, false, ◌&&◌, ◌==◌, ◌↔◌, IsTrue, Contains, refl, sym, ap, ◌∙◌}
+use Rattle.std.proofs.Common.{◌≡◌, ℕ, Bool, true, false, ◌==◌, ◌↔◌, IsTrue, Contains, refl, sym, ap, ◌∙◌}
+use Rattle.std.proofs.lemmas.Bool.{and_from, and_parts}
 use Rattle.std.proofs.lemmas.Bool.Decides.{Decides-eqb}
 use Rattle.std.proofs.lemmas.List.Folds.{list_any_at}
 use Rattle.std.proofs.lemmas.Map.Views.{Contains-from_any}
 use Rattle.key_slots.specs.Authority.{pairs, same_pair, is_pair}
 
-both : (p q : Bool) → p ≡ true → q ≡ true → (p && q) ≡ true
-both p q e f = ap (λ x. x && q) e ∙ f
-
-parts : (p q : Bool) → (p && q) ≡ true → (p ≡ true) × (q ≡ true)
-parts true q e = (refl, e)
-parts false q e = cc
-
 same_self : (target auth : ℕ) → same_pair (target, auth) (target, auth) ≡ true
-same_self target auth = both (target == target) (auth == auth) ((Decides-eqb target target).1 refl) ((Decides-eqb auth auth).1 refl)
+same_self target auth = and_from (target == target) (auth == auth) ((Decides-eqb target target).1 refl) ((Decides-eqb auth auth).1 refl)
 
 same_is : (p q : ℕ × ℕ) → same_pair p q ≡ true → p ≡ q
 same_is p q e =
-    let x = parts (p.0 == q.0) (p.1 == q.1) e in
+    let x = and_parts (p.0 == q.0) (p.1 == q.1) e in
     let Make : ℕ → ℕ → ℕ × ℕ = λ a b. (a, b) in
     ap (λ a. Make a p.1) ((Decides-eqb p.0 q.0).0 x.0) ∙ ap (Make q.0) ((Decides-eqb p.1 q.1).0 x.1)
 

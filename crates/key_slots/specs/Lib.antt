@@ -1,6 +1,9 @@
 pub mod Authority
 pub mod AuthorityLaws
 pub mod Flags
+pub mod FlagsLaws
 pub mod Names
+pub mod NamesLaws
 pub mod Slots
 pub mod Usage
+pub mod UsageLaws

@@ -1,4 +1,5 @@
-use Rattle.std.specs.Prelude.{ℕ, ◌<◌, ◌^◌, List, Bool, true, false, Option, Some, None, slice_index_or}
+-- What a slot holds, and what the fourteen do
+use Rattle.std.specs.Prelude.{◌≡◌, ℕ, ◌<◌, ◌^◌, List, length, All, Bool, true, false, Option, Some, None, slice_index_or}
 use Rattle.she_aes.specs.Cipher.{IsBlock}
 use Rattle.key_slots.specs.declared.memory.Flags.{Flags}
 use Rattle.key_slots.specs.declared.memory.Slot.{Slot}
@@ -31,3 +32,8 @@ key_of (Filled key counter flags) = Some key
 abbrev pub IsSlot : Slot → Type 0
 IsSlot Empty = Unit {0}
 IsSlot (Filled key counter flags) = IsBlock key × (counter < 2 ^ 28)
+
+-- which lists the code's key memories have: fourteen slots
+pub record IsSlots (slots : List Slot) : Type 0 where
+  pub size : length slots ≡ 14
+  pub slots_are : All IsSlot slots

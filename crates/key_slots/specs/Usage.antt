@@ -1,6 +1,5 @@
-use Rattle.std.specs.Prelude.{◌≡◌, ℕ, ◌<◌, ◌≤◌, List, [], ◌∷◌, Bool, true, false, not, ◌&&◌, nat_lt, Option, Some, None}
-use Rattle.std.proofs.Common.{rules}
-use Rattle.std.proofs.lemmas.Bool.Decides.{nat_tests}
+-- When a slot's key may be used: the refusals of a call in their order
+use Rattle.std.specs.Prelude.{ℕ, List, [], ◌∷◌, Bool, true, false, not, ◌&&◌, nat_lt, Option, Some, None}
 use Rattle.key_slots.specs.declared.memory.Flags.{Flags}
 use Rattle.key_slots.specs.declared.memory.Slot.{Slot}
 use Rattle.key_slots.specs.declared.refusals.Erc.{Erc}
@@ -28,15 +27,3 @@ slot_refusals slot good purpose =
 -- the first refusal of a MAC or cipher call on slot s, or none; good says that a successful boot was made in this life
 unfoldable pub usable : List Slot → ℕ → Bool → Purpose → Option Erc
 usable slots s good purpose = first_applying ((nat_lt s 4, KeyInvalid) ∷ slot_refusals (slot_at slots s) good purpose)
-
--- slots 0 to 3 serve no MAC and no cipher call
-pub usable_below_four : (slots : List Slot) (s : ℕ) (good : Bool) (purpose : Purpose) → s < 4 → usable slots s good purpose ≡ Some KeyInvalid
-unfolding usable
-usable_below_four slots s good purpose low = let e : nat_lt s 4 ≡ true = search (rules, nat_tests) in rw e
-
--- from slot 4 on the slot's own refusals decide
-pub usable_at_slot : (slots : List Slot) (s : ℕ) (slot : Slot) (good : Bool) (purpose : Purpose) (answer : Option Erc) → 4 ≤ s → slot_at slots s ≡ slot → answer ≡ first_applying (slot_refusals slot good purpose) → answer ≡ usable slots s good purpose
-unfolding usable
-usable_at_slot slots s slot good purpose answer high at is =
-    let e : nat_lt s 4 ≡ false = search (rules, nat_tests) in
-    rw (e, at) is

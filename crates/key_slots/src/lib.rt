@@ -3,6 +3,7 @@
 #![tactic(auto)]
 
 mod authority;
+pub mod laws;
 mod memory;
 mod numbers;
 mod refusals;

@@ -1,10 +1,13 @@
 //! The fourteen slots and what each holds.
-ghost use Rattle.std.specs.Prelude.{◌≡◌, ◌≢◌, ◌<◌, ℕ, length, replicate, slice_get, slice_set, Some};
+ghost use Rattle.std.specs.Prelude.{◌≡◌, ◌≢◌, ◌<◌, ℕ, replicate, slice_get, slice_set, Some};
 ghost use Rattle.key_slots.specs.declared.memory.Slot.TheVariants.{Empty};
 ghost use Rattle.key_slots.specs.Flags.{flags_number, flags_from};
+ghost use Rattle.key_slots.specs.Names.{shown_slot};
+ghost use Rattle.key_slots.specs.Slots.{IsSlot, IsSlots};
 
 use crate::numbers::{Counter28, SlotId};
 use she_aes::Block;
+use std::fmt;
 use std::marker::Model;
 
 /// The five flags of a slot, in the order of the SHE specification.
@@ -52,7 +55,7 @@ impl Flags {
 }
 
 /// What a slot holds.
-#[derive(Clone, Copy, Debug, PartialEq, Eq)]
+#[derive(Clone, Copy, PartialEq, Eq)]
 pub enum Slot {
     /// No key; its counter counts as 0 and its flags as all clear.
     Empty,
@@ -67,6 +70,35 @@ pub enum Slot {
     },
 }
 
+// Counter and flags of a filled slot, and no key.
+impl fmt::Debug for Slot {
+    ghost debug_output = { λ s. Some (shown_slot s) };
+
+    fn fmt<W: fmt::Write>(&self, f: &mut fmt::Formatter<W>) -> fmt::Result {
+        match self {
+            Slot::Empty => f.write_str("Empty"),
+            Slot::Filled { counter, flags, .. } => write!(
+                f,
+                "Filled {{ counter: {}, flags: {}, .. }}",
+                counter.number(),
+                flags.number()
+            ),
+        }
+    }
+}
+
+// The same slot: of a slot that is passed a proof knows that its key is a block and its counter fits 28 bits.
+fn told(slot: Slot) -> Slot
+    ensures value { result ≡ slot }
+    ensures is_slot { IsSlot slot }
+{
+    if let Slot::Filled { key, counter, .. } = slot {
+        let _key = key.as_slice();
+        let _counter = counter.number();
+    }
+    slot
+}
+
 /// The key memory: slots 0 to 13. Contracts see it as the list of its fourteen slots.
 #[derive(Clone, Copy, Debug, PartialEq, Eq)]
 pub struct Slots {
@@ -76,10 +108,13 @@ pub struct Slots {
 impl Model for Slots {
     ghost use Rattle.std.specs.Prelude.{List};
     ghost use Rattle.key_slots.specs.declared.memory.Slot.{Slot};
+    ghost use Rattle.key_slots.specs.Slots.{IsSlots};
 
     ghost Value = { List Slot };
 
     ghost view = { λ s. s.slots };
+
+    ghost invariant = { λ s. IsSlots s.slots };
 
     ghost inverse = { λ l. record { slots = l } };
 }
@@ -87,7 +122,8 @@ impl Model for Slots {
 impl Slots {
     /// Fourteen empty slots.
     pub fn empty() -> Slots
-        ensures { result ≡ replicate 14 Empty }
+        ensures value { result ≡ replicate 14 Empty }
+        ensures whole { IsSlots result }
     {
         Slots {
             slots: [Slot::Empty; 14],
@@ -97,7 +133,8 @@ impl Slots {
     /// The slot of this number.
     pub fn get(&self, id: SlotId) -> &Slot
         ensures value { slice_get self.now id ≡ Some result.now }
-        ensures fourteen { length self.now ≡ 14 }
+        ensures is_slot { IsSlot result.now }
+        ensures whole { IsSlots self.now }
     {
         &self.slots[usize::from(id.number())]
     }
@@ -107,8 +144,8 @@ impl Slots {
         ensures value { self.new ≡ slice_set self.old id slot }
         ensures here { slice_get self.new id ≡ Some slot }
         ensures others { (k : ℕ) → k ≢ id → slice_get self.new k ≡ slice_get self.old k }
-        ensures fourteen { length self.new ≡ 14 }
+        ensures whole { IsSlots self.new }
     {
-        self.slots[usize::from(id.number())] = slot;
+        self.slots[usize::from(id.number())] = told(slot);
     }
 }

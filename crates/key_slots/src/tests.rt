@@ -142,3 +142,16 @@ fn refusals_have_their_printed_names(rt: HostRuntime) -> Result<(), Fail> {
     }
     Ok(())
 }
+
+#[test]
+fn a_slot_is_shown_without_its_key(rt: HostRuntime) -> Result<(), Fail> {
+    let slot = protected()?;
+    let shown = "Filled { counter: 1, flags: 8, .. }";
+    assert_eq!(rt; format!(in rt.alloc(); "{slot:?}")?.as_str(), shown);
+    let mut slots = Slots::empty();
+    slots.set(SlotId::new(0).ok_or("slot 0")?, slot);
+    let all = format!(in rt.alloc(); "{slots:?}")?;
+    let front = "Slots { slots: [Filled { counter: 1, flags: 8, .. }, Empty, ";
+    assert!(rt; all.as_str().starts_with(front));
+    Ok(())
+}

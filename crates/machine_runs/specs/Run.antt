@@ -1,5 +1,5 @@
 -- Runs of a machine, each as one list of moments.
-use Rattle.std.specs.Prelude.{◌≡◌, List, [], ◌∷◌, map}
+use Rattle.std.specs.Prelude.{◌≡◌, List, [], ◌∷◌, ◌++◌, map}
 
 -- a command, the line that was told for it, and the state after it
 pub record Moment (C L S : Type 0) : Type 0 where
@@ -22,3 +22,8 @@ Run steps start (m ∷ ms) now = steps start m.command m.line m.after × Run ste
 abbrev pub seen_as : {C L S D T : Type 0} → (C → D) → (S → T) → List (Moment C L S) → List (Moment D L T)
 seen_as command state moments =
     map (λ m. record { command = command m.command; line = m.line; after = state m.after }) moments
+
+-- the moments of another machine that these are made of, where each is made of those that `parts` gives
+abbrev pub made_of : {C L S D K T : Type 0} → (S → Moment C L S → List (Moment D K T)) → S → List (Moment C L S) → List (Moment D K T)
+made_of parts start [] = []
+made_of parts start (m ∷ ms) = parts start m ++ made_of parts m.after ms

@@ -1,7 +1,7 @@
 -- Laws of runs.
 use Rattle.std.specs.Prelude.{List, [], ◌∷◌, ◌++◌}
 use Rattle.std.proofs.Common.{refl, sym, ap, subst, append_assoc, append-nil}
-use Rattle.machine_runs.specs.Run.{Moment, Run, seen_as}
+use Rattle.machine_runs.specs.Run.{Moment, Run, seen_as, made_of}
 
 -- a run, and a run from where it ended, are one run
 pub Run-append : {C L S : Type 0} (steps : S → C → L → S → Type 0) (start : S) (ms more : List (Moment C L S)) (mid now : S)
@@ -41,3 +41,14 @@ Run-seen_as steps others command state P simulates start [] now holds run = ap s
 Run-seen_as steps others command state P simulates start (m ∷ ms) now holds run =
     let seen = simulates start m.command m.line m.after holds run.0 in
     (seen.0, Run-seen_as steps others command state P simulates m.after ms now seen.1 run.1)
+
+-- where each step from a state with P is a run of another machine, and keeps P, a run is a run of the other machine
+pub Run-made_of : {C L S D K T : Type 0} (steps : S → C → L → S → Type 0) (others : T → D → K → T → Type 0) (parts : S → Moment C L S → List (Moment D K T)) (state : S → T) (P : S → Type 0)
+    → ((s : S) (m : Moment C L S) → P s → steps s m.command m.line m.after → Run others (state s) (parts s m) (state m.after) × P m.after)
+    → (start : S) (ms : List (Moment C L S)) (now : S) → P start → Run steps start ms now
+    → Run others (state start) (made_of parts start ms) (state now)
+Run-made_of steps others parts state P each start [] now holds run = ap state run
+Run-made_of steps others parts state P each start (m ∷ ms) now holds run =
+    let part = each start m holds run.0 in
+    Run-append others (state start) (parts start m) (made_of parts m.after ms) (state m.after) (state now) part.0
+    (Run-made_of steps others parts state P each m.after ms now part.1 run.1)

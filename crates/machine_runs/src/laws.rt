@@ -1,11 +1,11 @@
 //! Laws of runs: each function has an empty body, and its contract is the law.
 ghost use Rattle.std.specs.Prelude.{◌≡◌, ◌↔◌, ℕ, ◌<◌, Bool, false, List, [], ◌∷◌, ◌++◌, length, get_or};
-ghost use Rattle.machine_runs.specs.Run.{Moment, Run, seen_as};
+ghost use Rattle.machine_runs.specs.Run.{Moment, Run, seen_as, made_of};
 ghost use Rattle.machine_runs.specs.Members.{MemberSteps, of_member};
 ghost use Rattle.machine_runs.specs.Faults.{Counts, FailsWithin, QuietUntilArmed};
 ghost use Rattle.machine_runs.specs.Past.{Traced};
 
-use crate::steps::{Claim, Faults, Members, Past, Steps, View};
+use crate::steps::{Claim, Composite, Faults, Members, Past, Steps, View};
 
 /// The empty list is a run, from each state to itself alone.
 pub fn no_moment_is_a_run<M: Steps>()
@@ -44,6 +44,16 @@ pub fn run_is_a_run_of_the_machine_that_it_is_seen_as<M: View>()
         → Run M.seen_steps (M.state start) (seen_as M.command M.state moments) (M.state now) }
 {}
 
+/// Where each step is made of steps of another machine, a run is made of them, and is a run of that
+/// machine.
+pub fn run_of_made_steps_is_a_run_of_their_parts<M: Composite>()
+    ensures { (start now : M.State) (moments : List (Moment M.Command M.Line M.State))
+        → ((s : M.State) (m : Moment M.Command M.Line M.State) → M.holds s → M.steps s m.command m.line m.after
+        → Run M.part_steps (M.state s) (M.parts s m) (M.state m.after) × M.holds m.after)
+        → M.holds start → Run M.steps start moments now
+        → Run M.part_steps (M.state start) (made_of M.parts start moments) (M.state now) }
+{}
+
 /// Where each step is one of the member that its command concerns, a run is, for each member, a run
 /// of that member.
 pub fn run_is_a_run_of_each_member<M: Members>()
@@ -58,8 +68,8 @@ pub fn run_is_a_run_of_each_member<M: Members>()
 /// it stands at its last value.
 pub fn failures_are_within_the_rise_of_the_count<M: Faults>()
     ensures { (start now : M.State) (moments : List (Moment M.Command M.Line M.State))
-        → ((s : M.State) (c : M.Command) (l : M.Line) (t : M.State) → M.steps s c l t → Counts M.fails M.count M.last s l t)
-        → Run M.steps start moments now → FailsWithin M.fails M.count M.last start moments now }
+        → ((s : M.State) (c : M.Command) (l : M.Line) (t : M.State) → M.steps s c l t → Counts M.fails M.count s l t)
+        → Run M.steps start moments now → FailsWithin M.fails M.count start moments now }
 {}
 
 /// Where a step from a quiet state that arms nothing stays quiet and doesn't fail, a run from a quiet

@@ -15,4 +15,4 @@ pub use laws::{
     run_is_a_run_of_the_machine_that_it_is_seen_as, run_is_quiet_until_something_is_armed,
     what_each_step_keeps_holds_at_the_end,
 };
-pub use steps::{Claim, Faults, Members, Past, Steps, View};
+pub use steps::{Claim, Composite, Faults, Members, Past, Steps, View};

@@ -55,6 +55,34 @@ pub trait View {
     ghost holds: { State → Type 0 };
 }
 
+/// A machine each of whose steps is made of steps of another one.
+pub trait Composite {
+    type Command;
+
+    type Line;
+
+    ghost State: { Type 0 };
+
+    ghost steps: { State → Self.Command → Self.Line → State → Type 0 };
+
+    type PartCommand;
+
+    type PartLine;
+
+    ghost PartState: { Type 0 };
+
+    ghost part_steps: { PartState → Self.PartCommand → Self.PartLine → PartState → Type 0 };
+
+    /// The moments of the other machine that a moment from this state is made of.
+    ghost parts: { State → Moment Self.Command Self.Line State → List (Moment Self.PartCommand Self.PartLine PartState) };
+
+    /// What a state is for the other machine.
+    ghost state: { State → PartState };
+
+    /// What holds of the states that runs reach.
+    ghost holds: { State → Type 0 };
+}
+
 /// A machine made of members, each of whose commands concerns one of them.
 pub trait Members {
     type Command;
@@ -95,10 +123,8 @@ pub trait Faults {
     /// The line tells a failure.
     ghost fails: { Self.Line → Bool };
 
-    /// The count of faults, and its last value, at which it stands still.
+    /// The count of faults, which stands still at 2^64 - 1.
     ghost count: { State → ℕ };
-
-    ghost last: { ℕ };
 
     /// The command makes a later failure possible.
     ghost arms: { Self.Command → Bool };

@@ -6,7 +6,8 @@ use Rattle.std.proofs.Math.Seq.{take-append_seam, drop-append_seam, take-length}
 use Rattle.std.proofs.lemmas.List.{take_more, length-take}
 use Rattle.std.proofs.lemmas.List.Elements.{All-nil, All-cons, All-head, All-tail, All-take, All-get_or}
 use Rattle.key_slots.specs.declared.memory.Flags.{Flags}
-use Rattle.key_slots.specs.Flags.{flags_number, flags_from, flags_number-lt, flags_number-from, same_flags}
+use Rattle.key_slots.specs.Flags.{flags_number, flags_from}
+use Rattle.key_slots.specs.FlagsLaws.{flags_number-lt, flags_number-from, same_flags}
 use Rattle.memory_update.specs.Ciphers.{IsBlock, enc, cbc, cbc_inverse, zero_block, kdf, Enc, Mac, cmac, IsBlock-zero_block, IsBlock-kdf, length-cbc_inverse, IsBlock-enc, All-cbc_inverse, cbc_inverse-cbc, cbc-cbc_inverse}
 use Rattle.memory_update.specs.Fields.{bit_field}
 use Rattle.memory_update.specs.Numbers.{number_of, bytes_of}

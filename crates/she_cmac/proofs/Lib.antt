@@ -1,1 +1,2 @@
 pub mod LastPiece
+pub mod Doubling

@@ -1,12 +1,8 @@
 -- The CMAC of a message under a key (NIST SP 800-38B), over AES-128. Keys and blocks are lists of 16 bytes, messages lists of bytes.
 use Rattle.std.specs.Prelude.{ℕ, ◌-◌, ◌*◌, ◌/◌, ◌^◌, ◌==◌, nat_lt, if◌then◌else◌, List, [], ◌∷◌, ◌++◌, length, take, drop, map, fold, replicate, bit_xor}
 use Rattle.std.specs.List.{range_with_len}
-use Rattle.std.specs.Int.{w128, to_be_bytes, from_be_bytes}
-use Rattle.she_aes.specs.Cipher.{enc, xor_blocks}
-
--- the block of 16 zero bytes
-abbrev pub zero_block : List ℕ
-zero_block = replicate 16 0
+use Rattle.byte_lists.specs.Numbers.{number_of, bytes_of}
+use Rattle.she_aes.specs.Cipher.{enc, zero_block, xor_blocks}
 
 -- section 6.1, steps 2 and 3: a number below 2^128 shifted left by one bit, with 135 added bit by bit where a 1 was shifted out
 unfoldable pub dbl : ℕ → ℕ
@@ -14,14 +10,14 @@ dbl a = if nat_lt a (2 ^ 127) then 2 * a else bit_xor (2 * a - 2 ^ 128) 135
 
 -- section 6.1, step 1: the encrypted zero block, as a number
 unfoldable pub encrypted_zero : List ℕ → ℕ
-encrypted_zero key = from_be_bytes w128 (enc key zero_block)
+encrypted_zero key = number_of (enc key zero_block)
 
 -- section 6.1: the subkeys K1 and K2
 unfoldable pub first_subkey : List ℕ → List ℕ
-first_subkey key = to_be_bytes w128 (dbl (encrypted_zero key))
+first_subkey key = bytes_of 16 (dbl (encrypted_zero key))
 
 unfoldable pub second_subkey : List ℕ → List ℕ
-second_subkey key = to_be_bytes w128 (dbl (dbl (encrypted_zero key)))
+second_subkey key = bytes_of 16 (dbl (dbl (encrypted_zero key)))
 
 -- section 6.2, steps 2 and 3: how many blocks stand before the last one, which has 1 to 16 bytes, or none where the message is empty
 unfoldable pub before_last : List ℕ → ℕ

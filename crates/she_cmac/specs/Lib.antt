@@ -1,4 +1,4 @@
 pub mod Cmac
 pub mod Examples
-pub mod Length
+pub mod CmacLaws
 pub mod Took

@@ -1,11 +1,11 @@
 //! CMAC over AES-128 (NIST SP 800-38B), in one call or in pieces. Nothing here takes memory or fails.
 #![tactic(auto)]
 
-mod blocks;
 pub mod laws;
 mod pieces;
+mod subkeys;
 
-pub use pieces::{Mac, cmac};
+pub use pieces::{Mac, cmac, cmac_of_parts};
 
 #[cfg(test)]
 mod tests;

@@ -1,32 +1,35 @@
-//! The CMAC of bytes that come in pieces (SP 800-38B, section 6.2).
-ghost use Rattle.std.specs.Prelude.{◌≡◌, ◌≤◌};
+//! The CMAC of a message (SP 800-38B, section 6.2), whole or in pieces.
+ghost use Rattle.std.specs.Prelude.{◌≡◌, ◌≤◌, map};
+ghost use Rattle.std.specs.List.{concat};
+ghost use Rattle.she_aes.specs.Cipher.{IsBlock};
 ghost use Rattle.she_cmac.specs.Cmac.{cmac};
 
-use crate::blocks::{first_subkey, second_subkey, xor};
+use crate::subkeys::{first_subkey, second_subkey};
 use she_aes::{Block, Schedule, encrypt};
 
 /// The CMAC of the bytes given so far: the chained value of the whole blocks, and the block that may be the last one.
 #[derive(Drop)]
-pub struct Mac {
-    schedule: Schedule,
+pub struct Mac<'a> {
+    schedule: &'a Schedule,
     chain: Block,
     block: [u8; 16],
     filled: usize,
     ghost within: { filled ≤ 16 },
 }
 
-impl Mac {
-    ghost use Rattle.std.specs.Prelude.{◌≡◌, ℕ, List, [], ◌∷◌, ◌++◌};
-    ghost use Rattle.she_cmac.specs.Cmac.{cmac, last_block, last_piece};
-    ghost use Rattle.she_cmac.specs.Took.{Took};
+impl<'a> Mac<'a> {
+    ghost use Rattle.std.specs.Prelude.{◌≡◌, ◌-◌, ◌<◌, ◌≤◌, ℕ, List, [], ◌∷◌, ◌++◌, length, min, take};
+    ghost use Rattle.she_aes.specs.Cipher.{IsBlock};
+    ghost use Rattle.she_cmac.specs.Cmac.{cmac, last_block};
+    ghost use Rattle.she_cmac.specs.Took.{Holds, Took};
 
     /// A MAC under this key that was given no byte yet.
-    pub fn new(schedule: &Schedule) -> Mac
+    pub fn new(schedule: &'a Schedule) -> Mac<'a>
         ensures { Took schedule.now [] result }
     {
         Mac {
-            schedule: *schedule,
-            chain: Block::of([0; 16]),
+            schedule,
+            chain: Block::zero(),
             block: [0; 16],
             filled: 0,
         }
@@ -36,53 +39,94 @@ impl Mac {
     pub fn update(&mut self, bytes: &[u8])
         ensures { (key message : List ℕ) → Took key message self.old → Took key (message ++ bytes.now) self.new }
     {
-        for byte in bytes {
-            self.push(*byte);
+        let mut done = 0;
+        while done < bytes.len() {
+            done += self.take(&bytes[done..]);
         }
     }
 
-    /// The CMAC of all bytes given.
-    pub fn finish(self) -> Block
-        ensures { (key message : List ℕ) → Took key message self → result ≡ cmac key message }
+    /// The CMAC of all bytes given so far.
+    pub fn finish(&self) -> Block
+        ensures value { (key message : List ℕ) → Took key message self.now → result ≡ cmac key message }
+        ensures is_block { IsBlock result }
     {
         let last = self.last_block();
-        encrypt(&self.schedule, &Block::of(xor(self.chain.bytes(), &last)))
+        let mixed = self.chain.xor(&last);
+        encrypt(self.schedule, &mixed)
     }
 
     // The last block of the message, complete or padded, with its subkey.
-    fn last_block(&self) -> [u8; 16]
-        ensures { (key message : List ℕ) → Took key message self.now → result ≡ last_block key (last_piece message) }
+    fn last_block(&self) -> Block
+        ensures { (key piece : List ℕ) (blocks : List (List ℕ)) → Holds key blocks piece self.now
+            → result ≡ last_block key piece }
     {
         if self.filled == 16 {
-            return xor(&self.block, &first_subkey(&self.schedule));
+            return Block::of(self.block).xor(&first_subkey(self.schedule));
         }
         let mut padded = self.block;
         padded[self.filled] = 0x80;
-        xor(&padded, &second_subkey(&self.schedule))
+        Block::of(padded).xor(&second_subkey(self.schedule))
     }
 
-    // Takes one byte. A block that is complete is chained only when another byte comes after it.
-    fn push(&mut self, byte: u8)
-        ensures { (key message : List ℕ) → Took key message self.old → Took key (message ++ byte ∷ []) self.new }
+    // Takes bytes from the front of these, up to the end of a block, and says how many. A block that is complete is chained only when
+    // another byte comes after it.
+    fn take(&mut self, bytes: &[u8]) -> usize
+        requires { 0 < length bytes.now }
+        ensures some { 0 < result × result ≤ length bytes.now }
+        ensures took { (key message : List ℕ) → Took key message self.old
+            → Took key (message ++ take result bytes.now) self.new }
     {
         if self.filled < 16 {
-            self.block[self.filled] = byte;
-            self.filled += 1;
-            return;
+            return self.keep(bytes);
         }
-        let mixed = Block::of(xor(self.chain.bytes(), &self.block));
-        self.chain = encrypt(&self.schedule, &mixed);
+        self.chain_block();
+        self.keep(bytes)
+    }
+
+    // Chains the block that is kept, which is complete.
+    fn chain_block(&mut self)
+        requires { self.old.filled ≡ 16 }
+        ensures chained { (key piece : List ℕ) (blocks : List (List ℕ)) → Holds key blocks piece self.old
+            → Holds key (blocks ++ piece ∷ []) [] self.new }
+        ensures empty { self.new.filled ≡ 0 }
+    {
+        self.chain = encrypt(self.schedule, &self.chain.xor(&Block::of(self.block)));
         self.block = [0; 16];
-        self.block[0] = byte;
-        self.filled = 1;
+        self.filled = 0;
+    }
+
+    // Keeps, behind the bytes that are kept, as many of these as fit, and says how many.
+    fn keep(&mut self, bytes: &[u8]) -> usize
+        ensures count { result ≡ min (length bytes.now) (16 - self.old.filled) }
+        ensures kept { (key piece : List ℕ) (blocks : List (List ℕ)) → Holds key blocks piece self.old
+            → Holds key blocks (piece ++ take result bytes.now) self.new }
+    {
+        let count = bytes.len().min(16 - self.filled);
+        let end = self.filled + count;
+        self.block[self.filled..end].copy_from_slice(&bytes[..count]);
+        self.filled = end;
+        count
     }
 }
 
 /// The CMAC of the message under this key: all 16 bytes; a shorter tag is its first bytes.
 pub fn cmac(schedule: &Schedule, message: &[u8]) -> Block
-    ensures { result ≡ cmac schedule.now message.now }
+    ensures value { result ≡ cmac schedule.now message.now }
+    ensures is_block { IsBlock result }
 {
     let mut mac = Mac::new(schedule);
     mac.update(message);
+    mac.finish()
+}
+
+/// The CMAC of the message that these parts make, one after another.
+pub fn cmac_of_parts(schedule: &Schedule, parts: &[&[u8]]) -> Block
+    ensures value { result ≡ cmac schedule.now (concat (map (λ part. part.now) parts.now)) }
+    ensures is_block { IsBlock result }
+{
+    let mut mac = Mac::new(schedule);
+    for part in parts {
+        mac.update(part);
+    }
     mac.finish()
 }

@@ -1,5 +1,5 @@
 //! The examples of NIST for the CMAC over AES-128 (SP 800-38B, appendix D.1, and its example of 20 bytes), whole and in pieces.
-use crate::{Mac, cmac};
+use crate::{Mac, cmac, cmac_of_parts};
 use she_aes::{Block, Schedule, expand};
 
 const KEY: [u8; 16] = [
@@ -49,4 +49,19 @@ fn gives_the_same_in_any_pieces(rt: HostRuntime) {
         number(&mac.finish()),
         0x51f0bebf_7e3b9d92_fc497417_79363cfe
     );
+}
+
+#[test]
+fn gives_the_same_of_parts(rt: HostRuntime) {
+    let schedule = expand(&Block::of(KEY));
+    let message: &[u8] = &MESSAGE;
+    assert_eq!(rt; number(&cmac_of_parts(&schedule, &[])), MACS[0].1);
+    for at in 0..65 {
+        let parts = [&message[..at], &message[at..]];
+        assert_eq!(rt;
+            number(&cmac_of_parts(&schedule, &parts)),
+            MACS[4].1,
+            "parted at {at}"
+        );
+    }
 }

@@ -4,4 +4,4 @@ use Rattle.she_cmac.proofs.pieces.Mac.new.Goals as goal
 
 pub returns : goal.returns
 unfolding before_last block_at front_blocks last_piece chained
-returns c = record { key_is = refl; chain_is = c.of.ensures; block_is = refl; filled_is = refl }
+returns c = record { key_is = refl; chain_is = c.zero.ensures.value; block_is = refl; filled_is = refl }

@@ -1,8 +1,11 @@
-use Rattle.std.proofs.Common.{ℕ, List, ◌++◌, take}
+use Rattle.std.proofs.Common.{ℕ, ◌-◌, ◌≤◌, List, ◌++◌, length, take}
 use Rattle.she_cmac.specs.Took.{Took}
 use Rattle.she_cmac.proofs.pieces.Mac.update.Given as goal
 
--- the bytes before this one are taken
-abbrev pub invariant-loop-byte : goal.invariant-loop-byte
-invariant-loop-byte l =
-    (key message : List ℕ) → Took key message l.initial.self → Took key (message ++ take l.byte-index l.bytes) l.self
+-- the bytes so far are taken
+abbrev pub invariant-loop-done : goal.invariant-loop-done
+invariant-loop-done l =
+    (l.done ≤ length l.bytes) × ((key message : List ℕ) → Took key message l.initial.self → Took key (message ++ take l.done l.bytes) l.self)
+
+abbrev pub decreases-loop-done : goal.decreases-loop-done
+decreases-loop-done l = length l.bytes - l.done

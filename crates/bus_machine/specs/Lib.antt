@@ -1,0 +1,9 @@
+pub mod Node
+pub mod Sound
+pub mod Steps
+pub mod Bus
+pub mod Freshness
+pub mod Authentic
+pub mod KeysKept
+pub mod Skips
+pub mod Honest

@@ -1,8 +1,0 @@
-use Rattle.bus_replay.specs.Texts.{TellsFrame}
-use Rattle.bus_replay.proofs.Each.{TellsEach-at}
-use Rattle.bus_replay.proofs.answers.frame_texts.Goals as goal
-
-pub loop-line-preserved : goal.loop-line-preserved
-loop-line-preserved c =
-    TellsEach-at TellsFrame c.args.lines.now c.loop-line.line-index c.line-item.result _ _ c.loop-line-test.true c.line-item.is
-    c.loop-line.invariant c.in_ok-push_frame.ensures

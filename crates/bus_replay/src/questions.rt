@@ -1,0 +1,89 @@
+//! The lines of an input as questions, and their answers.
+ghost use Rattle.std.specs.Prelude.{◌≡◌, ◌<◌, ◌^◌, length, All, IfOk, OnOk, List, ℕ, Result};
+ghost use Rattle.text_lines.specs.Readings.{Fault, Gives};
+ghost use Rattle.text_lines.specs.Frames.{frames_of, judges_of};
+ghost use Rattle.bus_replay.specs.Texts.{TellsEach, TellsFrame, TellsJudgement};
+ghost use Rattle.bus_replay.specs.Steps.{HasPayload, IsAny, Adds, ReadsLines};
+
+use crate::lines::{push_frame, push_judgement};
+use crate::refusal::Refusal;
+use std::alloc::{AllocError, Global};
+use text_lines::{FrameLine, JudgeLine, ScriptFault, read_frames, read_judges};
+
+/// A kind of line that a command reads, each of which has an answer.
+pub trait Question: Sized + Drop {
+    /// The lines of this kind that an input has, or its first fault.
+    ghost questions_of: { List ℕ → Result (List Self) Fault };
+
+    /// What each line that was read has.
+    ghost is_whole: { Self → Type 0 };
+
+    /// The line is answered by this text.
+    ghost Answers: { Self → List ℕ → Type 0 };
+
+    /// Reads the lines of an input.
+    fn read_lines(alloc: Global, input: &[u8]) -> Result<Vec<Self>, ScriptFault>
+        requires { length input.now < 2 ^ 32 }
+        ensures exact { Gives (questions_of input.now) result }
+        ensures whole { IfOk result (λ lines. All is_whole lines.items) };
+
+    /// Adds the answer of the line, with its line feed.
+    fn push_answer(&self, text: &mut Vec<u8>) -> Result<(), AllocError>
+        requires { is_whole self.now }
+        ensures { OnOk result (Adds text.old.items text.new.items (Answers self.now)) };
+}
+
+impl Question for FrameLine {
+    ghost questions_of = { frames_of };
+
+    ghost is_whole = { HasPayload };
+
+    ghost Answers = { TellsFrame };
+
+    fn read_lines(alloc: Global, input: &[u8]) -> Result<Vec<FrameLine>, ScriptFault> {
+        read_frames(alloc, input)
+    }
+
+    fn push_answer(&self, text: &mut Vec<u8>) -> Result<(), AllocError> {
+        push_frame(text, self)
+    }
+}
+
+impl Question for JudgeLine {
+    ghost questions_of = { judges_of };
+
+    ghost is_whole = { IsAny };
+
+    ghost Answers = { TellsJudgement };
+
+    fn read_lines(alloc: Global, input: &[u8]) -> Result<Vec<JudgeLine>, ScriptFault> {
+        read_judges(alloc, input)
+    }
+
+    fn push_answer(&self, text: &mut Vec<u8>) -> Result<(), AllocError> {
+        push_judgement(text, self)
+    }
+}
+
+/// The lines of an input, or the refusal of the first that isn't of this kind.
+pub fn questions<Q: Question>(alloc: Global, input: &[u8]) -> Result<Vec<Q>, Refusal>
+    requires { length input.now < 2 ^ 32 }
+    ensures { ReadsLines Q.is_whole (Q.questions_of input.now) result }
+{
+    match Q::read_lines(alloc, input) {
+        Ok(lines) => Ok(lines),
+        Err(fault) => Err(Refusal::of_line(alloc, fault)),
+    }
+}
+
+/// The answers of lines, one behind the other.
+pub fn answers<Q: Question>(alloc: Global, lines: &[Q]) -> Result<Vec<u8>, AllocError>
+    requires { All Q.is_whole lines.now }
+    ensures { IfOk result (λ text. TellsEach Q.Answers lines.now text.items) }
+{
+    let mut text = Vec::new(alloc);
+    for line in lines {
+        line.push_answer(&mut text)?;
+    }
+    Ok(text)
+}

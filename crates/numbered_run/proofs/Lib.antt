@@ -1,0 +1,4 @@
+pub mod DrivenLoop
+pub mod PrintedLines
+pub mod PrintedUpToLast
+pub mod CountedLines

@@ -1,0 +1,5 @@
+pub mod Driven
+pub mod DrivenLaws
+pub mod Printed
+pub mod PrintedUntil
+pub mod Counted

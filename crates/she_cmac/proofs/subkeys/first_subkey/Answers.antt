@@ -1,0 +1,8 @@
+use Rattle.std.proofs.Common.{ap, ◌∙◌}
+use Rattle.byte_lists.specs.Numbers.{bytes_of}
+use Rattle.she_cmac.specs.Cmac.{dbl, first_subkey}
+use Rattle.she_cmac.proofs.subkeys.first_subkey.Goals as goal
+
+pub returns : goal.returns
+unfolding first_subkey
+returns c = c.block_of.ensures ∙ ap (bytes_of 16) (c.double.ensures ∙ ap dbl c.encrypted_zero.ensures)
