@@ -8,5 +8,7 @@
 #![tactic(auto)]
 
 mod cell;
+mod slots;
 
 pub use cell::{slot_bytes, slot_in};
+pub use slots::{BadSlot, read_slots};
