@@ -1,6 +1,6 @@
 -- What holds of each node of a run, whether it is up or down
 use Rattle.std.specs.Prelude.{◌≡◌, ℕ, ◌+◌, ◌-◌, ◌^◌, ◌<◌, ◌≤◌, true, None, IfSome, length}
-use Rattle.key_slots.specs.Slots.{slot_at, counter_of, IsSlot}
+use Rattle.key_slots.specs.Slots.{slot_at, counter_of, IsSlot, IsSlots}
 use Rattle.freshness_routes.specs.declared.routes.Direction.TheVariants.{Sends}
 use Rattle.freshness_routes.specs.Config.{IsConfig}
 use Rattle.bus_machine.specs.Node.{Node, Change, slot_to, bound_to, route_at, bound_at, counter_at}
@@ -23,8 +23,7 @@ MovesForward node (bound_to k bound) =
 
 pub record Sound (node : Node) : Type 0 where
   pub config : IsConfig node.config
-  pub fourteen : length node.kept.slots ≡ 14
-  pub are_slots : (t : ℕ) → IsSlot (slot_at node.kept.slots t)
+  pub slots : IsSlots node.kept.slots
   pub bounds : length node.kept.bounds ≡ length node.config.routes
   pub counters : length node.counters ≡ length node.config.routes
   pub in_step : (k : ℕ) → k < length node.config.routes → InStep node k

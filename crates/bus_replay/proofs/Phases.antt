@@ -1,5 +1,5 @@
 -- The two phases of a run, put together.
-use Rattle.std.proofs.Common.{◌≡◌, ℕ, List, [], Some, refl, inl, inr, ap, subst, sym}
+use Rattle.std.proofs.Common.{ℕ, List, [], refl, inl, inr, ap, subst, sym}
 use Rattle.std.specs.Prelude.{Result, Ok, Err}
 use Rattle.bus_port.specs.Source.{SourceState}
 use Rattle.bus_port.specs.Sink.{SinkState, Appended, Appended-nothing}

@@ -1,9 +1,8 @@
 -- The table of answers: what each row prints, its status, and when it comes.
 use Rattle.std.specs.Prelude.{◌≡◌, ℕ, List, [], Some}
 use Rattle.bus_port.specs.Source.{SourceState}
-use Rattle.bus_port.specs.Sink.{SinkState, Appended}
-use Rattle.bus_port.specs.Fault.{Rose}
-use Rattle.bus_port.specs.Whole.{ReadsAll, CameWithin, CameBeyond, AppendedPart}
+use Rattle.bus_port.specs.Sink.{SinkState}
+use Rattle.bus_port.specs.Whole.{ReadsAll, AppendedPart}
 use Rattle.text_lines.specs.Readings.{Fault}
 use Rattle.text_lines.specs.Texts.{fault_text_of}
 use Rattle.command_edge.specs.Input.{input_limit, input_fault_text, NoInput}

@@ -27,3 +27,11 @@ AsksNothing words = (command : Command) → ¬ Asks words command
 -- the words are of a form
 abbrev pub AsksSomething : List (List ℕ) → Type 0
 AsksSomething words = (command : Command) × Asks words command
+
+-- the word that names the script; `-`, standard input, where there are no words or they are of no form
+abbrev pub NamesScript : List (List ℕ) → List ℕ → Type 0
+NamesScript [] script = script ≡ codes "-"
+NamesScript (word ∷ []) script = script ≡ codes "-"
+NamesScript (word ∷ file ∷ []) script =
+    (AsksSomething (word ∷ file ∷ []) → script ≡ file) × (AsksNothing (word ∷ file ∷ []) → script ≡ codes "-")
+NamesScript (word ∷ file ∷ more ∷ words) script = script ≡ codes "-"

@@ -7,11 +7,11 @@ ghost use Rattle.secured_pdu.specs.Verdict.{Accepted};
 ghost use Rattle.bus_replay.specs.Texts.{line as line_of, outcome_text, TellsFrame, TellsJudgement};
 ghost use Rattle.bus_replay.specs.Steps.{HasPayload, Adds};
 
-use text_lines::{FrameLine, JudgeLine};
 use hex::encode_to_slice;
 use secured_pdu::{Judgement, build, judge, split};
 use she_aes::expand;
 use std::alloc::AllocError;
+use text_lines::{FrameLine, JudgeLine};
 
 /// Adds the answer of a line of `frame`.
 pub fn push_frame(text: &mut Vec<u8>, line: &FrameLine) -> Result<(), AllocError>

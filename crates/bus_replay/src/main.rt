@@ -13,47 +13,32 @@ mod run;
 mod tests;
 mod words;
 
-use crate::run::run;
-use bus_port::{StdSink, StdSource};
-use std::alloc::AllocError;
-use std::fs::File;
-use std::io;
-use std::process::ExitCode;
-use std::rt::Env;
+ghost use Rattle.std.specs.Prelude.{◌≡◌, ◌⊎◌, drop, map, string_bytes};
+ghost use Rattle.bus_replay.specs.Words.{AsksNothing};
 
-/// The status for want of memory.
-const NO_MEMORY: u8 = 7;
+use crate::run::run;
+use crate::words::script_word;
+use bus_port::StdSink;
+use command_edge::{NO_MEMORY, behind_name, open_named, words_of};
+use std::alloc::AllocError;
+use std::process::ExitCode;
 
 fn main(rt: HostRuntime) -> ExitCode {
     let status = match words_of(&rt) {
         Ok(words) => start(&rt, words.as_slice()),
-        Err(_) => NO_MEMORY,
+        Err(AllocError) => NO_MEMORY,
     };
     ExitCode::from(status)
 }
 
-/// The words after the program's name. A word that isn't text stands as one that asks for nothing.
-fn words_of<R: Env + AllocGlobal>(rt: &R) -> Result<Vec<String>, AllocError> {
-    match std::env::args(rt) {
-        Ok(words) => words.skip(1).collect(rt.alloc()),
-        Err(error) if error.kind() == io::ErrorKind::OutOfMemory => Err(AllocError),
-        Err(_) => {
-            let mut words = Vec::new(rt.alloc());
-            words.push(String::new(rt.alloc()))?;
-            Ok(words)
-        }
-    }
-}
-
-/// Runs the words over standard output and the source that they name: a file, or standard input for `-` and no words.
-fn start(rt: &HostRuntime, words: &[String]) -> u8 {
-    let alloc = rt.alloc();
+/// Runs the words of the command line, the program's name first, over standard output and the source that they name.
+/// No file is opened before the words are known to ask for a command.
+fn start(rt: &HostRuntime, words: &[String]) -> u8
+    ensures usage { result ≡ 2 → AsksNothing (drop 1 (map string_bytes words.now)) }
+    ensures usage_only { AsksNothing (drop 1 (map string_bytes words.now)) → (result ≡ 2) ⊎ (result ≡ 6) }
+{
+    let words = behind_name(words);
+    let mut script = open_named(rt, rt.stdin(), script_word(words));
     let mut sink = StdSink::new(rt.stdout());
-    match words {
-        [_, file] if file.as_str() != "-" => match File::open(rt, file.as_str()) {
-            Ok(file) => run(alloc, words, &mut StdSource::new(file), &mut sink),
-            Err(_) => run(alloc, words, &mut StdSource::<File>::missing(), &mut sink),
-        },
-        _ => run(alloc, words, &mut StdSource::new(rt.stdin()), &mut sink),
-    }
+    run(rt.alloc(), words, &mut script, &mut sink)
 }

@@ -65,6 +65,41 @@ fn frame_prints_the_secured_pdus(rt: HostRuntime) -> Result<(), Fail> {
 }
 
 #[test]
+fn each_line_has_its_answer(rt: HostRuntime) -> Result<(), Fail> {
+    let frames =
+        "2b7e151628aed2a6abf7158809cf4f3c 6bc1 e93d7e117393172a bee22e409f96\n# none\n2b7e151628aed2a6abf7158809cf4f3c 6bc1 30c81c46a35ce411 bee22e409f96e93d7e117393172aae2d8a571e03ac9c9eb76fac45af8e51\n";
+    let pdus =
+        "bee22e409f962a070a16\nbee22e409f96e93d7e117393172aae2d8a571e03ac9c9eb76fac45af8e5111dfa667\n";
+    let arrivals =
+        "2b7e151628aed2a6abf7158809cf4f3c 6bc1 e93d7e1173931729 bee22e409f962a070a16\n2b7e151628aed2a6abf7158809cf4f3c 6bc1 e93d7e117393172a bee22e409f962a070a16\n";
+    let verdicts = "VERIFICATIONSUCCESS e93d7e117393172a bee22e409f96\nVERIFICATIONFAILURE\n";
+    check(&rt, rt.alloc(), "frame F", frames, 0, pdus)?;
+    check(&rt, rt.alloc(), "judge F", arrivals, 0, verdicts)?;
+    Ok(())
+}
+
+/// 15,196 lines and a comment make 1,048,576 bytes, the most that an input has.
+#[test]
+fn as_many_lines_as_an_input_has_are_answered(rt: HostRuntime) -> Result<(), Fail> {
+    let alloc = rt.alloc();
+    let mut input = Vec::new(alloc);
+    let mut output = Vec::new(alloc);
+    for _ in 0..15196 {
+        input.extend_from_slice(LINE.as_bytes())?;
+        output.extend_from_slice(PDU.as_bytes())?;
+    }
+    for _ in input.len()..1_048_576 {
+        input.push(b'#')?;
+    }
+    let words = words_of(alloc, "frame F")?;
+    let mut script = CleanSource::new(input);
+    let mut sink = MemSink::new(alloc, 1_048_576, Vec::new(alloc), 1_048_576)?;
+    assert_eq!(rt; run(alloc, words.as_slice(), &mut script, &mut sink), 0);
+    assert_eq!(rt; sink.bytes(), output.as_slice());
+    Ok(())
+}
+
+#[test]
 fn judge_prints_the_verdicts(rt: HostRuntime) -> Result<(), Fail> {
     let accepted = "VERIFICATIONSUCCESS e93d7e117393172a bee22e409f96\n";
     for (counter, pdu, output) in [

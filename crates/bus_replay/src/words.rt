@@ -1,6 +1,6 @@
 //! The words of the command line.
 ghost use Rattle.std.specs.Prelude.{map, string_bytes, IfSome, IfNone};
-ghost use Rattle.bus_replay.specs.Words.{Asks, Names, AsksNothing};
+ghost use Rattle.bus_replay.specs.Words.{Asks, Names, AsksNothing, NamesScript};
 ghost use Rattle.bus_replay.specs.declared.words.Command.{Command};
 
 /// What the words ask for.
@@ -33,5 +33,15 @@ fn named(name: &str) -> Option<Command>
         "frame" => Some(Command::Frame),
         "judge" => Some(Command::Judge),
         _ => None,
+    }
+}
+
+/// The word that names the script: `-`, standard input, where there are no words or they are of no form.
+pub fn script_word(words: &[String]) -> &str
+    ensures { NamesScript (map string_bytes words.now) result.now }
+{
+    match words {
+        [name, file] if named(name.as_str()).is_some() => file.as_str(),
+        _ => "-",
     }
 }

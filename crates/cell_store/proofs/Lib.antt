@@ -1,2 +1,15 @@
 pub mod Results
+pub mod LayoutLaws
+pub mod TwinLaws
+pub mod CopiesLaws
+pub mod StoreLaws
+pub mod KeptLaws
+pub mod PutLaws
+pub mod WritingLaws
+pub mod GateLaws
+pub mod ReadingLaws
+pub mod TwinSteps
+pub mod FreshLaws
+pub mod FormatLaws
+pub mod CellsLaws
 pub mod Vectors

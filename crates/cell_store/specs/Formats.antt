@@ -1,21 +1,39 @@
 -- What formatting a disk that tells its bytes leaves of them.
-use Rattle.std.specs.Prelude.{◌≡◌, ℕ, Bool, Option, Some, List}
+use Rattle.std.specs.Prelude.{◌≡◌, ◌⊎◌, ◌+◌, ℕ, Bool, Option, Some, List, length, replicate}
 use Rattle.std.specs.List.{flat_map}
 use Rattle.cut_disk.specs.State.{Told}
-use Rattle.cut_disk.specs.Images.{splice, firm}
-use Rattle.cell_store.specs.declared.kinds.Kind.{Kind}
+use Rattle.cut_disk.specs.Images.{splice, firm, EachImage}
+use Rattle.cell_store.specs.declared.kinds.Version.{Version}
+use Rattle.cell_store.specs.declared.kinds.Layout.{Layout}
+use Rattle.cell_store.specs.Layout.{SameOutside, part, base, from_base}
 use Rattle.cell_store.specs.Twin.{fresh_cell}
-use Rattle.cell_store.specs.Store.{Stands, Fresh}
+use Rattle.cell_store.specs.Store.{Stands, Fresh, SameBesides}
 
 -- the bytes are a fresh store of these cells over those of t, stand for the cells, and none is loose
-pub record FreshOn (kind : Kind) (cells : List (List ℕ)) (t : Told) (new : Option Told) : Type 0 where
+pub record FreshOn (layout : Layout) (cells : List (List ℕ)) (t : Told) (new : Option Told) : Type 0 where
   pub bytes : List ℕ
   pub told : new ≡ Some (firm bytes)
-  pub fresh : Fresh kind cells t.bytes bytes
-  pub stands : Stands kind bytes cells
+  pub fresh : Fresh layout cells t.bytes bytes
+  pub stands : Stands layout bytes cells
 
-abbrev pub Formats : Kind → List (List ℕ) → Option Told → Option Told → Type 0
-Formats kind cells old new = (t : Told) → old ≡ Some t → FreshOn kind cells t new
+abbrev pub Formats : Layout → List (List ℕ) → Option Told → Option Told → Type 0
+Formats layout cells old new = (t : Told) → old ≡ Some t → FreshOn layout cells t new
+
+-- x is a fresh store of these cells over the bytes b, but for its header
+pub record FreshButHeader (layout : Layout) (cells : List (List ℕ)) (b x : List ℕ) : Type 0 where
+  pub whole : List ℕ
+  pub fresh : Fresh layout cells b whole
+  pub same : SameOutside (base layout.version) 32 whole x
+
+-- What a format that failed may leave of the bytes b: before and behind the store they are as they were. Within it
+-- all but the header is as it was, or the header is zero, or all but the header is a fresh store.
+pub record Unformed (layout : Layout) (cells : List (List ℕ)) (b x : List ℕ) : Type 0 where
+  pub besides : SameBesides layout (length cells) b x
+  pub within : SameOutside (base layout.version) 32 b x ⊎ ((part 0 32 (from_base layout.version x) ≡ replicate 32 0) ⊎ FreshButHeader layout cells b x)
+
+-- every image is so, where no byte was loose before
+abbrev pub LeavesUnformed : Layout → List (List ℕ) → Option Told → Option Told → Type 0
+LeavesUnformed layout cells old new = (b : List ℕ) → old ≡ Some (firm b) → EachImage new (Unformed layout cells b)
 
 -- the bytes read as these, loose or not
 pub record ReadsNow (bytes : List ℕ) (new : Option Told) : Type 0 where
@@ -23,9 +41,9 @@ pub record ReadsNow (bytes : List ℕ) (new : Option Told) : Type 0 where
   pub told : new ≡ Some (record { bytes = bytes; loose = loose })
 
 -- the copies of these cells stand behind the place of the header, and all else reads as before
-abbrev pub Pairs : List (List ℕ) → Option Told → Option Told → Type 0
-Pairs cells old new = (t : Told) → old ≡ Some t → ReadsNow (splice 32 (flat_map fresh_cell cells) t.bytes) new
+abbrev pub Pairs : Version → List (List ℕ) → Option Told → Option Told → Type 0
+Pairs version cells old new = (t : Told) → old ≡ Some t → ReadsNow (splice (base version + 32) (flat_map fresh_cell cells) t.bytes) new
 
 -- the same, and no byte is loose
-abbrev pub FirmPairs : List (List ℕ) → Option Told → Option Told → Type 0
-FirmPairs cells old new = (t : Told) → old ≡ Some t → new ≡ Some (firm (splice 32 (flat_map fresh_cell cells) t.bytes))
+abbrev pub FirmPairs : Version → List (List ℕ) → Option Told → Option Told → Type 0
+FirmPairs version cells old new = (t : Told) → old ≡ Some t → new ≡ Some (firm (splice (base version + 32) (flat_map fresh_cell cells) t.bytes))

@@ -1,7 +1,10 @@
--- Where a store has its bytes: the header, and places in a list of bytes.
+-- Where a store has its bytes: the first of them, its header, and places in a list of bytes.
 use Rattle.std.specs.Prelude.{◌≡◌, ℕ, ◌+◌, ◌/◌, ◌%◌, ◌<◌, ◌≤◌, List, ◌∷◌, ◌++◌, length, take, drop, get_or, replicate, codes}
 use Rattle.cell_store.specs.declared.kinds.Kind.{Kind}
 use Rattle.cell_store.specs.declared.kinds.Kind.TheVariants.{Twin, Log}
+use Rattle.cell_store.specs.declared.kinds.Version.{Version}
+use Rattle.cell_store.specs.declared.kinds.Version.TheVariants.{One, Two}
+use Rattle.cell_store.specs.declared.kinds.Layout.{Layout}
 
 -- n of the bytes of x, from a place on
 abbrev pub part : ℕ → ℕ → List ℕ → List ℕ
@@ -13,10 +16,31 @@ pub record SameOutside (at n : ℕ) (x y : List ℕ) : Type 0 where
   pub below : (k : ℕ) → k < at → get_or y k 0 ≡ get_or x k 0
   pub above : (k : ℕ) → at + n ≤ k → get_or y k 0 ≡ get_or x k 0
 
+-- the address of the first byte of a store of this version
+abbrev pub base : Version → ℕ
+base One = 0
+base Two = 32768
+
+-- the bytes of x that a store of this version has: those from its base on
+abbrev pub from_base : Version → List ℕ → List ℕ
+from_base version x = drop (base version) x
+
+-- the kind and the version, as a header has them
 abbrev pub kind_byte : Kind → ℕ
 kind_byte Twin = 1
 kind_byte Log = 2
 
--- "SECOCST1", the kind, the version 1, the number of cells in two bytes, and zeros
-unfoldable pub header : Kind → ℕ → List ℕ
-header kind n = codes "SECOCST1" ++ (kind_byte kind ∷ 1 ∷ n / 256 ∷ n % 256 ∷ replicate 20 0)
+abbrev pub version_byte : Version → ℕ
+version_byte One = 1
+version_byte Two = 2
+
+-- "SECOCST1", the kind, the version, the number of cells in two bytes, and zeros
+unfoldable pub header : Layout → ℕ → List ℕ
+header layout n = codes "SECOCST1" ++ (kind_byte layout.kind ∷ version_byte layout.version ∷ n / 256 ∷ n % 256 ∷ replicate 20 0)
+
+-- the layouts of the two kinds
+abbrev pub twin_layout : Version → Layout
+twin_layout version = record { kind = Twin; version = version }
+
+abbrev pub log_layout : Version → Layout
+log_layout version = record { kind = Log; version = version }

@@ -1,16 +1,22 @@
 -- What reading a store leaves and finds.
-use Rattle.std.specs.Prelude.{◌≡◌, ℕ, ◌+◌, ◌<◌, Option, Some, None, List, [], get_or}
+use Rattle.std.specs.Prelude.{◌≡◌, ℕ, ◌+◌, min, Option, Some, None, [], IsTrue}
 use Rattle.cut_disk.specs.State.{DiskState, Told}
-use Rattle.cut_disk.specs.Calls.{Rose, Runs, Grows, AsBefore}
+use Rattle.cut_disk.specs.Arming.{is_clear}
+use Rattle.cut_disk.specs.Calls.{Rose, Runs, AsBefore}
 use Rattle.cell_store.specs.declared.copies.Held.{Held}
-use Rattle.cell_store.specs.declared.kinds.Kind.{Kind}
-use Rattle.cell_store.specs.declared.kinds.Kind.TheVariants.{Twin}
+use Rattle.cell_store.specs.declared.kinds.Version.{Version}
+use Rattle.cell_store.specs.declared.kinds.Layout.{Layout}
 use Rattle.cell_store.specs.declared.faults.Reread.{Reread}
 use Rattle.cell_store.specs.declared.faults.Reread.TheVariants as reread
+use Rattle.cell_store.specs.Layout.{from_base}
 use Rattle.cell_store.specs.Twin.{cell_at}
 use Rattle.cell_store.specs.Copies.{Keeps}
 use Rattle.cell_store.specs.Store.{HasHeader}
 use Rattle.cell_store.specs.Cells.{RereadFinds}
+
+-- no stop has begun and none is armed
+abbrev pub NoStop : DiskState → Type 0
+NoStop s = IsTrue (is_clear s.arms.stop)
 
 -- a read failed, so that the count of faults rose, and no byte has changed
 pub record ReadFailed (most : ℕ) (old new : DiskState) : Type 0 where
@@ -18,29 +24,36 @@ pub record ReadFailed (most : ℕ) (old new : DiskState) : Type 0 where
   pub told : new.told ≡ old.told
   pub rose : Rose old.faults new.faults
 
--- what so many reads leave where a store isn't read
-abbrev pub Leaves : ℕ → DiskState → DiskState → Reread → Type 0
-Leaves most old new reread.DiskFailed = ReadFailed most old new
-Leaves most old new reread.NotFormatted = AsBefore most old new
-Leaves most old new (reread.Damaged i) = AsBefore most old new
+-- What is left where a store isn't read, by the cause: of all its reads a failing disk allows any number, another
+-- header the first, and what is damaged those up to it.
+abbrev pub Leaves : ℕ → (ℕ → ℕ) → DiskState → DiskState → Reread → Type 0
+Leaves all up_to old new reread.DiskFailed = ReadFailed all old new
+Leaves all up_to old new reread.NotFormatted = AsBefore (min all 1) old new
+Leaves all up_to old new (reread.Damaged i) = AsBefore (min all (up_to i)) old new
+
+-- the reads of a twin store of n cells, and those up to cell i
+abbrev pub twin_reads : ℕ → ℕ
+twin_reads n = 1 + n
+
+abbrev pub twin_reads_to : ℕ → ℕ
+twin_reads_to i = 2 + i
 
 -- what told bytes have, where a store isn't read
-abbrev pub Finds : Kind → ℕ → Option Told → Reread → Type 0
-Finds kind n told fault = (t : Told) → told ≡ Some t → RereadFinds kind n t.bytes fault
+abbrev pub Finds : Layout → ℕ → Option Told → Reread → Type 0
+Finds layout n told fault = (t : Told) → told ≡ Some t → RereadFinds layout n t.bytes fault
 
--- what told bytes have as one cell
-abbrev pub ToldKeeps : Option Told → ℕ → Held → Type 0
-ToldKeeps told i held = (t : Told) → told ≡ Some t → Keeps t.bytes i held
+-- what told bytes have as one cell of a twin store
+abbrev pub ToldKeeps : Version → Option Told → ℕ → Held → Type 0
+ToldKeeps version told i held = (t : Told) → told ≡ Some t → Keeps (from_base version t.bytes) i held
 
 -- a cell isn't read: the disk failed, or told bytes have no copy that counts
-abbrev pub CellFault : ℕ → DiskState → DiskState → Reread → Type 0
-CellFault i old new reread.DiskFailed = ReadFailed 1 old new
-CellFault i old new reread.NotFormatted = ⊥
-CellFault i old new (reread.Damaged j) = (j ≡ i) × AsBefore 1 old new × ((t : Told) → old.told ≡ Some t → cell_at t.bytes i ≡ None)
+abbrev pub CellFault : Version → ℕ → DiskState → DiskState → Reread → Type 0
+CellFault version i old new reread.DiskFailed = ReadFailed 1 old new
+CellFault version i old new reread.NotFormatted = ⊥
+CellFault version i old new (reread.Damaged j) = (j ≡ i) × AsBefore 1 old new × ((t : Told) → old.told ≡ Some t → cell_at (from_base version t.bytes) i ≡ None)
 
--- the header and the first i of n cells are read
-pub record ReadSoFar (n i : ℕ) (held : List Held) (start now : DiskState) : Type 0 where
-  pub as_before : AsBefore (1 + i) start now
-  pub grows : Grows start now
-  pub head : (t : Told) → start.told ≡ Some t → HasHeader Twin n t.bytes
-  pub each : (t : Told) → start.told ≡ Some t → (j : ℕ) (d : Held) → j < i → Keeps t.bytes j (get_or held j d)
+-- the header isn't read: the disk failed, or told bytes have another
+abbrev pub HeaderFault : Layout → ℕ → DiskState → DiskState → Reread → Type 0
+HeaderFault layout n old new reread.DiskFailed = ReadFailed 1 old new
+HeaderFault layout n old new reread.NotFormatted = AsBefore 1 old new × ((t : Told) → old.told ≡ Some t → HasHeader layout n t.bytes → ⊥)
+HeaderFault layout n old new (reread.Damaged i) = ⊥

@@ -1,70 +1,102 @@
--- What the bytes of a disk stand for as a store, and what a put and a format make of them. Each is given by
--- cases of the kind of the store. There is no store of kind Log yet: no bytes stand for one.
-use Rattle.std.specs.Prelude.{◌≡◌, ℕ, ◌<◌, ◌≤◌, ◌≢◌, Option, Some, None, IsSome, List, [], ◌++◌, length, drop, get_or, replicate, if◌then◌else◌}
+-- What the bytes of a disk stand for as a store, and what a put and a format make of them. A store's places count
+-- from its base. There is no store of kind Log yet: no bytes stand for one.
+use Rattle.std.specs.Prelude.{◌≡◌, ℕ, ◌+◌, ◌*◌, ◌<◌, ◌≤◌, ◌≢◌, Option, Some, None, IsSome, List, [], ◌++◌, length, get_or, replicate, if◌then◌else◌}
 use Rattle.std.specs.List.{flat_map}
 use Rattle.cut_disk.specs.Images.{splice}
 use Rattle.cell_store.specs.declared.kinds.Kind.{Kind}
 use Rattle.cell_store.specs.declared.kinds.Kind.TheVariants.{Twin, Log}
+use Rattle.cell_store.specs.declared.kinds.Version.{Version}
+use Rattle.cell_store.specs.declared.kinds.Layout.{Layout}
 use Rattle.cell_store.specs.declared.kinds.Probe.{Probe}
 use Rattle.cell_store.specs.declared.kinds.Probe.TheVariants.{Blank, Foreign, Store}
-use Rattle.cell_store.specs.Layout.{part, header}
-use Rattle.cell_store.specs.Twin.{size_of, first_at, second_at, mark, next, counts, cell_at, live_copy, fresh_cell}
+use Rattle.cell_store.specs.Layout.{SameOutside, part, base, from_base, header, twin_layout}
+use Rattle.cell_store.specs.Twin.{twin_size, first_at, second_at, mark, next, counts, cell_at, live_copy, fresh_cell}
 
 -- a store has 1 to 1024 cells
 pub record FewCells (n : ℕ) : Type 0 where
   pub some : 1 ≤ n
   pub most : n ≤ 1024
 
--- the first 32 bytes are the header of a store of this kind and number of cells
-abbrev pub HasHeader : Kind → ℕ → List ℕ → Type 0
-HasHeader kind n x = part 0 32 x ≡ header kind n
+-- the size in bytes of a store of this kind and n cells, from its base on
+abbrev pub size_from_base : Kind → ℕ → ℕ
+size_from_base Twin n = twin_size n
+size_from_base Log n = 4516 + 64 * n
 
--- x has the header, and the copies that count hold these cells
-pub record TwinStands (x : List ℕ) (cells : List (List ℕ)) : Type 0 where
+-- the size of a disk that just has room for it
+abbrev pub store_size : Layout → ℕ → ℕ
+store_size layout n = base layout.version + size_from_base layout.kind n
+
+-- the 32 bytes from the base on are the header of a store of this layout and number of cells
+abbrev pub HasHeader : Layout → ℕ → List ℕ → Type 0
+HasHeader layout n x = part 0 32 (from_base layout.version x) ≡ header layout n
+
+-- the bytes of a store of this kind hold these cells: for each cell there is a copy that counts
+unfoldable pub Holds : Kind → List ℕ → List (List ℕ) → Type 0
+Holds Twin store cells = (i : ℕ) → i < length cells → cell_at store i ≡ Some (get_or cells i [])
+Holds Log store cells = ⊥
+
+-- the bytes x stand for these cells as a store of this layout
+pub record Stands (layout : Layout) (x : List ℕ) (cells : List (List ℕ)) : Type 0 where
   pub few : FewCells (length cells)
-  pub room : size_of (length cells) ≤ length x
-  pub head : HasHeader Twin (length cells) x
-  pub held : (i : ℕ) → i < length cells → cell_at x i ≡ Some (get_or cells i [])
+  pub room : store_size layout (length cells) ≤ length x
+  pub head : HasHeader layout (length cells) x
+  pub holds : Holds layout.kind (from_base layout.version x) cells
 
--- the bytes x stand for these cells as a store of this kind
-unfoldable pub Stands : Kind → List ℕ → List (List ℕ) → Type 0
-Stands Twin x cells = TwinStands x cells
-Stands Log x cells = ⊥
-
--- of n cells this one is damaged, and none before it
-pub record TwinDamaged (x : List ℕ) (n i : ℕ) : Type 0 where
+-- of n cells of the twin store this one is damaged, and none before it
+pub record TwinDamaged (store : List ℕ) (n i : ℕ) : Type 0 where
   pub below : i < n
-  pub damaged : cell_at x i ≡ None
-  pub before : (j : ℕ) → j < i → IsSome (cell_at x j)
+  pub damaged : cell_at store i ≡ None
+  pub before : (j : ℕ) → j < i → IsSome (cell_at store j)
 
-unfoldable pub FirstDamaged : Kind → List ℕ → ℕ → ℕ → Type 0
-FirstDamaged Twin x n i = TwinDamaged x n i
-FirstDamaged Log x n i = ⊥
+-- what is damaged first in the bytes of a store of this kind and n cells
+unfoldable pub IsDamaged : Kind → List ℕ → ℕ → ℕ → Type 0
+IsDamaged Twin store n i = TwinDamaged store n i
+IsDamaged Log store n i = ⊥
 
--- the header and all copies of a fresh store
-unfoldable pub fresh_twin : List (List ℕ) → List ℕ
-fresh_twin cells = header Twin (length cells) ++ flat_map fresh_cell cells
+abbrev pub FirstDamaged : Layout → List ℕ → ℕ → ℕ → Type 0
+FirstDamaged layout x n i = IsDamaged layout.kind (from_base layout.version x) n i
 
--- y is x with a fresh store of these cells at its front
-unfoldable pub Fresh : Kind → List (List ℕ) → List ℕ → List ℕ → Type 0
-Fresh Twin cells x y = y ≡ fresh_twin cells ++ drop (size_of (length cells)) x
-Fresh Log cells x y = ⊥
+-- what stands behind the header of a fresh store
+unfoldable pub fresh_cells : Kind → List (List ℕ) → List ℕ
+fresh_cells Twin cells = flat_map fresh_cell cells
+fresh_cells Log cells = []
+
+-- the bytes of a fresh store
+abbrev pub fresh_store : Layout → List (List ℕ) → List ℕ
+fresh_store layout cells = header layout (length cells) ++ fresh_cells layout.kind cells
+
+-- y is x with the store's range replaced by a fresh store of these cells
+unfoldable pub Fresh : Layout → List (List ℕ) → List ℕ → List ℕ → Type 0
+Fresh layout cells x y = y ≡ splice (base layout.version) (fresh_store layout cells) x
+
+-- x and y are the same but for the range of a store of n cells
+abbrev pub SameBesides : Layout → ℕ → List ℕ → List ℕ → Type 0
+SameBesides layout n x y = SameOutside (base layout.version) (size_from_base layout.kind n) x y
 
 -- x, except that the copy of cell i that doesn't count holds the next mark and c; none where the cell is damaged
-unfoldable pub twin_put : List ℕ → ℕ → List ℕ → Option (List ℕ)
-twin_put x i c =
-    let first = part (first_at i) 34 x in
-    let second = part (second_at i) 34 x in
-    if counts first second then Some (splice (second_at i) (live_copy (next (mark first)) c) x) else
-    if counts second first then Some (splice (first_at i) (live_copy (next (mark second)) c) x) else None
+unfoldable pub twin_put : Version → List ℕ → ℕ → List ℕ → Option (List ℕ)
+twin_put version x i c =
+    let first = part (first_at i) 34 (from_base version x) in
+    let second = part (second_at i) 34 (from_base version x) in
+    if counts first second then Some (splice (base version + second_at i) (live_copy (next (mark first)) c) x) else
+    if counts second first then Some (splice (base version + first_at i) (live_copy (next (mark second)) c) x) else None
+
+unfoldable pub PutsAs : Kind → Version → List ℕ → ℕ → List ℕ → List ℕ → Type 0
+PutsAs Twin version x i c y = twin_put version x i c ≡ Some y
+PutsAs Log version x i c y = ⊥
 
 -- y comes from x by a finished put of c at cell i
-unfoldable pub Put : Kind → List ℕ → ℕ → List ℕ → List ℕ → Type 0
-Put Twin x i c y = twin_put x i c ≡ Some y
-Put Log x i c y = ⊥
+abbrev pub Put : Layout → List ℕ → ℕ → List ℕ → List ℕ → Type 0
+Put layout x i c y = PutsAs layout.kind layout.version x i c y
 
--- what the first 32 bytes of a disk are
-abbrev pub Probes : List ℕ → Probe → Type 0
-Probes head Blank = head ≡ replicate 32 0
-Probes head Foreign = (head ≢ replicate 32 0) × ((n : ℕ) → FewCells n → head ≢ header Twin n)
-Probes head (Store kind n) = (kind ≡ Twin) × FewCells n × (head ≡ header kind n)
+-- what the 32 bytes at the base of a store of this version are
+abbrev pub Probes : Version → List ℕ → Probe → Type 0
+Probes version head Blank = head ≡ replicate 32 0
+Probes version head Foreign = (head ≢ replicate 32 0) × ((n : ℕ) → FewCells n → head ≢ header (twin_layout version) n)
+Probes version head (Store kind n) = (kind ≡ Twin) × FewCells n × (head ≡ header (record { kind = kind; version = version }) n)
+
+-- a store that was found has 1 to 1024 cells
+abbrev pub FindsFew : Probe → Type 0
+FindsFew Blank = Unit {0}
+FindsFew Foreign = Unit {0}
+FindsFew (Store kind n) = (kind ≡ Twin) × FewCells n

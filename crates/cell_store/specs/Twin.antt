@@ -1,11 +1,12 @@
 -- The twin store: behind the header each cell has two copies of 34 bytes, of which one counts.
 -- A copy is a gate, a mark from 0 to 2, and 32 bytes of payload. It is live where its gate is a7.
+-- All places count from the first byte of the list.
 use Rattle.std.specs.Prelude.{ℕ, ◌+◌, ◌*◌, ◌%◌, Bool, not, ◌&&◌, ◌||◌, ◌==◌, nat_lt, if◌then◌else◌, Option, Some, None, List, ◌∷◌, ◌++◌, drop, get_or}
 use Rattle.cell_store.specs.Layout.{part}
 
--- the size in bytes of a store of n cells
-abbrev pub size_of : ℕ → ℕ
-size_of n = 32 + 68 * n
+-- the size in bytes of a store of n cells, from its base on
+abbrev pub twin_size : ℕ → ℕ
+twin_size n = 32 + 68 * n
 
 abbrev pub first_at : ℕ → ℕ
 first_at i = 32 + 68 * i

@@ -2,10 +2,10 @@
 ghost use Rattle.std.specs.Prelude.{◌≡◌, ◌+◌, ◌<◌, ◌≤◌, ℕ, List, [], ◌∷◌, length, slice_index_or, slice_set, true, false, Some, OnOk, OnErr, IfErr, IsErrOf};
 ghost use Rattle.cut_disk.specs.State.{Told, Cut, Stop, Fail};
 ghost use Rattle.cut_disk.specs.Arming.{with_stop, with_fail};
-ghost use Rattle.cut_disk.specs.Images.{Image, EachImage, CutsTo};
+ghost use Rattle.cut_disk.specs.Images.{EachImage, CutsTo};
 ghost use Rattle.cut_disk.specs.Calls.{Rose, Runs, Grows};
-ghost use Rattle.cell_store.specs.Store.{Stands};
-ghost use Rattle.cell_store.specs.Cells.{CellsState, Settled, PutDone, StandsForEither, RereadFinds, RereadCause, StandsNow, EachImageStands};
+ghost use Rattle.cell_store.specs.Reading.{NoStop};
+ghost use Rattle.cell_store.specs.Cells.{CellsState, Settled, TellsCells, PutDone, LeavesBesides, StandsForEither, RereadCause, StandsNow, EachImageStands};
 
 use crate::faults::{PutFailed, Reread};
 use cut_disk::{Disk, Torn};
@@ -28,17 +28,20 @@ pub trait Cells {
         ensures { out.new ≡ slice_index_or (state self.now).cells cell [] };
 
     /// Replaces a cell. Where that fails, the store is broken until its power is cut, and the cell
-    /// on the disk is the old one or the new one, whatever a power cut leaves.
+    /// on the disk is the old one or the new one, whatever a power cut leaves. The bytes before and
+    /// behind the store stay as they are.
     fn put(&mut self, cell: u16, bytes: &[u8; 32]) -> Result<(), PutFailed>
         requires cell { cell < length (state self.old).cells }
         requires whole { (state self.old).broken ≡ false }
-        ensures kind { (state self.new).kind ≡ (state self.old).kind }
+        ensures layout { (state self.new).layout ≡ (state self.old).layout }
         ensures runs { Runs [] 6 (state self.old).disk (state self.new).disk }
+        ensures besides { LeavesBesides (state self.old) (state self.new).disk.told }
+        ensures faults { OnOk result ((state self.new).disk.faults ≡ (state self.old).disk.faults) }
         ensures cells { OnOk result ((state self.new).cells ≡ slice_set
             (state self.old).cells cell bytes.now) }
         ensures whole { OnOk result ((state self.new).broken ≡ false) }
-        ensures settled { OnOk result (Settled (state self.old) → Settled (state self.new)) }
-        ensures done { OnOk result (Settled (state self.old) → PutDone cell bytes.now
+        ensures settled { OnOk result (TellsCells (state self.old) → Settled (state self.new)) }
+        ensures done { OnOk result (TellsCells (state self.old) → PutDone cell bytes.now
             (state self.old) (state self.new)) }
         ensures failed { OnErr result (Rose (state self.old).disk.faults
             (state self.new).disk.faults) }
@@ -54,17 +57,20 @@ pub trait Cells {
 
 /// A store on a disk whose power can be cut.
 pub trait CutCells: Cells {
-    /// Cuts the power of the disk, and reads everything anew from it, into room that is there
-    /// already: the header in one call, and each cell in one call. Where that fails, the store is
-    /// broken and its list is as before. Errors, in the order of reading: `DiskFailed`,
-    /// `NotFormatted` and `Damaged` with the first such cell.
+    /// Cuts the power of the disk, and reads everything anew from it, the header first, into room
+    /// that is there already. It ends a stop and what `stop_at` armed, whatever it answers. Where it
+    /// fails, the store is broken and its list is as before. Errors, in the order of reading:
+    /// `DiskFailed`, `NotFormatted`, and `Damaged` with the first damage.
     fn power_cut(&mut self, torn: Torn) -> Result<(), Reread>
-        ensures kind { (Self.state self.new).kind ≡ (Self.state self.old).kind }
+        ensures layout { (Self.state self.new).layout ≡ (Self.state self.old).layout }
         ensures count { length (Self.state self.new).cells ≡ length (Self.state self.old).cells }
         ensures runs { Runs (Cut torn ∷ []) (68 + length (Self.state self.old).cells)
             (Self.state self.old).disk (Self.state self.new).disk }
         ensures grows { OnOk result (Grows (Self.state self.old).disk (Self.state self.new).disk) }
         ensures left { CutsTo (Self.state self.old).disk.told (Self.state self.new).disk.told }
+        ensures stops { NoStop (Self.state self.new).disk }
+        ensures faults { OnOk result ((Self.state self.new).disk.faults
+            ≡ (Self.state self.old).disk.faults) }
         ensures whole { OnOk result ((Self.state self.new).broken ≡ false) }
         ensures stands { OnOk result (StandsNow (Self.state self.new)) }
         ensures settled { OnOk result ((t : Told) → (Self.state self.old).disk.told ≡ Some t
@@ -72,6 +78,8 @@ pub trait CutCells: Cells {
         ensures kept { OnErr result ((Self.state self.new).cells ≡ (Self.state self.old).cells) }
         ensures broken { OnErr result ((Self.state self.new).broken ≡ true) }
         ensures cause { IfErr result (RereadCause (Self.state self.old) (Self.state self.new)) }
+        ensures first { IfErr result (λ fault. fault ≡ Reread.NotFormatted → Runs (Cut torn ∷ []) 2
+            (Self.state self.old).disk (Self.state self.new).disk) }
         ensures never { EachImageStands (Self.state self.old) → IfErr result
             (λ fault. fault ≡ Reread.DiskFailed) };
 
@@ -79,13 +87,13 @@ pub trait CutCells: Cells {
     /// the power is cut.
     fn stop_at(&mut self, calls: u64)
         requires { 1 ≤ calls }
-        ensures kind { (Self.state self.new).kind ≡ (Self.state self.old).kind }
+        ensures layout { (Self.state self.new).layout ≡ (Self.state self.old).layout }
         ensures cells { (Self.state self.new).cells ≡ (Self.state self.old).cells }
         ensures broken { (Self.state self.new).broken ≡ (Self.state self.old).broken }
         ensures runs { Runs (Stop calls ∷ []) 1 (Self.state self.old).disk
             (Self.state self.new).disk }
         ensures told { (Self.state self.new).disk.told ≡ (Self.state self.old).disk.told }
-        ensures count { (Self.state self.new).disk.faults ≡ (Self.state self.old).disk.faults }
+        ensures faults { (Self.state self.new).disk.faults ≡ (Self.state self.old).disk.faults }
         ensures arms { (Self.state self.new).disk.arms ≡ with_stop calls
             (Self.state self.old).disk.arms }
         ensures loud { (Self.state self.new).disk.quiet ≡ false };
@@ -93,13 +101,13 @@ pub trait CutCells: Cells {
     /// Passes on to the disk: the call of this number fails.
     fn fail_at(&mut self, calls: u64)
         requires { 1 ≤ calls }
-        ensures kind { (Self.state self.new).kind ≡ (Self.state self.old).kind }
+        ensures layout { (Self.state self.new).layout ≡ (Self.state self.old).layout }
         ensures cells { (Self.state self.new).cells ≡ (Self.state self.old).cells }
         ensures broken { (Self.state self.new).broken ≡ (Self.state self.old).broken }
         ensures runs { Runs (Fail calls ∷ []) 1 (Self.state self.old).disk
             (Self.state self.new).disk }
         ensures told { (Self.state self.new).disk.told ≡ (Self.state self.old).disk.told }
-        ensures count { (Self.state self.new).disk.faults ≡ (Self.state self.old).disk.faults }
+        ensures faults { (Self.state self.new).disk.faults ≡ (Self.state self.old).disk.faults }
         ensures arms { (Self.state self.new).disk.arms ≡ with_fail calls
             (Self.state self.old).disk.arms }
         ensures loud { (Self.state self.new).disk.quiet ≡ false };

@@ -9,9 +9,9 @@ use cut_disk::DiskFailed;
 pub enum StoreFault {
     /// A call of the disk failed.
     DiskFailed,
-    /// The first 32 bytes aren't the header of a store of this kind and number of cells.
+    /// The 32 bytes at the base aren't the header of a store of this layout and number of cells.
     NotFormatted,
-    /// The first cell that is damaged: it has no copy that counts.
+    /// The number of what is damaged first, in the order of reading.
     Damaged(u16),
     /// The disk has fewer bytes than are needed.
     TooSmall,
@@ -24,9 +24,9 @@ pub enum StoreFault {
 pub enum Reread {
     /// A call of the disk failed.
     DiskFailed,
-    /// The first 32 bytes aren't the header of a store of this kind and number of cells.
+    /// The 32 bytes at the base aren't the header of a store of this layout and number of cells.
     NotFormatted,
-    /// The first cell that is damaged: it has no copy that counts.
+    /// The number of what is damaged first, in the order of reading.
     Damaged(u16),
 }
 

@@ -1,12 +1,12 @@
-// A look at the first bytes of a disk.
+// A look at the 32 bytes at a store's base.
 ghost use Rattle.std.specs.Prelude.{◌≡◌, ◌↔◌, IsTrue, replicate, IfOk, IfErr};
-ghost use Rattle.cell_store.specs.declared.kinds.Kind.TheVariants.{Twin};
-ghost use Rattle.cell_store.specs.Layout.{header};
-ghost use Rattle.cell_store.specs.Store.{FewCells, Probes};
+ghost use Rattle.cell_store.specs.declared.kinds.Version.TheVariants.{One};
+ghost use Rattle.cell_store.specs.Layout.{header, twin_layout};
+ghost use Rattle.cell_store.specs.Store.{FewCells, Probes, FindsFew};
 ghost use Rattle.cell_store.specs.Attaching.{Probed, NotProbed};
 
 use crate::faults::StoreFault;
-use crate::kinds::{Kind, Probe};
+use crate::kinds::{Kind, Layout, Probe, Version};
 use crate::layout::{HEADER, is_header};
 use cut_disk::Disk;
 
@@ -14,27 +14,37 @@ use cut_disk::Disk;
 /// of another version than 1, or of a number of cells that isn't 1 to 1024 is `Foreign`. Errors:
 /// `TooSmall` for a disk of less than 32 bytes, and `DiskFailed`.
 pub fn probe<D: Disk>(disk: &mut D) -> Result<Probe, StoreFault>
-    ensures probed { IfOk result (Probed (D.state disk.old) (D.state disk.new)) }
-    ensures refused { IfErr result (NotProbed (D.state disk.old) (D.state disk.new)) }
+    ensures probed { IfOk result (Probed One (D.state disk.old) (D.state disk.new)) }
+    ensures refused { IfErr result (NotProbed One (D.state disk.old) (D.state disk.new)) }
 {
-    if disk.size() < 32 {
+    probe_as(disk, Version::One)
+}
+
+/// The same of the 32 bytes at the base of this version.
+pub fn probe_as<D: Disk>(disk: &mut D, version: Version) -> Result<Probe, StoreFault>
+    ensures probed { IfOk result (Probed version (D.state disk.old) (D.state disk.new)) }
+    ensures refused { IfErr result (NotProbed version (D.state disk.old) (D.state disk.new)) }
+{
+    let base = version.base();
+    if disk.size() < base + 32 {
         return Err(StoreFault::TooSmall);
     }
     let mut bytes = [0; HEADER];
-    match disk.read(0, &mut bytes) {
-        Ok(()) => Ok(probe_of(&bytes)),
+    match disk.read(base, &mut bytes) {
+        Ok(()) => Ok(probe_of(version, &bytes)),
         Err(_) => Err(StoreFault::DiskFailed),
     }
 }
 
-fn probe_of(bytes: &[u8; 32]) -> Probe
-    ensures { Probes bytes.now result }
+fn probe_of(version: Version, bytes: &[u8; 32]) -> Probe
+    ensures few { FindsFew result }
+    ensures is { Probes version bytes.now result }
 {
     if is_blank(bytes) {
         return Probe::Blank;
     }
     let cells = 256 * u16::from(bytes[10]) + u16::from(bytes[11]);
-    if is_store(bytes, cells) {
+    if is_store(version, bytes, cells) {
         Probe::Store {
             kind: Kind::Twin,
             cells,
@@ -44,13 +54,17 @@ fn probe_of(bytes: &[u8; 32]) -> Probe
     }
 }
 
-fn is_store(bytes: &[u8; 32], cells: u16) -> bool
-    ensures { IsTrue result ↔ (FewCells cells × (bytes.now ≡ header Twin cells)) }
+fn is_store(version: Version, bytes: &[u8; 32], cells: u16) -> bool
+    ensures { IsTrue result ↔ (FewCells cells × (bytes.now ≡ header (twin_layout version) cells)) }
 {
     if cells < 1 || cells > 1024 {
         return false;
     }
-    is_header(bytes, cells)
+    let layout = Layout {
+        kind: Kind::Twin,
+        version,
+    };
+    is_header(bytes, layout, cells)
 }
 
 fn is_blank(bytes: &[u8; 32]) -> bool

@@ -10,10 +10,18 @@ const ZEROS: [u8; 32] = [0; 32];
 
 const ELEVENS: [u8; 32] = [0x11; 32];
 
+const VERSIONS: [Version; 2] = [Version::One, Version::Two];
+
 /// The header of a store of one cell, and its two copies when it is fresh.
-fn fresh_bytes() -> [u8; 100] {
+fn fresh_bytes(version: Version) -> [u8; 100] {
     let mut bytes = [0; 100];
-    let head = [0x53, 0x45, 0x43, 0x4f, 0x43, 0x53, 0x54, 0x31, 1, 1, 0, 1];
+    let number = match version {
+        Version::One => 1,
+        Version::Two => 2,
+    };
+    let head = [
+        0x53, 0x45, 0x43, 0x4f, 0x43, 0x53, 0x54, 0x31, 1, number, 0, 1,
+    ];
     bytes[..12].copy_from_slice(&head);
     bytes[32] = 0xa7;
     bytes[66] = 0xa7;
@@ -21,32 +29,37 @@ fn fresh_bytes() -> [u8; 100] {
     bytes
 }
 
-fn bytes_of(disk: &mut MemDisk) -> Result<[u8; 100], Fail> {
+/// The 100 bytes at the base.
+fn bytes_of(disk: &mut MemDisk, version: Version) -> Result<[u8; 100], Fail> {
     let mut out = [0; 100];
-    if disk.size() < 100 {
+    if disk.size() < version.base() + 100 {
         return Err(Fail::from("the disk is too small"));
     }
-    disk.read(0, &mut out)?;
+    disk.read(version.base(), &mut out)?;
     Ok(out)
 }
 
-/// A fresh store of one cell of zeros on a disk of 100 bytes.
-fn fresh_store(alloc: Global) -> Result<TwinCells<MemDisk>, Fail>
+/// A fresh store of one cell of zeros on a disk that just has room for it.
+fn fresh_store(alloc: Global, version: Version) -> Result<TwinCells<MemDisk>, Fail>
     ensures count { IfOk result (λ s. length s.cells ≡ 1) }
     ensures whole { IfOk result (λ s. s.broken ≡ false) }
 {
-    let disk = MemDisk::new(alloc, 100)?;
-    let disk = match TwinCells::format(disk, &[ZEROS]) {
+    let size = match version {
+        Version::One => 100,
+        Version::Two => 32868,
+    };
+    let disk = MemDisk::new(alloc, size)?;
+    let disk = match TwinCells::format_as(disk, version, &[ZEROS]) {
         Ok(disk) => disk,
         Err(refused) => return Err(Fail::from(refused.fault)),
     };
-    match TwinCells::attach(alloc, disk, 1) {
+    match TwinCells::attach_as(alloc, disk, version, 1) {
         Ok(store) => Ok(store),
         Err(refused) => Err(Fail::from(refused.fault)),
     }
 }
 
-/// Puts elevens into cell 0 of a store whose disk stops at this call, and cuts the power: whether
+/// PutsAs elevens into cell 0 of a store whose disk stops at this call, and cuts the power: whether
 /// the put was done, and the cell that is read then.
 fn put_and_cut<C: CutCells>(store: &mut C, calls: u64, torn: Torn) -> Result<(bool, [u8; 32]), Fail>
     requires calls { 1 ≤ calls }
@@ -64,22 +77,55 @@ fn put_and_cut<C: CutCells>(store: &mut C, calls: u64, torn: Torn) -> Result<(bo
 #[test]
 fn a_store_is_formatted_and_a_cell_is_put(rt: HostRuntime) -> Result<(), Fail> {
     let alloc = rt.alloc();
-    let mut store = fresh_store(alloc)?;
-    assert_eq!(rt; store.count(), 1);
-    let put = store.put(0, &ELEVENS);
-    assert!(rt; put.is_ok());
-    let mut disk = store.release();
-    let mut expected = fresh_bytes();
-    expected[67] = 1;
-    expected[68..].copy_from_slice(&ELEVENS);
-    assert_eq!(rt; bytes_of(&mut disk)?.as_slice(), expected.as_slice());
+    for version in &VERSIONS {
+        let mut store = fresh_store(alloc, *version)?;
+        assert_eq!(rt; store.count(), 1);
+        let put = store.put(0, &ELEVENS);
+        assert!(rt; put.is_ok());
+        let mut disk = store.release();
+        let mut expected = fresh_bytes(*version);
+        expected[67] = 1;
+        expected[68..].copy_from_slice(&ELEVENS);
+        assert_eq!(rt;
+            bytes_of(&mut disk, *version)?.as_slice(),
+            expected.as_slice()
+        );
+    }
     Ok(())
 }
 
 #[test]
 fn a_fresh_store_has_these_bytes(rt: HostRuntime) -> Result<(), Fail> {
-    let mut disk = fresh_store(rt.alloc())?.release();
-    assert_eq!(rt; bytes_of(&mut disk)?.as_slice(), fresh_bytes().as_slice());
+    for version in &VERSIONS {
+        let mut disk = fresh_store(rt.alloc(), *version)?.release();
+        assert_eq!(rt;
+            bytes_of(&mut disk, *version)?.as_slice(),
+            fresh_bytes(*version).as_slice()
+        );
+    }
+    Ok(())
+}
+
+#[test]
+fn a_store_has_up_to_1024_cells(rt: HostRuntime) -> Result<(), Fail> {
+    let alloc = rt.alloc();
+    let cells = vec![in alloc; ZEROS; 1024]?;
+    let disk = MemDisk::new(alloc, 69664)?;
+    let disk = match TwinCells::format(disk, &cells) {
+        Ok(disk) => disk,
+        Err(refused) => return Err(Fail::from(refused.fault)),
+    };
+    let mut store = match TwinCells::attach(alloc, disk, 1024) {
+        Ok(store) => store,
+        Err(refused) => return Err(Fail::from(refused.fault)),
+    };
+    assert!(rt; store.put(1023, &ELEVENS).is_ok());
+    store.power_cut(Torn::Old)?;
+    let mut cell = [0x5a; 32];
+    store.get(1023, &mut cell);
+    assert_eq!(rt; cell, ELEVENS);
+    store.get(1022, &mut cell);
+    assert_eq!(rt; cell, ZEROS);
     Ok(())
 }
 
@@ -101,7 +147,7 @@ fn a_smaller_disk_is_too_small(rt: HostRuntime) -> Result<(), Fail> {
 
 /// Attaches the fresh bytes with two of them changed.
 fn attach_damaged(alloc: Global, changes: &[(usize, u8); 2]) -> Result<Option<StoreFault>, Fail> {
-    let mut bytes = fresh_bytes();
+    let mut bytes = fresh_bytes(Version::One);
     for (place, byte) in changes {
         if *place < 100 {
             bytes[*place] = *byte;
@@ -144,7 +190,7 @@ fn a_put_is_whole_or_absent_after_a_cut(rt: HostRuntime) -> Result<(), Fail> {
     for (stop, row) in rows.iter().enumerate() {
         let calls = stop as u64 + 1;
         for (torn, is_new) in torn.iter().zip(row) {
-            let mut store = fresh_store(rt.alloc())?;
+            let mut store = fresh_store(rt.alloc(), Version::One)?;
             let (done, cell) = put_and_cut(&mut store, calls, *torn)?;
             assert_eq!(rt; done, calls == 7);
             assert_eq!(rt; cell, if *is_new { ELEVENS } else { ZEROS });
@@ -160,7 +206,7 @@ fn the_first_bytes_are_probed(rt: HostRuntime) -> Result<(), Fail> {
     assert_eq!(rt; probe(&mut disk), Ok(Probe::Blank));
     let mut disk = MemDisk::new(alloc, 31)?;
     assert_eq!(rt; probe(&mut disk), Err(StoreFault::TooSmall));
-    let mut bytes = fresh_bytes();
+    let mut bytes = fresh_bytes(Version::One);
     let mut disk = MemDisk::of(alloc, &bytes)?;
     let found = Probe::Store {
         kind: Kind::Twin,
@@ -172,12 +218,20 @@ fn the_first_bytes_are_probed(rt: HostRuntime) -> Result<(), Fail> {
     assert_eq!(rt; probe(&mut disk), Ok(Probe::Foreign));
     disk.stop_at(1);
     assert_eq!(rt; probe(&mut disk), Err(StoreFault::DiskFailed));
+    let mut disk = fresh_store(alloc, Version::Two)?.release();
+    assert_eq!(rt; probe(&mut disk), Ok(Probe::Blank));
+    assert_eq!(rt; probe_as(&mut disk, Version::Two), Ok(found));
+    let mut disk = MemDisk::new(alloc, 32799)?;
+    assert_eq!(rt;
+        probe_as(&mut disk, Version::Two),
+        Err(StoreFault::TooSmall)
+    );
     Ok(())
 }
 
 #[test]
 fn a_call_that_fails_once_is_told(rt: HostRuntime) -> Result<(), Fail> {
-    let mut store = fresh_store(rt.alloc())?;
+    let mut store = fresh_store(rt.alloc(), Version::One)?;
     store.fail_at(2);
     assert_eq!(rt; store.power_cut(Torn::Keep), Err(Reread::DiskFailed));
     assert_eq!(rt; store.power_cut(Torn::Keep), Ok(()));

@@ -1,17 +1,19 @@
 // The twin store: two copies of each cell, of which one counts.
 ghost use Rattle.std.specs.Prelude.{◌≡◌, ◌+◌, ◌≤◌, [], length, OnOk, IfOk, IfErr};
 ghost use Rattle.cut_disk.specs.Calls.{Runs, Grows};
-ghost use Rattle.cell_store.specs.declared.kinds.Kind.TheVariants.{Twin};
-ghost use Rattle.cell_store.specs.Twin.{size_of};
-ghost use Rattle.cell_store.specs.Store.{FewCells};
+ghost use Rattle.cell_store.specs.declared.kinds.Version.TheVariants.{One};
+ghost use Rattle.cell_store.specs.Layout.{twin_layout};
+ghost use Rattle.cell_store.specs.Store.{FewCells, store_size};
+ghost use Rattle.cell_store.specs.Reading.{twin_reads, twin_reads_to};
 ghost use Rattle.cell_store.specs.Attaching.{Attached, NotAttached, NotFormed};
-ghost use Rattle.cell_store.specs.Formats.{Formats};
+ghost use Rattle.cell_store.specs.Formats.{Formats, LeavesUnformed};
 
 use crate::cells::{Cells, CutCells};
 use crate::copies::{Held, next};
 use crate::faults::{PutFailed, Refused, Reread, StoreFault};
 use crate::formatting::write_store;
-use crate::layout::{copy_address, twin_size};
+use crate::kinds::Version;
+use crate::layout::{copy_place, twin_size};
 use crate::reading::read_store;
 use crate::writing::write_copy;
 use cut_disk::{CutDisk, Disk, Torn};
@@ -19,11 +21,12 @@ use std::alloc::{AllocError, Global};
 use std::marker::Model;
 use std::mem;
 
-/// A twin store on a disk. It takes `twin_size` bytes from 0 on; the bytes behind them stay as they
-/// are.
+/// A twin store on a disk. It takes `twin_size` bytes from the base of its version on; the bytes
+/// before and behind them stay as they are.
 #[derive(Drop)]
 pub struct TwinCells<D: Disk> {
     disk: D,
+    version: Version,
     held: Vec<Held>,
     /// Room of the same length, into which cells are read anew after a power cut.
     reread: Vec<Held>,
@@ -39,9 +42,10 @@ impl<D: Disk> Model for TwinCells<D> {
 
     ghost use Rattle.cell_store.specs.TwinStore.{twin_state, IsTwinStore};
 
-    ghost view = { λ a. twin_state (D.state a.disk) a.held.items a.broken };
+    ghost view = { λ a. twin_state a.version (D.state a.disk) a.held.items a.broken };
 
-    ghost invariant = { λ a. IsTwinStore (D.state a.disk) a.held.items (length a.reread.items) a.broken };
+    ghost invariant = { λ a. IsTwinStore a.version (D.state a.disk) a.held.items
+        (length a.reread.items) a.broken };
 }
 
 /// Twice the room for so many cells.
@@ -54,27 +58,51 @@ fn room_for(alloc: Global, cells: usize) -> Result<(Vec<Held>, Vec<Held>), Alloc
 }
 
 impl<D: Disk> TwinCells<D> {
-    /// Formats the disk as a store of these cells, 1 to 1024. The bytes behind the store stay as
-    /// they are. Errors: `TooSmall` and `DiskFailed`. After `DiskFailed` the bytes of the store may
-    /// be anything.
-    pub fn format(mut disk: D, cells: &[[u8; 32]]) -> Result<D, Refused<D>>
+    /// Formats the disk as a store of version 1 of these cells, 1 to 1024, as `format_as` does.
+    pub fn format(disk: D, cells: &[[u8; 32]]) -> Result<D, Refused<D>>
         requires { FewCells (length cells.now) }
-        ensures room { OnOk result (size_of (length cells.now) ≤ (D.state disk).size) }
+        ensures room { OnOk result (store_size (twin_layout One) (length cells.now)
+            ≤ (D.state disk).size) }
         ensures runs { IfOk result (λ d. Runs [] (5 + length cells.now) (D.state disk)
             (D.state d)) }
         ensures grows { IfOk result (λ d. Grows (D.state disk) (D.state d)) }
-        ensures fresh { IfOk result (λ d. Formats Twin cells.now (D.state disk).told
+        ensures faults { IfOk result (λ d. (D.state d).faults ≡ (D.state disk).faults) }
+        ensures fresh { IfOk result (λ d. Formats (twin_layout One) cells.now (D.state disk).told
             (D.state d).told) }
-        ensures refused { IfErr result (λ r. NotFormed (size_of (length cells.now)) (length cells.now)
-            (D.state disk) (D.state r.disk) r.fault) }
+        ensures refused { IfErr result (λ r. NotFormed (twin_layout One) (5 + length cells.now)
+            (length cells.now) (D.state disk) (D.state r.disk) r.fault) }
+        ensures unformed { IfErr result (λ r. r.fault ≡ StoreFault.DiskFailed → LeavesUnformed
+            (twin_layout One) cells.now (D.state disk).told (D.state r.disk).told) }
     {
-        if disk.size() < twin_size(cells.len() as u16) {
+        TwinCells::format_as(disk, Version::One, cells)
+    }
+
+    /// Formats the disk as a store of this version of these cells, 1 to 1024. The bytes before and
+    /// behind the store stay as they are. Errors: `TooSmall` and `DiskFailed`. After `DiskFailed`
+    /// the bytes of the store are as they were but for the header, or the header is zero, or all
+    /// but the header is as in a fresh store.
+    pub fn format_as(mut disk: D, version: Version, cells: &[[u8; 32]]) -> Result<D, Refused<D>>
+        requires { FewCells (length cells.now) }
+        ensures room { OnOk result (store_size (twin_layout version) (length cells.now)
+            ≤ (D.state disk).size) }
+        ensures runs { IfOk result (λ d. Runs [] (5 + length cells.now) (D.state disk)
+            (D.state d)) }
+        ensures grows { IfOk result (λ d. Grows (D.state disk) (D.state d)) }
+        ensures faults { IfOk result (λ d. (D.state d).faults ≡ (D.state disk).faults) }
+        ensures fresh { IfOk result (λ d. Formats (twin_layout version) cells.now
+            (D.state disk).told (D.state d).told) }
+        ensures refused { IfErr result (λ r. NotFormed (twin_layout version)
+            (5 + length cells.now) (length cells.now) (D.state disk) (D.state r.disk) r.fault) }
+        ensures unformed { IfErr result (λ r. r.fault ≡ StoreFault.DiskFailed → LeavesUnformed
+            (twin_layout version) cells.now (D.state disk).told (D.state r.disk).told) }
+    {
+        if disk.size() < version.base() + twin_size(cells.len() as u16) {
             return Err(Refused {
                 disk,
                 fault: StoreFault::TooSmall,
             });
         }
-        match write_store(&mut disk, cells) {
+        match write_store(&mut disk, version, cells) {
             Ok(()) => Ok(disk),
             Err(_) => Err(Refused {
                 disk,
@@ -83,24 +111,41 @@ impl<D: Disk> TwinCells<D> {
         }
     }
 
-    /// Attaches the store of so many cells, 1 to 1024, that stands on the disk. It reads the header
-    /// and then each cell, and writes nothing. It makes the room for the cells twice. Errors, in
-    /// this order: `TooSmall`, `Memory`, and then in the order of reading `DiskFailed`,
-    /// `NotFormatted` and `Damaged` with the first such cell.
+    /// Attaches the store of version 1 of so many cells, 1 to 1024, as `attach_as` does.
     pub fn attach(alloc: Global, disk: D, cells: u16) -> Result<TwinCells<D>, Refused<D>>
         requires { FewCells cells }
-        ensures attached { IfOk result (Attached Twin (size_of cells) cells (D.state disk)) }
-        ensures refused { IfErr result (λ r. NotAttached Twin (size_of cells) cells (D.state disk)
-            (D.state r.disk) r.fault) }
+        ensures attached { IfOk result (Attached (twin_layout One) (twin_reads cells) cells
+            (D.state disk)) }
+        ensures refused { IfErr result (λ r. NotAttached (twin_layout One) (twin_reads cells)
+            twin_reads_to cells (D.state disk) (D.state r.disk) r.fault) }
     {
-        if disk.size() < twin_size(cells) {
+        TwinCells::attach_as(alloc, disk, Version::One, cells)
+    }
+
+    /// Attaches the store of this version of so many cells, 1 to 1024, that stands on the disk. It
+    /// reads the header and then each cell, and writes nothing. It makes the room for the cells
+    /// twice. Errors, in this order: `TooSmall`, `Memory`, and then in the order of reading
+    /// `DiskFailed`, `NotFormatted` and `Damaged` with the first cell of which no copy counts.
+    pub fn attach_as(
+        alloc: Global,
+        disk: D,
+        version: Version,
+        cells: u16,
+    ) -> Result<TwinCells<D>, Refused<D>>
+        requires { FewCells cells }
+        ensures attached { IfOk result (Attached (twin_layout version) (twin_reads cells) cells
+            (D.state disk)) }
+        ensures refused { IfErr result (λ r. NotAttached (twin_layout version) (twin_reads cells)
+            twin_reads_to cells (D.state disk) (D.state r.disk) r.fault) }
+    {
+        if disk.size() < version.base() + twin_size(cells) {
             return Err(Refused {
                 disk,
                 fault: StoreFault::TooSmall,
             });
         }
         match room_for(alloc, usize::from(cells)) {
-            Ok((held, reread)) => read_into(disk, held, reread),
+            Ok((held, reread)) => read_into(disk, version, held, reread),
             Err(AllocError) => Err(Refused {
                 disk,
                 fault: StoreFault::Memory,
@@ -112,20 +157,23 @@ impl<D: Disk> TwinCells<D> {
 /// Reads a store into this room.
 fn read_into<D: Disk>(
     mut disk: D,
+    version: Version,
     mut held: Vec<Held>,
     reread: Vec<Held>,
 ) -> Result<TwinCells<D>, Refused<D>>
     requires few { FewCells (length held.items) }
-    requires room { size_of (length held.items) ≤ (D.state disk).size }
+    requires room { store_size (twin_layout version) (length held.items) ≤ (D.state disk).size }
     requires same { length reread.items ≡ length held.items }
-    ensures attached { IfOk result (Attached Twin (size_of (length held.items)) (length held.items)
-        (D.state disk)) }
-    ensures refused { IfErr result (λ r. NotAttached Twin (size_of (length held.items))
-        (length held.items) (D.state disk) (D.state r.disk) r.fault) }
+    ensures attached { IfOk result (Attached (twin_layout version)
+        (twin_reads (length held.items)) (length held.items) (D.state disk)) }
+    ensures refused { IfErr result (λ r. NotAttached (twin_layout version)
+        (twin_reads (length held.items)) twin_reads_to (length held.items) (D.state disk)
+        (D.state r.disk) r.fault) }
 {
-    match read_store(&mut disk, &mut held) {
+    match read_store(&mut disk, version, &mut held) {
         Ok(()) => Ok(TwinCells {
             disk,
+            version,
             held,
             reread,
             broken: false,
@@ -155,7 +203,7 @@ impl<D: Disk> Cells for TwinCells<D> {
         let old = self.held[index];
         let side = old.side.other();
         let mark = next(old.mark);
-        let at = copy_address(cell, side);
+        let at = self.version.base() + copy_place(cell, side);
         match write_copy(&mut self.disk, at, old.spare_is_live, mark, bytes) {
             Ok(()) => {
                 self.held[index] = Held {
@@ -176,6 +224,7 @@ impl<D: Disk> Cells for TwinCells<D> {
     fn release(self) -> D {
         let TwinCells {
             disk,
+            version: _,
             held: _,
             reread: _,
             broken: _,
@@ -187,7 +236,7 @@ impl<D: Disk> Cells for TwinCells<D> {
 impl<D: CutDisk> CutCells for TwinCells<D> {
     fn power_cut(&mut self, torn: Torn) -> Result<(), Reread> {
         self.disk.power_cut(torn);
-        match read_store(&mut self.disk, &mut self.reread) {
+        match read_store(&mut self.disk, self.version, &mut self.reread) {
             Ok(()) => {
                 mem::swap(&mut self.held, &mut self.reread);
                 self.broken = false;

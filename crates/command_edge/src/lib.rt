@@ -13,4 +13,7 @@ mod words;
 pub use input::{InputFault, read_input};
 pub use opening::{NamedSource, open_named};
 pub use telling::{DONE, NO_MEMORY, WRITE_FAULT, tell};
-pub use words::words_of;
+pub use words::{behind_name, words_of};
+
+#[cfg(test)]
+mod tests;

@@ -1,4 +1,6 @@
 //! The words of the command line.
+ghost use Rattle.std.specs.Prelude.{◌≡◌, drop, map, string_bytes};
+
 use std::alloc::AllocError;
 use std::io;
 use std::rt::Env;
@@ -16,5 +18,15 @@ pub fn words_of<R: Env + AllocGlobal>(rt: &R) -> Result<Vec<String>, AllocError>
             words.push(String::new(alloc))?;
             Ok(words)
         }
+    }
+}
+
+/// The words behind the program's name.
+pub fn behind_name(words: &[String]) -> &[String]
+    ensures { map string_bytes result.now ≡ drop 1 (map string_bytes words.now) }
+{
+    match words {
+        [] => words,
+        [_name, rest @ ..] => rest,
     }
 }

@@ -1,4 +1,5 @@
 mod Cuts
+mod Ranges
 mod Slices
 mod Tapes
 mod Tearing

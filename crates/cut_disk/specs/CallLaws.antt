@@ -4,7 +4,8 @@ use Rattle.std.specs.Option.{option_to_list}
 use Rattle.std.proofs.lemmas.List.{append_assoc, append-nil, length-append}
 use Rattle.std.proofs.lemmas.List.Elements.{filter_map-append}
 use Rattle.std.proofs.lemmas.Bool.{false≢true}
-use Rattle.cut_disk.specs.State.{Told, Mark, Cut, Stop, Fail, Entry, entry, DiskState}
+use Rattle.cut_disk.specs.declared.Mark.TheVariants.{Cut, Stop, Fail}
+use Rattle.cut_disk.specs.State.{Told, Mark, Entry, entry, DiskState}
 pub use Rattle.fault_count.specs.CountLaws.{rose_then, rose_after}
 use Rattle.cut_disk.specs.Calls.{Rose, KeepsQuiet, StaysQuiet, IsQuiet, arms_nothing, Call, marks_of, newest, AddsEntries, Runs, Later, Grows, AsBefore}
 

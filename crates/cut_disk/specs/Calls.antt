@@ -4,7 +4,8 @@ use Rattle.std.specs.List.{filter_map}
 use Rattle.std.specs.Option.{option_to_list}
 pub use Rattle.fault_count.specs.FaultCount.{Rose}
 use Rattle.fault_count.specs.FaultCount.{last_count}
-use Rattle.cut_disk.specs.State.{Told, Mark, Cut, Stop, Fail, Entry, entry, DiskState}
+use Rattle.cut_disk.specs.declared.Mark.TheVariants.{Cut, Stop, Fail}
+use Rattle.cut_disk.specs.State.{Told, Mark, Entry, entry, DiskState}
 
 -- no call fails until one is armed: the disk says so, and its count is below the last value
 pub record IsQuiet (s : DiskState) : Type 0 where

@@ -6,6 +6,7 @@ pub mod Splices
 pub mod CallLaws
 pub mod ImageLaws
 pub mod Memory
+pub mod Ranges
 pub mod Lasting
 pub mod MemoryLaws
 pub mod MemDisk

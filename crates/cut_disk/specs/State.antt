@@ -1,13 +1,24 @@
 -- What a disk means to a proof.
 use Rattle.std.specs.Prelude.{ℕ, Bool, List, Option}
 use Rattle.cut_disk.specs.declared.arming.Arms.{Arms}
+use Rattle.cut_disk.specs.declared.Torn.{Torn}
 pub use Rattle.cut_disk.specs.declared.Mark.{Mark}
-pub use Rattle.cut_disk.specs.declared.Mark.TheVariants.{Cut, Stop, Fail}
+use Rattle.cut_disk.specs.declared.Mark.TheVariants.{Cut as cut_mark, Stop as stop_mark, Fail as fail_mark}
 
 -- the bytes as a read gives them, and for each byte whether it is loose: whether a power cut may change it
 pub record Told : Type 0 where
   pub bytes : List ℕ
   pub loose : List Bool
+
+-- the marks: a call that is no read, write or sync, with its argument
+abbrev pub Cut : Torn → Mark
+Cut torn = cut_mark torn
+
+abbrev pub Stop : ℕ → Mark
+Stop calls = stop_mark calls
+
+abbrev pub Fail : ℕ → Mark
+Fail calls = fail_mark calls
 
 -- one call in a disk's past: the state that it left, and its mark, which a read, a write and a sync don't have
 pub record Entry : Type 0 where

@@ -54,6 +54,7 @@ mod tape_disk;
 #[cfg(test)]
 mod tests;
 
+pub use arming::{Arms, count_call};
 pub use lasting::{write_and_cut, write_and_sync};
 pub use mem_disk::MemDisk;
 pub use tape::PastEntry;

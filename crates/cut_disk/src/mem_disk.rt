@@ -1,8 +1,9 @@
 //! A disk in memory.
-ghost use Rattle.std.specs.Prelude.{◌≡◌, ◌+◌, ◌^◌, ◌≤◌, List, length, replicate, slice_range, true, false, not, is_ok, IfOk, OnOk, OnErr};
+ghost use Rattle.std.specs.Prelude.{◌≡◌, ◌+◌, ◌^◌, ◌<◌, ◌≤◌, max, List, length, replicate, slice_range, false, not, is_ok, IfOk, OnOk, OnErr};
 ghost use Rattle.fault_count.specs.FaultCount.{last_count};
 ghost use Rattle.cut_disk.specs.Images.{splice};
 ghost use Rattle.cut_disk.specs.Memory.{torn_byte, left_bytes};
+ghost use Rattle.cut_disk.specs.Ranges.{IsSameOutside, IsFirmOutside};
 
 use crate::arming::{Arms, count_call};
 use crate::{CutDisk, Disk, DiskFailed, Memory, Torn};
@@ -23,12 +24,19 @@ pub struct MemDisk {
     synced: Vec<u8>,
     /// For each byte whether it was written since then.
     loose: Vec<bool>,
+    /// The range of the bytes that were written since then: outside of it none is loose, and each is that of the last sync.
+    from: usize,
+    to: usize,
     arms: Arms,
     /// How many calls have failed, or the last value of a `u64`.
     faults: u64,
     ghost as_many_synced: { length synced.items ≡ length bytes.items },
     ghost as_many_loose: { length loose.items ≡ length bytes.items },
     ghost sized: { length bytes.items ≤ 2 ^ 24 },
+    ghost in_order: { from ≤ to },
+    ghost inside: { to ≤ length bytes.items },
+    ghost synced_outside: { IsSameOutside from to bytes.items synced.items },
+    ghost firm_outside: { IsFirmOutside from to loose.items },
     ghost counted: { faults ≤ last_count },
 }
 
@@ -45,6 +53,8 @@ impl MemDisk {
             bytes: vec![in alloc; 0; size]?,
             synced: vec![in alloc; 0; size]?,
             loose: vec![in alloc; false; size]?,
+            from: 0,
+            to: 0,
             arms: Arms::none(),
             faults: 0,
         })
@@ -59,6 +69,8 @@ impl MemDisk {
             bytes: bytes.to_vec(alloc)?,
             synced: bytes.to_vec(alloc)?,
             loose: vec![in alloc; false; bytes.len()]?,
+            from: 0,
+            to: 0,
             arms: Arms::none(),
             faults: 0,
         })
@@ -114,8 +126,12 @@ impl Disk for MemDisk {
         ensures contents { contents self.new ≡ after_write at bytes.now (called (contents self.old)) }
     {
         let outcome = count_call(&mut self.arms, &mut self.faults);
-        place(&mut self.bytes, at as usize, bytes);
-        loosen(&mut self.loose, at as usize, bytes.len());
+        let at = at as usize;
+        place(&mut self.bytes, at, bytes);
+        mark(&mut self.loose, at, bytes.len(), true);
+        let (from, to) = wider(self.from, self.to, at, at + bytes.len());
+        self.from = from;
+        self.to = to;
         outcome
     }
 
@@ -126,7 +142,15 @@ impl Disk for MemDisk {
         ensures unsynced { OnErr result (contents self.new ≡ called (contents self.old)) }
     {
         count_call(&mut self.arms, &mut self.faults)?;
-        firm_up(&self.bytes, &mut self.synced, &mut self.loose);
+        firm_up(
+            &self.bytes,
+            &mut self.synced,
+            &mut self.loose,
+            self.from,
+            self.to,
+        );
+        self.from = 0;
+        self.to = 0;
         Ok(())
     }
 
@@ -147,8 +171,23 @@ impl CutDisk for MemDisk {
         ensures call { Call (Some (Cut torn)) (disk_of (contents self.old)) (disk_of (contents self.new)) }
         ensures left { CutsTo (disk_of (contents self.old)).told (disk_of (contents self.new)).told }
     {
-        tear(torn, &mut self.bytes, &self.synced, &self.loose);
-        firm_up(&self.bytes, &mut self.synced, &mut self.loose);
+        tear(
+            torn,
+            &mut self.bytes,
+            &self.synced,
+            &self.loose,
+            self.from,
+            self.to,
+        );
+        firm_up(
+            &self.bytes,
+            &mut self.synced,
+            &mut self.loose,
+            self.from,
+            self.to,
+        );
+        self.from = 0;
+        self.to = 0;
         self.arms.cut();
     }
 
@@ -177,33 +216,57 @@ fn place(into: &mut [u8], at: usize, bytes: &[u8])
     into[at..at + bytes.len()].copy_from_slice(bytes);
 }
 
-/// Marks so many bytes as loose, from the index `at` on.
-fn loosen(loose: &mut [bool], at: usize, count: usize)
+/// Marks so many bytes as loose or not, from the index `at` on.
+fn mark(loose: &mut [bool], at: usize, count: usize, is_loose: bool)
     requires { at + count ≤ length loose.old }
-    ensures { loose.new ≡ splice at (replicate count true) loose.old }
+    ensures { loose.new ≡ splice at (replicate count is_loose) loose.old }
 {
-    loose[at..at + count].fill(true);
+    loose[at..at + count].fill(is_loose);
 }
 
-/// Makes the bytes those of the last sync, none of them loose.
-fn firm_up(bytes: &[u8], synced: &mut [u8], loose: &mut [bool])
-    requires { length synced.old ≡ length bytes.now }
+/// A range that has both this one, unless it is empty, and the one from `at` to `end`.
+fn wider(from: usize, to: usize, at: usize, end: usize) -> (usize, usize)
+    requires in_order { from ≤ to }
+    requires in_order_too { at ≤ end }
+    ensures in_order { result.0 ≤ result.1 }
+    ensures has_this { from < to → (result.0 ≤ from) × (to ≤ result.1) }
+    ensures has_that { (result.0 ≤ at) × (end ≤ result.1) }
+    ensures no_more { result.1 ≤ max to end }
+{
+    if from == to {
+        return (at, end);
+    }
+    (from.min(at), to.max(end))
+}
+
+/// Makes the bytes those of the last sync, none of them loose. Only those of the range may not be so already.
+fn firm_up(bytes: &[u8], synced: &mut [u8], loose: &mut [bool], from: usize, to: usize)
+    requires synced { length synced.old ≡ length bytes.now }
+    requires loose { length loose.old ≡ length bytes.now }
+    requires in_order { from ≤ to }
+    requires inside { to ≤ length bytes.now }
+    requires firm { IsFirmOutside from to loose.old }
+    requires same { IsSameOutside from to bytes.now synced.old }
     ensures synced { synced.new ≡ bytes.now }
     ensures loose { loose.new ≡ replicate (length loose.old) false }
 {
-    synced.copy_from_slice(bytes);
-    loose.fill(false);
+    place(synced, from, &bytes[from..to]);
+    mark(loose, from, to - from, false);
 }
 
-/// Leaves of each loose byte what a power cut leaves of it.
-fn tear(torn: Torn, bytes: &mut [u8], synced: &[u8], loose: &[bool])
+/// Leaves of each loose byte what a power cut leaves of it. Only those of the range may be loose.
+fn tear(torn: Torn, bytes: &mut [u8], synced: &[u8], loose: &[bool], from: usize, to: usize)
     requires synced { length synced.now ≡ length bytes.old }
     requires loose { length loose.now ≡ length bytes.old }
-    ensures { bytes.new ≡ left_bytes torn bytes.old synced.now loose.now }
+    requires in_order { from ≤ to }
+    requires inside { to ≤ length bytes.old }
+    requires firm { IsFirmOutside from to loose.now }
+    ensures torn { bytes.new ≡ left_bytes torn bytes.old synced.now loose.now }
+    ensures outside { IsSameOutside from to bytes.old bytes.new }
 {
-    for (address, byte) in bytes.iter_mut().enumerate() {
+    for address in from..to {
         if loose[address] {
-            *byte = torn_byte(torn, address, *byte, synced[address]);
+            bytes[address] = torn_byte(torn, address, bytes[address], synced[address]);
         }
     }
 }

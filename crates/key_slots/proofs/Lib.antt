@@ -1,2 +1,1 @@
-pub mod PairRule
 pub mod Places

@@ -5,5 +5,6 @@ pub mod FlagsLaws
 pub mod Names
 pub mod NamesLaws
 pub mod Slots
+pub mod SlotsLaws
 pub mod Usage
 pub mod UsageLaws

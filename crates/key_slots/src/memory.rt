@@ -93,7 +93,7 @@ fn told(slot: Slot) -> Slot
     ensures is_slot { IsSlot slot }
 {
     if let Slot::Filled { key, counter, .. } = slot {
-        let _key = key.as_slice();
+        let _key = key.bytes();
         let _counter = counter.number();
     }
     slot

@@ -1,5 +1,5 @@
 -- A task that is denied isn't done.
-use Rattle.std.proofs.Common.{◌≡◌, ◌⊎◌, ℕ, List, [], Ok, sym, refl, subst, inl, inr}
+use Rattle.std.proofs.Common.{◌≡◌, ◌⊎◌, ◌∙◌, ℕ, List, [], Ok, Err, ap, sym, refl, subst, inl, inr}
 use Rattle.std.specs.Prelude.{Result}
 use Rattle.bus_port.specs.Sink.{SinkState}
 use Rattle.memory_update.specs.Messages.{HasSlots}
@@ -8,17 +8,14 @@ use Rattle.keytool.specs.declared.subcommands.Subcommand.{Subcommand}
 use Rattle.keytool.specs.declared.tasks.Task.{Task}
 use Rattle.keytool.specs.declared.tasks.Task.TheVariants.{Make, Read, Confirm}
 use Rattle.keytool.specs.declared.tasks.BadValue.{BadValue}
-use Rattle.keytool.specs.declared.ending.Ending.{Ending}
-use Rattle.keytool.specs.declared.ending.Ending.TheVariants.{Usage, WrongValue, NoMemory, Printed, BadId, BadMac, Confirmed, NotConfirmed}
-use Rattle.keytool.specs.Parsing.{given, refusals}
-use Rattle.keytool.specs.Tasks.{task_of}
+use Rattle.keytool.specs.Parsing.{refusals}
 use Rattle.keytool.specs.Texts.{Denies, Prints}
-use Rattle.keytool.specs.Ending.{Answers, Asks, Does, Ends, EndsTold, Follows, status_of}
-use Rattle.keytool.proofs.Complete.{names_one}
+use Rattle.keytool.specs.Answers.{AsksFor, IsRefused, KeyAnswer, KeyComes, KeyEnds, denied, done, key_status, no_memory, refused_words, wrong_value}
+use Rattle.keytool.proofs.Named.{asks_one, names_one}
 
-not_both : (task : Task) (done denied : List ℕ) → Prints task done → Denies task denied → ⊥
-not_both (Make update authkey) done denied prints denies = denies
-not_both (Read request authkey) done denied prints denies =
+not_both : (task : Task) (first second : List ℕ) → Prints task first → Denies task second → ⊥
+not_both (Make update authkey) first second prints denies = denies
+not_both (Read request authkey) first second prints denies =
     let u = prints.0 in
     let slots : HasSlots request.m1 = HasSlots-head request.m1 (record { uid = u.uid; id = u.id; auth = u.auth })
     (record { is_uid = prints.1.is_uid; id_fits = prints.1.id_fits; auth_fits = prints.1.auth_fits }) prints.2.padded.m1_is in
@@ -26,47 +23,37 @@ not_both (Read request authkey) done denied prints denies =
       | inl no_slots ↦ no_slots.0 slots
       | inr wrong ↦ wrong.1 prints.2.padded.m3_is
     ]
-not_both (Confirm reply update) done denied prints denies = denies.0 prints.0
+not_both (Confirm reply update) first second prints denies = denies.0 prints.0
+
+-- words that ask for something are not refused
+asks_taken : (words : List (List ℕ)) (asked : Result Task BadValue) → AsksFor words asked → IsRefused words → ⊥
+asks_taken words asked asks refused = elim refused [
+  | inl none ↦ none asks.0 asks.1
+  | inr wrong ↦
+      let same : wrong.0 ≡ asks.0 = names_one words wrong.0 asks.0 wrong.1 asks.1 in
+      wrong.2 (ap (λ (s : Subcommand). refusals s words) same ∙ asks.2)
+]
 
 abbrev IsDenied : ℕ → Type 0
 IsDenied status = (status ≡ 1) ⊎ (status ≡ 6) ⊎ (status ≡ 7)
 
-done_so : (task : Task) (text : List ℕ) (ending : Ending) → Denies task text → Does task ending → IsDenied (status_of ending)
-done_so task text Usage denies does = absurd does
-done_so task text (WrongValue t) denies does = absurd does
-done_so task text NoMemory denies does = inr (inr refl)
-done_so task text (Printed t) denies does = absurd (not_both task _ text does denies)
-done_so task text Confirmed denies does = absurd (not_both task _ text does denies)
-done_so task text BadId denies does = inl refl
-done_so task text BadMac denies does = inl refl
-done_so task text NotConfirmed denies does = inl refl
+denied_row : (words : List (List ℕ)) (task : Task) (text : List ℕ) → AsksFor words (Ok task) → Denies task text
+    → (answer : KeyAnswer) → KeyComes words answer → IsDenied (key_status answer)
+denied_row words task text asks denies refused_words comes = absurd (asks_taken words (Ok task) asks comes)
+denied_row words task text asks denies (wrong_value bad) comes =
+    let same : Err bad ≡ Ok task = asks_one words (Err bad) (Ok task) comes asks in
+    cc same
+denied_row words task text asks denies no_memory comes = inr (inr refl)
+denied_row words task text asks denies (denied t) comes = inl refl
+denied_row words task text asks denies (done t) comes =
+    let same : Ok comes.0 ≡ Ok task = asks_one words (Ok comes.0) (Ok task) comes.1 asks in
+    let is : comes.0 ≡ task = cc same in
+    absurd (not_both task t text (subst (λ (k : Task). Prints k t) is comes.2) denies)
 
-answered_so : (s : Subcommand) (words : List (List ℕ)) (task : Task) (text : List ℕ) (ending : Ending) → refusals s words ≡ []
-    → task_of s (given s words) ≡ Ok task → Denies task text → Follows s words ending → IsDenied (status_of ending)
-answered_so s words task text Usage none is denies follows = absurd (follows none)
-answered_so s words task text NoMemory none is denies follows = inr (inr refl)
-answered_so s words task text (WrongValue t) none is denies follows =
-    done_so task text (WrongValue t) denies (subst (λ (r : Result Task BadValue). Answers r (WrongValue t)) is follows.1)
-answered_so s words task text (Printed t) none is denies follows =
-    done_so task text (Printed t) denies (subst (λ (r : Result Task BadValue). Answers r (Printed t)) is follows.1)
-answered_so s words task text Confirmed none is denies follows =
-    done_so task text Confirmed denies (subst (λ (r : Result Task BadValue). Answers r Confirmed) is follows.1)
-answered_so s words task text BadId none is denies follows = inl refl
-answered_so s words task text BadMac none is denies follows = inl refl
-answered_so s words task text NotConfirmed none is denies follows = inl refl
-
-ended_so : (words : List (List ℕ)) (task : Task) (text : List ℕ) (ending : Ending) → Asks words (Ok task) → Denies task text → Ends words ending
-    → IsDenied (status_of ending)
-ended_so words task text ending asks denies ends = elim ends [
-  | inl none ↦ absurd (none.0 asks.0 asks.1)
-  | inr found ↦
-      let same : found.0 ≡ asks.0 = names_one words found.0 asks.0 found.1 asks.1 in
-      answered_so asks.0 words task text ending asks.2 asks.3 denies (subst (λ (s : Subcommand). Follows s words ending) same found.2)
-]
-
-pub denied_only : (words : List (List ℕ)) (before after : SinkState) (status : ℕ) → EndsTold words before after status
-    → (task : Task) (text : List ℕ) → Asks words (Ok task) → Denies task text → IsDenied status
-denied_only words before after status told task text asks denies = elim told.2 [
-  | inl whole ↦ subst IsDenied (sym whole.0) (ended_so words task text told.0 asks denies told.1)
-  | inr failed ↦ inr (inl failed.0)
-]
+pub denied_only : (words : List (List ℕ)) (before after : SinkState) (status : ℕ) → KeyEnds words before after status
+    → (task : Task) (text : List ℕ) → AsksFor words (Ok task) → Denies task text → IsDenied status
+denied_only words before after status ends task text asks denies =
+    elim ends.2 [
+      | inl whole ↦ subst IsDenied (sym whole.0) (denied_row words task text asks denies ends.0 ends.1)
+      | inr failed ↦ inr (inl failed.0)
+    ]

@@ -5,9 +5,9 @@
 //! objects that it works on: standard output and standard input.
 #![tactic(auto)]
 
-mod answers;
-mod ending;
+mod outcome;
 mod parsing;
+mod refusal;
 mod run;
 mod subcommands;
 mod tasks;
@@ -15,16 +15,16 @@ mod tasks;
 mod tests;
 mod texts;
 
+ghost use Rattle.std.specs.Prelude.{◌≡◌, ◌⊎◌, drop, map, string_bytes};
+ghost use Rattle.keytool.specs.Answers.{IsRefused};
+
 use crate::run::run_key;
 use bus_port::{StdSink, StdSource};
+use command_edge::{NO_MEMORY, words_of};
 use cut_disk::MemDisk;
 use std::alloc::{AllocError, Global};
-use std::io;
 use std::process::ExitCode;
 use std::rt::Env;
-
-/// The status for want of memory.
-const NO_MEMORY: u8 = 7;
 
 /// What the program runs where the command line has no words after its name: the request of the example of the SHE
 /// specification, which puts a key into slot 4 under the key of slot 1.
@@ -41,23 +41,18 @@ const EXAMPLE: [&str; 9] = [
 ];
 
 fn main(rt: HostRuntime) -> ExitCode {
-    let status = match words_of(&rt) {
+    let status = match words_or_example(&rt) {
         Ok(words) => start(&rt, words.as_slice()),
-        Err(_) => NO_MEMORY,
+        Err(AllocError) => NO_MEMORY,
     };
     ExitCode::from(status)
 }
 
-/// The words of the command line, or those of the example. A word that isn't text stands as a line that asks for nothing.
-fn words_of<R: Env + AllocGlobal>(rt: &R) -> Result<Vec<String>, AllocError> {
-    let alloc = rt.alloc();
-    let words: Vec<String> = match std::env::args(rt) {
-        Ok(words) => words.collect(alloc)?,
-        Err(error) if error.kind() == io::ErrorKind::OutOfMemory => return Err(AllocError),
-        Err(_) => return texts_of(alloc, &["", ""]),
-    };
+/// The words of the command line, the program's name first, or those of the example where there are none behind it.
+fn words_or_example<R: Env + AllocGlobal>(rt: &R) -> Result<Vec<String>, AllocError> {
+    let words = words_of(rt)?;
     if words.len() < 2 {
-        return texts_of(alloc, &EXAMPLE);
+        return texts_of(rt.alloc(), &EXAMPLE);
     }
     Ok(words)
 }
@@ -72,7 +67,10 @@ fn texts_of(alloc: Global, texts: &[&str]) -> Result<Vec<String>, AllocError> {
 }
 
 /// Runs the words over standard output and standard input, with no disk.
-fn start(rt: &HostRuntime, words: &[String]) -> u8 {
+fn start(rt: &HostRuntime, words: &[String]) -> u8
+    ensures usage { result ≡ 2 → IsRefused (drop 1 (map string_bytes words.now)) }
+    ensures usage_only { IsRefused (drop 1 (map string_bytes words.now)) → (result ≡ 2) ⊎ (result ≡ 6) ⊎ (result ≡ 7) }
+{
     let alloc = rt.alloc();
     let mut disks: Vec<MemDisk> = Vec::new(alloc);
     let mut request = StdSource::new(rt.stdin());

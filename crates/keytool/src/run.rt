@@ -1,28 +1,27 @@
 //! The key command.
 ghost use Rattle.std.specs.Prelude.{◌≡◌, ◌⊎◌, ◌<◌, [], ◌∷◌, drop, length, map, string_bytes, true, List, ℕ, Ok, Err};
+ghost use Rattle.std.specs.List.{list_all};
 ghost use Rattle.bus_port.specs.Fault.{Rose};
-ghost use Rattle.bus_port.specs.Sink.{Appended};
+ghost use Rattle.command_edge.specs.Told.{AppendedWell};
 ghost use Rattle.keytool.specs.declared.tasks.Task.{Task};
 ghost use Rattle.keytool.specs.declared.tasks.BadValue.{BadValue};
-ghost use Rattle.std.specs.List.{list_all};
 ghost use Rattle.keytool.specs.declared.subcommands.Subcommand.{Subcommand};
 ghost use Rattle.keytool.specs.Subcommands.{name_of, values_of};
 ghost use Rattle.keytool.specs.Parsing.{is_plain};
 ghost use Rattle.keytool.specs.Tasks.{task_of};
-ghost use Rattle.keytool.specs.Texts.{usage, Denies};
-ghost use Rattle.keytool.specs.Ending.{Ends, EndsTold, IsRefused, Asks, DonePrinted, DenialPrinted, ValueNamed};
+ghost use Rattle.keytool.specs.Texts.{usage, value_text, Denies, Prints};
+ghost use Rattle.keytool.specs.Answers.{AsksFor, FrontOfKeyRow, IsRefused, KeyEnds, NamesSome, PlainEnds};
+ghost use Rattle.keytool.specs.Steps.{DoesTask, PreparesTask};
 
-use crate::answers::answer;
-use crate::ending::Ending;
+use crate::outcome::do_task;
 use crate::parsing::{NoValues, parse};
+use crate::refusal::Refusal;
 use crate::subcommands::subcommand_of;
-use crate::tasks::task_of;
-use bus_port::{PortFailed, Sink, Source, write_all};
+use crate::tasks::{Task, task_of};
+use bus_port::{Sink, Source};
+use command_edge::{NO_MEMORY, behind_name, tell};
 use cut_disk::Disk;
-use std::alloc::Global;
-
-/// The status where the sink failed.
-const WRITE_FAULT: u8 = 6;
+use std::alloc::{AllocError, Global};
 
 /// Runs the subcommand that the words ask for, and gives the status that the program ends with. The first of the words is
 /// the program's name. Every text that is printed ends with a line feed.
@@ -36,33 +35,44 @@ pub fn run_key<S: Source, K: Sink, D: Disk>(
     sink: &mut K,
     disks: &mut Vec<D>,
 ) -> u8
-    // How it ends: each ending has its cause, and what was printed is its text, or a front of it where the sink failed.
-    ensures answers { EndsTold (drop 1 (map string_bytes words.now)) (K.state sink.old) (K.state sink.new) result }
+    // How it ends: a row of the table of answers comes, and its text and status are told.
+    ensures ends { KeyEnds (drop 1 (map string_bytes words.now)) (K.state sink.old) (K.state sink.new) result }
+
+    // For a subcommand's name and as many values as it has, none of which begins with `-`: by the values alone the text and
+    // the status of the task that they ask for, or 3 and the first that isn't of its form; or 6, or 7.
+    ensures plain { (s : Subcommand) (program : List ℕ) (values : List (List ℕ))
+        → map string_bytes words.now ≡ program ∷ name_of s ∷ values → length values ≡ length (values_of s)
+        → list_all is_plain values ≡ true → PlainEnds (task_of s values) (K.state sink.old) (K.state sink.new) result }
 
     // 0: the sink has exactly the request that is built, the update that is carried, or that the reply confirms.
-    ensures done { result ≡ 0 → DonePrinted (drop 1 (map string_bytes words.now)) (K.state sink.old) (K.state sink.new) }
+    ensures done { result ≡ 0 → (task : Task) × AsksFor (drop 1 (map string_bytes words.now)) (Ok task)
+        × (text : List ℕ) × Prints task text × AppendedWell (K.state sink.old) (K.state sink.new) text }
 
     // 1: exactly where ID or AuthID is no slot's, M3 is wrong, or the reply doesn't confirm, with the line that says so.
-    ensures denied { result ≡ 1 → DenialPrinted (drop 1 (map string_bytes words.now)) (K.state sink.old) (K.state sink.new) }
-    ensures denied_only { (task : Task) (text : List ℕ) → Asks (drop 1 (map string_bytes words.now)) (Ok task)
+    ensures denied { result ≡ 1 → (task : Task) × AsksFor (drop 1 (map string_bytes words.now)) (Ok task)
+        × (text : List ℕ) × Denies task text × AppendedWell (K.state sink.old) (K.state sink.new) text }
+    ensures denied_only { (task : Task) (text : List ℕ) → AsksFor (drop 1 (map string_bytes words.now)) (Ok task)
         → Denies task text → (result ≡ 1) ⊎ (result ≡ 6) ⊎ (result ≡ 7) }
 
     // 2: exactly where the words name no subcommand, or clap refuses them for another cause than memory, with the usage line.
-    ensures usage { result ≡ 2 → IsRefused (drop 1 (map string_bytes words.now)) × Appended (K.state sink.old) (K.state sink.new) usage }
+    ensures usage { result ≡ 2 → IsRefused (drop 1 (map string_bytes words.now))
+        × AppendedWell (K.state sink.old) (K.state sink.new) usage }
     ensures usage_only { IsRefused (drop 1 (map string_bytes words.now)) → (result ≡ 2) ⊎ (result ≡ 6) ⊎ (result ≡ 7) }
 
     // 3: exactly where a value isn't of its form; the first is named.
-    ensures wrong_value { result ≡ 3 → ValueNamed (drop 1 (map string_bytes words.now)) (K.state sink.old) (K.state sink.new) }
-    ensures wrong_value_only { (bad : BadValue) → Asks (drop 1 (map string_bytes words.now)) (Err bad)
+    ensures wrong_value { result ≡ 3 → (bad : BadValue) × AsksFor (drop 1 (map string_bytes words.now)) (Err bad)
+        × AppendedWell (K.state sink.old) (K.state sink.new) (value_text bad.number) }
+    ensures wrong_value_only { (bad : BadValue) → AsksFor (drop 1 (map string_bytes words.now)) (Err bad)
         → (result ≡ 3) ⊎ (result ≡ 6) ⊎ (result ≡ 7) }
 
-    // 6: only where the sink's count of faults rose; what was written is a front of the text of another ending.
-    ensures write_fault { result ≡ 6 → Rose (K.state sink.old).faults (K.state sink.new).faults }
-
+    // 6: exactly where the sink's count of faults rose; a proper front was written of the text of another row that comes.
+    ensures write_fault { result ≡ 6 → Rose (K.state sink.old).faults (K.state sink.new).faults
+        × FrontOfKeyRow (drop 1 (map string_bytes words.now)) (K.state sink.old) (K.state sink.new) }
     ensures write_fault_only { (K.state sink.old).faults < (K.state sink.new).faults → result ≡ 6 }
 
-    // 7: nothing was written.
-    ensures no_memory { result ≡ 7 → Appended (K.state sink.old) (K.state sink.new) [] }
+    // 7: only where the words name a subcommand; nothing was written.
+    ensures no_memory { result ≡ 7 → NamesSome (drop 1 (map string_bytes words.now))
+        × AppendedWell (K.state sink.old) (K.state sink.new) [] }
 
     // Completeness: a subcommand with its values, none of which begins with `-` and each of its form, is done or refused by its
     // messages, where the sink's count didn't rise and there was memory.
@@ -75,40 +85,42 @@ pub fn run_key<S: Source, K: Sink, D: Disk>(
     ensures source { request.new ≡ request.old }
     ensures disks { disks.new.items ≡ disks.old.items }
 {
-    answered(alloc, words, sink)
+    in_two_phases(alloc, behind_name(words), sink)
 }
 
-/// Works, and prints what came of it.
-fn answered<K: Sink>(alloc: Global, words: &[String], sink: &mut K) -> u8
-    ensures { EndsTold (drop 1 (map string_bytes words.now)) (K.state sink.old) (K.state sink.new) result }
+/// Prepares, and then does the task or tells the refusal.
+fn in_two_phases<K: Sink>(alloc: Global, words: &[String], sink: &mut K) -> u8
+    ensures { KeyEnds (map string_bytes words.now) (K.state sink.old) (K.state sink.new) result }
 {
-    let ending = work(alloc, words);
-    match write_all(sink, ending.text().as_bytes()) {
-        Ok(()) => ending.status(),
-        Err(PortFailed) => WRITE_FAULT,
+    match prepare(alloc, words) {
+        Ok(task) => do_job(alloc, &task, sink),
+        Err(refusal) => tell(sink, refusal.text().as_bytes(), refusal.status()),
     }
 }
 
-/// Does the work of the words, up to the printing.
-fn work(alloc: Global, words: &[String]) -> Ending
-    ensures { Ends (drop 1 (map string_bytes words.now)) result }
-{
-    match words {
-        [] => Ending::Usage,
-        [_program, words @ ..] => subcommand_ending(alloc, words),
-    }
-}
-
-/// Does the work of the words from the subcommand on.
-fn subcommand_ending(alloc: Global, words: &[String]) -> Ending
-    ensures { Ends (map string_bytes words.now) result }
+/// The first phase: the words from the subcommand on. It ends in a task, or in the first refusal that applies.
+fn prepare(alloc: Global, words: &[String]) -> Result<Task, Refusal>
+    ensures { PreparesTask (map string_bytes words.now) result }
 {
     let Some(subcommand) = subcommand_of(words) else {
-        return Ending::Usage;
+        return Err(Refusal::Usage);
     };
     match parse(alloc, subcommand, words) {
-        Ok(matches) => answer(alloc, &task_of(subcommand, &matches)),
-        Err(NoValues::Refused) => Ending::Usage,
-        Err(NoValues::Memory) => Ending::NoMemory,
+        Ok(matches) => match task_of(subcommand, &matches) {
+            Ok(task) => Ok(task),
+            Err(bad) => Err(Refusal::of_value(alloc, bad)),
+        },
+        Err(NoValues::Refused) => Err(Refusal::Usage),
+        Err(NoValues::Memory) => Err(Refusal::Memory),
+    }
+}
+
+/// The second phase: the task is done, and what it comes to is told.
+fn do_job<K: Sink>(alloc: Global, task: &Task, sink: &mut K) -> u8
+    ensures { DoesTask task.now (K.state sink.old) (K.state sink.new) result }
+{
+    match do_task(alloc, task) {
+        Ok(outcome) => tell(sink, outcome.text().as_bytes(), outcome.status()),
+        Err(AllocError) => NO_MEMORY,
     }
 }

@@ -1,3 +1,4 @@
+pub mod AnswerSteps
 pub mod FieldSteps
 pub mod HeadSteps
 pub mod OpeningSteps

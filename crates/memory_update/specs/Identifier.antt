@@ -1,6 +1,7 @@
-use Rattle.std.specs.Prelude.{◌≡◌, ℕ, ◌<◌, List, length, All}
+-- The unique identifiers of engines
+use Rattle.std.specs.Prelude.{ℕ, List}
+use Rattle.byte_lists.specs.Bytes.{IsBytes}
 
 -- which values the code's identifiers have: 15 bytes
-pub record IsUid (uid : List ℕ) : Type 0 where
-  pub size : length uid ≡ 15
-  pub bytes : All (λ b. b < 256) uid
+abbrev pub IsUid : List ℕ → Type 0
+IsUid uid = IsBytes 15 uid

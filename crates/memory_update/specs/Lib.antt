@@ -1,8 +1,7 @@
-pub mod Ciphers
 pub mod Fields
 pub mod Identifier
 pub mod Loading
+pub mod LoadingLaws
 pub mod MessageLaws
 pub mod Messages
-pub mod NumberLaws
-pub mod Numbers
+pub mod Shown

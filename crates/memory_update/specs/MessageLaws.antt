@@ -1,232 +1,299 @@
 -- Laws of the messages of a key update
-use Rattle.std.proofs.Common.{Bool, true, false, IsTrue, ◌↔◌, ◌&&◌, Decides, ◌≡◌, ℕ, ◌+◌, ◌*◌, ◌/◌, ◌%◌, ◌^◌, ◌<◌, List, [], ◌∷◌, ◌++◌, length, get_or, take, drop, min, refl, sym, ap, ◌∙◌, subst, arith}
+use Rattle.std.proofs.Common.{◌≡◌, ℕ, ◌+◌, ◌*◌, ◌/◌, ◌%◌, ◌^◌, ◌<◌, List, [], ◌∷◌, ◌++◌, length, get_or, take, drop, min, refl, sym, ap, ◌∙◌, subst, arith}
 use Rattle.std.specs.List.{All, concat}
-use Rattle.std.proofs.Math.Nat.{mod-eq_of_lt}
 use Rattle.std.proofs.Math.Seq.{take-append_seam, drop-append_seam, take-length}
-use Rattle.std.proofs.lemmas.List.{take_more, length-take}
+use Rattle.std.proofs.lemmas.List.{append-nil, take_more, length-take}
 use Rattle.std.proofs.lemmas.List.Elements.{All-nil, All-cons, All-head, All-tail, All-take, All-get_or}
+use Rattle.byte_lists.specs.Numbers.{number_of, bytes_of}
+use Rattle.byte_lists.specs.NumberLaws.{IsBytes-bytes_of, number_of-lt, number_of-bytes_of-lt, bytes_of-number_of, number_of-append, same_number, bytes_of-append}
 use Rattle.key_slots.specs.declared.memory.Flags.{Flags}
 use Rattle.key_slots.specs.Flags.{flags_number, flags_from}
-use Rattle.key_slots.specs.FlagsLaws.{flags_number-lt, flags_number-from, same_flags}
-use Rattle.memory_update.specs.Ciphers.{IsBlock, enc, cbc, cbc_inverse, zero_block, kdf, Enc, Mac, cmac, IsBlock-zero_block, IsBlock-kdf, length-cbc_inverse, IsBlock-enc, All-cbc_inverse, cbc_inverse-cbc, cbc-cbc_inverse}
-use Rattle.memory_update.specs.Fields.{bit_field}
-use Rattle.memory_update.specs.Numbers.{number_of, bytes_of}
-use Rattle.memory_update.specs.NumberLaws.{length-bytes_of, All-bytes_of, number_of-bytes_of, number_of-lt, bytes_of-append, bytes_of-number_of, number_of-append, same_bytes, same_number}
-use Rattle.memory_update.specs.Messages.{two_blocks, header, plain, request_mac, Carries, Confirms, Opens, id_of, auth_of, HasSlots, HeadOf, IsUid, IsHead, IsUpdate, IsRequest}
+use Rattle.key_slots.specs.FlagsLaws.{flags_number-lt, flags_from-number, flags_number-from}
+use Rattle.she_aes.specs.Cipher.{IsBlock, zero_block, enc, dec}
+use Rattle.she_aes.specs.CipherFacts.{IsBlock-zero_block, IsBlock-enc}
+use Rattle.she_aes.specs.Modes.{cbc, cbc_inverse}
+use Rattle.she_aes.specs.ModeLaws.{length-cbc, All-cbc, length-cbc_inverse, All-cbc_inverse, cbc_inverse-cbc, cbc-cbc_inverse, dec-enc}
+use Rattle.she_kdf.specs.Derivation.{kdf}
+use Rattle.she_kdf.specs.DerivationLaws.{IsBlock-kdf}
+use Rattle.she_kdf.specs.declared.Constant.TheVariants.{Enc, Mac}
+use Rattle.she_cmac.specs.Cmac.{cmac}
+use Rattle.she_cmac.specs.CmacLaws.{IsBlock-cmac}
+use Rattle.memory_update.specs.Messages.{two_blocks, header, plain, request_mac, Carries, Builds, Confirms, id_of, auth_of, HasSlots, HeadOf, head_in, text_in, update_in, sealed_counter, SameConfirmed, IsUid, IsUpdate, IsRequest}
 use Rattle.memory_update.specs.declared.messages.Head.{Head}
 use Rattle.memory_update.specs.declared.messages.Update.{Update}
 use Rattle.memory_update.specs.declared.messages.Request.{Request}
 use Rattle.memory_update.specs.declared.messages.Reply.{Reply}
 
-pub IsBlock-bytes_of : (a : ℕ) → IsBlock (bytes_of 16 a)
-IsBlock-bytes_of a = record { size = length-bytes_of 16 a; bytes = All-bytes_of 16 a }
+-- ---- a number of 256 bits as two blocks
 
-block-lt : (block : List ℕ) → IsBlock block → number_of block < 2 ^ 128
-block-lt block b = omega (arith, number_of-lt block b.bytes, ap (λ n. 256 ^ n) b.size)
+-- a list of two, from its items
+pub two_of : (bs : List (List ℕ)) (x y : List ℕ) → length bs ≡ 2 → bs ≡ get_or bs 0 x ∷ get_or bs 1 y ∷ []
+two_of (a ∷ b ∷ []) x y h = refl
+two_of bs x y h = absurd (omega arith)
 
-block_back : (block : List ℕ) → IsBlock block → bytes_of 16 (number_of block) ≡ block
-block_back block b = ap (λ n. bytes_of n (number_of block)) (sym b.size) ∙ bytes_of-number_of block b.bytes
-
--- a number of 256 bits whose lower half is a block's number is two blocks
-pub two_blocks-pair : (a : ℕ) (low : List ℕ) → IsBlock low → two_blocks (a * 2 ^ 128 + number_of low) ≡ bytes_of 16 a ∷ low ∷ []
+length-two_blocks : (n : ℕ) → length (two_blocks n) ≡ 2
 unfolding two_blocks
-two_blocks-pair a low b =
-    let high : List ℕ = bytes_of 16 a in
-    let joined : bytes_of 32 (a * 2 ^ 128 + number_of low) ≡ high ++ low =
-    bytes_of-append 16 16 a (number_of low) (block-lt low b) ∙ ap (λ l. high ++ l) (block_back low b) in
-    let front : take 16 (high ++ low) ≡ high = ap (λ n. take n (high ++ low)) (sym (length-bytes_of 16 a)) ∙ take-append_seam high low in
-    let back : drop 16 (high ++ low) ≡ low = ap (λ n. drop n (high ++ low)) (sym (length-bytes_of 16 a)) ∙ drop-append_seam high low in
-    ap (λ bs. take 16 bs ∷ drop 16 bs ∷ []) joined ∙ ap (λ x. x ∷ drop 16 (high ++ low) ∷ []) front ∙ ap (λ y. high ∷ y ∷ []) back
+length-two_blocks n = refl
 
--- ---- the head
+pub IsBlock-request_mac : (authkey m1 : List ℕ) (m2 : List (List ℕ)) → IsBlock authkey → IsBlock (request_mac authkey m1 m2)
+unfolding request_mac
+IsBlock-request_mac authkey m1 m2 is_authkey = IsBlock-cmac (kdf authkey Mac) (m1 ++ concat m2) (IsBlock-kdf authkey Mac is_authkey)
+
+-- two blocks are those of the number of their bytes
+pub two_blocks-join : (x y : List ℕ) → IsBlock x → IsBlock y → two_blocks (number_of x * 2 ^ 128 + number_of y) ≡ x ∷ y ∷ []
+unfolding two_blocks
+two_blocks-join x y is_x is_y =
+    let joined : bytes_of 32 (number_of x * 2 ^ 128 + number_of y) ≡ x ++ y =
+    bytes_of-append 16 16 (number_of x) (number_of y) (number_of-lt 16 y is_y) ∙ ap (λ l. l ++ bytes_of 16 (number_of y)) (bytes_of-number_of 16 x is_x) ∙ ap (λ l. x ++ l) (bytes_of-number_of 16 y is_y) in
+    let front : take 16 (x ++ y) ≡ x = ap (λ n. take n (x ++ y)) (sym is_x.size) ∙ take-append_seam x y in
+    let back : drop 16 (x ++ y) ≡ y = ap (λ n. drop n (x ++ y)) (sym is_x.size) ∙ drop-append_seam x y in
+    ap (λ bs. take 16 bs ∷ drop 16 bs ∷ []) joined ∙ ap (λ a. a ∷ drop 16 (x ++ y) ∷ []) front ∙ ap (λ b. x ∷ b ∷ []) back
+
+-- the same, where the upper half is given as a number
+pub two_blocks-pair : (a : ℕ) (low : List ℕ) → a < 2 ^ 128 → IsBlock low → two_blocks (a * 2 ^ 128 + number_of low) ≡ bytes_of 16 a ∷ low ∷ []
+two_blocks-pair a low fits is_low =
+    ap (λ h. two_blocks (h * 2 ^ 128 + number_of low)) (sym (number_of-bytes_of-lt 16 a fits)) ∙ two_blocks-join (bytes_of 16 a) low (IsBytes-bytes_of 16 a) is_low
+
+-- the number of two blocks
+pub number_of-two : (x y : List ℕ) → IsBlock y → number_of (concat (x ∷ y ∷ [])) ≡ number_of x * 2 ^ 128 + number_of y
+number_of-two x y is_y =
+    ap (λ l. number_of (x ++ l)) (append-nil y) ∙ number_of-append x y ∙ ap (λ n. number_of x * 256 ^ n + number_of y) is_y.size
+
+-- ---- M1
 
 uid-lt : (uid : List ℕ) → IsUid uid → number_of uid < 2 ^ 120
-uid-lt uid u = omega (arith, number_of-lt uid u.bytes, ap (λ n. 256 ^ n) u.size)
+uid-lt uid u = number_of-lt 15 uid u
 
-header-lt : (uid : List ℕ) (id auth : ℕ) → IsUid uid → id < 14 → auth < 14 → header uid id auth < 2 ^ 128
+pub header-lt : (uid : List ℕ) (id auth : ℕ) → IsUid uid → id < 14 → auth < 14 → header uid id auth < 2 ^ 128
 header-lt uid id auth u i a = omega (arith, uid-lt uid u)
 
--- UID, ID and AuthID as bytes: the UID's, and one for both numbers
-pub head_bytes : (uid : List ℕ) (id auth : ℕ) → IsUid uid → id < 14 → auth < 14 → uid ++ (id * 16 + auth) ∷ [] ≡ bytes_of 16 (header uid id auth)
+one_byte : (n : ℕ) → n < 256 → bytes_of 1 n ≡ n ∷ []
 unfolding bytes_of
-head_bytes uid id auth u i a =
+one_byte n fits = ap (λ x. x ∷ []) (let e : n / 256 ^ 0 % 256 ≡ n = omega arith in e)
+
+-- UID, ID and AuthID as bytes: the UID's, and one for both numbers
+pub head_bytes : (uid : List ℕ) (id auth : ℕ) → IsUid uid → id < 14 → auth < 14 → bytes_of 16 (header uid id auth) ≡ uid ++ (id * 16 + auth) ∷ []
+head_bytes uid id auth is_uid i a =
     let last : ℕ = id * 16 + auth in
     let small : last < 256 = omega arith in
-    let one : bytes_of 1 last ≡ last ∷ [] = ap (λ x. x ∷ []) (mod-eq_of_lt small) in
-    let uid_back : bytes_of 15 (number_of uid) ≡ uid = ap (λ n. bytes_of n (number_of uid)) (sym u.size) ∙ bytes_of-number_of uid u.bytes in
-    let joined : bytes_of 16 (number_of uid * 2 ^ 8 + last) ≡ bytes_of 15 (number_of uid) ++ bytes_of 1 last = bytes_of-append 15 1 (number_of uid) last small in
     let sum : header uid id auth ≡ number_of uid * 2 ^ 8 + last = omega arith in
-    sym (ap (bytes_of 16) sum ∙ joined ∙ ap (λ x. x ++ bytes_of 1 last) uid_back ∙ ap (λ y. uid ++ y) one)
+    ap (bytes_of 16) sum ∙ bytes_of-append 15 1 (number_of uid) last small ∙ ap (λ x. x ++ bytes_of 1 last) (bytes_of-number_of 15 uid is_uid) ∙ ap (λ y. uid ++ y) (one_byte last small)
 
-number_of-head : (m1 : List ℕ) (h : Head) → IsHead h → HeadOf m1 h → number_of m1 ≡ header h.uid h.id h.auth
-number_of-head m1 h is_head head_of =
-    ap number_of head_of ∙ number_of-bytes_of 16 (header h.uid h.id h.auth) ∙ mod-eq_of_lt (header-lt h.uid h.id h.auth is_head.is_uid is_head.id_fits is_head.auth_fits)
+number_of-head : (m1 : List ℕ) (h : Head) → HeadOf m1 h → number_of m1 ≡ header h.uid h.id h.auth
+number_of-head m1 h of =
+    ap number_of of.m1_is ∙ number_of-bytes_of-lt 16 (header h.uid h.id h.auth) (header-lt h.uid h.id h.auth of.is_head.is_uid of.is_head.id_fits of.is_head.auth_fits)
 
-pub id_of-head : (m1 : List ℕ) (h : Head) → IsHead h → HeadOf m1 h → id_of m1 ≡ h.id
-id_of-head m1 h is_head head_of =
-    ap (λ n. n / 2 ^ 4 % 2 ^ 4) (number_of-head m1 h is_head head_of) ∙ omega (arith, is_head.id_fits, is_head.auth_fits)
+pub uid_of-head : (m1 : List ℕ) (h : Head) → HeadOf m1 h → take 15 m1 ≡ h.uid
+uid_of-head m1 h of =
+    let last : List ℕ = (h.id * 16 + h.auth) ∷ [] in
+    ap (take 15) (of.m1_is ∙ head_bytes h.uid h.id h.auth of.is_head.is_uid of.is_head.id_fits of.is_head.auth_fits)
+    ∙ ap (λ n. take n (h.uid ++ last)) (sym of.is_head.is_uid.size) ∙ take-append_seam h.uid last
 
-pub auth_of-head : (m1 : List ℕ) (h : Head) → IsHead h → HeadOf m1 h → auth_of m1 ≡ h.auth
-auth_of-head m1 h is_head head_of =
-    ap (λ n. n % 2 ^ 4) (number_of-head m1 h is_head head_of) ∙ omega (arith, is_head.id_fits, is_head.auth_fits)
+pub id_of-head : (m1 : List ℕ) (h : Head) → HeadOf m1 h → id_of m1 ≡ h.id
+id_of-head m1 h of =
+    ap (λ n. n / 2 ^ 4 % 2 ^ 4) (number_of-head m1 h of) ∙ omega (arith, of.is_head.id_fits, of.is_head.auth_fits)
 
-pub HasSlots-head : (m1 : List ℕ) (h : Head) → IsHead h → HeadOf m1 h → HasSlots m1
-HasSlots-head m1 h is_head head_of =
-    (omega (arith, id_of-head m1 h is_head head_of, is_head.id_fits), omega (arith, auth_of-head m1 h is_head head_of, is_head.auth_fits))
+pub auth_of-head : (m1 : List ℕ) (h : Head) → HeadOf m1 h → auth_of m1 ≡ h.auth
+auth_of-head m1 h of =
+    ap (λ n. n % 2 ^ 4) (number_of-head m1 h of) ∙ omega (arith, of.is_head.id_fits, of.is_head.auth_fits)
+
+pub HasSlots-head : (m1 : List ℕ) (h : Head) → HeadOf m1 h → HasSlots m1
+HasSlots-head m1 h of =
+    (omega (arith, id_of-head m1 h of, of.is_head.id_fits), omega (arith, auth_of-head m1 h of, of.is_head.auth_fits))
 
 -- an M1 has one head
-pub same_head : (m1 : List ℕ) (h k : Head) → IsHead h → IsHead k → HeadOf m1 h → HeadOf m1 k → h ≡ k
-same_head m1 h k is_h is_k of_h of_k =
-    let numbers : header h.uid h.id h.auth ≡ header k.uid k.id k.auth = sym (number_of-head m1 h is_h of_h) ∙ number_of-head m1 k is_k of_k in
-    let ids : h.id ≡ k.id = sym (id_of-head m1 h is_h of_h) ∙ id_of-head m1 k is_k of_k in
-    let auths : h.auth ≡ k.auth = sym (auth_of-head m1 h is_h of_h) ∙ auth_of-head m1 k is_k of_k in
-    let uid_numbers : number_of h.uid ≡ number_of k.uid = omega (arith, numbers, ids, auths) in
-    let uids : h.uid ≡ k.uid = same_bytes h.uid k.uid (is_h.is_uid.size ∙ sym is_k.is_uid.size) is_h.is_uid.bytes is_k.is_uid.bytes uid_numbers in
+pub same_head : (m1 : List ℕ) (h : Head) → HeadOf m1 h → head_in m1 ≡ h
+same_head m1 h of =
     let Make : List ℕ → ℕ → ℕ → Head = λ x i a. record { uid = x; id = i; auth = a } in
-    ap (λ x. Make x h.id h.auth) uids ∙ ap (λ i. Make k.uid i h.auth) ids ∙ ap (λ a. Make k.uid k.id a) auths
+    ap (λ x. Make x (id_of m1) (auth_of m1)) (uid_of-head m1 h of) ∙ ap (λ i. Make h.uid i (auth_of m1)) (id_of-head m1 h of) ∙ ap (λ a. Make h.uid h.id a) (auth_of-head m1 h of)
+
+last_byte : (n b : ℕ) → n * 256 ^ length (b ∷ []) + number_of (b ∷ []) ≡ n * 256 + b
+unfolding number_of
+last_byte n b = omega arith
+
+-- an M1 is the UID's bytes and one more
+record InM1 (m1 : List ℕ) (last : ℕ) : Type 0 where
+  is_uid : IsUid (take 15 m1)
+  fits : last < 256
+  number : number_of m1 ≡ number_of (take 15 m1) * 256 + last
+
+in_m1 : (m1 : List ℕ) → IsBlock m1 → InM1 m1 (get_or m1 15 0)
+in_m1 m1 is_m1 =
+    let P : ℕ → Type 0 = λ b. b < 256 in
+    let last : ℕ = get_or m1 15 0 in
+    let uid : List ℕ = take 15 m1 in
+    let within : 15 < length m1 = omega (arith, is_m1.size) in
+    let whole : m1 ≡ uid ++ last ∷ [] = sym (take-length m1) ∙ ap (λ n. take n m1) is_m1.size ∙ take_more m1 15 0 within in
+    record {
+      is_uid = record { size = length-take 15 m1 ∙ ap (min 15) is_m1.size; bytes = All-take P 15 m1 is_m1.bytes };
+      fits = All-get_or P m1 15 0 within is_m1.bytes;
+      number = ap number_of whole ∙ number_of-append uid (last ∷ []) ∙ last_byte (number_of uid) last;
+    }
+
+-- ID and AuthID stand in the last byte
+pub id_of-last : (m1 : List ℕ) → IsBlock m1 → id_of m1 ≡ get_or m1 15 0 / 16
+id_of-last m1 is_m1 = let parts = in_m1 m1 is_m1 in omega (arith, parts.number, parts.fits)
+
+pub auth_of-last : (m1 : List ℕ) → IsBlock m1 → auth_of m1 ≡ get_or m1 15 0 % 16
+auth_of-last m1 is_m1 = let parts = in_m1 m1 is_m1 in omega (arith, parts.number, parts.fits)
+
+pub HeadOf-head_in : (m1 : List ℕ) → IsBlock m1 → HasSlots m1 → HeadOf m1 (head_in m1)
+HeadOf-head_in m1 is_m1 slots =
+    let parts = in_m1 m1 is_m1 in
+    let number : number_of m1 ≡ header (take 15 m1) (id_of m1) (auth_of m1) = omega (arith, parts.number, parts.fits) in
+    record {
+      is_head = record { is_uid = parts.is_uid; id_fits = slots.0; auth_fits = slots.1 };
+      m1_is = sym (bytes_of-number_of 16 m1 is_m1) ∙ ap (bytes_of 16) number;
+    }
 
 -- ---- the text of M2
 
 -- the upper half of the text: counter, flags and padding
-upper : Update → ℕ → ℕ
+abbrev upper : Update → ℕ → ℕ
 upper u pad = u.counter * 2 ^ 100 + flags_number u.flags * 2 ^ 95 + pad
 
-plain_blocks : (u : Update) (pad : ℕ) → IsBlock u.key → two_blocks (plain u pad) ≡ bytes_of 16 (upper u pad) ∷ u.key ∷ []
-unfolding upper
-plain_blocks u pad is_key =
-    let halves : plain u pad ≡ upper u pad * 2 ^ 128 + number_of u.key = omega arith in
-    ap two_blocks halves ∙ two_blocks-pair (upper u pad) u.key is_key
+upper-lt : (u : Update) (pad : ℕ) → u.counter < 2 ^ 28 → pad < 2 ^ 95 → upper u pad < 2 ^ 128
+upper-lt u pad counter_fits pad_fits = omega (arith, flags_number-lt u.flags)
 
--- the text of a request that is built
-pub text_built : (u : Update) → IsBlock u.key → bytes_of 16 (u.counter * 2 ^ 100 + flags_number u.flags * 2 ^ 95) ∷ u.key ∷ [] ≡ two_blocks (plain u 0)
-unfolding upper
-text_built u is_key =
-    let sum : u.counter * 2 ^ 100 + flags_number u.flags * 2 ^ 95 ≡ upper u 0 = omega arith in
-    ap (λ a. bytes_of 16 a ∷ u.key ∷ []) sum ∙ sym (plain_blocks u 0 is_key)
+plain_halves : (u : Update) (pad : ℕ) → plain u pad ≡ upper u pad * 2 ^ 128 + number_of u.key
+plain_halves u pad = omega arith
 
-pub All-plain_blocks : (u : Update) (pad : ℕ) → IsBlock u.key → All IsBlock (two_blocks (plain u pad))
-All-plain_blocks u pad is_key =
-    subst (All IsBlock) (sym (plain_blocks u pad is_key)) (All-cons IsBlock (bytes_of 16 (upper u pad)) (u.key ∷ []) (IsBlock-bytes_of (upper u pad)) (All-cons IsBlock u.key [] is_key (All-nil IsBlock)))
+pub plain_blocks : (u : Update) (pad : ℕ) → u.counter < 2 ^ 28 → pad < 2 ^ 95 → IsBlock u.key → two_blocks (plain u pad) ≡ bytes_of 16 (u.counter * 2 ^ 100 + flags_number u.flags * 2 ^ 95 + pad) ∷ u.key ∷ []
+plain_blocks u pad counter_fits pad_fits is_key =
+    ap two_blocks (plain_halves u pad) ∙ two_blocks-pair (upper u pad) u.key (upper-lt u pad counter_fits pad_fits) is_key
 
--- M2 opens to one counter, one set of flags and one key
-same_opened : (m2 : List (List ℕ)) (authkey : List ℕ) (u v : Update) → IsBlock authkey → Opens m2 authkey u → Opens m2 authkey v → (u.counter ≡ v.counter) × (u.flags ≡ v.flags) × (u.key ≡ v.key)
-unfolding upper
-same_opened m2 authkey u v is_authkey x y =
+All-two : (x y : List ℕ) → IsBlock x → IsBlock y → All IsBlock (x ∷ y ∷ [])
+All-two x y is_x is_y = All-cons IsBlock x (y ∷ []) is_x (All-cons IsBlock y [] is_y (All-nil IsBlock))
+
+-- the text in an M2 that carries an update is the number of what it carries
+text_in-carried : (m2 : List (List ℕ)) (authkey : List ℕ) (u : Update) (pad : ℕ) → IsBlock authkey → u.counter < 2 ^ 28 → pad < 2 ^ 95 → IsBlock u.key → m2 ≡ cbc (kdf authkey Enc) zero_block (two_blocks (plain u pad)) → text_in authkey m2 ≡ plain u pad
+unfolding text_in
+text_in-carried m2 authkey u pad is_authkey counter_fits pad_fits is_key sealed =
     let k : List ℕ = kdf authkey Enc in
-    let is_k = IsBlock-kdf authkey Enc is_authkey in
-    let texts : two_blocks (plain u x.pad) ≡ two_blocks (plain v y.pad) =
-    sym (cbc_inverse-cbc k zero_block (two_blocks (plain u x.pad)) is_k IsBlock-zero_block (All-plain_blocks u x.pad x.is_key))
-    ∙ ap (cbc_inverse k zero_block) (sym x.m2_is ∙ y.m2_is)
-    ∙ cbc_inverse-cbc k zero_block (two_blocks (plain v y.pad)) is_k IsBlock-zero_block (All-plain_blocks v y.pad y.is_key) in
-    let blocks : bytes_of 16 (upper u x.pad) ∷ u.key ∷ [] ≡ bytes_of 16 (upper v y.pad) ∷ v.key ∷ [] =
-    sym (plain_blocks u x.pad x.is_key) ∙ texts ∙ plain_blocks v y.pad y.is_key in
-    let keys : u.key ≡ v.key = cc in
-    let uppers : bytes_of 16 (upper u x.pad) ≡ bytes_of 16 (upper v y.pad) = cc in
-    let flags_u : flags_number u.flags < 32 = flags_number-lt u.flags in
-    let flags_v : flags_number v.flags < 32 = flags_number-lt v.flags in
-    let upper_u : upper u x.pad < 2 ^ 128 = omega (arith, x.counter_fits, x.pad_fits, flags_u) in
-    let upper_v : upper v y.pad < 2 ^ 128 = omega (arith, y.counter_fits, y.pad_fits, flags_v) in
-    let numbers : upper u x.pad ≡ upper v y.pad = same_number 16 (upper u x.pad) (upper v y.pad) upper_u upper_v uppers in
-    let counters : u.counter ≡ v.counter = omega (arith, numbers, x.pad_fits, y.pad_fits, flags_u, flags_v) in
-    let flags : flags_number u.flags ≡ flags_number v.flags = omega (arith, numbers, x.pad_fits, y.pad_fits, flags_u, flags_v, counters) in
-    (counters, same_flags u.flags v.flags flags, keys)
+    let high : List ℕ = bytes_of 16 (upper u pad) in
+    let text : two_blocks (plain u pad) ≡ high ∷ u.key ∷ [] = plain_blocks u pad counter_fits pad_fits is_key in
+    let opened : cbc_inverse k zero_block m2 ≡ high ∷ u.key ∷ [] =
+    ap (λ m. cbc_inverse k zero_block m) (sealed ∙ ap (cbc k zero_block) text) ∙ cbc_inverse-cbc k zero_block (high ∷ u.key ∷ []) (IsBlock-kdf authkey Enc is_authkey) IsBlock-zero_block (All-two high u.key (IsBytes-bytes_of 16 (upper u pad)) is_key) in
+    ap (λ bs. number_of (concat bs)) opened ∙ number_of-two high u.key is_key ∙ ap (λ n. n * 2 ^ 128 + number_of u.key) (number_of-bytes_of-lt 16 (upper u pad) (upper-lt u pad counter_fits pad_fits)) ∙ sym (plain_halves u pad)
 
--- the head that a carried update has
-abbrev pub head_in : Update → Head
-head_in u = record { uid = u.uid; id = u.id; auth = u.auth }
-
-pub IsHead-head_in : (u : Update) → IsUpdate u → IsHead (head_in u)
-IsHead-head_in u is_u = record { is_uid = is_u.is_uid; id_fits = is_u.id_fits; auth_fits = is_u.auth_fits }
-
-pub HeadOf-head_in : (request : Request) (authkey : List ℕ) (u : Update) → Carries request authkey u → HeadOf request.m1 (head_in u)
-HeadOf-head_in request authkey u x = x.padded.m1_is
+-- a request has no update but the one that stands in M1 and M2
+pub update_in-carried : (request : Request) (authkey : List ℕ) (u : Update) → IsBlock authkey → Carries request authkey u → update_in authkey request ≡ u
+unfolding update_in
+update_in-carried request authkey u is_authkey x =
+    let is_u = x.padded.is_update in
+    let h : Head = record { uid = u.uid; id = u.id; auth = u.auth } in
+    let of : HeadOf request.m1 h = record { is_head = record { is_uid = is_u.is_uid; id_fits = is_u.id_fits; auth_fits = is_u.auth_fits }; m1_is = x.padded.m1_is } in
+    let text : text_in authkey request.m2 ≡ plain u x.pad = text_in-carried request.m2 authkey u x.pad is_authkey is_u.counter_fits x.pad_fits is_u.is_key x.padded.m2_is in
+    let halves = plain_halves u x.pad in
+    let key_fits : number_of u.key < 2 ^ 128 = number_of-lt 16 u.key is_u.is_key in
+    let flags_fit : flags_number u.flags < 32 = flags_number-lt u.flags in
+    let counter : text_in authkey request.m2 / 2 ^ 228 ≡ u.counter = ap (λ n. n / 2 ^ 228) text ∙ omega (arith, x.pad_fits) in
+    let flags : text_in authkey request.m2 / 2 ^ 223 % 2 ^ 5 ≡ flags_number u.flags = ap (λ n. n / 2 ^ 223 % 2 ^ 5) text ∙ omega (arith, x.pad_fits) in
+    let key : text_in authkey request.m2 % 2 ^ 128 ≡ number_of u.key = ap (λ n. n % 2 ^ 128) text ∙ omega (arith, x.pad_fits) in
+    let Make : List ℕ → ℕ → ℕ → ℕ → Flags → List ℕ → Update = λ d i a c f y. record { uid = d; id = i; auth = a; counter = c; flags = f; key = y } in
+    let m1 : List ℕ = request.m1 in
+    let all : Make (take 15 m1) (id_of m1) (auth_of m1) (text_in authkey request.m2 / 2 ^ 228) (flags_from (text_in authkey request.m2 / 2 ^ 223 % 2 ^ 5)) (bytes_of 16 (text_in authkey request.m2 % 2 ^ 128)) ≡ Make u.uid u.id u.auth u.counter u.flags u.key =
+    cc (uid_of-head m1 h of, id_of-head m1 h of, auth_of-head m1 h of, counter, ap flags_from flags ∙ flags_from-number u.flags, ap (bytes_of 16) key ∙ bytes_of-number_of 16 u.key is_u.is_key) in
+    all
 
 -- a request carries at most one update under one authorising key
-pub same_update : (request : Request) (authkey : List ℕ) (u v : Update) → IsBlock authkey → IsUpdate u → IsUpdate v → Carries request authkey u → Carries request authkey v → u ≡ v
-same_update request authkey u v is_authkey is_u is_v x y =
-    let k : Head = head_in v in
-    let heads : head_in u ≡ k = same_head request.m1 (head_in u) k (IsHead-head_in u is_u) (IsHead-head_in v is_v) x.padded.m1_is y.padded.m1_is in
-    let opens_u : Opens request.m2 authkey u = record { pad = x.pad; pad_fits = x.pad_fits; counter_fits = is_u.counter_fits; is_key = is_u.is_key; m2_is = x.padded.m2_is } in
-    let opens_v : Opens request.m2 authkey v = record { pad = y.pad; pad_fits = y.pad_fits; counter_fits = is_v.counter_fits; is_key = is_v.is_key; m2_is = y.padded.m2_is } in
-    let parts = same_opened request.m2 authkey u v is_authkey opens_u opens_v in
-    let Make : Head → ℕ → Flags → List ℕ → Update = λ x c f y. record { uid = x.uid; id = x.id; auth = x.auth; counter = c; flags = f; key = y } in
-    ap (λ x. Make x u.counter u.flags u.key) heads ∙ ap (λ c. Make k c u.flags u.key) parts.0 ∙ ap (λ f. Make k v.counter f u.key) parts.1 ∙ ap (Make k v.counter v.flags) parts.2
+pub same_update : (request : Request) (authkey : List ℕ) (u v : Update) → IsBlock authkey → Carries request authkey u → Carries request authkey v → u ≡ v
+same_update request authkey u v is_authkey x y =
+    sym (update_in-carried request authkey u is_authkey x) ∙ update_in-carried request authkey v is_authkey y
 
--- ---- the update in a request
+-- ---- the update that stands in a request
 
--- the two blocks that M2 decrypts to give the update, with the padding that stands there
-pub opens : (m2 : List (List ℕ)) (authkey : List ℕ) (first : List ℕ) (u : Update) → IsBlock authkey → All IsBlock m2 → cbc_inverse (kdf authkey Enc) zero_block m2 ≡ first ∷ u.key ∷ [] → u.counter ≡ bit_field 28 0 (number_of first) → flags_number u.flags ≡ bit_field 5 28 (number_of first) → Opens m2 authkey u
-unfolding upper
-opens m2 authkey first u is_authkey is_m2 decrypted counter flags =
+-- what M2 decrypts to, and its number
+record Opened (m2 : List (List ℕ)) (authkey x y : List ℕ) : Type 0 where
+  text_is : cbc_inverse (kdf authkey Enc) zero_block m2 ≡ x ∷ y ∷ []
+  is_x : IsBlock x
+  is_y : IsBlock y
+  number : text_in authkey m2 ≡ number_of x * 2 ^ 128 + number_of y
+
+opened_at : (m2 : List (List ℕ)) (authkey x y : List ℕ) → IsBlock authkey → All IsBlock m2 → cbc_inverse (kdf authkey Enc) zero_block m2 ≡ x ∷ y ∷ [] → Opened m2 authkey x y
+unfolding text_in
+opened_at m2 authkey x y is_authkey is_m2 is =
+    let all : All IsBlock (x ∷ y ∷ []) = subst (All IsBlock) is (All-cbc_inverse (kdf authkey Enc) zero_block m2 (IsBlock-kdf authkey Enc is_authkey) IsBlock-zero_block is_m2) in
+    let is_y = All-head IsBlock y [] (All-tail IsBlock x (y ∷ []) all) in
+    record { text_is = is; is_x = All-head IsBlock x (y ∷ []) all; is_y = is_y; number = ap (λ bs. number_of (concat bs)) is ∙ number_of-two x y is_y }
+
+-- M2 is what its text is encrypted to
+sealed_again : (m2 : List (List ℕ)) (authkey x y : List ℕ) (n : ℕ) → IsBlock authkey → All IsBlock m2 → Opened m2 authkey x y → n ≡ text_in authkey m2 → m2 ≡ cbc (kdf authkey Enc) zero_block (two_blocks n)
+sealed_again m2 authkey x y n is_authkey is_m2 o same =
     let k : List ℕ = kdf authkey Enc in
-    let is_k = IsBlock-kdf authkey Enc is_authkey in
-    let is_text : All IsBlock (first ∷ u.key ∷ []) = subst (All IsBlock) decrypted (All-cbc_inverse k zero_block m2 is_k IsBlock-zero_block is_m2) in
-    let is_first : IsBlock first = All-head IsBlock first (u.key ∷ []) is_text in
-    let is_key : IsBlock u.key = All-head IsBlock u.key [] (All-tail IsBlock first (u.key ∷ []) is_text) in
-    let n : ℕ = number_of first in
-    let pad : ℕ = n % 2 ^ 95 in
-    let below : n < 2 ^ 128 = block-lt first is_first in
-    let top : upper u pad ≡ n = omega (arith, counter, flags, below) in
-    let text : two_blocks (plain u pad) ≡ first ∷ u.key ∷ [] =
-    plain_blocks u pad is_key ∙ ap (λ a. bytes_of 16 a ∷ u.key ∷ []) top ∙ ap (λ b. b ∷ u.key ∷ []) (block_back first is_first) in
+    let text : two_blocks n ≡ cbc_inverse k zero_block m2 = ap two_blocks (same ∙ o.number) ∙ two_blocks-join x y o.is_x o.is_y ∙ sym o.text_is in
+    sym (cbc-cbc_inverse k zero_block m2 (IsBlock-kdf authkey Enc is_authkey) is_m2) ∙ ap (cbc k zero_block) (sym text)
+
+-- the fields of a number of 256 bits make it up again
+made_up : (t f k : ℕ) → t < 2 ^ 256 → f ≡ t / 2 ^ 223 % 2 ^ 5 → k ≡ t % 2 ^ 128 → t / 2 ^ 228 * 2 ^ 228 + f * 2 ^ 223 + t / 2 ^ 128 % 2 ^ 95 * 2 ^ 128 + k ≡ t
+made_up t f k fits flags key = omega arith
+
+carries_opened : (request : Request) (authkey x y : List ℕ) → IsBlock authkey → IsRequest request → HasSlots request.m1 → Opened request.m2 authkey x y → request.m3 ≡ request_mac authkey request.m1 request.m2 → Carries request authkey (update_in authkey request)
+unfolding update_in
+carries_opened request authkey x y is_authkey is_request slots o mac =
+    let t : ℕ = text_in authkey request.m2 in
+    let m1 : List ℕ = request.m1 in
+    let of = HeadOf-head_in m1 is_request.m1_is slots in
+    let fits : t < 2 ^ 256 = omega (arith, o.number, number_of-lt 16 x o.is_x, number_of-lt 16 y o.is_y) in
+    let f : ℕ = t / 2 ^ 223 % 2 ^ 5 in
+    let pad : ℕ = t / 2 ^ 128 % 2 ^ 95 in
+    let flags : flags_number (flags_from f) ≡ f = flags_number-from f (omega arith) in
+    let key : number_of (bytes_of 16 (t % 2 ^ 128)) ≡ t % 2 ^ 128 = number_of-bytes_of-lt 16 (t % 2 ^ 128) (omega arith) in
     record {
       pad = pad;
       pad_fits = omega arith;
-      counter_fits = omega (arith, counter);
-      is_key = is_key;
-      m2_is = sym (cbc-cbc_inverse k zero_block m2 is_k IsBlock-zero_block is_m2) ∙ ap (cbc k zero_block) (decrypted ∙ sym text);
+      padded = record {
+        is_update = record { is_uid = of.is_head.is_uid; id_fits = slots.0; auth_fits = slots.1; counter_fits = omega (arith, fits); is_key = IsBytes-bytes_of 16 (t % 2 ^ 128) };
+        m1_is = of.m1_is;
+        m2_is = sealed_again request.m2 authkey x y _ is_authkey is_request.m2_is o (made_up t (flags_number (flags_from f)) (number_of (bytes_of 16 (t % 2 ^ 128))) fits flags key);
+        m3_is = mac;
+      };
     }
 
--- M1 as a head
-pub head_at : (m1 : List ℕ) → IsBlock m1 → HasSlots m1 → (h : Head) × IsHead h × HeadOf m1 h
-head_at m1 is_m1 has_slots =
-    let n : ℕ = number_of m1 in
-    let below : n < 2 ^ 128 = block-lt m1 is_m1 in
-    let uid : List ℕ = bytes_of 15 (n / 2 ^ 8) in
-    let is_uid : IsUid uid = record { size = length-bytes_of 15 (n / 2 ^ 8); bytes = All-bytes_of 15 (n / 2 ^ 8) } in
-    let uid_fits : n / 2 ^ 8 < 2 ^ 120 = omega arith in
-    let uid_number : number_of uid ≡ n / 2 ^ 8 = number_of-bytes_of 15 (n / 2 ^ 8) ∙ mod-eq_of_lt uid_fits in
-    let h : Head = record { uid = uid; id = id_of m1; auth = auth_of m1 } in
-    let sum : header uid (id_of m1) (auth_of m1) ≡ n = omega (arith, uid_number) in
-    (h, record { is_uid = is_uid; id_fits = has_slots.0; auth_fits = has_slots.1 }, sym (ap (bytes_of 16) sum ∙ block_back m1 is_m1))
+-- a request whose ID and AuthID are slots' and whose M3 is right carries the update that stands in it
+pub Carries-update_in : (request : Request) (authkey : List ℕ) → IsBlock authkey → IsRequest request → HasSlots request.m1 → request.m3 ≡ request_mac authkey request.m1 request.m2 → Carries request authkey (update_in authkey request)
+Carries-update_in request authkey is_authkey is_request slots mac =
+    let text : List (List ℕ) = cbc_inverse (kdf authkey Enc) zero_block request.m2 in
+    let two : length text ≡ 2 = length-cbc_inverse (kdf authkey Enc) zero_block request.m2 ∙ is_request.m2_has_2 in
+    let x : List ℕ = get_or text 0 [] in
+    let y : List ℕ = get_or text 1 [] in
+    carries_opened request authkey x y is_authkey is_request slots (opened_at request.m2 authkey x y is_authkey is_request.m2_is (two_of text [] [] two)) mac
 
--- a list of two by its elements
-pub two_of : (xs : List (List ℕ)) (x y : List ℕ) → length xs ≡ 2 → xs ≡ get_or xs 0 x ∷ get_or xs 1 y ∷ []
-two_of (a ∷ b ∷ []) x y two = refl
-two_of xs x y two = absurd (omega arith)
+-- the head of a request that carries an update
+pub HeadOf-Carries : (request : Request) (authkey : List ℕ) (u : Update) → Carries request authkey u → HeadOf request.m1 (record { uid = u.uid; id = u.id; auth = u.auth })
+HeadOf-Carries request authkey u x =
+    let is_u = x.padded.is_update in
+    record { is_head = record { is_uid = is_u.is_uid; id_fits = is_u.id_fits; auth_fits = is_u.auth_fits }; m1_is = x.padded.m1_is }
 
-pair_of : (xs : List (List ℕ)) → length xs ≡ 2 → All IsBlock xs → (x : List ℕ) × (y : List ℕ) × (xs ≡ x ∷ y ∷ []) × IsBlock x × IsBlock y
-pair_of (x ∷ y ∷ []) two all =
-    (x, y, refl, All-head IsBlock x (y ∷ []) all, All-head IsBlock y [] (All-tail IsBlock x (y ∷ []) all))
-pair_of xs two all = absurd (omega arith)
+pub HasSlots-Carries : (request : Request) (authkey : List ℕ) (u : Update) → Carries request authkey u → HasSlots request.m1
+HasSlots-Carries request authkey u x = HasSlots-head request.m1 (record { uid = u.uid; id = u.id; auth = u.auth }) (HeadOf-Carries request authkey u x)
 
--- a request whose slots and M3 are right carries an update
-pub carried_update : (request : Request) (authkey : List ℕ) → IsBlock authkey → IsRequest request → HasSlots request.m1 → request.m3 ≡ request_mac authkey request.m1 request.m2 → (u : Update) × IsUpdate u × Carries request authkey u
-carried_update request authkey is_authkey is_request has_slots mac =
+-- what carries an update is a request
+pub IsRequest-Carries : (request : Request) (authkey : List ℕ) (u : Update) → IsBlock authkey → Carries request authkey u → IsRequest request
+IsRequest-Carries request authkey u is_authkey x =
     let k : List ℕ = kdf authkey Enc in
-    let is_k = IsBlock-kdf authkey Enc is_authkey in
-    let text : List (List ℕ) = cbc_inverse k zero_block request.m2 in
-    let pair = pair_of text (length-cbc_inverse k zero_block request.m2 ∙ is_request.m2_has_2) (All-cbc_inverse k zero_block request.m2 is_k IsBlock-zero_block is_request.m2_is) in
-    let head = head_at request.m1 is_request.m1_is has_slots in
-    let n : ℕ = number_of pair.0 in
-    let u : Update = record { uid = head.0.uid; id = head.0.id; auth = head.0.auth; counter = bit_field 28 0 n; flags = flags_from (bit_field 5 28 n); key = pair.1 } in
-    let flags : flags_number u.flags ≡ bit_field 5 28 n = flags_number-from (bit_field 5 28 n) (omega arith) in
-    let o = opens request.m2 authkey pair.0 u is_authkey is_request.m2_is pair.2 refl flags in (
-      u,
-      record { is_uid = head.1.is_uid; id_fits = head.1.id_fits; auth_fits = head.1.auth_fits; counter_fits = o.counter_fits; is_key = pair.4 },
-      record { pad = o.pad; pad_fits = o.pad_fits; padded = record { m1_is = head.2; m2_is = o.m2_is; m3_is = mac } },
-    )
+    let text : List (List ℕ) = two_blocks (plain u x.pad) in
+    record {
+      m1_is = subst IsBlock (sym x.padded.m1_is) (IsBytes-bytes_of 16 (header u.uid u.id u.auth));
+      m2_has_2 = ap length x.padded.m2_is ∙ length-cbc k zero_block text ∙ length-two_blocks (plain u x.pad);
+      m2_is = subst (All IsBlock) (sym x.padded.m2_is) (All-cbc k zero_block text (IsBlock-kdf authkey Enc is_authkey));
+      m3_is = subst IsBlock (sym x.padded.m3_is) (IsBlock-request_mac authkey request.m1 request.m2 is_authkey);
+    }
+
+-- a request that is built carries its update
+pub Carries-Builds : (request : Request) (authkey : List ℕ) (u : Update) → Builds request authkey u → Carries request authkey u
+Carries-Builds request authkey u b = record { pad = 0; pad_fits = omega arith; padded = b }
+
+-- one request is built for an update
+pub same_request : (request other : Request) (authkey : List ℕ) (u : Update) → Builds request authkey u → Builds other authkey u → request ≡ other
+same_request r s authkey u x y =
+    let m1s : r.m1 ≡ s.m1 = x.m1_is ∙ sym y.m1_is in
+    let m2s : r.m2 ≡ s.m2 = x.m2_is ∙ sym y.m2_is in
+    let m3s : r.m3 ≡ s.m3 = x.m3_is ∙ ap (λ a. request_mac authkey a r.m2) m1s ∙ ap (request_mac authkey s.m1) m2s ∙ sym y.m3_is in
+    let Make : List ℕ → List (List ℕ) → List ℕ → Request = λ a b c. record { m1 = a; m2 = b; m3 = c } in
+    ap (λ a. Make a r.m2 r.m3) m1s ∙ ap (λ b. Make s.m1 b r.m3) m2s ∙ ap (Make s.m1 s.m2) m3s
 
 -- ---- the answer
-
--- the two blocks of M4
-pub answer_blocks : (uid : List ℕ) (u : Update) → IsBlock u.key → bytes_of 16 (header uid u.id u.auth) ∷ enc (kdf u.key Enc) (bytes_of 16 (u.counter * 2 ^ 100 + 2 ^ 99)) ∷ [] ≡ two_blocks (number_of uid * 2 ^ 136 + u.id * 2 ^ 132 + u.auth * 2 ^ 128 + number_of (enc (kdf u.key Enc) (bytes_of 16 (u.counter * 2 ^ 100 + 2 ^ 99))))
-answer_blocks uid u is_key =
-    let counter : List ℕ = bytes_of 16 (u.counter * 2 ^ 100 + 2 ^ 99) in
-    let last : List ℕ = enc (kdf u.key Enc) counter in
-    let is_last : IsBlock last = IsBlock-enc (kdf u.key Enc) counter (IsBlock-kdf u.key Enc is_key) in
-    let sum : header uid u.id u.auth * 2 ^ 128 + number_of last ≡ number_of uid * 2 ^ 136 + u.id * 2 ^ 132 + u.auth * 2 ^ 128 + number_of last = omega arith in
-    sym (two_blocks-pair (header uid u.id u.auth) last is_last) ∙ ap two_blocks sum
 
 -- one reply confirms an update
 pub same_reply : (r s : Reply) (u : Update) (uid : List ℕ) → Confirms r u uid → Confirms s u uid → r ≡ s
@@ -236,47 +303,49 @@ same_reply r s u uid x y =
     let Make : List (List ℕ) → List ℕ → Reply = λ a b. record { m4 = a; m5 = b } in
     ap (λ a. Make a r.m5) m4s ∙ ap (Make s.m4) m5s
 
-last_byte : (n b : ℕ) → n * 256 ^ length (b ∷ []) + number_of (b ∷ []) ≡ n * 256 + b
-unfolding number_of
-last_byte n b = omega arith
-
--- the parts of an M1, and what they say
-pub record HeadParts (m1 uid : List ℕ) (slots : ℕ) : Type 0 where
-  pub is_uid : IsUid uid
-  pub id_is : id_of m1 ≡ slots / 16
-  pub auth_is : auth_of m1 ≡ slots % 16
-  pub head_of : slots / 16 < 14 → slots % 16 < 14 → m1 ≡ bytes_of 16 (header uid (slots / 16) (slots % 16))
-
-pub head_parts : (m1 uid : List ℕ) (slots : ℕ) → IsBlock m1 → uid ≡ take 15 m1 → slots ≡ get_or m1 15 0 → HeadParts m1 uid slots
-head_parts m1 uid slots is_m1 front last =
-    let P : ℕ → Type 0 = λ b. b < 256 in
-    let within : 15 < length m1 = omega (arith, is_m1.size) in
-    let whole : m1 ≡ uid ++ slots ∷ [] =
-    sym (take-length m1) ∙ ap (λ n. take n m1) is_m1.size ∙ take_more m1 15 0 within ∙ ap (λ x. x ++ get_or m1 15 0 ∷ []) (sym front) ∙ ap (λ x. uid ++ x ∷ []) (sym last) in
-    let size : length uid ≡ 15 = ap length front ∙ length-take 15 m1 ∙ ap (min 15) is_m1.size in
-    let is_uid : IsUid uid = record { size = size; bytes = subst (All P) (sym front) (All-take P 15 m1 is_m1.bytes) } in
-    let small : slots < 256 = subst P (sym last) (All-get_or P m1 15 0 within is_m1.bytes) in
-    let number : number_of m1 ≡ number_of uid * 256 + slots = ap number_of whole ∙ number_of-append uid (slots ∷ []) ∙ last_byte (number_of uid) slots in
+-- a reply has nothing of the flags, nor of the UID in the update
+pub Confirms-same : (r : Reply) (u v : Update) (uid : List ℕ) → u.id ≡ v.id → u.auth ≡ v.auth → u.counter ≡ v.counter → u.key ≡ v.key → Confirms r u uid → Confirms r v uid
+Confirms-same r u v uid ids auths counters keys x =
+    let M4 : ℕ → ℕ → ℕ → List ℕ → List (List ℕ) = λ i a c k. two_blocks (number_of uid * 2 ^ 136 + i * 2 ^ 132 + a * 2 ^ 128 + number_of (enc (kdf k Enc) (bytes_of 16 (c * 2 ^ 100 + 2 ^ 99)))) in
     record {
-      is_uid = is_uid;
-      id_is = ap (λ n. n / 2 ^ 4 % 2 ^ 4) number ∙ omega (arith, small);
-      auth_is = ap (λ n. n % 2 ^ 4) number ∙ omega (arith, small);
-      head_of = λ i a. whole ∙ ap (λ x. uid ++ x ∷ []) (let e : slots ≡ slots / 16 * 16 + slots % 16 = omega arith in e) ∙ head_bytes uid (slots / 16) (slots % 16) is_uid i a;
+      m4_is = x.m4_is ∙ ap (λ i. M4 i u.auth u.counter u.key) ids ∙ ap (λ a. M4 v.id a u.counter u.key) auths ∙ ap (λ c. M4 v.id v.auth c u.key) counters ∙ ap (M4 v.id v.auth v.counter) keys;
+      m5_is = x.m5_is ∙ ap (λ k. cmac (kdf k Mac) (concat r.m4)) keys;
     }
 
-and_parts : (p q : Bool) → (p && q) ≡ true → (p ≡ true) × (q ≡ true)
-and_parts true q e = (refl, e)
-and_parts false q e = cc
+-- the two blocks of M4
+pub answer_blocks : (uid : List ℕ) (u : Update) → IsUid uid → u.id < 14 → u.auth < 14 → IsBlock u.key → bytes_of 16 (header uid u.id u.auth) ∷ sealed_counter u ∷ [] ≡ two_blocks (number_of uid * 2 ^ 136 + u.id * 2 ^ 132 + u.auth * 2 ^ 128 + number_of (sealed_counter u))
+answer_blocks uid u is_uid id_fits auth_fits is_key =
+    let last : List ℕ = sealed_counter u in
+    let is_last : IsBlock last = IsBlock-enc (kdf u.key Enc) (bytes_of 16 (u.counter * 2 ^ 100 + 2 ^ 99)) (IsBlock-kdf u.key Enc is_key) in
+    let sum : header uid u.id u.auth * 2 ^ 128 + number_of last ≡ number_of uid * 2 ^ 136 + u.id * 2 ^ 132 + u.auth * 2 ^ 128 + number_of last = omega arith in
+    sym (two_blocks-pair (header uid u.id u.auth) last (header-lt uid u.id u.auth is_uid id_fits auth_fits) is_last) ∙ ap two_blocks sum
 
--- a test of both messages tells whether a reply confirms
-pub confirmed_by : (r s : Reply) (u : Update) (uid : List ℕ) (b p q : Bool) → Confirms s u uid → Decides p (r.m4 ≡ s.m4) → Decides q (r.m5 ≡ s.m5) → b ≡ (p && q) → IsTrue b ↔ Confirms r u uid
-confirmed_by r s u uid b p q confirms m4 m5 test = (
-  λ yes.
-      let both = and_parts p q (sym test ∙ yes) in
-      let Make : List (List ℕ) → List ℕ → Reply = λ x y. record { m4 = x; m5 = y } in
-      let same : r ≡ s = ap (λ x. Make x r.m5) (m4.0 both.0) ∙ ap (Make s.m4) (m5.0 both.1) in
-      subst (λ (x : Reply). Confirms x u uid) (sym same) confirms,
-  λ h.
-      let same : r ≡ s = same_reply r s u uid h confirms in
-      test ∙ ap (λ x. x && q) (m4.1 (ap (λ (x : Reply). x.m4) same)) ∙ m5.1 (ap (λ (x : Reply). x.m5) same),
-)
+same_counter : (u v : Update) → IsUpdate u → IsUpdate v → sealed_counter u ≡ sealed_counter v → u.key ≡ v.key → u.counter ≡ v.counter
+same_counter u v is_u is_v sealed keys =
+    let k : List ℕ = kdf v.key Enc in
+    let is_k = IsBlock-kdf v.key Enc is_v.is_key in
+    let cu : List ℕ = bytes_of 16 (u.counter * 2 ^ 100 + 2 ^ 99) in
+    let cv : List ℕ = bytes_of 16 (v.counter * 2 ^ 100 + 2 ^ 99) in
+    let same_sealed : enc k cu ≡ enc k cv = ap (λ y. enc (kdf y Enc) cu) (sym keys) ∙ sealed in
+    let blocks : cu ≡ cv = sym (dec-enc k cu is_k (IsBytes-bytes_of 16 (u.counter * 2 ^ 100 + 2 ^ 99))) ∙ ap (dec k) same_sealed ∙ dec-enc k cv is_k (IsBytes-bytes_of 16 (v.counter * 2 ^ 100 + 2 ^ 99)) in
+    let numbers : u.counter * 2 ^ 100 + 2 ^ 99 ≡ v.counter * 2 ^ 100 + 2 ^ 99 = same_number 16 (u.counter * 2 ^ 100 + 2 ^ 99) (v.counter * 2 ^ 100 + 2 ^ 99) (omega (arith, is_u.counter_fits)) (omega (arith, is_v.counter_fits)) blocks in
+    omega arith
+
+-- one reply confirms at most one update of a unit under one key, but for its flags and its UID
+pub same_confirmed : (r : Reply) (u v : Update) (uid other : List ℕ) → IsUpdate u → IsUpdate v → IsUid uid → IsUid other → Confirms r u uid → Confirms r v other → SameConfirmed uid other u v
+same_confirmed r u v uid other is_u is_v is_uid is_other x y =
+    let m1 : List ℕ = bytes_of 16 (header uid u.id u.auth) in
+    let blocks : m1 ∷ sealed_counter u ∷ [] ≡ bytes_of 16 (header other v.id v.auth) ∷ sealed_counter v ∷ [] =
+    answer_blocks uid u is_uid is_u.id_fits is_u.auth_fits is_u.is_key ∙ sym x.m4_is ∙ y.m4_is ∙ sym (answer_blocks other v is_other is_v.id_fits is_v.auth_fits is_v.is_key) in
+    let fronts : m1 ≡ bytes_of 16 (header other v.id v.auth) = cc in
+    let sealed : sealed_counter u ≡ sealed_counter v = cc in
+    let h : Head = record { uid = uid; id = u.id; auth = u.auth } in
+    let k : Head = record { uid = other; id = v.id; auth = v.auth } in
+    let of_h : HeadOf m1 h = record { is_head = record { is_uid = is_uid; id_fits = is_u.id_fits; auth_fits = is_u.auth_fits }; m1_is = refl } in
+    let of_k : HeadOf m1 k = record { is_head = record { is_uid = is_other; id_fits = is_v.id_fits; auth_fits = is_v.auth_fits }; m1_is = fronts } in
+    record {
+      uid_is = sym (uid_of-head m1 h of_h) ∙ uid_of-head m1 k of_k;
+      id_is = sym (id_of-head m1 h of_h) ∙ id_of-head m1 k of_k;
+      auth_is = sym (auth_of-head m1 h of_h) ∙ auth_of-head m1 k of_k;
+      counter_is = same_counter u v is_u is_v sealed;
+    }

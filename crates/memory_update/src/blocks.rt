@@ -1,49 +1,32 @@
 // The blocks that the messages are made of.
 ghost use Rattle.std.specs.Prelude.{◌≡◌, ◌+◌, ◌*◌, ◌^◌, ◌<◌};
-ghost use Rattle.std.specs.List.{concat};
+ghost use Rattle.byte_lists.specs.Numbers.{number_of, bytes_of};
+ghost use Rattle.she_aes.specs.Cipher.{IsBlock};
+ghost use Rattle.she_kdf.specs.Derivation.{kdf};
 ghost use Rattle.key_slots.specs.Flags.{flags_number};
-ghost use Rattle.memory_update.specs.Ciphers.{IsBlock, zero_block, kdf, cmac};
 ghost use Rattle.memory_update.specs.Fields.{bit_field};
-ghost use Rattle.memory_update.specs.Messages.{header};
-ghost use Rattle.memory_update.specs.Numbers.{number_of, bytes_of};
+ghost use Rattle.memory_update.specs.Messages.{header, IsUid};
 
 use crate::messages::Uid;
 use crate::words::{place, take};
 use key_slots::{Counter28, Flags, SlotId};
 use she_aes::{Block, Schedule, expand};
-use she_cmac::Mac;
 use she_kdf::{Constant, derive};
-
-// The block of 16 zero bytes.
-pub(crate) fn zero() -> Block
-    ensures { result ≡ zero_block }
-{
-    Block::of([0; 16])
-}
 
 // The round keys of the key that is derived from this one.
 pub(crate) fn derived(key: &Block, constant: Constant) -> Schedule
     ensures schedule { result ≡ kdf key.now constant }
     ensures key { IsBlock key.now }
 {
-    let _is_block = key.as_slice();
     expand(&derive(key, constant))
-}
-
-// The CMAC of these blocks, one after another.
-pub(crate) fn mac_of(schedule: &Schedule, blocks: &[Block]) -> Block
-    ensures { result ≡ cmac schedule.now (concat blocks.now) }
-{
-    let mut mac = Mac::new(schedule);
-    for block in blocks {
-        mac.update(block.as_slice());
-    }
-    mac.finish()
 }
 
 // UID, ID and AuthID: M1, and the first block of M4.
 pub(crate) fn head_block(uid: &Uid, id: SlotId, auth: SlotId) -> Block
-    ensures { result ≡ bytes_of 16 (header uid.now id auth) }
+    ensures value { result ≡ bytes_of 16 (header uid.now id auth) }
+    ensures uid { IsUid uid.now }
+    ensures id { id < 14 }
+    ensures auth { auth < 14 }
 {
     let mut block = [id.number() * 16 + auth.number(); 16];
     block[..15].copy_from_slice(uid.as_slice());
@@ -52,14 +35,16 @@ pub(crate) fn head_block(uid: &Uid, id: SlotId, auth: SlotId) -> Block
 
 // A word that begins with the counter.
 fn counter_word(counter: Counter28) -> u128
-    ensures { result ≡ counter * 2 ^ 100 }
+    ensures value { result ≡ counter * 2 ^ 100 }
+    ensures fits { counter < 2 ^ 28 }
 {
     place::<28>(0, 0, u128::from(counter.number()))
 }
 
 // The counter, the flags and zero padding: the first block of the plain text of M2.
 pub(crate) fn plain_block(counter: Counter28, flags: Flags) -> Block
-    ensures { result ≡ bytes_of 16 (counter * 2 ^ 100 + flags_number flags * 2 ^ 95) }
+    ensures value { result ≡ bytes_of 16 (counter * 2 ^ 100 + flags_number flags * 2 ^ 95) }
+    ensures fits { counter < 2 ^ 28 }
 {
     let word = place::<5>(counter_word(counter), 28, u128::from(flags.number()));
     Block::of(word.to_be_bytes())
@@ -67,7 +52,8 @@ pub(crate) fn plain_block(counter: Counter28, flags: Flags) -> Block
 
 // The counter and a 1: the plain text of the second block of M4.
 pub(crate) fn counter_block(counter: Counter28) -> Block
-    ensures { result ≡ bytes_of 16 (counter * 2 ^ 100 + 2 ^ 99) }
+    ensures value { result ≡ bytes_of 16 (counter * 2 ^ 100 + 2 ^ 99) }
+    ensures fits { counter < 2 ^ 28 }
 {
     let word = place::<1>(counter_word(counter), 28, 1);
     Block::of(word.to_be_bytes())
@@ -90,9 +76,7 @@ pub(crate) fn flags_in(word: u128) -> Flags
 
 // The block as a big-endian number.
 pub(crate) fn word_of(block: &Block) -> u128
-    ensures value { result ≡ number_of block.now }
-    ensures block { IsBlock block.now }
+    ensures { result ≡ number_of block.now }
 {
-    let _is_block = block.as_slice();
     u128::from_be_bytes(*block.bytes())
 }

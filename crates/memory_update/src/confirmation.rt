@@ -2,9 +2,10 @@
 ghost use Rattle.std.specs.Prelude.{◌≡◌, ◌↔◌, IsTrue};
 ghost use Rattle.memory_update.specs.Messages.{Confirms};
 
-use crate::blocks::{counter_block, derived, head_block, mac_of};
+use crate::blocks::{counter_block, derived, head_block};
 use crate::messages::{Reply, Uid, Update};
 use she_aes::encrypt;
+use she_cmac::cmac_of_parts;
 use she_kdf::Constant;
 
 /// M4 and M5, by which the engine with this identifier confirms the update.
@@ -17,7 +18,9 @@ pub fn confirm_for(update: &Update, uid: Uid) -> Reply
         head,
         encrypt(&derived(&update.key, Constant::Enc), &counter),
     ];
-    let m5 = mac_of(&derived(&update.key, Constant::Mac), &m4);
+    let [first, second] = &m4;
+    let parts = [first.as_slice(), second.as_slice()];
+    let m5 = cmac_of_parts(&derived(&update.key, Constant::Mac), &parts);
     Reply { m4, m5 }
 }
 

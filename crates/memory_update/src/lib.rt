@@ -6,7 +6,7 @@
 
 mod blocks;
 mod confirmation;
-mod laws;
+pub mod laws;
 mod messages;
 mod requests;
 #[cfg(test)]
@@ -14,7 +14,6 @@ mod tests;
 mod words;
 
 pub use confirmation::{confirm_for, is_confirmed};
-pub use laws::{a_carried_update_is_one, a_whole_request_carries_an_update};
 pub use messages::{Head, Reply, Request, Uid, Unseal, Update};
 pub use requests::{build, head, unseal};
 pub use words::{place, take};

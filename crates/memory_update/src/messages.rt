@@ -1,9 +1,12 @@
 //! What the messages of a key update carry, and the messages themselves.
-ghost use Rattle.std.specs.Prelude.{◌≡◌, ◌↔◌, ◌<◌, IsTrue, All, replicate};
+ghost use Rattle.std.specs.Prelude.{◌≡◌, ◌↔◌, IsTrue, length, replicate, Some};
+ghost use Rattle.byte_lists.specs.Bytes.{IsBytes};
 ghost use Rattle.memory_update.specs.Identifier.{IsUid};
+ghost use Rattle.memory_update.specs.Shown.{shown_update};
 
 use key_slots::{Counter28, Flags, SlotId};
 use she_aes::Block;
+use std::fmt;
 use std::marker::Model;
 
 /// The unique identifier of an engine, 15 bytes. Contracts see it as the list of its bytes.
@@ -12,10 +15,13 @@ pub struct Uid([u8; 15]);
 
 impl Model for Uid {
     ghost use Rattle.std.specs.Prelude.{List, ℕ};
+    ghost use Rattle.memory_update.specs.Identifier.{IsUid};
 
     ghost Value = { List ℕ };
 
     ghost view = { λ u. u.0 };
+
+    ghost invariant = { λ u. IsUid u.0 };
 
     ghost inverse = { λ l. record { 0 = l } };
 }
@@ -23,7 +29,7 @@ impl Model for Uid {
 // The same bytes: of a slice that is passed a proof knows that its items are bytes.
 fn told(bytes: &[u8]) -> &[u8]
     ensures value { result.now ≡ bytes.now }
-    ensures bytes { All (λ b. b < 256) bytes.now }
+    ensures are_bytes { IsBytes (length bytes.now) bytes.now }
 {
     bytes
 }
@@ -31,25 +37,27 @@ fn told(bytes: &[u8]) -> &[u8]
 impl Uid {
     /// The identifier with these bytes.
     pub fn of(bytes: [u8; 15]) -> Uid
-        ensures { result ≡ bytes }
+        ensures value { result ≡ bytes }
+        ensures is_uid { IsUid result }
     {
+        let _bytes = told(&bytes);
         Uid(bytes)
     }
 
     /// Its 15 bytes.
     pub fn bytes(&self) -> &[u8; 15]
-        ensures { result.now ≡ self.now }
+        ensures value { result.now ≡ self.now }
+        ensures is_uid { IsUid self.now }
     {
         &self.0
     }
 
-    /// The same bytes as a slice. This call also tells a proof what every identifier is: 15 numbers
-    /// below 256.
+    /// Its 15 bytes as a slice.
     pub fn as_slice(&self) -> &[u8]
         ensures value { result.now ≡ self.now }
         ensures is_uid { IsUid self.now }
     {
-        told(&self.0)
+        &self.0
     }
 
     /// Whether all its bytes are zero: a request with this identifier is meant for every engine.
@@ -61,7 +69,7 @@ impl Uid {
 }
 
 /// A key update: what is to be put into slot `id`, authorised by the key of slot `auth`.
-#[derive(Clone, Copy, Debug, PartialEq, Eq)]
+#[derive(Clone, Copy, PartialEq, Eq)]
 pub struct Update {
     /// The identifier of the engine that the update is for, or zero.
     pub uid: Uid,
@@ -75,6 +83,22 @@ pub struct Update {
     pub flags: Flags,
     /// The new key.
     pub key: Block,
+}
+
+// The slots, the counter and the flags, and no key.
+impl fmt::Debug for Update {
+    ghost debug_output = { λ u. Some (shown_update u) };
+
+    fn fmt<W: fmt::Write>(&self, f: &mut fmt::Formatter<W>) -> fmt::Result {
+        write!(
+            f,
+            "Update {{ id: {}, auth: {}, counter: {}, flags: {}, .. }}",
+            self.id.number(),
+            self.auth.number(),
+            self.counter.number(),
+            self.flags.number()
+        )
+    }
 }
 
 /// The messages M1, M2 and M3, of 16, 32 and 16 bytes.

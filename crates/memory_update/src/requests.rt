@@ -1,25 +1,28 @@
 //! The request M1, M2, M3: made, and read again.
-ghost use Rattle.std.specs.Prelude.{◌≡◌, ◌≢◌, ◌↔◌, Some, Ok, Err, IsSome, IfSome, IfOk};
-ghost use Rattle.memory_update.specs.Ciphers.{IsBlock};
-ghost use Rattle.memory_update.specs.Messages.{request_mac, Builds, Carries, HasSlots, HeadOf, Opens, IsHead, IsUpdate};
+ghost use Rattle.std.specs.Prelude.{◌≡◌, ◌≢◌, ◌↔◌, Some, Ok, Err, IsSome, IfSome, IfOk, All, length};
+ghost use Rattle.she_aes.specs.Cipher.{IsBlock};
+ghost use Rattle.memory_update.specs.Messages.{request_mac, update_in, Builds, Carries, HasSlots, HeadOf};
 ghost use Rattle.memory_update.specs.declared.messages.Head.{Head};
 ghost use Rattle.memory_update.specs.declared.messages.Update.{Update};
 ghost use Rattle.memory_update.specs.declared.messages.Unseal.TheVariants.{BadId, BadMac};
 
-use crate::blocks::{
-    counter_in, derived, flags_in, head_block, mac_of, plain_block, word_of, zero,
-};
+use crate::blocks::{counter_in, derived, flags_in, head_block, plain_block, word_of};
 use crate::messages::{Head, Request, Uid, Unseal, Update};
 use key_slots::SlotId;
 use she_aes::{Block, cbc_decrypt, cbc_encrypt};
+use she_cmac::cmac_of_parts;
 use she_kdf::Constant;
 
 // M3: the MAC of M1 and M2 under the key that is derived from the authorising key.
 fn mac_of_request(authkey: &Block, m1: &Block, m2: &[Block; 2]) -> Block
-    ensures { result ≡ request_mac authkey.now m1.now m2.now }
+    ensures value { result ≡ request_mac authkey.now m1.now m2.now }
+    ensures m1 { IsBlock m1.now }
+    ensures m2 { All IsBlock m2.now × (length m2.now ≡ 2) }
+    ensures key { IsBlock authkey.now }
 {
-    let [first, second] = *m2;
-    mac_of(&derived(authkey, Constant::Mac), &[*m1, first, second])
+    let [first, second] = m2;
+    let parts = [m1.as_slice(), first.as_slice(), second.as_slice()];
+    cmac_of_parts(&derived(authkey, Constant::Mac), &parts)
 }
 
 /// The request that puts the update into an engine whose slot `auth` holds the authorising key.
@@ -28,9 +31,8 @@ pub fn build(update: &Update, authkey: &Block) -> Request
     ensures { Builds result authkey.now update.now }
 {
     let m1 = head_block(&update.uid, update.id, update.auth);
-    let _is_block = update.key.as_slice();
     let plain = [plain_block(update.counter, update.flags), update.key];
-    let m2 = cbc_encrypt(&derived(authkey, Constant::Enc), &zero(), &plain);
+    let m2 = cbc_encrypt(&derived(authkey, Constant::Enc), &Block::zero(), &plain);
     let m3 = mac_of_request(authkey, &m1, &m2);
     Request { m1, m2, m3 }
 }
@@ -38,9 +40,8 @@ pub fn build(update: &Update, authkey: &Block) -> Request
 /// UID, ID and AuthID of an M1; `None` exactly where ID or AuthID is over 13.
 pub fn head(m1: &Block) -> Option<Head>
     ensures found { IfSome result (HeadOf m1.now) }
-    ensures ranges { IfSome result IsHead }
     ensures some { IsSome result ↔ HasSlots m1.now }
-    ensures only { (h : Head) → IsHead h → HeadOf m1.now h → result ≡ Some h }
+    ensures only { (h : Head) → HeadOf m1.now h → result ≡ Some h }
 {
     let m1 = m1.as_slice();
     let mut uid = [0; 15];
@@ -52,18 +53,13 @@ pub fn head(m1: &Block) -> Option<Head>
     Some(Head { uid, id, auth })
 }
 
-// The update that M2 carries under the authorising key, whatever the padding bits.
-fn opened(head: &Head, authkey: &Block, m2: &[Block; 2]) -> Update
-    ensures uid { result.uid ≡ head.now.uid }
-    ensures id { result.id ≡ head.now.id }
-    ensures auth { result.auth ≡ head.now.auth }
-    ensures opens { Opens m2.now authkey.now result }
-    ensures key { IsBlock authkey.now }
+// The update in the request, whatever the padding bits.
+fn opened(request: &Request, head: &Head, authkey: &Block) -> Update
+    requires { HeadOf request.now.m1 head.now }
+    ensures { result ≡ update_in authkey.now request.now }
 {
-    let [front, back] = m2;
-    let _front = front.as_slice();
-    let _back = back.as_slice();
-    let [first, key] = cbc_decrypt(&derived(authkey, Constant::Enc), &zero(), m2);
+    let key = derived(authkey, Constant::Enc);
+    let [first, last] = cbc_decrypt(&key, &Block::zero(), &request.m2);
     let word = word_of(&first);
     Update {
         uid: head.uid,
@@ -71,7 +67,7 @@ fn opened(head: &Head, authkey: &Block, m2: &[Block; 2]) -> Update
         auth: head.auth,
         counter: counter_in(word),
         flags: flags_in(word),
-        key,
+        key: last,
     }
 }
 
@@ -80,8 +76,7 @@ fn opened(head: &Head, authkey: &Block, m2: &[Block; 2]) -> Update
 /// and M3 differs.
 pub fn unseal(request: &Request, authkey: &Block) -> Result<Update, Unseal>
     ensures carried { IfOk result (Carries request.now authkey.now) }
-    ensures ranges { IfOk result IsUpdate }
-    ensures only { (u : Update) → IsUpdate u → Carries request.now authkey.now u → result ≡ Ok u }
+    ensures only { (u : Update) → Carries request.now authkey.now u → result ≡ Ok u }
     ensures bad_id { (result ≡ Err BadId) ↔ (¬ HasSlots request.now.m1) }
     ensures bad_mac { (result ≡ Err BadMac)
         ↔ (HasSlots request.now.m1 × (request.now.m3 ≢ request_mac authkey.now request.now.m1 request.now.m2)) }
@@ -92,6 +87,5 @@ pub fn unseal(request: &Request, authkey: &Block) -> Result<Update, Unseal>
     if request.m3 != mac_of_request(authkey, &request.m1, &request.m2) {
         return Err(Unseal::BadMac);
     }
-    let update = opened(&head, authkey, &request.m2);
-    Ok(update)
+    Ok(opened(request, &head, authkey))
 }

@@ -43,6 +43,32 @@ fn example() -> Result<Update, &'static str> {
     })
 }
 
+// An update that a slot's own key authorises, with a large counter and some flags.
+fn own_update() -> Result<Update, &'static str> {
+    Ok(Update {
+        uid: Uid::of([1, 2, 3, 4, 5, 6, 7, 8, 9, 10, 11, 12, 13, 14, 15]),
+        id: SlotId::new(13).ok_or("slot 13")?,
+        auth: SlotId::new(13).ok_or("slot 13")?,
+        counter: Counter28::new(0xabcdef1).ok_or("a counter")?,
+        flags: Flags::of(22),
+        key: block(AUTHORISING_KEY),
+    })
+}
+
+// The messages of that update under the other key, made by another program over OpenSSL's AES and CMAC.
+const OWN_REQUEST: [u128; 4] = [
+    0x0102030405060708090a0b0c0d0e0fdd,
+    0xeb2749ac761a223589d71a07ae7cee75,
+    0x7a99d9e65f81f74ad1559c0b85c77121,
+    0x1fc68b46754b6828da1e5379c4610010,
+];
+
+const OWN_REPLY: [u128; 3] = [
+    0x0102030405060708090a0b0c0d0e0fdd,
+    0xb1b8d88f60c2f00234eca71ab3125df1,
+    0xb1266319702a99abbef07bfaa024cd47,
+];
+
 fn request(m1: u128, m3: u128) -> Request {
     Request {
         m1: block(m1),
@@ -65,6 +91,34 @@ fn fields_are_counted_from_the_top(rt: HostRuntime) {
 fn the_example_is_built(rt: HostRuntime) -> Result<(), Fail> {
     let made = build(&example()?, &block(AUTHORISING_KEY));
     assert!(rt; made == request(M1, M3));
+    Ok(())
+}
+
+#[test]
+fn a_slot_that_authorises_itself_is_updated(rt: HostRuntime) -> Result<(), Fail> {
+    let [m1, first, second, m3] = OWN_REQUEST;
+    let request = Request {
+        m1: block(m1),
+        m2: [block(first), block(second)],
+        m3: block(m3),
+    };
+    assert!(rt; build(&own_update()?, &block(NEW_KEY)) == request);
+    assert!(rt; unseal(&request, &block(NEW_KEY)) == Ok(own_update()?));
+    let [front, back, m5] = OWN_REPLY;
+    let reply = Reply {
+        m4: [block(front), block(back)],
+        m5: block(m5),
+    };
+    assert!(rt; confirm_for(&own_update()?, own_update()?.uid) == reply);
+    assert!(rt; is_confirmed(&reply, &own_update()?, own_update()?.uid));
+    Ok(())
+}
+
+#[test]
+fn an_update_is_shown_without_its_key(rt: HostRuntime) -> Result<(), Fail> {
+    let shown = "Update { id: 13, auth: 13, counter: 180150001, flags: 22, .. }";
+    let update = own_update()?;
+    assert_eq!(rt; format!(in rt.alloc(); "{update:?}")?.as_str(), shown);
     Ok(())
 }
 

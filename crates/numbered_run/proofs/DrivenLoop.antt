@@ -4,7 +4,7 @@ use Rattle.std.proofs.Math.Seq.{drop-cons}
 use Rattle.std.proofs.lemmas.List.{map_push, take_more, take_all, length_push, length-map, length-take-le}
 use Rattle.machine_runs.specs.Run.{Moment, Run, commands_in, lines_in}
 use Rattle.machine_runs.specs.RunLaws.{Run-more}
-use Rattle.numbered_run.specs.Driven.{TakenUp, LastRefused, Driven}
+use Rattle.numbered_run.specs.Driven.{TakenUp, Driven}
 
 -- these commands were done, and the line of each was taken up
 pub record DoneSoFar {C L S T E : Type 0} (steps : S → C → L → S → Type 0) (takes : T → ℕ → L → T → Result (Unit {0}) E → Type 0) (start now : S) (before after : T) (commands : List C) : Type 0 where

@@ -1,9 +1,9 @@
 -- What was driven into a printer is printed.
-use Rattle.std.proofs.Common.{◌≡◌, ℕ, ◌+◌, List, [], ◌∷◌, ◌++◌, length, Result, Ok, Err, refl, sym, ◌∙◌, subst}
+use Rattle.std.proofs.Common.{◌≡◌, ℕ, ◌+◌, List, [], ◌∷◌, ◌++◌, length, Result, Err, refl, sym, ◌∙◌, subst}
 use Rattle.std.proofs.lemmas.Result.{MatchResult-weaker}
 use Rattle.fault_count.specs.CountLaws.{rose_after}
 use Rattle.bus_port.specs.Sink.{SinkState, Appended-nothing, Appended-more}
-use Rattle.machine_runs.specs.Run.{Moment, lines_in}
+use Rattle.machine_runs.specs.Run.{lines_in}
 use Rattle.numbered_run.specs.Driven.{TakenUp, Driven}
 use Rattle.numbered_run.specs.DrivenLaws.{FirstDone-weaker}
 use Rattle.numbered_run.specs.Printed.{texts, AppendedWell, WritesLine, WrittenPart, Printed}

@@ -1,9 +1,9 @@
 -- What was driven into a printer that ends at a last line is printed up to there.
-use Rattle.std.proofs.Common.{◌≡◌, ℕ, ◌+◌, List, [], ◌∷◌, ◌++◌, Bool, false, All, length, Result, Ok, Err}
+use Rattle.std.proofs.Common.{◌≡◌, ℕ, ◌+◌, List, [], ◌∷◌, Bool, false, All, length, Result, Err}
 use Rattle.std.proofs.lemmas.List.Elements.{All-nil, All-cons}
 use Rattle.std.proofs.lemmas.Result.{MatchResult-weaker}
 use Rattle.bus_port.specs.Sink.{SinkState}
-use Rattle.machine_runs.specs.Run.{Moment, lines_in}
+use Rattle.machine_runs.specs.Run.{lines_in}
 use Rattle.numbered_run.specs.Driven.{TakenUp, Driven}
 use Rattle.numbered_run.specs.DrivenLaws.{FirstDone-weaker}
 use Rattle.numbered_run.specs.Printed.{texts, AppendedWell, WritesLine}

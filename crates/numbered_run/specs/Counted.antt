@@ -1,7 +1,7 @@
 -- Lines that are counted into a value.
 use Rattle.std.specs.Prelude.{◌≡◌, ℕ, List, length, fold, Result, Ok, Err}
 use Rattle.std.specs.declared.convert.Infallible.{Infallible}
-use Rattle.machine_runs.specs.Run.{Moment, lines_in}
+use Rattle.machine_runs.specs.Run.{lines_in}
 use Rattle.numbered_run.specs.Driven.{FirstDone}
 
 -- a line makes the value this, and none is refused

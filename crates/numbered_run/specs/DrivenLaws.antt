@@ -1,5 +1,5 @@
 -- Laws of what driving leaves.
-use Rattle.std.specs.Prelude.{◌≡◌, ℕ, ◌≤◌, List, length, take}
+use Rattle.std.specs.Prelude.{◌≡◌, ◌≤◌, List, length, take}
 use Rattle.std.proofs.Common.{◌∙◌, sym, ap, arith, length-take}
 use Rattle.std.proofs.lemmas.List.{length-map}
 use Rattle.machine_runs.specs.Run.{Moment, Run, commands_in}

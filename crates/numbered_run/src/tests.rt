@@ -99,9 +99,7 @@ const TEXT: &[u8; 19] = b"1 3\n2 7\n3 full\n4 8\n";
 /// A sink that takes one byte a call, and whose call of this number fails.
 fn failing_sink(alloc: Global, call: u64) -> Result<MemSink, Fail> {
     let failing = [call].to_vec(alloc)?;
-    Ok(MemSink::new(alloc, 64, failing, 1)
-        .ok()
-        .ok_or("no memory")?)
+    Ok(MemSink::new(alloc, 64, failing, 1).ok().ok_or("no memory")?)
 }
 
 #[test]
@@ -184,6 +182,7 @@ fn as_many_commands_as_a_script_has_are_done(rt: HostRuntime) -> Result<(), Fail
     for _ in 0..65_536u32 {
         ones.push(1u32).ok().ok_or("no memory")?;
     }
+    assert_eq!(rt; ones.len(), 65_536);
     let plan = Vec::new(rt.alloc());
     let made = MemSink::new(rt.alloc(), 1_048_576, plan, 65_536);
     let mut sink = made.ok().ok_or("no memory")?;

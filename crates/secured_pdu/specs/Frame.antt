@@ -1,11 +1,11 @@
 -- The Secured I-PDU of AUTOSAR SecOC, profile 1 (24Bit-CMAC-8Bit-FV), where the full freshness has 64 bits
 use Rattle.std.specs.Prelude.{◌≡◌, ℕ, ◌+◌, ◌%◌, ◌^◌, ◌<◌, ◌≤◌, List, ◌∷◌, ◌++◌, length, take}
-use Rattle.std.specs.Int.{w16, w64, to_be_bytes}
+use Rattle.byte_lists.specs.Numbers.{bytes_of}
 use Rattle.she_cmac.specs.Cmac.{cmac}
 
 -- the bytes that the authenticator covers: the Data ID in two bytes, the payload, the full freshness in eight bytes, all big-endian
 unfoldable pub authenticated_input : ℕ → List ℕ → ℕ → List ℕ
-authenticated_input id payload freshness = to_be_bytes w16 id ++ payload ++ to_be_bytes w64 freshness
+authenticated_input id payload freshness = bytes_of 2 id ++ payload ++ bytes_of 8 freshness
 
 -- the payload, the low byte of the freshness, and the first three bytes of the authenticator
 unfoldable pub assembled : List ℕ → ℕ → List ℕ → List ℕ

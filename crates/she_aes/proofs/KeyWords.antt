@@ -1,27 +1,13 @@
 -- The words of a key, one by one.
-use Rattle.std.proofs.Common.{◌≡◌, ℕ, zero, suc, ◌+◌, ◌-◌, ◌*◌, ◌<◌, ◌≤◌, List, [], length, get_or, take, set, map, refl, ap, sym, ◌∙◌, arith, lit<, slice_index}
-use Rattle.std.specs.List.{range_with_len}
-use Rattle.std.proofs.lemmas.List.{take_more_set, length-take-le, get_or-take, length_push, get_or_append_left}
+use Rattle.std.proofs.Common.{◌≡◌, ℕ, zero, suc, ◌+◌, ◌-◌, ◌*◌, ◌/◌, ◌%◌, ◌<◌, ◌≤◌, List, [], ◌∷◌, ◌++◌, length, get_or, refl, ap, sym, ◌∙◌, arith, lit<, slice_index, slice_index_or, inl, inr}
+use Rattle.std.proofs.lemmas.List.{length_push, get_or_append_left}
 use Rattle.std.proofs.lemmas.List.FromFn.{get_or-map-range_with_len}
 use Rattle.she_aes.specs.CipherFacts.{block_of_self}
-use Rattle.she_aes.specs.Cipher.{word_of, xor_words, added_word, next_word, words_up_to, key_words, round_key, round_keys}
-
--- what the next word of a front of a list reads is in the list
-next_word-take : (ws : List (List ℕ)) (i : ℕ) → 4 ≤ i → i ≤ length ws → next_word (take i ws) ≡ xor_words (get_or ws (i - 4) []) (added_word i (get_or ws (i - 1) []))
-unfolding next_word
-next_word-take ws i low high =
-    let l = length-take-le i ws high in
-    let four : i - 4 < i = omega arith in
-    let one : i - 1 < i = omega arith in
-    rw (l, get_or-take i ws (i - 4) [], get_or-take i ws (i - 1) []) refl
-
--- the words so far, and one more
-pub words_more : (key : List ℕ) (ws : List (List ℕ)) (i : ℕ) (w : List ℕ) → 4 ≤ i → i < length ws → take i ws ≡ words_up_to key (i - 4) → w ≡ xor_words (get_or ws (i - 4) []) (added_word i (get_or ws (i - 1) [])) → take (i + 1) (set ws i w) ≡ words_up_to key (i + 1 - 4)
-unfolding words_up_to
-words_more key ws i w low high so_far is =
-    let n : i + 1 - 4 ≡ suc (i - 4) = omega arith in
-    let e = next_word-take ws i low (omega arith) in
-    rw (n, take_more_set ws i w high, is, ← e, so_far) refl
+use Rattle.she_aes.specs.Cipher.{block_of, word_of, word, xor_words, sub_word, rot_word, power_of_x, rcon, added_word, next_word, words_up_to, key_words, round_key, round_keys}
+use Rattle.she_aes.specs.Field.{product, cancelled, remainder, mul}
+use Rattle.she_aes.specs.KeySteps.{next_round_key}
+use Rattle.std.proofs.lemmas.Bool.{cases_lt, ne_eqb}
+use Rattle.std.proofs.Math.Seq.{get_or-append_seam}
 
 pub length-words_up_to : (key : List ℕ) (n : ℕ) → length (words_up_to key n) ≡ n + 4
 unfolding words_up_to
@@ -51,14 +37,145 @@ pub get_or-round_keys : (key : List ℕ) (n : ℕ) → n < 11 → get_or (round_
 unfolding round_keys
 get_or-round_keys key n h = get_or-map-range_with_len (round_key (key_words key)) 0 11 n n [] h (omega arith)
 
--- what the round keys of a key are, where they were made from its words
-module _ (key : List ℕ) (words keys : List (List ℕ)) (long : length key ≡ 16) (by_words : words ≡ key_words key) (by_keys : keys ≡ map (round_key words) (range_with_len 0 11)) where
-  made : keys ≡ round_keys key
-  unfolding round_keys
-  made = by_keys ∙ ap (λ ws. map (round_key ws) (range_with_len 0 11)) by_words
+-- ---- a round key at a time
 
-  pub head_is_key : get_or keys 0 [] ≡ key
-  head_is_key = ap (λ ks. get_or ks 0 []) made ∙ round_keys-head key long
+-- each word after the first four, from those before it
+word_is : (key : List ℕ) (n i : ℕ) → 4 ≤ i → i < n + 4 → word (words_up_to key n) i ≡ xor_words (word (words_up_to key n) (i - 4)) (added_word i (word (words_up_to key n) (i - 1)))
+unfolding words_up_to next_word
+word_is key zero i low high = absurd (omega arith)
+word_is key (suc n) i low high =
+    let ws = words_up_to key n in
+    let next = next_word ws in
+    let long = length-words_up_to key n in
+    let kept : (k : ℕ) → k < n + 4 → word (ws ++ next ∷ []) k ≡ word ws k = λ k h. get_or_append_left ws (next ∷ []) [] k (omega arith) in
+    elim (cases_lt i (n + 4)) [
+      | inl h ↦ kept i h ∙ word_is key n i low h ∙ ap (λ w. xor_words w (added_word i (word ws (i - 1)))) (sym (kept (i - 4) (omega arith))) ∙ ap (λ w. xor_words (word (ws ++ next ∷ []) (i - 4)) (added_word i w)) (sym (kept (i - 1) (omega arith)))
+      | inr h ↦
+          let here : i ≡ length ws = omega arith in
+          ap (λ k. word (ws ++ next ∷ []) k) here ∙ get_or-append_seam ws next [] []
+          ∙ ap (λ k. xor_words (word ws (k - 4)) (added_word k (word ws (k - 1)))) (sym here)
+          ∙ ap (λ w. xor_words w (added_word i (word ws (i - 1)))) (sym (kept (i - 4) (omega arith))) ∙ ap (λ w. xor_words (word (ws ++ next ∷ []) (i - 4)) (added_word i w)) (sym (kept (i - 1) (omega arith)))
+    ]
 
-  pub made_from_head : keys ≡ round_keys (get_or keys 0 [])
-  made_from_head = made ∙ ap round_keys (sym head_is_key)
+first_added : (i : ℕ) (w : List ℕ) → i % 4 ≡ 0 → added_word i w ≡ xor_words (sub_word (rot_word w)) (rcon (i / 4))
+unfolding added_word
+first_added i w e = rw e refl
+
+other_added : (i : ℕ) (w : List ℕ) → 0 < i % 4 → added_word i w ≡ w
+unfolding added_word
+other_added i w h = rw (ne_eqb (i % 4) 0 (λ e. absurd (omega arith))) refl
+
+-- four words, one after another
+abbrev joined : List ℕ → List ℕ → List ℕ → List ℕ → List ℕ
+joined a b c d = block_of (λ i. slice_index (slice_index_or (a ∷ b ∷ c ∷ d ∷ []) (i / 4) []) (i % 4))
+
+four_same : {a b c d e f g h : List ℕ} → a ≡ e → b ≡ f → c ≡ g → d ≡ h → joined a b c d ≡ joined e f g h
+four_same p q r s = cc
+
+module _ (key : List ℕ) (r : ℕ) (h : r < 10) where
+  abbrev w : ℕ → List ℕ
+  w c = word (key_words key) (4 * r + c)
+
+  abbrev n : ℕ → List ℕ
+  n c = word (key_words key) (4 * (r + 1) + c)
+
+  n_is : (c : ℕ) → c < 4 → n c ≡ xor_words (w c) (added_word (4 * (r + 1) + c) (word (key_words key) (4 * (r + 1) + c - 1)))
+  unfolding key_words
+  n_is c l =
+      let back : 4 * (r + 1) + c - 4 ≡ 4 * r + c = omega arith in
+      word_is key 40 (4 * (r + 1) + c) (omega arith) (omega arith) ∙ ap (λ k. xor_words (word (key_words key) k) (added_word (4 * (r + 1) + c) (word (key_words key) (4 * (r + 1) + c - 1)))) back
+
+  n_first : n 0 ≡ xor_words (w 0) (xor_words (sub_word (rot_word (w 3))) (rcon (r + 1)))
+  n_first =
+      let last : 4 * (r + 1) + 0 - 1 ≡ 4 * r + 3 = omega arith in
+      let round : (4 * (r + 1) + 0) / 4 ≡ r + 1 = omega arith in
+      n_is 0 (omega arith)
+      ∙ ap (λ x. xor_words (w 0) x) (first_added (4 * (r + 1) + 0) _ (omega arith) ∙ ap (λ k. xor_words (sub_word (rot_word (word (key_words key) k))) (rcon ((4 * (r + 1) + 0) / 4))) last ∙ ap (λ k. xor_words (sub_word (rot_word (w 3))) (rcon k)) round)
+
+  n_other : (c : ℕ) → 0 < c → c < 4 → n c ≡ xor_words (w c) (word (key_words key) (4 * (r + 1) + (c - 1)))
+  n_other c low l =
+      let before : 4 * (r + 1) + c - 1 ≡ 4 * (r + 1) + (c - 1) = omega arith in
+      n_is c l ∙ ap (λ x. xor_words (w c) x) (other_added (4 * (r + 1) + c) _ (omega arith) ∙ ap (λ k. word (key_words key) k) before)
+
+  -- the same from the four words before alone
+  chained : ℕ → List ℕ
+  chained p =
+      let a = xor_words (w 0) (xor_words (sub_word (rot_word (w 3))) (p ∷ 0 ∷ 0 ∷ 0 ∷ [])) in
+      let b = xor_words (w 1) a in
+      let c = xor_words (w 2) b in
+      joined a b c (xor_words (w 3) c)
+
+  chained_is : chained (power_of_x r) ≡ joined (n 0) (n 1) (n 2) (n 3)
+  unfolding chained rcon
+  chained_is =
+      let less : r + 1 - 1 ≡ r = omega arith in
+      let a : n 0 ≡ xor_words (w 0) (xor_words (sub_word (rot_word (w 3))) (power_of_x r ∷ 0 ∷ 0 ∷ 0 ∷ [])) = n_first ∙ ap (λ k. xor_words (w 0) (xor_words (sub_word (rot_word (w 3))) (power_of_x k ∷ 0 ∷ 0 ∷ 0 ∷ []))) less in
+      let b = n_other 1 (omega arith) (omega arith) ∙ ap (λ x. xor_words (w 1) x) a in
+      let c = n_other 2 (omega arith) (omega arith) ∙ ap (λ x. xor_words (w 2) x) b in
+      let d = n_other 3 (omega arith) (omega arith) ∙ ap (λ x. xor_words (w 3) x) c in
+      sym (four_same a b c d)
+
+  -- the round key after that of round r
+  pub next_is : next_round_key (power_of_x r) (round_key (key_words key) r) ≡ round_key (key_words key) (r + 1)
+  unfolding next_round_key round_key xor_words sub_word rot_word chained
+  next_is = chained_is
+
+next_step : (key last next : List ℕ) (r p : ℕ) → r < 10 → p ≡ power_of_x r → last ≡ round_key (key_words key) r → next ≡ next_round_key p last → next ≡ round_key (key_words key) (r + 1)
+next_step key last next r p high power so_far e =
+    e ∙ ap (λ x. next_round_key x last) power ∙ ap (next_round_key (power_of_x r)) so_far ∙ next_is key r high
+
+power_0 : 1 ≡ power_of_x 0
+unfolding product cancelled remainder mul power_of_x
+power_0 = refl
+
+power_1 : 2 ≡ power_of_x 1
+unfolding product cancelled remainder mul power_of_x
+power_1 = refl
+
+power_2 : 4 ≡ power_of_x 2
+unfolding product cancelled remainder mul power_of_x
+power_2 = refl
+
+power_3 : 8 ≡ power_of_x 3
+unfolding product cancelled remainder mul power_of_x
+power_3 = refl
+
+power_4 : 16 ≡ power_of_x 4
+unfolding product cancelled remainder mul power_of_x
+power_4 = refl
+
+power_5 : 32 ≡ power_of_x 5
+unfolding product cancelled remainder mul power_of_x
+power_5 = refl
+
+power_6 : 64 ≡ power_of_x 6
+unfolding product cancelled remainder mul power_of_x
+power_6 = refl
+
+power_7 : 128 ≡ power_of_x 7
+unfolding product cancelled remainder mul power_of_x
+power_7 = refl
+
+power_8 : 27 ≡ power_of_x 8
+unfolding product cancelled remainder mul power_of_x
+power_8 = refl
+
+power_9 : 54 ≡ power_of_x 9
+unfolding product cancelled remainder mul power_of_x
+power_9 = refl
+
+pub round_keys_in_turn : (key : List ℕ) → length key ≡ 16 → {k1 k2 k3 k4 k5 k6 k7 k8 k9 k10 : List ℕ} → k1 ≡ next_round_key 1 key → k2 ≡ next_round_key 2 k1 → k3 ≡ next_round_key 4 k2 → k4 ≡ next_round_key 8 k3 → k5 ≡ next_round_key 16 k4 → k6 ≡ next_round_key 32 k5 → k7 ≡ next_round_key 64 k6 → k8 ≡ next_round_key 128 k7 → k9 ≡ next_round_key 27 k8 → k10 ≡ next_round_key 54 k9 → key ∷ k1 ∷ k2 ∷ k3 ∷ k4 ∷ k5 ∷ k6 ∷ k7 ∷ k8 ∷ k9 ∷ k10 ∷ [] ≡ round_keys key
+unfolding round_keys
+round_keys_in_turn key long e1 e2 e3 e4 e5 e6 e7 e8 e9 e10 =
+    let h0 = sym (round_key-zero key long) in
+    let h1 = next_step key _ _ 0 1 (lit< tt) power_0 h0 e1 in
+    let h2 = next_step key _ _ 1 2 (lit< tt) power_1 h1 e2 in
+    let h3 = next_step key _ _ 2 4 (lit< tt) power_2 h2 e3 in
+    let h4 = next_step key _ _ 3 8 (lit< tt) power_3 h3 e4 in
+    let h5 = next_step key _ _ 4 16 (lit< tt) power_4 h4 e5 in
+    let h6 = next_step key _ _ 5 32 (lit< tt) power_5 h5 e6 in
+    let h7 = next_step key _ _ 6 64 (lit< tt) power_6 h6 e7 in
+    let h8 = next_step key _ _ 7 128 (lit< tt) power_7 h7 e8 in
+    let h9 = next_step key _ _ 8 27 (lit< tt) power_8 h8 e9 in
+    let h10 = next_step key _ _ 9 54 (lit< tt) power_9 h9 e10 in
+    cc

@@ -1,5 +1,9 @@
 pub mod Tables
-pub mod Columns
+pub mod Lanes
+pub mod Substituting
+pub mod MixingLanes
+pub mod KeyLanes
 pub mod KeyWords
 pub mod RoundSteps
 pub mod Chains
+pub mod Inverses

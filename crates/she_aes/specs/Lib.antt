@@ -1,7 +1,10 @@
 pub mod Field
 pub mod FieldFacts
 pub mod SBoxFacts
+pub mod Lookups
+pub mod Substitution
 pub mod Cipher
+pub mod KeySteps
 pub mod RoundKeys
 pub mod ReadBytes
 pub mod CipherFacts

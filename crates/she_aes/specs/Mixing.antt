@@ -51,29 +51,30 @@ joined_same p q r s = cc
 abbrev part : ℕ → ℕ → ℕ → ℕ → ℕ → ℕ → ℕ → ℕ → ℕ → ℕ
 part p q r s a b c d x = four (mul p (mul a x)) (mul q (mul b x)) (mul r (mul c x)) (mul s (mul d x))
 
--- in its own place it adds itself, and elsewhere nothing
-abbrev keeps : ℕ → ℕ → ℕ → ℕ → ℕ → ℕ → ℕ → ℕ → ℕ → Bool
-keeps p q r s a b c d x =
-    (part p q r s a d c b x == x) && (part p q r s b a d c x == 0) && (part p q r s c b a d x == 0) && (part p q r s d c b a x == 0)
+-- the matrix whose entries are e f g h
+abbrev composes : ℕ → ℕ → ℕ → ℕ → ℕ → ℕ → ℕ → ℕ → ℕ → ℕ → ℕ → ℕ → ℕ → Bool
+composes p q r s a b c d e f g h x =
+    (part p q r s a d c b x == mul e x) && (part p q r s b a d c x == mul f x) && (part p q r s c b a d x == mul g x) && (part p q r s d c b a x == mul h x)
 
-abbrev all_keep : ℕ → ℕ → ℕ → ℕ → ℕ → ℕ → ℕ → ℕ → Bool
-all_keep p q r s a b c d = agree_below (keeps p q r s a b c d) (λ _. true) 256
+abbrev all_compose : ℕ → ℕ → ℕ → ℕ → ℕ → ℕ → ℕ → ℕ → ℕ → ℕ → ℕ → ℕ → Bool
+all_compose p q r s a b c d e f g h = agree_below (composes p q r s a b c d e f g h) (λ _. true) 256
 
-module _ (p q r s a b c d : ℕ) (ok : all_keep p q r s a b c d ≡ true) where
-  parts : (x : ℕ) → x < 256 → (part p q r s a d c b x ≡ x) × (part p q r s b a d c x ≡ 0) × (part p q r s c b a d x ≡ 0) × (part p q r s d c b a x ≡ 0)
+-- the product of the two matrices that begin with a and with p is the one that begins with e
+module _ (p q r s a b c d e f g h : ℕ) (ok : all_compose p q r s a b c d e f g h ≡ true) where
+  parts : (x : ℕ) → x < 256 → (part p q r s a d c b x ≡ mul e x) × (part p q r s b a d c x ≡ mul f x) × (part p q r s c b a d x ≡ mul g x) × (part p q r s d c b a x ≡ mul h x)
   parts x lt =
-      let all = agree_below_at (keeps p q r s a b c d) (λ _. true) 256 x ok lt in
-      let e0 = part p q r s a d c b x == x in
-      let e1 = part p q r s b a d c x == 0 in
-      let e2 = part p q r s c b a d x == 0 in
-      let e3 = part p q r s d c b a x == 0 in
+      let all = agree_below_at (composes p q r s a b c d e f g h) (λ _. true) 256 x ok lt in
+      let e0 = part p q r s a d c b x == mul e x in
+      let e1 = part p q r s b a d c x == mul f x in
+      let e2 = part p q r s c b a d x == mul g x in
+      let e3 = part p q r s d c b a x == mul h x in
       let h3 = and_parts (e0 && e1 && e2) e3 all in
       let h2 = and_parts (e0 && e1) e2 h3.0 in
       let h1 = and_parts e0 e1 h2.0 in (
-        eqb-true (part p q r s a d c b x) x h1.0,
-        eqb-true (part p q r s b a d c x) 0 h1.1,
-        eqb-true (part p q r s c b a d x) 0 h2.1,
-        eqb-true (part p q r s d c b a x) 0 h3.1,
+        eqb-true (part p q r s a d c b x) (mul e x) h1.0,
+        eqb-true (part p q r s b a d c x) (mul f x) h1.1,
+        eqb-true (part p q r s c b a d x) (mul g x) h2.1,
+        eqb-true (part p q r s d c b a x) (mul h x) h3.1,
       )
 
   -- a byte of a column after the first matrix
@@ -81,7 +82,7 @@ module _ (p q r s a b c d : ℕ) (ok : all_keep p q r s a b c d ≡ true) where
   once w x y z = four (mul a w) (mul b x) (mul c y) (mul d z)
 
   -- the first byte after both
-  twice : (w x y z : ℕ) → w < 256 → x < 256 → y < 256 → z < 256 → four (mul p (once w x y z)) (mul q (once x y z w)) (mul r (once y z w x)) (mul s (once z w x y)) ≡ w
+  twice : (w x y z : ℕ) → w < 256 → x < 256 → y < 256 → z < 256 → four (mul p (once w x y z)) (mul q (once x y z w)) (mul r (once y z w x)) (mul s (once z w x y)) ≡ four (mul e w) (mul f x) (mul g y) (mul h z)
   unfolding once
   twice w x y z lw lx ly lz =
       let f0 = mul-four p (mul a w) (mul b x) (mul c y) (mul d z) in
@@ -89,31 +90,62 @@ module _ (p q r s a b c d : ℕ) (ok : all_keep p q r s a b c d ≡ true) where
       let f2 = ap (λ t. mul r t) (turned (mul a y) (mul b z) (mul c w) (mul d x) ∙ turned (mul d x) (mul a y) (mul b z) (mul c w)) ∙ mul-four r (mul c w) (mul d x) (mul a y) (mul b z) in
       let f3 = ap (λ t. mul s t) (sym (turned (mul b w) (mul c x) (mul d y) (mul a z))) ∙ mul-four s (mul b w) (mul c x) (mul d y) (mul a z) in
       let rows = sixteen (mul p (mul a w)) (mul p (mul b x)) (mul p (mul c y)) (mul p (mul d z)) (mul q (mul d w)) (mul q (mul a x)) (mul q (mul b y)) (mul q (mul c z)) (mul r (mul c w)) (mul r (mul d x)) (mul r (mul a y)) (mul r (mul b z)) (mul s (mul b w)) (mul s (mul c x)) (mul s (mul d y)) (mul s (mul a z)) in
-      four_same f0 f1 f2 f3 ∙ rows ∙ four_same (parts w lw).0 (parts x lx).1 (parts y ly).2 (parts z lz).3 ∙ four_alone w
+      four_same f0 f1 f2 f3 ∙ rows ∙ four_same (parts w lw).0 (parts x lx).1 (parts y ly).2 (parts z lz).3
 
-  column_kept : (w x y z : ℕ) → w < 256 → x < 256 → y < 256 → z < 256 → circulant p q r s (circulant a b c d (w ∷ x ∷ y ∷ z ∷ [])) ≡ w ∷ x ∷ y ∷ z ∷ []
+  column_composed : (w x y z : ℕ) → w < 256 → x < 256 → y < 256 → z < 256 → circulant p q r s (circulant a b c d (w ∷ x ∷ y ∷ z ∷ [])) ≡ circulant e f g h (w ∷ x ∷ y ∷ z ∷ [])
   unfolding circulant once
-  column_kept w x y z lw lx ly lz =
+  column_composed w x y z lw lx ly lz =
       list_same (twice w x y z lw lx ly lz) (twice x y z w lx ly lz lw) (twice y z w x ly lz lw lx) (twice z w x y lz lw lx ly)
 
-  columns_kept : (t : List ℕ) → length t ≡ 16 → ReadsBytes t → on_columns (circulant p q r s) (on_columns (circulant a b c d) t) ≡ t
+  columns_composed : (t : List ℕ) → ReadsBytes t → on_columns (circulant p q r s) (on_columns (circulant a b c d) t) ≡ on_columns (circulant e f g h) t
   unfolding circulant
-  columns_kept t long bytes =
+  columns_composed t bytes =
       let at = λ (i : ℕ). slice_index t i in
-      joined_same (column_kept (at 0) (at 1) (at 2) (at 3) (bytes 0) (bytes 1) (bytes 2) (bytes 3)) (column_kept (at 4) (at 5) (at 6) (at 7) (bytes 4) (bytes 5) (bytes 6) (bytes 7)) (column_kept (at 8) (at 9) (at 10) (at 11) (bytes 8) (bytes 9) (bytes 10) (bytes 11)) (column_kept (at 12) (at 13) (at 14) (at 15) (bytes 12) (bytes 13) (bytes 14) (bytes 15)) ∙ block_of_self t long
+      joined_same (column_composed (at 0) (at 1) (at 2) (at 3) (bytes 0) (bytes 1) (bytes 2) (bytes 3)) (column_composed (at 4) (at 5) (at 6) (at 7) (bytes 4) (bytes 5) (bytes 6) (bytes 7)) (column_composed (at 8) (at 9) (at 10) (at 11) (bytes 8) (bytes 9) (bytes 10) (bytes 11)) (column_composed (at 12) (at 13) (at 14) (at 15) (bytes 12) (bytes 13) (bytes 14) (bytes 15))
 
-there : all_keep 14 11 13 9 2 3 1 1 ≡ true
+-- ---- the matrix of 1, 0, 0 and 0
+
+same_ok : agree_below (λ x. (mul 1 x == x) && (mul 0 x == 0)) (λ _. true) 256 ≡ true
+unfolding product cancelled remainder mul
+same_ok = refl
+
+same_byte : (w x y z : ℕ) → w < 256 → x < 256 → y < 256 → z < 256 → four (mul 1 w) (mul 0 x) (mul 0 y) (mul 0 z) ≡ w
+same_byte w x y z lw lx ly lz =
+    let at = λ (b : ℕ) (lt : b < 256). and_parts (mul 1 b == b) (mul 0 b == 0) (agree_below_at (λ x. (mul 1 x == x) && (mul 0 x == 0)) (λ _. true) 256 b same_ok lt) in
+    four_same (eqb-true (mul 1 w) w (at w lw).0) (eqb-true (mul 0 x) 0 (at x lx).1) (eqb-true (mul 0 y) 0 (at y ly).1) (eqb-true (mul 0 z) 0 (at z lz).1) ∙ four_alone w
+
+same_column : (w x y z : ℕ) → w < 256 → x < 256 → y < 256 → z < 256 → circulant 1 0 0 0 (w ∷ x ∷ y ∷ z ∷ []) ≡ w ∷ x ∷ y ∷ z ∷ []
+unfolding circulant
+same_column w x y z lw lx ly lz =
+    list_same (same_byte w x y z lw lx ly lz) (same_byte x y z w lx ly lz lw) (same_byte y z w x ly lz lw lx) (same_byte z w x y lz lw lx ly)
+
+same_columns : (t : List ℕ) → length t ≡ 16 → ReadsBytes t → on_columns (circulant 1 0 0 0) t ≡ t
+unfolding circulant
+same_columns t long bytes =
+    let at = λ (i : ℕ). slice_index t i in
+    joined_same (same_column (at 0) (at 1) (at 2) (at 3) (bytes 0) (bytes 1) (bytes 2) (bytes 3)) (same_column (at 4) (at 5) (at 6) (at 7) (bytes 4) (bytes 5) (bytes 6) (bytes 7)) (same_column (at 8) (at 9) (at 10) (at 11) (bytes 8) (bytes 9) (bytes 10) (bytes 11)) (same_column (at 12) (at 13) (at 14) (at 15) (bytes 12) (bytes 13) (bytes 14) (bytes 15)) ∙ block_of_self t long
+
+there : all_compose 14 11 13 9 2 3 1 1 1 0 0 0 ≡ true
 unfolding product cancelled remainder mul
 there = refl
 
-back : all_keep 2 3 1 1 14 11 13 9 ≡ true
+back : all_compose 2 3 1 1 14 11 13 9 1 0 0 0 ≡ true
 unfolding product cancelled remainder mul
 back = refl
 
+-- the matrix of the inverse, as that of MixColumns times a plainer one
+factors : all_compose 2 3 1 1 5 0 4 0 14 11 13 9 ≡ true
+unfolding product cancelled remainder mul
+factors = refl
+
 pub inv_mix_columns-mix_columns : (s : List ℕ) → length s ≡ 16 → ReadsBytes s → inv_mix_columns (mix_columns s) ≡ s
 unfolding inv_mix_columns mix_columns
-inv_mix_columns-mix_columns s long bytes = columns_kept 14 11 13 9 2 3 1 1 there s long bytes
+inv_mix_columns-mix_columns s long bytes = columns_composed 14 11 13 9 2 3 1 1 1 0 0 0 there s bytes ∙ same_columns s long bytes
 
 pub mix_columns-inv_mix_columns : (s : List ℕ) → length s ≡ 16 → ReadsBytes s → mix_columns (inv_mix_columns s) ≡ s
 unfolding inv_mix_columns mix_columns
-mix_columns-inv_mix_columns s long bytes = columns_kept 2 3 1 1 14 11 13 9 back s long bytes
+mix_columns-inv_mix_columns s long bytes = columns_composed 2 3 1 1 14 11 13 9 1 0 0 0 back s bytes ∙ same_columns s long bytes
+
+pub mix_columns-first : (s : List ℕ) → ReadsBytes s → mix_columns (on_columns (circulant 5 0 4 0) s) ≡ inv_mix_columns s
+unfolding inv_mix_columns mix_columns
+mix_columns-first s bytes = columns_composed 2 3 1 1 5 0 4 0 14 11 13 9 factors s bytes

@@ -1,83 +1,45 @@
-// The inverse maps of a round (FIPS 197, section 5.3).
+// The inverse maps of a round (FIPS 197, section 5.3), on the 16 bytes of the state at once.
 ghost use Rattle.std.specs.Prelude.{◌≡◌};
-ghost use Rattle.she_aes.specs.Cipher.{add_round_key, circulant, inv_sub_bytes, inv_shift_rows, inv_mix_columns};
+ghost use Rattle.she_aes.specs.Cipher.{add_round_key, inv_sub_bytes, inv_shift_rows, inv_mix_columns};
 
-use crate::field::{inv_substitute, times_9, times_11, times_13, times_14};
-use crate::rounds::{self, State};
+use crate::rounds::{State, add_round_key, double, mix_columns};
+use crate::substitution::inv_sub_bytes;
+use std::simd::prelude::*;
 
-#[tactic(auto, unfolding(crate::specs::Cipher::inv_sub_bytes))]
-fn inv_sub_bytes(state: &State) -> State
-    ensures { result ≡ inv_sub_bytes state.now }
+// InvShiftRows: row r moves right by r places.
+#[inline(always)]
+fn inv_shift_rows(state: u8x16) -> u8x16
+    ensures { result ≡ inv_shift_rows state }
 {
-    let [a, b, c, d, e, f, g, h, i, j, k, l, m, n, o, p] = *state;
-    [
-        inv_substitute(a),
-        inv_substitute(b),
-        inv_substitute(c),
-        inv_substitute(d),
-        inv_substitute(e),
-        inv_substitute(f),
-        inv_substitute(g),
-        inv_substitute(h),
-        inv_substitute(i),
-        inv_substitute(j),
-        inv_substitute(k),
-        inv_substitute(l),
-        inv_substitute(m),
-        inv_substitute(n),
-        inv_substitute(o),
-        inv_substitute(p),
-    ]
+    state.swizzle([0, 13, 10, 7, 4, 1, 14, 11, 8, 5, 2, 15, 12, 9, 6, 3])
 }
 
-#[tactic(auto, unfolding(crate::specs::Cipher::inv_shift_rows))]
-fn inv_shift_rows(state: &State) -> State
-    ensures { result ≡ inv_shift_rows state.now }
+// InvMixColumns: its matrix is that of MixColumns times the circulant matrix of 5, 0, 4 and 0.
+#[inline(always)]
+fn inv_mix_columns(state: u8x16) -> u8x16
+    ensures { result ≡ inv_mix_columns state }
 {
-    let [a, b, c, d, e, f, g, h, i, j, k, l, m, n, o, p] = *state;
-    [a, n, k, h, e, b, o, l, i, f, c, p, m, j, g, d]
-}
-
-#[tactic(auto, unfolding(crate::specs::Cipher::circulant))]
-fn inv_mix_column(column: [u8; 4]) -> [u8; 4]
-    ensures { result ≡ circulant 0x0e 0x0b 0x0d 0x09 column }
-{
-    let [a, b, c, d] = column;
-    [
-        times_14(a) ^ times_11(b) ^ (times_13(c) ^ times_9(d)),
-        times_14(b) ^ times_11(c) ^ (times_13(d) ^ times_9(a)),
-        times_14(c) ^ times_11(d) ^ (times_13(a) ^ times_9(b)),
-        times_14(d) ^ times_11(a) ^ (times_13(b) ^ times_9(c)),
-    ]
-}
-
-#[tactic(auto, unfolding(crate::specs::Cipher::inv_mix_columns), using(crate::proofs::Columns::joined))]
-fn inv_mix_columns(state: &State) -> State
-    ensures { result ≡ inv_mix_columns state.now }
-{
-    let [a, b, c, d, e, f, g, h, i, j, k, l, m, n, o, p] = *state;
-    let [a, b, c, d] = inv_mix_column([a, b, c, d]);
-    let [e, f, g, h] = inv_mix_column([e, f, g, h]);
-    let [i, j, k, l] = inv_mix_column([i, j, k, l]);
-    let [m, n, o, p] = inv_mix_column([m, n, o, p]);
-    [a, b, c, d, e, f, g, h, i, j, k, l, m, n, o, p]
+    let opposite = state.swizzle([2, 3, 0, 1, 6, 7, 4, 5, 10, 11, 8, 9, 14, 15, 12, 13]);
+    mix_columns(state ^ double(double(state ^ opposite)))
 }
 
 // The state before the last round.
-pub(crate) fn undo_last_round(key: &State, state: &State) -> State
-    ensures { result ≡ inv_sub_bytes (inv_shift_rows (add_round_key key.now state.now)) }
+#[inline(always)]
+pub(crate) fn undo_last_round(key: &State, state: u8x16) -> u8x16
+    ensures { result ≡ inv_sub_bytes (inv_shift_rows (add_round_key key.now state)) }
 {
-    let shifted = rounds::add_round_key(key, state);
-    let substituted = inv_shift_rows(&shifted);
-    inv_sub_bytes(&substituted)
+    let shifted = add_round_key(key, state);
+    let substituted = inv_shift_rows(shifted);
+    inv_sub_bytes(substituted)
 }
 
 // The state before another round.
-pub(crate) fn undo_round(key: &State, state: &State) -> State
-    ensures { result ≡ inv_sub_bytes (inv_shift_rows (inv_mix_columns (add_round_key key.now state.now))) }
+#[inline(always)]
+pub(crate) fn undo_round(key: &State, state: u8x16) -> u8x16
+    ensures { result ≡ inv_sub_bytes (inv_shift_rows (inv_mix_columns (add_round_key key.now state))) }
 {
-    let mixed = rounds::add_round_key(key, state);
-    let shifted = inv_mix_columns(&mixed);
-    let substituted = inv_shift_rows(&shifted);
-    inv_sub_bytes(&substituted)
+    let mixed = add_round_key(key, state);
+    let shifted = inv_mix_columns(mixed);
+    let substituted = inv_shift_rows(shifted);
+    inv_sub_bytes(substituted)
 }

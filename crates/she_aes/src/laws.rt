@@ -20,6 +20,11 @@ pub fn product_with_the_inverse()
     ensures { (a : ℕ) → 0 < a → a < 256 → mul a (inv a) ≡ 1 }
 {}
 
+/// No other byte has that product with it.
+pub fn inverse_is_the_only_one()
+    ensures { (a b : ℕ) → a < 256 → b < 256 → mul a b ≡ 1 → b ≡ inv a }
+{}
+
 /// What is encrypted under a key and decrypted under it is the block again.
 pub fn decryption_undoes_encryption()
     ensures { (key block : List ℕ) → IsBlock key → IsBlock block → dec key (enc key block) ≡ block }

@@ -6,12 +6,12 @@
 //! No call refuses, and none takes memory.
 #![tactic(auto)]
 
-mod field;
+mod expansion;
 mod inverse;
 pub mod laws;
 mod modes;
 mod rounds;
-mod words;
+mod substitution;
 
 ghost use Rattle.std.specs.Prelude.{◌≡◌, ◌<◌, All};
 ghost use Rattle.she_aes.specs.Cipher.{IsBlock, zero_block, xor_blocks, enc, dec};
@@ -20,6 +20,7 @@ pub use modes::{cbc_decrypt, cbc_encrypt, ecb_decrypt, ecb_encrypt};
 use rounds::State;
 use std::fmt;
 use std::marker::Model;
+use std::simd::prelude::*;
 
 /// A block of 16 bytes: a key, a text, or a value that is made of them. Printed for debugging it shows no byte, since it may be a key.
 #[derive(Clone, Copy, PartialEq, Eq)]
@@ -123,9 +124,8 @@ pub fn expand(key: &Block) -> Schedule
     ensures value { result ≡ key.now }
     ensures is_block { IsBlock result }
 {
-    let words = words::key_words(&key.bytes);
     Schedule {
-        keys: words::round_keys(&words),
+        keys: expansion::round_keys(&key.bytes),
     }
 }
 
@@ -136,11 +136,17 @@ pub fn encrypt(schedule: &Schedule, block: &Block) -> Block
     ensures of_blocks { IsBlock schedule.now × IsBlock block.now }
 {
     let keys = &schedule.keys;
-    let mut state = rounds::add_round_key(&keys[0], &block.bytes);
-    for number in 1..10 {
-        state = rounds::round(&keys[number], &state);
-    }
-    Block::of(rounds::last_round(&keys[10], &state))
+    let s0 = rounds::add_round_key(&keys[0], u8x16::from_array(block.bytes));
+    let s1 = rounds::round(&keys[1], s0);
+    let s2 = rounds::round(&keys[2], s1);
+    let s3 = rounds::round(&keys[3], s2);
+    let s4 = rounds::round(&keys[4], s3);
+    let s5 = rounds::round(&keys[5], s4);
+    let s6 = rounds::round(&keys[6], s5);
+    let s7 = rounds::round(&keys[7], s6);
+    let s8 = rounds::round(&keys[8], s7);
+    let s9 = rounds::round(&keys[9], s8);
+    Block::of(rounds::last_round(&keys[10], s9).to_array())
 }
 
 /// The block decrypted under the key of the schedule (FIPS 197, section 5.3): the block that `encrypt`
@@ -151,11 +157,17 @@ pub fn decrypt(schedule: &Schedule, block: &Block) -> Block
     ensures of_blocks { IsBlock schedule.now × IsBlock block.now }
 {
     let keys = &schedule.keys;
-    let mut state = inverse::undo_last_round(&keys[10], &block.bytes);
-    for number in 1..10 {
-        state = inverse::undo_round(&keys[10 - number], &state);
-    }
-    Block::of(rounds::add_round_key(&keys[0], &state))
+    let s9 = inverse::undo_last_round(&keys[10], u8x16::from_array(block.bytes));
+    let s8 = inverse::undo_round(&keys[9], s9);
+    let s7 = inverse::undo_round(&keys[8], s8);
+    let s6 = inverse::undo_round(&keys[7], s7);
+    let s5 = inverse::undo_round(&keys[6], s6);
+    let s4 = inverse::undo_round(&keys[5], s5);
+    let s3 = inverse::undo_round(&keys[4], s4);
+    let s2 = inverse::undo_round(&keys[3], s3);
+    let s1 = inverse::undo_round(&keys[2], s2);
+    let s0 = inverse::undo_round(&keys[1], s1);
+    Block::of(rounds::add_round_key(&keys[0], s0).to_array())
 }
 
 #[cfg(test)]

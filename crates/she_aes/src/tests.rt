@@ -1,5 +1,7 @@
 use super::*;
 
+mod known_answers;
+
 // Key, text and ciphertext of FIPS 197, appendices B and C.1, and of SP 800-38A, F.1.1.
 const VECTORS: [([u8; 16], [u8; 16], [u8; 16]); 3] = [
     (

@@ -1,24 +1,13 @@
-use Rattle.std.proofs.Common.{◌≡◌, ◌∙◌, arith}
+use Rattle.std.proofs.Common.{◌≡◌, ◌∙◌}
 use Rattle.she_aes.specs.Cipher.{round_keys}
-use Rattle.she_aes.proofs.RoundSteps.{first_round, round_more, round_last}
+use Rattle.she_aes.proofs.RoundSteps.{all_rounds}
 use Rattle.she_aes.proofs.encrypt.Goals as goal
-use Rattle.she_aes.proofs.encrypt.Goals.{After-schedule}
-
--- the round keys that the schedule holds are those of its key
-made : (c : After-schedule) → c.schedule.inside.keys ≡ round_keys c.args.schedule.now
-made c = rw c.schedule.view_is at c.schedule.invariant.of_key
-
-pub loop-number-init : goal.loop-number-init
-loop-number-init c =
-    (rw c.block.view_is at c.add_round_key-state.ensures) ∙ first_round c.args.schedule.now c.args.block.now c.schedule.inside.keys (made (goal.at.loop-number-init c).After-schedule)
-
-pub loop-number-preserved : goal.loop-number-preserved
-loop-number-preserved c =
-    c.round-state.ensures ∙ round_more c.args.schedule.now c.args.block.now c.schedule.inside.keys (made (goal.at.loop-number-preserved c).After-schedule) c.loop-number.state c.loop-number.number c.loop-number.auto.number c.loop-number-test.true c.loop-number.invariant
 
 pub returns-clause-value : goal.returns-clause-value
 returns-clause-value c =
-    c.of.ensures.value ∙ c.last_round.ensures ∙ round_last c.args.schedule.now c.args.block.now c.schedule.inside.keys (made (goal.at.returns-clause-value c).After-schedule) c.loop-number.state c.loop-number.number (omega arith) c.loop-number.invariant
+    let made : c.schedule.inside.keys ≡ round_keys c.args.schedule.now = rw c.schedule.view_is at c.schedule.invariant.of_key in
+    let first = rw c.block.view_is at c.add_round_key-s0.ensures in
+    c.of.ensures.value ∙ all_rounds c.args.schedule.now c.args.block.now c.schedule.inside.keys made first c.round-s1.ensures c.round-s2.ensures c.round-s3.ensures c.round-s4.ensures c.round-s5.ensures c.round-s6.ensures c.round-s7.ensures c.round-s8.ensures c.round-s9.ensures c.last_round.ensures
 
 pub returns-clause-of_blocks : goal.returns-clause-of_blocks
 returns-clause-of_blocks c = (rw c.schedule.view_is at c.schedule.invariant.key_is_block, rw c.block.view_is at c.block.invariant)

@@ -1,9 +1,11 @@
 -- A blank, the cells, and then the header.
-use Rattle.std.proofs.Common.{arith}
-use Rattle.std.proofs.lemmas.Result.{on_ok_weaker}
+use Rattle.std.proofs.Common.{◌*◌, None, arith, length}
+use Rattle.std.proofs.lemmas.Result.{on_ok_weaker, on_err_weaker}
 use Rattle.cut_disk.specs.CallLaws.{runs_join, runs_more, grows_then, grows_after}
-use Rattle.cell_store.specs.FormatLaws.{formatted, lasts_same}
-use Rattle.cell_store.proofs.Results.{OnOk-from}
+use Rattle.cell_store.specs.Layout.{twin_layout}
+use Rattle.cell_store.proofs.FreshLaws.{length-fresh_cells, fresh_stands}
+use Rattle.cell_store.proofs.FormatLaws.{firm_pairs-cells, twin-rest, formatted, unformed-blank, unformed-cells, unformed-header, lasts_same, lasts_at, tears_sized, tears_at}
+use Rattle.cell_store.proofs.Results.{OnOk-from, OnErr-from}
 use Rattle.cell_store.proofs.formatting.write_store.Goals as goal
 
 pub returns-in_err-write_and_sync-clause-runs : goal.returns-in_err-write_and_sync-clause-runs
@@ -23,9 +25,32 @@ returns-clause-grows g c =
 pub returns-clause-fresh : goal.returns-clause-fresh
 returns-clause-fresh g c =
     on_ok_weaker c.write_and_sync-2.result
-    (λ last. formatted c.args.cells.now _ _ _ _ c.requires.few c.told-cells
+    (λ last. formatted (twin_layout c.args.version) c.args.cells.now (68 * length c.args.cells.now) (length-fresh_cells c.args.cells.now c.told-cells) (twin-rest _) _ _ _ _
     (λ t is. let sized = (g.met.D.Disk.is_disk c.args.disk.now).bytes_sized t is in omega (arith, sized, c.requires.room))
-    c.in_ok-write_and_sync.ensures.lasts
-    c.in_ok-write_cells.ensures.pairs
-    (lasts_same 0 _ _ _ _ c.twin_header.ensures last))
+    (λ x y room fresh. fresh_stands c.args.version c.args.cells.now x y c.requires.few room c.told-cells fresh)
+    (lasts_at c.base-base.result _ _ _ _ c.base-base.ensures c.in_ok-write_and_sync.ensures.lasts)
+    (firm_pairs-cells c.args.version c.args.cells.now _ _ c.in_ok-write_cells.ensures.pairs)
+    (lasts_same _ _ _ _ _ c.header-head.ensures (lasts_at c.base-base.result _ _ _ _ c.base-base.ensures last)))
     c.write_and_sync-2.ensures.lasts
+
+pub returns-in_err-write_and_sync-clause-unformed : goal.returns-in_err-write_and_sync-clause-unformed
+returns-in_err-write_and_sync-clause-unformed g c =
+    OnErr-from c.from_residual.result (unformed-blank (twin_layout c.args.version) c.args.cells.now (68 * length c.args.cells.now) (length-fresh_cells c.args.cells.now c.told-cells) (twin-rest _) _ _ None None
+    (λ t is. let sized = (g.met.D.Disk.is_disk c.args.disk.now).bytes_sized t is in omega (arith, sized, c.requires.room))
+    (tears_at c.base-base.result _ _ _ _ c.base-base.ensures c.in_err-write_and_sync.ensures.torn))
+
+pub returns-in_err-write_cells-clause-unformed : goal.returns-in_err-write_cells-clause-unformed
+returns-in_err-write_cells-clause-unformed g c =
+    OnErr-from c.from_residual-in_err-write_cells.result (unformed-cells (twin_layout c.args.version) c.args.cells.now (68 * length c.args.cells.now) (length-fresh_cells c.args.cells.now c.told-cells) (twin-rest _) _ _ _ None
+    (λ t is. let sized = (g.met.D.Disk.is_disk c.args.disk.now).bytes_sized t is in omega (arith, sized, c.requires.room))
+    (lasts_at c.base-base.result _ _ _ _ c.base-base.ensures c.in_ok-write_and_sync.ensures.lasts) c.in_err-write_cells.ensures.torn)
+
+pub returns-clause-unformed : goal.returns-clause-unformed
+returns-clause-unformed g c =
+    on_err_weaker c.write_and_sync-2.result
+    (λ tears. unformed-header (twin_layout c.args.version) c.args.cells.now (68 * length c.args.cells.now) (length-fresh_cells c.args.cells.now c.told-cells) (twin-rest _) _ _ _ _
+    (λ t is. let sized = (g.met.D.Disk.is_disk c.args.disk.now).bytes_sized t is in omega (arith, sized, c.requires.room))
+    (lasts_at c.base-base.result _ _ _ _ c.base-base.ensures c.in_ok-write_and_sync.ensures.lasts)
+    (firm_pairs-cells c.args.version c.args.cells.now _ _ c.in_ok-write_cells.ensures.pairs)
+    (tears_sized _ (length c.header-head.result) 32 _ _ (omega arith) (tears_at c.base-base.result _ _ _ _ c.base-base.ensures tears)))
+    c.write_and_sync-2.ensures.torn

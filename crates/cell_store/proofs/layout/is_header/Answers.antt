@@ -3,4 +3,4 @@ use Rattle.std.proofs.lemmas.Slice.Eq.{slice_eq-Decides}
 use Rattle.cell_store.proofs.layout.is_header.Goals as goal
 
 pub returns : goal.returns
-returns c = let d = slice_eq-Decides Decides-eqb c.args.bytes.now c.twin_header.result c.eq.result c.eq.ensures in rw c.twin_header.ensures at d
+returns c = let d = slice_eq-Decides Decides-eqb c.args.bytes.now c.header.result c.eq.result c.eq.ensures in rw c.header.ensures at d

@@ -1,10 +1,11 @@
 use Rattle.std.proofs.Common.{◌≡◌, ◌+◌, ◌*◌, ◌^◌, ap, ◌∙◌, arith}
-use Rattle.memory_update.specs.Numbers.{bytes_of}
-use Rattle.memory_update.specs.NumberLaws.{to_be_bytes-16}
+use Rattle.std.specs.Int.{w128}
+use Rattle.byte_lists.specs.Numbers.{bytes_of}
+use Rattle.byte_lists.specs.NumberLaws.{to_be_bytes-is}
 use Rattle.memory_update.proofs.blocks.counter_block.Goals as goal
 
-pub returns : goal.returns
-returns c =
+pub returns-clause-value : goal.returns-clause-value
+returns-clause-value c =
     let word = c.place-word.result in
     let value : word ≡ c.args.counter * 2 ^ 100 + 2 ^ 99 = omega arith in
-    c.of.ensures ∙ c.to_be_bytes.ensures ∙ to_be_bytes-16 word ∙ ap (bytes_of 16) value
+    c.of.ensures.value ∙ c.to_be_bytes.ensures ∙ to_be_bytes-is w128 word ∙ ap (bytes_of 16) value

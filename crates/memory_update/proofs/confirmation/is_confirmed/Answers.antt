@@ -1,6 +1,6 @@
 use Rattle.std.proofs.Common.{refl}
 use Rattle.std.proofs.lemmas.Slice.Eq.{slice_eq-Decides, bytes_eq-Decides}
-use Rattle.memory_update.specs.MessageLaws.{confirmed_by}
+use Rattle.memory_update.proofs.AnswerSteps.{confirmed_by}
 use Rattle.memory_update.proofs.confirmation.is_confirmed.Goals as goal
 
 pub returns : goal.returns

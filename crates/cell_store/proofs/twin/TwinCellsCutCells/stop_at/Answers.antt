@@ -3,12 +3,12 @@ use Rattle.cut_disk.specs.State.{Stop}
 use Rattle.cut_disk.specs.Calls.{Runs}
 use Rattle.cut_disk.specs.CallLaws.{runs_of_call}
 use Rattle.cell_store.specs.Cells.{CellsState}
-use Rattle.cell_store.specs.TwinSteps.{armed-store}
+use Rattle.cell_store.proofs.TwinSteps.{armed-store}
 use Rattle.cell_store.proofs.twin.TwinCellsCutCells.stop_at.Goals as goal
 
 pub invariant_of-self : goal.invariant_of-self
 invariant_of-self g c =
-    armed-store (g.D.Disk.state c.self.inside.disk) (g.D.Disk.state c.stop_at.new.self) c.self.inside.held.items (length c.self.inside.reread.items) c.self.inside.broken c.stop_at.ensures.call.size c.stop_at.ensures.same c.self.invariant
+    armed-store c.self.inside.version (g.D.Disk.state c.self.inside.disk) (g.D.Disk.state c.stop_at.new.self) c.self.inside.held.items (length c.self.inside.reread.items) c.self.inside.broken c.stop_at.ensures.call.size c.stop_at.ensures.same c.self.invariant
 
 pub returns-clause-runs : goal.returns-clause-runs
 returns-clause-runs g c =

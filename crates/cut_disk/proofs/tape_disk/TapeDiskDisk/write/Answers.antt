@@ -1,11 +1,10 @@
 -- The call of the disk in memory, with its entry.
-use Rattle.std.proofs.Common.{None, refl, rules}
 use Rattle.cut_disk.specs.MemDisk.{contents}
 use Rattle.cut_disk.proofs.Tapes.{newest_after, call_after}
 use Rattle.cut_disk.proofs.tape_disk.TapeDiskDisk.write.Goals as goal
 
 pub invariant_of-self-clause-newest : goal.invariant_of-self-clause-newest
-invariant_of-self-clause-newest c = newest_after None (contents c.write-outcome.new.self) c.args.self.now.tape c.note.new.tape (search rules)
+invariant_of-self-clause-newest c = newest_after _ (contents c.write-outcome.new.self) c.args.self.now.tape c.note.new.tape c.note.ensures
 
 pub returns-clause-call : goal.returns-clause-call
-returns-clause-call c = call_after None (contents c.args.self.now.disk) (contents c.write-outcome.new.self) c.args.self.now.tape c.note.new.tape c.write-outcome.ensures.call (search rules)
+returns-clause-call c = call_after _ (contents c.args.self.now.disk) (contents c.write-outcome.new.self) c.args.self.now.tape c.note.new.tape c.write-outcome.ensures.call c.note.ensures

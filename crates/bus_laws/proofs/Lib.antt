@@ -1,0 +1,16 @@
+pub mod Effects
+pub mod Taken
+pub mod SoundSteps
+pub mod Growth
+pub mod BusSteps
+pub mod Lists
+pub mod Rising
+pub mod Pending
+pub mod Requests
+pub mod Keys
+pub mod Skipping
+pub mod Accepting
+pub mod Hearing
+pub mod FirstWorld
+pub mod Determined
+pub mod OneLine

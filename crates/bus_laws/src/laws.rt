@@ -1,0 +1,60 @@
+//! Each function has an empty body, and its contract is the law.
+ghost use Rattle.bus_laws.specs.Laws.{StepsKeepSound, RunsAreSound, RunsAreCovered, RunsRise, RunsAreAuthentic, RunsAreSingle, RunsKeepKeys, CutsSkipLittle, HonestIsHeard, LinesDetermineWorlds, EventsDetermineLines};
+
+/// A step keeps a node sound: counters within their bounds, slots as the code has them, and a pending change that
+/// moves forward what is kept.
+pub fn steps_keep_nodes_sound()
+    ensures { StepsKeepSound }
+{}
+
+/// Every node of a run is sound.
+pub fn runs_are_sound()
+    ensures { RunsAreSound }
+{}
+
+/// Each freshness that was sent or accepted so far is at most the kept bound of its route, and at most its counter.
+pub fn all_freshness_is_covered()
+    ensures { RunsAreCovered }
+{}
+
+/// Freshness accepted by one node under one Data ID strictly rises.
+pub fn accepted_freshness_rises()
+    ensures { RunsRise }
+{}
+
+/// Each accepted PDU is secured under the key that its route's slot held, usable, and where `from` names an event whose
+/// slot held that key, it is the PDU that was sent.
+pub fn runs_are_authentic()
+    ensures { RunsAreAuthentic }
+{}
+
+/// Freshness sent under one Data ID strictly rises.
+pub fn no_freshness_is_sent_twice()
+    ensures { RunsAreSingle }
+{}
+
+/// No acknowledged update of a slot is undone but by a later one, no slot's counter falls, and no filled slot becomes
+/// empty.
+pub fn keys_are_kept()
+    ensures { RunsKeepKeys }
+{}
+
+/// A cut lets a sender skip at most its reserve, and a receiver less than its reserve.
+pub fn cuts_skip_little()
+    ensures { CutsSkipLittle }
+{}
+
+/// A delivered PDU that comes in time is accepted as it was sent, or the disk failed.
+pub fn honest_pdus_are_accepted()
+    ensures { HonestIsHeard }
+{}
+
+/// The lines of a run, and what a node kept at each cut that found a change pending, determine every world.
+pub fn lines_determine_worlds()
+    ensures { LinesDetermineWorlds }
+{}
+
+/// Without cuts, and where no disk fails, the events determine every line and every world.
+pub fn events_determine_lines()
+    ensures { EventsDetermineLines }
+{}

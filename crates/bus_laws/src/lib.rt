@@ -1,0 +1,10 @@
+//! What holds of all runs of the machine of a bus: each law is the contract of a function without parameters.
+#![tactic(auto)]
+
+mod laws;
+
+pub use laws::{
+    accepted_freshness_rises, all_freshness_is_covered, cuts_skip_little, events_determine_lines,
+    honest_pdus_are_accepted, keys_are_kept, lines_determine_worlds, no_freshness_is_sent_twice,
+    runs_are_authentic, runs_are_sound, steps_keep_nodes_sound,
+};

@@ -1,0 +1,41 @@
+-- A disk over a file: what it means, and what a call of it does.
+use Rattle.std.specs.Prelude.{◌≡◌, ℕ, Bool, true, false, if◌then◌else◌, List, Option, None}
+use Rattle.fault_count.specs.FaultCount.{counted}
+use Rattle.cut_disk.specs.declared.arming.Arms.{Arms}
+use Rattle.cut_disk.specs.State.{DiskState}
+use Rattle.cut_disk.specs.Arming.{no_arms, fails, after_call}
+use Rattle.file_disk.specs.declared.byte_file.ByteFile.{Ghosts}
+use Rattle.file_disk.specs.declared.file_disk.FileDisk.{FileDisk}
+use Rattle.file_disk.specs.FileCalls.{FileCall, Notes}
+
+-- the size, which calls are to fail, how many have failed, whether there is a file, and its calls, if it tells them
+pub record FileContents : Type 0 where
+  pub size : ℕ
+  pub arms : Arms
+  pub faults : ℕ
+  pub is_open : Bool
+  pub calls : Option (List FileCall)
+
+-- what the disk means: it tells no bytes and no past, and is never quiet
+abbrev pub file_disk_of : FileContents → DiskState
+file_disk_of c = record { size = c.size; told = None; arms = c.arms; faults = c.faults; quiet = false; past = None }
+
+-- nothing is armed, and nothing has failed
+abbrev pub fresh_file_disk : ℕ → Bool → Option (List FileCall) → FileContents
+fresh_file_disk size is_open calls = record { size = size; arms = no_arms; faults = 0; is_open = is_open; calls = calls }
+
+-- A call of the disk, which is Ok or not: it was counted, and its failure too; where it was armed to fail it did, and the file wasn't
+-- touched; otherwise this one call of the file was made, with the same outcome. Where there is no file it failed.
+pub record Passes (call : FileCall) (ok : Bool) (old new : FileContents) : Type 0 where
+  pub size : new.size ≡ old.size
+  pub arms : new.arms ≡ after_call old.arms
+  pub faults : new.faults ≡ (if ok then old.faults else counted old.faults)
+  pub is_open : new.is_open ≡ old.is_open
+  pub closed : old.is_open ≡ false → ok ≡ false
+  pub armed : fails old.arms ≡ true → ok ≡ false
+  pub untouched : fails old.arms ≡ true → new.calls ≡ old.calls
+  pub passed : fails old.arms ≡ false → Notes call old.calls new.calls
+
+-- what a disk over a file holds, by what a file of this kind tells
+abbrev pub file_contents : {F : Type 0} {g : Ghosts F} → FileDisk F g → FileContents
+file_contents {F} {g} disk = record { size = disk.size; arms = disk.arms; faults = disk.faults; is_open = g.is_open disk.file; calls = g.calls disk.file }

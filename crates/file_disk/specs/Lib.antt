@@ -1,0 +1,4 @@
+pub mod FileCalls
+pub mod FileDisk
+pub mod FileLaws
+pub mod SystemFile

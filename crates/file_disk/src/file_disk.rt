@@ -1,0 +1,138 @@
+//! The disk over a file.
+ghost use Rattle.std.specs.Prelude.{◌≡◌, ◌+◌, ◌^◌, ◌<◌, ◌≤◌, length, Some, None, false, is_ok, if◌then◌else◌};
+ghost use Rattle.fault_count.specs.FaultCount.{last_count, counted};
+ghost use Rattle.cut_disk.specs.State.{Cut, Stop, Fail};
+ghost use Rattle.cut_disk.specs.Arming.{after_cut, with_stop, with_fail};
+ghost use Rattle.cut_disk.specs.Calls.{Call};
+ghost use Rattle.file_disk.specs.FileCalls.{ReadAt, WriteAt, SyncAll};
+
+use crate::byte_file::{ByteFile, FileFailed};
+use crate::system_file::SystemFile;
+use cut_disk::{Arms, CutDisk, Disk, DiskFailed, Torn, count_call};
+use fault_count::count_fault;
+
+/// A disk over one file. It tells no bytes and no past, and is never quiet: any call of the file may fail. A power cut leaves
+/// the file as it is.
+#[derive(Drop)]
+pub struct FileDisk<F: ByteFile = SystemFile> {
+    file: F,
+    size: u64,
+    arms: Arms,
+    /// How many calls have failed, or the last value of a `u64`.
+    faults: u64,
+    ghost sized: { size < 2 ^ 64 },
+    ghost all_counted: { faults ≤ last_count },
+}
+
+impl FileDisk<SystemFile> {
+    ghost use Rattle.file_disk.specs.FileDisk.{file_contents, fresh_file_disk};
+
+    /// A disk over the file at this path, which is made with 65,536 zero bytes where it isn't there. Its size is the length of
+    /// the file now. A file that can be neither opened nor made is a disk of 65,536 bytes, each of whose reads, writes and
+    /// syncs fails.
+    pub fn on(rt: &HostRuntime, path: &str) -> FileDisk<SystemFile>
+        ensures fresh { file_contents result ≡ fresh_file_disk (file_contents result).size (file_contents result).is_open None }
+        ensures missing { (file_contents result).is_open ≡ false → (file_contents result).size ≡ 65536 }
+    {
+        let file = SystemFile::on(rt, path);
+        let size = file.size();
+        FileDisk::over(file, size)
+    }
+}
+
+impl<F: ByteFile> FileDisk<F> {
+    ghost use Rattle.file_disk.specs.FileDisk.{file_contents, fresh_file_disk};
+
+    /// A disk over the first so many bytes of this file.
+    pub fn over(file: F, size: u64) -> FileDisk<F>
+        ensures { file_contents result ≡ fresh_file_disk size (F.is_open file) (F.calls file) }
+    {
+        FileDisk {
+            file,
+            size,
+            arms: Arms::none(),
+            faults: 0,
+        }
+    }
+}
+
+/// The answer of a call of the disk to what the file answered. A failure is counted.
+fn count_outcome(faults: &mut u64, outcome: Result<(), FileFailed>) -> Result<(), DiskFailed>
+    ensures ok { is_ok result ≡ is_ok outcome }
+    ensures faults { faults.new ≡ (if is_ok outcome then faults.old else counted faults.old) }
+{
+    if outcome.is_ok() {
+        return Ok(());
+    }
+    count_fault(faults);
+    Err(DiskFailed)
+}
+
+impl<F: ByteFile> Disk for FileDisk<F> {
+    ghost use Rattle.file_disk.specs.FileDisk.{file_contents, file_disk_of, Passes};
+    ghost use Rattle.file_disk.specs.FileLaws.{file_is_a_disk};
+
+    ghost state = { λ disk. file_disk_of (file_contents disk) };
+
+    fn size(&self) -> u64 {
+        self.size
+    }
+
+    fn read(&mut self, at: u64, out: &mut [u8]) -> Result<(), DiskFailed>
+        requires inside { at + length out.old ≤ (file_contents self.old).size }
+        ensures call { Call None (file_disk_of (file_contents self.old)) (file_disk_of (file_contents self.new)) }
+        ensures passes { Passes (ReadAt at out.new (is_ok result)) (is_ok result) (file_contents self.old) (file_contents self.new) }
+    {
+        count_call(&mut self.arms, &mut self.faults)?;
+        let outcome = self.file.read_at(at, out);
+        count_outcome(&mut self.faults, outcome)
+    }
+
+    fn write(&mut self, at: u64, bytes: &[u8]) -> Result<(), DiskFailed>
+        requires inside { at + length bytes.now ≤ (file_contents self.old).size }
+        ensures call { Call None (file_disk_of (file_contents self.old)) (file_disk_of (file_contents self.new)) }
+        ensures passes { Passes (WriteAt at bytes.now (is_ok result)) (is_ok result) (file_contents self.old) (file_contents self.new) }
+    {
+        count_call(&mut self.arms, &mut self.faults)?;
+        let outcome = self.file.write_at(at, bytes);
+        count_outcome(&mut self.faults, outcome)
+    }
+
+    fn sync(&mut self) -> Result<(), DiskFailed>
+        ensures call { Call None (file_disk_of (file_contents self.old)) (file_disk_of (file_contents self.new)) }
+        ensures passes { Passes (SyncAll (is_ok result)) (is_ok result) (file_contents self.old) (file_contents self.new) }
+    {
+        count_call(&mut self.arms, &mut self.faults)?;
+        let outcome = self.file.sync_all();
+        count_outcome(&mut self.faults, outcome)
+    }
+
+    ghost is_disk = { λ disk. file_is_a_disk (file_contents disk) disk.sized disk.all_counted };
+}
+
+impl<F: ByteFile> CutDisk for FileDisk<F> {
+    ghost use Rattle.file_disk.specs.FileDisk.{file_contents, file_disk_of};
+
+    fn power_cut(&mut self, _torn: Torn)
+        ensures call { Call (Some (Cut _torn)) (file_disk_of (file_contents self.old)) (file_disk_of (file_contents self.new)) }
+        ensures contents { file_contents self.new ≡ record (file_contents self.old) { arms = after_cut (file_contents self.old).arms } }
+    {
+        self.arms.cut();
+    }
+
+    fn stop_at(&mut self, calls: u64)
+        requires first { 1 ≤ calls }
+        ensures call { Call (Some (Stop calls)) (file_disk_of (file_contents self.old)) (file_disk_of (file_contents self.new)) }
+        ensures contents { file_contents self.new ≡ record (file_contents self.old) { arms = with_stop calls (file_contents self.old).arms } }
+    {
+        self.arms.stop_at(calls);
+    }
+
+    fn fail_at(&mut self, calls: u64)
+        requires first { 1 ≤ calls }
+        ensures call { Call (Some (Fail calls)) (file_disk_of (file_contents self.old)) (file_disk_of (file_contents self.new)) }
+        ensures contents { file_contents self.new ≡ record (file_contents self.old) { arms = with_fail calls (file_contents self.old).arms } }
+    {
+        self.arms.fail_at(calls);
+    }
+}

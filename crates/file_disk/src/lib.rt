@@ -1,0 +1,20 @@
+//! A disk over a file, which keeps its bytes from one run of a program to the next.
+//!
+//! [`FileDisk`] is a [`Disk`](cut_disk::Disk) that passes each call on to a [`ByteFile`]. What is proved is what it passes on: which
+//! call of the file, over which range and with which bytes; that it answers Ok exactly where that call did, and failed
+//! and raised its count where it didn't; and that a call that is armed to fail doesn't touch the file.
+//!
+//! [`SystemFile`] is a file of the system, and the trusted edge: no clause says what such a file holds, or when
+//! its calls fail. A read is `pread`, a write `fstat` and `pwrite`, a sync `fstat` and `fsync`, each again until the whole range is done or
+//! a call fails; opening is `stat` and `open`, and `ftruncate` where the file is made.
+#![tactic(auto)]
+
+mod byte_file;
+mod file_disk;
+mod system_file;
+#[cfg(test)]
+mod tests;
+
+pub use byte_file::{ByteFile, FileFailed};
+pub use file_disk::FileDisk;
+pub use system_file::SystemFile;

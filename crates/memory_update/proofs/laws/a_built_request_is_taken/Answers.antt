@@ -1,0 +1,5 @@
+use Rattle.memory_update.specs.LoadingLaws.{Allows-Builds}
+use Rattle.memory_update.proofs.laws.a_built_request_is_taken.Goals as goal
+
+pub returns : goal.returns
+returns c = Allows-Builds

@@ -1,0 +1,143 @@
+-- SubBytes and its inverse by look-ups: each vector is a map of the bytes, and all that is looked up is a place.
+use Rattle.std.proofs.Common.{◌≡◌, ℕ, ◌+◌, ◌*◌, ◌/◌, ◌^◌, ◌<◌, true, cond, leb, List, [], ◌∷◌, map, length, get_or, replicate, All, IsTrue, bit_and, refl, sym, ap, ◌∙◌, arith, w8}
+use Rattle.std.specs.Prelude.{◌==◌}
+use Rattle.std.specs.Int.Bits.{bit_xor}
+use Rattle.std.specs.Simd.Lanes.{zip2}
+use Rattle.std.proofs.lemmas.Bool.{agree_below, agree_below_at}
+use Rattle.std.proofs.lemmas.Float.{T_from_true}
+use Rattle.std.proofs.lemmas.List.{get_or-map, length-map, ext_get_or}
+use Rattle.std.proofs.lemmas.Simd.{Each1-from_get_or, zip2_of_maps, splat_is_map, map-map, swz_l, SwzOk, SwzOk-from_Each1, length-swz_l, get_or-swz_l}
+use Rattle.she_aes.specs.Field.{product, cancelled, remainder, mul, inv, affine, sub_byte, inv_affine, inv_sub_byte}
+use Rattle.she_aes.specs.SBoxFacts.{same_at_bytes}
+use Rattle.she_aes.specs.Cipher.{sub_bytes, inv_sub_bytes}
+use Rattle.she_aes.specs.Lookups.{is_place, entry, GivesPlaces}
+use Rattle.she_aes.specs.Substitution.{low_nibble, high_nibble, pair, upper, lower, total, from_upper, from_total, first, second, substitute, PlacesFit}
+use Rattle.she_aes.specs.declared.substitution.TheConstants.{LOW, HIGH, LEFT, RIGHT, LOW_OF_INVERSE, HIGH_OF_INVERSE, LEFT_OF_INVERSE, RIGHT_OF_INVERSE}
+use Rattle.she_aes.proofs.Lanes.{IsVector, byte_of_vector, map_is_block}
+
+-- ---- a look-up
+
+pub look_up_fits : (places : List ℕ) → length places ≡ 16 → All (λ place. IsTrue (is_place place)) places → SwzOk w8 16 16 0 places
+look_up_fits places long each =
+    SwzOk-from_Each1 w8 16 1 16 0 places refl (omega (arith, long)) (Each1-from_get_or _ places 0 (λ i h. T_from_true _ (each i 0 h)))
+
+pub look_up_is : (table places : List ℕ) → length places ≡ 16 → swz_l w8 16 table 0 places ≡ map (entry table) places
+look_up_is table places long =
+    ext_get_or 0 _ _ (length-swz_l w8 16 table 0 places ∙ sym (length-map places (entry table))) (λ i h.
+    let within : i < 16 = omega (arith, length-swz_l w8 16 table 0 places, long) in
+    let row : 16 * ((0 + i) / 16) + get_or places i 0 ≡ get_or places i 0 = omega arith in
+    get_or-swz_l w8 16 table 0 places i (omega (arith, long)) ∙ ap (λ k. cond (leb 128 (get_or places i 0)) 0 (get_or table k 0)) row ∙ sym (get_or-map (entry table) places i 0 0 (omega (arith, long))))
+
+-- ---- places, for all 256 bytes
+
+abbrev all_places : (ℕ → ℕ) → Type 0
+all_places f = agree_below (λ b. is_place (f b)) (λ _. true) 256 ≡ true
+
+fits_at : (f : ℕ → ℕ) → all_places f → GivesPlaces f
+fits_at f ok b h = agree_below_at (λ b. is_place (f b)) (λ _. true) 256 b ok h
+
+pub low_nibble_fits : GivesPlaces low_nibble
+low_nibble_fits = fits_at low_nibble refl
+
+pub high_nibble_fits : GivesPlaces high_nibble
+high_nibble_fits = fits_at high_nibble refl
+
+pub places_fit : PlacesFit LOW HIGH
+places_fit = record {
+  upper_fits = fits_at (upper LOW HIGH) refl;
+  lower_fits = fits_at (lower LOW HIGH) refl;
+  total_fits = fits_at (total LOW HIGH) refl;
+  from_upper_fits = fits_at (from_upper LOW HIGH) refl;
+  from_total_fits = fits_at (from_total LOW HIGH) refl;
+  first_fits = fits_at (first LOW HIGH) refl;
+  second_fits = fits_at (second LOW HIGH) refl;
+}
+
+pub places_of_inverse_fit : PlacesFit LOW_OF_INVERSE HIGH_OF_INVERSE
+places_of_inverse_fit = record {
+  upper_fits = fits_at (upper LOW_OF_INVERSE HIGH_OF_INVERSE) refl;
+  lower_fits = fits_at (lower LOW_OF_INVERSE HIGH_OF_INVERSE) refl;
+  total_fits = fits_at (total LOW_OF_INVERSE HIGH_OF_INVERSE) refl;
+  from_upper_fits = fits_at (from_upper LOW_OF_INVERSE HIGH_OF_INVERSE) refl;
+  from_total_fits = fits_at (from_total LOW_OF_INVERSE HIGH_OF_INVERSE) refl;
+  first_fits = fits_at (first LOW_OF_INVERSE HIGH_OF_INVERSE) refl;
+  second_fits = fits_at (second LOW_OF_INVERSE HIGH_OF_INVERSE) refl;
+}
+
+-- ---- the S-box and its inverse, for all 256 bytes
+
+abbrev by_tables : ℕ → ℕ
+by_tables b = bit_xor (substitute LOW HIGH LEFT RIGHT b) 0x63
+
+s_box_ok : agree_below (λ b. by_tables b == sub_byte b) (λ _. true) 256 ≡ true
+unfolding product cancelled remainder mul inv affine sub_byte
+s_box_ok = refl
+
+s_box_rule : (b : ℕ) → b < 256 → by_tables b ≡ sub_byte b
+s_box_rule = same_at_bytes by_tables sub_byte s_box_ok
+
+abbrev by_tables_of_inverse : ℕ → ℕ
+by_tables_of_inverse = substitute LOW_OF_INVERSE HIGH_OF_INVERSE LEFT_OF_INVERSE RIGHT_OF_INVERSE
+
+inverse_s_box_ok : agree_below (λ b. by_tables_of_inverse b == inv_sub_byte b) (λ _. true) 256 ≡ true
+unfolding product cancelled remainder mul inv inv_affine inv_sub_byte
+inverse_s_box_ok = refl
+
+inverse_s_box_rule : (b : ℕ) → b < 256 → by_tables_of_inverse b ≡ inv_sub_byte b
+inverse_s_box_rule = same_at_bytes by_tables_of_inverse inv_sub_byte inverse_s_box_ok
+
+-- ---- each vector, as a map of the bytes
+
+module _ (v : List ℕ) (is : IsVector v) where
+  pub places : (f : ℕ → ℕ) → GivesPlaces f → {js : List ℕ} → js ≡ map f v → All (λ place. IsTrue (is_place place)) js
+  places f fits e i d h =
+      let l : i < length v = omega (arith, ap length e, length-map v f) in
+      ap (λ js. is_place (get_or js i d)) e ∙ ap is_place (get_or-map f v i 0 d l) ∙ fits (get_or v i 0) (byte_of_vector v is i (omega (arith, is.0)))
+
+  pub looked : (table : List ℕ) (f : ℕ → ℕ) {js r : List ℕ} → r ≡ map (entry table) js → js ≡ map f v → r ≡ map (λ b. entry table (f b)) v
+  looked table f e h = e ∙ ap (map (entry table)) h ∙ map-map (entry table) f v
+
+  pub summed : (f g : ℕ → ℕ) {xs ys : List ℕ} → xs ≡ map f v → ys ≡ map g v → zip2 bit_xor xs ys ≡ map (λ b. bit_xor (f b) (g b)) v
+  summed f g e h = zip2_of_maps bit_xor f g v e h
+
+  lows : (f : ℕ → ℕ) {xs : List ℕ} → xs ≡ map f v → zip2 bit_and xs (replicate 16 15) ≡ map (λ b. low_nibble (f b)) v
+  lows f e = zip2_of_maps bit_and f (λ _. 15) v e (splat_is_map v 16 15 is.0)
+
+  highs : (f : ℕ → ℕ) {xs : List ℕ} → xs ≡ map f v → zip2 (λ a b. a / 2 ^ b) xs (replicate 16 4) ≡ map (λ b. high_nibble (f b)) v
+  highs f e = zip2_of_maps (λ a b. a / 2 ^ b) f (λ _. 4) v e (splat_is_map v 16 4 is.0)
+
+  map_self : (l : List ℕ) → l ≡ map (λ b. b) l
+  map_self [] = refl
+  map_self (x ∷ l) = ap (λ t. x ∷ t) (map_self l)
+
+  pub low_is : zip2 bit_and v (replicate 16 15) ≡ map low_nibble v
+  low_is = lows (λ b. b) (map_self v)
+
+  pub high_is : zip2 (λ a b. a / 2 ^ b) v (replicate 16 4) ≡ map high_nibble v
+  high_is = highs (λ b. b) (map_self v)
+
+  -- with the first two tables
+  module _ (lo hi : List ℕ) where
+    pub pair_is : {r s : List ℕ} → r ≡ map (entry lo) (zip2 bit_and v (replicate 16 15)) → s ≡ map (entry hi) (zip2 (λ a b. a / 2 ^ b) v (replicate 16 4)) → zip2 bit_xor r s ≡ map (pair lo hi) v
+    pair_is e h =
+        summed (λ b. entry lo (low_nibble b)) (λ b. entry hi (high_nibble b)) (looked lo low_nibble e low_is) (looked hi high_nibble h high_is)
+
+    pub upper_is : {p : List ℕ} → p ≡ map (pair lo hi) v → zip2 (λ a b. a / 2 ^ b) p (replicate 16 4) ≡ map (upper lo hi) v
+    upper_is = highs (pair lo hi)
+
+    pub lower_is : {p : List ℕ} → p ≡ map (pair lo hi) v → zip2 bit_and p (replicate 16 15) ≡ map (lower lo hi) v
+    lower_is = lows (pair lo hi)
+
+    pub total_is : {p : List ℕ} → p ≡ map (pair lo hi) v → zip2 bit_xor (zip2 (λ a b. a / 2 ^ b) p (replicate 16 4)) (zip2 bit_and p (replicate 16 15)) ≡ map (total lo hi) v
+    total_is e = summed (upper lo hi) (lower lo hi) (upper_is e) (lower_is e)
+
+  -- ---- the two substitutions
+
+  pub sub_bytes_is : {r : List ℕ} → r ≡ map (substitute LOW HIGH LEFT RIGHT) v → zip2 bit_xor r (replicate 16 0x63) ≡ sub_bytes v
+  unfolding sub_bytes
+  sub_bytes_is e =
+      zip2_of_maps bit_xor (substitute LOW HIGH LEFT RIGHT) (λ _. 0x63) v e (splat_is_map v 16 0x63 is.0) ∙ map_is_block by_tables sub_byte v is s_box_rule
+
+  pub inv_sub_bytes_is : {r : List ℕ} → r ≡ map (substitute LOW_OF_INVERSE HIGH_OF_INVERSE LEFT_OF_INVERSE RIGHT_OF_INVERSE) v → r ≡ inv_sub_bytes v
+  unfolding inv_sub_bytes
+  inv_sub_bytes_is e = e ∙ map_is_block by_tables_of_inverse inv_sub_byte v is inverse_s_box_rule

@@ -1,0 +1,5 @@
+use Rattle.she_aes.proofs.Lanes.{xor_is}
+use Rattle.she_aes.proofs.rounds.xor.Goals as goal
+
+pub returns : goal.returns
+returns c = xor_is c.args.a.now c.args.b.now c.told-a c.told-b
