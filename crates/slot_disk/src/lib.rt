@@ -11,4 +11,4 @@ mod cell;
 mod slots;
 
 pub use cell::{slot_bytes, slot_in};
-pub use slots::{BadSlot, read_slots};
+pub use slots::{BadSlot, put_slot, read_slots};

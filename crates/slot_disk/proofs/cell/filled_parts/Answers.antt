@@ -4,7 +4,7 @@ use Rattle.byte_lists.specs.NumberLaws.{from_be_bytes-32}
 use Rattle.key_slots.specs.declared.memory.Flags.{Flags}
 use Rattle.key_slots.specs.declared.memory.Slot.TheVariants.{Filled}
 use Rattle.key_slots.specs.Flags.{flags_number}
-use Rattle.key_slots.specs.Flags.{flags_number-lt, same_flags}
+use Rattle.key_slots.specs.FlagsLaws.{flags_number-lt, same_flags}
 use Rattle.slot_disk.proofs.Parts.{flags_are, counter_is, key_is}
 use Rattle.slot_disk.proofs.cell.filled_parts.Goals as goal
 
