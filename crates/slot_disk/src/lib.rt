@@ -8,7 +8,11 @@
 #![tactic(auto)]
 
 mod cell;
+mod laws;
 mod slots;
+#[cfg(test)]
+mod tests;
 
 pub use cell::{slot_bytes, slot_in};
+pub use laws::{a_cell_is_one_slot, a_slot_has_a_cell_of_32_bytes};
 pub use slots::{BadSlot, put_slot, read_slots};
