@@ -23,7 +23,7 @@ use Rattle.bus_machine.specs.declared.lines.Line.{Line}
 use Rattle.bus_machine.specs.declared.lines.Line.TheVariants.{Sent, Accepted, FreshnessFailure, VerificationFailure, Keyed, Loaded, Boot, Up, Armed, NoFrame, Refused}
 use Rattle.bus_machine.specs.declared.lines.Refusal.{Refusal}
 use Rattle.bus_machine.specs.declared.lines.Refusal.TheVariants.{Down, Key, MemoryFailure}
-use Rattle.bus_machine.specs.Node.{Node, place_of, route_key, is_decided}
+use Rattle.bus_machine.specs.Node.{Node, place_of, route_key}
 use Rattle.bus_machine.specs.Sound.{Sound}
 use Rattle.bus_machine.specs.Steps.{Act, sends, receives, loads, keys, boots, cuts, arms, hears_nothing, send_refusal, receive_refusal, SendsFrame, JudgesFrame, TakesUpdate, RefusesUpdate, DecidesBoot, RefusesBoot, NodeStep}
 use Rattle.bus_machine.specs.Bus.{World, SentLine, node_of, act_of, hearing, source_of, Instant, Moments, NamesSource, Step, node_at, SoundBus}

@@ -2,7 +2,6 @@
 use Rattle.std.specs.Prelude.{◌≡◌, ◌≢◌, ℕ, suc, ◌+◌, ◌-◌, ◌^◌, ◌<◌, ◌≤◌, ◌⊎◌, ◌==◌, ◌&&◌, if◌then◌else◌, min, Bool, true, false, nat_lt, Option, None, Some, IfSome, List, [], ◌∷◌, length, get_or, set, option_map, All}
 use Rattle.std.proofs.Common.{refl, sym, ◌∙◌, ap, subst, arith, inl, inr, true≢false, length-set, get_or-set_same, get_or-set_other}
 use Rattle.std.proofs.lemmas.Bool.Decides.{nat_tests, eqb_tells}
-use Rattle.std.proofs.lemmas.List.{get_or_past}
 use Rattle.key_slots.specs.declared.memory.Slot.{Slot}
 use Rattle.key_slots.specs.declared.memory.Slot.TheVariants.{Empty}
 use Rattle.key_slots.specs.Slots.{slot_at, IsSlot, IsSlots}
@@ -33,13 +32,6 @@ forward_of_none node None e = tt
 forward_of_none node (Some c) e = cc
 
 -- ---- slots
-
-pub IsSlot-at : (slots : List Slot) (t : ℕ) → IsSlots slots → IsSlot (slot_at slots t)
-IsSlot-at slots t are = by_place (nat_lt t (length slots)) refl
-  where
-    by_place : (b : Bool) → nat_lt t (length slots) ≡ b → IsSlot (slot_at slots t)
-    by_place true e = are.slots_are t Empty (lt_of_test t (length slots) e)
-    by_place false e = subst IsSlot (sym (get_or_past slots t Empty (not_lt_of_test t (length slots) e))) tt
 
 pub IsSlots-set : (slots : List Slot) (target : ℕ) (slot : Slot) → IsSlots slots → target < 14 → IsSlot slot → IsSlots (set slots target slot)
 IsSlots-set slots target slot are fits is = record {

@@ -4,6 +4,9 @@ use Rattle.key_slots.specs.declared.memory.Slot.{Slot}
 use Rattle.key_slots.specs.declared.memory.Slot.TheVariants.{Empty}
 use Rattle.key_slots.specs.Slots.{slot_at}
 use Rattle.memory_update.specs.Loading.{key_in}
+use Rattle.secure_boot.specs.declared.state.BootState.{BootState}
+use Rattle.secure_boot.specs.declared.state.BootState.TheVariants.{Undecided}
+use Rattle.secure_boot.specs.Booting.{decided_as}
 use Rattle.freshness_routes.specs.declared.routes.Direction.{Direction}
 use Rattle.freshness_routes.specs.declared.routes.Direction.TheVariants.{Sends, Receives}
 use Rattle.freshness_routes.specs.declared.routes.Route.{Route}
@@ -27,20 +30,6 @@ changed (bound_to route bound) kept = record kept { bounds = set kept.bounds rou
 abbrev pub changed_by : Option Change → Kept → Kept
 changed_by None kept = kept
 changed_by (Some change) kept = changed change kept
-
--- what secure boot came to since the last power-up
-pub data BootState : Type 0 where
-  Undecided : BootState
-  Good : BootState
-  Wrong : BootState
-
-abbrev pub is_good : BootState → Bool
-is_good Good = true
-is_good _ = false
-
-abbrev pub is_decided : BootState → Bool
-is_decided Undecided = false
-is_decided _ = true
 
 -- a node: its configuration, what it keeps, the counter of each route, whether it is up, and the change that a failed call left pending
 pub record Node : Type 0 where
@@ -113,7 +102,7 @@ with_slot target slot node = record node { kept = changed (slot_to target slot) 
 
 -- a boot was decided
 abbrev pub booted : Bool → Node → Node
-booted good node = record node { boot = if good then Good else Wrong }
+booted good node = record node { boot = decided_as good }
 
 -- this change was to be made, and the disk failed
 abbrev pub failed : Change → Node → Node

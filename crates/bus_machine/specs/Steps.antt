@@ -7,7 +7,7 @@ use Rattle.memory_update.specs.declared.messages.Request.{Request}
 use Rattle.memory_update.specs.declared.messages.Update.{Update}
 use Rattle.memory_update.specs.Loading.{Allows, slot_of}
 use Rattle.memory_update.specs.Messages.{Builds, Confirms}
-use Rattle.secure_boot.specs.Booting.{Boots}
+use Rattle.secure_boot.specs.Booting.{Boots, is_good, is_decided}
 use Rattle.secured_pdu.specs.Frame.{Secured}
 use Rattle.secured_pdu.specs.Verdict as verdict
 use Rattle.freshness_routes.specs.declared.routes.Direction.{Direction}
@@ -17,7 +17,7 @@ use Rattle.bus_machine.specs.declared.lines.Line.{Line}
 use Rattle.bus_machine.specs.declared.lines.Line.TheVariants.{Sent, Accepted, FreshnessFailure, VerificationFailure, Keyed, Loaded, Boot, Up, Armed, NoFrame, Refused}
 use Rattle.bus_machine.specs.declared.lines.Refusal.{Refusal}
 use Rattle.bus_machine.specs.declared.lines.Refusal.TheVariants.{Down, NoRoute, BadLength, Key, Exhausted, MemoryFailure}
-use Rattle.bus_machine.specs.Node.{Node, Change, slot_to, bound_to, changed, is_good, is_decided, place_of, route_at, bound_at, counter_at, route_key, powered, counted, with_slot, booted, failed, refused_up}
+use Rattle.bus_machine.specs.Node.{Node, Change, slot_to, bound_to, changed, place_of, route_at, bound_at, counter_at, route_key, powered, counted, with_slot, booted, failed, refused_up}
 
 -- what a node is told to do
 pub data Act : Type 0 where

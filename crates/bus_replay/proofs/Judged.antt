@@ -3,7 +3,8 @@ use Rattle.std.proofs.Common.{◌≡◌, ℕ, List, ◌++◌, refl, inr, subst, 
 use Rattle.secured_pdu.specs.Frame.{IsFrame}
 use Rattle.secured_pdu.specs.Verdict.{Outcome, Verdict}
 use Rattle.text_lines.specs.declared.judges.JudgeLine.{JudgeLine}
-use Rattle.bus_replay.specs.Texts.{outcome_text, TellsJudgement}
+use Rattle.text_lines.specs.Texts.{outcome_text}
+use Rattle.bus_replay.specs.Texts.{TellsJudgement}
 use Rattle.bus_replay.specs.Steps.{Adds}
 
 pub judged : (l : JudgeLine) (key pdu frame : List ℕ) (outcome : Outcome) (old new : List ℕ)

@@ -1,4 +1,3 @@
 pub mod Each
 pub mod Judged
-pub mod Joined
 pub mod Phases

@@ -7,7 +7,7 @@ use Rattle.text_lines.specs.Readings.{Fault}
 use Rattle.text_lines.specs.Texts.{fault_text_of}
 use Rattle.command_edge.specs.Input.{input_limit, input_fault_text, NoInput}
 use Rattle.command_edge.specs.declared.input.InputFault.TheVariants as input
-use Rattle.command_edge.specs.Told.{Told}
+use Rattle.command_edge.specs.Told.{EndingTold}
 use Rattle.bus_replay.specs.declared.words.Command.{Command}
 use Rattle.bus_replay.specs.Words.{Asks, AsksNothing, AsksSomething}
 use Rattle.bus_replay.specs.Texts.{usage, Prints, fault_of}
@@ -56,7 +56,7 @@ Comes words before after (done text) = Over words before after (λ command input
 -- how a run ends: a row comes, and its text and status are told; where the sink fails, 6 and a proper front of that text
 abbrev pub Ends : List (List ℕ) → SourceState → SourceState → SinkState → SinkState → ℕ → Type 0
 Ends words before after sink_before sink_after status =
-    (answer : Answer) × Comes words before after answer × Told sink_before sink_after (answer_text answer) (answer_status answer) status
+    (answer : Answer) × Comes words before after answer × EndingTold sink_before sink_after (answer_text answer) (answer_status answer) status
 
 -- a front was written of the text of a row that comes
 abbrev pub FrontOfRow : List (List ℕ) → SourceState → SourceState → SinkState → SinkState → Type 0

@@ -3,7 +3,7 @@ use Rattle.std.specs.Prelude.{◌≡◌, ◌⊎◌, ℕ, Some, List, ◌++◌, A
 use Rattle.std.specs.declared.alloc.Global.{Global}
 use Rattle.bus_port.specs.Source.{SourceState}
 use Rattle.bus_port.specs.Sink.{SinkState}
-use Rattle.command_edge.specs.Told.{Told}
+use Rattle.command_edge.specs.Told.{EndingTold}
 use Rattle.secured_pdu.specs.Frame.{IsPayload}
 use Rattle.text_lines.specs.declared.frames.FrameLine.{FrameLine}
 use Rattle.text_lines.specs.declared.judges.JudgeLine.{JudgeLine}
@@ -84,4 +84,4 @@ Prepares words before after (Err refusal) = Refuses words before after refusal
 -- how the second phase ends: the whole text of the job is told, or there was no memory for it
 abbrev pub DoesJob : Job → SinkState → SinkState → ℕ → Type 0
 DoesJob job before after status =
-    ((text : List ℕ) × TellsJob job text × Told before after text 0 status) ⊎ ((status ≡ 7) × (after ≡ before))
+    ((text : List ℕ) × TellsJob job text × EndingTold before after text 0 status) ⊎ ((status ≡ 7) × (after ≡ before))

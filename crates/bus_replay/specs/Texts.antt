@@ -1,20 +1,16 @@
--- The texts that the commands print, in lower-case digits, each line with its line feed.
+-- What the commands print of an input, in lower-case digits, each line with its line feed.
 use Rattle.std.specs.Prelude.{◌≡◌, ◌⊎◌, ℕ, List, [], ◌∷◌, ◌++◌, Option, Ok, codes}
 use Rattle.std.specs.Result.{result_err}
-use Rattle.std.specs.Int.{w64, to_be_bytes}
 use Rattle.hex.specs.Hex.{encode_lower}
 use Rattle.secured_pdu.specs.Frame.{Secured, IsFrame}
-use Rattle.secured_pdu.specs.Verdict.{Outcome, Accepted, FreshnessFailure, VerificationFailure, Verdict}
+use Rattle.secured_pdu.specs.Verdict.{Outcome, Verdict}
 use Rattle.text_lines.specs.declared.frames.FrameLine.{FrameLine}
 use Rattle.text_lines.specs.declared.judges.JudgeLine.{JudgeLine}
 use Rattle.text_lines.specs.Frames.{frames_of, judges_of}
 use Rattle.text_lines.specs.Readings.{Fault}
+use Rattle.text_lines.specs.Texts.{line, outcome_text, bad_length_text}
 use Rattle.bus_replay.specs.declared.words.Command.{Command}
 use Rattle.bus_replay.specs.declared.words.Command.TheVariants.{Frame, Judge}
-
--- a text and the line feed behind it, which is 10
-abbrev pub line : List ℕ → List ℕ
-line text = text ++ 10 ∷ []
 
 -- the line of words that is printed where the words are of no form
 abbrev pub usage : List ℕ
@@ -24,17 +20,10 @@ usage = line (codes "usage: frame F, judge F, check B F, replay B F, trial B N S
 abbrev pub TellsFrame : FrameLine → List ℕ → Type 0
 TellsFrame l text = (frame : List ℕ) × Secured l.key l.id l.payload l.freshness frame × (text ≡ line (encode_lower frame))
 
--- the text of a verdict: the freshness has 16 digits
-abbrev pub outcome_text : Outcome → List ℕ
-outcome_text (Accepted payload freshness) =
-    line (codes "VERIFICATIONSUCCESS " ++ encode_lower (to_be_bytes w64 freshness) ++ codes " " ++ encode_lower payload)
-outcome_text FreshnessFailure = line (codes "FRESHNESSFAILURE")
-outcome_text VerificationFailure = line (codes "VERIFICATIONFAILURE")
-
 -- a line of `judge` is answered by the verdict on its PDU, of a receiver with the widest window, or by its bad length
 abbrev pub TellsJudgement : JudgeLine → List ℕ → Type 0
 TellsJudgement l text =
-    (¬ IsFrame l.pdu × (text ≡ line (codes "BadLength")))
+    (¬ IsFrame l.pdu × (text ≡ bad_length_text))
     ⊎ (IsFrame l.pdu × (outcome : Outcome) × Verdict l.key l.id l.counter 256 l.pdu outcome × (text ≡ outcome_text outcome))
 
 -- the text has the answer of each line, one behind the other, and nothing else

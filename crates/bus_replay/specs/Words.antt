@@ -4,9 +4,9 @@ use Rattle.bus_replay.specs.declared.words.Command.{Command}
 use Rattle.bus_replay.specs.declared.words.Command.TheVariants.{Frame, Judge}
 
 -- the first of two words, of which the second names a file, asks for this command
-abbrev pub Names : List ℕ → Command → Type 0
-Names word Frame = word ≡ codes "frame"
-Names word Judge = word ≡ codes "judge"
+abbrev pub NamesCommand : List ℕ → Command → Type 0
+NamesCommand word Frame = word ≡ codes "frame"
+NamesCommand word Judge = word ≡ codes "judge"
 
 -- with no words it is `frame` over standard input
 abbrev pub IsDefault : Command → Type 0
@@ -17,7 +17,7 @@ IsDefault Judge = ⊥
 abbrev pub Asks : List (List ℕ) → Command → Type 0
 Asks [] command = IsDefault command
 Asks (word ∷ []) command = ⊥
-Asks (word ∷ file ∷ []) command = Names word command
+Asks (word ∷ file ∷ []) command = NamesCommand word command
 Asks (word ∷ file ∷ more ∷ words) command = ⊥
 
 -- the words are of no form

@@ -1,6 +1,6 @@
 //! The words of the command line.
 ghost use Rattle.std.specs.Prelude.{map, string_bytes, IfSome, IfNone};
-ghost use Rattle.bus_replay.specs.Words.{Asks, Names, AsksNothing, NamesScript};
+ghost use Rattle.bus_replay.specs.Words.{Asks, NamesCommand, AsksNothing, NamesScript};
 ghost use Rattle.bus_replay.specs.declared.words.Command.{Command};
 
 /// What the words ask for.
@@ -26,8 +26,8 @@ pub fn command_of(words: &[String]) -> Option<Command>
 
 /// The command of this name.
 fn named(name: &str) -> Option<Command>
-    ensures found { IfSome result (Names name.now) }
-    ensures none { IfNone result ((command : Command) → ¬ Names name.now command) }
+    ensures found { IfSome result (NamesCommand name.now) }
+    ensures none { IfNone result ((command : Command) → ¬ NamesCommand name.now command) }
 {
     match name {
         "frame" => Some(Command::Frame),

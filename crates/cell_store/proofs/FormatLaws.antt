@@ -1,7 +1,7 @@
 -- Laws of the writes of a fresh store, one after another.
 use Rattle.std.proofs.Common.{inl, inr, ◌≡◌, ℕ, true, subst, ◌+◌, ◌*◌, ◌<◌, ◌≤◌, Option, Some, None, List, [], ◌∷◌, ◌++◌, length, take, drop, get_or, replicate, refl, sym, ap, ◌∙◌, arith, length-append, length-drop}
 use Rattle.std.specs.List.{flat_map}
-use Rattle.std.proofs.lemmas.List.{append-nil, take-append-drop, take_more, take_all, length-take-le, get_or-take}
+use Rattle.std.proofs.lemmas.List.{append-nil, take_more, take_all, length-take-le, get_or-take}
 use Rattle.std.proofs.lemmas.List.Concat.{flat_map-append}
 use Rattle.std.proofs.lemmas.Option.{same_Some}
 use Rattle.cut_disk.specs.State.{Told, DiskState}
@@ -17,9 +17,10 @@ use Rattle.cell_store.specs.Layout.{header, part, SameOutside, base, from_base, 
 use Rattle.cell_store.specs.Twin.{first_at, fresh_cell}
 use Rattle.cell_store.specs.Store.{Stands, Fresh, fresh_cells, fresh_store, store_size, size_from_base}
 use Rattle.cell_store.specs.Writing.{LeavesOutside}
-use Rattle.cell_store.specs.Formats.{Formats, LeavesUnformed, Pairs, FirmPairs}
+use Rattle.cell_store.specs.Formats.{FirmCells, Formats, LeavesUnformed, Pairs, FirmPairs}
 use Rattle.cell_store.proofs.LayoutLaws.{SameOutside-splice, SameOutside-after, SameOutside-widen, part-same, part-splice, part-drop}
 use Rattle.cell_store.proofs.WritingLaws.{torn-outside}
+use Rattle.cell_store.proofs.Slices.{splice-none}
 use Rattle.cell_store.proofs.StoreLaws.{length-header}
 use Rattle.cell_store.proofs.FreshLaws.{Sized, length-fresh_cell, length-pairs}
 
@@ -28,16 +29,11 @@ pub record PairsSoFar (version : Version) (cells : List (List ℕ)) (count : ℕ
   pub runs : Runs [] count start now
   pub pairs : Pairs version (take count cells) start.told now.told
 
--- nothing in a place changes nothing
-splice-nothing : (at : ℕ) (x : List ℕ) → splice at [] x ≡ x
-unfolding splice
-splice-nothing at x = ap (λ front. front ++ drop (at + 0) x) (append-nil (take at x)) ∙ (let same : at + 0 ≡ at = omega arith in rw same (take-append-drop at x))
-
 -- no cell is written
 pub pairs_none : (version : Version) (cells : List (List ℕ)) (s : DiskState) → PairsSoFar version cells 0 s s
 pairs_none version cells s = record {
   runs = runs_none s;
-  pairs = λ t is. record { loose = t.loose; told = is ∙ ap (λ bytes. Some (record { bytes = bytes; loose = t.loose })) (sym (splice-nothing (base version + 32) t.bytes)) };
+  pairs = λ t is. record { loose = t.loose; told = is ∙ ap (λ bytes. Some (record { bytes = bytes; loose = t.loose })) (sym (splice-none (base version + 32) t.bytes)) };
 }
 
 sized_front : (cells : List (List ℕ)) (i : ℕ) → Sized cells → i ≤ length cells → Sized (take i cells)
@@ -110,10 +106,6 @@ over_blank b h z p x head blank inside =
     ∙ sym (splice-apart b h (b + 32) p x (omega (arith, head)) inside)
     ∙ (let behind : b + 32 ≡ b + length h = omega (arith, head) in ap (λ n. splice n p (splice b h x)) behind)
     ∙ splice-beside b h p x (omega (arith, head))
-
--- what stands behind the header is written, and nothing is loose
-abbrev pub FirmCells : Layout → List (List ℕ) → Option Told → Option Told → Type 0
-FirmCells layout cells old new = (t : Told) → old ≡ Some t → new ≡ Some (firm (splice (base layout.version + 32) (fresh_cells layout.kind cells) t.bytes))
 
 module _ (layout : Layout) (cells : List (List ℕ)) (rest : ℕ) (wide : length (fresh_cells layout.kind cells) ≡ rest) (size : size_from_base layout.kind (length cells) ≡ 32 + rest) where
   one : length (header layout (length cells)) ≡ 32

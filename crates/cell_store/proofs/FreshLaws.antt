@@ -100,7 +100,7 @@ behind_head h p r w k n head within =
     in
     rw split (take-append-le n (drop k p) r (omega (arith, length-drop k p)))
 
-at_head : (h p r : List ℕ) (w : ℕ) → length h ≡ w → take w (h ++ p ++ r) ≡ h
+pub at_head : (h p r : List ℕ) (w : ℕ) → length h ≡ w → take w (h ++ p ++ r) ≡ h
 at_head h p r w head = ap (take w) (append_assoc h p r) ∙ take_at h (p ++ r) w head
 
 -- what stands behind the header has the rest of the store's size
@@ -132,6 +132,6 @@ fresh_twin_stands version cells x few room sized =
       holds = subst (λ (s : List ℕ). Holds Twin s cells) (sym from) (fresh_holds cells h r sized head);
     }
 
-pub fresh_stands : (version : Version) (cells : List (List ℕ)) (x y : List ℕ) → FewCells (length cells) → store_size (twin_layout version) (length cells) ≤ length x → Sized cells → Fresh (twin_layout version) cells x y → Stands (twin_layout version) y cells
+pub twin_stands-fresh : (version : Version) (cells : List (List ℕ)) (x y : List ℕ) → FewCells (length cells) → store_size (twin_layout version) (length cells) ≤ length x → Sized cells → Fresh (twin_layout version) cells x y → Stands (twin_layout version) y cells
 unfolding Fresh
-fresh_stands version cells x y few room sized fresh = subst (λ (z : List ℕ). Stands (twin_layout version) z cells) (sym fresh) (fresh_twin_stands version cells x few room sized)
+twin_stands-fresh version cells x y few room sized fresh = subst (λ (z : List ℕ). Stands (twin_layout version) z cells) (sym fresh) (fresh_twin_stands version cells x few room sized)

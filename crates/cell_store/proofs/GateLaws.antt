@@ -1,9 +1,11 @@
 -- The stages of a put: a gate is closed, a copy is filled behind it, and its gate is opened. What each leaves.
-use Rattle.std.proofs.Common.{◌≡◌, ℕ, suc, ◌+◌, ◌-◌, ◌<◌, ◌≤◌, inl, inr, Bool, true, false, if◌then◌else◌, eqb, Option, Some, List, [], ◌∷◌, length, refl, sym, ap, subst, ◌∙◌, arith, get_or}
+use Rattle.std.proofs.Common.{◌≡◌, ℕ, suc, ◌+◌, ◌-◌, ◌<◌, ◌≤◌, inl, inr, Bool, true, false, if◌then◌else◌, eqb, Option, Some, Result, Ok, Err, OnOk, OnErr, List, [], ◌∷◌, length, refl, sym, ap, subst, ◌∙◌, arith, get_or}
 use Rattle.std.proofs.lemmas.List.{ext_get_or}
 use Rattle.std.proofs.lemmas.Bool.{cases_lt, cases_eq, cases_Bool, eqb-true}
 use Rattle.cut_disk.specs.State.{Told}
-use Rattle.cut_disk.specs.Images.{splice, firm}
+use Rattle.std.proofs.lemmas.Option.{same_Some}
+use Rattle.cut_disk.specs.Images.{splice, firm, Image}
+use Rattle.cut_disk.specs.ImageLaws.{image_of_firm}
 use Rattle.cut_disk.specs.Splices.{length-splice, get_or-splice_before, get_or-splice_in, get_or-splice_behind}
 use Rattle.cell_store.specs.Layout.{part, SameOutside}
 use Rattle.cell_store.proofs.LayoutLaws.{get_or-part, part-splice, SameOutside-splice, SameOutside-widen, SameOutside-after}
@@ -175,3 +177,18 @@ gated-lasts at a b old new e l = subst (λ (c : List ℕ). Lasts at (167 ∷ c) 
 pub gated-leaves : (n at : ℕ) (a b : List ℕ) (old new : Option Told) → a ≡ b → length b ≡ n → LeavesUnfinished (length a) at (167 ∷ a) old new → LeavesUnfinished n at (167 ∷ b) old new
 gated-leaves n at a b old new e sized l =
     subst (λ m. LeavesUnfinished m at (167 ∷ b) old new) sized (subst (λ (c : List ℕ). LeavesUnfinished (length c) at (167 ∷ c) old new) e l)
+
+-- an unfinished put changes nothing else, and neither does a finished one
+pub unfinished-outside : (n at : ℕ) (copy : List ℕ) (a b : Option Told) → LeavesUnfinished n at copy a b → LeavesOutside at (1 + n) a b
+unfinished-outside n at copy a b leaves x was t told y image = let e : suc n ≡ 1 + n = omega arith in subst (λ k. SameOutside at k x y) e (leaves x was t told y image).same
+
+pub lasts-outside : (at n : ℕ) (bytes : List ℕ) (a b : Option Told) → length bytes ≡ n → ((t : Told) → a ≡ Some t → at + n ≤ length t.bytes) → Lasts at bytes a b → LeavesOutside at n a b
+lasts-outside at n bytes a b sized inside lasts x was t told y image =
+    let te : t ≡ firm (splice at bytes x) = same_Some _ _ (sym told ∙ lasts (firm x) was) in
+    let ye : y ≡ splice at bytes x = image_of_firm (subst (λ (s : Told). Image s y) te image) in
+    subst (λ (z : List ℕ). SameOutside at n x z) (sym ye) (subst (λ k. SameOutside at k x (splice at bytes x)) sized (SameOutside-splice at bytes x (let r = inside (firm x) was in omega arith)))
+
+-- whatever the answer
+pub either-outside : {T E : Type 0} (r : Result T E) (P : Type 0) → OnOk r P → OnErr r P → P
+either-outside (Ok x) P ok err = ok
+either-outside (Err e) P ok err = err

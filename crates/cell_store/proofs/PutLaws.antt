@@ -18,6 +18,7 @@ use Rattle.cell_store.specs.Store.{FewCells, Holds, Stands, twin_put, PutsAs, Pu
 use Rattle.cell_store.proofs.LayoutLaws.{part-same, splice-drop}
 use Rattle.cell_store.proofs.CopiesLaws.{side_bounds, SameOutside-put, cell_at-put, cell_at-others}
 use Rattle.cell_store.proofs.KeptLaws.{HoldsAll, stands-held, held-stands}
+use Rattle.cell_store.proofs.LogPutLaws.{log_put-stands}
 
 -- by the side that counts, in the bytes from the base on
 module _ (version : Version) (x y : List ℕ) (cells : List (List ℕ)) (i : ℕ) (c : List ℕ) (holds : HoldsAll version x cells) (below : i < length cells) (sized : length c ≡ 32) where
@@ -62,7 +63,7 @@ module _ (version : Version) (x y : List ℕ) (cells : List (List ℕ)) (i : ℕ
 by_kind : (kind : Kind) (version : Version) (x y : List ℕ) (cells : List (List ℕ)) (i : ℕ) (c : List ℕ) → Stands (record { kind = kind; version = version }) x cells → i < length cells → length c ≡ 32 → PutsAs kind version x i c y → Stands (record { kind = kind; version = version }) y (set cells i c)
 unfolding PutsAs
 by_kind Twin version x y cells i c stands below sized put = twin_put-stands version x y cells i c stands below sized put
-by_kind Log version x y cells i c stands below sized put = absurd put
+by_kind Log version x y cells i c stands below sized put = log_put-stands version x y cells i c stands below sized put
 
 pub put_stands : (layout : Layout) (x y : List ℕ) (cells : List (List ℕ)) (i : ℕ) (c : List ℕ) → Stands layout x cells → i < length cells → length c ≡ 32 → Put layout x i c y → Stands layout y (set cells i c)
 put_stands layout x y cells i c stands below sized put = by_kind layout.kind layout.version x y cells i c stands below sized put

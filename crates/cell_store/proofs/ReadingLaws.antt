@@ -10,8 +10,8 @@ use Rattle.cut_disk.specs.declared.arming.StopState.{StopState}
 use Rattle.cut_disk.specs.declared.arming.StopState.TheVariants.{Clear, Armed, Begun}
 use Rattle.cut_disk.specs.Arming.{is_clear, stop_after, after_call, after_cut}
 use Rattle.cut_disk.specs.Images.{ReadsAs}
-use Rattle.cut_disk.specs.Calls.{Rose, Call, Grows, AsBefore}
-use Rattle.cut_disk.specs.CallLaws.{as_before_none, as_before_then, runs_of_call, runs_join, runs_more, rose_after, as_before_join, as_before_more, grows_then}
+use Rattle.cut_disk.specs.Calls.{Rose, Call, Grows}
+use Rattle.cut_disk.specs.CallLaws.{runs_none, runs_of_call, runs_join, runs_more, rose_after, grows_then}
 use Rattle.cell_store.specs.declared.faults.Reread.{Reread}
 use Rattle.cell_store.specs.declared.faults.Reread.TheVariants as reread
 use Rattle.cell_store.specs.declared.kinds.Version.{Version}
@@ -23,7 +23,7 @@ use Rattle.cell_store.specs.Twin.{first_at, second_at, counts, cell_of, cell_at}
 use Rattle.cell_store.specs.Copies.{copy, Keeps}
 use Rattle.cell_store.specs.Held.{held_of}
 use Rattle.cell_store.specs.Store.{HasHeader, IsDamaged, FirstDamaged}
-use Rattle.cell_store.specs.Reading.{NoStop, ReadFailed, ToldKeeps, Leaves, Finds, CellFault, HeaderFault, twin_reads, twin_reads_to}
+use Rattle.cell_store.specs.Reading.{NoStop, ReadOnly, ReadFailed, ToldKeeps, Leaves, Finds, CellFault, HeaderFault, twin_reads, twin_reads_to}
 use Rattle.cell_store.proofs.CopiesLaws.{cell_at-kept}
 
 -- no call makes a stop
@@ -66,11 +66,43 @@ damaged-of x i e = elim (cases_Bool (counts (copy x i First) (copy x i Second)))
 ]
 
 -- one read, done or failed
-pub as_before_read : {a b : DiskState} → Call None a b → b.told ≡ a.told → b.faults ≡ a.faults → AsBefore 1 a b
-as_before_read {a} {b} call told faults = as_before_then (as_before_none a) call told faults
+pub read_done : {a b : DiskState} → Call None a b → b.told ≡ a.told → b.faults ≡ a.faults → b.arms ≡ after_call a.arms → ReadOnly 1 a b
+read_done {a} {b} call told faults arms = record { runs = runs_of_call call; told = told; faults = faults; stops = no_stop-call a.arms b.arms arms }
 
-pub read_failed : {a b : DiskState} → Call None a b → b.told ≡ a.told → Rose a.faults b.faults → ReadFailed 1 a b
-read_failed call told rose = record { runs = runs_of_call call; told = told; rose = rose }
+pub read_failed : {a b : DiskState} → Call None a b → b.told ≡ a.told → Rose a.faults b.faults → b.arms ≡ after_call a.arms → ReadFailed 1 a b
+read_failed {a} {b} call told rose arms = record { runs = runs_of_call call; told = told; rose = rose; stops = no_stop-call a.arms b.arms arms }
+
+-- several reads
+pub reads_none : (s : DiskState) → ReadOnly 0 s s
+reads_none s = record { runs = runs_none s; told = refl; faults = refl; stops = λ none. none }
+
+pub reads_join : {m n : ℕ} {a b c : DiskState} → ReadOnly m a b → ReadOnly n b c → ReadOnly (m + n) a c
+reads_join first second = record {
+  runs = runs_join first.runs second.runs;
+  told = second.told ∙ first.told;
+  faults = second.faults ∙ first.faults;
+  stops = λ none. second.stops (first.stops none);
+}
+
+pub reads_more : {few : ℕ} {a b : DiskState} (most : ℕ) → few ≤ most → ReadOnly few a b → ReadOnly most a b
+reads_more most le reads = record { runs = runs_more most le reads.runs; told = reads.told; faults = reads.faults; stops = reads.stops }
+
+pub failed_more : {few : ℕ} {a b : DiskState} (most : ℕ) → few ≤ most → ReadFailed few a b → ReadFailed most a b
+failed_more most le f = record { runs = runs_more most le f.runs; told = f.told; rose = f.rose; stops = f.stops }
+
+pub failed_after : {m n : ℕ} {a b c : DiskState} → ReadOnly m a b → ReadFailed n b c → ReadFailed (m + n) a c
+failed_after {m} {n} {a} {b} {c} before f = record {
+  runs = runs_join before.runs f.runs;
+  told = f.told ∙ before.told;
+  rose = rose_after a.faults b.faults c.faults (let e = before.faults in omega arith) f.rose;
+  stops = λ none. f.stops (before.stops none);
+}
+
+-- no stop comes where a store isn't read
+pub leaves-stops : (all : ℕ) (up_to : ℕ → ℕ) (a b : DiskState) (fault : Reread) → Leaves all up_to a b fault → NoStop a → NoStop b
+leaves-stops all up_to a b reread.DiskFailed l = l.stops
+leaves-stops all up_to a b reread.NotFormatted l = l.stops
+leaves-stops all up_to a b (reread.Damaged i) l = l.stops
 
 -- what was read behind a base is a part of the bytes from the base on
 pub read-part : (told : Option Told) (address b at n : ℕ) (bytes : List ℕ) → ReadsAs told address bytes → address ≡ b + at → length bytes ≡ n → (t : Told) → told ≡ Some t → bytes ≡ part at n (drop b t.bytes)
@@ -101,8 +133,8 @@ told-head version told address bytes reads place size t h = read-part told addre
 
 -- the header isn't read
 pub header-leaves : (layout : Layout) (n all : ℕ) (up_to : ℕ → ℕ) (old new : DiskState) (fault : Reread) → 1 ≤ all → HeaderFault layout n old new fault → Leaves all up_to old new fault
-header-leaves layout n all up_to old new reread.DiskFailed some f = record { runs = runs_more all some f.runs; told = f.told; rose = f.rose }
-header-leaves layout n all up_to old new reread.NotFormatted some f = as_before_more (min all 1) (omega arith) f.0
+header-leaves layout n all up_to old new reread.DiskFailed some f = failed_more all some f
+header-leaves layout n all up_to old new reread.NotFormatted some f = reads_more (min all 1) (omega arith) f.0
 header-leaves layout n all up_to old new (reread.Damaged i) some f = absurd f
 
 pub header-finds : (layout : Layout) (n : ℕ) (old new : DiskState) (fault : Reread) → HeaderFault layout n old new fault → Finds layout n old.told fault
@@ -112,19 +144,17 @@ header-finds layout n old new (reread.Damaged i) f t told = absurd f
 
 -- the header and the first i of n cells are read
 pub record ReadSoFar (version : Version) (n i : ℕ) (held : List Held) (start now : DiskState) : Type 0 where
-  pub as_before : AsBefore (1 + i) start now
+  pub as_before : ReadOnly (1 + i) start now
   pub grows : Grows start now
-  pub stops : NoStop start → NoStop now
   pub head : (t : Told) → start.told ≡ Some t → HasHeader (twin_layout version) n t.bytes
   pub each : (t : Told) → start.told ≡ Some t → (j : ℕ) (d : Held) → j < i → Keeps (from_base version t.bytes) j (get_or held j d)
 
 module _ (version : Version) (n i : ℕ) (held : List Held) (start now new : DiskState) (so : ReadSoFar version n i held start now) where
   -- one more cell is read
-  pub read-more : (h : Held) → AsBefore 1 now new → (NoStop now → NoStop new) → ToldKeeps version now.told i h → i < length held → ReadSoFar version n (i + 1) (set held i h) start new
-  read-more h one stops keeps below = record {
-    as_before = as_before_more (1 + (i + 1)) (omega arith) (as_before_join so.as_before one);
+  pub read-more : (h : Held) → ReadOnly 1 now new → ToldKeeps version now.told i h → i < length held → ReadSoFar version n (i + 1) (set held i h) start new
+  read-more h one keeps below = record {
+    as_before = reads_more (1 + (i + 1)) (omega arith) (reads_join so.as_before one);
     grows = grows_then so.grows one.runs;
-    stops = λ none. stops (so.stops none);
     head = so.head;
     each = λ t told j d l. elim (cases_eq j i) [
       | inl e ↦ subst (λ m. Keeps (from_base version t.bytes) m (get_or (set held i h) m d)) (sym e) (subst (λ (x : Held). Keeps (from_base version t.bytes) i x) (sym (get_or-set_same held i h d below)) (keeps t (so.as_before.told ∙ told)))
@@ -134,13 +164,9 @@ module _ (version : Version) (n i : ℕ) (held : List Held) (start now new : Dis
 
   -- a cell isn't read
   pub cell-leaves : (fault : Reread) → i < n → CellFault version i now new fault → Leaves (twin_reads n) twin_reads_to start new fault
-  cell-leaves reread.DiskFailed below f = record {
-    runs = runs_more (1 + n) (omega arith) (runs_join so.as_before.runs f.runs);
-    told = f.told ∙ so.as_before.told;
-    rose = rose_after start.faults now.faults new.faults (let e = so.as_before.faults in omega arith) f.rose;
-  }
+  cell-leaves reread.DiskFailed below f = failed_more (1 + n) (omega arith) (failed_after so.as_before f)
   cell-leaves reread.NotFormatted below f = absurd f
-  cell-leaves (reread.Damaged j) below f = let is = f.0 in as_before_more (min (1 + n) (2 + j)) (omega arith) (as_before_join so.as_before f.1)
+  cell-leaves (reread.Damaged j) below f = let is = f.0 in reads_more (min (1 + n) (2 + j)) (omega arith) (reads_join so.as_before f.1)
 
   pub cell-finds : (fault : Reread) → i < n → CellFault version i now new fault → Finds (twin_layout version) n start.told fault
   unfolding IsDamaged

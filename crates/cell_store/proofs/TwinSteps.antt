@@ -9,7 +9,7 @@ use Rattle.cut_disk.specs.Images.{splice, firm, Image, EachImage, CutsTo}
 use Rattle.cut_disk.specs.ImageLaws.{image_of_firm}
 use Rattle.cut_disk.specs.CallLaws.{runs_of_call, runs_join, runs_more, grows_of_call, grows_then}
 use Rattle.cut_disk.specs.Lasting.{Lasts}
-use Rattle.cut_disk.specs.Calls.{Grows, AsBefore, Call, Runs}
+use Rattle.cut_disk.specs.Calls.{Grows, Call, Runs}
 use Rattle.cut_disk.specs.declared.Torn.{Torn}
 use Rattle.cell_store.specs.declared.faults.Reread.{Reread}
 use Rattle.cell_store.specs.declared.faults.Reread.TheVariants as reread
@@ -20,7 +20,7 @@ use Rattle.cell_store.specs.Layout.{SameOutside, part, base, from_base, twin_lay
 use Rattle.cell_store.specs.Twin.{twin_size, is_live, next, live_copy}
 use Rattle.cell_store.specs.Copies.{other, side_at, Keeps}
 use Rattle.cell_store.specs.Store.{FewCells, HasHeader, Stands, SameBesides, store_size, size_from_base}
-use Rattle.cell_store.specs.Reading.{Leaves, Finds, twin_reads, twin_reads_to}
+use Rattle.cell_store.specs.Reading.{ReadOnly, Leaves, Finds, twin_reads, twin_reads_to}
 use Rattle.cell_store.specs.Kept.{KeepsAll, cells_of}
 use Rattle.cell_store.specs.Writing.{Unfinished, LeavesUnfinished}
 use Rattle.cell_store.specs.Cells.{CellsState, Settled, TellsCells, PutDone, LeavesBesides, StandsForEither, EachImageStands}
@@ -172,7 +172,7 @@ module _ (version : Version) (old new : DiskState) (held : List Held) (room i : 
   code-failed l = subst (λ (x : CellsState). LeavesBesides x new.told) was (failed-besides version old new held room i h cell here lower is sized (leaving l))
 
 -- a store that was read
-module _ (version : Version) (old new : DiskState) (held : List Held) (room n : ℕ) (few : FewCells n) (count : length held ≡ n) (ready : room ≡ n) (enough : store_size (twin_layout version) n ≤ old.size) (same : AsBefore (twin_reads n) old new) (keeps : (t : Told) → old.told ≡ Some t → KeepsAll version (from_base version t.bytes) held) where
+module _ (version : Version) (old new : DiskState) (held : List Held) (room n : ℕ) (few : FewCells n) (count : length held ≡ n) (ready : room ≡ n) (enough : store_size (twin_layout version) n ≤ old.size) (same : ReadOnly (twin_reads n) old new) (keeps : (t : Told) → old.told ≡ Some t → KeepsAll version (from_base version t.bytes) held) where
   few' : FewCells (length held)
   few' = subst (λ m. FewCells m) (sym count) few
 
@@ -243,7 +243,7 @@ module _ (version : Version) (old cut new : DiskState) (held fresh : List Held) 
       subst (λ (x : CellsState). Runs (Cut torn ∷ []) 2 x.disk new) view (runs_more 2 (omega arith) (runs_join (runs_of_call call) l.runs))
 
   -- read
-  module _ (count : length fresh ≡ room) (same : AsBefore (twin_reads room) cut new) (keeps : (t : Told) → cut.told ≡ Some t → KeepsAll version (from_base version t.bytes) fresh) where
+  module _ (count : length fresh ≡ room) (same : ReadOnly (twin_reads room) cut new) (keeps : (t : Told) → cut.told ≡ Some t → KeepsAll version (from_base version t.bytes) fresh) where
     pub cut-store : IsTwinStore version new fresh (length held) false
     cut-store = read-store version cut new fresh (length held) room few-room count (sym store.ready) room-cut same keeps
 

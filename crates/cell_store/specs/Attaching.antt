@@ -2,7 +2,7 @@
 use Rattle.std.specs.Prelude.{◌≡◌, ℕ, ◌+◌, ◌<◌, ◌≤◌, false, Some, List, [], length}
 use Rattle.cut_disk.specs.State.{DiskState, Told}
 use Rattle.cut_disk.specs.Images.{firm}
-use Rattle.cut_disk.specs.Calls.{Rose, Runs, Grows, AsBefore}
+use Rattle.cut_disk.specs.Calls.{Rose, Runs, Grows}
 use Rattle.cell_store.specs.declared.kinds.Version.{Version}
 use Rattle.cell_store.specs.declared.kinds.Layout.{Layout}
 use Rattle.cell_store.specs.declared.faults.Reread.{Reread}
@@ -13,7 +13,7 @@ use Rattle.cell_store.specs.declared.kinds.Probe.{Probe}
 use Rattle.cell_store.specs.Layout.{part, base, from_base}
 use Rattle.cell_store.specs.Store.{Stands, Probes, FindsFew, store_size}
 use Rattle.cell_store.specs.Cells.{CellsState, Settled}
-use Rattle.cell_store.specs.Reading.{ReadFailed, Leaves, Finds}
+use Rattle.cell_store.specs.Reading.{ReadOnly, ReadFailed, Leaves, Finds}
 
 -- a store of n cells is attached: nothing was written, and bytes that are told stand for its list
 pub record Attached (layout : Layout) (reads n : ℕ) (disk : DiskState) (s : CellsState) : Type 0 where
@@ -21,7 +21,7 @@ pub record Attached (layout : Layout) (reads n : ℕ) (disk : DiskState) (s : Ce
   pub whole : s.broken ≡ false
   pub count : length s.cells ≡ n
   pub room : store_size layout n ≤ disk.size
-  pub as_before : AsBefore reads disk s.disk
+  pub as_before : ReadOnly reads disk s.disk
   pub grows : Grows disk s.disk
   pub stands : (t : Told) → disk.told ≡ Some t → Stands layout t.bytes s.cells
   pub settled : (b : List ℕ) → disk.told ≡ Some (firm b) → Settled s
@@ -43,7 +43,7 @@ NotAttached layout reads reads_to n before after (store.Damaged i) = Unread layo
 -- the 32 bytes at the base were read
 pub record Probed (version : Version) (old new : DiskState) (probe : Probe) : Type 0 where
   pub room : base version + 32 ≤ old.size
-  pub as_before : AsBefore 1 old new
+  pub as_before : ReadOnly 1 old new
   pub grows : Grows old new
   pub few : FindsFew probe
   pub probes : (t : Told) → old.told ≡ Some t → Probes version (part 0 32 (from_base version t.bytes)) probe

@@ -1,5 +1,5 @@
 -- What formatting a disk that tells its bytes leaves of them.
-use Rattle.std.specs.Prelude.{◌≡◌, ◌⊎◌, ◌+◌, ℕ, Bool, Option, Some, List, length, replicate}
+use Rattle.std.specs.Prelude.{◌≡◌, ◌⊎◌, ◌+◌, ℕ, Option, Some, List, length, replicate}
 use Rattle.std.specs.List.{flat_map}
 use Rattle.cut_disk.specs.State.{Told}
 use Rattle.cut_disk.specs.Images.{splice, firm, EachImage}
@@ -7,7 +7,8 @@ use Rattle.cell_store.specs.declared.kinds.Version.{Version}
 use Rattle.cell_store.specs.declared.kinds.Layout.{Layout}
 use Rattle.cell_store.specs.Layout.{SameOutside, part, base, from_base}
 use Rattle.cell_store.specs.Twin.{fresh_cell}
-use Rattle.cell_store.specs.Store.{Stands, Fresh, SameBesides}
+use Rattle.cell_store.specs.Store.{Stands, Fresh, SameBesides, fresh_cells}
+use Rattle.cell_store.specs.Writing.{ReadsNow}
 
 -- the bytes are a fresh store of these cells over those of t, stand for the cells, and none is loose
 pub record FreshOn (layout : Layout) (cells : List (List ℕ)) (t : Told) (new : Option Told) : Type 0 where
@@ -35,10 +36,9 @@ pub record Unformed (layout : Layout) (cells : List (List ℕ)) (b x : List ℕ)
 abbrev pub LeavesUnformed : Layout → List (List ℕ) → Option Told → Option Told → Type 0
 LeavesUnformed layout cells old new = (b : List ℕ) → old ≡ Some (firm b) → EachImage new (Unformed layout cells b)
 
--- the bytes read as these, loose or not
-pub record ReadsNow (bytes : List ℕ) (new : Option Told) : Type 0 where
-  pub loose : List Bool
-  pub told : new ≡ Some (record { bytes = bytes; loose = loose })
+-- what stands behind the header of a fresh store is written, and no byte is loose
+abbrev pub FirmCells : Layout → List (List ℕ) → Option Told → Option Told → Type 0
+FirmCells layout cells old new = (t : Told) → old ≡ Some t → new ≡ Some (firm (splice (base layout.version + 32) (fresh_cells layout.kind cells) t.bytes))
 
 -- the copies of these cells stand behind the place of the header, and all else reads as before
 abbrev pub Pairs : Version → List (List ℕ) → Option Told → Option Told → Type 0

@@ -2,6 +2,7 @@ pub mod Layout
 pub mod Twin
 pub mod Copies
 pub mod Held
+pub mod Log
 pub mod Store
 pub mod Faults
 pub mod Cells
@@ -11,3 +12,6 @@ pub mod Reading
 pub mod Formats
 pub mod TwinStore
 pub mod Attaching
+pub mod LogKept
+pub mod LogReading
+pub mod LogStore

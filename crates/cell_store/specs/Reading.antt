@@ -2,7 +2,7 @@
 use Rattle.std.specs.Prelude.{◌≡◌, ℕ, ◌+◌, min, Option, Some, None, [], IsTrue}
 use Rattle.cut_disk.specs.State.{DiskState, Told}
 use Rattle.cut_disk.specs.Arming.{is_clear}
-use Rattle.cut_disk.specs.Calls.{Rose, Runs, AsBefore}
+use Rattle.cut_disk.specs.Calls.{Rose, Runs}
 use Rattle.cell_store.specs.declared.copies.Held.{Held}
 use Rattle.cell_store.specs.declared.kinds.Version.{Version}
 use Rattle.cell_store.specs.declared.kinds.Layout.{Layout}
@@ -18,18 +18,26 @@ use Rattle.cell_store.specs.Cells.{RereadFinds}
 abbrev pub NoStop : DiskState → Type 0
 NoStop s = IsTrue (is_clear s.arms.stop)
 
--- a read failed, so that the count of faults rose, and no byte has changed
+-- a disk is as before, but for at most this many reads, and no stop has come
+pub record ReadOnly (most : ℕ) (old new : DiskState) : Type 0 where
+  pub runs : Runs [] most old new
+  pub told : new.told ≡ old.told
+  pub faults : new.faults ≡ old.faults
+  pub stops : NoStop old → NoStop new
+
+-- one of so many reads failed, so that the count of faults rose; no byte has changed, and no stop has come
 pub record ReadFailed (most : ℕ) (old new : DiskState) : Type 0 where
   pub runs : Runs [] most old new
   pub told : new.told ≡ old.told
   pub rose : Rose old.faults new.faults
+  pub stops : NoStop old → NoStop new
 
 -- What is left where a store isn't read, by the cause: of all its reads a failing disk allows any number, another
 -- header the first, and what is damaged those up to it.
 abbrev pub Leaves : ℕ → (ℕ → ℕ) → DiskState → DiskState → Reread → Type 0
 Leaves all up_to old new reread.DiskFailed = ReadFailed all old new
-Leaves all up_to old new reread.NotFormatted = AsBefore (min all 1) old new
-Leaves all up_to old new (reread.Damaged i) = AsBefore (min all (up_to i)) old new
+Leaves all up_to old new reread.NotFormatted = ReadOnly (min all 1) old new
+Leaves all up_to old new (reread.Damaged i) = ReadOnly (min all (up_to i)) old new
 
 -- the reads of a twin store of n cells, and those up to cell i
 abbrev pub twin_reads : ℕ → ℕ
@@ -50,10 +58,10 @@ ToldKeeps version told i held = (t : Told) → told ≡ Some t → Keeps (from_b
 abbrev pub CellFault : Version → ℕ → DiskState → DiskState → Reread → Type 0
 CellFault version i old new reread.DiskFailed = ReadFailed 1 old new
 CellFault version i old new reread.NotFormatted = ⊥
-CellFault version i old new (reread.Damaged j) = (j ≡ i) × AsBefore 1 old new × ((t : Told) → old.told ≡ Some t → cell_at (from_base version t.bytes) i ≡ None)
+CellFault version i old new (reread.Damaged j) = (j ≡ i) × ReadOnly 1 old new × ((t : Told) → old.told ≡ Some t → cell_at (from_base version t.bytes) i ≡ None)
 
 -- the header isn't read: the disk failed, or told bytes have another
 abbrev pub HeaderFault : Layout → ℕ → DiskState → DiskState → Reread → Type 0
 HeaderFault layout n old new reread.DiskFailed = ReadFailed 1 old new
-HeaderFault layout n old new reread.NotFormatted = AsBefore 1 old new × ((t : Told) → old.told ≡ Some t → HasHeader layout n t.bytes → ⊥)
+HeaderFault layout n old new reread.NotFormatted = ReadOnly 1 old new × ((t : Told) → old.told ≡ Some t → HasHeader layout n t.bytes → ⊥)
 HeaderFault layout n old new (reread.Damaged i) = ⊥

@@ -1,7 +1,7 @@
 -- What writes that are synced leave on a disk that tells its bytes.
-use Rattle.std.specs.Prelude.{◌≡◌, ℕ, suc, ◌⊎◌, false, Option, Some, List}
+use Rattle.std.specs.Prelude.{◌≡◌, ℕ, suc, ◌⊎◌, Bool, false, Option, Some, List}
 use Rattle.cut_disk.specs.State.{Told}
-use Rattle.cut_disk.specs.Images.{firm, EachImage}
+use Rattle.cut_disk.specs.Images.{splice, firm, Image, EachImage}
 use Rattle.cell_store.specs.Layout.{part, SameOutside}
 use Rattle.cell_store.specs.Twin.{is_live}
 
@@ -29,3 +29,22 @@ ClosesGate n at old new = (t : Told) → old ≡ Some t → GateClosed n at t ne
 -- where no byte was loose, every image is what an unfinished put of these bytes may leave
 abbrev pub LeavesUnfinished : ℕ → ℕ → List ℕ → Option Told → Option Told → Type 0
 LeavesUnfinished n at copy old new = (b : List ℕ) → old ≡ Some (firm b) → EachImage new (Unfinished n at copy b)
+
+-- an image that was allowed before, but for n bytes from `at` on
+pub record OldOutside (at n : ℕ) (old : Told) (y : List ℕ) : Type 0 where
+  pub before : List ℕ
+  pub image : Image old before
+  pub same : SameOutside at n before y
+
+-- writes within n bytes from `at` on: every image is one that was allowed before, but for these
+abbrev pub Loosens : ℕ → ℕ → Option Told → Option Told → Type 0
+Loosens at n old new = (t : Told) → old ≡ Some t → EachImage new (OldOutside at n t)
+
+-- the bytes read as these, loose or not
+pub record ReadsNow (bytes : List ℕ) (new : Option Told) : Type 0 where
+  pub loose : List Bool
+  pub told : new ≡ Some (record { bytes = bytes; loose = loose })
+
+-- these bytes read from `at` on, loose or not, and all else reads as before
+abbrev pub Wrote : ℕ → List ℕ → Option Told → Option Told → Type 0
+Wrote at bytes old new = (t : Told) → old ≡ Some t → ReadsNow (splice at bytes t.bytes) new

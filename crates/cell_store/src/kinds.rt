@@ -2,8 +2,7 @@
 ghost use Rattle.std.specs.Prelude.{◌≡◌};
 ghost use Rattle.cell_store.specs.Layout.{base};
 
-/// How a store keeps its cells. Its byte in the header is 1 for `Twin` and 2 for `Log`. Nothing
-/// makes or reads a store of kind `Log` yet.
+/// How a store keeps its cells. Its byte in the header is 1 for `Twin` and 2 for `Log`.
 #[derive(Clone, Copy, Debug, PartialEq, Eq, Drop)]
 pub enum Kind {
     Twin,

@@ -1,8 +1,7 @@
 //! Laws of stores: the contract of each function is the law, and its body is empty.
 ghost use Rattle.std.specs.Prelude.{◌≡◌, ◌≢◌, ℕ, ◌<◌, ◌≤◌, List, [], length, slice_index_or, slice_set, replicate};
 ghost use Rattle.cell_store.specs.declared.kinds.Layout.{Layout};
-ghost use Rattle.cell_store.specs.declared.kinds.Version.{Version};
-ghost use Rattle.cell_store.specs.Layout.{header, twin_layout};
+ghost use Rattle.cell_store.specs.Layout.{header};
 ghost use Rattle.cell_store.specs.Store.{FewCells, Stands, Fresh, Put, store_size};
 
 /// A header tells its kind, its version and its number of cells.
@@ -24,10 +23,10 @@ pub fn bytes_stand_for_one_list()
 
 /// A fresh store stands for its cells.
 pub fn a_fresh_store_stands()
-    ensures { (version : Version) (cells : List (List ℕ)) (x y : List ℕ) → FewCells (length cells)
+    ensures { (layout : Layout) (cells : List (List ℕ)) (x y : List ℕ) → FewCells (length cells)
         → ((i : ℕ) → i < length cells → length (slice_index_or cells i []) ≡ 32)
-        → store_size (twin_layout version) (length cells) ≤ length x
-        → Fresh (twin_layout version) cells x y → Stands (twin_layout version) y cells }
+        → store_size layout (length cells) ≤ length x
+        → Fresh layout cells x y → Stands layout y cells }
 {}
 
 /// After a finished put of 32 bytes the bytes stand for the list with them in their place.

@@ -31,6 +31,8 @@
 //! synced, and a gate is one byte, so whatever a torn write leaves, the old copy or the new one counts.
 #![tactic(auto)]
 
+mod appending;
+mod banks;
 mod cells;
 mod copies;
 mod faults;
@@ -38,8 +40,12 @@ mod formatting;
 mod kinds;
 pub mod laws;
 mod layout;
+mod log_formatting;
+mod log_reading;
+mod logs;
 mod probing;
 mod reading;
+mod refilling;
 mod twin;
 mod writing;
 
@@ -47,8 +53,11 @@ pub use cells::{Cells, CutCells};
 pub use faults::{PutFailed, Refused, Reread, StoreFault};
 pub use kinds::{Kind, Layout, Probe, Version};
 pub use layout::twin_size;
+pub use logs::{LogCells, log_size};
 pub use probing::{probe, probe_as};
 pub use twin::TwinCells;
 
+#[cfg(test)]
+mod log_tests;
 #[cfg(test)]
 mod tests;

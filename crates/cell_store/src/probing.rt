@@ -1,7 +1,8 @@
 // A look at the 32 bytes at a store's base.
 ghost use Rattle.std.specs.Prelude.{◌≡◌, ◌↔◌, IsTrue, replicate, IfOk, IfErr};
+ghost use Rattle.cell_store.specs.declared.kinds.Kind.{Kind};
 ghost use Rattle.cell_store.specs.declared.kinds.Version.TheVariants.{One};
-ghost use Rattle.cell_store.specs.Layout.{header, twin_layout};
+ghost use Rattle.cell_store.specs.Layout.{header, kind_byte};
 ghost use Rattle.cell_store.specs.Store.{FewCells, Probes, FindsFew};
 ghost use Rattle.cell_store.specs.Attaching.{Probed, NotProbed};
 
@@ -10,8 +11,8 @@ use crate::kinds::{Kind, Layout, Probe, Version};
 use crate::layout::{HEADER, is_header};
 use cut_disk::Disk;
 
-/// What the first 32 bytes of a disk are, read in one call. A header of any other kind than `Twin`,
-/// of another version than 1, or of a number of cells that isn't 1 to 1024 is `Foreign`. Errors:
+/// What the first 32 bytes of a disk are, read in one call. A header of another kind or version,
+/// or of a number of cells that isn't 1 to 1024, is `Foreign`. Errors:
 /// `TooSmall` for a disk of less than 32 bytes, and `DiskFailed`.
 pub fn probe<D: Disk>(disk: &mut D) -> Result<Probe, StoreFault>
     ensures probed { IfOk result (Probed One (D.state disk.old) (D.state disk.new)) }
@@ -44,26 +45,28 @@ fn probe_of(version: Version, bytes: &[u8; 32]) -> Probe
         return Probe::Blank;
     }
     let cells = 256 * u16::from(bytes[10]) + u16::from(bytes[11]);
-    if is_store(version, bytes, cells) {
-        Probe::Store {
-            kind: Kind::Twin,
-            cells,
-        }
+    let kind = kind_of(bytes[8]);
+    let layout = Layout { kind, version };
+    if is_store(bytes, layout, cells) {
+        Probe::Store { kind, cells }
     } else {
         Probe::Foreign
     }
 }
 
-fn is_store(version: Version, bytes: &[u8; 32], cells: u16) -> bool
-    ensures { IsTrue result ↔ (FewCells cells × (bytes.now ≡ header (twin_layout version) cells)) }
+/// The kind that a header with this byte has, if it is one.
+fn kind_of(byte: u8) -> Kind
+    ensures { (kind : Kind) → kind_byte kind ≡ byte → result ≡ kind }
+{
+    if byte == 1 { Kind::Twin } else { Kind::Log }
+}
+
+fn is_store(bytes: &[u8; 32], layout: Layout, cells: u16) -> bool
+    ensures { IsTrue result ↔ (FewCells cells × (bytes.now ≡ header layout cells)) }
 {
     if cells < 1 || cells > 1024 {
         return false;
     }
-    let layout = Layout {
-        kind: Kind::Twin,
-        version,
-    };
     is_header(bytes, layout, cells)
 }
 

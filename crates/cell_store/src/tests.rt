@@ -213,7 +213,7 @@ fn the_first_bytes_are_probed(rt: HostRuntime) -> Result<(), Fail> {
         cells: 1,
     };
     assert_eq!(rt; probe(&mut disk), Ok(found));
-    bytes[8] = 2;
+    bytes[8] = 3;
     let mut disk = MemDisk::of(alloc, &bytes)?;
     assert_eq!(rt; probe(&mut disk), Ok(Probe::Foreign));
     disk.stop_at(1);

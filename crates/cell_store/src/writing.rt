@@ -6,7 +6,7 @@ ghost use Rattle.cut_disk.specs.Images.{Tears};
 ghost use Rattle.cut_disk.specs.Lasting.{Lasts};
 ghost use Rattle.cell_store.specs.Layout.{part};
 ghost use Rattle.cell_store.specs.Twin.{is_live, live_copy};
-ghost use Rattle.cell_store.specs.Writing.{ClosesGate, LeavesUnfinished};
+ghost use Rattle.cell_store.specs.Writing.{LeavesOutside, ClosesGate, LeavesUnfinished};
 
 use crate::copies::{LIVE, marked};
 use cut_disk::{Disk, DiskFailed, write_and_sync};
@@ -58,6 +58,8 @@ pub fn write_gated<D: Disk>(
     ensures runs { Runs [] (if live then 6 else 4) (D.state disk.old) (D.state disk.new) }
     ensures faults { OnOk result ((D.state disk.new).faults ≡ (D.state disk.old).faults) }
     ensures failed { OnErr result (Rose (D.state disk.old).faults (D.state disk.new).faults) }
+    ensures outside { LeavesOutside at (1 + length bytes.now) (D.state disk.old).told
+        (D.state disk.new).told }
     ensures written { OnOk result (Lasts at (167 ∷ bytes.now) (D.state disk.old).told
         (D.state disk.new).told) }
     ensures torn { OnErr result (LeavesUnfinished (length bytes.now) at (167 ∷ bytes.now)

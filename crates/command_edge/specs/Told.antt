@@ -17,5 +17,5 @@ abbrev pub ToldFront : SinkState → SinkState → List ℕ → ℕ → Type 0
 ToldFront before after text answer = (answer ≡ 6) × Rose before.faults after.faults × AppendedPart before after text
 
 -- an ending with this text and status was told
-abbrev pub Told : SinkState → SinkState → List ℕ → ℕ → ℕ → Type 0
-Told before after text status answer = ToldWhole before after text status answer ⊎ ToldFront before after text answer
+abbrev pub EndingTold : SinkState → SinkState → List ℕ → ℕ → ℕ → Type 0
+EndingTold before after text status answer = ToldWhole before after text status answer ⊎ ToldFront before after text answer

@@ -1,5 +1,5 @@
 //! Endings that are told.
-ghost use Rattle.command_edge.specs.Told.{Told};
+ghost use Rattle.command_edge.specs.Told.{EndingTold};
 
 use bus_port::{PortFailed, Sink, write_all};
 
@@ -15,7 +15,7 @@ pub const NO_MEMORY: u8 = 7;
 /// Writes the text of an ending, and gives the status that the program ends with: the ending's, or 6 where the
 /// sink failed, which then has a proper front of the text.
 pub fn tell<K: Sink>(sink: &mut K, text: &[u8], status: u8) -> u8
-    ensures { Told (K.state sink.old) (K.state sink.new) text.now status result }
+    ensures { EndingTold (K.state sink.old) (K.state sink.new) text.now status result }
 {
     match write_all(sink, text) {
         Ok(()) => status,

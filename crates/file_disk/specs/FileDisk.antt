@@ -4,6 +4,7 @@ use Rattle.fault_count.specs.FaultCount.{counted}
 use Rattle.cut_disk.specs.declared.arming.Arms.{Arms}
 use Rattle.cut_disk.specs.State.{DiskState}
 use Rattle.cut_disk.specs.Arming.{no_arms, fails, after_call}
+use Rattle.cut_disk.specs.Memory.{faults_after}
 use Rattle.file_disk.specs.declared.byte_file.ByteFile.{Ghosts}
 use Rattle.file_disk.specs.declared.file_disk.FileDisk.{FileDisk}
 use Rattle.file_disk.specs.FileCalls.{FileCall, Notes}
@@ -23,6 +24,10 @@ file_disk_of c = record { size = c.size; told = None; arms = c.arms; faults = c.
 -- nothing is armed, and nothing has failed
 abbrev pub fresh_file_disk : ℕ → Bool → Option (List FileCall) → FileContents
 fresh_file_disk size is_open calls = record { size = size; arms = no_arms; faults = 0; is_open = is_open; calls = calls }
+
+-- one call was counted, and its failure where it was armed to fail
+abbrev pub counted_call : FileContents → FileContents
+counted_call c = record c { arms = after_call c.arms; faults = faults_after c.arms c.faults }
 
 -- A call of the disk, which is Ok or not: it was counted, and its failure too; where it was armed to fail it did, and the file wasn't
 -- touched; otherwise this one call of the file was made, with the same outcome. Where there is no file it failed.

@@ -1,8 +1,8 @@
 //! The disk over a file.
-ghost use Rattle.std.specs.Prelude.{◌≡◌, ◌+◌, ◌^◌, ◌<◌, ◌≤◌, length, Some, None, false, is_ok, if◌then◌else◌};
+ghost use Rattle.std.specs.Prelude.{◌≡◌, ◌+◌, ◌^◌, ◌<◌, ◌≤◌, length, Some, None, false, not, is_ok, if◌then◌else◌};
 ghost use Rattle.fault_count.specs.FaultCount.{last_count, counted};
 ghost use Rattle.cut_disk.specs.State.{Cut, Stop, Fail};
-ghost use Rattle.cut_disk.specs.Arming.{after_cut, with_stop, with_fail};
+ghost use Rattle.cut_disk.specs.Arming.{fails, after_cut, with_stop, with_fail};
 ghost use Rattle.cut_disk.specs.Calls.{Call};
 ghost use Rattle.file_disk.specs.FileCalls.{ReadAt, WriteAt, SyncAll};
 
@@ -41,7 +41,7 @@ impl FileDisk<SystemFile> {
 }
 
 impl<F: ByteFile> FileDisk<F> {
-    ghost use Rattle.file_disk.specs.FileDisk.{file_contents, fresh_file_disk};
+    ghost use Rattle.file_disk.specs.FileDisk.{file_contents, fresh_file_disk, counted_call};
 
     /// A disk over the first so many bytes of this file.
     pub fn over(file: F, size: u64) -> FileDisk<F>
@@ -53,6 +53,14 @@ impl<F: ByteFile> FileDisk<F> {
             arms: Arms::none(),
             faults: 0,
         }
+    }
+
+    /// Counts a call, which fails where it is armed to, and then doesn't touch the file.
+    fn count(&mut self) -> Result<(), DiskFailed>
+        ensures ok { is_ok result ≡ not (fails (file_contents self.old).arms) }
+        ensures contents { file_contents self.new ≡ counted_call (file_contents self.old) }
+    {
+        count_call(&mut self.arms, &mut self.faults)
     }
 }
 
@@ -83,7 +91,7 @@ impl<F: ByteFile> Disk for FileDisk<F> {
         ensures call { Call None (file_disk_of (file_contents self.old)) (file_disk_of (file_contents self.new)) }
         ensures passes { Passes (ReadAt at out.new (is_ok result)) (is_ok result) (file_contents self.old) (file_contents self.new) }
     {
-        count_call(&mut self.arms, &mut self.faults)?;
+        self.count()?;
         let outcome = self.file.read_at(at, out);
         count_outcome(&mut self.faults, outcome)
     }
@@ -93,7 +101,7 @@ impl<F: ByteFile> Disk for FileDisk<F> {
         ensures call { Call None (file_disk_of (file_contents self.old)) (file_disk_of (file_contents self.new)) }
         ensures passes { Passes (WriteAt at bytes.now (is_ok result)) (is_ok result) (file_contents self.old) (file_contents self.new) }
     {
-        count_call(&mut self.arms, &mut self.faults)?;
+        self.count()?;
         let outcome = self.file.write_at(at, bytes);
         count_outcome(&mut self.faults, outcome)
     }
@@ -102,7 +110,7 @@ impl<F: ByteFile> Disk for FileDisk<F> {
         ensures call { Call None (file_disk_of (file_contents self.old)) (file_disk_of (file_contents self.new)) }
         ensures passes { Passes (SyncAll (is_ok result)) (is_ok result) (file_contents self.old) (file_contents self.new) }
     {
-        count_call(&mut self.arms, &mut self.faults)?;
+        self.count()?;
         let outcome = self.file.sync_all();
         count_outcome(&mut self.faults, outcome)
     }

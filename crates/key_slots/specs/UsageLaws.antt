@@ -31,3 +31,9 @@ pub first_applying-append : (first rest : List (Bool × Erc)) → first_applying
 first_applying-append [] rest none = refl
 first_applying-append ((true, refusal) ∷ first) rest none = cc
 first_applying-append ((false, refusal) ∷ first) rest none = first_applying-append first rest none
+
+-- where no refusal of a list applies, none of its first part applies, and none of the rest
+pub none_of_append : (first rest : List (Bool × Erc)) → first_applying (first ++ rest) ≡ None → (first_applying first ≡ None) × (first_applying rest ≡ None)
+none_of_append [] rest none = (refl, none)
+none_of_append ((true, refusal) ∷ first) rest none = cc
+none_of_append ((false, refusal) ∷ first) rest none = none_of_append first rest none

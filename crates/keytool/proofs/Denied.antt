@@ -2,26 +2,22 @@
 use Rattle.std.proofs.Common.{◌≡◌, ◌⊎◌, ◌∙◌, ℕ, List, [], Ok, Err, ap, sym, refl, subst, inl, inr}
 use Rattle.std.specs.Prelude.{Result}
 use Rattle.bus_port.specs.Sink.{SinkState}
-use Rattle.memory_update.specs.Messages.{HasSlots}
-use Rattle.memory_update.specs.MessageLaws.{HasSlots-head}
+use Rattle.memory_update.specs.MessageLaws.{HasSlots-Carries}
 use Rattle.keytool.specs.declared.subcommands.Subcommand.{Subcommand}
 use Rattle.keytool.specs.declared.tasks.Task.{Task}
 use Rattle.keytool.specs.declared.tasks.Task.TheVariants.{Make, Read, Confirm}
 use Rattle.keytool.specs.declared.tasks.BadValue.{BadValue}
 use Rattle.keytool.specs.Parsing.{refusals}
-use Rattle.keytool.specs.Texts.{Denies, Prints}
+use Rattle.keytool.specs.Texts.{Denies, PrintsDone}
 use Rattle.keytool.specs.Answers.{AsksFor, IsRefused, KeyAnswer, KeyComes, KeyEnds, denied, done, key_status, no_memory, refused_words, wrong_value}
 use Rattle.keytool.proofs.Named.{asks_one, names_one}
 
-not_both : (task : Task) (first second : List ℕ) → Prints task first → Denies task second → ⊥
+not_both : (task : Task) (first second : List ℕ) → PrintsDone task first → Denies task second → ⊥
 not_both (Make update authkey) first second prints denies = denies
 not_both (Read request authkey) first second prints denies =
-    let u = prints.0 in
-    let slots : HasSlots request.m1 = HasSlots-head request.m1 (record { uid = u.uid; id = u.id; auth = u.auth })
-    (record { is_uid = prints.1.is_uid; id_fits = prints.1.id_fits; auth_fits = prints.1.auth_fits }) prints.2.padded.m1_is in
     elim denies [
-      | inl no_slots ↦ no_slots.0 slots
-      | inr wrong ↦ wrong.1 prints.2.padded.m3_is
+      | inl no_slots ↦ no_slots.0 (HasSlots-Carries request authkey prints.0 prints.1)
+      | inr wrong ↦ wrong.1 prints.1.padded.m3_is
     ]
 not_both (Confirm reply update) first second prints denies = denies.0 prints.0
 
@@ -48,7 +44,7 @@ denied_row words task text asks denies (denied t) comes = inl refl
 denied_row words task text asks denies (done t) comes =
     let same : Ok comes.0 ≡ Ok task = asks_one words (Ok comes.0) (Ok task) comes.1 asks in
     let is : comes.0 ≡ task = cc same in
-    absurd (not_both task t text (subst (λ (k : Task). Prints k t) is comes.2) denies)
+    absurd (not_both task t text (subst (λ (k : Task). PrintsDone k t) is comes.2) denies)
 
 pub denied_only : (words : List (List ℕ)) (before after : SinkState) (status : ℕ) → KeyEnds words before after status
     → (task : Task) (text : List ℕ) → AsksFor words (Ok task) → Denies task text → IsDenied status

@@ -5,7 +5,7 @@ use Rattle.keytool.specs.declared.subcommands.Subcommand.{Subcommand}
 use Rattle.keytool.specs.declared.subcommands.Subcommand.TheVariants.{Make, Read, Confirm}
 use Rattle.keytool.specs.declared.tasks.Task.{Task}
 use Rattle.keytool.specs.declared.tasks.BadValue.{BadValue}
-use Rattle.keytool.specs.Subcommands.{Names, name_of}
+use Rattle.keytool.specs.Subcommands.{NamesSubcommand, name_of}
 use Rattle.keytool.specs.Parsing.{given}
 use Rattle.keytool.specs.Tasks.{task_of}
 use Rattle.keytool.specs.Answers.{AsksFor}
@@ -26,7 +26,7 @@ one_name : (r s : Subcommand) → name_of r ≡ name_of s → r ≡ s
 one_name r s e = first_letters r s (ap (λ (name : List ℕ). get_or name 0 0) e)
 
 -- so the words name one subcommand at most
-pub names_one : (words : List (List ℕ)) (r s : Subcommand) → Names words r → Names words s → r ≡ s
+pub names_one : (words : List (List ℕ)) (r s : Subcommand) → NamesSubcommand words r → NamesSubcommand words s → r ≡ s
 names_one [] r s left right = absurd left
 names_one (word ∷ words) r s left right = one_name r s (sym left ∙ right)
 

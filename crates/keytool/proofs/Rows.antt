@@ -4,7 +4,7 @@ use Rattle.std.specs.Prelude.{codes}
 use Rattle.std.specs.List.{flat_map}
 use Rattle.std.specs.Fmt.{decimal}
 use Rattle.hex.specs.Hex.{encode_lower}
-use Rattle.memory_update.specs.MessageLaws.{two_of}
+use Rattle.memory_update.specs.MessageLaws.{list_of_two}
 use Rattle.memory_update.specs.declared.messages.Update.{Update}
 use Rattle.keytool.specs.Texts.{row, flags_text, target_rows, content_rows, update_text}
 
@@ -12,7 +12,7 @@ pub two_digits : (blocks : List (List ℕ)) (x y front back : List ℕ) → leng
     → front ≡ encode_lower (get_or blocks 0 x) → back ≡ encode_lower (get_or blocks 1 y) → front ++ back ≡ flat_map encode_lower blocks
 two_digits blocks x y front back two front_is back_is =
     ap (λ a. a ++ back) front_is ∙ ap (λ b. encode_lower (get_or blocks 0 x) ++ b) (back_is ∙ sym (append-nil (encode_lower (get_or blocks 1 y))))
-    ∙ ap (flat_map encode_lower) (sym (two_of blocks x y two))
+    ∙ ap (flat_map encode_lower) (sym (list_of_two blocks x y two))
 
 target_more : (u : Update) (lines : List ℕ) → target_rows u [] ++ lines ≡ target_rows u lines
 target_more u lines = simp append_assoc

@@ -3,7 +3,8 @@ use Rattle.std.specs.Prelude.{ℕ, List, string_bytes, codes}
 use Rattle.keytool.specs.declared.tasks.Task.{Task}
 use Rattle.keytool.specs.declared.outcome.Outcome.{Outcome}
 use Rattle.keytool.specs.declared.outcome.Outcome.TheVariants.{Printed, Confirmed, BadId, BadMac, NotConfirmed}
-use Rattle.keytool.specs.Texts.{line, Prints, Denies}
+use Rattle.text_lines.specs.Texts.{line}
+use Rattle.keytool.specs.Texts.{PrintsDone, Denies}
 
 -- the status of an outcome
 abbrev pub outcome_status : Outcome → ℕ
@@ -23,8 +24,8 @@ outcome_line NotConfirmed = line (codes "not confirmed")
 
 -- a task comes to this: its text is what is printed where it is done, or where its messages are refused
 abbrev pub Does : Task → Outcome → Type 0
-Does task (Printed text) = Prints task (string_bytes text)
-Does task Confirmed = Prints task (line (codes "confirmed"))
+Does task (Printed text) = PrintsDone task (string_bytes text)
+Does task Confirmed = PrintsDone task (line (codes "confirmed"))
 Does task BadId = Denies task (line (codes "BadId"))
 Does task BadMac = Denies task (line (codes "BadMac"))
 Does task NotConfirmed = Denies task (line (codes "not confirmed"))

@@ -3,7 +3,7 @@ use Rattle.std.specs.Prelude.{◌≡◌, ℕ, List, [], string_bytes}
 use Rattle.keytool.specs.declared.tasks.BadValue.{BadValue}
 use Rattle.keytool.specs.declared.refusal.Refusal.{Refusal}
 use Rattle.keytool.specs.declared.refusal.Refusal.TheVariants.{Usage, Value, Memory}
-use Rattle.keytool.specs.Texts.{usage, value_text}
+use Rattle.keytool.specs.Texts.{key_usage, value_text}
 
 -- the status of a refusal
 abbrev pub key_refusal_status : Refusal → ℕ
@@ -13,7 +13,7 @@ key_refusal_status Memory = 7
 
 -- the text of a refusal
 abbrev pub key_refusal_text : Refusal → List ℕ
-key_refusal_text Usage = usage
+key_refusal_text Usage = key_usage
 key_refusal_text (Value text) = string_bytes text
 key_refusal_text Memory = []
 

@@ -1,7 +1,7 @@
 -- What the steps of the work say to one another.
 use Rattle.std.specs.Prelude.{◌≡◌, ℕ, List, Result, Ok, Err}
 use Rattle.bus_port.specs.Sink.{SinkState}
-use Rattle.command_edge.specs.Told.{Told}
+use Rattle.command_edge.specs.Told.{EndingTold}
 use Rattle.keytool.specs.declared.tasks.Task.{Task}
 use Rattle.keytool.specs.declared.refusal.Refusal.{Refusal}
 use Rattle.keytool.specs.Refusals.{key_refusal_status, key_refusal_text}
@@ -20,4 +20,4 @@ PreparesTask words (Err refusal) = RefusesWords words refusal
 -- how the second phase ends: in a row of the task, which is told
 abbrev pub DoesTask : Task → SinkState → SinkState → ℕ → Type 0
 DoesTask task before after status =
-    (answer : KeyAnswer) × TaskRow task answer × Told before after (key_text answer) (key_status answer) status
+    (answer : KeyAnswer) × TaskRow task answer × EndingTold before after (key_text answer) (key_status answer) status

@@ -18,6 +18,6 @@ values_of Confirm =
     codes "UID" ∷ codes "ID" ∷ codes "AUTH" ∷ codes "COUNTER" ∷ codes "NEWKEY" ∷ codes "M4" ∷ codes "M5" ∷ []
 
 -- the words after the program's name begin with the subcommand's
-abbrev pub Names : List (List ℕ) → Subcommand → Type 0
-Names [] s = ⊥
-Names (word ∷ words) s = word ≡ name_of s
+abbrev pub NamesSubcommand : List (List ℕ) → Subcommand → Type 0
+NamesSubcommand [] s = ⊥
+NamesSubcommand (word ∷ words) s = word ≡ name_of s

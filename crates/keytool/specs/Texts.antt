@@ -7,17 +7,14 @@ use Rattle.key_slots.specs.Flags.{bit}
 use Rattle.key_slots.specs.declared.memory.Flags.{Flags}
 use Rattle.memory_update.specs.declared.messages.Request.{Request}
 use Rattle.memory_update.specs.declared.messages.Update.{Update}
-use Rattle.memory_update.specs.Messages.{Builds, Carries, Confirms, HasSlots, IsUpdate, request_mac}
+use Rattle.memory_update.specs.Messages.{Builds, Carries, Confirms, HasSlots, request_mac}
+use Rattle.text_lines.specs.Texts.{line}
 use Rattle.keytool.specs.declared.tasks.Task.{Task}
 use Rattle.keytool.specs.declared.tasks.Task.TheVariants.{Make, Read, Confirm}
 
--- a text and the line feed behind it, which is 10
-abbrev pub line : List ℕ → List ℕ
-line text = text ++ 10 ∷ []
-
 -- the line that is printed where the words are of no form
-abbrev pub usage : List ℕ
-usage = line (codes "usage: make, read, confirm, bootmac, load")
+abbrev pub key_usage : List ℕ
+key_usage = line (codes "usage: make, read, confirm, bootmac, load")
 
 -- the line that names the first value that isn't of its form
 abbrev pub value_text : ℕ → List ℕ
@@ -52,12 +49,12 @@ abbrev pub update_text : Update → List ℕ
 update_text u = target_rows u (content_rows u)
 
 -- what is printed where a task is done: the request that is built, the update that is carried, or the confirmation
-abbrev pub Prints : Task → List ℕ → Type 0
-Prints (Make update authkey) text =
+abbrev pub PrintsDone : Task → List ℕ → Type 0
+PrintsDone (Make update authkey) text =
     (request : Request) × Builds request authkey update × (text ≡ request_text request)
-Prints (Read request authkey) text =
-    (update : Update) × IsUpdate update × Carries request authkey update × (text ≡ update_text update)
-Prints (Confirm reply update) text = Confirms reply update update.uid × (text ≡ line (codes "confirmed"))
+PrintsDone (Read request authkey) text =
+    (update : Update) × Carries request authkey update × (text ≡ update_text update)
+PrintsDone (Confirm reply update) text = Confirms reply update update.uid × (text ≡ line (codes "confirmed"))
 
 -- what is printed where the messages are refused: ID or AuthID is no slot's, M3 is wrong, or M4 and M5 are not the update's
 abbrev pub Denies : Task → List ℕ → Type 0

@@ -9,7 +9,7 @@ ghost use Rattle.keytool.specs.declared.subcommands.Subcommand.{Subcommand};
 ghost use Rattle.keytool.specs.Subcommands.{name_of, values_of};
 ghost use Rattle.keytool.specs.Parsing.{is_plain};
 ghost use Rattle.keytool.specs.Tasks.{task_of};
-ghost use Rattle.keytool.specs.Texts.{usage, value_text, Denies, Prints};
+ghost use Rattle.keytool.specs.Texts.{key_usage, value_text, Denies, PrintsDone};
 ghost use Rattle.keytool.specs.Answers.{AsksFor, FrontOfKeyRow, IsRefused, KeyEnds, NamesSome, PlainEnds};
 ghost use Rattle.keytool.specs.Steps.{DoesTask, PreparesTask};
 
@@ -46,7 +46,7 @@ pub fn run_key<S: Source, K: Sink, D: Disk>(
 
     // 0: the sink has exactly the request that is built, the update that is carried, or that the reply confirms.
     ensures done { result ≡ 0 → (task : Task) × AsksFor (drop 1 (map string_bytes words.now)) (Ok task)
-        × (text : List ℕ) × Prints task text × AppendedWell (K.state sink.old) (K.state sink.new) text }
+        × (text : List ℕ) × PrintsDone task text × AppendedWell (K.state sink.old) (K.state sink.new) text }
 
     // 1: exactly where ID or AuthID is no slot's, M3 is wrong, or the reply doesn't confirm, with the line that says so.
     ensures denied { result ≡ 1 → (task : Task) × AsksFor (drop 1 (map string_bytes words.now)) (Ok task)
@@ -56,7 +56,7 @@ pub fn run_key<S: Source, K: Sink, D: Disk>(
 
     // 2: exactly where the words name no subcommand, or clap refuses them for another cause than memory, with the usage line.
     ensures usage { result ≡ 2 → IsRefused (drop 1 (map string_bytes words.now))
-        × AppendedWell (K.state sink.old) (K.state sink.new) usage }
+        × AppendedWell (K.state sink.old) (K.state sink.new) key_usage }
     ensures usage_only { IsRefused (drop 1 (map string_bytes words.now)) → (result ≡ 2) ⊎ (result ≡ 6) ⊎ (result ≡ 7) }
 
     // 3: exactly where a value isn't of its form; the first is named.

@@ -1,6 +1,6 @@
 //! The subcommands of the key command.
 ghost use Rattle.std.specs.Prelude.{◌≡◌, map, string_bytes, IfSome, IfNone};
-ghost use Rattle.keytool.specs.Subcommands.{Names, name_of};
+ghost use Rattle.keytool.specs.Subcommands.{NamesSubcommand, name_of};
 ghost use Rattle.keytool.specs.declared.subcommands.Subcommand.{Subcommand};
 
 /// What the words ask for.
@@ -16,8 +16,8 @@ pub enum Subcommand {
 
 /// The subcommand that the first of the words names, the program's name left out.
 pub fn subcommand_of(words: &[String]) -> Option<Subcommand>
-    ensures found { IfSome result (Names (map string_bytes words.now)) }
-    ensures none { IfNone result ((s : Subcommand) → ¬ Names (map string_bytes words.now) s) }
+    ensures found { IfSome result (NamesSubcommand (map string_bytes words.now)) }
+    ensures none { IfNone result ((s : Subcommand) → ¬ NamesSubcommand (map string_bytes words.now) s) }
 {
     match words {
         [] => None,

@@ -3,16 +3,16 @@ ghost use Rattle.std.specs.Prelude.{◌≡◌};
 ghost use Rattle.clap.specs.Words.{rows_of, found_of};
 ghost use Rattle.keytool.specs.Subcommands.{values_of as names_of};
 ghost use Rattle.keytool.specs.Parsing.{values_in};
-ghost use Rattle.keytool.specs.Tasks.{field, engine_uid_of, make_of, read_of, confirm_of, task_of as task_by};
+ghost use Rattle.keytool.specs.Tasks.{value_at, make_of, read_of, confirm_of, task_of as task_by};
 ghost use Rattle.keytool.specs.declared.subcommands.Subcommand.TheVariants as subcommand;
 
 use crate::parsing::value_of;
 use crate::subcommands::Subcommand;
-use text_lines::forms;
 use clap::ArgMatches;
 use key_slots::Flags;
-use memory_update::{Reply, Request, Uid, Update};
+use memory_update::{Reply, Request, Update};
 use she_aes::Block;
+use text_lines::forms;
 
 /// What a subcommand is to do.
 #[derive(Clone, Copy, Debug, PartialEq, Eq)]
@@ -80,7 +80,7 @@ fn read_of(matches: &ArgMatches<'_>) -> Result<Task, BadValue>
 fn confirm_of(matches: &ArgMatches<'_>) -> Result<Task, BadValue>
     ensures { result ≡ confirm_of (values_in (names_of subcommand.Confirm) (rows_of (found_of matches.now))) }
 {
-    let uid = value_at(1, engine_uid(value_of(matches, "UID")))?;
+    let uid = value_at(1, forms::engine_uid(value_of(matches, "UID")))?;
     let id = value_at(2, forms::slot(value_of(matches, "ID")))?;
     let auth = value_at(3, forms::slot(value_of(matches, "AUTH")))?;
     let counter = value_at(4, forms::counter(value_of(matches, "COUNTER")))?;
@@ -107,16 +107,7 @@ fn confirm_of(matches: &ArgMatches<'_>) -> Result<Task, BadValue>
 
 /// The value with this number, counted from 1, where it is of its form.
 fn value_at<T: Drop>(number: u8, value: Option<T>) -> Result<T, BadValue>
-    ensures { result ≡ field number value }
+    ensures { result ≡ value_at number value }
 {
     value.ok_or(BadValue { number })
-}
-
-/// The identifier of an engine: 30 hexadecimal digits, not all of them 0.
-#[tactic(auto, unfolding(crate::specs::Tasks::engine_uid_of), using(crate::proofs::Values::none_where_zero, crate::proofs::Values::kept_where_not_zero))]
-fn engine_uid(word: &[u8]) -> Option<Uid>
-    ensures { result ≡ engine_uid_of word.now }
-{
-    let uid = forms::uid(word)?;
-    if uid.is_zero() { None } else { Some(uid) }
 }

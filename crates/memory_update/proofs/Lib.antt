@@ -2,3 +2,4 @@ pub mod AnswerSteps
 pub mod FieldSteps
 pub mod HeadSteps
 pub mod OpeningSteps
+mod Tries

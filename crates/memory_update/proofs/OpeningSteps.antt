@@ -14,7 +14,7 @@ use Rattle.key_slots.specs.Flags.{flags_number, flags_from}
 use Rattle.key_slots.specs.FlagsLaws.{flags_from-number}
 use Rattle.memory_update.specs.Fields.{bit_field}
 use Rattle.memory_update.specs.Messages.{request_mac, text_in, update_in, Carries, HasSlots, HeadOf, id_of, auth_of, IsRequest}
-use Rattle.memory_update.specs.MessageLaws.{two_of, number_of-two, uid_of-head, id_of-head, auth_of-head, IsBlock-request_mac, Carries-update_in}
+use Rattle.memory_update.specs.MessageLaws.{list_of_two, number_of-two, uid_of-head, id_of-head, auth_of-head, IsBlock-request_mac, Carries-update_in}
 use Rattle.memory_update.specs.declared.messages.Head.{Head}
 use Rattle.memory_update.specs.declared.messages.Request.{Request}
 use Rattle.memory_update.specs.declared.messages.Update.{Update}
@@ -29,7 +29,7 @@ text_of : (m2 text : List (List ℕ)) (authkey k z x y : List ℕ) → text ≡ 
 unfolding text_in
 text_of m2 text authkey k z x y decrypted key zero two all =
     let whole : text ≡ cbc_inverse (kdf authkey Enc) zero_block m2 = decrypted ∙ ap (λ a. cbc_inverse a z m2) key ∙ ap (λ b. cbc_inverse (kdf authkey Enc) b m2) zero in
-    let pair : text ≡ get_or text 0 x ∷ get_or text 1 y ∷ [] = two_of text x y (ap length whole ∙ length-cbc_inverse (kdf authkey Enc) zero_block m2 ∙ two) in
+    let pair : text ≡ get_or text 0 x ∷ get_or text 1 y ∷ [] = list_of_two text x y (ap length whole ∙ length-cbc_inverse (kdf authkey Enc) zero_block m2 ∙ two) in
     let both : All IsBlock (get_or text 0 x ∷ get_or text 1 y ∷ []) = subst (All IsBlock) pair all in
     let is_last = All-head IsBlock (get_or text 1 y) [] (All-tail IsBlock (get_or text 0 x) (get_or text 1 y ∷ []) both) in
     record {

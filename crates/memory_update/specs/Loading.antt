@@ -1,5 +1,5 @@
 -- When an engine takes a key update (SHE specification, memory update protocol)
-use Rattle.std.specs.Prelude.{◌≡◌, ℕ, ◌==◌, nat_lt, Bool, not, ◌&&◌, ◌||◌, Some, None, Result, Ok, Err, List, [], ◌∷◌, ◌++◌, replicate}
+use Rattle.std.specs.Prelude.{◌≡◌, ℕ, ◌<◌, ◌==◌, nat_lt, Bool, true, not, ◌&&◌, ◌||◌, Some, None, Result, Ok, Err, List, [], ◌∷◌, ◌++◌, replicate}
 use Rattle.std.specs.Str.{bytes_eq}
 use Rattle.key_slots.specs.declared.memory.Slot.{Slot}
 use Rattle.key_slots.specs.declared.memory.Slot.TheVariants.{Empty, Filled}
@@ -58,3 +58,11 @@ abbrev pub Allows : List Slot → Bool → List ℕ → Request → Result Updat
 Allows slots good uid request (Err refusal) = first_applying (load_refusals slots good uid request) ≡ Some refusal
 Allows slots good uid request (Ok update) =
     (first_applying (load_refusals slots good uid request) ≡ None) × Carries request (authorising_key slots request) update
+
+-- what holds where no refusal applies
+pub record NoneRefuses (slots : List Slot) (good : Bool) (uid : List ℕ) (request : Request) : Type 0 where
+  pub pair : is_pair (id_of request.m1) (auth_of request.m1) ≡ true
+  pub head : first_applying (head_refusals slots good (id_of request.m1) (auth_of request.m1)) ≡ None
+  pub mac : request.m3 ≡ request_mac (authorising_key slots request) request.m1 request.m2
+  pub meant : is_meant uid (slot_at slots (id_of request.m1)) (update_in (authorising_key slots request) request).uid ≡ true
+  pub greater : counter_of (slot_at slots (id_of request.m1)) < (update_in (authorising_key slots request) request).counter

@@ -1,5 +1,5 @@
 -- Laws of loading: an answer holds, and at most one; and what an update that is taken has
-use Rattle.std.proofs.Common.{◌≡◌, ◌≢◌, ℕ, ◌<◌, Bool, true, false, not, ◌&&◌, ◌||◌, nat_lt, List, [], ◌∷◌, ◌++◌, replicate, refl, sym, ap, ◌∙◌, subst, arith}
+use Rattle.std.proofs.Common.{◌≡◌, ◌≢◌, ℕ, ◌<◌, Bool, true, false, not, ◌&&◌, ◌||◌, nat_lt, List, [], ◌∷◌, replicate, refl, sym, ap, ◌∙◌, subst, arith}
 use Rattle.std.specs.Prelude.{Option, Some, None, Result, Ok, Err}
 use Rattle.std.specs.Str.{bytes_eq}
 use Rattle.std.proofs.lemmas.Bool.{and_from, and_parts, not-false, lt-ltb, ltb-true, false_from_ne_true}
@@ -15,10 +15,10 @@ use Rattle.key_slots.specs.AuthorityLaws.{slots_of_pair}
 use Rattle.key_slots.specs.Slots.{slot_at, flags_of, counter_of, IsSlot, IsSlots}
 use Rattle.key_slots.specs.SlotsLaws.{IsSlot-slot_at}
 use Rattle.key_slots.specs.Usage.{first_applying}
-use Rattle.key_slots.specs.UsageLaws.{none_of_first, first_applying-append}
+use Rattle.key_slots.specs.UsageLaws.{none_of_first, none_of_append, first_applying-append}
 use Rattle.memory_update.specs.Messages.{Builds, Carries, HasSlots, IsRequest, IsUpdate, id_of, auth_of, request_mac, update_in}
 use Rattle.memory_update.specs.MessageLaws.{HeadOf-Carries, id_of-head, auth_of-head, Carries-Builds, Carries-update_in, update_in-carried, same_update}
-use Rattle.memory_update.specs.Loading.{slot_of, key_in, is_meant, is_fit, head_refusals, load_refusals, authorising_key, Allows}
+use Rattle.memory_update.specs.Loading.{slot_of, key_in, is_meant, is_fit, head_refusals, load_refusals, authorising_key, NoneRefuses, Allows}
 use Rattle.memory_update.specs.declared.messages.Request.{Request}
 use Rattle.memory_update.specs.declared.messages.Update.{Update}
 
@@ -36,19 +36,6 @@ IsBlock-authorising_key slots request is_slots = IsBlock-key_in (slot_at slots (
 
 -- ---- where no refusal applies
 
-pub record NoneRefuses (slots : List Slot) (good : Bool) (uid : List ℕ) (request : Request) : Type 0 where
-  pub pair : is_pair (id_of request.m1) (auth_of request.m1) ≡ true
-  pub head : first_applying (head_refusals slots good (id_of request.m1) (auth_of request.m1)) ≡ None
-  pub mac : request.m3 ≡ request_mac (authorising_key slots request) request.m1 request.m2
-  pub meant : is_meant uid (slot_at slots (id_of request.m1)) (update_in (authorising_key slots request) request).uid ≡ true
-  pub greater : counter_of (slot_at slots (id_of request.m1)) < (update_in (authorising_key slots request) request).counter
-
--- an answer that some refusal gives stands at the first tests or the others
-none_of_front : (first rest : List (Bool × Erc)) → first_applying (first ++ rest) ≡ None → (first_applying first ≡ None) × (first_applying rest ≡ None)
-none_of_front [] rest none = (refl, none)
-none_of_front ((true, refusal) ∷ first) rest none = cc
-none_of_front ((false, refusal) ∷ first) rest none = none_of_front first rest none
-
 pub none_refuses : (slots : List Slot) (good : Bool) (uid : List ℕ) (request : Request) → first_applying (load_refusals slots good uid request) ≡ None → NoneRefuses slots good uid request
 none_refuses slots good uid request none =
     let id : ℕ = id_of request.m1 in
@@ -57,7 +44,7 @@ none_refuses slots good uid request none =
     let target : Slot = slot_at slots id in
     let u : Update = update_in key request in
     let test : Bool = not (is_fit uid target key request) in
-    let both = none_of_front (head_refusals slots good id auth) ((test, KeyUpdateError) ∷ []) none in
+    let both = none_of_append (head_refusals slots good id auth) ((test, KeyUpdateError) ∷ []) none in
     let pair = (none_of_first (not (is_pair id auth)) _ _ both.0).0 in
     let fit : is_fit uid target key request ≡ true = not-false _ (none_of_first test KeyUpdateError [] both.1).0 in
     let parts = and_parts (bytes_eq request.m3 (request_mac key request.m1 request.m2) && is_meant uid target u.uid) (nat_lt (counter_of target) u.counter) fit in

@@ -18,7 +18,7 @@ use Rattle.she_kdf.specs.DerivationLaws.{IsBlock-kdf}
 use Rattle.she_kdf.specs.declared.Constant.TheVariants.{Enc, Mac}
 use Rattle.she_cmac.specs.Cmac.{cmac}
 use Rattle.she_cmac.specs.CmacLaws.{IsBlock-cmac}
-use Rattle.memory_update.specs.Messages.{two_blocks, header, plain, request_mac, Carries, Builds, Confirms, id_of, auth_of, HasSlots, HeadOf, head_in, text_in, update_in, sealed_counter, SameConfirmed, IsUid, IsUpdate, IsRequest}
+use Rattle.memory_update.specs.Messages.{two_blocks, head_number, plain, request_mac, Carries, Builds, Confirms, id_of, auth_of, HasSlots, HeadOf, head_in, text_in, update_in, sealed_counter, SameConfirmed, IsUid, IsUpdate, IsRequest}
 use Rattle.memory_update.specs.declared.messages.Head.{Head}
 use Rattle.memory_update.specs.declared.messages.Update.{Update}
 use Rattle.memory_update.specs.declared.messages.Request.{Request}
@@ -27,9 +27,9 @@ use Rattle.memory_update.specs.declared.messages.Reply.{Reply}
 -- ---- a number of 256 bits as two blocks
 
 -- a list of two, from its items
-pub two_of : (bs : List (List ℕ)) (x y : List ℕ) → length bs ≡ 2 → bs ≡ get_or bs 0 x ∷ get_or bs 1 y ∷ []
-two_of (a ∷ b ∷ []) x y h = refl
-two_of bs x y h = absurd (omega arith)
+pub list_of_two : (bs : List (List ℕ)) (x y : List ℕ) → length bs ≡ 2 → bs ≡ get_or bs 0 x ∷ get_or bs 1 y ∷ []
+list_of_two (a ∷ b ∷ []) x y h = refl
+list_of_two bs x y h = absurd (omega arith)
 
 length-two_blocks : (n : ℕ) → length (two_blocks n) ≡ 2
 unfolding two_blocks
@@ -64,24 +64,24 @@ number_of-two x y is_y =
 uid-lt : (uid : List ℕ) → IsUid uid → number_of uid < 2 ^ 120
 uid-lt uid u = number_of-lt 15 uid u
 
-pub header-lt : (uid : List ℕ) (id auth : ℕ) → IsUid uid → id < 14 → auth < 14 → header uid id auth < 2 ^ 128
-header-lt uid id auth u i a = omega (arith, uid-lt uid u)
+pub head_number-lt : (uid : List ℕ) (id auth : ℕ) → IsUid uid → id < 14 → auth < 14 → head_number uid id auth < 2 ^ 128
+head_number-lt uid id auth u i a = omega (arith, uid-lt uid u)
 
 one_byte : (n : ℕ) → n < 256 → bytes_of 1 n ≡ n ∷ []
 unfolding bytes_of
 one_byte n fits = ap (λ x. x ∷ []) (let e : n / 256 ^ 0 % 256 ≡ n = omega arith in e)
 
 -- UID, ID and AuthID as bytes: the UID's, and one for both numbers
-pub head_bytes : (uid : List ℕ) (id auth : ℕ) → IsUid uid → id < 14 → auth < 14 → bytes_of 16 (header uid id auth) ≡ uid ++ (id * 16 + auth) ∷ []
+pub head_bytes : (uid : List ℕ) (id auth : ℕ) → IsUid uid → id < 14 → auth < 14 → bytes_of 16 (head_number uid id auth) ≡ uid ++ (id * 16 + auth) ∷ []
 head_bytes uid id auth is_uid i a =
     let last : ℕ = id * 16 + auth in
     let small : last < 256 = omega arith in
-    let sum : header uid id auth ≡ number_of uid * 2 ^ 8 + last = omega arith in
+    let sum : head_number uid id auth ≡ number_of uid * 2 ^ 8 + last = omega arith in
     ap (bytes_of 16) sum ∙ bytes_of-append 15 1 (number_of uid) last small ∙ ap (λ x. x ++ bytes_of 1 last) (bytes_of-number_of 15 uid is_uid) ∙ ap (λ y. uid ++ y) (one_byte last small)
 
-number_of-head : (m1 : List ℕ) (h : Head) → HeadOf m1 h → number_of m1 ≡ header h.uid h.id h.auth
+number_of-head : (m1 : List ℕ) (h : Head) → HeadOf m1 h → number_of m1 ≡ head_number h.uid h.id h.auth
 number_of-head m1 h of =
-    ap number_of of.m1_is ∙ number_of-bytes_of-lt 16 (header h.uid h.id h.auth) (header-lt h.uid h.id h.auth of.is_head.is_uid of.is_head.id_fits of.is_head.auth_fits)
+    ap number_of of.m1_is ∙ number_of-bytes_of-lt 16 (head_number h.uid h.id h.auth) (head_number-lt h.uid h.id h.auth of.is_head.is_uid of.is_head.id_fits of.is_head.auth_fits)
 
 pub uid_of-head : (m1 : List ℕ) (h : Head) → HeadOf m1 h → take 15 m1 ≡ h.uid
 uid_of-head m1 h of =
@@ -140,7 +140,7 @@ auth_of-last m1 is_m1 = let parts = in_m1 m1 is_m1 in omega (arith, parts.number
 pub HeadOf-head_in : (m1 : List ℕ) → IsBlock m1 → HasSlots m1 → HeadOf m1 (head_in m1)
 HeadOf-head_in m1 is_m1 slots =
     let parts = in_m1 m1 is_m1 in
-    let number : number_of m1 ≡ header (take 15 m1) (id_of m1) (auth_of m1) = omega (arith, parts.number, parts.fits) in
+    let number : number_of m1 ≡ head_number (take 15 m1) (id_of m1) (auth_of m1) = omega (arith, parts.number, parts.fits) in
     record {
       is_head = record { is_uid = parts.is_uid; id_fits = slots.0; auth_fits = slots.1 };
       m1_is = sym (bytes_of-number_of 16 m1 is_m1) ∙ ap (bytes_of 16) number;
@@ -257,7 +257,7 @@ Carries-update_in request authkey is_authkey is_request slots mac =
     let two : length text ≡ 2 = length-cbc_inverse (kdf authkey Enc) zero_block request.m2 ∙ is_request.m2_has_2 in
     let x : List ℕ = get_or text 0 [] in
     let y : List ℕ = get_or text 1 [] in
-    carries_opened request authkey x y is_authkey is_request slots (opened_at request.m2 authkey x y is_authkey is_request.m2_is (two_of text [] [] two)) mac
+    carries_opened request authkey x y is_authkey is_request slots (opened_at request.m2 authkey x y is_authkey is_request.m2_is (list_of_two text [] [] two)) mac
 
 -- the head of a request that carries an update
 pub HeadOf-Carries : (request : Request) (authkey : List ℕ) (u : Update) → Carries request authkey u → HeadOf request.m1 (record { uid = u.uid; id = u.id; auth = u.auth })
@@ -274,7 +274,7 @@ IsRequest-Carries request authkey u is_authkey x =
     let k : List ℕ = kdf authkey Enc in
     let text : List (List ℕ) = two_blocks (plain u x.pad) in
     record {
-      m1_is = subst IsBlock (sym x.padded.m1_is) (IsBytes-bytes_of 16 (header u.uid u.id u.auth));
+      m1_is = subst IsBlock (sym x.padded.m1_is) (IsBytes-bytes_of 16 (head_number u.uid u.id u.auth));
       m2_has_2 = ap length x.padded.m2_is ∙ length-cbc k zero_block text ∙ length-two_blocks (plain u x.pad);
       m2_is = subst (All IsBlock) (sym x.padded.m2_is) (All-cbc k zero_block text (IsBlock-kdf authkey Enc is_authkey));
       m3_is = subst IsBlock (sym x.padded.m3_is) (IsBlock-request_mac authkey request.m1 request.m2 is_authkey);
@@ -313,12 +313,12 @@ Confirms-same r u v uid ids auths counters keys x =
     }
 
 -- the two blocks of M4
-pub answer_blocks : (uid : List ℕ) (u : Update) → IsUid uid → u.id < 14 → u.auth < 14 → IsBlock u.key → bytes_of 16 (header uid u.id u.auth) ∷ sealed_counter u ∷ [] ≡ two_blocks (number_of uid * 2 ^ 136 + u.id * 2 ^ 132 + u.auth * 2 ^ 128 + number_of (sealed_counter u))
+pub answer_blocks : (uid : List ℕ) (u : Update) → IsUid uid → u.id < 14 → u.auth < 14 → IsBlock u.key → bytes_of 16 (head_number uid u.id u.auth) ∷ sealed_counter u ∷ [] ≡ two_blocks (number_of uid * 2 ^ 136 + u.id * 2 ^ 132 + u.auth * 2 ^ 128 + number_of (sealed_counter u))
 answer_blocks uid u is_uid id_fits auth_fits is_key =
     let last : List ℕ = sealed_counter u in
     let is_last : IsBlock last = IsBlock-enc (kdf u.key Enc) (bytes_of 16 (u.counter * 2 ^ 100 + 2 ^ 99)) (IsBlock-kdf u.key Enc is_key) in
-    let sum : header uid u.id u.auth * 2 ^ 128 + number_of last ≡ number_of uid * 2 ^ 136 + u.id * 2 ^ 132 + u.auth * 2 ^ 128 + number_of last = omega arith in
-    sym (two_blocks-pair (header uid u.id u.auth) last (header-lt uid u.id u.auth is_uid id_fits auth_fits) is_last) ∙ ap two_blocks sum
+    let sum : head_number uid u.id u.auth * 2 ^ 128 + number_of last ≡ number_of uid * 2 ^ 136 + u.id * 2 ^ 132 + u.auth * 2 ^ 128 + number_of last = omega arith in
+    sym (two_blocks-pair (head_number uid u.id u.auth) last (head_number-lt uid u.id u.auth is_uid id_fits auth_fits) is_last) ∙ ap two_blocks sum
 
 same_counter : (u v : Update) → IsUpdate u → IsUpdate v → sealed_counter u ≡ sealed_counter v → u.key ≡ v.key → u.counter ≡ v.counter
 same_counter u v is_u is_v sealed keys =
@@ -334,10 +334,10 @@ same_counter u v is_u is_v sealed keys =
 -- one reply confirms at most one update of a unit under one key, but for its flags and its UID
 pub same_confirmed : (r : Reply) (u v : Update) (uid other : List ℕ) → IsUpdate u → IsUpdate v → IsUid uid → IsUid other → Confirms r u uid → Confirms r v other → SameConfirmed uid other u v
 same_confirmed r u v uid other is_u is_v is_uid is_other x y =
-    let m1 : List ℕ = bytes_of 16 (header uid u.id u.auth) in
-    let blocks : m1 ∷ sealed_counter u ∷ [] ≡ bytes_of 16 (header other v.id v.auth) ∷ sealed_counter v ∷ [] =
+    let m1 : List ℕ = bytes_of 16 (head_number uid u.id u.auth) in
+    let blocks : m1 ∷ sealed_counter u ∷ [] ≡ bytes_of 16 (head_number other v.id v.auth) ∷ sealed_counter v ∷ [] =
     answer_blocks uid u is_uid is_u.id_fits is_u.auth_fits is_u.is_key ∙ sym x.m4_is ∙ y.m4_is ∙ sym (answer_blocks other v is_other is_v.id_fits is_v.auth_fits is_v.is_key) in
-    let fronts : m1 ≡ bytes_of 16 (header other v.id v.auth) = cc in
+    let fronts : m1 ≡ bytes_of 16 (head_number other v.id v.auth) = cc in
     let sealed : sealed_counter u ≡ sealed_counter v = cc in
     let h : Head = record { uid = uid; id = u.id; auth = u.auth } in
     let k : Head = record { uid = other; id = v.id; auth = v.auth } in

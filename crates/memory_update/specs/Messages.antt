@@ -41,8 +41,8 @@ pub record IsRequest (request : Request) : Type 0 where
 -- ---- the request
 
 -- a UID of 120 bits, then ID and AuthID of 4 bits each: the number of M1
-abbrev pub header : List ℕ → ℕ → ℕ → ℕ
-header uid id auth = number_of uid * 2 ^ 8 + id * 2 ^ 4 + auth
+abbrev pub head_number : List ℕ → ℕ → ℕ → ℕ
+head_number uid id auth = number_of uid * 2 ^ 8 + id * 2 ^ 4 + auth
 
 -- counter (28 bits), flags (5), padding (95) and new key (128): the number of the plain text of M2
 abbrev pub plain : Update → ℕ → ℕ
@@ -55,7 +55,7 @@ request_mac authkey m1 m2 = cmac (kdf authkey Mac) (m1 ++ concat m2)
 -- the three messages of an update under an authorising key, with this padding
 pub record CarriesPadded (pad : ℕ) (request : Request) (authkey : List ℕ) (u : Update) : Type 0 where
   pub is_update : IsUpdate u
-  pub m1_is : request.m1 ≡ bytes_of 16 (header u.uid u.id u.auth)
+  pub m1_is : request.m1 ≡ bytes_of 16 (head_number u.uid u.id u.auth)
   pub m2_is : request.m2 ≡ cbc (kdf authkey Enc) zero_block (two_blocks (plain u pad))
   pub m3_is : request.m3 ≡ request_mac authkey request.m1 request.m2
 
@@ -84,7 +84,7 @@ HasSlots m1 = (id_of m1 < 14) × (auth_of m1 < 14)
 -- M1 has this UID, ID and AuthID
 pub record HeadOf (m1 : List ℕ) (h : Head) : Type 0 where
   pub is_head : IsHead h
-  pub m1_is : m1 ≡ bytes_of 16 (header h.uid h.id h.auth)
+  pub m1_is : m1 ≡ bytes_of 16 (head_number h.uid h.id h.auth)
 
 -- what M1 says, where it names slots
 abbrev pub head_in : List ℕ → Head

@@ -5,7 +5,7 @@ ghost use Rattle.she_aes.specs.Cipher.{IsBlock};
 ghost use Rattle.she_kdf.specs.Derivation.{kdf};
 ghost use Rattle.key_slots.specs.Flags.{flags_number};
 ghost use Rattle.memory_update.specs.Fields.{bit_field};
-ghost use Rattle.memory_update.specs.Messages.{header, IsUid};
+ghost use Rattle.memory_update.specs.Messages.{head_number, IsUid};
 
 use crate::messages::Uid;
 use crate::words::{place, take};
@@ -23,7 +23,7 @@ pub(crate) fn derived(key: &Block, constant: Constant) -> Schedule
 
 // UID, ID and AuthID: M1, and the first block of M4.
 pub(crate) fn head_block(uid: &Uid, id: SlotId, auth: SlotId) -> Block
-    ensures value { result ≡ bytes_of 16 (header uid.now id auth) }
+    ensures value { result ≡ bytes_of 16 (head_number uid.now id auth) }
     ensures uid { IsUid uid.now }
     ensures id { id < 14 }
     ensures auth { auth < 14 }

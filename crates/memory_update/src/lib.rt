@@ -1,5 +1,5 @@
 //! Key updates of the Secure Hardware Extensions (SHE): the messages M1, M2, M3 that put a key into
-//! a slot, and the answer M4, M5 that confirms it.
+//! a slot, the answer M4, M5 that confirms it, and, as definitions with their [`laws`], when an engine takes one.
 //!
 //! No call takes memory.
 #![tactic(auto)]

@@ -87,5 +87,6 @@ pub fn unseal(request: &Request, authkey: &Block) -> Result<Update, Unseal>
     if request.m3 != mac_of_request(authkey, &request.m1, &request.m2) {
         return Err(Unseal::BadMac);
     }
-    Ok(opened(request, &head, authkey))
+    let update = opened(request, &head, authkey);
+    Ok(update)
 }

@@ -3,19 +3,20 @@ use Rattle.std.proofs.Common.{◌≡◌, ℕ, ◌+◌, List, [], ◌∷◌, ◌+
 use Rattle.std.proofs.lemmas.Result.{MatchResult-weaker}
 use Rattle.fault_count.specs.CountLaws.{rose_after}
 use Rattle.bus_port.specs.Sink.{SinkState, Appended-nothing, Appended-more}
+use Rattle.command_edge.specs.Told.{AppendedWell}
 use Rattle.machine_runs.specs.Run.{lines_in}
 use Rattle.numbered_run.specs.Driven.{TakenUp, Driven}
 use Rattle.numbered_run.specs.DrivenLaws.{FirstDone-weaker}
-use Rattle.numbered_run.specs.Printed.{texts, AppendedWell, WritesLine, WrittenPart, Printed}
+use Rattle.numbered_run.specs.Printed.{texts, WritesLine, WrittenPart, Printed}
 use Rattle.numbered_run.specs.declared.printing.Unwritten.{Unwritten}
 use Rattle.numbered_run.specs.declared.printing.Unwritten.TheVariants.{SinkFailed, Memory}
 
 pub AppendedWell-nothing : (before after : SinkState) → after ≡ before → AppendedWell before after []
-AppendedWell-nothing before after same = subst (λ t. AppendedWell before t []) (sym same) (Appended-nothing before, refl)
+AppendedWell-nothing before after same = subst (λ t. AppendedWell before t []) (sym same) (refl, Appended-nothing before)
 
 pub AppendedWell-more : (first before after : SinkState) (some more : List ℕ) → AppendedWell first before some → AppendedWell before after more
     → AppendedWell first after (some ++ more)
-AppendedWell-more first before after some more p q = (Appended-more p.0 q.0, q.1 ∙ p.1)
+AppendedWell-more first before after some more p q = (q.0 ∙ p.0, Appended-more p.1 q.1)
 
 -- lines that were taken up by a printer are in the sink
 pub TakenUp-written : {L : Type 0} (text : ℕ → L → List ℕ) (number : ℕ) (before : SinkState) (lines : List L) (after : SinkState)
@@ -29,7 +30,7 @@ pub WrittenPart-after : {L : Type 0} (text : ℕ → L → List ℕ) (before mid
     → AppendedWell before mid whole → WritesLine text mid number line after (Err cause)
     → WrittenPart before after whole (text number line) cause
 WrittenPart-after text before mid after whole number line SinkFailed written failed =
-    (rose_after _ _ _ written.0.later failed.0, failed.1.0, failed.1.1, Appended-more written.0 failed.1.2)
+    (rose_after _ _ _ written.1.later failed.0, failed.1.0, failed.1.1, Appended-more written.1 failed.1.2)
 WrittenPart-after text before mid after whole number line Memory written failed =
     subst (λ t. AppendedWell before t whole) (sym failed) written
 

@@ -3,10 +3,11 @@ use Rattle.std.proofs.Common.{◌≡◌, ℕ, ◌+◌, List, [], ◌∷◌, Bool
 use Rattle.std.proofs.lemmas.List.Elements.{All-nil, All-cons}
 use Rattle.std.proofs.lemmas.Result.{MatchResult-weaker}
 use Rattle.bus_port.specs.Sink.{SinkState}
+use Rattle.command_edge.specs.Told.{AppendedWell}
 use Rattle.machine_runs.specs.Run.{lines_in}
 use Rattle.numbered_run.specs.Driven.{TakenUp, Driven}
 use Rattle.numbered_run.specs.DrivenLaws.{FirstDone-weaker}
-use Rattle.numbered_run.specs.Printed.{texts, AppendedWell, WritesLine}
+use Rattle.numbered_run.specs.Printed.{texts, WritesLine}
 use Rattle.numbered_run.specs.PrintedUntil.{WritesUntil, EndsBy, PrintedUntil}
 use Rattle.numbered_run.specs.declared.last_line.Stop.{Stop}
 use Rattle.numbered_run.specs.declared.last_line.Stop.TheVariants.{Unprinted, Last}

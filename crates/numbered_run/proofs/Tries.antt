@@ -1,5 +1,5 @@
 -- The definitions at values that anyone can work out.
-use Rattle.std.specs.Prelude.{◌≡◌, ℕ, ◌+◌, List, [], ◌∷◌, ◌++◌, fold, Some, Ok, Err, false}
+use Rattle.std.specs.Prelude.{◌≡◌, ℕ, ◌+◌, List, [], ◌∷◌, ◌++◌, Some, Ok, Err}
 use Rattle.std.proofs.Common.{refl, ap, lit<, inl, arith}
 use Rattle.std.proofs.lemmas.Option.{same_Some}
 use Rattle.bus_port.specs.Sink.{SinkState, Appended}
@@ -36,7 +36,7 @@ all_is_printed = record {
   moments = adding 3 3 ∷ adding 4 7 ∷ [];
   run = ((refl, refl), ((refl, refl), refl));
   first = refl;
-  holds = (refl, (appended (1 ∷ 3 ∷ 10 ∷ 2 ∷ 7 ∷ 10 ∷ []) 0, refl));
+  holds = (refl, (refl, appended (1 ∷ 3 ∷ 10 ∷ 2 ∷ 7 ∷ 10 ∷ []) 0));
 }
 
 -- the third command was not done
@@ -62,7 +62,7 @@ the_first_line_alone_is_printed = record {
     front = adding 3 3 ∷ [];
     last = adding 4 7;
     all = refl;
-    written = (appended (1 ∷ 3 ∷ 10 ∷ []) 0, refl);
+    written = (refl, appended (1 ∷ 3 ∷ 10 ∷ []) 0);
   };
 }
 

@@ -3,6 +3,7 @@ use Rattle.std.specs.Prelude.{◌≡◌, ℕ, ◌+◌, ◌<◌, List, [], ◌∷
 use Rattle.bus_port.specs.Fault.{Rose}
 use Rattle.bus_port.specs.Sink.{SinkState, Appended}
 use Rattle.bus_port.specs.Whole.{AppendedPart}
+use Rattle.command_edge.specs.Told.{AppendedWell}
 use Rattle.machine_runs.specs.Run.{Moment, lines_in}
 use Rattle.numbered_run.specs.Driven.{FirstDone}
 use Rattle.numbered_run.specs.declared.printing.Unwritten.{Unwritten}
@@ -12,10 +13,6 @@ use Rattle.numbered_run.specs.declared.printing.Unwritten.TheVariants.{SinkFaile
 abbrev pub texts : {L : Type 0} → (ℕ → L → List ℕ) → ℕ → List L → List ℕ
 texts text number [] = []
 texts text number (line ∷ lines) = text number line ++ texts text (number + 1) lines
-
--- these bytes were appended, and no fault was counted
-abbrev pub AppendedWell : SinkState → SinkState → List ℕ → Type 0
-AppendedWell before after bytes = Appended before after bytes × (after.faults ≡ before.faults)
 
 -- the text of a line was written whole; or a proper front of it, where the count of faults rose; or nothing, where it found no memory
 abbrev pub WritesLine : {L : Type 0} → (ℕ → L → List ℕ) → SinkState → ℕ → L → SinkState → Result (Unit {0}) Unwritten → Type 0

@@ -1,9 +1,10 @@
 -- Lines that are written to a sink up to one that is the last by itself.
 use Rattle.std.specs.Prelude.{◌≡◌, ℕ, List, [], ◌∷◌, ◌++◌, Bool, true, false, All, length, Result, Ok, Err, MatchResult}
 use Rattle.bus_port.specs.Sink.{SinkState}
+use Rattle.command_edge.specs.Told.{AppendedWell}
 use Rattle.machine_runs.specs.Run.{Moment, lines_in}
 use Rattle.numbered_run.specs.Driven.{FirstDone}
-use Rattle.numbered_run.specs.Printed.{texts, AppendedWell, WritesLine, WrittenPart}
+use Rattle.numbered_run.specs.Printed.{texts, WritesLine, WrittenPart}
 use Rattle.numbered_run.specs.declared.last_line.Stop.{Stop}
 use Rattle.numbered_run.specs.declared.last_line.Stop.TheVariants.{Unprinted, Last}
 

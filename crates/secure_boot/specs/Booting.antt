@@ -1,5 +1,5 @@
 -- The secure boot of the Secure Hardware Extensions (SHE specification, secure booting)
-use Rattle.std.specs.Prelude.{◌≡◌, ℕ, ◌*◌, ◌≤◌, ◌↔◌, List, ◌++◌, length, replicate, Bool, Result, Err, IsOkAnd, IsTrue}
+use Rattle.std.specs.Prelude.{◌≡◌, ℕ, ◌*◌, ◌≤◌, ◌↔◌, List, ◌++◌, length, replicate, Bool, true, false, Result, Err, IsOkAnd, IsTrue}
 use Rattle.byte_lists.specs.Numbers.{bytes_of}
 use Rattle.key_slots.specs.declared.memory.Slot.{Slot}
 use Rattle.key_slots.specs.declared.memory.Slot.TheVariants.{Filled}
@@ -7,6 +7,8 @@ use Rattle.key_slots.specs.declared.refusals.Erc.{Erc}
 use Rattle.key_slots.specs.declared.refusals.Erc.TheVariants.{NoSecureBoot}
 use Rattle.key_slots.specs.Slots.{slot_at}
 use Rattle.she_cmac.specs.Cmac.{cmac}
+use Rattle.secure_boot.specs.declared.state.BootState.{BootState}
+use Rattle.secure_boot.specs.declared.state.BootState.TheVariants.{Undecided, Good, Wrong}
 
 -- the images that are booted (own)
 abbrev pub IsImage : List ℕ → Type 0
@@ -24,3 +26,17 @@ BootsBy _ _ image answer = answer ≡ Err NoSecureBoot
 -- slot 2 is BOOT_MAC_KEY and slot 3 BOOT_MAC; flags play no part
 abbrev pub Boots : List Slot → List ℕ → Result Bool Erc → Type 0
 Boots slots image = BootsBy (slot_at slots 2) (slot_at slots 3) image
+
+-- ---- a life, from one power-up to the next, in which at most one boot is decided
+
+abbrev pub is_good : BootState → Bool
+is_good Good = true
+is_good _ = false
+
+abbrev pub is_decided : BootState → Bool
+is_decided Undecided = false
+is_decided _ = true
+
+abbrev pub decided_as : Bool → BootState
+decided_as true = Good
+decided_as false = Wrong

@@ -4,7 +4,9 @@
 #![tactic(auto)]
 
 mod boot;
+mod state;
 #[cfg(test)]
 mod tests;
 
 pub use boot::{boot_mac, decide};
+pub use state::BootState;

@@ -1,5 +1,5 @@
 //! Boot MACs as OpenSSL's CMAC gives them, and the decision over filled and empty slots.
-use crate::{boot_mac, decide};
+use crate::{BootState, boot_mac, decide};
 use key_slots::{Counter28, Erc, Flags, Slot, SlotId, Slots};
 use she_aes::{Block, expand};
 use std::test::Fail;
@@ -61,4 +61,17 @@ fn a_boot_succeeds_by_the_image_alone(rt: HostRuntime) -> Result<(), Fail> {
     slots.set(key, Slot::Empty);
     assert!(rt; decide(&slots, &[0]) == Err(Erc::NoSecureBoot));
     Ok(())
+}
+
+#[test]
+fn a_boot_state_is_good_or_decided(rt: HostRuntime) {
+    let undecided = BootState::Undecided;
+    for (state, good, decided) in [
+        (undecided, false, false),
+        (BootState::decided(true), true, true),
+        (BootState::decided(false), false, true),
+    ] {
+        assert_eq!(rt; state.is_good(), good, "{state:?}");
+        assert_eq!(rt; state.is_decided(), decided, "{state:?}");
+    }
 }

@@ -7,3 +7,4 @@ pub mod KeyWords
 pub mod RoundSteps
 pub mod Chains
 pub mod Inverses
+pub mod RoundTables

@@ -4,18 +4,18 @@ use Rattle.she_aes.specs.Cipher.{add_round_key, sub_bytes, shift_rows, mix_colum
 use Rattle.she_aes.proofs.KeyWords.{get_or-round_keys}
 
 module _ (key block : List ℕ) (keys : List (List ℕ)) (made : keys ≡ round_keys key) where
-  first_round : add_round_key (get_or keys 0 []) block ≡ after_rounds (key_words key) block 0
+  pub first_round : add_round_key (get_or keys 0 []) block ≡ after_rounds (key_words key) block 0
   unfolding after_rounds
   first_round = rw (made, get_or-round_keys key 0 (lit< tt)) refl
 
-  round_more : (s : List ℕ) (n : ℕ) → 1 ≤ n → n < 10 → s ≡ after_rounds (key_words key) block (n - 1) → add_round_key (get_or keys n []) (mix_columns (shift_rows (sub_bytes s))) ≡ after_rounds (key_words key) block (n + 1 - 1)
+  pub round_more : (s : List ℕ) (n : ℕ) → 1 ≤ n → n < 10 → s ≡ after_rounds (key_words key) block (n - 1) → add_round_key (get_or keys n []) (mix_columns (shift_rows (sub_bytes s))) ≡ after_rounds (key_words key) block (n + 1 - 1)
   unfolding after_rounds
   round_more s n low high so_far =
       let this : n + 1 - 1 ≡ suc (n - 1) = omega arith in
       let same : suc (n - 1) ≡ n = omega arith in
       rw (made, get_or-round_keys key n (omega arith), so_far, this, same) refl
 
-  round_last : (s : List ℕ) (n : ℕ) → n ≡ 10 → s ≡ after_rounds (key_words key) block (n - 1) → add_round_key (get_or keys 10 []) (shift_rows (sub_bytes s)) ≡ enc key block
+  pub round_last : (s : List ℕ) (n : ℕ) → n ≡ 10 → s ≡ after_rounds (key_words key) block (n - 1) → add_round_key (get_or keys 10 []) (shift_rows (sub_bytes s)) ≡ enc key block
   unfolding cipher enc
   round_last s n ten so_far = rw (made, get_or-round_keys key 10 (lit< tt), so_far, ten) refl
 

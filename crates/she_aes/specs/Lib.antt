@@ -5,6 +5,7 @@ pub mod Lookups
 pub mod Substitution
 pub mod Cipher
 pub mod KeySteps
+pub mod RoundTables
 pub mod RoundKeys
 pub mod ReadBytes
 pub mod CipherFacts

@@ -12,7 +12,7 @@ use Rattle.she_aes.specs.CipherFacts.{block_of_self}
 -- ---- sums of four and sixteen
 
 -- the sum of four
-abbrev four : ℕ → ℕ → ℕ → ℕ → ℕ
+abbrev pub four : ℕ → ℕ → ℕ → ℕ → ℕ
 four a b c d = bit_xor (bit_xor a b) (bit_xor c d)
 
 two_fours : (a b c d e f g h : ℕ) → bit_xor (four a b c d) (four e f g h) ≡ four (bit_xor a e) (bit_xor b f) (bit_xor c g) (bit_xor d h)
@@ -25,7 +25,7 @@ sixteen a b c d e f g h i j k l m n o p =
     ap (λ t. bit_xor t (bit_xor (four i j k l) (four m n o p))) (two_fours a b c d e f g h) ∙ ap (λ t. bit_xor (four (bit_xor a e) (bit_xor b f) (bit_xor c g) (bit_xor d h)) t) (two_fours i j k l m n o p) ∙ two_fours (bit_xor a e) (bit_xor b f) (bit_xor c g) (bit_xor d h) (bit_xor i m) (bit_xor j n) (bit_xor k o) (bit_xor l p)
 
 -- the last one to the front
-turned : (a b c d : ℕ) → four a b c d ≡ four d a b c
+pub turned : (a b c d : ℕ) → four a b c d ≡ four d a b c
 turned a b c d =
     xor_comm (bit_xor a b) (bit_xor c d) ∙ ap (λ t. bit_xor t (bit_xor a b)) (xor_comm c d) ∙ xor_swap d c a b ∙ ap (λ t. bit_xor (bit_xor d a) t) (xor_comm c b)
 

@@ -3,6 +3,7 @@ ghost use Rattle.std.specs.Prelude.{◌≡◌, ℕ, ◌<◌, List, All};
 ghost use Rattle.she_aes.specs.Field.{mul, inv};
 ghost use Rattle.she_aes.specs.Cipher.{IsBlock, enc, dec};
 ghost use Rattle.she_aes.specs.Modes.{ecb, ecb_inverse, cbc, cbc_inverse};
+ghost use Rattle.she_aes.specs.RoundTables.{AreRoundTables};
 ghost use Rattle.she_aes.specs.Examples.{ExampleOfAppendixB, ExampleOfAppendixC};
 
 /// The worked example of FIPS 197, appendix B.
@@ -57,4 +58,9 @@ pub fn cbc_decryption_undoes_encryption()
 pub fn cbc_encryption_undoes_decryption()
     ensures { (key iv : List ℕ) (text : List (List ℕ)) → IsBlock key → All IsBlock text
         → cbc key iv (cbc_inverse key iv text) ≡ text }
+{}
+
+/// Each of the 1,024 entries of the round tables is the column that MixColumns gives for one byte of the S-box in the table's row.
+pub fn round_tables_are_mixed_columns()
+    ensures { AreRoundTables }
 {}

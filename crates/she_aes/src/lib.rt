@@ -4,8 +4,12 @@
 //! standard gives for it, and [`decrypt`] takes it back. The modes CBC and ECB (SP 800-38A) do the same
 //! with any number of blocks. [`laws`] says of the definitions that each direction undoes the other.
 //! No call refuses, and none takes memory.
+//!
+//! All of them work on the 16 bytes of a block at once and read no table at a place that depends on a key or a text, but for
+//! [`encrypt_by_tables`], which stands beside for processors that shuffle no bytes.
 #![tactic(auto)]
 
+mod by_tables;
 mod expansion;
 mod inverse;
 pub mod laws;
@@ -147,6 +151,21 @@ pub fn encrypt(schedule: &Schedule, block: &Block) -> Block
     let s8 = rounds::round(&keys[8], s7);
     let s9 = rounds::round(&keys[9], s8);
     Block::of(rounds::last_round(&keys[10], s9).to_array())
+}
+
+/// What [`encrypt`] gives, by tables of words, for processors that shuffle no bytes. It reads them at places that depend on the key and
+/// the block.
+pub fn encrypt_by_tables(schedule: &Schedule, block: &Block) -> Block
+    ensures value { result ≡ enc schedule.now block.now }
+    ensures is_block { IsBlock result }
+    ensures of_blocks { IsBlock schedule.now × IsBlock block.now }
+{
+    let keys = &schedule.keys;
+    let mut state = rounds::xor(&block.bytes, &keys[0]);
+    for number in 1..10 {
+        state = by_tables::round(&keys[number], &state);
+    }
+    Block::of(by_tables::last_round(&keys[10], &state))
 }
 
 /// The block decrypted under the key of the schedule (FIPS 197, section 5.3): the block that `encrypt`

@@ -56,6 +56,7 @@ fn the_vectors_of_the_standards_are_encrypted_and_decrypted(rt: HostRuntime) {
         let text = Block::of(text);
         let ciphertext = Block::of(ciphertext);
         assert_eq!(rt; encrypt(&schedule, &text), ciphertext);
+        assert_eq!(rt; encrypt_by_tables(&schedule, &text), ciphertext);
         assert_eq!(rt; decrypt(&schedule, &ciphertext), text);
     }
 }

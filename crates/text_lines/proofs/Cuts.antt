@@ -4,7 +4,8 @@ use Rattle.std.specs.List.{position_or_len}
 use Rattle.std.proofs.lemmas.Bool.{cases_lt}
 use Rattle.std.proofs.lemmas.List.{drop_all, take-take, drop-take, drop-drop, map-append, length-take}
 use Rattle.text_lines.specs.declared.span.Span.{Span}
-use Rattle.text_lines.specs.Lines.{Piece, is_blank, words_from}
+use Rattle.text_lines.specs.Lines.{is_blank}
+use Rattle.text_lines.specs.Places.{Piece, words_from}
 use Rattle.text_lines.specs.Spans.{piece_at}
 use Rattle.text_lines.proofs.Pieces.{words_from-nil, words_from-word, words_from-blank}
 

@@ -1,6 +1,15 @@
+pub mod BigEndian
 pub mod Cuts
+pub mod Digits
+pub mod FirstFault
 pub mod Folds
+pub mod Identifiers
 pub mod Numbers
 pub mod Pieces
+pub mod Results
 pub mod Rows
 pub mod Sizes
+pub mod Unplaced
+pub mod Values
+pub mod WrittenKinds
+pub mod WrittenLines

@@ -6,7 +6,7 @@ use Rattle.std.specs.Result.{result_ok}
 use Rattle.std.specs.Char.{is_ascii_digit}
 use Rattle.std.specs.Str.Parse.{AllDigits, IsNumeral, digits_value, without_leading_plus, ParsesUnsigned}
 use Rattle.std.proofs.lemmas.Bool.{and_parts, cases_lt}
-use Rattle.text_lines.specs.Forms.{is_number, number_of}
+use Rattle.text_lines.specs.Forms.{is_number, number_form}
 
 -- decimal digits by the test are digits in the radix
 AllDigits-list_all : (word : List ℕ) → list_all is_ascii_digit word ≡ true → AllDigits 10 word
@@ -49,11 +49,11 @@ past_bound true value most h = grind arith
 past_bound false value most h = refl
 
 -- a number past 64 bits is past every bound
-pub number_of-large : (least most : ℕ) (word : List ℕ) → is_number word ≡ true → most < 2 ^ 64
+pub number_form-large : (least most : ℕ) (word : List ℕ) → is_number word ≡ true → most < 2 ^ 64
     → (IsNumeral 10 (without_leading_plus word) × (digits_value 10 (without_leading_plus word) < 2 ^ 64) → ⊥)
-    → number_of least most word ≡ None
-unfolding number_of
-number_of-large least most word h fits large =
+    → number_form least most word ≡ None
+unfolding number_form
+number_form-large least most word h fits large =
     let plain = unsigned-is_number word h in
     let past : most < digits_value 10 word = elim (cases_lt most (digits_value 10 word)) [
       | inl lt ↦ lt
@@ -65,6 +65,6 @@ number_of-large least most word h fits large =
 within_range : (a : Bool) (value least most n : ℕ) → cond (a && nat_le least value && nat_le value most) (Some value) None ≡ Some n → n ≤ most
 within_range a value least most n h = grind arith
 
-pub number_within : (least most : ℕ) (word : List ℕ) (n : ℕ) → number_of least most word ≡ Some n → n ≤ most
-unfolding number_of
+pub number_within : (least most : ℕ) (word : List ℕ) (n : ℕ) → number_form least most word ≡ Some n → n ≤ most
+unfolding number_form
 number_within least most word n h = within_range _ (digits_value 10 word) least most n h

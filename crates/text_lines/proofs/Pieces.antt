@@ -1,20 +1,32 @@
 -- The first piece of a text that is cut at separators, and what is behind it.
-use Rattle.std.proofs.Common.{◌≡◌, ℕ, ◌+◌, ◌<◌, ◌≤◌, Bool, false, List, [], ◌∷◌, length, take, drop, Option, unwrap_or, refl, sym, ◌∙◌, ap, inl, inr, arith}
-use Rattle.std.specs.Prelude.{position, filter}
+use Rattle.std.proofs.Common.{◌≡◌, ℕ, ◌+◌, ◌<◌, ◌≤◌, Bool, true, false, List, [], ◌∷◌, length, slice_index, take, drop, Option, Some, None, unwrap_or, refl, sym, ◌∙◌, ap, inl, inr, arith}
+use Rattle.std.specs.Prelude.{filter}
 use Rattle.std.specs.List.{position_or_len, slice_split, All}
 use Rattle.std.proofs.lemmas.Bool.{cases_lt}
 use Rattle.std.proofs.lemmas.List.{take_all, drop_all, length-take-le}
-use Rattle.std.proofs.lemmas.List.Sums.{prefix_len-le-length, fails_before_first}
+use Rattle.std.proofs.lemmas.List.Sums.{prefix_len-le-length, fails_before_first, position_or_len_is}
 use Rattle.std.proofs.lemmas.List.Splits.{slice_split_first, slice_split_none}
-use Rattle.text_lines.specs.Lines.{Piece, placed, is_blank, is_word, words_from}
+use Rattle.memchr.specs.Find.{IsFirstByte}
+use Rattle.text_lines.specs.Lines.{is_blank}
+use Rattle.text_lines.specs.Places.{Piece, placed, is_word_piece, words_from}
 
 -- the first place that passes is within the list, or its length
 pub position_or_len_within : (p : ℕ → Bool) (s : List ℕ) → position_or_len p s ≤ length s
 position_or_len_within p s = prefix_len-le-length _ s
 
--- what `position` finds, or the length
-pub unwrap_or-position : (p : ℕ → Bool) (s : List ℕ) (r : Option ℕ) → r ≡ position p s → unwrap_or r (length s) ≡ position_or_len p s
-unwrap_or-position p s r e = let bound = position_or_len_within p s in rw e (grind arith)
+-- a test that isn't true
+fails : (b : Bool) → (b ≡ true → ⊥) → b ≡ false
+fails true wrong = absurd (wrong refl)
+fails false wrong = refl
+
+-- the first place that passes, or the length
+pub first_or_length : (p : ℕ → Bool) (s : List ℕ) (r : Option ℕ) → IsFirstByte p s r → unwrap_or r (length s) ≡ position_or_len p s
+first_or_length p s None h =
+    sym (position_or_len_is p s (length s) 0 (omega arith) (λ k lt. fails (p (slice_index s k)) (h k (omega arith) lt)) (λ lt. absurd (omega arith)))
+first_or_length p s (Some k) h =
+    let here = h.0 in
+    let most = here.high in
+    sym (position_or_len_is p s k 0 (omega arith) (λ j lt. fails (p (slice_index s j)) (here.before j (omega arith) lt)) (λ lt. h.1))
 
 -- where no separator is left, the list is one piece
 pub placed-last : (p : ℕ → Bool) (at : ℕ) (s : List ℕ) → position_or_len p s ≡ length s
@@ -36,11 +48,11 @@ placed-first p at s lt =
     ∙ ap (λ (n : ℕ). record { at = at; bytes = take (position_or_len p s) s } ∷ placed (at + n + 1) (slice_split p (drop (position_or_len p s + 1) s))) len
 
 -- a piece that isn't empty is kept
-filter-word : (piece : Piece) (rest : List Piece) → 0 < length piece.bytes → filter is_word (piece ∷ rest) ≡ piece ∷ filter is_word rest
+filter-word : (piece : Piece) (rest : List Piece) → 0 < length piece.bytes → filter is_word_piece (piece ∷ rest) ≡ piece ∷ filter is_word_piece rest
 filter-word piece rest h = grind arith
 
 -- and an empty one is not
-filter-empty : (piece : Piece) (rest : List Piece) → length piece.bytes ≡ 0 → filter is_word (piece ∷ rest) ≡ filter is_word rest
+filter-empty : (piece : Piece) (rest : List Piece) → length piece.bytes ≡ 0 → filter is_word_piece (piece ∷ rest) ≡ filter is_word_piece rest
 filter-empty piece rest h = grind arith
 
 -- nothing has no word
@@ -59,13 +71,13 @@ words_from-word at s h =
     elim (cases_lt (position_or_len is_blank s) (length s)) [
       | inl lt ↦
           let len : length (take (position_or_len is_blank s) s) ≡ position_or_len is_blank s = length-take-le (position_or_len is_blank s) s bound in
-          ap (filter is_word) (placed-first is_blank at s lt)
+          ap (filter is_word_piece) (placed-first is_blank at s lt)
           ∙ filter-word _ (placed (at + position_or_len is_blank s + 1) (slice_split is_blank (drop (position_or_len is_blank s + 1) s))) (omega (arith, len))
       | inr ge ↦
           let all : position_or_len is_blank s ≡ length s = omega arith in
           let nonempty : 0 < length s = omega arith in
           rw (take_all (position_or_len is_blank s) s (omega arith), drop_all (position_or_len is_blank s + 1) s (omega arith))
-          (ap (filter is_word) (placed-last is_blank at s all) ∙ filter-word (record { at = at; bytes = s }) [] nonempty
+          (ap (filter is_word_piece) (placed-last is_blank at s all) ∙ filter-word (record { at = at; bytes = s }) [] nonempty
           ∙ ap (λ (l : List Piece). record { at = at; bytes = s } ∷ l) (sym (words_from-nil (at + position_or_len is_blank s + 1))))
     ]
 
@@ -77,7 +89,7 @@ words_from-blank at [] h = words_from-nil at ∙ sym (words_from-nil (at + 1))
 words_from-blank at (c ∷ s) h =
     let lt : position_or_len is_blank (c ∷ s) < length (c ∷ s) = omega arith in
     let len : length (take (position_or_len is_blank (c ∷ s)) (c ∷ s)) ≡ position_or_len is_blank (c ∷ s) = length-take-le (position_or_len is_blank (c ∷ s)) (c ∷ s) (omega arith) in
-    ap (filter is_word) (placed-first is_blank at (c ∷ s) lt)
+    ap (filter is_word_piece) (placed-first is_blank at (c ∷ s) lt)
     ∙ filter-empty _ (placed (at + position_or_len is_blank (c ∷ s) + 1) (slice_split is_blank (drop (position_or_len is_blank (c ∷ s) + 1) (c ∷ s)))) (len ∙ h)
     ∙ ap (λ (m : ℕ). words_from (at + m + 1) (drop (m + 1) (c ∷ s))) h
     ∙ ap (λ (m : ℕ). words_from m s) (let e : at + 0 + 1 ≡ at + 1 = omega arith in e)

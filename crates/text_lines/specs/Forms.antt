@@ -1,51 +1,52 @@
 -- What a word of a line means by its form: the value, or none where it isn't of the form.
-use Rattle.std.specs.Prelude.{ℕ, ◌==◌, ◌&&◌, ◌||◌, not, nat_lt, nat_le, Bool, if◌then◌else◌, List, [], ◌∷◌, length, take, drop, slice_index, Option, Some, None, option_map}
+use Rattle.std.specs.Prelude.{ℕ, ◌/◌, ◌==◌, ◌&&◌, ◌||◌, not, nat_lt, nat_le, Bool, if◌then◌else◌, List, [], ◌∷◌, length, take, drop, slice_index, Option, Some, None, option_map}
 use Rattle.std.specs.List.{list_all}
 use Rattle.std.specs.Result.{result_ok}
-use Rattle.std.specs.Int.{from_be_bytes, w16, w64}
 use Rattle.std.specs.Str.Parse.{digits_value}
 use Rattle.std.specs.Char.{is_ascii_digit}
+use Rattle.byte_lists.specs.Numbers.{number_of}
 use Rattle.hex.specs.Hex.{decode_of, decode_sized}
 
--- KEY: 32 hexadecimal digits of either case
-unfoldable pub key_of : List ℕ → Option (List ℕ)
-key_of word = result_ok (decode_sized word 16)
+-- KEY, M1, M3, M5: 32 hexadecimal digits of either case
+unfoldable pub key_form : List ℕ → Option (List ℕ)
+key_form word = result_ok (decode_sized word 16)
 
--- two blocks, one behind the other
+-- two blocks, if each is one
 abbrev pub both : Option (List ℕ) → Option (List ℕ) → Option (List (List ℕ))
 both (Some first) (Some second) = Some (first ∷ second ∷ [])
 both (Some first) None = None
 both None _ = None
 
--- M2: 64 hexadecimal digits
-unfoldable pub two_of : List ℕ → Option (List (List ℕ))
-two_of word = if length word == 64 then both (key_of (take 32 word)) (key_of (drop 32 word)) else None
+-- M2, M4: 64 hexadecimal digits, two blocks one behind the other
+unfoldable pub two_form : List ℕ → Option (List (List ℕ))
+two_form word = if length word == 64 then both (key_form (take 32 word)) (key_form (drop 32 word)) else None
 
 -- ID: four hexadecimal digits, the higher byte first
-unfoldable pub data_id_of : List ℕ → Option ℕ
-data_id_of word = option_map (from_be_bytes w16) (result_ok (decode_sized word 2))
+unfoldable pub data_id_form : List ℕ → Option ℕ
+data_id_form word = option_map number_of (result_ok (decode_sized word 2))
 
 -- FRESH: 16 hexadecimal digits, the highest byte first
-unfoldable pub fresh_of : List ℕ → Option ℕ
-fresh_of word = option_map (from_be_bytes w64) (result_ok (decode_sized word 8))
+unfoldable pub fresh_form : List ℕ → Option ℕ
+fresh_form word = option_map number_of (result_ok (decode_sized word 8))
 
 -- decimal digits without sign; only the number 0 begins with 0
 abbrev pub is_number : List ℕ → Bool
 is_number word = nat_lt 0 (length word) && list_all is_ascii_digit word && (length word == 1 || not (slice_index word 0 == 48))
 
 -- a number from `least` to `most`
-unfoldable pub number_of : ℕ → ℕ → List ℕ → Option ℕ
-number_of least most word =
+unfoldable pub number_form : ℕ → ℕ → List ℕ → Option ℕ
+number_form least most word =
     if is_number word && nat_le least (digits_value 10 word) && nat_le (digits_value 10 word) most
     then Some (digits_value 10 word)
     else None
 
--- BYTES: an even number of hexadecimal digits, at least two; or `-`, which is 45, for no bytes
-unfoldable pub bytes_of : List ℕ → Option (List ℕ)
-bytes_of [] = None
-bytes_of (c ∷ []) = if c == 45 then Some [] else None
-bytes_of (c ∷ d ∷ rest) = result_ok (decode_of (c ∷ d ∷ rest))
+-- bytes of a number from `least` to `most`: two hexadecimal digits a byte
+unfoldable pub hex_bytes_form : ℕ → ℕ → List ℕ → Option (List ℕ)
+hex_bytes_form least most word =
+    if nat_le least (length word / 2) && nat_le (length word / 2) most then result_ok (decode_of word) else None
 
--- the payload of a frame: an even number of hexadecimal digits from 2 to 120
-unfoldable pub payload_of : List ℕ → Option (List ℕ)
-payload_of word = if nat_le 2 (length word) && nat_le (length word) 120 then result_ok (decode_of word) else None
+-- BYTES: an even number of hexadecimal digits, at least two; or `-`, which is 45, for no bytes
+unfoldable pub bytes_form : List ℕ → Option (List ℕ)
+bytes_form [] = None
+bytes_form (c ∷ []) = if c == 45 then Some [] else None
+bytes_form (c ∷ d ∷ rest) = result_ok (decode_of (c ∷ d ∷ rest))

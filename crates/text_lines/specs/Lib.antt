@@ -1,9 +1,10 @@
+pub mod DiskForms
 pub mod Forms
 pub mod Frames
 pub mod KeyForms
 pub mod Lines
+pub mod Places
 pub mod Readings
 pub mod Spans
 pub mod Texts
 pub mod Written
-pub mod WrittenFrames

@@ -2,7 +2,7 @@
 use Rattle.std.specs.Prelude.{ℕ, ◌+◌, ◌≤◌, List, take, drop, map, All}
 use Rattle.text_lines.specs.declared.span.Span.{Span}
 use Rattle.text_lines.specs.declared.span.Cut.{Cut}
-use Rattle.text_lines.specs.Lines.{Piece, Line}
+use Rattle.text_lines.specs.Places.{Piece, PlacedLine}
 
 -- the bytes of the text at a span
 abbrev pub word_at : List ℕ → Span → List ℕ
@@ -13,9 +13,9 @@ abbrev pub piece_at : List ℕ → Span → Piece
 piece_at text span = record { at = span.at; bytes = word_at text span }
 
 -- the line that a cut stands for
-abbrev pub line_at : List ℕ → Cut → Line
+abbrev pub line_at : List ℕ → Cut → PlacedLine
 line_at text cut = record { number = cut.line; words = map (piece_at text) cut.words }
 
 -- the spans end within a text of this length
-abbrev pub AllWithin : ℕ → List Span → Type 0
-AllWithin len spans = All (λ span. span.at + span.len ≤ len) spans
+abbrev pub EndWithin : ℕ → List Span → Type 0
+EndWithin len spans = All (λ span. span.at + span.len ≤ len) spans

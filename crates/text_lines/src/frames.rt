@@ -1,18 +1,14 @@
 //! The lines of `frame`: what to secure, and under which key, Data ID and freshness.
 
-ghost use Rattle.std.specs.Prelude.{◌≡◌, ◌<◌, ◌≤◌, ◌^◌, List, length, map, All, IfOk};
-ghost use Rattle.std.specs.List.{flat_map};
-ghost use Rattle.text_lines.specs.Written.{written};
-ghost use Rattle.text_lines.specs.WrittenFrames.{IsFrame, frame_words};
-ghost use Rattle.text_lines.specs.declared.frames.FrameLine.{FrameLine};
+ghost use Rattle.std.specs.Prelude.{◌<◌, ◌≤◌, ◌^◌, length, All, IfOk};
 ghost use Rattle.text_lines.specs.Frames.{frames_of};
 ghost use Rattle.text_lines.specs.Readings.{Gives};
 
-use crate::bytes::Bytes;
 use crate::fault::{LineFault, ScriptFault};
 use crate::forms;
-use crate::reader::{LineReader, expect_count, read_lines, value_at};
+use crate::reader::{LineReader, MOST_LINES, expect_count, read_lines, value_at};
 use crate::words::Words;
+use byte_lists::Bytes;
 use she_aes::Block;
 use std::alloc::Global;
 
@@ -26,22 +22,28 @@ pub struct FrameLine {
     pub payload: Bytes,
 }
 
-struct FrameReader;
+/// Reads a line of `frame`.
+pub struct FrameReader;
 
 impl LineReader for FrameReader {
     ghost use Rattle.text_lines.specs.Frames.{frame_of};
 
     type Item = FrameLine;
 
-    ghost means = { λ _. frame_of };
+    ghost means = { λ _ _ words. frame_of words };
 
     #[tactic(auto, unfolding(crate::specs::Frames::frame_of))]
-    fn read(&self, alloc: Global, words: &Words<'_>) -> Result<FrameLine, LineFault> {
+    fn read(
+        &self,
+        alloc: Global,
+        words: &Words<'_>,
+        _before: &[FrameLine],
+    ) -> Result<FrameLine, LineFault> {
         expect_count(words, 4)?;
         let key = value_at(1, forms::key(words.word(1)))?;
         let id = value_at(2, forms::data_id(words.word(2)))?;
         let freshness = value_at(3, forms::fresh(words.word(3)))?;
-        let payload = value_at(4, forms::payload(alloc, words.word(4))?)?;
+        let payload = value_at(4, forms::hex_bytes(alloc, words.word(4), 1, 60)?)?;
         Ok(FrameLine {
             key,
             id,
@@ -58,11 +60,5 @@ pub fn read_frames(alloc: Global, text: &[u8]) -> Result<Vec<FrameLine>, ScriptF
     ensures exact { Gives (frames_of text.now) result }
     ensures sizes { IfOk result (λ v. All (λ line. (0 < length line.payload) × (length line.payload ≤ 60)) v.items) }
 {
-    read_lines(alloc, text, &FrameReader)
+    read_lines(alloc, text, MOST_LINES, &FrameReader)
 }
-
-/// Law: each list of at most 65,536 frames is what some text gives, namely its lines in lower-case
-/// digits with single spaces.
-pub fn written_frames_are_read()
-    ensures { (lines : List FrameLine) → All IsFrame lines → length lines ≤ 65536 → frames_of (flat_map written (map frame_words lines)) ≡ Ok lines }
-{}

@@ -4,11 +4,11 @@ ghost use Rattle.std.specs.Prelude.{◌<◌, ◌^◌, length};
 ghost use Rattle.text_lines.specs.Frames.{judges_of};
 ghost use Rattle.text_lines.specs.Readings.{Gives};
 
-use crate::bytes::Bytes;
 use crate::fault::{LineFault, ScriptFault};
 use crate::forms;
-use crate::reader::{LineReader, expect_count, read_lines, value_at};
+use crate::reader::{LineReader, MOST_LINES, expect_count, read_lines, value_at};
 use crate::words::Words;
+use byte_lists::Bytes;
 use she_aes::Block;
 use std::alloc::Global;
 
@@ -22,17 +22,23 @@ pub struct JudgeLine {
     pub pdu: Bytes,
 }
 
-struct JudgeReader;
+/// Reads a line of `judge`.
+pub struct JudgeReader;
 
 impl LineReader for JudgeReader {
     ghost use Rattle.text_lines.specs.Frames.{judge_of};
 
     type Item = JudgeLine;
 
-    ghost means = { λ _. judge_of };
+    ghost means = { λ _ _ words. judge_of words };
 
     #[tactic(auto, unfolding(crate::specs::Frames::judge_of))]
-    fn read(&self, alloc: Global, words: &Words<'_>) -> Result<JudgeLine, LineFault> {
+    fn read(
+        &self,
+        alloc: Global,
+        words: &Words<'_>,
+        _before: &[JudgeLine],
+    ) -> Result<JudgeLine, LineFault> {
         expect_count(words, 4)?;
         let key = value_at(1, forms::key(words.word(1)))?;
         let id = value_at(2, forms::data_id(words.word(2)))?;
@@ -53,5 +59,5 @@ pub fn read_judges(alloc: Global, text: &[u8]) -> Result<Vec<JudgeLine>, ScriptF
     requires { length text.now < 2 ^ 32 }
     ensures { Gives (judges_of text.now) result }
 {
-    read_lines(alloc, text, &JudgeReader)
+    read_lines(alloc, text, MOST_LINES, &JudgeReader)
 }

@@ -2,20 +2,26 @@
 //! the number of the line and the cause.
 #![tactic(auto)]
 
-pub mod bytes;
+mod cutting;
+mod disk_forms;
 pub mod fault;
 pub mod forms;
 pub mod frames;
 pub mod judges;
+mod key_forms;
+pub mod laws;
 mod lines;
+pub mod loads;
 pub mod reader;
 pub mod span;
 #[cfg(test)]
 mod tests;
 pub mod texts;
+pub mod verdicts;
 pub mod words;
 
-pub use crate::bytes::Bytes;
 pub use crate::fault::{Cause, LineFault, Memory, ScriptFault};
 pub use crate::frames::{FrameLine, read_frames};
 pub use crate::judges::{JudgeLine, read_judges};
+pub use crate::loads::read_loads;
+pub use byte_lists::Bytes;

@@ -1,38 +1,29 @@
 //! Where lines and words of a text begin and end. Places count its bytes from 0.
 
-ghost use Rattle.std.specs.Prelude.{◌≡◌, ◌+◌, ◌-◌, ◌<◌, ◌≤◌, ◌^◌, length, take, drop, map, IfOk, IfSome, option_to_list};
+ghost use Rattle.std.specs.Prelude.{◌≡◌, ◌+◌, ◌-◌, ◌<◌, ◌≤◌, ◌^◌, length, take, drop, map, OnOk};
 ghost use Rattle.std.specs.List.{position_or_len};
-ghost use Rattle.text_lines.specs.Lines.{is_blank as blank, is_line_feed, without_return, words_from, is_skipped as skipped, kept, line_between};
-ghost use Rattle.text_lines.specs.Spans.{piece_at, line_at, AllWithin};
+ghost use Rattle.text_lines.specs.Lines.{is_blank, is_line_feed, without_return, is_skipped as skipped};
+ghost use Rattle.text_lines.specs.Places.{words_from, placed_words_of};
+ghost use Rattle.text_lines.specs.Spans.{word_at, piece_at, EndWithin};
 
 use crate::fault::Memory;
-use crate::span::{Cut, Span, Spans};
-use std::alloc::Global;
-
-fn is_blank(byte: u8) -> bool
-    ensures { result ≡ blank byte }
-{
-    byte == b' ' || byte == b'\t'
-}
+use crate::span::Span;
+use memchr::{memchr, memchr2};
 
 // How many bytes stand before the first line feed, or all where there is none.
+#[tactic(auto, using(crate::proofs::Pieces::first_or_length))]
 fn until_line_feed(bytes: &[u8]) -> usize
     ensures { result ≡ position_or_len is_line_feed bytes.now }
 {
-    bytes
-        .iter()
-        .position(|byte| *byte == b'\n')
-        .unwrap_or(bytes.len())
+    memchr(b'\n', bytes).unwrap_or(bytes.len())
 }
 
 // How many bytes stand before the first blank, or all where there is none.
+#[tactic(auto, using(crate::proofs::Pieces::first_or_length))]
 fn until_blank(bytes: &[u8]) -> usize
-    ensures { result ≡ position_or_len blank bytes.now }
+    ensures { result ≡ position_or_len is_blank bytes.now }
 {
-    bytes
-        .iter()
-        .position(|byte| is_blank(*byte))
-        .unwrap_or(bytes.len())
+    memchr2(b' ', b'\t', bytes).unwrap_or(bytes.len())
 }
 
 /// The end of the line that begins at `at`: the next line feed, or the end of the text.
@@ -66,22 +57,22 @@ fn content_end(text: &[u8], at: usize, end: usize) -> usize
 fn word_end(text: &[u8], at: usize, end: usize) -> usize
     requires ordered { at ≤ end }
     requires within { end ≤ length text.now }
-    ensures exact { result ≡ at + position_or_len blank (take (end - at) (drop at text.now)) }
+    ensures exact { result ≡ at + position_or_len is_blank (take (end - at) (drop at text.now)) }
     ensures behind { at ≤ result }
     ensures inside { result ≤ end }
 {
     at + until_blank(&text[at..end])
 }
 
-// The words between two places.
-fn words(alloc: Global, text: &[u8], start: usize, end: usize) -> Result<Vec<Span>, Memory>
+// The words between two places, in place of what was in `spans`.
+fn put_words(spans: &mut Vec<Span>, text: &[u8], start: usize, end: usize) -> Result<(), Memory>
     requires ordered { start ≤ end }
     requires within { end ≤ length text.now }
     requires short { length text.now < 2 ^ 32 }
-    ensures exact { IfOk result (λ spans. map (piece_at text.now) spans.items ≡ words_from start (take (end - start) (drop start text.now))) }
-    ensures inside { IfOk result (λ spans. AllWithin (length text.now) spans.items) }
+    ensures exact { OnOk result (map (piece_at text.now) spans.new.items ≡ words_from start (take (end - start) (drop start text.now))) }
+    ensures inside { OnOk result (EndWithin (length text.now) spans.new.items) }
 {
-    let mut spans = Vec::new(alloc);
+    spans.clear();
     let mut at = start;
     while at < end {
         let stop = word_end(text, at, end);
@@ -93,14 +84,25 @@ fn words(alloc: Global, text: &[u8], start: usize, end: usize) -> Result<Vec<Spa
         }
         at = stop + 1;
     }
-    Ok(spans)
+    Ok(())
 }
 
-// Whether a line with these words is skipped.
+/// The words of the line between two places, in place of what was in `spans`. Without memory nothing is said of `spans`.
+pub fn put_line(spans: &mut Vec<Span>, text: &[u8], at: usize, end: usize) -> Result<(), Memory>
+    requires ordered { at ≤ end }
+    requires within { end ≤ length text.now }
+    requires short { length text.now < 2 ^ 32 }
+    ensures exact { OnOk result (map (piece_at text.now) spans.new.items ≡ placed_words_of (record { at = at; bytes = take (end - at) (drop at text.now) })) }
+    ensures inside { OnOk result (EndWithin (length text.now) spans.new.items) }
+{
+    put_words(spans, text, at, content_end(text, at, end))
+}
+
+/// Whether a line with these words is skipped.
 #[tactic(auto, unfolding(crate::specs::Lines::is_skipped))]
-fn is_skipped(text: &[u8], words: &[Span]) -> bool
-    requires { AllWithin (length text.now) words.now }
-    ensures { result ≡ skipped (map (piece_at text.now) words.now) }
+pub fn is_skipped(text: &[u8], words: &[Span]) -> bool
+    requires { EndWithin (length text.now) words.now }
+    ensures { result ≡ skipped (map (word_at text.now) words.now) }
 {
     match words.first() {
         None => true,
@@ -109,29 +111,4 @@ fn is_skipped(text: &[u8], words: &[Span]) -> bool
             text[at..at + word.len as usize].first() == Some(&b'#')
         }
     }
-}
-
-/// The line with this number between two places, unless it is skipped.
-#[tactic(auto, unfolding(crate::specs::Lines::kept))]
-pub fn cut_line(
-    alloc: Global,
-    text: &[u8],
-    number: u32,
-    at: usize,
-    end: usize,
-) -> Result<Option<Cut>, Memory>
-    requires ordered { at ≤ end }
-    requires within { end ≤ length text.now }
-    requires short { length text.now < 2 ^ 32 }
-    ensures exact { IfOk result (λ found. map (line_at text.now) (option_to_list found) ≡ kept (line_between text.now number at end)) }
-    ensures inside { IfOk result (λ found. IfSome found (λ cut. AllWithin (length text.now) cut.words)) }
-{
-    let words = words(alloc, text, at, content_end(text, at, end))?;
-    if is_skipped(text, &words) {
-        return Ok(None);
-    }
-    Ok(Some(Cut {
-        line: number,
-        words: Spans::of(words),
-    }))
 }

@@ -1,18 +1,22 @@
-use crate::bytes::Bytes;
 use crate::fault::{Cause, LineFault, Memory, ScriptFault};
-use crate::forms;
-use crate::frames::{FrameLine, read_frames};
-use crate::judges::{JudgeLine, read_judges};
+use crate::frames::{FrameReader, read_frames};
+use crate::judges::{JudgeReader, read_judges};
+use crate::loads::{LoadReader, read_loads};
 use crate::reader::{LineReader, MOST_LINES, read_lines};
 use crate::texts::fault_text;
+use crate::verdicts::{push_bad_length, push_digits, push_line, push_outcome};
 use crate::words::Words;
+use crate::{forms, laws};
+use byte_lists::Bytes;
+use cut_disk::Torn;
+use secured_pdu::Judgement;
 use std::alloc::{AllocError, Global};
 use std::test::Fail;
 
 const LINE: &str = "2b7e151628aed2a6abf7158809cf4f3c 6bc1 e93d7e117393172a bee22e409f96\n";
 
 // Texts of `frame` lines, and beside each its lines as they would be written, or the printed fault.
-const FRAMES: [(&str, &str); 16] = [
+const FRAMES: [(&str, &str); 17] = [
     (
         "2b7e151628aed2a6abf7158809cf4f3c 6bc1 e93d7e117393172a bee22e409f96",
         LINE,
@@ -24,6 +28,10 @@ const FRAMES: [(&str, &str); 16] = [
     (
         "# a comment\n\n \t \n  #2b7e\n2b7e151628aed2a6abf7158809cf4f3c 6bc1 e93d7e117393172a bee22e409f96\n\r\n",
         LINE,
+    ),
+    (
+        "2b7e151628aed2a6abf7158809cf4f3c 6bc1 e93d7e117393172a bee22e409f96\n2b7e151628aed2a6abf7158809cf4f3c 6bc1 e93d7e117393172a bee22e409f96",
+        "2b7e151628aed2a6abf7158809cf4f3c 6bc1 e93d7e117393172a bee22e409f96\n2b7e151628aed2a6abf7158809cf4f3c 6bc1 e93d7e117393172a bee22e409f96\n",
     ),
     ("", ""),
     ("\n\r\n#", ""),
@@ -68,7 +76,7 @@ const FRAMES: [(&str, &str); 16] = [
 ];
 
 // The same of `judge` lines.
-const JUDGES: [(&str, &str); 5] = [
+const JUDGES: [(&str, &str); 6] = [
     (
         "2b7e151628aed2a6abf7158809cf4f3c 6bc1 e93d7e1173931729 BEE22e409f962a070a16",
         "2b7e151628aed2a6abf7158809cf4f3c 6bc1 e93d7e1173931729 bee22e409f962a070a16\n",
@@ -76,6 +84,10 @@ const JUDGES: [(&str, &str); 5] = [
     (
         "2b7e151628aed2a6abf7158809cf4f3c 6bc1 ffffffffffffffff -\n",
         "2b7e151628aed2a6abf7158809cf4f3c 6bc1 ffffffffffffffff \n",
+    ),
+    (
+        "2b7e151628aed2a6abf7158809cf4f3c 6bc1 e93d7e1173931729 -\n2b7e151628aed2a6abf7158809cf4f3c ffff 0000000000000000 00\n",
+        "2b7e151628aed2a6abf7158809cf4f3c 6bc1 e93d7e1173931729 \n2b7e151628aed2a6abf7158809cf4f3c ffff 0000000000000000 00\n",
     ),
     (
         "\n2b7e151628aed2a6abf7158809cf4f3c 6bc1 e93d7e117393172a --",
@@ -88,6 +100,29 @@ const JUDGES: [(&str, &str); 5] = [
     (
         "2b7e151628aed2a6abf7158809cf4f3c 6bc1 e93d7e117393172a",
         "script: line 1: wrong number of words\n",
+    ),
+];
+
+// The same of `load` lines.
+const LOADS: [(&str, &str); 7] = [
+    (
+        "00000000000000000000000000000141 2b111e2d93f486566bcbba1d7f7a9797c94643b050fc5d4d7de14cff682203c3 B9D745E5ACE7D41860BC63C2B9F5BB46\r\n#\n00000000000000000000000000000142 2b111e2d93f486566bcbba1d7f7a9797c94643b050fc5d4d7de14cff682203c3 b9d745e5ace7d41860bc63c2b9f5bb46",
+        "00000000000000000000000000000141 2b111e2d93f486566bcbba1d7f7a9797c94643b050fc5d4d7de14cff682203c3 b9d745e5ace7d41860bc63c2b9f5bb46\n00000000000000000000000000000142 2b111e2d93f486566bcbba1d7f7a9797c94643b050fc5d4d7de14cff682203c3 b9d745e5ace7d41860bc63c2b9f5bb46\n",
+    ),
+    ("# none", ""),
+    (
+        "00000000000000000000000000000141 2b111e2d93f486566bcbba1d7f7a9797",
+        "script: line 1: wrong number of words\n",
+    ),
+    ("0 0 0 0", "script: line 1: wrong number of words\n"),
+    ("0 0 0", "script: line 1: word 1\n"),
+    (
+        "\n00000000000000000000000000000141 2b111e2d93f486566bcbba1d7f7a9797 0",
+        "script: line 2: word 2\n",
+    ),
+    (
+        "00000000000000000000000000000141 2b111e2d93f486566bcbba1d7f7a9797c94643b050fc5d4d7de14cff682203c3 -",
+        "script: line 1: word 3\n",
     ),
 ];
 
@@ -155,6 +190,26 @@ fn judges_shown(alloc: Global, text: &[u8]) -> Result<String, Fail> {
     Ok(shown)
 }
 
+fn loads_shown(alloc: Global, text: &[u8]) -> Result<String, Fail> {
+    if text.len() > 1000 {
+        return Err("a long text")?;
+    }
+    let lines = match read_loads(alloc, text) {
+        Ok(lines) => lines,
+        Err(fault) => return fault_of(alloc, &fault),
+    };
+    let mut shown = String::new(alloc);
+    for line in &lines {
+        let m1 = hex::encode(alloc, line.m1.as_slice())?;
+        let [first, second] = line.m2;
+        let front = hex::encode(alloc, first.as_slice())?;
+        let back = hex::encode(alloc, second.as_slice())?;
+        let m3 = hex::encode(alloc, line.m3.as_slice())?;
+        shown.push_str(format!(in alloc; "{m1} {front}{back} {m3}\n")?.as_str())?;
+    }
+    Ok(shown)
+}
+
 #[test]
 fn frame_lines_are_read_or_refused(rt: HostRuntime) -> Result<(), Fail> {
     for (text, shown) in FRAMES {
@@ -179,6 +234,18 @@ fn judge_lines_are_read_or_refused(rt: HostRuntime) -> Result<(), Fail> {
     Ok(())
 }
 
+#[test]
+fn load_lines_are_read_or_refused(rt: HostRuntime) -> Result<(), Fail> {
+    for (text, shown) in LOADS {
+        assert_eq!(rt;
+            loads_shown(rt.alloc(), text.as_bytes())?.as_str(),
+            shown,
+            "{text}"
+        );
+    }
+    Ok(())
+}
+
 // Takes any line.
 struct AnyLine;
 
@@ -187,14 +254,18 @@ impl LineReader for AnyLine {
 
     type Item = ();
 
-    ghost means = { λ _ _. Ok tt };
+    ghost means = { λ _ _ _. Ok tt };
 
-    fn read(&self, _alloc: Global, _words: &Words<'_>) -> Result<(), LineFault> {
+    fn read(&self, _alloc: Global, _words: &Words<'_>, _before: &[()]) -> Result<(), LineFault> {
         Ok(())
     }
 }
 
-fn short_lines(alloc: Global, count: usize) -> Result<Result<usize, ScriptFault>, Fail> {
+fn short_lines(
+    alloc: Global,
+    count: usize,
+    most: usize,
+) -> Result<Result<usize, ScriptFault>, Fail> {
     let mut text = Vec::new(alloc);
     for _ in 0..count {
         text.extend_from_slice(b"a\n")?;
@@ -202,17 +273,72 @@ fn short_lines(alloc: Global, count: usize) -> Result<Result<usize, ScriptFault>
     if text.len() > 1_000_000 {
         return Err("a long text")?;
     }
-    Ok(read_lines(alloc, &text, &AnyLine).map(|lines| lines.len()))
+    Ok(read_lines(alloc, &text, most, &AnyLine).map(|lines| lines.len()))
 }
 
 #[test]
 fn one_line_may_be_too_many(rt: HostRuntime) -> Result<(), Fail> {
-    assert_eq!(rt; short_lines(rt.alloc(), MOST_LINES)?, Ok(65_536));
+    for (count, most) in [(0, 0), (1, 1), (256, 256), (MOST_LINES, MOST_LINES)] {
+        assert_eq!(rt; short_lines(rt.alloc(), count, most)?, Ok(count));
+        let fault = ScriptFault::At {
+            line: count as u32 + 1,
+            cause: Cause::TooMany,
+        };
+        assert_eq!(rt; short_lines(rt.alloc(), count + 1, most)?, Err(fault));
+    }
+    Ok(())
+}
+
+// Gives the number of lines before a line, and refuses the first word of the fourth.
+struct FewLines;
+
+impl LineReader for FewLines {
+    ghost use Rattle.std.specs.Prelude.{◌==◌, length, if◌then◌else◌, Ok, Err};
+    ghost use Rattle.text_lines.specs.declared.fault.Cause.TheVariants.{Field};
+
+    type Item = usize;
+
+    ghost means = { λ _ before _. if length before == 3 then Err (Field 1) else Ok (length before) };
+
+    fn read(
+        &self,
+        _alloc: Global,
+        _words: &Words<'_>,
+        before: &[usize],
+    ) -> Result<usize, LineFault> {
+        if before.len() == 3 {
+            return Err(LineFault::Refused(Cause::Field(1)));
+        }
+        Ok(before.len())
+    }
+}
+
+#[test]
+fn a_reader_sees_what_the_lines_before_gave(rt: HostRuntime) -> Result<(), Fail> {
+    let read = read_lines(rt.alloc(), b"a\n#\nb\nc\n", MOST_LINES, &FewLines);
+    assert_eq!(rt;
+        read.map(|values| values.as_slice() == [0, 1, 2].as_slice()),
+        Ok(true)
+    );
     let fault = ScriptFault::At {
-        line: 65_537,
-        cause: Cause::TooMany,
+        line: 5,
+        cause: Cause::Field(1),
     };
-    assert_eq!(rt; short_lines(rt.alloc(), MOST_LINES + 1)?, Err(fault));
+    let read = read_lines(rt.alloc(), b"a\n#\nb\nc\nd\n", MOST_LINES, &FewLines);
+    assert_eq!(rt; read.map(|values| values.len()), Err(fault));
+    Ok(())
+}
+
+#[test]
+fn a_kind_of_line_is_read_through_its_reader(rt: HostRuntime) -> Result<(), Fail> {
+    let read = read_lines(rt.alloc(), LINE.as_bytes(), 1, &FrameReader);
+    assert_eq!(rt; read.map(|lines| lines.len()), Ok(1));
+    let read = read_lines(rt.alloc(), LINE.as_bytes(), 1, &JudgeReader);
+    assert_eq!(rt; read.map(|lines| lines.len()), Ok(1));
+    let read = read_lines(rt.alloc(), b"# none", 1, &LoadReader);
+    assert_eq!(rt; read.map(|lines| lines.len()), Ok(0));
+    laws::values_are_those_of_the_lines::<FrameReader>();
+    laws::a_fault_is_the_first::<FewLines>();
     Ok(())
 }
 
@@ -263,7 +389,26 @@ fn words_are_read_by_their_forms(rt: HostRuntime) -> Result<(), Fail> {
     let none: Option<Bytes> = forms::bytes(alloc, b"-")?;
     assert_eq!(rt; none.ok_or("no form")?.bytes().len(), 0);
     assert_eq!(rt; forms::bytes(alloc, b"")?.is_none(), true);
-    assert_eq!(rt; forms::payload(alloc, b"00")?.is_some(), true);
+    Ok(())
+}
+
+#[test]
+fn bytes_are_of_a_least_and_a_most_number(rt: HostRuntime) -> Result<(), Fail> {
+    let words: [(&[u8], usize, usize, Option<usize>); 9] = [
+        (b"00fF", 1, 60, Some(2)),
+        (b"00fF", 2, 2, Some(2)),
+        (b"00fF", 3, 60, None),
+        (b"00fF", 0, 1, None),
+        (b"00f", 1, 1, None),
+        (b"0g", 1, 1, None),
+        (b"", 0, 60, Some(0)),
+        (b"", 1, 60, None),
+        (b"-", 0, 60, None),
+    ];
+    for (word, least, most, len) in words {
+        let found: Option<Bytes> = forms::hex_bytes(rt.alloc(), word, least, most)?;
+        assert_eq!(rt; found.map(|bytes| bytes.bytes().len()), len, "{word:?}");
+    }
     Ok(())
 }
 
@@ -298,6 +443,11 @@ fn words_of_a_key_update_are_read_by_their_forms(rt: HostRuntime) -> Result<(), 
         forms::uid(b"0000000000000000000000000000f").is_none(),
         true
     );
+    let engine = forms::engine_uid(b"000000000000000000000000000001").ok_or("no engine")?;
+    assert_eq!(rt; engine.bytes()[14], 1);
+    let zero = b"000000000000000000000000000000";
+    assert_eq!(rt; forms::engine_uid(zero).is_none(), true);
+    assert_eq!(rt; forms::uid(zero).is_some(), true);
     let slot = forms::slot(b"13").ok_or("no slot")?;
     assert_eq!(rt; slot.number(), 13);
     assert_eq!(rt; forms::slot(b"14").is_none(), true);
@@ -309,4 +459,89 @@ fn words_of_a_key_update_are_read_by_their_forms(rt: HostRuntime) -> Result<(), 
     assert_eq!(rt; forms::flags(b"10012").is_none(), true);
     assert_eq!(rt; forms::flags(b"1001").is_none(), true);
     Ok(())
+}
+
+#[test]
+fn faults_are_displayed(rt: HostRuntime) -> Result<(), Fail> {
+    let causes = [
+        (Cause::Event, "unknown event", "line 3: unknown event"),
+        (
+            Cause::Count,
+            "wrong number of words",
+            "line 3: wrong number of words",
+        ),
+        (Cause::Field(9), "word 9", "line 3: word 9"),
+        (Cause::TooMany, "too many events", "line 3: too many events"),
+    ];
+    for (cause, text, with_line) in causes {
+        let refused = LineFault::Refused(cause);
+        let fault = ScriptFault::At { line: 3, cause };
+        assert_eq!(rt; format!(in rt.alloc(); "{cause}")?.as_str(), text);
+        assert_eq!(rt; format!(in rt.alloc(); "{refused}")?.as_str(), text);
+        assert_eq!(rt; format!(in rt.alloc(); "{fault}")?.as_str(), with_line);
+    }
+    let memory = (LineFault::OutOfMemory, ScriptFault::Memory);
+    assert_eq!(rt;
+        format!(in rt.alloc(); "{}", memory.0)?.as_str(),
+        "out of memory"
+    );
+    assert_eq!(rt;
+        format!(in rt.alloc(); "{}", memory.1)?.as_str(),
+        "out of memory"
+    );
+    Ok(())
+}
+
+#[test]
+fn verdicts_have_their_texts(rt: HostRuntime) -> Result<(), Fail> {
+    let mut text = Vec::new(rt.alloc());
+    push_outcome(
+        &mut text,
+        b"\xbe\xe2\x2e\x40\x9f\x96",
+        &Judgement::Accepted(0xe93d_7e11_7393_172a),
+    )?;
+    push_outcome(&mut text, b"\x00", &Judgement::FreshnessFailure)?;
+    push_outcome(&mut text, b"\x00", &Judgement::VerificationFailure)?;
+    push_bad_length(&mut text)?;
+    push_line(&mut text, b"waiting")?;
+    assert_eq!(rt;
+        text.as_slice(),
+        b"VERIFICATIONSUCCESS e93d7e117393172a bee22e409f96\nFRESHNESSFAILURE\nVERIFICATIONFAILURE\nBadLength\nwaiting\n".as_slice()
+    );
+    Ok(())
+}
+
+#[test]
+fn digits_of_any_number_of_bytes_are_added(rt: HostRuntime) -> Result<(), Fail> {
+    for len in [0usize, 1, 64, 65, 200] {
+        let bytes = vec![in rt.alloc(); 0x0a; len]?;
+        let mut text = Vec::new(rt.alloc());
+        push_digits(&mut text, &bytes)?;
+        assert_eq!(rt; text.len(), 2 * len);
+        assert_eq!(rt;
+            text.chunks(2).all(|digits| digits == b"0a".as_slice()),
+            true,
+            "{len}"
+        );
+    }
+    Ok(())
+}
+
+#[test]
+fn what_a_power_cut_leaves_is_read(rt: HostRuntime) {
+    let words: [(&[u8], Option<Torn>); 10] = [
+        (b"keep", Some(Torn::Keep)),
+        (b"old", Some(Torn::Old)),
+        (b"half", Some(Torn::Half)),
+        (b"a7", Some(Torn::Fill(0xa7))),
+        (b"A7", Some(Torn::Fill(0xa7))),
+        (b"Keep", None),
+        (b"keep0", None),
+        (b"", None),
+        (b"a", None),
+        (b"0a7", None),
+    ];
+    for (word, torn) in words {
+        assert_eq!(rt; forms::torn(word), torn, "{word:?}");
+    }
 }

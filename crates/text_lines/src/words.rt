@@ -1,10 +1,10 @@
 //! The words of one line, as its reader sees them.
 
 ghost use Rattle.std.specs.Prelude.{◌≡◌, ◌≤◌, ◌<◌, ◌+◌, ◌-◌, ◌==◌, length, map, All};
-ghost use Rattle.text_lines.specs.Readings.{word};
-ghost use Rattle.text_lines.specs.Spans.{word_at, AllWithin};
+ghost use Rattle.text_lines.specs.Readings.{nth_word};
+ghost use Rattle.text_lines.specs.Spans.{word_at, EndWithin};
 
-use crate::span::{Cut, Span};
+use crate::span::Span;
 use std::marker::Model;
 
 /// The words of one line of a text. A contract sees the list of them, each the list of its bytes.
@@ -16,25 +16,22 @@ pub struct Words<'a> {
 
 impl<'a> Model for Words<'a> {
     ghost use Rattle.std.specs.Prelude.{List, ℕ, length, map};
-    ghost use Rattle.text_lines.specs.Spans.{word_at, AllWithin};
+    ghost use Rattle.text_lines.specs.Spans.{word_at, EndWithin};
 
     ghost Value = { List (List ℕ) };
 
     ghost view = { λ w. map (word_at w.text.now) w.spans.now };
 
-    ghost invariant = { λ w. AllWithin (length w.text.now) w.spans.now };
+    ghost invariant = { λ w. EndWithin (length w.text.now) w.spans.now };
 }
 
 impl<'a> Words<'a> {
-    /// The words of a line that was cut from this text.
-    pub fn of(text: &'a [u8], cut: &'a Cut) -> Words<'a>
-        requires { AllWithin (length text.now) cut.now.words }
-        ensures { result ≡ map (word_at text.now) cut.now.words }
+    /// The words at these places of a text.
+    pub fn of(text: &'a [u8], spans: &'a [Span]) -> Words<'a>
+        requires { EndWithin (length text.now) spans.now }
+        ensures { result ≡ map (word_at text.now) spans.now }
     {
-        Words {
-            text,
-            spans: cut.words.as_slice(),
-        }
+        Words { text, spans }
     }
 
     /// How many words the line has.
@@ -55,7 +52,7 @@ impl<'a> Words<'a> {
     pub fn word(&self, number: usize) -> &'a [u8]
         requires positive { 0 < number }
         requires within { number ≤ length self.now }
-        ensures { result.now ≡ word self.now number }
+        ensures { result.now ≡ nth_word self.now number }
     {
         let spans = self.spans;
         let span = spans[number - 1];

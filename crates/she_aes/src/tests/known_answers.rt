@@ -1,41 +1,125 @@
 //! NIST's known-answer tests for AES-128 (AESAVS, appendices B to E), as the validation programme gives them: each block under each key is
-//! encrypted and decrypted.
-use crate::{Block, decrypt, encrypt, expand};
+//! encrypted by both bodies, and decrypted.
+use crate::{Block, decrypt, encrypt, encrypt_by_tables, expand};
 
 // Texts and their ciphertexts under the key of zeros (GFSbox).
 static S_BOX_BY_TEXT: [(u128, u128); 7] = [
-    (0xf34481ec3cc627bacd5dc3fb08f273e6, 0x0336763e966d92595a567cc9ce537f5e),
-    (0x9798c4640bad75c7c3227db910174e72, 0xa9a1631bf4996954ebc093957b234589),
-    (0x96ab5c2ff612d9dfaae8c31f30c42168, 0xff4f8391a6a40ca5b25d23bedd44a597),
-    (0x6a118a874519e64e9963798a503f1d35, 0xdc43be40be0e53712f7e2bf5ca707209),
-    (0xcb9fceec81286ca3e989bd979b0cb284, 0x92beedab1895a94faa69b632e5cc47ce),
-    (0xb26aeb1874e47ca8358ff22378f09144, 0x459264f4798f6a78bacb89c15ed3d601),
-    (0x58c8e00b2631686d54eab84b91f0aca1, 0x08a4e2efec8a8e3312ca7460b9040bbf),
+    (
+        0xf34481ec3cc627bacd5dc3fb08f273e6,
+        0x0336763e966d92595a567cc9ce537f5e,
+    ),
+    (
+        0x9798c4640bad75c7c3227db910174e72,
+        0xa9a1631bf4996954ebc093957b234589,
+    ),
+    (
+        0x96ab5c2ff612d9dfaae8c31f30c42168,
+        0xff4f8391a6a40ca5b25d23bedd44a597,
+    ),
+    (
+        0x6a118a874519e64e9963798a503f1d35,
+        0xdc43be40be0e53712f7e2bf5ca707209,
+    ),
+    (
+        0xcb9fceec81286ca3e989bd979b0cb284,
+        0x92beedab1895a94faa69b632e5cc47ce,
+    ),
+    (
+        0xb26aeb1874e47ca8358ff22378f09144,
+        0x459264f4798f6a78bacb89c15ed3d601,
+    ),
+    (
+        0x58c8e00b2631686d54eab84b91f0aca1,
+        0x08a4e2efec8a8e3312ca7460b9040bbf,
+    ),
 ];
 
 // Keys and the ciphertexts of the block of zeros (KeySbox).
 static S_BOX_BY_KEY: [(u128, u128); 21] = [
-    (0x10a58869d74be5a374cf867cfb473859, 0x6d251e6944b051e04eaa6fb4dbf78465),
-    (0xcaea65cdbb75e9169ecd22ebe6e54675, 0x6e29201190152df4ee058139def610bb),
-    (0xa2e2fa9baf7d20822ca9f0542f764a41, 0xc3b44b95d9d2f25670eee9a0de099fa3),
-    (0xb6364ac4e1de1e285eaf144a2415f7a0, 0x5d9b05578fc944b3cf1ccf0e746cd581),
-    (0x64cf9c7abc50b888af65f49d521944b2, 0xf7efc89d5dba578104016ce5ad659c05),
-    (0x47d6742eefcc0465dc96355e851b64d9, 0x0306194f666d183624aa230a8b264ae7),
-    (0x3eb39790678c56bee34bbcdeccf6cdb5, 0x858075d536d79ccee571f7d7204b1f67),
-    (0x64110a924f0743d500ccadae72c13427, 0x35870c6a57e9e92314bcb8087cde72ce),
-    (0x18d8126516f8a12ab1a36d9f04d68e51, 0x6c68e9be5ec41e22c825b7c7affb4363),
-    (0xf530357968578480b398a3c251cd1093, 0xf5df39990fc688f1b07224cc03e86cea),
-    (0xda84367f325d42d601b4326964802e8e, 0xbba071bcb470f8f6586e5d3add18bc66),
-    (0xe37b1c6aa2846f6fdb413f238b089f23, 0x43c9f7e62f5d288bb27aa40ef8fe1ea8),
-    (0x6c002b682483e0cabcc731c253be5674, 0x3580d19cff44f1014a7c966a69059de5),
-    (0x143ae8ed6555aba96110ab58893a8ae1, 0x806da864dd29d48deafbe764f8202aef),
-    (0xb69418a85332240dc82492353956ae0c, 0xa303d940ded8f0baff6f75414cac5243),
-    (0x71b5c08a1993e1362e4d0ce9b22b78d5, 0xc2dabd117f8a3ecabfbb11d12194d9d0),
-    (0xe234cdca2606b81f29408d5f6da21206, 0xfff60a4740086b3b9c56195b98d91a7b),
-    (0x13237c49074a3da078dc1d828bb78c6f, 0x8146a08e2357f0caa30ca8c94d1a0544),
-    (0x3071a2a48fe6cbd04f1a129098e308f8, 0x4b98e06d356deb07ebb824e5713f7be3),
-    (0x90f42ec0f68385f2ffc5dfc03a654dce, 0x7a20a53d460fc9ce0423a7a0764c6cf2),
-    (0xfebd9a24d8b65c1c787d50a4ed3619a9, 0xf4a70d8af877f9b02b4c40df57d45b17),
+    (
+        0x10a58869d74be5a374cf867cfb473859,
+        0x6d251e6944b051e04eaa6fb4dbf78465,
+    ),
+    (
+        0xcaea65cdbb75e9169ecd22ebe6e54675,
+        0x6e29201190152df4ee058139def610bb,
+    ),
+    (
+        0xa2e2fa9baf7d20822ca9f0542f764a41,
+        0xc3b44b95d9d2f25670eee9a0de099fa3,
+    ),
+    (
+        0xb6364ac4e1de1e285eaf144a2415f7a0,
+        0x5d9b05578fc944b3cf1ccf0e746cd581,
+    ),
+    (
+        0x64cf9c7abc50b888af65f49d521944b2,
+        0xf7efc89d5dba578104016ce5ad659c05,
+    ),
+    (
+        0x47d6742eefcc0465dc96355e851b64d9,
+        0x0306194f666d183624aa230a8b264ae7,
+    ),
+    (
+        0x3eb39790678c56bee34bbcdeccf6cdb5,
+        0x858075d536d79ccee571f7d7204b1f67,
+    ),
+    (
+        0x64110a924f0743d500ccadae72c13427,
+        0x35870c6a57e9e92314bcb8087cde72ce,
+    ),
+    (
+        0x18d8126516f8a12ab1a36d9f04d68e51,
+        0x6c68e9be5ec41e22c825b7c7affb4363,
+    ),
+    (
+        0xf530357968578480b398a3c251cd1093,
+        0xf5df39990fc688f1b07224cc03e86cea,
+    ),
+    (
+        0xda84367f325d42d601b4326964802e8e,
+        0xbba071bcb470f8f6586e5d3add18bc66,
+    ),
+    (
+        0xe37b1c6aa2846f6fdb413f238b089f23,
+        0x43c9f7e62f5d288bb27aa40ef8fe1ea8,
+    ),
+    (
+        0x6c002b682483e0cabcc731c253be5674,
+        0x3580d19cff44f1014a7c966a69059de5,
+    ),
+    (
+        0x143ae8ed6555aba96110ab58893a8ae1,
+        0x806da864dd29d48deafbe764f8202aef,
+    ),
+    (
+        0xb69418a85332240dc82492353956ae0c,
+        0xa303d940ded8f0baff6f75414cac5243,
+    ),
+    (
+        0x71b5c08a1993e1362e4d0ce9b22b78d5,
+        0xc2dabd117f8a3ecabfbb11d12194d9d0,
+    ),
+    (
+        0xe234cdca2606b81f29408d5f6da21206,
+        0xfff60a4740086b3b9c56195b98d91a7b,
+    ),
+    (
+        0x13237c49074a3da078dc1d828bb78c6f,
+        0x8146a08e2357f0caa30ca8c94d1a0544,
+    ),
+    (
+        0x3071a2a48fe6cbd04f1a129098e308f8,
+        0x4b98e06d356deb07ebb824e5713f7be3,
+    ),
+    (
+        0x90f42ec0f68385f2ffc5dfc03a654dce,
+        0x7a20a53d460fc9ce0423a7a0764c6cf2,
+    ),
+    (
+        0xfebd9a24d8b65c1c787d50a4ed3619a9,
+        0xf4a70d8af877f9b02b4c40df57d45b17,
+    ),
 ];
 
 // The ciphertexts of the block of zeros under the keys of 1 to 128 ones, followed by zeros (VarKey).
@@ -319,6 +403,7 @@ fn ones(more: usize) -> u128 {
 fn agrees(key: u128, text: u128, ciphertext: u128) -> bool {
     let schedule = expand(&block(key));
     encrypt(&schedule, &block(text)) == block(ciphertext)
+        && encrypt_by_tables(&schedule, &block(text)) == block(ciphertext)
         && decrypt(&schedule, &block(ciphertext)) == block(text)
 }
 
@@ -331,9 +416,15 @@ fn known_answers_of_nist(rt: HostRuntime) {
         assert!(rt; agrees(key, 0, ciphertext), "the key {key}");
     }
     for (i, ciphertext) in KEYS_OF_ONES.iter().enumerate() {
-        assert!(rt; agrees(ones(i), 0, *ciphertext), "the key of {i} ones and one");
+        assert!(rt;
+            agrees(ones(i), 0, *ciphertext),
+            "the key of {i} ones and one"
+        );
     }
     for (i, ciphertext) in TEXTS_OF_ONES.iter().enumerate() {
-        assert!(rt; agrees(0, ones(i), *ciphertext), "the text of {i} ones and one");
+        assert!(rt;
+            agrees(0, ones(i), *ciphertext),
+            "the text of {i} ones and one"
+        );
     }
 }

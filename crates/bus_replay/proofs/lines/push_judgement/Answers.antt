@@ -10,5 +10,5 @@ returns c =
     on_ok_weaker c.push_outcome.result
     (λ d. judged c.args.line.now c.expand.result c.bytes.result.now (parts.payload.now ++ parts.low ∷ parts.tag)
     (outcome_of parts.payload.now c.judge-judgement.result) c.args.text.now.items c.push_outcome.new.text.items
-    c.expand.ensures c.bytes.ensures c.in-Some.ensures.found c.in-Some.ensures.parts c.judge-judgement.ensures d)
+    c.expand.ensures.value c.bytes.ensures.value c.in-Some.ensures.found c.in-Some.ensures.parts c.judge-judgement.ensures d)
     c.push_outcome.ensures

@@ -3,7 +3,7 @@ use Rattle.std.proofs.Common.{◌*◌, None, arith, length}
 use Rattle.std.proofs.lemmas.Result.{on_ok_weaker, on_err_weaker}
 use Rattle.cut_disk.specs.CallLaws.{runs_join, runs_more, grows_then, grows_after}
 use Rattle.cell_store.specs.Layout.{twin_layout}
-use Rattle.cell_store.proofs.FreshLaws.{length-fresh_cells, fresh_stands}
+use Rattle.cell_store.proofs.FreshLaws.{length-fresh_cells, twin_stands-fresh}
 use Rattle.cell_store.proofs.FormatLaws.{firm_pairs-cells, twin-rest, formatted, unformed-blank, unformed-cells, unformed-header, lasts_same, lasts_at, tears_sized, tears_at}
 use Rattle.cell_store.proofs.Results.{OnOk-from, OnErr-from}
 use Rattle.cell_store.proofs.formatting.write_store.Goals as goal
@@ -27,7 +27,7 @@ returns-clause-fresh g c =
     on_ok_weaker c.write_and_sync-2.result
     (λ last. formatted (twin_layout c.args.version) c.args.cells.now (68 * length c.args.cells.now) (length-fresh_cells c.args.cells.now c.told-cells) (twin-rest _) _ _ _ _
     (λ t is. let sized = (g.met.D.Disk.is_disk c.args.disk.now).bytes_sized t is in omega (arith, sized, c.requires.room))
-    (λ x y room fresh. fresh_stands c.args.version c.args.cells.now x y c.requires.few room c.told-cells fresh)
+    (λ x y room fresh. twin_stands-fresh c.args.version c.args.cells.now x y c.requires.few room c.told-cells fresh)
     (lasts_at c.base-base.result _ _ _ _ c.base-base.ensures c.in_ok-write_and_sync.ensures.lasts)
     (firm_pairs-cells c.args.version c.args.cells.now _ _ c.in_ok-write_cells.ensures.pairs)
     (lasts_same _ _ _ _ _ c.header-head.ensures (lasts_at c.base-base.result _ _ _ _ c.base-base.ensures last)))

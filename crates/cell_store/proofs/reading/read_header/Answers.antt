@@ -2,25 +2,16 @@ use Rattle.std.proofs.Common.{sym, ◌∙◌, arith}
 use Rattle.std.proofs.lemmas.Bool.{false≢true}
 use Rattle.std.proofs.lemmas.Result.{err_from_is_err_and}
 use Rattle.cut_disk.specs.CallLaws.{grows_of_call}
-use Rattle.cell_store.proofs.ReadingLaws.{as_before_read, read_failed, told-head, no_stop-call}
+use Rattle.cell_store.proofs.ReadingLaws.{read_done, read_failed, told-head}
 use Rattle.cell_store.proofs.reading.read_header.Goals as goal
 
 pub returns-in_err-read-clause-fault : goal.returns-in_err-read-clause-fault
 returns-in_err-read-clause-fault g c =
     let p = err_from_is_err_and c.from_residual.result c.from_residual.ensures.1 in
-    rw (p.1, p.2) (read_failed c.read.ensures.call c.read.ensures.same c.in_err-read.ensures.failed)
-
-pub returns-in_err-read-clause-stops : goal.returns-in_err-read-clause-stops
-returns-in_err-read-clause-stops g c none = no_stop-call (g.D.Disk.state c.args.disk.now).arms (g.D.Disk.state c.read.new.self).arms c.read.ensures.arms none
-
-pub returns-then-is_header-clause-stops : goal.returns-then-is_header-clause-stops
-returns-then-is_header-clause-stops g c none = no_stop-call (g.D.Disk.state c.args.disk.now).arms (g.D.Disk.state c.read.new.self).arms c.read.ensures.arms none
-
-pub returns-else-is_header-clause-stops : goal.returns-else-is_header-clause-stops
-returns-else-is_header-clause-stops g c none = no_stop-call (g.D.Disk.state c.args.disk.now).arms (g.D.Disk.state c.read.new.self).arms c.read.ensures.arms none
+    rw (p.1, p.2) (read_failed c.read.ensures.call c.read.ensures.same c.in_err-read.ensures.failed c.read.ensures.arms)
 
 pub returns-then-is_header-clause-same : goal.returns-then-is_header-clause-same
-returns-then-is_header-clause-same g c = as_before_read c.read.ensures.call c.read.ensures.same c.in_ok-read.ensures.count
+returns-then-is_header-clause-same g c = read_done c.read.ensures.call c.read.ensures.same c.in_ok-read.ensures.count c.read.ensures.arms
 
 pub returns-then-is_header-clause-grows : goal.returns-then-is_header-clause-grows
 returns-then-is_header-clause-grows g c = grows_of_call c.read.ensures.call
@@ -31,6 +22,6 @@ returns-then-is_header-clause-head g c t h =
 
 pub returns-else-is_header-clause-fault : goal.returns-else-is_header-clause-fault
 returns-else-is_header-clause-fault g c = (
-  as_before_read c.read.ensures.call c.read.ensures.same c.in_ok-read.ensures.count,
+  read_done c.read.ensures.call c.read.ensures.same c.in_ok-read.ensures.count c.read.ensures.arms,
   λ t h head. false≢true (sym c.if-is_header.false ∙ c.is_header.ensures.1 (told-head c.args.layout.version _ c.base.result c.read.new.out c.in_ok-read.ensures.bytes c.base.ensures (omega arith) t h ∙ head)),
 )

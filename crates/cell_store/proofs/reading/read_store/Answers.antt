@@ -25,9 +25,6 @@ returns-in_err-held-clause-finds g c =
     let p = err_from_is_err_and c.from_residual-in_err-held.result c.from_residual-in_err-held.ensures.1 in
     rw (p.1, p.2) (cell-finds c.args.version (length c.args.held.now) c.loop-i.i c.loop-i.held _ _ _ c.loop-i.invariant _ (omega arith) c.in_err-held.ensures.fault)
 
-pub returns-in_err-held-clause-stops : goal.returns-in_err-held-clause-stops
-returns-in_err-held-clause-stops g c none = c.read_cell.ensures.stops (c.loop-i.invariant.stops none)
-
 pub loop-i-preserved : goal.loop-i-preserved
 loop-i-preserved g c =
-    read-more c.args.version (length c.args.held.now) c.loop-i.i c.loop-i.held _ _ _ c.loop-i.invariant _ c.in_ok-held.ensures.same c.read_cell.ensures.stops c.in_ok-held.ensures.keeps (omega arith)
+    read-more c.args.version (length c.args.held.now) c.loop-i.i c.loop-i.held _ _ _ c.loop-i.invariant _ c.in_ok-held.ensures.same c.in_ok-held.ensures.keeps (omega arith)

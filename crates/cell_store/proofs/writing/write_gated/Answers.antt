@@ -1,7 +1,7 @@
-use Rattle.std.proofs.Common.{◌≡◌, ◌+◌, length, refl, arith}
+use Rattle.std.proofs.Common.{◌≡◌, ◌+◌, [], ◌∷◌, length, refl, arith}
 use Rattle.std.proofs.lemmas.Result.{on_ok_weaker, on_err_weaker}
 use Rattle.cut_disk.specs.CallLaws.{runs_join, runs_more}
-use Rattle.cell_store.proofs.GateLaws.{filling, opening, opened, most-closing, most-filling, most-opening}
+use Rattle.cell_store.proofs.GateLaws.{filling, opening, opened, most-closing, most-filling, most-opening, unfinished-outside, lasts-outside, either-outside}
 use Rattle.cell_store.proofs.WritingLaws.{torn-outside}
 use Rattle.cell_store.proofs.Results.{OnErr-from}
 use Rattle.cell_store.proofs.writing.write_gated.Goals as goal
@@ -37,3 +37,25 @@ returns-clause-torn g c =
     (λ tears. opening (length c.args.bytes.now) c.args.at c.args.bytes.now refl _ _ _ _ (λ t h. let z = (g.met.D.Disk.is_disk c.args.disk.now).bytes_sized t h in omega arith) (c.in_ok-close_gate.ensures.closed (length c.args.bytes.now)) c.in_ok-write_and_sync.ensures.lasts
     (torn-outside c.args.at 1 _ _ (λ t h. let z = (g.met.D.Disk.is_disk c.write_and_sync.new.disk).bytes_sized t h in let s = c.close_gate.ensures.runs.size in let r = c.write_and_sync.ensures.runs.size in omega arith) tears))
     c.open_gate.ensures.torn
+
+pub returns-in_err-close_gate-clause-outside : goal.returns-in_err-close_gate-clause-outside
+returns-in_err-close_gate-clause-outside g c = unfinished-outside (length c.args.bytes.now) c.args.at [] _ _ (c.in_err-close_gate.ensures.torn (length c.args.bytes.now) [])
+
+pub returns-in_err-write_and_sync-clause-outside : goal.returns-in_err-write_and_sync-clause-outside
+returns-in_err-write_and_sync-clause-outside g c =
+    unfinished-outside (length c.args.bytes.now) c.args.at [] _ _
+    (filling (length c.args.bytes.now) c.args.at [] _ _ _ (c.in_ok-close_gate.ensures.closed (length c.args.bytes.now))
+    (torn-outside (c.args.at + 1) (length c.args.bytes.now) _ _ (λ t h. let z = (g.met.D.Disk.is_disk c.close_gate.new.disk).bytes_sized t h in let s = c.close_gate.ensures.runs.size in omega arith) c.in_err-write_and_sync.ensures.torn))
+
+pub returns-clause-outside : goal.returns-clause-outside
+returns-clause-outside g c =
+    either-outside c.open_gate.result _
+    (on_ok_weaker c.open_gate.result
+    (λ w. lasts-outside c.args.at (1 + length c.args.bytes.now) (167 ∷ c.args.bytes.now) _ _ (omega arith) (λ t h. let z = (g.met.D.Disk.is_disk c.args.disk.now).bytes_sized t h in omega arith)
+    (opened (length c.args.bytes.now) c.args.at c.args.bytes.now refl _ _ _ _ (λ t h. let z = (g.met.D.Disk.is_disk c.args.disk.now).bytes_sized t h in omega arith) (c.in_ok-close_gate.ensures.closed (length c.args.bytes.now)) c.in_ok-write_and_sync.ensures.lasts w))
+    c.open_gate.ensures.written)
+    (on_err_weaker c.open_gate.result
+    (λ tears. unfinished-outside (length c.args.bytes.now) c.args.at (167 ∷ c.args.bytes.now) _ _
+    (opening (length c.args.bytes.now) c.args.at c.args.bytes.now refl _ _ _ _ (λ t h. let z = (g.met.D.Disk.is_disk c.args.disk.now).bytes_sized t h in omega arith) (c.in_ok-close_gate.ensures.closed (length c.args.bytes.now)) c.in_ok-write_and_sync.ensures.lasts
+    (torn-outside c.args.at 1 _ _ (λ t h. let z = (g.met.D.Disk.is_disk c.write_and_sync.new.disk).bytes_sized t h in let s = c.close_gate.ensures.runs.size in let r = c.write_and_sync.ensures.runs.size in omega arith) tears)))
+    c.open_gate.ensures.torn)

@@ -12,5 +12,5 @@ returns c =
     IfOk-weaker c.format.result _ _
     (λ text h.
     let same : string_bytes text ≡ row (codes "uid") (string_bytes c.in_ok-uid.uid) (row (codes "id") (decimal c.number-id.result) (row (codes "auth") (decimal c.number-auth.result) [])) = h in
-    same ∙ target_is c.args.update.now _ _ _ (c.in_ok-uid.ensures ∙ ap encode_lower (c.as_slice.ensures ∙ c.bytes.ensures)) c.number-id.ensures.value c.number-auth.ensures.value)
+    same ∙ target_is c.args.update.now _ _ _ (c.in_ok-uid.ensures ∙ ap encode_lower (c.as_slice.ensures ∙ c.bytes.ensures.value)) c.number-id.ensures.value c.number-auth.ensures.value)
     c.format.ensures.ok

@@ -4,7 +4,7 @@ use Rattle.she_cmac.specs.Cmac.{cmac}
 use Rattle.she_kdf.specs.Derivation.{kdf}
 use Rattle.she_kdf.specs.declared.Constant.TheVariants.{Mac}
 use Rattle.memory_update.specs.Messages.{request_mac}
-use Rattle.memory_update.specs.MessageLaws.{two_of}
+use Rattle.memory_update.specs.MessageLaws.{list_of_two}
 use Rattle.memory_update.proofs.requests.mac_of_request.Goals as goal
 
 mac_is : (mac k a m1 m1' x y x' y' : List ℕ) (m2 : List (List ℕ)) → mac ≡ cmac k (m1' ++ (x' ++ (y' ++ []))) → k ≡ kdf a Mac → m1' ≡ m1 → x' ≡ x → y' ≡ y → m2 ≡ x ∷ y ∷ [] → mac ≡ request_mac a m1 m2
@@ -16,4 +16,4 @@ mac_is mac k a m1 m1' x y x' y' m2 is key first second third both =
 pub returns-clause-value : goal.returns-clause-value
 returns-clause-value c =
     let m2 = c.args.m2.now in
-    mac_is c.cmac_of_parts.result c.derived.result c.args.authkey.now c.args.m1.now c.as_slice.result.now (get_or m2 0 c.index-m2-0.result) (get_or m2 1 c.index-m2-1.result) c.as_slice-2.result.now c.as_slice-3.result.now m2 c.cmac_of_parts.ensures.value c.derived.ensures.schedule c.as_slice.ensures.value c.as_slice-2.ensures.value c.as_slice-3.ensures.value (two_of m2 c.index-m2-0.result c.index-m2-1.result c.told-m2)
+    mac_is c.cmac_of_parts.result c.derived.result c.args.authkey.now c.args.m1.now c.as_slice.result.now (get_or m2 0 c.index-m2-0.result) (get_or m2 1 c.index-m2-1.result) c.as_slice-2.result.now c.as_slice-3.result.now m2 c.cmac_of_parts.ensures.value c.derived.ensures.schedule c.as_slice.ensures.value c.as_slice-2.ensures.value c.as_slice-3.ensures.value (list_of_two m2 c.index-m2-0.result c.index-m2-1.result c.told-m2)

@@ -14,8 +14,8 @@ returns-clause-carried c =
     let request = c.args.request.now in
     let same : request.m3 ≡ c.mac_of_request.result = search rules in
     let slots : HasSlots request.m1 = HasSlots-head request.m1 c.in-Some.head c.in-Some.ensures.found in
-    unsealed request c.args.authkey.now c.opened.result c.mac_of_request.ensures.key c.mac_of_request.ensures.m1 c.mac_of_request.ensures.m2.0 c.mac_of_request.ensures.m2.1 slots (same ∙ c.mac_of_request.ensures.value) c.opened.ensures
+    unsealed request c.args.authkey.now c.opened-update.result c.mac_of_request.ensures.key c.mac_of_request.ensures.m1 c.mac_of_request.ensures.m2.0 c.mac_of_request.ensures.m2.1 slots (same ∙ c.mac_of_request.ensures.value) c.opened-update.ensures
 
 pub returns-clause-only : goal.returns-clause-only
 returns-clause-only c = λ u carried.
-    ap Ok (c.opened.ensures ∙ update_in-carried c.args.request.now c.args.authkey.now u c.mac_of_request.ensures.key carried)
+    ap Ok (c.opened-update.ensures ∙ update_in-carried c.args.request.now c.args.authkey.now u c.mac_of_request.ensures.key carried)

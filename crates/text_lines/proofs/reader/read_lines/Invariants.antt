@@ -1,14 +1,16 @@
-use Rattle.std.proofs.Common.{◌≡◌, length, drop, map}
-use Rattle.std.specs.Prelude.{All}
+use Rattle.std.proofs.Common.{◌≡◌, ◌-◌, ◌+◌, ◌≤◌, length}
 use Rattle.text_lines.specs.Readings.{read_all, read_from}
-use Rattle.text_lines.specs.Spans.{line_at, AllWithin}
-use Rattle.text_lines.proofs.Folds.{behind}
+use Rattle.text_lines.proofs.Rows.{lines_left}
 use Rattle.text_lines.proofs.reader.read_lines.Given as goal
 
--- what was read, before what the lines from here on give, is what the whole text gives
-abbrev pub invariant-loop-cut : goal.invariant-loop-cut
-invariant-loop-cut g l = record {
-  whole : behind l.items.items (read_from (g.R.LineReader.means l.reader) l.cut-index (drop l.cut-index (map (line_at l.text) l.cut-items))) ≡ read_all (g.R.LineReader.means l.reader) l.text;
-  count : length l.items.items ≡ l.cut-index;
-  within : All (λ cut. AllWithin (length l.text) cut.words) l.cut-items;
+-- what the lines from here on give behind what was read is what the whole text gives
+abbrev pub invariant-loop-at : goal.invariant-loop-at
+invariant-loop-at g l = record {
+  whole : read_from (g.R.LineReader.means l.reader) l.most l.items.items (lines_left l.text l.number l.at) ≡ read_all (g.R.LineReader.means l.reader) l.most l.text;
+  numbered : l.number ≤ l.at + 1;
+  inside : l.at ≤ length l.text + 1;
+  short : length l.text ≤ 4294967295;
 }
+
+abbrev pub decreases-loop-at : goal.decreases-loop-at
+decreases-loop-at g l = length l.text - l.at

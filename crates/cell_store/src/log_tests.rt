@@ -1,0 +1,250 @@
+// Log stores over disks in memory.
+ghost use Rattle.std.specs.Prelude.{◌≡◌, ◌<◌, ◌≤◌, length, false, IfOk, OnOk};
+
+use super::*;
+use cut_disk::{Disk, MemDisk, Torn};
+use std::alloc::Global;
+use std::test::Fail;
+
+const ZEROS: [u8; 32] = [0; 32];
+
+const ELEVENS: [u8; 32] = [0x11; 32];
+
+/// The header of a version's log store of one cell.
+fn head_of(version: Version) -> [u8; 32] {
+    let mut bytes = [0; 32];
+    let number = match version {
+        Version::One => 1,
+        Version::Two => 2,
+    };
+    let head = [
+        0x53, 0x45, 0x43, 0x4f, 0x43, 0x53, 0x54, 0x31, 2, number, 0, 1,
+    ];
+    bytes[..12].copy_from_slice(&head);
+    bytes
+}
+
+/// The bytes of a fresh store of version 1 of one cell of zeros.
+fn fresh_bytes() -> [u8; 4580] {
+    let mut bytes = [0; 4580];
+    bytes[..32].copy_from_slice(&head_of(Version::One));
+    bytes[32] = 0xa7;
+    bytes[2307] = 2;
+    bytes
+}
+
+/// So many bytes from the base of a version on.
+fn read_from(disk: &mut MemDisk, version: Version, place: u64, out: &mut [u8]) -> Result<(), Fail> {
+    let at = version.base() + place % 65536;
+    if disk.size() < at + out.len() as u64 {
+        return Err(Fail::from("the disk is too small"));
+    }
+    disk.read(at, out)?;
+    Ok(())
+}
+
+/// A fresh store of one cell of zeros on a disk that just has room for it.
+fn fresh_store(alloc: Global, version: Version) -> Result<LogCells<MemDisk>, Fail>
+    ensures count { IfOk result (λ s. length s.cells ≡ 1) }
+    ensures whole { IfOk result (λ s. s.broken ≡ false) }
+{
+    let size = match version {
+        Version::One => 4580,
+        Version::Two => 37348,
+    };
+    let disk = MemDisk::new(alloc, size)?;
+    let disk = match LogCells::format_as(disk, version, &[ZEROS]) {
+        Ok(disk) => disk,
+        Err(refused) => return Err(Fail::from(refused.fault)),
+    };
+    match LogCells::attach_as(alloc, disk, version, 1) {
+        Ok(store) => Ok(store),
+        Err(refused) => Err(Fail::from(refused.fault)),
+    }
+}
+
+/// Puts elevens into cell 0 so many times.
+fn put_times<C: CutCells>(store: &mut C, times: u8) -> Result<(), Fail>
+    requires cell { 0 < length (C.state store.old).cells }
+    requires whole { (C.state store.old).broken ≡ false }
+    ensures count { length (C.state store.new).cells ≡ length (C.state store.old).cells }
+    ensures whole { OnOk result ((C.state store.new).broken ≡ false) }
+{
+    for _ in 0..times {
+        match store.put(0, &ELEVENS) {
+            Ok(()) => {}
+            Err(_) => return Err(Fail::from("a put failed")),
+        }
+    }
+    Ok(())
+}
+
+#[test]
+fn a_fresh_log_store_has_these_bytes(rt: HostRuntime) -> Result<(), Fail> {
+    let mut disk = fresh_store(rt.alloc(), Version::One)?.release();
+    let mut out = [0; 4580];
+    read_from(&mut disk, Version::One, 0, &mut out)?;
+    assert_eq!(rt; out.as_slice(), fresh_bytes().as_slice());
+    let mut disk = fresh_store(rt.alloc(), Version::Two)?.release();
+    let mut head = [0; 32];
+    read_from(&mut disk, Version::Two, 0, &mut head)?;
+    assert_eq!(rt; head, head_of(Version::Two));
+    let found = Probe::Store {
+        kind: Kind::Log,
+        cells: 1,
+    };
+    assert_eq!(rt; probe(&mut disk), Ok(Probe::Blank));
+    assert_eq!(rt; probe_as(&mut disk, Version::Two), Ok(found));
+    Ok(())
+}
+
+#[test]
+fn a_smaller_disk_is_too_small_for_a_log(rt: HostRuntime) -> Result<(), Fail> {
+    let alloc = rt.alloc();
+    assert_eq!(rt; log_size(1), 4580);
+    let disk = MemDisk::new(alloc, 4579)?;
+    let Err(refused) = LogCells::format(disk, &[ZEROS]) else {
+        return Err(Fail::from("it was formatted"));
+    };
+    assert_eq!(rt; refused.fault, StoreFault::TooSmall);
+    let Err(refused) = LogCells::attach(alloc, refused.disk, 1) else {
+        return Err(Fail::from("it was attached"));
+    };
+    assert_eq!(rt; refused.fault, StoreFault::TooSmall);
+    Ok(())
+}
+
+#[test]
+fn a_put_takes_the_first_free_place(rt: HostRuntime) -> Result<(), Fail> {
+    let mut store = fresh_store(rt.alloc(), Version::One)?;
+    put_times(&mut store, 1)?;
+    let mut disk = store.release();
+    let mut out = [0; 4580];
+    read_from(&mut disk, Version::One, 0, &mut out)?;
+    let mut expected = fresh_bytes();
+    expected[66] = 0xa7;
+    expected[69..101].copy_from_slice(&ELEVENS);
+    assert_eq!(rt; out.as_slice(), expected.as_slice());
+    Ok(())
+}
+
+/// The first two bytes of the bank at this place after so many puts, the last of which is to fail at
+/// this call, if it makes so many.
+fn bank_after(alloc: Global, puts: u8, call: u64, place: u64) -> Result<(bool, [u8; 2]), Fail>
+    requires { 1 ≤ call }
+{
+    let mut store = fresh_store(alloc, Version::One)?;
+    put_times(&mut store, puts)?;
+    store.fail_at(call);
+    let done = store.put(0, &ELEVENS).is_ok();
+    let mut disk = store.release();
+    let mut out = [0; 2];
+    if done {
+        // The arm is still there: the first read fails, and the second gives the bytes.
+        let _ = disk.read(0, &mut []);
+        read_from(&mut disk, Version::One, place, &mut out)?;
+    }
+    Ok((done, out))
+}
+
+#[test]
+fn a_full_bank_is_left_for_the_other(rt: HostRuntime) -> Result<(), Fail> {
+    let rows = [
+        (64, 4, 2306, (false, [0, 0])),
+        (64, 5, 2306, (true, [0xa7, 1])),
+        (129, 6, 32, (false, [0, 0])),
+        (129, 7, 32, (true, [0xa7, 2])),
+    ];
+    for (puts, call, place, expected) in &rows {
+        assert_eq!(rt; bank_after(rt.alloc(), *puts, *call, *place)?, *expected);
+    }
+    Ok(())
+}
+
+#[test]
+fn damages_of_a_log_are_found(rt: HostRuntime) -> Result<(), Fail> {
+    let rows = [
+        (32, [0, 0, 0], Some(StoreFault::Damaged(0))),
+        (66, [0xa7, 0, 1], Some(StoreFault::Damaged(1))),
+        (101, [0xa7, 0, 0], Some(StoreFault::Damaged(2))),
+        (8, [1, 1, 0], Some(StoreFault::NotFormatted)),
+        (66, [0xa7, 0, 0], None),
+    ];
+    for (place, changes, fault) in &rows {
+        let mut bytes = fresh_bytes();
+        if *place < 4577 {
+            bytes[*place..*place + 3].copy_from_slice(changes);
+        }
+        let disk = MemDisk::of(rt.alloc(), &bytes)?;
+        let found = match LogCells::attach(rt.alloc(), disk, 1) {
+            Ok(_) => None,
+            Err(refused) => Some(refused.fault),
+        };
+        assert_eq!(rt; found, *fault);
+    }
+    Ok(())
+}
+
+/// Puts elevens into cell 0 of a store whose disk stops at this call, and cuts the power: whether
+/// the put was done, and the cell that is read then.
+fn put_and_cut<C: CutCells>(store: &mut C, calls: u64, torn: Torn) -> Result<(bool, [u8; 32]), Fail>
+    requires calls { 1 ≤ calls }
+    requires cell { 0 < length (C.state store.old).cells }
+    requires whole { (C.state store.old).broken ≡ false }
+{
+    let mut cell = [0x5a; 32];
+    store.stop_at(calls);
+    let done = store.put(0, &ELEVENS).is_ok();
+    store.power_cut(torn)?;
+    store.get(0, &mut cell);
+    Ok((done, cell))
+}
+
+#[test]
+fn a_record_is_whole_or_absent_after_a_cut(rt: HostRuntime) -> Result<(), Fail> {
+    let torn = [
+        Torn::Keep,
+        Torn::Old,
+        Torn::Half,
+        Torn::Fill(0xa7),
+        Torn::Fill(0),
+    ];
+    let old = [false; 5];
+    let either = [true, false, true, true, false];
+    let new = [true; 5];
+    let rows = [old, old, either, either, new];
+    for version in &[Version::One, Version::Two] {
+        for (stop, row) in rows.iter().enumerate() {
+            for (torn, is_new) in torn.iter().zip(row) {
+                let mut store = fresh_store(rt.alloc(), *version)?;
+                let (done, cell) = put_and_cut(&mut store, stop as u64 + 1, *torn)?;
+                assert_eq!(rt; done, stop == 4);
+                assert_eq!(rt; cell, if *is_new { ELEVENS } else { ZEROS });
+            }
+        }
+    }
+    Ok(())
+}
+
+#[test]
+fn a_log_store_has_up_to_1024_cells(rt: HostRuntime) -> Result<(), Fail> {
+    let alloc = rt.alloc();
+    let cells = vec![in alloc; ELEVENS; 1024]?;
+    let disk = MemDisk::new(alloc, 70052)?;
+    let disk = match LogCells::format(disk, &cells) {
+        Ok(disk) => disk,
+        Err(refused) => return Err(Fail::from(refused.fault)),
+    };
+    let mut store = match LogCells::attach(alloc, disk, 1024) {
+        Ok(store) => store,
+        Err(refused) => return Err(Fail::from(refused.fault)),
+    };
+    assert!(rt; store.put(1023, &ZEROS).is_ok());
+    store.power_cut(Torn::Old)?;
+    let mut cell = [0x5a; 32];
+    store.get(1023, &mut cell);
+    assert_eq!(rt; cell, ZEROS);
+    store.get(1022, &mut cell);
+    assert_eq!(rt; cell, ELEVENS);
+    Ok(())
+}

@@ -1,0 +1,60 @@
+//! A store of cells over a real file.
+ghost use Rattle.std.specs.Prelude.{◌≡◌, length, false, IfOk};
+
+use cell_store::{Cells, TwinCells};
+use file_disk::FileDisk;
+use std::test::Fail;
+use std::{env, fs, process};
+
+const CELLS: [[u8; 32]; 3] = [[0; 32], [0x11; 32], [0x22; 32]];
+
+/// The path of a file in the folder for temporary files, which isn't there.
+fn new_path(rt: &HostRuntime, name: &str) -> Result<String, Fail> {
+    let id = process::id(rt.process());
+    let above = env::temp_dir(rt)?.into_string();
+    let path = format!(in rt.alloc(); "{above}/cross_tests_{id}_{name}")?;
+    Ok(path)
+}
+
+/// Attaches the store of three cells that stands on the file at this path.
+fn attached(rt: &HostRuntime, path: &str) -> Result<TwinCells<FileDisk>, Fail>
+    ensures count { IfOk result (λ s. length s.cells ≡ 3) }
+    ensures whole { IfOk result (λ s. s.broken ≡ false) }
+{
+    match TwinCells::attach(rt.alloc(), FileDisk::on(rt, path), 3) {
+        Ok(store) => Ok(store),
+        Err(refused) => Err(Fail::from(refused.fault)),
+    }
+}
+
+/// What its three cells hold.
+fn cells_of(store: &TwinCells<FileDisk>) -> Result<[[u8; 32]; 3], Fail> {
+    if store.count() != 3 {
+        return Err(Fail::from("the store has another number of cells"));
+    }
+    let mut cells = [[9; 32]; 3];
+    store.get(0, &mut cells[0]);
+    store.get(1, &mut cells[1]);
+    store.get(2, &mut cells[2]);
+    Ok(cells)
+}
+
+#[test]
+fn a_twin_store_outlasts_its_run_in_a_file(rt: HostRuntime) -> Result<(), Fail> {
+    let path = new_path(&rt, "twin")?;
+    match TwinCells::format(FileDisk::on(&rt, path.as_str()), &CELLS) {
+        Ok(_) => {}
+        Err(refused) => return Err(Fail::from(refused.fault)),
+    }
+    let mut store = attached(&rt, path.as_str())?;
+    assert_eq!(rt; cells_of(&store)?, CELLS);
+    store.put(1, &[0x33; 32])?;
+    store.put(2, &[0x44; 32])?;
+    store.put(1, &[0x55; 32])?;
+    let _disk = store.release();
+    let again = attached(&rt, path.as_str())?;
+    assert_eq!(rt; cells_of(&again)?, [[0; 32], [0x55; 32], [0x44; 32]]);
+    assert_eq!(rt; fs::metadata(&rt, path.as_str())?.len(), 65536);
+    fs::remove_file(&rt, path.as_str())?;
+    Ok(())
+}

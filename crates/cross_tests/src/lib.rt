@@ -1,0 +1,5 @@
+//! Tests that cross crates. There is nothing else here.
+#![tactic(auto)]
+
+#[cfg(test)]
+mod file_stores;

@@ -1,0 +1,79 @@
+//! The printed texts of verdicts, in lower-case digits. Each call adds to a text; without memory nothing is said of the
+//! text.
+
+ghost use Rattle.std.specs.Prelude.{◌≡◌, ◌≤◌, ◌++◌, length, OnOk};
+ghost use Rattle.hex.specs.Hex.{encode_lower};
+ghost use Rattle.secured_pdu.specs.Judged.{outcome_of};
+ghost use Rattle.secured_pdu.specs.Verdict.{Accepted};
+ghost use Rattle.text_lines.specs.Texts.{line, outcome_text, bad_length_text};
+
+use hex::encode_to_slice;
+use secured_pdu::Judgement;
+use std::alloc::AllocError;
+
+/// Adds the digits of bytes, two a byte.
+pub fn push_digits(text: &mut Vec<u8>, bytes: &[u8]) -> Result<(), AllocError>
+    ensures { OnOk result (text.new.items ≡ text.old.items ++ encode_lower bytes.now) }
+{
+    let mut at = 0;
+    while at < bytes.len() {
+        let end = bytes.len().min(at + 64);
+        push_few_digits(text, &bytes[at..end])?;
+        at = end;
+    }
+    Ok(())
+}
+
+// Adds the digits of at most 64 bytes.
+fn push_few_digits(text: &mut Vec<u8>, bytes: &[u8]) -> Result<(), AllocError>
+    requires { length bytes.now ≤ 64 }
+    ensures { OnOk result (text.new.items ≡ text.old.items ++ encode_lower bytes.now) }
+{
+    let mut room = [0; 128];
+    let digits = &mut room[..2 * bytes.len()];
+    encode_to_slice(bytes, digits).unwrap();
+    text.extend_from_slice(digits)
+}
+
+/// Adds a line of these bytes, with the line feed behind it.
+pub fn push_line(text: &mut Vec<u8>, bytes: &[u8]) -> Result<(), AllocError>
+    ensures { OnOk result (text.new.items ≡ text.old.items ++ line bytes.now) }
+{
+    text.extend_from_slice(bytes)?;
+    text.push(b'\n')?;
+    Ok(())
+}
+
+/// Adds the text of what was judged of a PDU with this payload.
+pub fn push_outcome(
+    text: &mut Vec<u8>,
+    payload: &[u8],
+    judgement: &Judgement,
+) -> Result<(), AllocError>
+    ensures { OnOk result (text.new.items ≡ text.old.items ++ outcome_text (outcome_of payload.now judgement.now)) }
+{
+    match judgement {
+        Judgement::Accepted(freshness) => push_accepted(text, payload, *freshness),
+        Judgement::FreshnessFailure => text.extend_from_slice(b"FRESHNESSFAILURE\n"),
+        Judgement::VerificationFailure => text.extend_from_slice(b"VERIFICATIONFAILURE\n"),
+    }
+}
+
+// Adds the text of an accepted PDU.
+fn push_accepted(text: &mut Vec<u8>, payload: &[u8], freshness: u64) -> Result<(), AllocError>
+    ensures { OnOk result (text.new.items ≡ text.old.items ++ outcome_text (Accepted payload.now freshness)) }
+{
+    text.extend_from_slice(b"VERIFICATIONSUCCESS ")?;
+    push_digits(text, &freshness.to_be_bytes())?;
+    text.push(b' ')?;
+    push_digits(text, payload)?;
+    text.push(b'\n')?;
+    Ok(())
+}
+
+/// Adds the text for a PDU of a length that no frame has.
+pub fn push_bad_length(text: &mut Vec<u8>) -> Result<(), AllocError>
+    ensures { OnOk result (text.new.items ≡ text.old.items ++ bad_length_text) }
+{
+    text.extend_from_slice(b"BadLength\n")
+}
