@@ -12,9 +12,12 @@
  *   - behind each pointer stand as many bytes as its length says, or as its fixed size says, or one struct;
  *   - what is written overlaps no other argument. (To protect a payload where it stands there is a function of its own.)
  *
- * What isn't claimed: keys, round keys and texts stay in the stack frames that are left; AES reads no table at a place that depends on
- * a key or a text on processors that shuffle bytes (x86-64 from SSSE3 on, ARM64), but no time is proved; the authenticators in a
- * verify and in a read of an update are compared in a time that may depend on them.
+ * What isn't claimed: nothing is wiped, so keys, round keys and texts stay in stack frames that are left; no call is claimed to take the
+ * same time whatever its key and its data are.
+ *
+ * Builds: bin/build_c makes the archive for x86-64 (its level v2, from SSE4.2 on) or ARM64; there is no target of 32 bits. A program
+ * without a C library gives it memcpy, memmove and memset, and it wants nothing else. As measured of one build: 14.7 KB of code and 0.7 KB
+ * of constants on x86-64, 10.2 KB in all on ARM64; on x86-64 0.2 KB (AES) to 1.3 KB (rathonsi_she_confirm) of stack.
  *
  * Lengths are in bytes. A key has 16 bytes. All numbers within PDUs and messages are big-endian; a caller never sees them.
  */
