@@ -1,39 +1,21 @@
 -- What a change of a bound leaves, from its cases.
-use Rattle.std.proofs.Common.{◌≡◌, ℕ, ◌+◌, ◌-◌, ◌^◌, ◌<◌, ◌≤◌, min, Bool, true, false, if◌then◌else◌, nat_lt, Option, None, Some, unwrap_or, List, [], length, set, get_or, refl, sym, ap, ◌∙◌, subst, inl, inr, ◌⊎◌, arith, get_or-set_same}
+use Rattle.std.proofs.Common.{ℕ, ◌^◌, ◌<◌, Option, Some, List, Result, Ok, Err, OnOk, OnErr, [], length, set, refl, inl, inr, arith, get_or-set_same}
 use Rattle.std.proofs.Math.ListN.{length-set}
-use Rattle.std.proofs.lemmas.Bool.{ltb-true, ltb-false}
-use Rattle.cut_disk.specs.State.{DiskState}
 use Rattle.cut_disk.specs.Calls.{Runs}
 use Rattle.cut_disk.specs.CallLaws.{runs_none, runs_more}
 use Rattle.cut_disk.specs.Images.{EachImage}
-use Rattle.cell_store.specs.Cells.{CellsState, Settled, Puts, FailsPut, StandsForEither}
+use Rattle.cell_store.specs.Cells.{CellsState, Settled, Puts, FailsPut}
 use Rattle.freshness_routes.specs.declared.routes.Direction.{Direction}
-use Rattle.freshness_routes.specs.Changes.{last_freshness, sender_change, receiver_change}
-use Rattle.freshness_store.specs.Bound.{bound_cell, HoldsBound}
-use Rattle.freshness_manager.specs.Counters.{IsReserved, KeepsBound}
-use Rattle.freshness_manager.specs.Changing.{MakesChange, FailsChange, KeepsEither}
+use Rattle.freshness_store.specs.Bound.{bound_cell}
+use Rattle.freshness_manager.specs.Counters.{KeepsBound}
+use Rattle.freshness_manager.specs.Changing.{FailsChange, KeepsEither}
 
-unmoved : (s : CellsState) → Runs [] 6 s.disk s.disk
-unmoved s = runs_more 6 (omega arith) (runs_none s.disk)
+pub runs_unmoved : (s : CellsState) → Runs [] 6 s.disk s.disk
+runs_unmoved s = runs_more 6 (omega arith) (runs_none s.disk)
 
-pub runs_of_same : (old new : CellsState) → new ≡ old → Runs [] 6 old.disk new.disk
-runs_of_same old new e = subst (λ s. Runs [] 6 old.disk s.disk) (sym e) (unmoved old)
-
-pub runs_of_made : (place id : ℕ) (direction : Direction) (change : Option ℕ) (old new : CellsState) → MakesChange place id direction change old new → Runs [] 6 old.disk new.disk
-runs_of_made place id direction None old new h = runs_of_same old new h
-runs_of_made place id direction (Some bound) old new h = h.runs
-
-pub faults_of_made : (place id : ℕ) (direction : Direction) (change : Option ℕ) (old new : CellsState) → MakesChange place id direction change old new → new.disk.faults ≡ old.disk.faults
-faults_of_made place id direction None old new h = ap (λ s. s.disk.faults) h
-faults_of_made place id direction (Some bound) old new h = h.faults
-
-pub whole_of_made : (place id : ℕ) (direction : Direction) (change : Option ℕ) (old new : CellsState) → old.broken ≡ false → MakesChange place id direction change old new → new.broken ≡ false
-whole_of_made place id direction None old new whole h = ap (λ s. s.broken) h ∙ whole
-whole_of_made place id direction (Some bound) old new whole h = h.whole
-
-pub runs_of_failed : (place id : ℕ) (direction : Direction) (change : Option ℕ) (old new : CellsState) → FailsChange place id direction change old new → Runs [] 6 old.disk new.disk
-runs_of_failed place id direction None old new h = absurd h
-runs_of_failed place id direction (Some bound) old new h = h.runs
+pub runs_of_put : {T E : Type 0} (r : Result T E) (place : ℕ) (cell : List ℕ) (old new : CellsState) → OnOk r (Puts place cell old new) → OnErr r (FailsPut place cell old new) → Runs [] 6 old.disk new.disk
+runs_of_put (Ok x) place cell old new puts fails = puts.runs
+runs_of_put (Err e) place cell old new puts fails = fails.runs
 
 -- the cell of a bound, put at its place
 kept_there : (cells : List (List ℕ)) (place id : ℕ) (direction : Direction) (bound moved : ℕ) → KeepsBound cells place id direction bound → moved < 2 ^ 64
@@ -49,20 +31,6 @@ kept_there cells place id direction bound moved kept fits =
       };
     }
 
-pub kept_of_same : (place id : ℕ) (direction : Direction) (bound : ℕ) (old new : CellsState) → KeepsBound old.cells place id direction bound → new ≡ old → KeepsBound new.cells place id direction bound
-kept_of_same place id direction bound old new kept e = subst (λ s. KeepsBound s.cells place id direction bound) (sym e) kept
-
-pub kept_of_made : (place id : ℕ) (direction : Direction) (bound : ℕ) (change : Option ℕ) (old new : CellsState) → KeepsBound old.cells place id direction bound
-    → unwrap_or change bound < 2 ^ 64 → MakesChange place id direction change old new → KeepsBound new.cells place id direction (unwrap_or change bound)
-kept_of_made place id direction bound None old new kept fits h = kept_of_same place id direction bound old new kept h
-kept_of_made place id direction bound (Some moved) old new kept fits h =
-    subst (λ cells. KeepsBound cells place id direction moved) (sym h.cells) (kept_there old.cells place id direction bound moved kept fits)
-
-pub kept_of_failed : (place id : ℕ) (direction : Direction) (bound : ℕ) (change : Option ℕ) (old new : CellsState) → KeepsBound old.cells place id direction bound
-    → FailsChange place id direction change old new → KeepsBound new.cells place id direction bound
-kept_of_failed place id direction bound None old new kept h = absurd h
-kept_of_failed place id direction bound (Some moved) old new kept h = subst (λ cells. KeepsBound cells place id direction bound) (sym h.kept) kept
-
 pub either_kept : (old new : CellsState) (place id : ℕ) (direction : Direction) (bound moved : ℕ) → moved < 2 ^ 64 → Settled old → KeepsBound old.cells place id direction bound
     → FailsChange place id direction (Some moved) old new → EachImage new.disk.told (λ x. KeepsEither old.layout x place id direction bound moved)
 either_kept old new place id direction bound moved fits settled kept h t told x image =
@@ -74,24 +42,3 @@ either_kept old new place id direction bound moved fits settled kept h t told x 
         keeps = inr (kept_there old.cells place id direction bound moved kept fits);
       }
     ]
-
--- a bound covers the freshness in use
-pub record Covers (v bound : ℕ) : Type 0 where
-  pub covered : v ≤ bound
-  pub fits : bound < 2 ^ 64
-
-by_test : (test : Bool) (moved bound v : ℕ) → (test ≡ true → Covers v moved) → (test ≡ false → Covers v bound) → Covers v (unwrap_or (if test then Some moved else None) bound)
-by_test true moved bound v t f = t refl
-by_test false moved bound v t f = f refl
-
-pub sender_covers : (counter bound reserve : ℕ) → IsReserved reserve counter bound → counter < last_freshness → Covers (counter + 1) (unwrap_or (sender_change counter bound reserve) bound)
-sender_covers counter bound reserve is below =
-    by_test (nat_lt bound (counter + 1)) (min (bound + reserve) last_freshness) bound (counter + 1)
-    (λ yes. let past : bound < counter + 1 = ltb-true _ _ yes in record { covered = omega (arith, is.reserve_least, is.counter_most); fits = omega arith })
-    (λ no. let within : counter + 1 ≤ bound = ltb-false _ _ no in record { covered = within; fits = is.bound_fits })
-
-pub receiver_covers : (counter bound reserve v : ℕ) → IsReserved reserve counter bound → v < 2 ^ 64 → Covers v (unwrap_or (receiver_change bound reserve v) bound)
-receiver_covers counter bound reserve v is fits =
-    by_test (nat_lt bound v) (min (v + reserve - 1) last_freshness) bound v
-    (λ yes. record { covered = omega (arith, is.reserve_least); fits = omega arith })
-    (λ no. let within : v ≤ bound = ltb-false _ _ no in record { covered = within; fits = is.bound_fits })

@@ -18,6 +18,7 @@ pub(crate) fn put_change<C: Cells>(
     requires whole { (C.state cells.old).broken ≡ false }
     ensures made { OnOk result (MakesChange place id direction change (C.state cells.old) (C.state cells.new)) }
     ensures failed { OnErr result (FailsChange place id direction change (C.state cells.old) (C.state cells.new)) }
+    ensures runs { Runs [] 6 (C.state cells.old).disk (C.state cells.new).disk }
 {
     match change {
         Some(bound) => put_bound(cells, place, id, direction, bound),
