@@ -1,5 +1,5 @@
 -- What a change of a bound leaves, from its cases.
-use Rattle.std.proofs.Common.{ℕ, ◌^◌, ◌<◌, Option, Some, List, Result, Ok, Err, OnOk, OnErr, [], length, set, refl, inl, inr, arith, get_or-set_same}
+use Rattle.std.proofs.Common.{ℕ, ◌^◌, ◌<◌, Some, List, Result, Ok, Err, OnOk, OnErr, [], length, set, refl, inl, inr, arith, get_or-set_same}
 use Rattle.std.proofs.Math.ListN.{length-set}
 use Rattle.cut_disk.specs.Calls.{Runs}
 use Rattle.cut_disk.specs.CallLaws.{runs_none, runs_more}

@@ -1,5 +1,5 @@
 -- What a cell tells of its bound.
-use Rattle.std.proofs.Common.{◌≡◌, ℕ, ◌^◌, ◌<◌, List, [], ◌∷◌, ◌++◌, get_or, take, drop, replicate, All, length, refl, sym, ap, ◌∙◌, arith, length-append, lit<}
+use Rattle.std.proofs.Common.{◌≡◌, ℕ, ◌<◌, List, [], ◌∷◌, ◌++◌, get_or, take, drop, replicate, All, refl, sym, ap, ◌∙◌, arith, length-append, lit<}
 use Rattle.std.proofs.lemmas.List.Elements.{All-cons, All-append, All-replicate}
 use Rattle.byte_lists.specs.Bytes.{IsBytes}
 use Rattle.byte_lists.specs.Numbers.{number_of, bytes_of}

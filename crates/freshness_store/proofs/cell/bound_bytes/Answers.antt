@@ -1,4 +1,4 @@
-use Rattle.std.proofs.Common.{◌≡◌, refl, ◌∙◌}
+use Rattle.std.proofs.Common.{refl, ◌∙◌}
 use Rattle.std.specs.Int.{w16, w64}
 use Rattle.byte_lists.specs.Numbers.{bytes_of}
 use Rattle.byte_lists.specs.NumberLaws.{to_be_bytes-is}

@@ -1,5 +1,5 @@
 -- The bytes that the bound makes are those of the cell, or no bound makes them.
-use Rattle.std.proofs.Common.{◌≡◌, ℕ, ◌∷◌, [], refl, sym, ap, get_or, ◌∙◌, arith}
+use Rattle.std.proofs.Common.{◌≡◌, ◌∷◌, [], refl, sym, ap, get_or, ◌∙◌, arith}
 use Rattle.std.specs.Cmp.Lexicographic.{same_text, other_text}
 use Rattle.byte_lists.specs.NumberLaws.{from_be_bytes-64}
 use Rattle.freshness_store.specs.Bound.{bound_cell}
