@@ -1,6 +1,6 @@
 -- What an accepted line answers
-use Rattle.std.specs.Prelude.{◌≡◌, ℕ, ◌⊎◌, ◌==◌, ◌&&◌, bytes_eq, find, option_map, Option, None, Some, List, [], ◌∷◌, ◌++◌, Bool, true, false}
-use Rattle.std.proofs.Common.{refl, sym, ◌∙◌, ap, subst, arith, inl, inr}
+use Rattle.std.specs.Prelude.{◌≡◌, ℕ, ◌⊎◌, ◌==◌, ◌&&◌, bytes_eq, find, option_map, Option, None, Some, List, [], ◌∷◌, Bool}
+use Rattle.std.proofs.Common.{refl, sym, ◌∙◌, ap, subst, inl, inr}
 use Rattle.std.proofs.lemmas.Slice.Eq.{bytes_eq-Decides}
 use Rattle.secured_pdu.specs.Frame.{Secured, secured_frame}
 use Rattle.freshness_routes.specs.declared.routes.Direction.TheVariants.{Sends, Receives}
@@ -13,7 +13,7 @@ use Rattle.bus_machine.specs.declared.lines.Line.TheVariants.{Sent, Accepted}
 use Rattle.bus_machine.specs.Node.{Node, place_of, route_key}
 use Rattle.bus_machine.specs.Steps.{Act, sends, receives, loads, keys, boots, cuts, arms, hears_nothing, AcceptsFrame, NodeStep}
 use Rattle.bus_machine.specs.Bus.{World, SentLine, node_of, Instant, Moments, act_of, sent_after, NamesSource, Step, node_at, state_after, AtSome}
-use Rattle.bus_machine.specs.Authentic.{SentAs, Names, AcceptedRight, RightLine, Authentic}
+use Rattle.bus_machine.specs.Authentic.{SentAs, WasSent, AcceptedRight, RightLine, Authentic}
 use Rattle.bus_laws.proofs.Effects.{routed}
 use Rattle.bus_laws.proofs.SoundSteps.{same_some, both_true, eq_of_test}
 use Rattle.bus_laws.proofs.BusSteps.{step_at, state_is}
@@ -81,7 +81,7 @@ abbrev pub sent_as : ℕ → List ℕ → ℕ → SentLine → Bool
 sent_as id payload v s = (s.id == id) && bytes_eq s.payload payload && (s.freshness == v)
 
 names_sent : (start : World) (done : Moments) (before : World) (id v : ℕ) (payload : List ℕ) (number : ℕ) (key pdu : List ℕ) → Each (Signed start done) before.sent
-    → option_map (λ s. s.number) (find (sent_as id payload v) before.sent) ≡ Some number → Secured key id payload v pdu → Names start done number key pdu
+    → option_map (λ s. s.number) (find (sent_as id payload v) before.sent) ≡ Some number → Secured key id payload v pdu → WasSent start done number key pdu
 names_sent start done before id v payload number key pdu signed found secured =
     let f = found_number (find (sent_as id payload v) before.sent) number found in
     let s : SentLine = f.0 in

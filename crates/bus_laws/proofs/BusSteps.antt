@@ -6,15 +6,15 @@ use Rattle.std.proofs.lemmas.Option.{get_or_from_slice_get}
 use Rattle.std.proofs.lemmas.List.{get_or-map, length-map}
 use Rattle.key_slots.specs.declared.memory.Slot.{Slot}
 use Rattle.key_slots.specs.declared.memory.Slot.TheVariants.{Empty}
-use Rattle.key_slots.specs.Slots.{IsSlot, IsSlots}
-use Rattle.machine_runs.specs.Run.{Moment, Run}
+use Rattle.key_slots.specs.Slots.{IsSlot}
+use Rattle.machine_runs.specs.Run.{Run}
 use Rattle.machine_runs.specs.Members.{MemberSteps}
 use Rattle.freshness_routes.specs.Config.{Config, IsConfig}
 use Rattle.bus_machine.specs.declared.events.Event.{Event}
 use Rattle.bus_machine.specs.declared.lines.Line.{Line}
-use Rattle.bus_machine.specs.Node.{Node, first_node, no_route}
+use Rattle.bus_machine.specs.Node.{first_node, no_route}
 use Rattle.bus_machine.specs.Sound.{Sound}
-use Rattle.bus_machine.specs.Steps.{Act, NodeStep}
+use Rattle.bus_machine.specs.Steps.{NodeStep}
 use Rattle.bus_machine.specs.Bus.{World, First, node_of, no_config, config_at, act_of, Step, node_at, SoundBus, Moments, state_after}
 use Rattle.bus_laws.proofs.SoundSteps.{Sound-step, Sound-powered}
 use Rattle.bus_laws.proofs.Growth.{Grows, Grows-same, Grows-step, Grows-on}

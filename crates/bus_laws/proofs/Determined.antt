@@ -1,8 +1,6 @@
 -- The lines, and one choice for each cut that found a change pending, determine every world
 use Rattle.std.specs.Prelude.{◌≡◌, ◌≢◌, ℕ, Option, None, Some, List, [], ◌∷◌, set, get_or}
 use Rattle.std.proofs.Common.{refl, sym, ◌∙◌, ap, subst, inl, inr, get_or-set_same}
-use Rattle.memory_update.specs.declared.messages.Request.{Request}
-use Rattle.memory_update.specs.declared.messages.Update.{Update}
 use Rattle.memory_update.specs.Loading.{slot_of}
 use Rattle.secured_pdu.specs.FrameLaws.{same_from_Ahead}
 use Rattle.secured_pdu.specs.Verdict as verdict
@@ -12,7 +10,7 @@ use Rattle.bus_machine.specs.declared.events.Event.{Event}
 use Rattle.bus_machine.specs.declared.lines.Line.{Line}
 use Rattle.bus_machine.specs.declared.lines.Line.TheVariants.{Sent, Accepted, FreshnessFailure, VerificationFailure, Keyed, Loaded, Boot, Up, Armed, NoFrame, Refused}
 use Rattle.bus_machine.specs.declared.lines.Refusal.TheVariants.{MemoryFailure}
-use Rattle.bus_machine.specs.Node.{Node, Kept, Change, slot_to, place_of, powered, with_slot, failed, first_node}
+use Rattle.bus_machine.specs.Node.{Node, Change, slot_to, place_of, powered, with_slot, failed, first_node}
 use Rattle.bus_machine.specs.Sound.{Sound}
 use Rattle.bus_machine.specs.Steps.{Act, sends, receives, loads, keys, boots, cuts, arms, hears_nothing, receive_change, JudgesFrame, TakesUpdate, Makes, Faults, PowersUp, NodeStep}
 use Rattle.bus_machine.specs.Bus.{World, SentLine, node_of, Instant, Moments, no_config, Step, node_at, SoundBus}

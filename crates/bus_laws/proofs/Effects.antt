@@ -12,7 +12,7 @@ use Rattle.bus_machine.specs.declared.lines.Line.TheVariants.{Sent, Accepted, Fr
 use Rattle.bus_machine.specs.declared.lines.Refusal.{Refusal}
 use Rattle.bus_machine.specs.declared.lines.Refusal.TheVariants.{Down, NoRoute, BadLength, Exhausted, MemoryFailure}
 use Rattle.bus_machine.specs.Node.{Node, place_of, counter_at, with_slot, booted, refused_up}
-use Rattle.bus_machine.specs.Steps.{Act, sends, receives, loads, keys, boots, cuts, arms, hears_nothing, when, first_of, has_length, has_route, key_refusal, send_refusal, receive_refusal, SendsFrame, AcceptsFrame, TakesUpdate, Faults, PowersUp, NodeStep}
+use Rattle.bus_machine.specs.Steps.{Act, sends, receives, loads, keys, boots, cuts, arms, hears_nothing, when, first_of, has_length, key_refusal, send_refusal, receive_refusal, SendsFrame, AcceptsFrame, TakesUpdate, Faults, PowersUp, NodeStep}
 
 pub data Effect (node after : Node) : Type 0 where
   stays : after ≡ node → Effect node after

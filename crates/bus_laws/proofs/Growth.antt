@@ -1,5 +1,5 @@
 -- A step changes no configuration, and lets no counter of a route fall and no slot go back
-use Rattle.std.specs.Prelude.{◌≡◌, ℕ, ◌<◌, ◌≤◌, ◌⊎◌, Bool, true, false, Some, List, length, get_or, set}
+use Rattle.std.specs.Prelude.{◌≡◌, ℕ, ◌<◌, ◌≤◌, ◌⊎◌, Bool, true, false, List, length, get_or, set}
 use Rattle.std.proofs.Common.{refl, sym, ◌∙◌, ap, subst, arith, inl, inr, get_or-set_same, get_or-set_other}
 use Rattle.std.proofs.lemmas.Bool.Decides.{eqb_tells}
 use Rattle.key_slots.specs.declared.memory.Slot.{Slot}
@@ -7,7 +7,7 @@ use Rattle.key_slots.specs.declared.memory.Slot.TheVariants.{Empty}
 use Rattle.key_slots.specs.Slots.{slot_at, counter_of}
 use Rattle.freshness_routes.specs.declared.routes.Direction.TheVariants.{Sends, Receives}
 use Rattle.bus_machine.specs.declared.lines.Line.{Line}
-use Rattle.bus_machine.specs.Node.{Node, Kept, Change, slot_to, bound_to, changed, changed_by, place_of, bound_at, counter_at, counted}
+use Rattle.bus_machine.specs.Node.{Node, Kept, Change, slot_to, bound_to, changed, changed_by, place_of, bound_at, counter_at, with_counter}
 use Rattle.bus_machine.specs.Sound.{MovesForward, Sound}
 use Rattle.bus_machine.specs.Steps.{Act, NodeStep}
 use Rattle.bus_laws.proofs.Effects.{Effect, effect_of, stays, sent, accepted, took, decided, faulted, powers, refused, routed, send_routed}
@@ -29,7 +29,7 @@ pub slots_by_bound : (kept : Kept) (b : Bool) (k x : ℕ) → (changed_by (due b
 slots_by_bound kept true k x = refl
 slots_by_bound kept false k x = refl
 
-counted_grows : (node : Node) (b : Bool) (k x v : ℕ) → Sound node → k < length node.config.routes → counter_at node k ≤ v → Grows node (counted (due b k x) k v node)
+counted_grows : (node : Node) (b : Bool) (k x v : ℕ) → Sound node → k < length node.config.routes → counter_at node k ≤ v → Grows node (with_counter (due b k x) k v node)
 counted_grows node b k x v s inside more = record {
   config_is = refl;
   counters = λ j _. elim (get_set node.counters k j v (subst (λ n. k < n) (sym s.counters) inside)) [

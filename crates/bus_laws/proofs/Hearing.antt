@@ -1,5 +1,5 @@
 -- A PDU that was sent and comes in time is accepted
-use Rattle.std.specs.Prelude.{◌≡◌, ℕ, ◌+◌, ◌%◌, ◌^◌, ◌<◌, ◌≤◌, ◌==◌, ◌&&◌, not, nat_lt, nat_le, None, Bool, true, List, [], ◌∷◌, length}
+use Rattle.std.specs.Prelude.{◌≡◌, ℕ, ◌^◌, ◌<◌, ◌≤◌, ◌==◌, not, nat_lt, nat_le, None, Bool, true, List, [], ◌∷◌, length}
 use Rattle.std.proofs.Common.{refl, sym, ◌∙◌, ap, subst, arith}
 use Rattle.std.proofs.lemmas.Bool.Decides.{nat_tests}
 use Rattle.secured_pdu.specs.Frame.{Secured, Ahead, IsFrame}
@@ -12,7 +12,7 @@ use Rattle.bus_machine.specs.declared.events.Event.TheVariants.{Send, Deliver}
 use Rattle.bus_machine.specs.declared.lines.Line.{Line}
 use Rattle.bus_machine.specs.declared.lines.Line.TheVariants.{Sent, Accepted, FreshnessFailure, VerificationFailure, Refused}
 use Rattle.bus_machine.specs.declared.lines.Refusal.TheVariants.{Down, NoRoute, BadLength, MemoryFailure}
-use Rattle.bus_machine.specs.Node.{Node, place_of, route_at, counter_at, route_key, HasRoute}
+use Rattle.bus_machine.specs.Node.{Node, place_of, route_at, counter_at, route_key}
 use Rattle.bus_machine.specs.Sound.{Sound}
 use Rattle.bus_machine.specs.Steps.{receives, NodeStep, when, first_of, key_refusal, receive_refusal, has_length}
 use Rattle.bus_machine.specs.Bus.{World, SentLine, node_of, Moments, act_of, sent_after, hearing, Step, node_at, SoundBus}

@@ -1,6 +1,6 @@
 -- What a slot holds after moments of which none acknowledges an update of it
-use Rattle.std.specs.Prelude.{◌≡◌, ℕ, ◌<◌, ◌≤◌, ◌⊎◌, Bool, true, None, Some, List, [], ◌∷◌, ◌++◌, length, set}
-use Rattle.std.proofs.Common.{refl, sym, ◌∙◌, ap, subst, arith, inl, inr, get_or-set_same, get_or-set_other}
+use Rattle.std.specs.Prelude.{◌≡◌, ℕ, ◌<◌, ◌⊎◌, true, None, Some, List, [], ◌∷◌, ◌++◌, length, set}
+use Rattle.std.proofs.Common.{sym, ◌∙◌, ap, subst, arith, inl, inr, get_or-set_same, get_or-set_other}
 use Rattle.std.proofs.lemmas.Bool.Decides.{eqb_tells}
 use Rattle.key_slots.specs.declared.memory.Slot.{Slot}
 use Rattle.key_slots.specs.declared.memory.Slot.TheVariants.{Empty, Filled}
@@ -17,10 +17,10 @@ use Rattle.bus_machine.specs.Node.{Node, Change, slot_to, bound_to, changed, wit
 use Rattle.bus_machine.specs.Sound.{Sound}
 use Rattle.bus_machine.specs.Steps.{Act, sends, receives, loads, keys, boots, cuts, arms, hears_nothing, TakesUpdate, Makes, NodeStep}
 use Rattle.bus_machine.specs.Bus.{World, node_of, Instant, Moments, act_of, Step, node_at, SoundBus, state_after, AtSome}
-use Rattle.bus_machine.specs.KeysKept.{slot_in, IsTaken, Acknowledges, FailsUpdate, HoldsUpdate, UpdatesHold, GoesOn, SlotsGoOn, KeysKept}
+use Rattle.bus_machine.specs.KeysKept.{slot_in, IsTaken, Acknowledges, FailsUpdate, UpdatesHold, GoesOn, SlotsGoOn, KeysKept}
 use Rattle.bus_laws.proofs.SoundSteps.{takes_forward, pending_forward}
 use Rattle.bus_laws.proofs.Growth.{Renews, slots_by_bound}
-use Rattle.bus_laws.proofs.BusSteps.{step_at, other_at, as_many, as_many_run, Sound-bus, Sound-run, Grows-run, state_is}
+use Rattle.bus_laws.proofs.BusSteps.{step_at, other_at, as_many_run, Sound-bus, Sound-run, Grows-run, state_is}
 use Rattle.bus_laws.proofs.Requests.{taken_one, built_one}
 use Rattle.bus_laws.proofs.Pending.{None≢Some, pending_step}
 

@@ -1,5 +1,5 @@
 -- What holds of each element, and of each and each later one, by recursion
-use Rattle.std.specs.Prelude.{◌≡◌, ℕ, zero, suc, ◌<◌, List, [], ◌∷◌, ◌++◌, length, get_or, All, AllPairs, Bool, true, false, cond, find, Option, None, Some}
+use Rattle.std.specs.Prelude.{◌≡◌, zero, suc, List, [], ◌∷◌, ◌++◌, All, AllPairs, Bool, true, false, cond, find, Some}
 use Rattle.std.proofs.Common.{arith, refl, subst}
 use Rattle.bus_laws.proofs.SoundSteps.{same_some}
 

@@ -1,10 +1,9 @@
 -- Without a failure and without a cut an act has one line, but for the source that is named
-use Rattle.std.specs.Prelude.{◌≡◌, ◌≢◌, ℕ, ◌≤◌, ◌↔◌, IsTrue, Option, None, Some, Ok, Err, Result, List, [], ◌∷◌, Bool, true, false, find, ◌==◌}
+use Rattle.std.specs.Prelude.{◌≡◌, ◌≢◌, ℕ, ◌↔◌, IsTrue, Option, None, Some, Ok, Err, List, [], ◌∷◌, Bool, true, false, find, ◌==◌}
 use Rattle.std.proofs.Common.{refl, sym, ◌∙◌, ap, subst, inl, inr, true≢false}
 use Rattle.key_slots.specs.declared.memory.Slot.{Slot}
 use Rattle.key_slots.specs.declared.memory.Slot.TheVariants.{Empty, Filled}
 use Rattle.key_slots.specs.declared.refusals.Erc.{Erc}
-use Rattle.key_slots.specs.declared.refusals.Erc.TheVariants.{NoSecureBoot, SequenceError}
 use Rattle.key_slots.specs.Slots.{slot_at}
 use Rattle.memory_update.specs.Messages.{Builds, Confirms}
 use Rattle.memory_update.specs.MessageLaws.{same_reply}

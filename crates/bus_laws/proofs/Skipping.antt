@@ -1,6 +1,6 @@
 -- The counters after a power-up
 use Rattle.std.specs.Prelude.{◌≡◌, ℕ, ◌+◌, ◌-◌, ◌<◌, ◌≤◌, ◌⊎◌, None, Some, length, get_or, ◌∷◌, Bool, true, false}
-use Rattle.std.proofs.Common.{refl, sym, ◌∙◌, ap, subst, arith, inl, inr}
+use Rattle.std.proofs.Common.{sym, ◌∙◌, ap, subst, arith, inl, inr}
 use Rattle.key_slots.specs.declared.memory.Slot.{Slot}
 use Rattle.freshness_routes.specs.declared.routes.Direction.TheVariants.{Sends, Receives}
 use Rattle.freshness_routes.specs.Changes.{last_freshness}
@@ -11,7 +11,7 @@ use Rattle.bus_machine.specs.Node.{Node, Change, slot_to, bound_to, place_of, no
 use Rattle.bus_machine.specs.Sound.{MovesForward, InStep, Sound}
 use Rattle.bus_machine.specs.Steps.{Act, sends, receives, loads, keys, boots, cuts, arms, hears_nothing, Makes, PowersUp, NodeStep}
 use Rattle.bus_machine.specs.Bus.{World, node_of, Instant, Moments, act_of, Step, node_at, SoundBus, state_after}
-use Rattle.bus_machine.specs.Skips.{FailedCall, ToAccept, FailedAccept, SenderSkips, ReceiverSkips, SkipsLittle}
+use Rattle.bus_machine.specs.Skips.{ToAccept, SenderSkips, ReceiverSkips, SkipsLittle}
 use Rattle.bus_laws.proofs.Effects.{send_routed, min_is}
 use Rattle.bus_laws.proofs.SoundSteps.{due, get_set, place_is, Receives≢Sends, same_some, pending_forward}
 use Rattle.bus_laws.proofs.BusSteps.{step_at, Sound-run, Grows-run, as_many_run, state_is}

@@ -1,10 +1,9 @@
 -- A sound node stays sound
-use Rattle.std.specs.Prelude.{◌≡◌, ◌≢◌, ℕ, suc, ◌+◌, ◌-◌, ◌^◌, ◌<◌, ◌≤◌, ◌⊎◌, ◌==◌, ◌&&◌, if◌then◌else◌, min, Bool, true, false, nat_lt, Option, None, Some, IfSome, List, [], ◌∷◌, length, get_or, set, option_map, All}
+use Rattle.std.specs.Prelude.{◌≡◌, ◌≢◌, ℕ, suc, ◌+◌, ◌-◌, ◌^◌, ◌<◌, ◌≤◌, ◌⊎◌, ◌==◌, ◌&&◌, if◌then◌else◌, min, Bool, true, false, nat_lt, Option, None, Some, IfSome, List, [], ◌∷◌, length, get_or, set, option_map}
 use Rattle.std.proofs.Common.{refl, sym, ◌∙◌, ap, subst, arith, inl, inr, true≢false, length-set, get_or-set_same, get_or-set_other}
 use Rattle.std.proofs.lemmas.Bool.Decides.{nat_tests, eqb_tells}
 use Rattle.key_slots.specs.declared.memory.Slot.{Slot}
-use Rattle.key_slots.specs.declared.memory.Slot.TheVariants.{Empty}
-use Rattle.key_slots.specs.Slots.{slot_at, IsSlot, IsSlots}
+use Rattle.key_slots.specs.Slots.{IsSlot, IsSlots}
 use Rattle.memory_update.specs.declared.messages.Request.{Request}
 use Rattle.memory_update.specs.declared.messages.Update.{Update}
 use Rattle.memory_update.specs.Loading.{slot_of}
@@ -14,9 +13,9 @@ use Rattle.freshness_routes.specs.declared.routes.Route.{Route}
 use Rattle.freshness_routes.specs.Changes.{last_freshness}
 use Rattle.freshness_routes.specs.Config.{Config, IsRoute, IsConfig}
 use Rattle.bus_machine.specs.declared.lines.Line.{Line}
-use Rattle.bus_machine.specs.Node.{Node, Kept, same_direction, Change, slot_to, bound_to, changed, changed_by, place_of, place_in, route_at, no_route, bound_at, counter_at, powered, counted, with_slot, booted, failed, refused_up}
+use Rattle.bus_machine.specs.Node.{Node, Kept, same_direction, Change, slot_to, bound_to, changed, place_of, place_in, route_at, no_route, bound_at, counter_at, powered, with_counter, with_slot, booted, failed, refused_up}
 use Rattle.bus_machine.specs.Sound.{MovesForward, InStep, Sound}
-use Rattle.bus_machine.specs.Steps.{Act, sends, receives, loads, keys, boots, cuts, arms, hears_nothing, send_change, receive_change, SendsFrame, AcceptsFrame, TakesUpdate, Makes, NodeStep}
+use Rattle.bus_machine.specs.Steps.{Act, sends, receives, loads, keys, boots, cuts, arms, hears_nothing, send_change, SendsFrame, AcceptsFrame, TakesUpdate, Makes, NodeStep}
 use Rattle.bus_laws.proofs.Effects.{Effect, effect_of, stays, sent, accepted, took, decided, faulted, powers, refused, Routed, routed, send_routed, min_is, lt_of_test, not_lt_of_test}
 use Rattle.bus_laws.proofs.Taken.{taken_update}
 
@@ -51,7 +50,7 @@ abbrev pub due : Bool → ℕ → ℕ → Option Change
 due b k x = option_map (bound_to k) (if b then Some x else None)
 
 -- route k of an up node counts to v within its bound
-counted_within : (node : Node) (k v : ℕ) → Sound node → node.up ≡ true → counter_at node k ≤ v → v ≤ bound_at node k → Sound (counted None k v node)
+counted_within : (node : Node) (k v : ℕ) → Sound node → node.up ≡ true → counter_at node k ≤ v → v ≤ bound_at node k → Sound (with_counter None k v node)
 counted_within node k v s up least most = record {
   config = s.config;
   slots = s.slots;
@@ -71,11 +70,11 @@ counted_within node k v s up least most = record {
             record { below = omega (arith, c, old.below); near = omega (arith, c, old.near); fits = old.fits }
       ];
   settled = s.settled;
-  forward = forward_of_none (counted None k v node) node.pending (s.settled up);
+  forward = forward_of_none (with_counter None k v node) node.pending (s.settled up);
 }
 
 -- route k of an up node counts to v, with a new bound
-counted_past : (node : Node) (k v x : ℕ) → Sound node → node.up ≡ true → k < length node.config.routes → v ≤ x → x ≤ v + (route_at node k).reserve - 1 → x < 2 ^ 64 → Sound (counted (Some (bound_to k x)) k v node)
+counted_past : (node : Node) (k v x : ℕ) → Sound node → node.up ≡ true → k < length node.config.routes → v ≤ x → x ≤ v + (route_at node k).reserve - 1 → x < 2 ^ 64 → Sound (with_counter (Some (bound_to k x)) k v node)
 counted_past node k v x s up inside least most fits = record {
   config = s.config;
   slots = s.slots;
@@ -97,7 +96,7 @@ counted_past node k v x s up inside least most fits = record {
             record { below = omega (arith, c, b, old.below); near = omega (arith, c, b, old.near); fits = omega (arith, b, old.fits) }
       ];
   settled = s.settled;
-  forward = forward_of_none (counted (Some (bound_to k x)) k v node) node.pending (s.settled up);
+  forward = forward_of_none (with_counter (Some (bound_to k x)) k v node) node.pending (s.settled up);
 }
 
 -- what is known of a new bound
@@ -130,7 +129,7 @@ receive_reserves node k v s inside small passes =
     ]
 
 counted_sound : (node : Node) (k v x : ℕ) (b : Bool) → Sound node → Routed node k → counter_at node k ≤ v
-    → (b ≡ false → v ≤ bound_at node k) → (b ≡ true → Reserves node k v x) → Sound (counted (due b k x) k v node)
+    → (b ≡ false → v ≤ bound_at node k) → (b ≡ true → Reserves node k v x) → Sound (with_counter (due b k x) k v node)
 counted_sound node k v x true s r least within past =
     let p : Reserves node k v x = past refl in
     counted_past node k v x s r.up r.inside p.covers p.near p.fits
@@ -140,7 +139,7 @@ pub Sound-sent : (node : Node) (id : ℕ) (payload : List ℕ) (v : ℕ) (pdu : 
 Sound-sent node id payload v pdu after s step =
     let k : ℕ = place_of node id Sends in
     let r = send_routed node id payload step.allowed in
-    subst Sound (sym step.after_is) (subst (λ v. Sound (counted (send_change node k) k v node)) (sym step.freshness_is)
+    subst Sound (sym step.after_is) (subst (λ v. Sound (with_counter (send_change node k) k v node)) (sym step.freshness_is)
     (counted_sound node k (counter_at node k + 1) (min (bound_at node k + (route_at node k).reserve) last_freshness) (nat_lt (bound_at node k) (counter_at node k + 1)) s r.0 (omega arith)
     (λ e. not_lt_of_test (bound_at node k) (counter_at node k + 1) e)
     (λ e. send_reserves node k s r.0.inside r.1 (lt_of_test (bound_at node k) (counter_at node k + 1) e))))

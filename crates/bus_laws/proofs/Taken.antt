@@ -1,5 +1,5 @@
 -- An update that an engine takes
-use Rattle.std.specs.Prelude.{◌≡◌, ℕ, ◌<◌, Bool, List, Result, Ok, Err}
+use Rattle.std.specs.Prelude.{◌≡◌, ℕ, ◌<◌, Bool, List, Result, Ok}
 use Rattle.std.proofs.Common.{refl}
 use Rattle.key_slots.specs.declared.memory.Slot.{Slot}
 use Rattle.key_slots.specs.declared.refusals.Erc.{Erc}

@@ -16,7 +16,7 @@ SentAs s key before m =
     × (key ≡ route_key (node_at before (node_of m.command)) (place_of (node_at before (node_of m.command)) s.id Sends))
 
 -- the event of this number sent; where its slot held the receiver's key, the PDU that was received is the sent one, byte for byte
-pub record Names (start : World) (done : Moments) (number : ℕ) (receiver_key pdu : List ℕ) : Type 0 where
+pub record WasSent (start : World) (done : Moments) (number : ℕ) (receiver_key pdu : List ℕ) : Type 0 where
   pub sent : SentLine
   pub key : List ℕ
   pub number_is : sent.number ≡ number
@@ -30,7 +30,7 @@ pub record AcceptedRight (start : World) (done : Moments) (before : World) (m : 
   pub usable : key_refusal node route ≡ None
   pub secured : Secured (route_key node route) id payload v pdu
   pub from : source ≡ source_of before id payload v
-  pub names : (number : ℕ) → source ≡ Some number → Names start done number (route_key node route) pdu
+  pub names : (number : ℕ) → source ≡ Some number → WasSent start done number (route_key node route) pdu
 
 -- a moment after those done
 abbrev pub RightLine : World → Moments → Instant → Line → Type 0

@@ -1,5 +1,5 @@
 -- A PDU that was sent and comes in time is accepted
-use Rattle.std.specs.Prelude.{◌≡◌, ℕ, ◌+◌, ◌<◌, ◌≤◌, ◌==◌, true, None, Some, List, find}
+use Rattle.std.specs.Prelude.{◌≡◌, ℕ, ◌+◌, ◌<◌, ◌≤◌, ◌==◌, true, None, Some, find}
 use Rattle.secured_pdu.specs.Frame.{Secured}
 use Rattle.freshness_routes.specs.declared.routes.Direction.TheVariants.{Receives}
 use Rattle.bus_machine.specs.declared.lines.Line.{Line}

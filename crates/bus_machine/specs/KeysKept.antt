@@ -1,5 +1,5 @@
 -- No acknowledged update of a slot is undone but by a later one
-use Rattle.std.specs.Prelude.{◌≡◌, ℕ, ◌<◌, ◌≤◌, ◌⊎◌, true, List, ◌∷◌, ◌++◌, length}
+use Rattle.std.specs.Prelude.{◌≡◌, ℕ, ◌<◌, ◌≤◌, ◌⊎◌, true, ◌∷◌, ◌++◌, length}
 use Rattle.key_slots.specs.declared.memory.Slot.{Slot}
 use Rattle.key_slots.specs.Slots.{slot_at, counter_of, is_empty}
 use Rattle.bus_machine.specs.declared.lines.Line.{Line}

@@ -7,3 +7,4 @@ pub mod Authentic
 pub mod KeysKept
 pub mod Skips
 pub mod Honest
+pub mod Past

@@ -1,5 +1,5 @@
 -- What a node keeps through a power cut, and what it knows while it is up (own; its slots are those of the SHE specification, its counters the freshness of AUTOSAR SecOC)
-use Rattle.std.specs.Prelude.{◌≡◌, ℕ, suc, ◌<◌, Bool, true, false, ◌&&◌, ◌==◌, if◌then◌else◌, Option, None, Some, List, [], ◌∷◌, length, map, replicate, set, slice_index, slice_index_or}
+use Rattle.std.specs.Prelude.{ℕ, suc, ◌<◌, Bool, true, false, ◌&&◌, ◌==◌, if◌then◌else◌, Option, None, Some, List, [], ◌∷◌, length, map, replicate, set, slice_index, slice_index_or}
 use Rattle.key_slots.specs.declared.memory.Slot.{Slot}
 use Rattle.key_slots.specs.declared.memory.Slot.TheVariants.{Empty}
 use Rattle.key_slots.specs.Slots.{slot_at}
@@ -93,8 +93,8 @@ abbrev pub first_node : Config → Node
 first_node config = powered config (record { slots = replicate 14 Empty; bounds = map (λ route. route.start) config.routes })
 
 -- the counter of route k became v, and the change, if one was due, was made before
-abbrev pub counted : Option Change → ℕ → ℕ → Node → Node
-counted change k v node = record node { kept = changed_by change node.kept; counters = set node.counters k v }
+abbrev pub with_counter : Option Change → ℕ → ℕ → Node → Node
+with_counter change k v node = record node { kept = changed_by change node.kept; counters = set node.counters k v }
 
 -- a slot was updated
 abbrev pub with_slot : ℕ → Slot → Node → Node

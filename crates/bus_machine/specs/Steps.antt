@@ -17,7 +17,7 @@ use Rattle.bus_machine.specs.declared.lines.Line.{Line}
 use Rattle.bus_machine.specs.declared.lines.Line.TheVariants.{Sent, Accepted, FreshnessFailure, VerificationFailure, Keyed, Loaded, Boot, Up, Armed, NoFrame, Refused}
 use Rattle.bus_machine.specs.declared.lines.Refusal.{Refusal}
 use Rattle.bus_machine.specs.declared.lines.Refusal.TheVariants.{Down, NoRoute, BadLength, Key, Exhausted, MemoryFailure}
-use Rattle.bus_machine.specs.Node.{Node, Change, slot_to, bound_to, changed, place_of, route_at, bound_at, counter_at, route_key, powered, counted, with_slot, booted, failed, refused_up}
+use Rattle.bus_machine.specs.Node.{Node, Change, slot_to, bound_to, changed, place_of, route_at, bound_at, counter_at, route_key, powered, with_counter, with_slot, booted, failed, refused_up}
 
 -- what a node is told to do
 pub data Act : Type 0 where
@@ -83,7 +83,7 @@ pub record SendsFrame (node : Node) (id : ℕ) (payload : List ℕ) (v : ℕ) (p
   pub allowed : send_refusal node id payload ≡ None
   pub freshness_is : v ≡ counter_at node (place_of node id Sends) + 1
   pub pdu_is : Secured (route_key node (place_of node id Sends)) id payload v pdu
-  pub after_is : after ≡ counted (send_change node (place_of node id Sends)) (place_of node id Sends) v node
+  pub after_is : after ≡ with_counter (send_change node (place_of node id Sends)) (place_of node id Sends) v node
 
 -- what a node says of a PDU that its route takes
 pub record JudgesFrame (node : Node) (id : ℕ) (pdu : List ℕ) (outcome : verdict.Outcome) : Type 0 where
@@ -93,7 +93,7 @@ pub record JudgesFrame (node : Node) (id : ℕ) (pdu : List ℕ) (outcome : verd
 -- the payload is accepted with the freshness that its PDU was secured with
 pub record AcceptsFrame (node : Node) (id : ℕ) (pdu payload : List ℕ) (v : ℕ) (after : Node) : Type 0 where
   pub judged : JudgesFrame node id pdu (verdict.Accepted payload v)
-  pub after_is : after ≡ counted (receive_change node (place_of node id Receives) v) (place_of node id Receives) v node
+  pub after_is : after ≡ with_counter (receive_change node (place_of node id Receives) v) (place_of node id Receives) v node
 
 -- the engine takes the update of the request
 pub record TakesUpdate (node : Node) (request : Request) (u : Update) : Type 0 where

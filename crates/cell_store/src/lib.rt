@@ -14,8 +14,8 @@
 //!
 //! A store of version 1 begins at 0, one of version 2 at 32768: its *base*, from which its places
 //! count. All before the base and all behind the store stays as it is. At the base stands a header
-//! of 32 bytes: the text `SECOCST1`, the kind (1 twin), the version, the number of cells in two bytes
-//! (big-endian, 1 to 1024), and 20 zero bytes.
+//! of 32 bytes: the text `SECOCST1`, the kind (1 twin, 2 log), the version, the number of cells in
+//! two bytes (big-endian, 1 to 1024), and 20 zero bytes.
 //!
 //! # The twin store
 //!
@@ -29,6 +29,17 @@
 //! closes the gate, unless that is closed already; it writes the next mark and the cell behind the
 //! closed gate; and it opens the gate. While a copy is being written its gate stands closed and
 //! synced, and a gate is one byte, so whatever a torn write leaves, the old copy or the new one counts.
+//!
+//! # The log store
+//!
+//! Behind the header stand two banks, the first at 32. With `n` cells a bank has `2242 + 32 n` bytes: a
+//! gate, a mark, the cells, and 64 record places of 35 bytes, each of them a gate, a cell's number in
+//! two bytes, and the 32 bytes of that cell. The bank that counts is chosen as a copy is; its cells,
+//! changed by its live places in order, are the list. `Damaged` is 0 where no bank counts, and from 1 the
+//! number of the first place that is live and has a number of no cell or stands behind a closed one.
+//!
+//! A put writes into the first free place of the bank that counts, behind its closed gate, and then
+//! opens that gate; where no place is free it does the same to the whole other bank.
 #![tactic(auto)]
 
 mod appending;

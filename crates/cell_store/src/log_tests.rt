@@ -1,5 +1,5 @@
 // Log stores over disks in memory.
-ghost use Rattle.std.specs.Prelude.{◌≡◌, ◌<◌, ◌≤◌, length, false, IfOk, OnOk};
+ghost use Rattle.std.specs.Prelude.{◌≡◌, ◌<◌, ◌≤◌, length, false, IfOk};
 
 use super::*;
 use cut_disk::{Disk, MemDisk, Torn};
@@ -63,22 +63,6 @@ fn fresh_store(alloc: Global, version: Version) -> Result<LogCells<MemDisk>, Fai
     }
 }
 
-/// Puts elevens into cell 0 so many times.
-fn put_times<C: CutCells>(store: &mut C, times: u8) -> Result<(), Fail>
-    requires cell { 0 < length (C.state store.old).cells }
-    requires whole { (C.state store.old).broken ≡ false }
-    ensures count { length (C.state store.new).cells ≡ length (C.state store.old).cells }
-    ensures whole { OnOk result ((C.state store.new).broken ≡ false) }
-{
-    for _ in 0..times {
-        match store.put(0, &ELEVENS) {
-            Ok(()) => {}
-            Err(_) => return Err(Fail::from("a put failed")),
-        }
-    }
-    Ok(())
-}
-
 #[test]
 fn a_fresh_log_store_has_these_bytes(rt: HostRuntime) -> Result<(), Fail> {
     let mut disk = fresh_store(rt.alloc(), Version::One)?.release();
@@ -117,7 +101,7 @@ fn a_smaller_disk_is_too_small_for_a_log(rt: HostRuntime) -> Result<(), Fail> {
 #[test]
 fn a_put_takes_the_first_free_place(rt: HostRuntime) -> Result<(), Fail> {
     let mut store = fresh_store(rt.alloc(), Version::One)?;
-    put_times(&mut store, 1)?;
+    assert!(rt; store.put(0, &ELEVENS).is_ok());
     let mut disk = store.release();
     let mut out = [0; 4580];
     read_from(&mut disk, Version::One, 0, &mut out)?;
@@ -128,14 +112,31 @@ fn a_put_takes_the_first_free_place(rt: HostRuntime) -> Result<(), Fail> {
     Ok(())
 }
 
-/// The first two bytes of the bank at this place after so many puts, the last of which is to fail at
-/// this call, if it makes so many.
-fn bank_after(alloc: Global, puts: u8, call: u64, place: u64) -> Result<(bool, [u8; 2]), Fail>
-    requires { 1 ≤ call }
-{
-    let mut store = fresh_store(alloc, Version::One)?;
-    put_times(&mut store, puts)?;
-    store.fail_at(call);
+/// A store of one cell whose first bank has no free place, nor its second where that counts.
+fn full_bytes(second: bool) -> [u8; 4580] {
+    let mut bytes = fresh_bytes();
+    for p in 0..64 {
+        bytes[66 + 35 * p] = 0xa7;
+    }
+    if second {
+        bytes[2306] = 0xa7;
+        bytes[2307] = 1;
+        for p in 0..64 {
+            bytes[2340 + 35 * p] = 0xa7;
+        }
+    }
+    bytes
+}
+
+/// The first two bytes of the bank at this place after a put of which the call behind so many is to
+/// fail, if it makes more.
+fn bank_after(alloc: Global, second: bool, calls: u8, place: u64) -> Result<(bool, [u8; 2]), Fail> {
+    let disk = MemDisk::of(alloc, &full_bytes(second))?;
+    let mut store = match LogCells::attach(alloc, disk, 1) {
+        Ok(store) => store,
+        Err(refused) => return Err(Fail::from(refused.fault)),
+    };
+    store.fail_at(u64::from(calls) + 1);
     let done = store.put(0, &ELEVENS).is_ok();
     let mut disk = store.release();
     let mut out = [0; 2];
@@ -150,13 +151,13 @@ fn bank_after(alloc: Global, puts: u8, call: u64, place: u64) -> Result<(bool, [
 #[test]
 fn a_full_bank_is_left_for_the_other(rt: HostRuntime) -> Result<(), Fail> {
     let rows = [
-        (64, 4, 2306, (false, [0, 0])),
-        (64, 5, 2306, (true, [0xa7, 1])),
-        (129, 6, 32, (false, [0, 0])),
-        (129, 7, 32, (true, [0xa7, 2])),
+        (false, 3, 2306, (false, [0, 0])),
+        (false, 4, 2306, (true, [0xa7, 1])),
+        (true, 5, 32, (false, [0, 0])),
+        (true, 6, 32, (true, [0xa7, 2])),
     ];
-    for (puts, call, place, expected) in &rows {
-        assert_eq!(rt; bank_after(rt.alloc(), *puts, *call, *place)?, *expected);
+    for (second, calls, place, expected) in &rows {
+        assert_eq!(rt; bank_after(rt.alloc(), *second, *calls, *place)?, *expected);
     }
     Ok(())
 }
@@ -185,19 +186,24 @@ fn damages_of_a_log_are_found(rt: HostRuntime) -> Result<(), Fail> {
     Ok(())
 }
 
-/// Puts elevens into cell 0 of a store whose disk stops at this call, and cuts the power: whether
-/// the put was done, and the cell that is read then.
-fn put_and_cut<C: CutCells>(store: &mut C, calls: u64, torn: Torn) -> Result<(bool, [u8; 32]), Fail>
+/// Puts elevens into a cell of a store whose disk stops at this call, and cuts the power: whether the
+/// put was done, and the cell that is read then.
+fn put_and_cut<C: CutCells>(
+    store: &mut C,
+    cell: u16,
+    calls: u64,
+    torn: Torn,
+) -> Result<(bool, [u8; 32]), Fail>
     requires calls { 1 ≤ calls }
-    requires cell { 0 < length (C.state store.old).cells }
+    requires cell { cell < length (C.state store.old).cells }
     requires whole { (C.state store.old).broken ≡ false }
 {
-    let mut cell = [0x5a; 32];
+    let mut read = [0x5a; 32];
     store.stop_at(calls);
-    let done = store.put(0, &ELEVENS).is_ok();
+    let done = store.put(cell, &ELEVENS).is_ok();
     store.power_cut(torn)?;
-    store.get(0, &mut cell);
-    Ok((done, cell))
+    store.get(cell, &mut read);
+    Ok((done, read))
 }
 
 #[test]
@@ -217,7 +223,7 @@ fn a_record_is_whole_or_absent_after_a_cut(rt: HostRuntime) -> Result<(), Fail> 
         for (stop, row) in rows.iter().enumerate() {
             for (torn, is_new) in torn.iter().zip(row) {
                 let mut store = fresh_store(rt.alloc(), *version)?;
-                let (done, cell) = put_and_cut(&mut store, stop as u64 + 1, *torn)?;
+                let (done, cell) = put_and_cut(&mut store, 0, stop as u64 + 1, *torn)?;
                 assert_eq!(rt; done, stop == 4);
                 assert_eq!(rt; cell, if *is_new { ELEVENS } else { ZEROS });
             }
@@ -229,7 +235,7 @@ fn a_record_is_whole_or_absent_after_a_cut(rt: HostRuntime) -> Result<(), Fail> 
 #[test]
 fn a_log_store_has_up_to_1024_cells(rt: HostRuntime) -> Result<(), Fail> {
     let alloc = rt.alloc();
-    let cells = vec![in alloc; ELEVENS; 1024]?;
+    let cells = vec![in alloc; ZEROS; 1024]?;
     let disk = MemDisk::new(alloc, 70052)?;
     let disk = match LogCells::format(disk, &cells) {
         Ok(disk) => disk,
@@ -239,12 +245,7 @@ fn a_log_store_has_up_to_1024_cells(rt: HostRuntime) -> Result<(), Fail> {
         Ok(store) => store,
         Err(refused) => return Err(Fail::from(refused.fault)),
     };
-    assert!(rt; store.put(1023, &ZEROS).is_ok());
-    store.power_cut(Torn::Old)?;
-    let mut cell = [0x5a; 32];
-    store.get(1023, &mut cell);
-    assert_eq!(rt; cell, ZEROS);
-    store.get(1022, &mut cell);
-    assert_eq!(rt; cell, ELEVENS);
+    let read = put_and_cut(&mut store, 1023, 5, Torn::Old)?;
+    assert_eq!(rt; read, (true, ELEVENS));
     Ok(())
 }

@@ -61,17 +61,22 @@ fn fresh_store(alloc: Global, version: Version) -> Result<TwinCells<MemDisk>, Fa
 
 /// PutsAs elevens into cell 0 of a store whose disk stops at this call, and cuts the power: whether
 /// the put was done, and the cell that is read then.
-fn put_and_cut<C: CutCells>(store: &mut C, calls: u64, torn: Torn) -> Result<(bool, [u8; 32]), Fail>
+fn put_and_cut<C: CutCells>(
+    store: &mut C,
+    cell: u16,
+    calls: u64,
+    torn: Torn,
+) -> Result<(bool, [u8; 32]), Fail>
     requires calls { 1 ≤ calls }
-    requires cell { 0 < length (C.state store.old).cells }
+    requires cell { cell < length (C.state store.old).cells }
     requires whole { (C.state store.old).broken ≡ false }
 {
-    let mut cell = [0x5a; 32];
+    let mut read = [0x5a; 32];
     store.stop_at(calls);
-    let done = store.put(0, &ELEVENS).is_ok();
+    let done = store.put(cell, &ELEVENS).is_ok();
     store.power_cut(torn)?;
-    store.get(0, &mut cell);
-    Ok((done, cell))
+    store.get(cell, &mut read);
+    Ok((done, read))
 }
 
 #[test]
@@ -119,13 +124,8 @@ fn a_store_has_up_to_1024_cells(rt: HostRuntime) -> Result<(), Fail> {
         Ok(store) => store,
         Err(refused) => return Err(Fail::from(refused.fault)),
     };
-    assert!(rt; store.put(1023, &ELEVENS).is_ok());
-    store.power_cut(Torn::Old)?;
-    let mut cell = [0x5a; 32];
-    store.get(1023, &mut cell);
-    assert_eq!(rt; cell, ELEVENS);
-    store.get(1022, &mut cell);
-    assert_eq!(rt; cell, ZEROS);
+    let read = put_and_cut(&mut store, 1023, 7, Torn::Old)?;
+    assert_eq!(rt; read, (true, ELEVENS));
     Ok(())
 }
 
@@ -191,7 +191,7 @@ fn a_put_is_whole_or_absent_after_a_cut(rt: HostRuntime) -> Result<(), Fail> {
         let calls = stop as u64 + 1;
         for (torn, is_new) in torn.iter().zip(row) {
             let mut store = fresh_store(rt.alloc(), Version::One)?;
-            let (done, cell) = put_and_cut(&mut store, calls, *torn)?;
+            let (done, cell) = put_and_cut(&mut store, 0, calls, *torn)?;
             assert_eq!(rt; done, calls == 7);
             assert_eq!(rt; cell, if *is_new { ELEVENS } else { ZEROS });
         }

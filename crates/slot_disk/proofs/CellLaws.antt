@@ -1,5 +1,5 @@
 -- A cell is one slot, and has 32 bytes.
-use Rattle.std.proofs.Common.{◌≡◌, ℕ, ◌+◌, ◌<◌, List, [], ◌∷◌, ◌++◌, map, length, All, replicate, refl, sym, ◌∙◌, arith, length-append, lit<}
+use Rattle.std.proofs.Common.{◌≡◌, ℕ, ◌<◌, List, [], ◌∷◌, ◌++◌, map, All, replicate, refl, sym, ◌∙◌, arith, length-append, lit<}
 use Rattle.std.proofs.lemmas.List.Elements.{All-head, All-tail, All-cons, All-append, All-replicate}
 use Rattle.byte_lists.specs.Bytes.{IsBytes}
 use Rattle.byte_lists.specs.Numbers.{bytes_of}

@@ -1,4 +1,4 @@
-use Rattle.std.proofs.Common.{◌≡◌, ℕ, refl, rules}
+use Rattle.std.proofs.Common.{refl}
 use Rattle.std.proofs.Math.Nat.{div-one}
 use Rattle.byte_lists.specs.Numbers.{bytes_of}
 use Rattle.slot_disk.specs.Cell.{slot_cell}

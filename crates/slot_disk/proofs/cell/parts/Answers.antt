@@ -1,6 +1,5 @@
 -- The first byte of a cell tells whether its slot is filled.
-use Rattle.std.proofs.Common.{◌≡◌, ℕ, Some, None, refl, arith}
-use Rattle.key_slots.specs.declared.memory.Slot.{Slot}
+use Rattle.std.proofs.Common.{refl, arith}
 use Rattle.key_slots.specs.declared.memory.Slot.TheVariants.{Empty, Filled}
 use Rattle.slot_disk.proofs.Parts.{first_is}
 use Rattle.slot_disk.proofs.cell.parts.Goals as goal

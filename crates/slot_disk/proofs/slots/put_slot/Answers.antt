@@ -1,5 +1,5 @@
 -- What a put that fails leaves, by the clauses of the store.
-use Rattle.std.proofs.Common.{◌≡◌, ℕ, true, List, [], length, Result, Ok, Err, OnErr, ◌∙◌}
+use Rattle.std.proofs.Common.{◌≡◌, ℕ, true, List, [], Result, Ok, Err, OnErr, ◌∙◌}
 use Rattle.cut_disk.specs.Calls.{Rose, Runs}
 use Rattle.cut_disk.specs.Images.{EachImage}
 use Rattle.cell_store.specs.Cells.{CellsState, Settled, LeavesBesides, StandsForEither, FailsPut}

@@ -1,5 +1,5 @@
 -- One slot more.
-use Rattle.std.proofs.Common.{◌≡◌, ◌<◌, ◌+◌, ℕ, [], length, get_or, set, take, map, sym, ap, ◌∙◌, arith, rules, subst}
+use Rattle.std.proofs.Common.{◌≡◌, ◌+◌, [], get_or, set, take, map, sym, ap, ◌∙◌, arith, rules, subst}
 use Rattle.key_slots.specs.declared.memory.Slot.{Slot}
 use Rattle.slot_disk.specs.Cell.{slot_cell, HoldsSlot}
 use Rattle.slot_disk.proofs.SlotsSoFar.{one_more}
