@@ -10,5 +10,7 @@ mod ciphers;
 mod engine;
 mod loading;
 mod memory;
+#[cfg(test)]
+mod tests;
 
 pub use engine::{Engine, LoadFault};
