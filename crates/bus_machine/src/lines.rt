@@ -52,7 +52,7 @@ pub enum Line {
     Armed,
     /// The event to be delivered isn't an earlier one that sent.
     NoFrame,
-    /// Nothing was done.
+    /// Nothing was done; or the disk failed, and the node is down.
     Refused(Refusal),
 }
 

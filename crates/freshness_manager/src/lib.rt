@@ -1,0 +1,22 @@
+//! The freshness of the routes of a node: a counter for each, and a bound ahead of it that a store
+//! keeps.
+//!
+//! A sender puts a bound before it uses a freshness above the old one, a receiver before it accepts
+//! one, and each begins again at its bound. So whatever a power cut leaves, no freshness is used
+//! twice and none is accepted twice. A reserve of 1 to 128 says how far a bound moves ahead, so that
+//! not every PDU is a put.
+//!
+//! No call takes memory.
+#![tactic(auto)]
+
+mod changing;
+mod laws;
+mod receiver;
+mod sender;
+#[cfg(test)]
+mod tests;
+
+pub use freshness_routes::{Direction, NodeConfig, Route, Routes};
+pub use laws::a_failed_change_keeps_either_bound;
+pub use receiver::Rx;
+pub use sender::{Tx, TxFault};

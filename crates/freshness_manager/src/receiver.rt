@@ -1,0 +1,131 @@
+//! The counter of a route that receives.
+ghost use Rattle.std.specs.Prelude.{◌≡◌, ◌≤◌};
+
+use crate::changing::put_change;
+use cell_store::{Cells, PutFailed};
+use freshness_routes::receiver_change;
+use freshness_store::Direction;
+use secured_pdu::candidate_of;
+use std::marker::Model;
+
+/// The counter of a route that receives, with its bound and its window. Contracts see the record of
+/// its place, Data ID, reserve, window, counter and bound. The counter is at most the bound.
+#[derive(Debug, Drop)]
+pub struct Rx {
+    place: u16,
+    id: u16,
+    reserve: u16,
+    window: u16,
+    counter: u64,
+    bound: u64,
+}
+
+impl Model for Rx {
+    ghost use Rattle.freshness_manager.specs.Counters.{ReceiverCounter, IsReceiver};
+
+    ghost Value = { ReceiverCounter };
+
+    ghost view = { λ r. record { place = r.place; id = r.id; reserve = r.reserve; window = r.window; counter = r.counter; bound = r.bound } };
+
+    ghost invariant = { λ r. IsReceiver r.window r.reserve r.counter r.bound };
+}
+
+impl Rx {
+    ghost use Rattle.std.specs.Prelude.{◌≡◌, ℕ, ◌<◌, ◌≤◌, [], unwrap_or, false, IfNone, IfSome, OnOk, OnErr};
+    ghost use Rattle.cut_disk.specs.Calls.{Runs};
+    ghost use Rattle.secured_pdu.specs.Frame.{IsWindow, Ahead};
+    ghost use Rattle.freshness_routes.specs.declared.routes.Direction.TheVariants.{Receives};
+    ghost use Rattle.freshness_routes.specs.Changes.{receiver_change as change_of_receiver};
+    ghost use Rattle.freshness_manager.specs.Counters.{KeepsBound};
+    ghost use Rattle.freshness_manager.specs.Changing.{MakesChange, FailsChange};
+
+    /// The counter of the route with this Data ID, whose bound is kept in the cell at this place. It
+    /// begins at the bound. The reserve is 1 to 128, the window 1 to 256.
+    pub fn restore(place: u16, id: u16, reserve: u16, window: u16, bound: u64) -> Rx
+        requires least { 1 ≤ reserve }
+        requires most { reserve ≤ 128 }
+        requires window { IsWindow window }
+        ensures { result ≡ record { place = place; id = id; reserve = reserve; window = window; counter = bound; bound = bound } }
+    {
+        Rx {
+            place,
+            id,
+            reserve,
+            window,
+            counter: bound,
+            bound,
+        }
+    }
+
+    /// The last freshness that was accepted, or the bound at which it began; at most the bound.
+    pub fn counter(&self) -> u64
+        ensures value { result ≡ self.now.counter }
+        ensures bounded { result ≤ self.now.bound }
+    {
+        self.counter
+    }
+
+    /// The bound that the store keeps.
+    pub fn bound(&self) -> u64
+        ensures { result ≡ self.now.bound }
+    {
+        self.bound
+    }
+
+    /// How far the bound moves ahead, 1 to 128.
+    pub fn reserve(&self) -> u16
+        ensures value { result ≡ self.now.reserve }
+        ensures least { 1 ≤ result }
+        ensures most { result ≤ 128 }
+    {
+        self.reserve
+    }
+
+    /// How far above the counter a freshness is accepted, 1 to 256.
+    pub fn window(&self) -> u16
+        ensures value { result ≡ self.now.window }
+        ensures window { IsWindow result }
+    {
+        self.window
+    }
+
+    /// The one freshness that is 1 to the window above the counter and has this low byte; `None`
+    /// where there is none, or it would not fit 64 bits.
+    pub fn candidate(&self, low: u8) -> Option<u64>
+        ensures none { IfNone result ((v : ℕ) → ¬ Ahead self.now.counter self.now.window low v) }
+        ensures ahead { IfSome result (Ahead self.now.counter self.now.window low) }
+    {
+        candidate_of(self.counter, self.window, low)
+    }
+
+    /// Accepts a freshness above the counter, which becomes the counter. Where it is above the bound,
+    /// the bound moves ahead in the store first; where it isn't, nothing is read or written.
+    /// `PutFailed` where the bound could not be put; the counter is then as before.
+    pub fn commit<C: Cells>(&mut self, cells: &mut C, freshness: u64) -> Result<(), PutFailed>
+        requires whole { (C.state cells.old).broken ≡ false }
+        requires kept { KeepsBound (C.state cells.old).cells self.old.place self.old.id Receives self.old.bound }
+        requires above { self.old.counter < freshness }
+        ensures counted { OnOk result (let change = change_of_receiver self.old.bound self.old.reserve freshness
+            in self.new ≡ record self.old { counter = freshness; bound = unwrap_or change self.old.bound }) }
+        ensures covered { OnOk result (freshness ≤ self.new.bound) }
+        ensures made { OnOk result (let change = change_of_receiver self.old.bound self.old.reserve freshness
+            in MakesChange self.old.place self.old.id Receives change (C.state cells.old) (C.state cells.new)) }
+        ensures faults { OnOk result ((C.state cells.new).disk.faults ≡ (C.state cells.old).disk.faults) }
+        ensures whole { OnOk result ((C.state cells.new).broken ≡ false) }
+        ensures failed { OnErr result (let change = change_of_receiver self.old.bound self.old.reserve freshness
+            in FailsChange self.old.place self.old.id Receives change (C.state cells.old) (C.state cells.new)) }
+        ensures as_before { OnErr result (self.new ≡ self.old) }
+        ensures kept { KeepsBound (C.state cells.new).cells self.new.place self.new.id Receives self.new.bound }
+        ensures runs { Runs [] 6 (C.state cells.old).disk (C.state cells.new).disk }
+    {
+        let change = receiver_change(self.bound, self.reserve, freshness);
+        match put_change(cells, self.place, self.id, Direction::Receives, change) {
+            Ok(()) => {
+                self.bound = change.unwrap_or(self.bound);
+                self.counter = freshness;
+                Ok(())
+            }
+            Err(failed) => Err(failed),
+        }
+    }
+}

@@ -1,0 +1,124 @@
+//! The counter of a route that sends.
+ghost use Rattle.std.specs.Prelude.{◌≡◌, ◌≤◌};
+
+use crate::changing::put_change;
+use cell_store::{Cells, PutFailed};
+use freshness_routes::sender_change;
+use freshness_store::Direction;
+use std::marker::Model;
+
+/// Why a sender has no freshness.
+#[derive(Clone, Copy, Debug, PartialEq, Eq, Drop)]
+pub enum TxFault {
+    /// The counter is 2^64 - 1, the last freshness.
+    Exhausted,
+    /// The bound could not be put.
+    PutFailed,
+}
+
+/// The counter of a route that sends, with its bound. Contracts see the record of its place, Data ID,
+/// reserve, counter and bound. The counter is at most the bound.
+#[derive(Debug, Drop)]
+pub struct Tx {
+    place: u16,
+    id: u16,
+    reserve: u16,
+    counter: u64,
+    bound: u64,
+}
+
+impl Model for Tx {
+    ghost use Rattle.freshness_manager.specs.Counters.{SenderCounter, IsReserved};
+
+    ghost Value = { SenderCounter };
+
+    ghost view = { λ t. record { place = t.place; id = t.id; reserve = t.reserve; counter = t.counter; bound = t.bound } };
+
+    ghost invariant = { λ t. IsReserved t.reserve t.counter t.bound };
+}
+
+impl Tx {
+    ghost use Rattle.std.specs.Prelude.{◌≡◌, ◌+◌, ◌≤◌, ◌↔◌, [], unwrap_or, false, Ok, IfOk, OnOk, OnErr, IsErrOf};
+    ghost use Rattle.cut_disk.specs.Calls.{Runs};
+    ghost use Rattle.freshness_routes.specs.declared.routes.Direction.TheVariants.{Sends};
+    ghost use Rattle.freshness_routes.specs.Changes.{last_freshness, sender_change as change_of_sender};
+    ghost use Rattle.freshness_manager.specs.Counters.{KeepsBound};
+    ghost use Rattle.freshness_manager.specs.Changing.{MakesChange, FailsChange};
+
+    /// The counter of the route with this Data ID, whose bound is kept in the cell at this place. It
+    /// begins at the bound. The reserve is 1 to 128.
+    pub fn restore(place: u16, id: u16, reserve: u16, bound: u64) -> Tx
+        requires least { 1 ≤ reserve }
+        requires most { reserve ≤ 128 }
+        ensures { result ≡ record { place = place; id = id; reserve = reserve; counter = bound; bound = bound } }
+    {
+        Tx {
+            place,
+            id,
+            reserve,
+            counter: bound,
+            bound,
+        }
+    }
+
+    /// The last freshness that was used, at most the bound.
+    pub fn counter(&self) -> u64
+        ensures value { result ≡ self.now.counter }
+        ensures bounded { result ≤ self.now.bound }
+    {
+        self.counter
+    }
+
+    /// The bound that the store keeps.
+    pub fn bound(&self) -> u64
+        ensures { result ≡ self.now.bound }
+    {
+        self.bound
+    }
+
+    /// How far the bound moves ahead, 1 to 128.
+    pub fn reserve(&self) -> u16
+        ensures value { result ≡ self.now.reserve }
+        ensures least { 1 ≤ result }
+        ensures most { result ≤ 128 }
+    {
+        self.reserve
+    }
+
+    /// The freshness above the counter, which becomes the counter. Where it is above the bound, the
+    /// bound moves ahead in the store first; where it isn't, nothing is read or written. Errors:
+    /// `Exhausted` exactly where the counter is 2^64 - 1, before anything is read or written, and
+    /// `PutFailed` where the bound could not be put. After either the counter is as before.
+    pub fn next<C: Cells>(&mut self, cells: &mut C) -> Result<u64, TxFault>
+        requires whole { (C.state cells.old).broken ≡ false }
+        requires kept { KeepsBound (C.state cells.old).cells self.old.place self.old.id Sends self.old.bound }
+        ensures next { IfOk result (λ v. v ≡ self.old.counter + 1) }
+        ensures counted { OnOk result (let change = change_of_sender self.old.counter self.old.bound self.old.reserve
+            in self.new ≡ record self.old { counter = self.old.counter + 1; bound = unwrap_or change self.old.bound }) }
+        ensures covered { IfOk result (λ v. v ≤ self.new.bound) }
+        ensures made { OnOk result (let change = change_of_sender self.old.counter self.old.bound self.old.reserve
+            in MakesChange self.old.place self.old.id Sends change (C.state cells.old) (C.state cells.new)) }
+        ensures faults { OnOk result ((C.state cells.new).disk.faults ≡ (C.state cells.old).disk.faults) }
+        ensures whole { OnOk result ((C.state cells.new).broken ≡ false) }
+        ensures exhausted { IsErrOf result TxFault.Exhausted ↔ self.old.counter ≡ last_freshness }
+        ensures untouched { IsErrOf result TxFault.Exhausted → C.state cells.new ≡ C.state cells.old }
+        ensures failed { IsErrOf result TxFault.PutFailed → (let change = change_of_sender self.old.counter self.old.bound self.old.reserve
+            in FailsChange self.old.place self.old.id Sends change (C.state cells.old) (C.state cells.new)) }
+        ensures as_before { OnErr result (self.new ≡ self.old) }
+        ensures kept { KeepsBound (C.state cells.new).cells self.new.place self.new.id Sends self.new.bound }
+        ensures runs { Runs [] 6 (C.state cells.old).disk (C.state cells.new).disk }
+    {
+        let Some(freshness) = self.counter.checked_add(1) else {
+            return Err(TxFault::Exhausted);
+        };
+        let change = sender_change(self.counter, self.bound, self.reserve);
+        match put_change(cells, self.place, self.id, Direction::Sends, change) {
+            Ok(()) => {
+                self.bound = change.unwrap_or(self.bound);
+                self.counter = freshness;
+                Ok(freshness)
+            }
+            Err(PutFailed) => Err(TxFault::PutFailed),
+        }
+    }
+}

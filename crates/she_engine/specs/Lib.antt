@@ -1,0 +1,2 @@
+pub mod Boots
+pub mod Loads
