@@ -1,7 +1,7 @@
 -- What the calls from C take, and what they answer
 use Rattle.std.specs.Prelude.{◌≡◌, ℕ, ◌+◌, ◌/◌, ◌%◌, ◌≤◌, List, length}
 use Rattle.std.specs.Simd.{first_chunks}
-use Rattle.secured_pdu.specs.Frame.{IsPayload, IsFrame, IsWindow}
+use Rattle.secured_pdu.specs.Frame.{IsPayload, IsFrame}
 use Rattle.secured_pdu.specs.Verdict.{Outcome, Accepted, FreshnessFailure, VerificationFailure}
 use Rattle.rathonsi_c.specs.declared.TheConstants.{OK, FRESHNESS_FAILURE, VERIFICATION_FAILURE}
 use Rattle.rathonsi_c.specs.declared.secoc.RathonsiVerdict.{RathonsiVerdict}

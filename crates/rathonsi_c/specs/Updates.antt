@@ -16,16 +16,16 @@ pub record IsSendable (u : RathonsiUpdate) : Type 0 where
   pub flags_fit : u.flags < 32
 
 -- the update that a struct is
-abbrev pub update_of : RathonsiUpdate → Update
-update_of u = record { uid = u.uid; id = u.id; auth = u.auth; counter = u.counter; flags = flags_from u.flags; key = u.key }
+abbrev pub as_update : RathonsiUpdate → Update
+as_update u = record { uid = u.uid; id = u.id; auth = u.auth; counter = u.counter; flags = flags_from u.flags; key = u.key }
 
 -- M1, M2 and M3
-abbrev pub request_of : RathonsiRequest → Request
-request_of r = record { m1 = r.m1; m2 = r.m2; m3 = r.m3 }
+abbrev pub as_request : RathonsiRequest → Request
+as_request r = record { m1 = r.m1; m2 = r.m2; m3 = r.m3 }
 
 -- M4 and M5
-abbrev pub reply_of : RathonsiReply → Reply
-reply_of r = record { m4 = r.m4; m5 = r.m5 }
+abbrev pub as_reply : RathonsiReply → Reply
+as_reply r = record { m4 = r.m4; m5 = r.m5 }
 
 -- KEY_UPDATE_ENC_C is 1, and KEY_UPDATE_MAC_C is 2
 abbrev pub IsConstant : ℕ → Type 0

@@ -4,7 +4,7 @@ ghost use Rattle.she_kdf.specs.Derivation.{kdf};
 ghost use Rattle.she_kdf.specs.declared.Constant.TheVariants.{Enc, Mac};
 ghost use Rattle.memory_update.specs.Messages.{request_mac, Builds, Carries, Confirms, HasSlots};
 ghost use Rattle.rathonsi_c.specs.Calls.{IsKey};
-ghost use Rattle.rathonsi_c.specs.Updates.{IsSendable, IsConstant, update_of, request_of, reply_of};
+ghost use Rattle.rathonsi_c.specs.Updates.{IsSendable, IsConstant, as_update, as_request, as_reply};
 
 use crate::keys::key_of;
 use crate::{BAD_ID, BAD_LENGTH, BAD_MAC, BAD_VALUE, OK};
@@ -89,7 +89,7 @@ pub extern "C" fn rathonsi_she_make_update(
     ensures done { (result ≡ OK) ↔ (IsKey authkey.now × IsSendable update.now) }
     ensures bad_length { (result ≡ BAD_LENGTH) ↔ ¬ IsKey authkey.now }
     ensures bad_value { (result ≡ BAD_VALUE) ↔ (IsKey authkey.now × ¬ IsSendable update.now) }
-    ensures built { result ≡ OK → Builds (request_of request.new) authkey.now (update_of update.now) }
+    ensures built { result ≡ OK → Builds (as_request request.new) authkey.now (as_update update.now) }
     ensures unchanged { result ≢ OK → request.new ≡ request.old }
 {
     let Some(authkey) = key_of(authkey) else {
@@ -116,7 +116,7 @@ pub extern "C" fn rathonsi_she_read_update(
     ensures bad_id { (result ≡ BAD_ID) ↔ (IsKey authkey.now × ¬ HasSlots request.now.m1) }
     ensures bad_mac { (result ≡ BAD_MAC) ↔ (IsKey authkey.now × HasSlots request.now.m1
         × (request.now.m3 ≢ request_mac authkey.now request.now.m1 request.now.m2)) }
-    ensures carried { result ≡ OK → Carries (request_of request.now) authkey.now (update_of update.new) }
+    ensures carried { result ≡ OK → Carries (as_request request.now) authkey.now (as_update update.new) }
     ensures sendable { result ≡ OK → IsSendable update.new }
     ensures unchanged { result ≢ OK → update.new ≡ update.old }
 {
@@ -143,7 +143,7 @@ pub extern "C" fn rathonsi_she_confirm(
 ) -> i32
     ensures done { (result ≡ OK) ↔ IsSendable update.now }
     ensures bad_value { (result ≡ BAD_VALUE) ↔ ¬ IsSendable update.now }
-    ensures confirms { result ≡ OK → Confirms (reply_of reply.new) (update_of update.now) uid.now }
+    ensures confirms { result ≡ OK → Confirms (as_reply reply.new) (as_update update.now) uid.now }
     ensures unchanged { result ≢ OK → reply.new ≡ reply.old }
 {
     let Some(update) = read_struct(update) else {
@@ -156,7 +156,7 @@ pub extern "C" fn rathonsi_she_confirm(
 // The update that the struct is; of numbers outside their ranges there is none.
 fn read_struct(update: &RathonsiUpdate) -> Option<Update>
     ensures none { IfNone result (¬ IsSendable update.now) }
-    ensures some { IfSome result (λ u. IsSendable update.now × (u ≡ update_of update.now)) }
+    ensures some { IfSome result (λ u. IsSendable update.now × (u ≡ as_update update.now)) }
 {
     if update.flags >= 32 {
         return None;
@@ -173,7 +173,7 @@ fn read_struct(update: &RathonsiUpdate) -> Option<Update>
 
 // The struct of an update.
 fn update_struct(update: &Update) -> RathonsiUpdate
-    ensures value { update_of result ≡ update.now }
+    ensures value { as_update result ≡ update.now }
     ensures sendable { IsSendable result }
 {
     RathonsiUpdate {
@@ -188,7 +188,7 @@ fn update_struct(update: &Update) -> RathonsiUpdate
 
 // M1, M2 and M3 of the struct.
 fn read_request(request: &RathonsiRequest) -> Request
-    ensures { result ≡ request_of request.now }
+    ensures { result ≡ as_request request.now }
 {
     let [first, second] = request.m2;
     Request {
@@ -200,7 +200,7 @@ fn read_request(request: &RathonsiRequest) -> Request
 
 // The struct of M1, M2 and M3.
 fn request_struct(request: &Request) -> RathonsiRequest
-    ensures { request_of result ≡ request.now }
+    ensures { as_request result ≡ request.now }
 {
     let [first, second] = &request.m2;
     RathonsiRequest {
@@ -212,7 +212,7 @@ fn request_struct(request: &Request) -> RathonsiRequest
 
 // The struct of M4 and M5.
 fn reply_struct(reply: &Reply) -> RathonsiReply
-    ensures { reply_of result ≡ reply.now }
+    ensures { as_reply result ≡ reply.now }
 {
     let [first, second] = &reply.m4;
     RathonsiReply {
