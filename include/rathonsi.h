@@ -3,8 +3,8 @@
  * Hardware Extensions (SHE), as a static library.
  *
  * Each function is an export of the crate rathonsi_c, whose contract is proved: for all arguments its result is the one that the
- * standard's definition gives, a status comes exactly where it is said below, and with a status other than RATHONSI_OK nothing is
- * written. Where it is RATHONSI_OK, nothing is written outside the output. The library takes no memory, keeps no state and has no
+ * standard's definition gives, a status comes exactly where it is said below, and with a status other than RATHONSI_OK every output is
+ * as before. Where it is RATHONSI_OK, nothing is written outside the output. The library takes no memory, keeps no state and has no
  * writable data: its functions may run at the same time in any number of threads, each on memory of its own.
  *
  * What the caller owes, since nothing can check it:

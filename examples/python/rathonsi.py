@@ -66,6 +66,13 @@ def _told(status):
         raise Refused(status)
 
 
+def _number(value, bits):
+    """The number, or a refusal where it has more bits: ctypes would drop them."""
+    if not 0 <= value < 1 << bits:
+        raise Refused(BAD_VALUE)
+    return value
+
+
 def _in_place(call, key, text, *iv):
     buffer = ctypes.create_string_buffer(text, len(text) + 1)
     _told(call(key, len(key), *iv, buffer, len(text)))
@@ -102,19 +109,19 @@ def cmac(key, message):
 
 def secoc_protect(key, data_id, freshness, payload):
     pdu = ctypes.create_string_buffer(64)
-    _told(_protect(key, len(key), data_id, freshness, payload, len(payload), pdu, 64))
+    _told(_protect(key, len(key), _number(data_id, 16), _number(freshness, 64), payload, len(payload), pdu, 64))
     return pdu.raw[:len(payload) + 4]
 
 
 def secoc_protect_in_place(key, data_id, freshness, payload):
     pdu = ctypes.create_string_buffer(payload, max(64, len(payload) + 4))
-    _told(_protect_in_place(key, len(key), data_id, freshness, pdu, len(pdu), len(payload)))
+    _told(_protect_in_place(key, len(key), _number(data_id, 16), _number(freshness, 64), pdu, len(pdu), len(payload)))
     return pdu.raw[:len(payload) + 4]
 
 
 def secoc_verify(key, data_id, counter, window, pdu):
     """The payload and the freshness of an accepted PDU."""
-    verdict = _verify(key, len(key), data_id, counter, window, pdu, len(pdu))
+    verdict = _verify(key, len(key), _number(data_id, 16), _number(counter, 64), _number(window, 16), pdu, len(pdu))
     _told(verdict.status)
     return pdu[:verdict.payload_length], verdict.freshness
 

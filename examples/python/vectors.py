@@ -52,7 +52,10 @@ def pdus():
         refused(rathonsi.FRESHNESS_FAILURE, rathonsi.secoc_verify, KEY, 0x6BC1, freshness - 256, 255, pdu)
         refused(rathonsi.VERIFICATION_FAILURE, rathonsi.secoc_verify, KEY, 0x6BC2, freshness - 1, 256, pdu)
         refused(rathonsi.BAD_VALUE, rathonsi.secoc_verify, KEY, 0x6BC1, freshness - 1, 257, pdu)
+        refused(rathonsi.BAD_VALUE, rathonsi.secoc_verify, KEY, 0x6BC1, freshness - 1, 65537, pdu)
     refused(rathonsi.BAD_LENGTH, rathonsi.secoc_protect, KEY, 0x6BC1, 1, b"")
+    refused(rathonsi.BAD_VALUE, rathonsi.secoc_protect, KEY, 0x6BC1, 1 << 64, b"\x01")
+    refused(rathonsi.BAD_VALUE, rathonsi.secoc_protect, KEY, 0x16BC1, 1, b"\x01")
     refused(rathonsi.BAD_LENGTH, rathonsi.secoc_protect, KEY, 0x6BC1, 1, bytes(61))
     refused(rathonsi.BAD_LENGTH, rathonsi.secoc_protect_in_place, KEY, 0x6BC1, 1, bytes(61))
 
@@ -123,7 +126,9 @@ def main():
     key_update()
     for folder in sys.argv[1:] or ["/usr/lib/python3/dist-packages/cryptography_vectors"]:
         if os.path.isdir(folder):
-            print(f"{known_answers(folder)} vectors of NIST, each direction")
+            count = known_answers(folder)
+            same(count, 1180, "NIST's vectors that were tried")
+            print(f"{count} vectors of NIST, each direction")
         else:
             print(f"skipped: NIST's known answers, since there is no {folder}")
     print(f"{compared} comparisons, {failed} failures")

@@ -1,13 +1,14 @@
--- From the first world of a bus on
-use Rattle.std.specs.Prelude.{◌≡◌, ℕ, ◌<◌, None, List, [], ◌∷◌, length, zero, suc}
-use Rattle.std.proofs.Common.{refl, subst}
-use Rattle.std.proofs.lemmas.List.{length-map}
+-- First worlds
+use Rattle.std.specs.Prelude.{◌≡◌, ℕ, ◌<◌, true, None, List, [], ◌∷◌, length, zero, suc}
+use Rattle.std.proofs.Common.{refl, subst, ap, inl, inr}
+use Rattle.std.proofs.lemmas.Bool.{cases_lt}
+use Rattle.std.proofs.lemmas.List.{length-map, get_or_past}
 use Rattle.freshness_routes.specs.declared.routes.Direction.TheVariants.{Sends}
 use Rattle.freshness_routes.specs.Config.{Config}
 use Rattle.bus_machine.specs.Node.{first_node, HasRoute}
-use Rattle.bus_machine.specs.Bus.{First, IsBus, node_at, SoundBus}
+use Rattle.bus_machine.specs.Bus.{World, First, IsBus, node_at, no_config, SoundBus}
 use Rattle.bus_laws.proofs.BusSteps.{Sound-first, first_at}
-use Rattle.bus_laws.proofs.Rising.{OneSender}
+use Rattle.bus_laws.specs.Laws.{IsFirst, OneSender}
 
 pub sound_first : (bus : List Config) → IsBus bus → SoundBus (First bus)
 sound_first bus is = Sound-first bus is.configs
@@ -20,7 +21,28 @@ one_sender bus is i j id fits fits' r r' =
     (subst (λ n. HasRoute n id Sends) (first_at bus i a) r)
     (subst (λ n. HasRoute n id Sends) (first_at bus j b) r')
 
-pub calm : (bus : List Config) (i : ℕ) → (node_at (First bus) i).pending ≡ None
-calm [] i = refl
-calm (c ∷ cs) zero = refl
-calm (c ∷ cs) (suc i) = calm cs i
+first_up : (bus : List Config) (i : ℕ) → (node_at (First bus) i).up ≡ true
+first_up [] i = refl
+first_up (c ∷ cs) zero = refl
+first_up (c ∷ cs) (suc i) = first_up cs i
+
+first_at_bounds : (bus : List Config) (i : ℕ) → (node_at (First bus) i).counters ≡ (node_at (First bus) i).kept.bounds
+first_at_bounds [] i = refl
+first_at_bounds (c ∷ cs) zero = refl
+first_at_bounds (c ∷ cs) (suc i) = first_at_bounds cs i
+
+pub is_first : (bus : List Config) → IsBus bus → IsFirst (First bus)
+is_first bus is = record {
+  no_event = refl;
+  nothing_sent = refl;
+  sound = sound_first bus is;
+  up = λ i inside. first_up bus i;
+  at_bounds = λ i inside. first_at_bounds bus i;
+}
+
+-- in a first world no node has a change pending
+pub calm : (start : World) (i : ℕ) → IsFirst start → (node_at start i).pending ≡ None
+calm start i first = elim (cases_lt i (length start.nodes)) [
+  | inl inside ↦ (first.sound i inside).settled (first.up i inside)
+  | inr past ↦ ap (λ node. node.pending) (get_or_past start.nodes i (first_node no_config) past)
+]

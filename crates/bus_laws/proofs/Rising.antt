@@ -4,6 +4,7 @@ use Rattle.std.proofs.Common.{refl, sym, ◌∙◌, ap, subst, arith, get_or-set
 use Rattle.freshness_routes.specs.declared.routes.Direction.{Direction}
 use Rattle.freshness_routes.specs.declared.routes.Direction.TheVariants.{Sends, Receives}
 use Rattle.machine_runs.specs.Run.{Run}
+use Rattle.bus_laws.specs.Laws.{OneSender}
 use Rattle.bus_machine.specs.declared.events.Event.{Event}
 use Rattle.bus_machine.specs.declared.lines.Line.{Line}
 use Rattle.bus_machine.specs.declared.lines.Line.TheVariants.{Sent, Accepted}
@@ -122,10 +123,6 @@ Rising-run start ms now s run =
     (λ m n after same. rises m.line n.line (after same)) ms (all_after start ms now Receives s run))
 
 -- ---- no freshness is sent twice
-
--- no Data ID is sent by two nodes
-abbrev pub OneSender : World → Type 0
-OneSender world = (i j id : ℕ) → i < length world.nodes → j < length world.nodes → HasRoute (node_at world i) id Sends → HasRoute (node_at world j) id Sends → i ≡ j
 
 abbrev pub SenderIn : World → Instant → Type 0
 SenderIn world m = (id v : ℕ) → Tells Sends m.line id v → (node_of m.command < length world.nodes) × HasRoute (node_at world (node_of m.command)) id Sends

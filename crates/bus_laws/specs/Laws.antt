@@ -1,25 +1,42 @@
--- The laws of all runs from the first world of a bus, as statements
-use Rattle.std.specs.Prelude.{◌≡◌, ◌≢◌, ℕ, None, List, [], ◌∷◌, All}
+-- The laws of all runs from a first world, as statements
+use Rattle.std.specs.Prelude.{◌≡◌, ◌≢◌, ℕ, ◌<◌, true, None, List, [], ◌∷◌, All, length}
 use Rattle.freshness_routes.specs.Config.{Config}
-use Rattle.machine_runs.specs.Run.{commands_in}
+use Rattle.freshness_routes.specs.declared.routes.Direction.TheVariants.{Sends}
+use Rattle.machine_runs.specs.Run.{Run, commands_in}
 use Rattle.bus_machine.specs.declared.events.Event.{Event}
 use Rattle.bus_machine.specs.declared.events.Event.TheVariants.{Deliver, Cut}
 use Rattle.bus_machine.specs.declared.lines.Line.{Line}
 use Rattle.bus_machine.specs.declared.lines.Line.TheVariants.{Up, Refused}
 use Rattle.bus_machine.specs.declared.lines.Refusal.TheVariants.{MemoryFailure}
-use Rattle.bus_machine.specs.Node.{Node}
+use Rattle.bus_machine.specs.Node.{Node, HasRoute}
 use Rattle.bus_machine.specs.Sound.{Sound}
 use Rattle.bus_machine.specs.Steps.{Act, NodeStep}
-use Rattle.bus_machine.specs.Bus.{World, SentLine, First, node_of, Instant, Moments, BusRun, IsBus, Step, node_at, SoundBus}
+use Rattle.bus_machine.specs.Bus.{World, SentLine, First, node_of, Instant, Moments, IsBus, Step, node_at, SoundBus}
 use Rattle.bus_machine.specs.Freshness.{Rising, Single, AllCovered}
 use Rattle.bus_machine.specs.Authentic.{Authentic}
 use Rattle.bus_machine.specs.KeysKept.{KeysKept}
 use Rattle.bus_machine.specs.Skips.{SkipsLittle}
 use Rattle.bus_machine.specs.Honest.{HonestDelivery, IsHeard}
 
--- each run from the first world of a bus has this
-abbrev pub EachRun : (List Config → Moments → World → Type 0) → Type 0
-EachRun Claim = (bus : List Config) (ms : Moments) (last : World) → IsBus bus → BusRun bus ms last → Claim bus ms last
+-- a first world: no event and no sent line yet, and each node sound and up, with its counters at its bounds
+pub record IsFirst (world : World) : Type 0 where
+  pub no_event : world.events ≡ 0
+  pub nothing_sent : world.sent ≡ []
+  pub sound : SoundBus world
+  pub up : (i : ℕ) → i < length world.nodes → (node_at world i).up ≡ true
+  pub at_bounds : (i : ℕ) → i < length world.nodes → (node_at world i).counters ≡ (node_at world i).kept.bounds
+
+-- no Data ID is sent by two nodes
+abbrev pub OneSender : World → Type 0
+OneSender world = (i j id : ℕ) → i < length world.nodes → j < length world.nodes → HasRoute (node_at world i) id Sends → HasRoute (node_at world j) id Sends → i ≡ j
+
+-- the first world of a bus is one, with one sender
+abbrev pub BusesBeginFirst : Type 0
+BusesBeginFirst = (bus : List Config) → IsBus bus → IsFirst (First bus) × OneSender (First bus)
+
+-- each run from a first world has this
+abbrev pub EachRun : (World → Moments → World → Type 0) → Type 0
+EachRun Claim = (start : World) (ms : Moments) (last : World) → IsFirst start → Run Step start ms last → Claim start ms last
 
 -- ---- the invariants
 
@@ -27,32 +44,32 @@ abbrev pub StepsKeepSound : Type 0
 StepsKeepSound = (node : Node) (act : Act) (line : Line) (after : Node) → Sound node → NodeStep node act line after → Sound after
 
 abbrev pub RunsAreSound : Type 0
-RunsAreSound = EachRun (λ bus ms last. SoundBus last)
+RunsAreSound = EachRun (λ start ms last. SoundBus last)
 
 abbrev pub RunsAreCovered : Type 0
-RunsAreCovered = EachRun (λ bus ms last. AllCovered ms last)
+RunsAreCovered = EachRun (λ start ms last. AllCovered ms last)
 
 -- ---- the four theorems
 
 abbrev pub RunsRise : Type 0
-RunsRise = EachRun (λ bus ms last. Rising ms)
+RunsRise = EachRun (λ start ms last. Rising ms)
 
 abbrev pub RunsAreAuthentic : Type 0
-RunsAreAuthentic = EachRun (λ bus ms last. Authentic (First bus) ms)
+RunsAreAuthentic = EachRun (λ start ms last. Authentic start ms)
 
 abbrev pub RunsAreSingle : Type 0
-RunsAreSingle = EachRun (λ bus ms last. Single ms)
+RunsAreSingle = EachRun (λ start ms last. OneSender start → Single ms)
 
 abbrev pub RunsKeepKeys : Type 0
-RunsKeepKeys = EachRun (λ bus ms last. KeysKept (First bus) ms)
+RunsKeepKeys = EachRun (λ start ms last. KeysKept start ms)
 
 -- ---- cuts and honest PDUs
 
 abbrev pub CutsSkipLittle : Type 0
-CutsSkipLittle = EachRun (λ bus ms last. (m : Instant) → Step last m.command m.line m.after → SkipsLittle (First bus) ms last m)
+CutsSkipLittle = EachRun (λ start ms last. (m : Instant) → Step last m.command m.line m.after → SkipsLittle start ms last m)
 
 abbrev pub HonestIsHeard : Type 0
-HonestIsHeard = EachRun (λ bus ms last. (i number : ℕ) (line : Line) (after : World) (s : SentLine)
+HonestIsHeard = EachRun (λ start ms last. (i number : ℕ) (line : Line) (after : World) (s : SentLine)
     → HonestDelivery last (node_at last i) number s → Step last (Deliver i number) line after → IsHeard s line)
 
 -- ---- what is determined
@@ -70,7 +87,7 @@ Alike before _ _ = ⊥
 
 -- the lines and these choices determine every world of a run
 abbrev pub LinesDetermineWorlds : Type 0
-LinesDetermineWorlds = EachRun (λ bus ms last. (ns : Moments) (other : World) → BusRun bus ns other → Alike (First bus) ms ns → ms ≡ ns)
+LinesDetermineWorlds = EachRun (λ start ms last. (ns : Moments) (other : World) → Run Step start ns other → Alike start ms ns → ms ≡ ns)
 
 -- the event is no cut
 abbrev pub NoCut : Event → Type 0
@@ -87,5 +104,5 @@ IsCalm = All (λ m. NoCut m.command × NoFailure m.line)
 
 -- without cuts and failures the events determine every line and every world
 abbrev pub EventsDetermineLines : Type 0
-EventsDetermineLines = EachRun (λ bus ms last. (ns : Moments) (other : World) → BusRun bus ns other
+EventsDetermineLines = EachRun (λ start ms last. (ns : Moments) (other : World) → Run Step start ns other
     → commands_in ms ≡ commands_in ns → IsCalm ms → IsCalm ns → ms ≡ ns)

@@ -1,5 +1,10 @@
-//! Each function has an empty body, and its contract is the law.
-ghost use Rattle.bus_laws.specs.Laws.{StepsKeepSound, RunsAreSound, RunsAreCovered, RunsRise, RunsAreAuthentic, RunsAreSingle, RunsKeepKeys, CutsSkipLittle, HonestIsHeard, LinesDetermineWorlds, EventsDetermineLines};
+//! Each function has an empty body, and its contract is the law. A run begins at any first world, as that of a bus is.
+ghost use Rattle.bus_laws.specs.Laws.{BusesBeginFirst, StepsKeepSound, RunsAreSound, RunsAreCovered, RunsRise, RunsAreAuthentic, RunsAreSingle, RunsKeepKeys, CutsSkipLittle, HonestIsHeard, LinesDetermineWorlds, EventsDetermineLines};
+
+/// The first world of a bus is a first world, in which no Data ID is sent by two nodes.
+pub fn buses_begin_first()
+    ensures { BusesBeginFirst }
+{}
 
 /// A step keeps a node sound: counters within their bounds, slots as the code has them, and a pending change that
 /// moves forward what is kept.
@@ -28,7 +33,7 @@ pub fn runs_are_authentic()
     ensures { RunsAreAuthentic }
 {}
 
-/// Freshness sent under one Data ID strictly rises.
+/// Freshness sent under one Data ID strictly rises, where no two nodes send it.
 pub fn no_freshness_is_sent_twice()
     ensures { RunsAreSingle }
 {}
@@ -39,7 +44,8 @@ pub fn keys_are_kept()
     ensures { RunsKeepKeys }
 {}
 
-/// A cut lets a sender skip at most its reserve, and a receiver less than its reserve.
+/// A cut lets a sender skip at most its reserve, and a receiver less than its reserve, counted from its counter or from
+/// the freshness of the PDU whose call failed.
 pub fn cuts_skip_little()
     ensures { CutsSkipLittle }
 {}
@@ -49,7 +55,7 @@ pub fn honest_pdus_are_accepted()
     ensures { HonestIsHeard }
 {}
 
-/// The lines of a run, and what a node kept at each cut that found a change pending, determine every world.
+/// The events and lines of a run, and what a node kept at each cut that found a change pending, determine every world.
 pub fn lines_determine_worlds()
     ensures { LinesDetermineWorlds }
 {}
