@@ -16,7 +16,7 @@ mod tests;
 mod texts;
 
 ghost use Rattle.std.specs.Prelude.{◌≡◌, ◌⊎◌, drop, map, string_bytes};
-ghost use Rattle.keytool.specs.Answers.{IsRefused};
+ghost use Rattle.keytool.specs.Answers.{IsRefused, NamesSome};
 
 use crate::run::run_key;
 use bus_port::{StdSink, StdSource};
@@ -70,6 +70,7 @@ fn texts_of(alloc: Global, texts: &[&str]) -> Result<Vec<String>, AllocError> {
 fn start(rt: &HostRuntime, words: &[String]) -> u8
     ensures usage { result ≡ 2 → IsRefused (drop 1 (map string_bytes words.now)) }
     ensures usage_only { IsRefused (drop 1 (map string_bytes words.now)) → (result ≡ 2) ⊎ (result ≡ 6) ⊎ (result ≡ 7) }
+    ensures no_memory { result ≡ 7 → NamesSome (drop 1 (map string_bytes words.now)) }
 {
     let alloc = rt.alloc();
     let mut disks: Vec<MemDisk> = Vec::new(alloc);
