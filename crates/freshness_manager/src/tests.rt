@@ -143,7 +143,11 @@ fn sends<C: CutCells>(rt: &impl Abort, cells: &mut C) -> Result<(), Fail>
     assert_eq!(rt; tx.counter(), 0xe93d7e117393172d);
     cells.power_cut(Torn::Keep)?;
     let mut tx = sender_in(cells, 4)?;
-    gives(rt, &mut tx, cells, 0xe93d7e117393172e, 0xe93d7e1173931731)
+    gives(rt, &mut tx, cells, 0xe93d7e117393172e, 0xe93d7e1173931731)?;
+    gives(rt, &mut tx, cells, 0xe93d7e117393172f, 0xe93d7e1173931731)?;
+    gives(rt, &mut tx, cells, 0xe93d7e1173931730, 0xe93d7e1173931731)?;
+    gives(rt, &mut tx, cells, 0xe93d7e1173931731, 0xe93d7e1173931731)?;
+    gives(rt, &mut tx, cells, 0xe93d7e1173931732, 0xe93d7e1173931735)
 }
 
 /// From the bound 100 on with a reserve of 8.
@@ -166,7 +170,9 @@ fn receives<C: CutCells>(rt: &impl Abort, cells: &mut C) -> Result<(), Fail>
     assert_eq!(rt; rx.counter(), 112);
     cells.power_cut(Torn::Keep)?;
     let mut rx = receiver_in(cells, 8, 256)?;
-    accepts(rt, &mut rx, cells, 113, 120)
+    accepts(rt, &mut rx, cells, 113, 120)?;
+    accepts(rt, &mut rx, cells, 120, 120)?;
+    accepts(rt, &mut rx, cells, 121, 128)
 }
 
 /// The last freshness, from the bound 2^64 - 2 on with a reserve of 128.
