@@ -10,7 +10,8 @@ ghost use Rattle.cell_store.specs.declared.kinds.Version.TheVariants.{Two};
 ghost use Rattle.cell_store.specs.Store.{FewCells, store_size};
 ghost use Rattle.cell_store.specs.Formats.{Formats, LeavesUnformed};
 ghost use Rattle.cell_store.specs.Attaching.{Attached, NotAttached, NotFormed, Probed, NotProbed};
-ghost use Rattle.any_cells.specs.Either.{layout, reads, reads_to, format_calls, any_state};
+ghost use Rattle.cell_store.specs.ReadOrder.{reads, reads_to};
+ghost use Rattle.any_cells.specs.Either.{layout, format_calls, any_state};
 
 use cell_store::{
     Cells, CutCells, Kind, LogCells, Probe, PutFailed, Refused, Reread, StoreFault, TwinCells,

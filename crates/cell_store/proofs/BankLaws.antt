@@ -1,7 +1,7 @@
 -- What a bank is that was written whole, and what a put that fills the bank that doesn't count leaves.
-use Rattle.std.proofs.Common.{◌≡◌, ℕ, suc, ◌+◌, ◌*◌, ◌-◌, ◌<◌, ◌≤◌, ◌⊎◌, inl, inr, true, false, eqb, List, [], ◌∷◌, ◌++◌, length, take, drop, set, get_or, replicate, refl, sym, ap, subst, ◌∙◌, arith, rules, length-append}
+use Rattle.std.proofs.Common.{◌≡◌, ℕ, suc, ◌+◌, ◌*◌, ◌-◌, ◌<◌, ◌≤◌, ◌⊎◌, inl, inr, true, false, eqb, List, [], ◌∷◌, ◌++◌, length, drop, set, get_or, replicate, refl, sym, ap, subst, ◌∙◌, arith, rules, length-append}
 use Rattle.std.specs.List.{flat_map}
-use Rattle.std.proofs.lemmas.List.{ext_get_or, get_or-replicate, get_or-append_right, get_or-drop, length-replicate, length-set, get_or-set_same, get_or-set_other, places, drop-drop, drop-append-le, take-append-le, take_at}
+use Rattle.std.proofs.lemmas.List.{ext_get_or, get_or-replicate, get_or-append_right, get_or-drop, length-replicate, length-set, get_or-set_same, get_or-set_other, places, drop-drop, drop-append-le, take-append-le}
 use Rattle.std.proofs.lemmas.List.FromFn.{get_or-map-range_with_len, length-map-range_with_len}
 use Rattle.std.proofs.lemmas.Bool.{cases_eq}
 use Rattle.cell_store.specs.declared.copies.Side.{Side}
@@ -9,10 +9,10 @@ use Rattle.cell_store.specs.declared.copies.Side.TheVariants.{First, Second}
 use Rattle.cell_store.specs.Layout.{part, SameOutside, header, log_layout}
 use Rattle.cell_store.proofs.LayoutLaws.{part-same, length-part, get_or-part}
 use Rattle.cell_store.specs.Twin.{is_live, mark, next, counts, live_copy}
-use Rattle.cell_store.proofs.TwinLaws.{counts-next, counts-beside_closed}
+use Rattle.cell_store.proofs.TwinLaws.{counts-next}
 use Rattle.cell_store.specs.Copies.{other}
 use Rattle.cell_store.proofs.CopiesLaws.{other-other}
-use Rattle.cell_store.specs.Log.{log_size, bank_at, bank_head, BankCounts, bank_cell, bank_cells, place_at, place, listed, Places, bank_rest, live_bank}
+use Rattle.cell_store.specs.Log.{log_size, bank_at, bank_head, BankCounts, bank_cell, bank_cells, place_at, place, bank_rest, live_bank}
 use Rattle.cell_store.proofs.LogLaws.{bank_bounds, listed-same}
 use Rattle.cell_store.specs.declared.kinds.Version.{Version}
 use Rattle.cell_store.specs.LogKept.{HoldsInBank}

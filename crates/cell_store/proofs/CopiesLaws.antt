@@ -1,13 +1,13 @@
 -- What a put of a cell leaves, at its end and before.
-use Rattle.std.proofs.Common.{◌≡◌, ◌≢◌, ℕ, suc, ◌+◌, ◌*◌, ◌≤◌, ◌⊎◌, inl, inr, true, false, Some, List, length, refl, sym, ap, subst, ◌∙◌, arith}
+use Rattle.std.proofs.Common.{◌≡◌, ◌≢◌, ℕ, suc, ◌+◌, ◌*◌, ◌≤◌, ◌⊎◌, inl, inr, true, Some, List, length, refl, sym, ap, subst, ◌∙◌, arith}
 use Rattle.std.proofs.lemmas.Bool.{cases_order}
 use Rattle.cell_store.specs.declared.copies.Side.{Side}
 use Rattle.cell_store.specs.declared.copies.Side.TheVariants.{First, Second}
 use Rattle.cell_store.specs.declared.copies.Held.{Held}
 use Rattle.cut_disk.specs.Images.{splice}
-use Rattle.cell_store.specs.Layout.{part, SameOutside}
+use Rattle.cell_store.specs.Layout.{SameOutside}
 use Rattle.cell_store.proofs.LayoutLaws.{part-same, part-splice, SameOutside-splice}
-use Rattle.cell_store.specs.Twin.{twin_size, is_live, mark, payload, next, counts, cell_of, cell_at, live_copy}
+use Rattle.cell_store.specs.Twin.{twin_size, mark, payload, next, counts, cell_of, cell_at, live_copy}
 use Rattle.cell_store.proofs.TwinLaws.{cell_of-first, cell_of-second, counts-beside_closed, counts-next}
 use Rattle.cell_store.specs.Copies.{other, side_at, copy, Keeps}
 use Rattle.cell_store.specs.Writing.{Unfinished}

@@ -1,11 +1,11 @@
 -- Laws of the writes of a fresh store, one after another.
-use Rattle.std.proofs.Common.{inl, inr, ◌≡◌, ℕ, true, subst, ◌+◌, ◌*◌, ◌<◌, ◌≤◌, Option, Some, None, List, [], ◌∷◌, ◌++◌, length, take, drop, get_or, replicate, refl, sym, ap, ◌∙◌, arith, length-append, length-drop}
+use Rattle.std.proofs.Common.{inl, inr, ◌≡◌, ℕ, true, subst, ◌+◌, ◌*◌, ◌<◌, ◌≤◌, Option, Some, None, List, [], ◌∷◌, ◌++◌, length, take, get_or, replicate, refl, sym, ap, ◌∙◌, arith}
 use Rattle.std.specs.List.{flat_map}
 use Rattle.std.proofs.lemmas.List.{append-nil, take_more, take_all, length-take-le, get_or-take}
 use Rattle.std.proofs.lemmas.List.Concat.{flat_map-append}
 use Rattle.std.proofs.lemmas.Option.{same_Some}
 use Rattle.cut_disk.specs.State.{Told, DiskState}
-use Rattle.cut_disk.specs.Images.{splice, firm, Writes, Syncs, Tears}
+use Rattle.cut_disk.specs.Images.{splice, firm, WritesLoose, Syncs, Tears}
 use Rattle.cut_disk.specs.Splices.{splice-beside, splice-apart, splice-splice, length-splice}
 use Rattle.cut_disk.specs.Calls.{Call, Runs}
 use Rattle.cut_disk.specs.CallLaws.{runs_none, runs_then}
@@ -13,7 +13,7 @@ use Rattle.cut_disk.specs.Lasting.{Lasts}
 use Rattle.cell_store.specs.declared.kinds.Kind.TheVariants.{Twin}
 use Rattle.cell_store.specs.declared.kinds.Version.{Version}
 use Rattle.cell_store.specs.declared.kinds.Layout.{Layout}
-use Rattle.cell_store.specs.Layout.{header, part, SameOutside, base, from_base, twin_layout}
+use Rattle.cell_store.specs.Layout.{header, part, SameOutside, base, twin_layout}
 use Rattle.cell_store.specs.Twin.{first_at, fresh_cell}
 use Rattle.cell_store.specs.Store.{Stands, Fresh, fresh_cells, fresh_store, store_size, size_from_base}
 use Rattle.cell_store.specs.Writing.{LeavesOutside}
@@ -64,7 +64,7 @@ splice_more b cells i x sized below room =
     ∙ splice-beside b (flat_map fresh_cell (take i cells)) (fresh_cell (get_or cells i [])) x (omega (arith, front, one))
     ∙ ap (λ pairs. splice b pairs x) (front_more cells i below)
 
-pub writes_same : (at new_at : ℕ) (bytes new_bytes : List ℕ) (old new : Option Told) → at ≡ new_at → bytes ≡ new_bytes → Writes at bytes old new → Writes new_at new_bytes old new
+pub writes_same : (at new_at : ℕ) (bytes new_bytes : List ℕ) (old new : Option Told) → at ≡ new_at → bytes ≡ new_bytes → WritesLoose at bytes old new → WritesLoose new_at new_bytes old new
 writes_same at new_at bytes new_bytes old new same_at same_bytes written = rw (← same_at, ← same_bytes) written
 
 pub lasts_same : (at : ℕ) (bytes new_bytes : List ℕ) (old new : Option Told) → bytes ≡ new_bytes → Lasts at bytes old new → Lasts at new_bytes old new
@@ -72,7 +72,7 @@ lasts_same at bytes new_bytes old new same lasts = rw (← same) lasts
 
 pub pairs_more : (version : Version) (cells : List (List ℕ)) (i address : ℕ) {start mid new : DiskState} → address ≡ base version + first_at i → Sized cells → i < length cells
     → ((t : Told) → start.told ≡ Some t → store_size (twin_layout version) (length cells) ≤ length t.bytes)
-    → PairsSoFar version cells i start mid → Call None mid new → Writes address (fresh_cell (get_or cells i [])) mid.told new.told → PairsSoFar version cells (i + 1) start new
+    → PairsSoFar version cells i start mid → Call None mid new → WritesLoose address (fresh_cell (get_or cells i [])) mid.told new.told → PairsSoFar version cells (i + 1) start new
 pairs_more version cells i address place sized below room before call written = record {
   runs = runs_then before.runs call;
   pairs = λ t is.

@@ -8,7 +8,7 @@ use Rattle.cell_store.specs.declared.kinds.Kind.TheVariants.{Twin}
 use Rattle.cell_store.specs.declared.kinds.Version.{Version}
 use Rattle.cell_store.specs.Layout.{part, base, from_base, header, twin_layout}
 use Rattle.cell_store.specs.Twin.{first_at, cell_of, cell_at, live_copy, fresh_cell}
-use Rattle.cell_store.specs.Store.{FewCells, Holds, Stands, store_size, fresh_cells, fresh_store, Fresh}
+use Rattle.cell_store.specs.Store.{FewCells, HoldsCells, Stands, store_size, fresh_cells, fresh_store, Fresh}
 use Rattle.cell_store.proofs.LayoutLaws.{splice-at_base}
 use Rattle.cell_store.proofs.TwinLaws.{counts-from, cell_of-first, is_live-live_copy}
 use Rattle.cell_store.proofs.StoreLaws.{length-header}
@@ -108,8 +108,8 @@ pub length-fresh_cells : (cells : List (List ℕ)) → Sized cells → length (f
 unfolding fresh_cells
 length-fresh_cells cells sized = length-pairs cells sized
 
-fresh_holds : (cells : List (List ℕ)) (h r : List ℕ) → Sized cells → length h ≡ 32 → Holds Twin (h ++ fresh_cells Twin cells ++ r) cells
-unfolding Holds fresh_cells
+fresh_holds : (cells : List (List ℕ)) (h r : List ℕ) → Sized cells → length h ≡ 32 → HoldsCells Twin (h ++ fresh_cells Twin cells ++ r) cells
+unfolding HoldsCells fresh_cells
 fresh_holds cells h r sized head i below =
     cell_at-fresh (h ++ flat_map fresh_cell cells ++ r) i (get_or cells i []) (sized i below)
     (behind_head h (flat_map fresh_cell cells) r 32 (68 * i) 68 head (omega (arith, length-pairs cells sized)) ∙ pair-pairs cells i sized below)
@@ -129,7 +129,7 @@ fresh_twin_stands version cells x few room sized =
       few = few;
       room = (let l = length-splice (base version) (h ++ f) x (omega (arith, long, head, wide)) in omega arith);
       head = ap (take 32) from ∙ at_head h f r 32 head;
-      holds = subst (λ (s : List ℕ). Holds Twin s cells) (sym from) (fresh_holds cells h r sized head);
+      holds = subst (λ (s : List ℕ). HoldsCells Twin s cells) (sym from) (fresh_holds cells h r sized head);
     }
 
 pub twin_stands-fresh : (version : Version) (cells : List (List ℕ)) (x y : List ℕ) → FewCells (length cells) → store_size (twin_layout version) (length cells) ≤ length x → Sized cells → Fresh (twin_layout version) cells x y → Stands (twin_layout version) y cells

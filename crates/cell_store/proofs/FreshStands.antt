@@ -1,17 +1,16 @@
 -- A fresh store stands for its cells, of either kind.
-use Rattle.std.proofs.Common.{◌≡◌, Option, Some, ℕ, suc, ◌+◌, ◌*◌, ◌≤◌, inl, true, List, [], ◌∷◌, ◌++◌, length, take, drop, replicate, refl, sym, ap, subst, ◌∙◌, arith, length-append}
-use Rattle.std.proofs.lemmas.List.{take_at, drop_at, length-replicate, take_all}
+use Rattle.std.proofs.Common.{◌≡◌, Option, Some, ℕ, suc, ◌+◌, ◌*◌, ◌≤◌, inl, List, [], ◌∷◌, ◌++◌, length, take, drop, replicate, refl, sym, ap, subst, ◌∙◌, arith, length-append}
+use Rattle.std.proofs.lemmas.List.{take_at, drop_at, length-replicate}
 use Rattle.cut_disk.specs.Images.{splice, firm}
-use Rattle.cut_disk.specs.Splices.{length-splice}
 use Rattle.cell_store.specs.declared.kinds.Kind.{Kind}
 use Rattle.cell_store.specs.declared.kinds.Kind.TheVariants.{Twin, Log}
 use Rattle.cell_store.specs.declared.kinds.Version.{Version}
 use Rattle.cell_store.specs.declared.kinds.Layout.{Layout}
 use Rattle.cell_store.specs.declared.copies.Side.TheVariants.{First, Second}
 use Rattle.cell_store.specs.Layout.{part, base, from_base, header, log_layout}
-use Rattle.cell_store.specs.Twin.{is_live, counts}
-use Rattle.cell_store.specs.Log.{log_size, bank_at, bank_head, BankCounts, bank_rest, live_bank, fresh_banks}
-use Rattle.cell_store.specs.Store.{FewCells, Stands, size_from_base, store_size, fresh_cells, fresh_store, Fresh}
+use Rattle.cell_store.specs.Twin.{is_live}
+use Rattle.cell_store.specs.Log.{log_size, bank_at, bank_head, BankCounts, live_bank, fresh_banks}
+use Rattle.cell_store.specs.Store.{FewCells, Stands, size_from_base, store_size, fresh_cells, Fresh}
 use Rattle.cut_disk.specs.State.{Told}
 use Rattle.cell_store.specs.Formats.{FirmCells}
 use Rattle.cell_store.proofs.LayoutLaws.{splice-at_base}

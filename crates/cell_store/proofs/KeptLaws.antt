@@ -3,7 +3,6 @@ use Rattle.std.proofs.Common.{◌≡◌, ℕ, suc, ◌+◌, ◌<◌, ◌≤◌, 
 use Rattle.std.proofs.lemmas.List.{length-set, length-map, get_or-set_same, get_or-set_other, get_or-map}
 use Rattle.std.proofs.lemmas.Bool.{cases_eq, cond-true, cond-false}
 use Rattle.cut_disk.specs.Images.{splice}
-use Rattle.cell_store.specs.declared.kinds.Kind.TheVariants.{Twin}
 use Rattle.cell_store.specs.declared.kinds.Version.{Version}
 use Rattle.cell_store.specs.declared.copies.Side.{Side}
 use Rattle.cell_store.specs.declared.copies.Side.TheVariants.{First, Second}
@@ -13,7 +12,7 @@ use Rattle.cell_store.specs.Twin.{twin_size, is_live, mark, payload, next, count
 use Rattle.cell_store.specs.Copies.{other, side_at, copy, Keeps}
 use Rattle.cell_store.specs.Writing.{Unfinished}
 use Rattle.cell_store.specs.Kept.{KeepsAll, cells_of}
-use Rattle.cell_store.specs.Store.{FewCells, Holds, Stands, store_size, twin_put, PutsAs, Put}
+use Rattle.cell_store.specs.Store.{FewCells, HoldsCells, Stands, twin_put, PutsAs, Put}
 use Rattle.cell_store.proofs.LayoutLaws.{part-same, part-drop, SameOutside-drop, SameOutside-splice, SameOutside-widen, splice-drop}
 use Rattle.cell_store.proofs.TwinLaws.{counts-once, counting}
 use Rattle.cell_store.proofs.CopiesLaws.{other-other, SameOutside-put, copy-put, counts-put, cell_at-kept, side_bounds, same_copy, cell_at-others, Keeps-others, cell_at-unfinished}
@@ -40,7 +39,7 @@ pub record HoldsAll (version : Version) (store : List ℕ) (cells : List (List �
   pub held : (i : ℕ) → i < length cells → cell_at store i ≡ Some (get_or cells i [])
 
 pub stands-held : (version : Version) (x : List ℕ) (cells : List (List ℕ)) → HoldsAll version (from_base version x) cells → Stands (twin_layout version) x cells
-unfolding Holds
+unfolding HoldsCells
 stands-held version x cells h = record {
   few = h.few;
   room = (let r = h.room in omega (arith, length-drop (base version) x));
@@ -49,7 +48,7 @@ stands-held version x cells h = record {
 }
 
 pub held-stands : (version : Version) (x : List ℕ) (cells : List (List ℕ)) → Stands (twin_layout version) x cells → HoldsAll version (from_base version x) cells
-unfolding Holds
+unfolding HoldsCells
 held-stands version x cells s = record {
   few = s.few;
   room = (let r = s.room in omega (arith, length-drop (base version) x));

@@ -1,11 +1,11 @@
 -- What a put into a free place makes of the bytes of a log store.
-use Rattle.std.proofs.Common.{◌≡◌, ◌≢◌, ℕ, suc, ◌+◌, ◌*◌, ◌/◌, ◌%◌, ◌<◌, ◌≤◌, ◌⊎◌, inl, inr, Bool, true, false, Option, Some, List, [], ◌∷◌, length, drop, set, get_or, refl, sym, ap, subst, ◌∙◌, arith, length-drop}
+use Rattle.std.proofs.Common.{◌≡◌, ℕ, suc, ◌+◌, ◌<◌, ◌≤◌, inl, inr, true, false, Option, Some, List, ◌∷◌, ◌++◌, length, set, refl, sym, ap, subst, ◌∙◌, arith, length-drop}
 use Rattle.std.proofs.lemmas.List.{length-set}
-use Rattle.std.proofs.lemmas.Bool.{cases_eq, cases_lt}
+use Rattle.std.proofs.lemmas.Bool.{cases_eq}
 use Rattle.cut_disk.specs.State.{Told}
-use Rattle.cut_disk.specs.Images.{splice, firm, EachImage}
-use Rattle.cut_disk.specs.Splices.{length-splice}
+use Rattle.cut_disk.specs.Images.{splice, firm}
 use Rattle.cut_disk.specs.Lasting.{Lasts}
+use Rattle.byte_lists.specs.Numbers.{bytes_of}
 use Rattle.cell_store.specs.declared.kinds.Kind.TheVariants.{Log}
 use Rattle.cell_store.specs.declared.kinds.Version.{Version}
 use Rattle.cell_store.specs.declared.copies.Side.{Side}
@@ -13,20 +13,20 @@ use Rattle.cell_store.specs.declared.banks.Bank.{Bank}
 use Rattle.cell_store.specs.Layout.{part, SameOutside, base, from_base, log_layout}
 use Rattle.cell_store.specs.Twin.{is_live, mark}
 use Rattle.cell_store.specs.Copies.{other}
-use Rattle.cell_store.specs.Log.{log_size, bank_at, bank_head, BankCounts, place_at, place, number, content, listed, Places, live_record}
-use Rattle.cell_store.specs.Store.{FewCells, Holds, Stands, SameBesides, LogPut}
-use Rattle.cell_store.specs.LogKept.{HoldsInBank, KeepsLog, LogPutDone, PutsLog, LogStandsForEither, LeavesEither, LogBesides}
+use Rattle.cell_store.specs.Log.{log_size, BankCounts, place_at, place, number, content, listed, Places, live_record}
+use Rattle.cell_store.specs.Store.{FewCells, HoldsCells, Stands, LogPut}
+use Rattle.cell_store.specs.LogKept.{HoldsInBank, KeepsLog, PutsLog, LogStandsForEither, LeavesEither, LogBesides}
 use Rattle.cell_store.specs.Writing.{Unfinished, LeavesUnfinished, LeavesOutside}
-use Rattle.cell_store.proofs.LayoutLaws.{part-same, part-splice, part-drop, SameOutside-splice, SameOutside-drop, SameOutside-widen}
-use Rattle.cell_store.proofs.LogLaws.{bank_bounds, header-kept, heads-kept, places-kept, list-kept, number-live}
+use Rattle.cell_store.proofs.LayoutLaws.{part-splice, part-drop, SameOutside-splice, SameOutside-drop, SameOutside-widen}
+use Rattle.cell_store.proofs.LogLaws.{bank_bounds, header-kept, heads-kept, places-kept, list-kept, number-live, content-live, length-live_record, long-rest}
 use Rattle.cell_store.proofs.GateLaws.{is_live-wide, gated-lasts, gated-leaves}
 
 -- one more place is used
 abbrev pub more_used : Bank → Bank
 more_used bank = record { side = bank.side; mark = bank.mark; used = bank.used + 1; spare_is_live = bank.spare_is_live }
 
-log-holds : (store : List ℕ) (cells : List (List ℕ)) (side : Side) (used : ℕ) → BankCounts (length cells) side store → Places (length cells) side store used → listed (length cells) side store used ≡ cells → Holds Log store cells
-unfolding Holds
+log-holds : (store : List ℕ) (cells : List (List ℕ)) (side : Side) (used : ℕ) → BankCounts (length cells) side store → Places (length cells) side store used → listed (length cells) side store used ≡ cells → HoldsCells Log store cells
+unfolding HoldsCells
 log-holds store cells side used counting places list = record { side = side; counting = counting; used = used; places = places; list = list }
 
 pub log-stands : (version : Version) (n : ℕ) (x : List ℕ) (cells : List (List ℕ)) (side : Side) (used : ℕ) → FewCells n → HoldsInBank version n (from_base version x) cells side used → Stands (log_layout version) x cells
@@ -76,8 +76,8 @@ module _ (version : Version) (n : ℕ) (x y : List ℕ) (cells : List (List ℕ)
   }
 
   -- it is a live record: that is put
-  pub holds-new : (i : ℕ) (c : List ℕ) → i < n → place n side y used ≡ live_record i c → HoldsInBank version n y (set cells i c) side (suc used)
-  holds-new i c below is = record {
+  pub holds-new : (i : ℕ) (c : List ℕ) → n ≤ 1024 → i < n → place n side y used ≡ live_record i c → HoldsInBank version n y (set cells i c) side (suc used)
+  holds-new i c few below is = record {
     count = length-set cells i c ∙ h.count;
     room = room;
     head = header-kept n side used x y free s ∙ h.head;
@@ -89,7 +89,7 @@ module _ (version : Version) (n : ℕ) (x y : List ℕ) (cells : List (List ℕ)
         | inr ne ↦ rw (places-kept n side used x y free s p ne) (h.places.live p (omega arith))
       ];
       below = λ p l. elim (cases_eq p used) [
-        | inl e ↦ subst (λ q. number (place n side y q) < n) (sym e) (subst (λ (r : List ℕ). number r < n) (sym is) (subst (λ m. m < n) (sym (number-live i c)) below))
+        | inl e ↦ subst (λ q. number (place n side y q) < n) (sym e) (subst (λ (r : List ℕ). number r < n) (sym is) (subst (λ m. m < n) (sym (number-live i c (omega arith))) below))
         | inr ne ↦ rw (places-kept n side used x y free s p ne) (h.places.below p (omega arith))
       ];
       free = λ p l m. rw (places-kept n side used x y free s p (λ e. omega arith)) (h.places.free p (omega arith) m);
@@ -97,7 +97,7 @@ module _ (version : Version) (n : ℕ) (x y : List ℕ) (cells : List (List ℕ)
     list =
         let e : listed n side y used ≡ cells = list-kept n side used x y free s ∙ h.list in
         ap (λ (r : List ℕ). set (listed n side y used) (number r) (content r)) is
-        ∙ (ap (λ m. set (listed n side y used) m c) (number-live i c) ∙ ap (λ (l : List (List ℕ)). set l i c) e);
+        ∙ (ap (λ (d : List ℕ). set (listed n side y used) (number (live_record i c)) d) (content-live i c) ∙ ap (λ m. set (listed n side y used) m c) (number-live i c (omega arith)) ∙ ap (λ (l : List (List ℕ)). set l i c) e);
   }
 
 -- a put into the first free place
@@ -123,14 +123,14 @@ module _ (version : Version) (n : ℕ) (x : List ℕ) (cells : List (List ℕ)) 
         | inl closed ↦ inl (log-stands version n y cells bank.side bank.used few (holds-old version n _ _ cells bank.side bank.used k.holds free s (rw now closed)))
         | inr rest ↦ elim rest [
           | inl same ↦ inl (log-stands version n y cells bank.side bank.used few (holds-old version n _ _ cells bank.side bank.used k.holds free s (rw (now, same, ← was) (k.holds.places.free bank.used (omega arith) free))))
-          | inr new ↦ inr (log-stands version n y (set cells i c) bank.side (suc bank.used) few (holds-new version n _ _ cells bank.side bank.used k.holds free s i c below (now ∙ new)))
+          | inr new ↦ inr (log-stands version n y (set cells i c) bank.side (suc bank.used) few (holds-new version n _ _ cells bank.side bank.used k.holds free s i c (let f = few in omega arith) below (now ∙ new)))
         ]
       ]
 
   -- at its end
   module _ (sized : length c ≡ 32) where
     long : length (live_record i c) ≡ 35
-    long = ap (λ m. suc (suc (suc m))) sized
+    long = length-live_record i c ∙ ap (λ m. 3 + m) sized
 
     fits : base version + at + length (live_record i c) ≤ length x
     fits = let z = inside in omega (arith, long)
@@ -147,7 +147,7 @@ module _ (version : Version) (n : ℕ) (x : List ℕ) (cells : List (List ℕ)) 
           let now : place n bank.side (from_base version (splice (base version + at) (live_record i c) x)) bank.used ≡ live_record i c =
           part-drop (base version) at 35 (splice (base version + at) (live_record i c) x) (let z = inside in let e = whole.lengths in omega arith) ∙ part-splice (base version + at) 35 (live_record i c) x (sym long) fits in
           subst (λ u. HoldsInBank version n (from_base version (splice (base version + at) (live_record i c) x)) (set cells i c) bank.side u) (let e : suc bank.used ≡ bank.used + 1 = omega arith in e)
-          (holds-new version n _ _ cells bank.side bank.used k.holds free behind i c below now);
+          (holds-new version n _ _ cells bank.side bank.used k.holds free behind i c (let f = few in omega arith) below now);
       marked = ap mark (heads-kept n bank.side bank.used _ _ free behind bank.side) ∙ k.marked;
       spare = ap is_live (heads-kept n bank.side bank.used _ _ free behind (other bank.side)) ∙ k.spare;
     }
@@ -155,6 +155,7 @@ module _ (version : Version) (n : ℕ) (x : List ℕ) (cells : List (List ℕ)) 
     pub append-put : LogPut version x i c (splice (base version + at) (live_record i c) x)
     append-put = record {
       count = n;
+      few = few;
       head = k.holds.head;
       side = bank.side;
       counting = k.holds.counting;
@@ -165,7 +166,7 @@ module _ (version : Version) (n : ℕ) (x : List ℕ) (cells : List (List ℕ)) 
     }
 
 -- The same, as the code has it: the place and the bytes under names of their own.
-module _ (version : Version) (n : ℕ) (cells : List (List ℕ)) (bank : Bank) (i : ℕ) (c : List ℕ) (old new : Option Told) (few : FewCells n) (free : bank.used < 64) (below : i < n) (at' : ℕ) (place-is : at' ≡ base version + place_at n bank.side bank.used) (rest : List ℕ) (rest-is : rest ≡ i / 256 ∷ i % 256 ∷ c) (sized : length c ≡ 32) (keeps : (t : Told) → old ≡ Some t → KeepsLog version n t.bytes cells bank) where
+module _ (version : Version) (n : ℕ) (cells : List (List ℕ)) (bank : Bank) (i : ℕ) (c : List ℕ) (old new : Option Told) (few : FewCells n) (free : bank.used < 64) (below : i < n) (at' : ℕ) (place-is : at' ≡ base version + place_at n bank.side bank.used) (rest : List ℕ) (rest-is : rest ≡ bytes_of 2 i ++ c) (sized : length c ≡ 32) (keeps : (t : Told) → old ≡ Some t → KeepsLog version n t.bytes cells bank) where
   pub append-gate : (t : Told) → old ≡ Some t → is_live (part at' 1 t.bytes) ≡ false
   append-gate t told =
       let k = keeps t told in
@@ -177,14 +178,14 @@ module _ (version : Version) (n : ℕ) (cells : List (List ℕ)) (bank : Bank) (
   pub append-images : LeavesUnfinished (length rest) at' (167 ∷ rest) old new → LeavesEither version i c cells old new
   append-images l x told t is y image =
       let k = keeps (firm x) told in
-      let l' : LeavesUnfinished 34 at' (live_record i c) old new = gated-leaves 34 at' rest (i / 256 ∷ i % 256 ∷ c) old new rest-is (ap (λ m. suc (suc m)) sized) l in
+      let l' : LeavesUnfinished 34 at' (live_record i c) old new = gated-leaves 34 at' rest (bytes_of 2 i ++ c) old new rest-is (long-rest i c ∙ ap (λ m. 2 + m) sized) l in
       let l'' : LeavesUnfinished 34 (base version + place_at n bank.side bank.used) (live_record i c) old new = subst (λ a. LeavesUnfinished 34 a (live_record i c) old new) place-is l' in
       append-either version n x cells bank i c few k free below y (l'' x told t is y image)
 
   pub append-done : Lasts at' (167 ∷ rest) old new → PutsLog version n i c cells (more_used bank) old new
   append-done l t told =
       let k = keeps t told in
-      let l' : Lasts at' (live_record i c) old new = gated-lasts at' rest (i / 256 ∷ i % 256 ∷ c) old new rest-is l in
+      let l' : Lasts at' (live_record i c) old new = gated-lasts at' rest (bytes_of 2 i ++ c) old new rest-is l in
       let l'' : Lasts (base version + place_at n bank.side bank.used) (live_record i c) old new = subst (λ a. Lasts a (live_record i c) old new) place-is l' in
       record {
         bytes = splice (base version + place_at n bank.side bank.used) (live_record i c) t.bytes;

@@ -1,13 +1,14 @@
 -- What a change of one free place, or of the bank that doesn't count, leaves of a log store.
-use Rattle.std.proofs.Common.{◌≡◌, ◌≢◌, ℕ, zero, suc, ◌+◌, ◌*◌, ◌/◌, ◌%◌, ◌<◌, ◌≤◌, ◌⊎◌, inl, inr, true, false, List, [], ◌∷◌, length, drop, set, get_or, map, refl, sym, ap, subst, ◌∙◌, arith, length-drop}
-use Rattle.std.proofs.lemmas.List.{ext_get_or, get_or-drop}
+use Rattle.std.proofs.Common.{◌≡◌, ◌≢◌, ℕ, zero, suc, ◌+◌, ◌*◌, ◌^◌, ◌<◌, ◌≤◌, ◌⊎◌, inl, inr, List, [], ◌++◌, length, refl, sym, ◌∙◌, arith}
+use Rattle.std.proofs.lemmas.List.{ext_get_or}
 use Rattle.std.proofs.lemmas.List.FromFn.{get_or-map-range_with_len, length-map-range_with_len}
 use Rattle.std.proofs.lemmas.Bool.{cases_order}
+use Rattle.byte_lists.specs.Numbers.{number_of, bytes_of}
+use Rattle.byte_lists.specs.NumberLaws.{number_of-bytes_of-lt}
 use Rattle.cell_store.specs.declared.copies.Side.{Side}
 use Rattle.cell_store.specs.declared.copies.Side.TheVariants.{First, Second}
 use Rattle.cell_store.specs.Layout.{part, SameOutside}
-use Rattle.cell_store.proofs.LayoutLaws.{part-same, length-part, get_or-part}
-use Rattle.cell_store.specs.Copies.{other}
+use Rattle.cell_store.proofs.LayoutLaws.{part-same}
 use Rattle.cell_store.specs.Log.{log_size, bank_at, bank_head, bank_cell, bank_cells, place_at, place, number, content, listed, live_record}
 
 -- where banks and places stand
@@ -57,5 +58,18 @@ module _ (n : ℕ) (side : Side) (used : ℕ) (x y : List ℕ) (free : used < 64
   list-kept = listed-same n side x y used cells-kept (λ p l. places-kept p (λ e. let z = e in absurd (omega arith)))
 
 -- what a live record tells
-pub number-live : (i : ℕ) (c : List ℕ) → number (live_record i c) ≡ i
-number-live i c = let e : 256 * (i / 256) + i % 256 ≡ i = omega arith in e
+pub number-live : (i : ℕ) (c : List ℕ) → i < 2 ^ 16 → number (live_record i c) ≡ i
+unfolding bytes_of
+number-live i c small = let e : number_of (bytes_of 2 i) ≡ i = number_of-bytes_of-lt 2 i (omega arith) in e
+
+pub content-live : (i : ℕ) (c : List ℕ) → content (live_record i c) ≡ c
+unfolding bytes_of
+content-live i c = refl
+
+pub length-live_record : (i : ℕ) (c : List ℕ) → length (live_record i c) ≡ 3 + length c
+unfolding bytes_of
+length-live_record i c = let e : suc (suc (suc (length c))) ≡ 3 + length c = omega arith in e
+
+pub long-rest : (i : ℕ) (c : List ℕ) → length (bytes_of 2 i ++ c) ≡ 2 + length c
+unfolding bytes_of
+long-rest i c = let e : suc (suc (length c)) ≡ 2 + length c = omega arith in e

@@ -1,6 +1,5 @@
 -- After a finished put of a log store the bytes stand for the list with the new cell.
-use Rattle.std.proofs.Common.{◌≡◌, ℕ, zero, suc, ◌+◌, ◌*◌, ◌<◌, ◌≤◌, ◌⊎◌, inl, inr, List, [], length, drop, set, get_or, refl, sym, ap, subst, ◌∙◌, arith, length-drop}
-use Rattle.std.proofs.lemmas.List.{length-set}
+use Rattle.std.proofs.Common.{◌≡◌, ℕ, zero, suc, ◌+◌, ◌*◌, ◌<◌, ◌≤◌, inl, inr, List, [], length, set, refl, sym, ap, subst, ◌∙◌, arith, length-drop}
 use Rattle.std.proofs.lemmas.List.FromFn.{get_or-map-range_with_len, length-map-range_with_len}
 use Rattle.std.proofs.lemmas.Bool.{cases_lt}
 use Rattle.cut_disk.specs.Images.{splice}
@@ -11,15 +10,15 @@ use Rattle.cell_store.specs.declared.banks.Bank.{Bank}
 use Rattle.cell_store.proofs.LayoutLaws.{length-part}
 use Rattle.cell_store.specs.Twin.{is_live, mark, next}
 use Rattle.cell_store.specs.Copies.{other}
-use Rattle.cell_store.specs.Log.{log_size, bank_at, bank_head, bank_cell, bank_cells, place_at, place, content, listed, live_record, live_bank}
+use Rattle.cell_store.specs.Log.{log_size, bank_at, bank_head, bank_cell, place_at, place, content, listed, live_record, live_bank}
 use Rattle.cell_store.proofs.LogLaws.{bank_bounds}
 use Rattle.cell_store.proofs.BankLaws.{Sized-set}
 use Rattle.cell_store.proofs.FreshLaws.{Sized}
-use Rattle.cell_store.specs.Store.{FewCells, Holds, Stands, LogPut}
+use Rattle.cell_store.specs.Store.{FewCells, HoldsCells, Stands, LogPut}
 use Rattle.cell_store.proofs.StoreLaws.{header-number, bank_once, used_once}
 use Rattle.cell_store.specs.LogKept.{HoldsInBank, KeepsLog}
-use Rattle.cell_store.proofs.LogKeptLaws.{more_used, log-stands, append-keeps}
-use Rattle.cell_store.proofs.RefillKept.{refilled, refill-keeps}
+use Rattle.cell_store.proofs.LogKeptLaws.{log-stands, append-keeps}
+use Rattle.cell_store.proofs.RefillKept.{refill-keeps}
 
 -- the cells of a bank, with so many of its records, have 32 bytes each
 pub Sized-listed : (n : ℕ) (side : Side) (x : List ℕ) (used : ℕ) → log_size n ≤ length x → used ≤ 64 → Sized (listed n side x used)
@@ -44,7 +43,7 @@ record LogStands (version : Version) (x : List ℕ) (cells : List (List ℕ)) : 
   holds : HoldsInBank version (length cells) (from_base version x) cells side used
 
 in-bank : (version : Version) (x : List ℕ) (cells : List (List ℕ)) → Stands (log_layout version) x cells → LogStands version x cells
-unfolding Holds
+unfolding HoldsCells
 in-bank version x cells s =
     let h = s.holds in
     record {
@@ -75,7 +74,7 @@ module _ (version : Version) (x y : List ℕ) (cells : List (List ℕ)) (i : ℕ
   sized = subst (λ l. Sized l) s.holds.list (Sized-listed (length cells) s.side (from_base version x) s.used s.holds.room s.holds.places.most)
 
   as-many : p.count ≡ length cells
-  as-many = header-number (log_layout version) (log_layout version) _ _ (sym p.head ∙ s.holds.head)
+  as-many = header-number (log_layout version) (log_layout version) _ _ (let f = p.few in omega arith) (let f = s.few in omega arith) (sym p.head ∙ s.holds.head)
 
   same-side : p.side ≡ s.side
   same-side = bank_once (length cells) (from_base version x) p.side s.side (rw as-many at p.counting) s.holds.counting

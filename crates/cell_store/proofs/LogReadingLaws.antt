@@ -1,5 +1,5 @@
 -- Laws of reading a log store.
-use Rattle.std.proofs.Common.{◌≡◌, ℕ, zero, suc, ◌+◌, ◌-◌, ◌*◌, ◌<◌, ◌≤◌, ◌⊎◌, min, inl, inr, true, false, Option, Some, None, List, [], length, take, drop, get_or, set, refl, sym, ap, subst, ◌∙◌, arith}
+use Rattle.std.proofs.Common.{◌≡◌, ℕ, zero, suc, ◌+◌, ◌<◌, ◌≤◌, ◌⊎◌, min, inl, inr, true, false, Option, Some, None, List, [], ◌∷◌, length, get_or, set, refl, sym, ap, subst, ◌∙◌, arith}
 use Rattle.std.proofs.lemmas.List.{ext_get_or, get_or-set_same, get_or-set_other, length-set}
 use Rattle.std.proofs.lemmas.List.FromFn.{get_or-map-range_with_len, length-map-range_with_len}
 use Rattle.std.proofs.lemmas.Bool.{false≢true, cases_Bool, cases_eq, cases_lt, cond-true, cond-false}
@@ -14,12 +14,12 @@ use Rattle.cell_store.specs.declared.faults.Reread.{Reread}
 use Rattle.cell_store.specs.declared.faults.Reread.TheVariants as reread
 use Rattle.cell_store.specs.Layout.{part, base, from_base, log_layout}
 use Rattle.cell_store.specs.Twin.{is_live, counts}
-use Rattle.cell_store.specs.Copies.{other}
-use Rattle.cell_store.specs.Log.{log_size, bank_at, bank_head, bank_cell, bank_cells, BankCounts, place, number, content, listed, Places, PlaceDamaged, FirstPlaceDamaged, LogDamaged}
+use Rattle.cell_store.specs.Log.{log_size, bank_head, bank_cell, bank_cells, BankCounts, place, number, content, listed, Places, FirstPlaceDamaged, LogDamaged}
 use Rattle.cell_store.specs.Store.{HasHeader, IsDamaged, FirstDamaged}
-use Rattle.cell_store.specs.Reading.{ReadOnly, ReadFailed, Leaves, Finds}
+use Rattle.cell_store.specs.Reading.{ReadOnly, Leaves, Finds}
 use Rattle.cell_store.specs.LogKept.{KeepsLog}
-use Rattle.cell_store.specs.LogReading.{ToldLog, bank_of, BankRead, NoBank, CellsSoFar, PlacesSoFar, BankFault, PlacesFault, CountingFault, bank_reads_to, log_reads, log_reads_to}
+use Rattle.cell_store.specs.LogReading.{ToldLog, bank_of, BankRead, NoBank, CellsSoFar, PlacesSoFar, BankFault, PlacesFault, CountingFault}
+use Rattle.cell_store.specs.ReadOrder.{bank_reads_to, log_reads, log_reads_to}
 use Rattle.cell_store.proofs.ReadingLaws.{reads_none, reads_join, reads_more, failed_more, failed_after, read-part}
 
 -- what was read behind the base
@@ -241,3 +241,8 @@ pub counting-finds : (version : Version) (n : ℕ) (old mid new : DiskState) (fa
 counting-finds version n old mid new reread.DiskFailed a head f t h = tt
 counting-finds version n old mid new reread.NotFormatted a head f t h = absurd f
 counting-finds version n old mid new (reread.Damaged i) a head f t h = (head t h, log-damaged version t n i (f.1 t (a.told ∙ h)))
+
+-- the second and the third byte
+pub part-two : (x : List ℕ) → 3 ≤ length x → part 1 2 x ≡ get_or x 1 0 ∷ get_or x 2 0 ∷ []
+part-two (a ∷ b ∷ c ∷ x) long = refl
+part-two x long = absurd (omega arith)

@@ -1,5 +1,5 @@
 -- What each step of a log store makes of what its fields mean.
-use Rattle.std.proofs.Common.{◌≡◌, ℕ, ◌+◌, ◌*◌, ◌<◌, ◌≤◌, ◌⊎◌, inl, inr, min, Bool, true, false, Option, Some, None, List, [], ◌∷◌, length, drop, set, refl, sym, ap, subst, ◌∙◌, arith}
+use Rattle.std.proofs.Common.{◌≡◌, ℕ, ◌+◌, ◌*◌, ◌<◌, ◌≤◌, Bool, true, false, Some, List, [], ◌∷◌, length, set, refl, sym, ap, subst, ◌∙◌, arith}
 use Rattle.std.specs.Option.{is_some}
 use Rattle.std.proofs.lemmas.List.{length-set}
 use Rattle.std.proofs.lemmas.Bool.{false≢true}
@@ -13,14 +13,13 @@ use Rattle.cell_store.specs.declared.kinds.Version.{Version}
 use Rattle.cell_store.specs.declared.banks.Bank.{Bank}
 use Rattle.cell_store.specs.declared.faults.Reread.{Reread}
 use Rattle.cell_store.specs.declared.faults.Reread.TheVariants as reread
-use Rattle.cell_store.specs.Layout.{from_base, log_layout}
-use Rattle.cell_store.specs.Log.{log_size}
+use Rattle.cell_store.specs.Layout.{log_layout}
 use Rattle.cell_store.specs.Store.{FewCells, HasHeader, LogPut, Stands, PutsAs, Put, store_size}
 use Rattle.cell_store.specs.Faults.{store_fault}
-use Rattle.cell_store.specs.Cells.{CellsState, Settled, TellsCells, PutDone, LeavesBesides, StandsForEither, EachImageStands, RereadCause, RereadFinds}
+use Rattle.cell_store.specs.Cells.{CellsState, Settled, TellsCells, PutDone, LeavesBesides, StandsForEither, EachImageStands, RereadCause, RereadFinds, calls_to_reread}
 use Rattle.cell_store.specs.Reading.{ReadOnly, Leaves, Finds}
-use Rattle.cell_store.specs.LogReading.{log_reads, log_reads_to}
-use Rattle.cell_store.specs.LogKept.{KeepsLog, LogPutDone, PutsLog, LeavesEither, LogBesides}
+use Rattle.cell_store.specs.ReadOrder.{log_reads, log_reads_to}
+use Rattle.cell_store.specs.LogKept.{KeepsLog, PutsLog, LeavesEither, LogBesides}
 use Rattle.cell_store.specs.LogStore.{log_state, IsLogStore}
 use Rattle.cell_store.specs.Attaching.{Attached, NotAttached}
 use Rattle.cell_store.proofs.StoreLaws.{stands-whole}
@@ -138,11 +137,14 @@ module _ (version : Version) (old cut new : DiskState) (cells fresh : List (List
       subst (λ (x : CellsState). Runs (Cut torn ∷ []) (68 + length s.cells) x.disk new) view
       (runs_more (68 + length s.cells) (let r = store.ready in omega (arith, as-many)) (runs_join (runs_of_call call) runs))
 
-  -- another header was read
-  pub log-cut-first : (fault : Reread) → Leaves (log_reads ahead) (log_reads_to ahead) cut new fault → fault ≡ reread.NotFormatted → Runs (Cut torn ∷ []) 2 s.disk new
-  log-cut-first fault leaves e =
-      let l : Leaves (log_reads ahead) (log_reads_to ahead) cut new reread.NotFormatted = subst (λ (f : Reread). Leaves (log_reads ahead) (log_reads_to ahead) cut new f) e leaves in
-      subst (λ (x : CellsState). Runs (Cut torn ∷ []) 2 x.disk new) view (runs_more 2 (omega arith) (runs_join (runs_of_call call) l.runs))
+  -- so many calls came up to what was found
+  first-was : (fault : Reread) → Leaves (log_reads ahead) (log_reads_to ahead) cut new fault → Runs (Cut torn ∷ []) (calls_to_reread (log_state version old cells broken) fault) old new
+  first-was reread.DiskFailed l = runs_more _ (let r = store.ready in omega arith) (runs_join (runs_of_call call) l.runs)
+  first-was reread.NotFormatted l = runs_more _ (omega arith) (runs_join (runs_of_call call) l.runs)
+  first-was (reread.Damaged i) l = subst (λ m. Runs (Cut torn ∷ []) (1 + log_reads_to m i) old new) store.ready (runs_more _ (omega arith) (runs_join (runs_of_call call) l.runs))
+
+  pub log-cut-first : (fault : Reread) → Leaves (log_reads ahead) (log_reads_to ahead) cut new fault → Runs (Cut torn ∷ []) (calls_to_reread s fault) s.disk new
+  log-cut-first fault leaves = subst (λ (x : CellsState). Runs (Cut torn ∷ []) (calls_to_reread x fault) x.disk new) view (first-was fault leaves)
 
   module _ (count : length fresh ≡ ahead) (same : ReadOnly (log_reads ahead) cut new) (keeps : (t : Told) → cut.told ≡ Some t → KeepsLog version ahead t.bytes fresh after) where
     pub log-cut-store : (more : ℕ) → more ≡ length cells → IsLogStore version new fresh more space after false
@@ -168,13 +170,19 @@ module _ (version : Version) (old cut new : DiskState) (cells fresh : List (List
   pub log-cut-broken : new.size ≡ cut.size → (more : ℕ) → more ≡ ahead → IsLogStore version new cells more space bank true
   log-cut-broken size more is = record { few = store.few; sized = (let z = store.sized in let e = call.size in omega (arith, size)); ready = is ∙ store.ready; spacious = store.spacious; kept = λ e. absurd (false≢true (sym e)) }
 
-  cause-was : (fault : Reread) → Leaves (log_reads ahead) (log_reads_to ahead) cut new fault → Finds (log_layout version) ahead cut.told fault → RereadCause (log_state version old cells broken) (log_state version new cells true) fault
-  cause-was reread.DiskFailed l f = rose_after old.faults cut.faults new.faults call.later l.rose
-  cause-was reread.NotFormatted l f = λ t told. subst (λ m. RereadFinds (log_layout version) m t.bytes reread.NotFormatted) store.ready (f t (sym l.told ∙ told))
-  cause-was (reread.Damaged i) l f = λ t told. subst (λ m. RereadFinds (log_layout version) m t.bytes (reread.Damaged i)) store.ready (f t (sym l.told ∙ told))
+  cause-was : (fault : Reread) → Leaves (log_reads ahead) (log_reads_to ahead) cut new fault → Finds (log_layout version) ahead cut.told fault → cut.faults ≡ old.faults → RereadCause (log_state version old cells broken) (log_state version new cells true) fault
+  cause-was reread.DiskFailed l f same = rose_after old.faults cut.faults new.faults call.later l.rose
+  cause-was reread.NotFormatted l f same = record {
+    faults = l.faults ∙ same;
+    finds = λ t told. subst (λ m. RereadFinds (log_layout version) m t.bytes reread.NotFormatted) store.ready (f t (sym l.told ∙ told));
+  }
+  cause-was (reread.Damaged i) l f same = record {
+    faults = l.faults ∙ same;
+    finds = λ t told. subst (λ m. RereadFinds (log_layout version) m t.bytes (reread.Damaged i)) store.ready (f t (sym l.told ∙ told));
+  }
 
-  pub log-cut-cause : (fault : Reread) → Leaves (log_reads ahead) (log_reads_to ahead) cut new fault → Finds (log_layout version) ahead cut.told fault → RereadCause s (log_state version new cells true) fault
-  log-cut-cause fault l f = subst (λ (x : CellsState). RereadCause x (log_state version new cells true) fault) view (cause-was fault l f)
+  pub log-cut-cause : (fault : Reread) → Leaves (log_reads ahead) (log_reads_to ahead) cut new fault → Finds (log_layout version) ahead cut.told fault → cut.faults ≡ old.faults → RereadCause s (log_state version new cells true) fault
+  log-cut-cause fault l f same = subst (λ (x : CellsState). RereadCause x (log_state version new cells true) fault) view (cause-was fault l f same)
 
   pub log-cut-never : (fault : Reread) → Finds (log_layout version) ahead cut.told fault → EachImageStands s → fault ≡ reread.DiskFailed
   log-cut-never reread.DiskFailed finds stood = refl

@@ -14,7 +14,7 @@ use Rattle.cell_store.specs.declared.copies.Held.{Held}
 use Rattle.cell_store.specs.Layout.{part, base, from_base, header, twin_layout}
 use Rattle.cell_store.specs.Twin.{twin_size, mark, next, counts, cell_at, live_copy}
 use Rattle.cell_store.specs.Copies.{other, side_at, copy}
-use Rattle.cell_store.specs.Store.{FewCells, Holds, Stands, twin_put, PutsAs, Put}
+use Rattle.cell_store.specs.Store.{FewCells, Stands, twin_put, PutsAs, Put}
 use Rattle.cell_store.proofs.LayoutLaws.{part-same, splice-drop}
 use Rattle.cell_store.proofs.CopiesLaws.{side_bounds, SameOutside-put, cell_at-put, cell_at-others}
 use Rattle.cell_store.proofs.KeptLaws.{HoldsAll, stands-held, held-stands}

@@ -1,6 +1,5 @@
 -- Laws of reading a twin store.
-use Rattle.std.proofs.Common.{◌≡◌, ℕ, ◌+◌, ◌-◌, ◌<◌, ◌≤◌, min, inl, inr, true, false, Option, Some, None, IsSome, IsTrue, List, [], length, take, drop, get_or, set, refl, sym, ap, subst, ◌∙◌, arith}
-use Rattle.std.specs.List.{slice_range}
+use Rattle.std.proofs.Common.{◌≡◌, ℕ, ◌+◌, ◌-◌, ◌<◌, ◌≤◌, min, inl, inr, false, Option, Some, None, IsSome, IsTrue, List, [], length, take, drop, get_or, set, refl, sym, ap, subst, ◌∙◌, arith}
 use Rattle.std.proofs.lemmas.List.{take-take, drop-take, drop-drop, get_or-set_same, get_or-set_other}
 use Rattle.std.proofs.lemmas.Bool.{false≢true, cases_Bool, cases_eq, cond-true, cond-false}
 use Rattle.std.proofs.lemmas.Option.{same_Some, none-some}
@@ -23,7 +22,8 @@ use Rattle.cell_store.specs.Twin.{first_at, second_at, counts, cell_of, cell_at}
 use Rattle.cell_store.specs.Copies.{copy, Keeps}
 use Rattle.cell_store.specs.Held.{held_of}
 use Rattle.cell_store.specs.Store.{HasHeader, IsDamaged, FirstDamaged}
-use Rattle.cell_store.specs.Reading.{NoStop, ReadOnly, ReadFailed, ToldKeeps, Leaves, Finds, CellFault, HeaderFault, twin_reads, twin_reads_to}
+use Rattle.cell_store.specs.Reading.{NoStop, ReadOnly, ReadFailed, ToldKeeps, Leaves, Finds, CellFault, HeaderFault}
+use Rattle.cell_store.specs.ReadOrder.{twin_reads, twin_reads_to}
 use Rattle.cell_store.proofs.CopiesLaws.{cell_at-kept}
 
 -- no call makes a stop

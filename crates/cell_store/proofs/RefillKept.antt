@@ -1,5 +1,5 @@
 -- What a put that fills the bank that doesn't count makes of a log store.
-use Rattle.std.proofs.Common.{◌≡◌, ℕ, suc, ◌+◌, ◌*◌, ◌<◌, ◌≤◌, ◌⊎◌, inl, inr, true, false, Option, Some, List, [], ◌∷◌, length, drop, set, refl, sym, ap, subst, ◌∙◌, arith, length-drop}
+use Rattle.std.proofs.Common.{◌≡◌, ℕ, suc, ◌+◌, ◌*◌, ◌≤◌, inl, inr, true, Option, Some, List, ◌∷◌, length, set, refl, sym, ap, subst, ◌∙◌, arith, length-drop}
 use Rattle.std.proofs.lemmas.List.{length-set}
 use Rattle.cut_disk.specs.State.{Told}
 use Rattle.cut_disk.specs.Images.{splice, firm}
@@ -9,18 +9,18 @@ use Rattle.cell_store.specs.declared.banks.Bank.{Bank}
 use Rattle.cell_store.specs.declared.kinds.Version.{Version}
 use Rattle.cell_store.specs.Layout.{part, SameOutside, base, from_base}
 use Rattle.cell_store.proofs.LayoutLaws.{part-splice, SameOutside-splice, SameOutside-drop, part-drop}
-use Rattle.cell_store.specs.Twin.{is_live, mark, next, counts}
+use Rattle.cell_store.specs.Twin.{is_live, mark, next}
 use Rattle.cell_store.proofs.TwinLaws.{counting, counts-beside_closed}
 use Rattle.cell_store.specs.Copies.{other}
 use Rattle.cell_store.proofs.CopiesLaws.{other-other}
-use Rattle.cell_store.specs.Log.{log_size, bank_at, bank_head, bank_rest, live_bank}
+use Rattle.cell_store.specs.Log.{bank_at, bank_head, bank_rest, live_bank}
 use Rattle.cell_store.proofs.LogLaws.{bank_bounds}
 use Rattle.cell_store.proofs.BankLaws.{part-part, length-bank_rest, Sized-set, same-head, holds-still, holds-refilled, new-head}
 use Rattle.cell_store.proofs.FreshLaws.{Sized}
-use Rattle.cell_store.specs.Store.{FewCells, Stands, LogPut}
+use Rattle.cell_store.specs.Store.{FewCells, LogPut}
 use Rattle.cell_store.specs.Writing.{Unfinished, LeavesUnfinished, LeavesOutside}
 use Rattle.cell_store.proofs.GateLaws.{is_live-wide, is_live-part, gated-lasts, gated-leaves}
-use Rattle.cell_store.specs.LogKept.{HoldsInBank, KeepsLog, LogPutDone, PutsLog, LogStandsForEither, LeavesEither, LogBesides}
+use Rattle.cell_store.specs.LogKept.{KeepsLog, PutsLog, LogStandsForEither, LeavesEither, LogBesides}
 use Rattle.cell_store.proofs.LogKeptLaws.{log-stands, within-besides}
 
 -- the bank that counts after such a put
@@ -100,6 +100,7 @@ module _ (version : Version) (n : ℕ) (x : List ℕ) (cells : List (List ℕ)) 
   pub refill-put : 64 ≤ bank.used → LogPut version x i c done
   refill-put full = record {
     count = n;
+    few = few;
     head = k.holds.head;
     side = bank.side;
     counting = k.holds.counting;

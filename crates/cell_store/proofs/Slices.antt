@@ -1,15 +1,14 @@
 -- What a write to a part of a slice leaves.
-use Rattle.std.proofs.Common.{◌≡◌, ℕ, ◌+◌, ◌*◌, ◌-◌, ◌∙◌, ◌<◌, ◌≤◌, [], ◌∷◌, ◌++◌, List, length, set, take, drop, replicate, refl, sym, ap, arith, rules, length-append}
+use Rattle.std.proofs.Common.{◌≡◌, ℕ, ◌+◌, ◌*◌, ◌-◌, ◌∙◌, ◌<◌, ◌≤◌, [], ◌∷◌, ◌++◌, List, length, set, take, drop, replicate, sym, ap, arith, rules, length-append}
 use Rattle.std.specs.List.{flat_map}
 use borrow.Rule.Slice.PartMut.{put_mid, mid_of}
 use Rattle.std.proofs.lemmas.List.{places, same_lists, append-nil, take_more, drop_all, length-replicate, length-set, length-take-le, get_or-take}
 use Rattle.std.proofs.lemmas.List.Concat.{flat_map-append}
-use Rattle.std.proofs.lemmas.List.{get_or-set_same}
 use Rattle.std.proofs.Common.{get_or}
 use Rattle.cut_disk.specs.Images.{splice}
 use Rattle.cut_disk.specs.Splices.{splice-beside, length-splice}
 use Rattle.cell_store.specs.Log.{bank_rest}
-use Rattle.cell_store.proofs.FreshLaws.{Sized, length_pieces}
+use Rattle.cell_store.proofs.FreshLaws.{Sized}
 use Rattle.cell_store.proofs.BankLaws.{length-cells}
 
 pub put_mid-splice : {X : Type 0} → (at k : ℕ) (xs ys : List X) → k ≡ length ys → at + length ys ≤ length xs → put_mid at k xs ys ≡ splice at ys xs

@@ -1,8 +1,9 @@
 -- Laws of what bytes stand for: their header, and at most one list.
-use Rattle.std.proofs.Common.{◌≡◌, ◌≢◌, ℕ, zero, suc, inl, inr, ◌+◌, ◌*◌, ◌/◌, ◌%◌, List, [], length, get_or, replicate, refl, sym, ap, ◌∙◌, arith}
+use Rattle.std.proofs.Common.{◌≡◌, ◌≢◌, ℕ, zero, suc, inl, inr, ◌+◌, ◌*◌, ◌/◌, ◌%◌, ◌^◌, ◌<◌, List, [], length, get_or, replicate, refl, sym, ap, ◌∙◌, arith}
 use Rattle.std.proofs.lemmas.List.{ext_get_or}
 use Rattle.std.proofs.lemmas.Bool.{false≢true, cases_order, cases_lt}
 use Rattle.std.proofs.lemmas.Option.{same_Some, none-some}
+use Rattle.byte_lists.specs.Numbers.{bytes_of}
 use Rattle.cell_store.specs.declared.copies.Side.{Side}
 use Rattle.cell_store.specs.declared.copies.Side.TheVariants.{First, Second}
 use Rattle.cell_store.specs.Log.{BankCounts, Places, LogHolds, LogDamaged}
@@ -13,18 +14,18 @@ use Rattle.cell_store.specs.declared.kinds.Version.{Version}
 use Rattle.cell_store.specs.declared.kinds.Version.TheVariants.{One, Two}
 use Rattle.cell_store.specs.declared.kinds.Layout.{Layout}
 use Rattle.cell_store.specs.Layout.{header, kind_byte, version_byte}
-use Rattle.cell_store.specs.Store.{Holds, Stands, IsDamaged, FirstDamaged}
+use Rattle.cell_store.specs.Store.{HoldsCells, Stands, IsDamaged, FirstDamaged}
 
 pub length-header : (layout : Layout) (n : ℕ) → length (header layout n) ≡ 32
-unfolding header
+unfolding header bytes_of
 length-header layout n = refl
 
 -- a header tells its number of cells, its kind and its version
-pub header-number : (layout that : Layout) (n m : ℕ) → header layout n ≡ header that m → n ≡ m
-unfolding header
-header-number layout that n m e =
-    let high : n / 256 ≡ m / 256 = ap (λ l. get_or l 10 0) e in
-    let low : n % 256 ≡ m % 256 = ap (λ l. get_or l 11 0) e in
+pub header-number : (layout that : Layout) (n m : ℕ) → n < 2 ^ 16 → m < 2 ^ 16 → header layout n ≡ header that m → n ≡ m
+unfolding header bytes_of
+header-number layout that n m small fits e =
+    let high : n / 256 ^ 1 % 256 ≡ m / 256 ^ 1 % 256 = ap (λ l. get_or l 10 0) e in
+    let low : n / 256 ^ 0 % 256 ≡ m / 256 ^ 0 % 256 = ap (λ l. get_or l 11 0) e in
     omega arith
 
 kind_byte-once : (a b : Kind) → kind_byte a ≡ kind_byte b → a ≡ b
@@ -53,11 +54,11 @@ unfolding header
 header-not_blank layout n e = let first : ◌≡◌ {A = ℕ} 0x53 0 = ap (λ l. get_or l 0 0) e in absurd (omega arith)
 
 -- where in a header its number of cells stands
-pub header-cells : (layout : Layout) (n : ℕ) (bytes : List ℕ) → bytes ≡ header layout n → n ≡ 256 * get_or bytes 10 0 + get_or bytes 11 0
-unfolding header
-header-cells layout n bytes e =
-    let high : get_or bytes 10 0 ≡ n / 256 = ap (λ l. get_or l 10 0) e in
-    let low : get_or bytes 11 0 ≡ n % 256 = ap (λ l. get_or l 11 0) e in
+pub header-cells : (layout : Layout) (n : ℕ) (bytes : List ℕ) → n < 2 ^ 16 → bytes ≡ header layout n → n ≡ 256 * get_or bytes 10 0 + get_or bytes 11 0
+unfolding header bytes_of
+header-cells layout n bytes small e =
+    let high : get_or bytes 10 0 ≡ n / 256 ^ 1 % 256 = ap (λ l. get_or l 10 0) e in
+    let low : get_or bytes 11 0 ≡ n / 256 ^ 0 % 256 = ap (λ l. get_or l 11 0) e in
     omega arith
 
 pub header-kind_byte : (layout : Layout) (n : ℕ) (bytes : List ℕ) → bytes ≡ header layout n → kind_byte layout.kind ≡ get_or bytes 8 0
@@ -103,17 +104,17 @@ log_whole store cells n (suc p) h e d =
     ]
 
 -- the bytes of a store hold at most one list of a length
-holds_once : (kind : Kind) (store : List ℕ) (cells others : List (List ℕ)) → length cells ≡ length others → Holds kind store cells → Holds kind store others → cells ≡ others
-unfolding Holds
+holds_once : (kind : Kind) (store : List ℕ) (cells others : List (List ℕ)) → length cells ≡ length others → HoldsCells kind store cells → HoldsCells kind store others → cells ≡ others
+unfolding HoldsCells
 holds_once Twin store cells others e s t = ext_get_or [] cells others e (λ i l. same_Some _ _ (sym (s i l) ∙ t i (omega arith)))
 holds_once Log store cells others e s t = log_once store cells others e s t
 
 -- bytes stand for at most one list in a layout
 pub stands_once : (layout : Layout) (x : List ℕ) (cells others : List (List ℕ)) → Stands layout x cells → Stands layout x others → cells ≡ others
-stands_once layout x cells others s t = holds_once layout.kind _ cells others (header-number layout layout _ _ (sym s.head ∙ t.head)) s.holds t.holds
+stands_once layout x cells others s t = holds_once layout.kind _ cells others (header-number layout layout _ _ (let f = s.few in omega arith) (let f = t.few in omega arith) (sym s.head ∙ t.head)) s.holds t.holds
 
-holds_whole : (kind : Kind) (store : List ℕ) (cells : List (List ℕ)) (n i : ℕ) → Holds kind store cells → length cells ≡ n → IsDamaged kind store n i → ⊥
-unfolding Holds IsDamaged
+holds_whole : (kind : Kind) (store : List ℕ) (cells : List (List ℕ)) (n i : ℕ) → HoldsCells kind store cells → length cells ≡ n → IsDamaged kind store n i → ⊥
+unfolding HoldsCells IsDamaged
 holds_whole Twin store cells n i s e d = let l = d.below in none-some (get_or cells i []) (sym d.damaged ∙ s i (omega arith))
 holds_whole Log store cells n i s e d = log_whole store cells n i s e d
 

@@ -1,13 +1,13 @@
 -- What each step of a twin store makes of what its fields mean.
-use Rattle.std.proofs.Common.{◌≡◌, ℕ, suc, ◌+◌, ◌<◌, ◌≤◌, ◌⊎◌, inl, inr, min, Bool, true, false, Option, Some, None, List, [], ◌∷◌, ◌++◌, length, take, drop, set, get_or, refl, sym, ap, subst, ◌∙◌, arith, length-drop}
+use Rattle.std.proofs.Common.{◌≡◌, ℕ, ◌+◌, ◌<◌, ◌≤◌, inl, inr, Bool, true, false, Some, List, [], ◌∷◌, ◌++◌, length, take, drop, set, get_or, refl, sym, ap, subst, ◌∙◌, arith}
 use Rattle.std.specs.Option.{is_some}
 use Rattle.std.proofs.lemmas.List.{length-set, length-map, map-set, take_all, drop_all, append-nil}
 use Rattle.std.proofs.lemmas.Bool.{false≢true}
 use Rattle.std.proofs.lemmas.Option.{same_Some}
 use Rattle.cut_disk.specs.State.{DiskState, Told, Cut}
-use Rattle.cut_disk.specs.Images.{splice, firm, Image, EachImage, CutsTo}
+use Rattle.cut_disk.specs.Images.{firm, Image, EachImage, CutsTo}
 use Rattle.cut_disk.specs.ImageLaws.{image_of_firm}
-use Rattle.cut_disk.specs.CallLaws.{runs_of_call, runs_join, runs_more, grows_of_call, grows_then}
+use Rattle.cut_disk.specs.CallLaws.{runs_of_call, runs_join, runs_more, grows_of_call, grows_then, rose_after}
 use Rattle.cut_disk.specs.Lasting.{Lasts}
 use Rattle.cut_disk.specs.Calls.{Grows, Call, Runs}
 use Rattle.cut_disk.specs.declared.Torn.{Torn}
@@ -19,11 +19,12 @@ use Rattle.cell_store.specs.declared.copies.Held.{Held}
 use Rattle.cell_store.specs.Layout.{SameOutside, part, base, from_base, twin_layout}
 use Rattle.cell_store.specs.Twin.{twin_size, is_live, next, live_copy}
 use Rattle.cell_store.specs.Copies.{other, side_at, Keeps}
-use Rattle.cell_store.specs.Store.{FewCells, HasHeader, Stands, SameBesides, store_size, size_from_base}
-use Rattle.cell_store.specs.Reading.{ReadOnly, Leaves, Finds, twin_reads, twin_reads_to}
+use Rattle.cell_store.specs.Store.{FewCells, HasHeader, Stands, SameBesides, store_size}
+use Rattle.cell_store.specs.Reading.{ReadOnly, Leaves, Finds}
+use Rattle.cell_store.specs.ReadOrder.{twin_reads, twin_reads_to}
 use Rattle.cell_store.specs.Kept.{KeepsAll, cells_of}
-use Rattle.cell_store.specs.Writing.{Unfinished, LeavesUnfinished}
-use Rattle.cell_store.specs.Cells.{CellsState, Settled, TellsCells, PutDone, LeavesBesides, StandsForEither, EachImageStands}
+use Rattle.cell_store.specs.Writing.{LeavesUnfinished}
+use Rattle.cell_store.specs.Cells.{CellsState, Settled, TellsCells, PutDone, LeavesBesides, StandsForEither, EachImageStands, RereadCause, RereadFinds, calls_to_reread}
 use Rattle.cell_store.specs.Attaching.{Attached}
 use Rattle.cell_store.specs.TwinStore.{twin_state, IsTwinStore}
 use Rattle.cell_store.proofs.LayoutLaws.{part-drop, SameOutside-widen}
@@ -236,11 +237,28 @@ module _ (version : Version) (old cut new : DiskState) (held fresh : List Held) 
       subst (λ (x : CellsState). Runs (Cut torn ∷ []) (68 + length s.cells) x.disk new) view
       (runs_more (68 + length s.cells) (omega (arith, as_many)) (runs_join (runs_of_call call) runs))
 
-  -- another header was read
-  pub cut-first : (fault : Reread) → Leaves (twin_reads room) twin_reads_to cut new fault → fault ≡ reread.NotFormatted → Runs (Cut torn ∷ []) 2 s.disk new
-  cut-first fault leaves e =
-      let l : Leaves (twin_reads room) twin_reads_to cut new reread.NotFormatted = subst (λ (f : Reread). Leaves (twin_reads room) twin_reads_to cut new f) e leaves in
-      subst (λ (x : CellsState). Runs (Cut torn ∷ []) 2 x.disk new) view (runs_more 2 (omega arith) (runs_join (runs_of_call call) l.runs))
+  -- so many calls came up to what was found
+  first-was : (fault : Reread) → Leaves (twin_reads room) twin_reads_to cut new fault → Runs (Cut torn ∷ []) (calls_to_reread (twin_state version old held broken) fault) old new
+  first-was reread.DiskFailed l = runs_more _ (let r = store.ready in omega (arith, length-map held (λ (g : Held). g.payload))) (runs_join (runs_of_call call) l.runs)
+  first-was reread.NotFormatted l = runs_more _ (omega arith) (runs_join (runs_of_call call) l.runs)
+  first-was (reread.Damaged i) l = runs_more _ (omega arith) (runs_join (runs_of_call call) l.runs)
+
+  pub cut-first : (fault : Reread) → Leaves (twin_reads room) twin_reads_to cut new fault → Runs (Cut torn ∷ []) (calls_to_reread s fault) s.disk new
+  cut-first fault leaves = subst (λ (x : CellsState). Runs (Cut torn ∷ []) (calls_to_reread x fault) x.disk new) view (first-was fault leaves)
+
+  cause-was : (fault : Reread) → Leaves (twin_reads room) twin_reads_to cut new fault → Finds (twin_layout version) room cut.told fault → cut.faults ≡ old.faults → RereadCause (twin_state version old held broken) (twin_state version new held true) fault
+  cause-was reread.DiskFailed l f same = rose_after old.faults cut.faults new.faults call.later l.rose
+  cause-was reread.NotFormatted l f same = record {
+    faults = l.faults ∙ same;
+    finds = λ t told. subst (λ m. RereadFinds (twin_layout version) m t.bytes reread.NotFormatted) (store.ready ∙ sym (length-map held (λ (g : Held). g.payload))) (f t (sym l.told ∙ told));
+  }
+  cause-was (reread.Damaged i) l f same = record {
+    faults = l.faults ∙ same;
+    finds = λ t told. subst (λ m. RereadFinds (twin_layout version) m t.bytes (reread.Damaged i)) (store.ready ∙ sym (length-map held (λ (g : Held). g.payload))) (f t (sym l.told ∙ told));
+  }
+
+  pub cut-cause : (fault : Reread) → Leaves (twin_reads room) twin_reads_to cut new fault → Finds (twin_layout version) room cut.told fault → cut.faults ≡ old.faults → RereadCause s (twin_state version new held true) fault
+  cut-cause fault l f same = subst (λ (x : CellsState). RereadCause x (twin_state version new held true) fault) view (cause-was fault l f same)
 
   -- read
   module _ (count : length fresh ≡ room) (same : ReadOnly (twin_reads room) cut new) (keeps : (t : Told) → cut.told ≡ Some t → KeepsAll version (from_base version t.bytes) fresh) where

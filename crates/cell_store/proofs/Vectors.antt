@@ -1,5 +1,6 @@
 -- The definitions, tried on written-out disks of one cell: 100 bytes.
 use Rattle.std.proofs.Common.{◌≡◌, ℕ, Some, None, List, [], ◌∷◌, ◌++◌, set, replicate, refl, ap, get_or, arith}
+use Rattle.byte_lists.specs.Numbers.{bytes_of}
 use Rattle.cell_store.specs.declared.kinds.Version.TheVariants.{One, Two}
 use Rattle.cell_store.specs.Layout.{header, twin_layout}
 use Rattle.cut_disk.specs.Images.{splice}
@@ -20,19 +21,19 @@ abbrev fresh : List ℕ
 fresh = head ++ (0xa7 ∷ 0 ∷ zeros) ++ (0xa7 ∷ 2 ∷ zeros)
 
 a_header_of_one_cell : header (twin_layout One) 1 ≡ head
-unfolding header
+unfolding header bytes_of
 a_header_of_one_cell = refl
 
 a_header_of_1024_cells : header (twin_layout One) 1024 ≡ set (set head 10 4) 11 0
-unfolding header
+unfolding header bytes_of
 a_header_of_1024_cells = refl
 
 a_header_of_version_two : header (twin_layout Two) 1 ≡ set head 9 2
-unfolding header
+unfolding header bytes_of
 a_header_of_version_two = refl
 
 a_fresh_store : Fresh (twin_layout One) (zeros ∷ []) (replicate 100 0x5a) fresh
-unfolding Fresh fresh_cells header splice
+unfolding Fresh fresh_cells header bytes_of splice
 a_fresh_store = refl
 
 the_fresh_cell : cell_at fresh 0 ≡ Some zeros
@@ -69,5 +70,5 @@ unfolding cell_at cell_of counts is_live
 the_spare_closed = refl
 
 no_header : HasHeader (twin_layout One) 1 (set fresh 0 0) → ⊥
-unfolding header
+unfolding header bytes_of
 no_header e = let first : ◌≡◌ {A = ℕ} 0 0x53 = ap (λ l. get_or l 0 0) e in absurd (omega arith)

@@ -4,7 +4,7 @@ use Rattle.std.specs.Option.{is_some}
 use Rattle.std.proofs.lemmas.Bool.{false≢true}
 use Rattle.std.proofs.lemmas.Option.{same_Some}
 use Rattle.cut_disk.specs.State.{Told}
-use Rattle.cut_disk.specs.Images.{splice, firm, with_bytes, Image, Tears, Writes}
+use Rattle.cut_disk.specs.Images.{splice, firm, with_bytes, Image, Tears, WritesLoose}
 use Rattle.cut_disk.specs.ImageLaws.{firm_under_write, image_under_write, image_of_firm}
 use Rattle.cell_store.specs.Layout.{SameOutside}
 use Rattle.cell_store.specs.Writing.{LeavesOutside}
@@ -37,7 +37,7 @@ outside-more lo k at n a b c low high sizes tells leaves tears bytes was t told 
     let step : SameOutside at n under.before x = subst (λ q. SameOutside at q under.before x) l (subst (λ (y : List ℕ). SameOutside at (length under.patched.left) under.before y) (sym under.patched.is) (SameOutside-splice at under.patched.left under.before (let f = z.0 in omega (arith, l, m)))) in
     SameOutside-after lo k bytes under.before x (leaves bytes was s before.1 under.before under.image) (SameOutside-widen at n lo k under.before x low high step)
 
-pub writes-tear : (at n : ℕ) (bytes : List ℕ) (b c : Option Told) → length bytes ≡ n → Writes at bytes b c → Tears at n b c
+pub writes-tear : (at n : ℕ) (bytes : List ℕ) (b c : Option Told) → length bytes ≡ n → WritesLoose at bytes b c → Tears at n b c
 writes-tear at n bytes b c size w t told = record { left = bytes; sized = size; now = w t told }
 
 -- an image of a write over firm bytes

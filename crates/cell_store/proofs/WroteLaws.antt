@@ -1,17 +1,17 @@
 -- Laws of writes that aren't synced yet.
-use Rattle.std.proofs.Common.{◌≡◌, ℕ, ◌+◌, ◌*◌, ◌<◌, ◌≤◌, true, Option, Some, None, List, [], ◌∷◌, ◌++◌, length, take, get_or, replicate, refl, sym, ap, subst, ◌∙◌, arith}
+use Rattle.std.proofs.Common.{◌≡◌, ℕ, ◌+◌, ◌*◌, ◌<◌, ◌≤◌, true, Option, Some, None, List, [], ◌++◌, length, take, get_or, replicate, refl, sym, ap, subst, ◌∙◌, arith}
 use Rattle.std.specs.Option.{is_some}
 use Rattle.std.specs.List.{flat_map}
 use Rattle.std.proofs.lemmas.List.{take_all, length-take-le, get_or-take, replicate-append-replicate}
 use Rattle.std.proofs.lemmas.Option.{same_Some}
 use Rattle.cut_disk.specs.State.{Told, DiskState}
-use Rattle.cut_disk.specs.Images.{splice, firm, with_bytes, Image, Writes, Tears, Syncs}
+use Rattle.cut_disk.specs.Images.{splice, firm, with_bytes, Image, WritesLoose, Tears, Syncs}
 use Rattle.cut_disk.specs.ImageLaws.{image_of_firm, image_under_write}
 use Rattle.cut_disk.specs.Splices.{splice-beside}
 use Rattle.cut_disk.specs.Calls.{Call, Runs}
 use Rattle.cut_disk.specs.CallLaws.{runs_none, runs_then}
 use Rattle.cell_store.specs.Layout.{SameOutside}
-use Rattle.cell_store.specs.Writing.{LeavesOutside, OldOutside, Loosens, ReadsNow, Wrote}
+use Rattle.cell_store.specs.Writing.{LeavesOutside, Loosens, Wrote}
 use Rattle.cell_store.proofs.LayoutLaws.{SameOutside-refl, SameOutside-splice, SameOutside-after, SameOutside-widen}
 use Rattle.cell_store.proofs.WritingLaws.{told-before}
 use Rattle.cell_store.proofs.FreshLaws.{Sized}
@@ -23,9 +23,9 @@ pub wrote-none : (at : ℕ) (a : Option Told) → Wrote at [] a a
 wrote-none at a t is = record { loose = t.loose; told = is ∙ ap (λ bytes. Some (record { bytes = bytes; loose = t.loose })) (sym (splice-none at t.bytes)) }
 
 -- one write, and one behind another
-pub wrote-call : (address at : ℕ) (bytes : List ℕ) (a b : Option Told) → address ≡ at → Writes address bytes a b → Wrote at bytes a b
+pub wrote-call : (address at : ℕ) (bytes : List ℕ) (a b : Option Told) → address ≡ at → WritesLoose address bytes a b → Wrote at bytes a b
 wrote-call address at bytes a b place writes t is =
-    let w : Writes at bytes a b = rw (← place) writes in
+    let w : WritesLoose at bytes a b = rw (← place) writes in
     record { loose = splice at (replicate (length bytes) true) t.loose; told = w t is }
 
 pub wrote-then : (at next : ℕ) (bytes more : List ℕ) (a b c : Option Told) → next ≡ at + length bytes → ((t : Told) → a ≡ Some t → at + length bytes + length more ≤ length t.bytes) → Wrote at bytes a b → Wrote next more b c → Wrote at (bytes ++ more) a c
@@ -80,7 +80,7 @@ loosens-tears at n a b sizes tears t is u now y image =
       same = subst (λ q. SameOutside at q under.before y) l (subst (λ (x : List ℕ). SameOutside at (length under.patched.left) under.before x) (sym under.patched.is) (SameOutside-splice at under.patched.left under.before (let f = z.0 in omega (arith, l, m))));
     }
 
-pub writes-loosens : (at n : ℕ) (bytes : List ℕ) (a b : Option Told) → ((t : Told) → a ≡ Some t → (at + n ≤ length t.bytes) × (length t.loose ≡ length t.bytes)) → length bytes ≡ n → Writes at bytes a b → Loosens at n a b
+pub writes-loosens : (at n : ℕ) (bytes : List ℕ) (a b : Option Told) → ((t : Told) → a ≡ Some t → (at + n ≤ length t.bytes) × (length t.loose ≡ length t.bytes)) → length bytes ≡ n → WritesLoose at bytes a b → Loosens at n a b
 writes-loosens at n bytes a b sizes sized writes = loosens-tears at n a b sizes (λ t is. record { left = bytes; sized = sized; now = writes t is })
 
 -- of bytes of which none was loose
@@ -108,7 +108,7 @@ module _ (at all address count : ℕ) (bytes : List ℕ) (start mid new : DiskSt
   chunk-sizes t is = let z = mid-sizes t is in let f = z.0 in (omega arith, z.1)
 
   -- one more is written
-  pub chunk-more : (chunk longer : List ℕ) → length chunk ≡ 32 → bytes ++ chunk ≡ longer → new.faults ≡ mid.faults → Writes address chunk mid.told new.told → ChunksSoFar at all longer (count + 1) start new
+  pub chunk-more : (chunk longer : List ℕ) → length chunk ≡ 32 → bytes ++ chunk ≡ longer → new.faults ≡ mid.faults → WritesLoose address chunk mid.told new.told → ChunksSoFar at all longer (count + 1) start new
   chunk-more chunk longer sized same faults writes = record {
     runs = runs_then so.runs call;
     faults = faults ∙ so.faults;

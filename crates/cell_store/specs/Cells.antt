@@ -1,11 +1,12 @@
 -- What a store of cells means, and what its calls leave.
-use Rattle.std.specs.Prelude.{◌≡◌, ℕ, Bool, true, false, Option, Some, List, [], ◌⊎◌, set, length}
+use Rattle.std.specs.Prelude.{◌≡◌, ℕ, ◌+◌, Bool, true, false, Option, Some, List, [], ◌⊎◌, set, length}
 use Rattle.cut_disk.specs.State.{DiskState, Told}
 use Rattle.cut_disk.specs.Images.{firm, Image, EachImage}
 use Rattle.cut_disk.specs.Calls.{Rose, Runs}
 use Rattle.cell_store.specs.declared.kinds.Layout.{Layout}
 use Rattle.cell_store.specs.declared.faults.Reread.{Reread}
 use Rattle.cell_store.specs.declared.faults.Reread.TheVariants as reread
+use Rattle.cell_store.specs.ReadOrder.{reads, reads_to}
 use Rattle.cell_store.specs.Store.{HasHeader, Stands, FirstDamaged, Put, SameBesides}
 
 -- the kind and version of a store, its list of cells of 32 bytes, the disk below, and whether the store is broken
@@ -72,11 +73,22 @@ RereadFinds layout n x reread.DiskFailed = Unit {0}
 RereadFinds layout n x reread.NotFormatted = HasHeader layout n x → ⊥
 RereadFinds layout n x (reread.Damaged i) = HasHeader layout n x × FirstDamaged layout x n i
 
--- why a store isn't read anew: the disk failed, so that its count rose, or bytes that are told are no store
+-- no call failed, and bytes that are told are no store of the old layout and number of cells
+pub record Misread (old new : CellsState) (fault : Reread) : Type 0 where
+  pub faults : new.disk.faults ≡ old.disk.faults
+  pub finds : (t : Told) → new.disk.told ≡ Some t → RereadFinds old.layout (length old.cells) t.bytes fault
+
+-- why a store isn't read anew: the disk failed, so that its count rose, or no call failed, and bytes that are told are no store
 abbrev pub RereadCause : CellsState → CellsState → Reread → Type 0
 RereadCause old new reread.DiskFailed = Rose old.disk.faults new.disk.faults
-RereadCause old new reread.NotFormatted = (t : Told) → new.disk.told ≡ Some t → RereadFinds old.layout (length old.cells) t.bytes reread.NotFormatted
-RereadCause old new (reread.Damaged i) = (t : Told) → new.disk.told ≡ Some t → RereadFinds old.layout (length old.cells) t.bytes (reread.Damaged i)
+RereadCause old new reread.NotFormatted = Misread old new reread.NotFormatted
+RereadCause old new (reread.Damaged i) = Misread old new (reread.Damaged i)
+
+-- how many calls came at most before a store wasn't read anew, the cut among them
+abbrev pub calls_to_reread : CellsState → Reread → ℕ
+calls_to_reread s reread.DiskFailed = 1 + reads s.layout.kind (length s.cells)
+calls_to_reread s reread.NotFormatted = 2
+calls_to_reread s (reread.Damaged i) = 1 + reads_to s.layout.kind (length s.cells) i
 
 -- bytes that are told stand for the list
 abbrev pub StandsNow : CellsState → Type 0

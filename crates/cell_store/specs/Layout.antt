@@ -1,5 +1,6 @@
 -- Where a store has its bytes: the first of them, its header, and places in a list of bytes.
-use Rattle.std.specs.Prelude.{◌≡◌, ℕ, ◌+◌, ◌/◌, ◌%◌, ◌<◌, ◌≤◌, List, ◌∷◌, ◌++◌, length, take, drop, get_or, replicate, codes}
+use Rattle.std.specs.Prelude.{◌≡◌, ℕ, ◌+◌, ◌<◌, ◌≤◌, List, ◌∷◌, ◌++◌, length, take, drop, get_or, replicate, codes}
+use Rattle.byte_lists.specs.Numbers.{bytes_of}
 use Rattle.cell_store.specs.declared.kinds.Kind.{Kind}
 use Rattle.cell_store.specs.declared.kinds.Kind.TheVariants.{Twin, Log}
 use Rattle.cell_store.specs.declared.kinds.Version.{Version}
@@ -34,9 +35,9 @@ abbrev pub version_byte : Version → ℕ
 version_byte One = 1
 version_byte Two = 2
 
--- "SECOCST1", the kind, the version, the number of cells in two bytes, and zeros
+-- "SECOCST1", the kind, the version, the number of cells in two bytes (below 2 ^ 16), and zeros
 unfoldable pub header : Layout → ℕ → List ℕ
-header layout n = codes "SECOCST1" ++ (kind_byte layout.kind ∷ version_byte layout.version ∷ n / 256 ∷ n % 256 ∷ replicate 20 0)
+header layout n = codes "SECOCST1" ++ (kind_byte layout.kind ∷ version_byte layout.version ∷ (bytes_of 2 n ++ replicate 20 0))
 
 -- the layouts of the two kinds
 abbrev pub twin_layout : Version → Layout

@@ -5,6 +5,7 @@ pub mod Held
 pub mod Log
 pub mod Store
 pub mod Faults
+pub mod ReadOrder
 pub mod Cells
 pub mod Writing
 pub mod Kept

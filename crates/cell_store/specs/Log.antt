@@ -2,12 +2,13 @@
 -- mark from 0 to 2, n cells of 32 bytes, and 64 record places of 35 bytes. A place is a gate, a cell number in
 -- two bytes, and 32 bytes of payload. A bank or place is live where its gate is a7. All places count from the
 -- first byte of the list.
-use Rattle.std.specs.Prelude.{◌≡◌, ℕ, zero, suc, ◌+◌, ◌*◌, ◌/◌, ◌%◌, ◌<◌, ◌≤◌, true, false, ◌⊎◌, List, ◌∷◌, ◌++◌, length, drop, set, map, get_or, replicate}
+use Rattle.std.specs.Prelude.{◌≡◌, ℕ, zero, suc, ◌+◌, ◌*◌, ◌<◌, ◌≤◌, true, false, ◌⊎◌, List, ◌∷◌, ◌++◌, length, drop, set, map, replicate}
 use Rattle.std.specs.List.{range_with_len, flat_map}
+use Rattle.byte_lists.specs.Numbers.{number_of, bytes_of}
 use Rattle.cell_store.specs.declared.copies.Side.{Side}
 use Rattle.cell_store.specs.declared.copies.Side.TheVariants.{First, Second}
 use Rattle.cell_store.specs.Layout.{part}
-use Rattle.cell_store.specs.Twin.{is_live, mark, counts}
+use Rattle.cell_store.specs.Twin.{is_live, counts}
 use Rattle.cell_store.specs.Copies.{other}
 
 -- the size in bytes of a store of n cells, from its base on
@@ -43,7 +44,7 @@ place n side x p = part (place_at n side p) 35 x
 
 -- the number of the cell that a record changes, and what it is then
 abbrev pub number : List ℕ → ℕ
-number record_bytes = 256 * get_or record_bytes 1 0 + get_or record_bytes 2 0
+number record_bytes = number_of (part 1 2 record_bytes)
 
 abbrev pub content : List ℕ → List ℕ
 content record_bytes = drop 3 record_bytes
@@ -94,7 +95,7 @@ LogDamaged store n (suc p) = FirstPlaceDamaged store n p
 
 -- a live record
 abbrev pub live_record : ℕ → List ℕ → List ℕ
-live_record i c = 0xa7 ∷ i / 256 ∷ i % 256 ∷ c
+live_record i c = 0xa7 ∷ (bytes_of 2 i ++ c)
 
 -- a bank with this mark and these cells, and a record in no place, but its gate
 abbrev pub bank_rest : ℕ → List (List ℕ) → List ℕ

@@ -1,5 +1,5 @@
 -- What reading a log store leaves and finds.
-use Rattle.std.specs.Prelude.{◌≡◌, ℕ, zero, suc, ◌+◌, ◌<◌, ◌≤◌, min, true, false, Option, Some, None, List, [], get_or, if◌then◌else◌}
+use Rattle.std.specs.Prelude.{◌≡◌, ℕ, ◌+◌, ◌<◌, ◌≤◌, min, true, false, Option, Some, None, List, [], get_or, if◌then◌else◌}
 use Rattle.cut_disk.specs.State.{DiskState, Told}
 use Rattle.cell_store.specs.declared.copies.Side.{Side}
 use Rattle.cell_store.specs.declared.copies.Side.TheVariants.{First, Second}
@@ -10,8 +10,9 @@ use Rattle.cell_store.specs.declared.faults.Reread.{Reread}
 use Rattle.cell_store.specs.declared.faults.Reread.TheVariants as reread
 use Rattle.cell_store.specs.Twin.{is_live, mark, counts}
 use Rattle.cell_store.specs.Copies.{other}
-use Rattle.cell_store.specs.Log.{bank_head, bank_cell, BankCounts, place, number, listed, PlaceDamaged}
+use Rattle.cell_store.specs.Log.{bank_head, bank_cell, BankCounts, place, number, listed}
 use Rattle.cell_store.specs.Log.{LogDamaged}
+use Rattle.cell_store.specs.ReadOrder.{bank_reads_to}
 use Rattle.cell_store.specs.Reading.{ReadOnly, ReadFailed}
 
 -- told bytes have P from the base on
@@ -61,20 +62,8 @@ PlacesFault version n old new reread.DiskFailed = ReadFailed 64 old new
 PlacesFault version n old new reread.NotFormatted = ⊥
 PlacesFault version n old new (reread.Damaged i) = (1 ≤ i) × ReadOnly (min 64 i) old new × ToldLog version old.told (λ x. LogDamaged x n i)
 
--- the reads of a bank that counts up to the damage: the gates and marks of both, all cells, and the places up to it
-abbrev pub bank_reads_to : ℕ → ℕ → ℕ
-bank_reads_to n zero = 2
-bank_reads_to n (suc p) = 2 + n + suc p
-
 -- the bank that counts isn't read whole: the disk failed, or it is damaged
 abbrev pub CountingFault : Version → ℕ → DiskState → DiskState → Reread → Type 0
 CountingFault version n old new reread.DiskFailed = ReadFailed (66 + n) old new
 CountingFault version n old new reread.NotFormatted = ⊥
 CountingFault version n old new (reread.Damaged i) = ReadOnly (min (66 + n) (bank_reads_to n i)) old new × ToldLog version old.told (λ x. LogDamaged x n i)
-
--- the reads of a log store of n cells, and those up to a damage
-abbrev pub log_reads : ℕ → ℕ
-log_reads n = 67 + n
-
-abbrev pub log_reads_to : ℕ → ℕ → ℕ
-log_reads_to n i = 1 + bank_reads_to n i

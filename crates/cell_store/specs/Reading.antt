@@ -1,5 +1,5 @@
 -- What reading a store leaves and finds.
-use Rattle.std.specs.Prelude.{◌≡◌, ℕ, ◌+◌, min, Option, Some, None, [], IsTrue}
+use Rattle.std.specs.Prelude.{◌≡◌, ℕ, min, Option, Some, None, [], IsTrue}
 use Rattle.cut_disk.specs.State.{DiskState, Told}
 use Rattle.cut_disk.specs.Arming.{is_clear}
 use Rattle.cut_disk.specs.Calls.{Rose, Runs}
@@ -38,13 +38,6 @@ abbrev pub Leaves : ℕ → (ℕ → ℕ) → DiskState → DiskState → Reread
 Leaves all up_to old new reread.DiskFailed = ReadFailed all old new
 Leaves all up_to old new reread.NotFormatted = ReadOnly (min all 1) old new
 Leaves all up_to old new (reread.Damaged i) = ReadOnly (min all (up_to i)) old new
-
--- the reads of a twin store of n cells, and those up to cell i
-abbrev pub twin_reads : ℕ → ℕ
-twin_reads n = 1 + n
-
-abbrev pub twin_reads_to : ℕ → ℕ
-twin_reads_to i = 2 + i
 
 -- what told bytes have, where a store isn't read
 abbrev pub Finds : Layout → ℕ → Option Told → Reread → Type 0

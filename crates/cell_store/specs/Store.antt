@@ -35,16 +35,16 @@ HasHeader layout n x = part 0 32 (from_base layout.version x) ≡ header layout 
 
 -- the bytes of a store of this kind hold these cells: a copy that counts has each cell, or the bank that counts and
 -- its places have all
-unfoldable pub Holds : Kind → List ℕ → List (List ℕ) → Type 0
-Holds Twin store cells = (i : ℕ) → i < length cells → cell_at store i ≡ Some (get_or cells i [])
-Holds Log store cells = LogHolds store cells
+unfoldable pub HoldsCells : Kind → List ℕ → List (List ℕ) → Type 0
+HoldsCells Twin store cells = (i : ℕ) → i < length cells → cell_at store i ≡ Some (get_or cells i [])
+HoldsCells Log store cells = LogHolds store cells
 
 -- the bytes x stand for these cells as a store of this layout
 pub record Stands (layout : Layout) (x : List ℕ) (cells : List (List ℕ)) : Type 0 where
   pub few : FewCells (length cells)
   pub room : store_size layout (length cells) ≤ length x
   pub head : HasHeader layout (length cells) x
-  pub holds : Holds layout.kind (from_base layout.version x) cells
+  pub holds : HoldsCells layout.kind (from_base layout.version x) cells
 
 -- of n cells of the twin store this one is damaged, and none before it
 pub record TwinDamaged (store : List ℕ) (n i : ℕ) : Type 0 where
@@ -89,6 +89,7 @@ twin_put version x i c =
 -- holds the record, or, where there is none, the other bank holds all cells
 pub record LogPut (version : Version) (x : List ℕ) (i : ℕ) (c y : List ℕ) : Type 0 where
   pub count : ℕ
+  pub few : FewCells count
   pub head : HasHeader (log_layout version) count x
   pub side : Side
   pub counting : BankCounts count side (from_base version x)

@@ -1,5 +1,6 @@
 // The two banks of a log store, and its record places.
-ghost use Rattle.std.specs.Prelude.{◌≡◌, ◌+◌, ◌*◌, ◌/◌, ◌%◌, ◌<◌, ◌≤◌, ◌∷◌};
+ghost use Rattle.std.specs.Prelude.{◌≡◌, ◌+◌, ◌*◌, ◌<◌, ◌≤◌, ◌++◌};
+ghost use Rattle.byte_lists.specs.Numbers.{bytes_of};
 ghost use Rattle.cell_store.specs.Log.{log_size, bank_at, place_at};
 
 use crate::copies::Side;
@@ -9,7 +10,7 @@ pub const PLACES: u8 = 64;
 
 /// The bank that counts: where it is, its mark, how many of its places are used, and whether the
 /// other bank, its spare, is live.
-#[derive(Clone, Copy, Debug, PartialEq, Eq, Drop)]
+#[derive(Clone, Copy, Drop)]
 pub struct Bank {
     pub side: Side,
     pub mark: u8,
@@ -39,11 +40,10 @@ pub fn place_address(cells: u16, side: Side, place: u8) -> u64
 
 /// A record but its gate: the number of the cell that it changes, and what that is then.
 pub fn record_of(cell: u16, payload: &[u8; 32]) -> [u8; 34]
-    ensures { result ≡ cell / 256 ∷ cell % 256 ∷ payload.now }
+    ensures { result ≡ bytes_of 2 cell ++ payload.now }
 {
     let mut out = [0; 34];
-    out[0] = (cell / 256) as u8;
-    out[1] = (cell % 256) as u8;
+    out[..2].copy_from_slice(&cell.to_be_bytes());
     out[2..].copy_from_slice(payload);
     out
 }

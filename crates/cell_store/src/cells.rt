@@ -5,7 +5,7 @@ ghost use Rattle.cut_disk.specs.Arming.{with_stop, with_fail};
 ghost use Rattle.cut_disk.specs.Images.{EachImage, CutsTo};
 ghost use Rattle.cut_disk.specs.Calls.{Rose, Runs, Grows};
 ghost use Rattle.cell_store.specs.Reading.{NoStop};
-ghost use Rattle.cell_store.specs.Cells.{CellsState, Settled, TellsCells, PutDone, LeavesBesides, StandsForEither, RereadCause, StandsNow, EachImageStands};
+ghost use Rattle.cell_store.specs.Cells.{CellsState, Settled, TellsCells, PutDone, LeavesBesides, StandsForEither, RereadCause, calls_to_reread, StandsNow, EachImageStands};
 
 use crate::faults::{PutFailed, Reread};
 use cut_disk::{Disk, Torn};
@@ -60,7 +60,8 @@ pub trait CutCells: Cells {
     /// Cuts the power of the disk, and reads everything anew from it, the header first, into room
     /// that is there already. It ends a stop and what `stop_at` armed, whatever it answers. Where it
     /// fails, the store is broken and its list is as before. Errors, in the order of reading:
-    /// `DiskFailed`, `NotFormatted`, and `Damaged` with the first damage.
+    /// `DiskFailed`, `NotFormatted`, and `Damaged` with the first damage; no read comes after the
+    /// one that found it.
     fn power_cut(&mut self, torn: Torn) -> Result<(), Reread>
         ensures layout { (Self.state self.new).layout ≡ (Self.state self.old).layout }
         ensures count { length (Self.state self.new).cells ≡ length (Self.state self.old).cells }
@@ -78,8 +79,8 @@ pub trait CutCells: Cells {
         ensures kept { OnErr result ((Self.state self.new).cells ≡ (Self.state self.old).cells) }
         ensures broken { OnErr result ((Self.state self.new).broken ≡ true) }
         ensures cause { IfErr result (RereadCause (Self.state self.old) (Self.state self.new)) }
-        ensures first { IfErr result (λ fault. fault ≡ Reread.NotFormatted → Runs (Cut torn ∷ []) 2
-            (Self.state self.old).disk (Self.state self.new).disk) }
+        ensures first { IfErr result (λ fault. Runs (Cut torn ∷ [])
+            (calls_to_reread (Self.state self.old) fault) (Self.state self.old).disk (Self.state self.new).disk) }
         ensures never { EachImageStands (Self.state self.old) → IfErr result
             (λ fault. fault ≡ Reread.DiskFailed) };
 

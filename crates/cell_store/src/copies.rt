@@ -10,14 +10,14 @@ use crate::layout::{COPY, PAIR};
 pub const LIVE: u8 = 0xa7;
 
 /// One of the two copies of a cell.
-#[derive(Clone, Copy, Debug, PartialEq, Eq, Drop)]
+#[derive(Clone, Copy, Drop)]
 pub enum Side {
     First,
     Second,
 }
 
 /// The copy of a cell that counts, and whether the other one, its spare, is live.
-#[derive(Clone, Copy, Debug, PartialEq, Eq, Drop)]
+#[derive(Clone, Copy, Drop)]
 pub struct Held {
     pub payload: [u8; 32],
     pub mark: u8,

@@ -1,12 +1,13 @@
 //! Laws of stores: the contract of each function is the law, and its body is empty.
-ghost use Rattle.std.specs.Prelude.{◌≡◌, ◌≢◌, ℕ, ◌<◌, ◌≤◌, List, [], length, slice_index_or, slice_set, replicate};
+ghost use Rattle.std.specs.Prelude.{◌≡◌, ◌≢◌, ℕ, ◌^◌, ◌<◌, ◌≤◌, List, [], length, slice_index_or, slice_set, replicate};
 ghost use Rattle.cell_store.specs.declared.kinds.Layout.{Layout};
 ghost use Rattle.cell_store.specs.Layout.{header};
 ghost use Rattle.cell_store.specs.Store.{FewCells, Stands, Fresh, Put, store_size};
 
-/// A header tells its kind, its version and its number of cells.
+/// A header tells its kind, its version and its number of cells, which two bytes can hold.
 pub fn a_header_tells_its_store()
-    ensures { (layout that : Layout) (n m : ℕ) → header layout n ≡ header that m
+    ensures { (layout that : Layout) (n m : ℕ) → n < 2 ^ 16 → m < 2 ^ 16
+        → header layout n ≡ header that m
         → (layout.kind ≡ that.kind) × (layout.version ≡ that.version) × (n ≡ m) }
 {}
 

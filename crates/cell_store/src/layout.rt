@@ -60,14 +60,12 @@ fn version_byte(version: Version) -> u8
 
 /// The header of a store: the text `SECOCST1`, the kind, the version, the number of cells in two
 /// bytes, and zeros.
-#[tactic(auto, unfolding(crate::specs::Layout::header))]
 pub fn header(layout: Layout, cells: u16) -> [u8; 32]
     ensures { result ≡ header layout cells }
 {
     let kind = kind_byte(layout.kind);
     let version = version_byte(layout.version);
-    let high = (cells / 256) as u8;
-    let low = (cells % 256) as u8;
+    let [high, low] = cells.to_be_bytes();
     [
         b'S', b'E', b'C', b'O', b'C', b'S', b'T', b'1', kind, version, high, low, 0, 0, 0, 0, 0, 0,
         0, 0, 0, 0, 0, 0, 0, 0, 0, 0, 0, 0, 0, 0,

@@ -8,7 +8,8 @@ ghost use Rattle.cell_store.specs.Twin.{is_live, counts};
 ghost use Rattle.cell_store.specs.LogKept.{KeepsLog};
 ghost use Rattle.cell_store.specs.Store.{FewCells, HasHeader, store_size};
 ghost use Rattle.cell_store.specs.Reading.{ReadOnly, ReadFailed, Leaves, Finds};
-ghost use Rattle.cell_store.specs.LogReading.{ToldLog, bank_of, BankRead, BankFault, CellsSoFar, PlacesSoFar, PlacesFault, CountingFault, log_reads, log_reads_to};
+ghost use Rattle.cell_store.specs.LogReading.{ToldLog, bank_of, BankRead, BankFault, CellsSoFar, PlacesSoFar, PlacesFault, CountingFault};
+ghost use Rattle.cell_store.specs.ReadOrder.{log_reads, log_reads_to};
 
 use crate::banks::{Bank, bank_address, place_address};
 use crate::copies::{LIVE, Side, next};
@@ -165,7 +166,7 @@ fn is_live_place(bytes: &[u8; 35]) -> bool
 fn number_of(bytes: &[u8; 35]) -> u16
     ensures { result ≡ number bytes.now }
 {
-    256 * u16::from(bytes[1]) + u16::from(bytes[2])
+    u16::from_be_bytes([bytes[1], bytes[2]])
 }
 
 fn content_of(bytes: &[u8; 35]) -> [u8; 32]

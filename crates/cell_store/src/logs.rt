@@ -6,7 +6,7 @@ ghost use Rattle.cell_store.specs.declared.kinds.Version.TheVariants.{One};
 ghost use Rattle.cell_store.specs.Layout.{log_layout};
 ghost use Rattle.cell_store.specs.Log.{log_size};
 ghost use Rattle.cell_store.specs.Store.{FewCells, store_size};
-ghost use Rattle.cell_store.specs.LogReading.{log_reads, log_reads_to};
+ghost use Rattle.cell_store.specs.ReadOrder.{log_reads, log_reads_to};
 ghost use Rattle.cell_store.specs.Attaching.{Attached, NotAttached, NotFormed};
 ghost use Rattle.cell_store.specs.Formats.{Formats, LeavesUnformed};
 ghost use Rattle.cell_store.specs.LogKept.{KeepsLog, PutsLog, LeavesEither, LogBesides};

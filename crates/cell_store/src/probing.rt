@@ -44,7 +44,7 @@ fn probe_of(version: Version, bytes: &[u8; 32]) -> Probe
     if is_blank(bytes) {
         return Probe::Blank;
     }
-    let cells = 256 * u16::from(bytes[10]) + u16::from(bytes[11]);
+    let cells = u16::from_be_bytes([bytes[10], bytes[11]]);
     let kind = kind_of(bytes[8]);
     let layout = Layout { kind, version };
     if is_store(bytes, layout, cells) {

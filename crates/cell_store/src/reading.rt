@@ -6,7 +6,8 @@ ghost use Rattle.cell_store.specs.Layout.{base, from_base, twin_layout};
 ghost use Rattle.cell_store.specs.Twin.{twin_size};
 ghost use Rattle.cell_store.specs.Store.{FewCells, HasHeader, store_size};
 ghost use Rattle.cell_store.specs.Kept.{KeepsAll};
-ghost use Rattle.cell_store.specs.Reading.{ReadOnly, Leaves, Finds, ToldKeeps, CellFault, HeaderFault, twin_reads, twin_reads_to};
+ghost use Rattle.cell_store.specs.Reading.{ReadOnly, Leaves, Finds, ToldKeeps, CellFault, HeaderFault};
+ghost use Rattle.cell_store.specs.ReadOrder.{twin_reads, twin_reads_to};
 
 use crate::copies::{Held, held_in};
 use crate::faults::Reread;

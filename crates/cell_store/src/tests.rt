@@ -59,7 +59,7 @@ fn fresh_store(alloc: Global, version: Version) -> Result<TwinCells<MemDisk>, Fa
     }
 }
 
-/// PutsAs elevens into cell 0 of a store whose disk stops at this call, and cuts the power: whether
+/// Puts elevens into cell 0 of a store whose disk stops at this call, and cuts the power: whether
 /// the put was done, and the cell that is read then.
 fn put_and_cut<C: CutCells>(
     store: &mut C,

@@ -4,7 +4,7 @@ ghost use Rattle.cut_disk.specs.Calls.{Runs, Grows};
 ghost use Rattle.cell_store.specs.declared.kinds.Version.TheVariants.{One};
 ghost use Rattle.cell_store.specs.Layout.{twin_layout};
 ghost use Rattle.cell_store.specs.Store.{FewCells, store_size};
-ghost use Rattle.cell_store.specs.Reading.{twin_reads, twin_reads_to};
+ghost use Rattle.cell_store.specs.ReadOrder.{twin_reads, twin_reads_to};
 ghost use Rattle.cell_store.specs.Attaching.{Attached, NotAttached, NotFormed};
 ghost use Rattle.cell_store.specs.Formats.{Formats, LeavesUnformed};
 

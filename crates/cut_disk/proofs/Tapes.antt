@@ -6,7 +6,7 @@ use Rattle.std.proofs.Math.ListN.{get_or-append}
 use Rattle.std.proofs.Math.Seq.{get_or-append_seam}
 use Rattle.std.proofs.lemmas.List.{length-append}
 use Rattle.cut_disk.specs.declared.tape.PastEntry.{PastEntry}
-use Rattle.cut_disk.specs.State.{Mark, Entry, entry, DiskState}
+use Rattle.cut_disk.specs.State.{Mark, Entry, past_entry, DiskState}
 use Rattle.cut_disk.specs.Calls.{Call, AddsOne, newest}
 use Rattle.cut_disk.specs.CallLaws.{newest-append}
 use Rattle.cut_disk.specs.Memory.{Contents, told_of, disk_of}
@@ -35,15 +35,15 @@ with_entry_adds room e (Some before) all is = (before, refl, case (nat_lt (lengt
     case false p = cc
 
 -- the last entry is the state now
-pub newest_after : (mark : Option Mark) (m : Contents) (t u : TapeState) → u ≡ record t { past = with_entry t.room (entry (told_of m) mark) t.past }
+pub newest_after : (mark : Option Mark) (m : Contents) (t u : TapeState) → u ≡ record t { past = with_entry t.room (past_entry (told_of m) mark) t.past }
     → (all : List Entry) → u.past ≡ Some all → Some (told_of m) ≡ newest (Some (told_of m)) all
 newest_after mark m t u is all told =
-    let adds = with_entry_adds t.room (entry (told_of m) mark) t.past all (sym (ap (λ (v : TapeState). v.past) is) ∙ told) in
-    sym (ap (newest (Some (told_of m))) adds.2 ∙ newest-append (Some (told_of m)) adds.0 (entry (told_of m) mark ∷ []))
+    let adds = with_entry_adds t.room (past_entry (told_of m) mark) t.past all (sym (ap (λ (v : TapeState). v.past) is) ∙ told) in
+    sym (ap (newest (Some (told_of m))) adds.2 ∙ newest-append (Some (told_of m)) adds.0 (past_entry (told_of m) mark ∷ []))
 
 -- a call of the disk in memory, and the entry that it adds, are a call of the disk that tells its past
 pub call_after : (mark : Option Mark) (a b : Contents) (t u : TapeState) → Call mark (disk_of a) (disk_of b)
-    → u ≡ record t { past = with_entry t.room (entry (told_of b) mark) t.past }
+    → u ≡ record t { past = with_entry t.room (past_entry (told_of b) mark) t.past }
     → Call mark (record (disk_of a) { past = t.past }) (record (disk_of b) { past = u.past })
 call_after mark a b t u call is = record {
   size = call.size;
@@ -51,6 +51,6 @@ call_after mark a b t u call is = record {
   tells = call.tells;
   quiet = λ nothing calm. let stays = call.quiet nothing (record { quiet = calm.quiet; below = calm.below }) in record { quiet = stays.quiet; faults = stays.faults };
   past = λ all told.
-      let adds = with_entry_adds t.room (entry (told_of b) mark) t.past all (sym (ap (λ (v : TapeState). v.past) is) ∙ told) in
+      let adds = with_entry_adds t.room (past_entry (told_of b) mark) t.past all (sym (ap (λ (v : TapeState). v.past) is) ∙ told) in
       record { earlier = adds.0; state = told_of b; was = adds.1; told = refl; whole = adds.2 };
 }

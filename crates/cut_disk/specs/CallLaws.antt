@@ -5,7 +5,7 @@ use Rattle.std.proofs.lemmas.List.{append_assoc, append-nil, length-append}
 use Rattle.std.proofs.lemmas.List.Elements.{filter_map-append}
 use Rattle.std.proofs.lemmas.Bool.{false≢true}
 use Rattle.cut_disk.specs.declared.Mark.TheVariants.{Cut, Stop, Fail}
-use Rattle.cut_disk.specs.State.{Told, Mark, Entry, entry, DiskState}
+use Rattle.cut_disk.specs.State.{Told, Mark, Entry, past_entry, DiskState}
 pub use Rattle.fault_count.specs.CountLaws.{rose_then, rose_after}
 use Rattle.cut_disk.specs.Calls.{Rose, KeepsQuiet, StaysQuiet, IsQuiet, arms_nothing, Call, marks_of, newest, AddsEntries, Runs, Later, Grows, AsBefore}
 
@@ -33,7 +33,7 @@ runs_none s = record {
   past = λ all is. record { earlier = all; added = []; was = is; whole = sym (append-nil all); few = omega arith; marked = refl; now = refl };
 }
 
-pub marks_of_one : (t : Told) (mark : Option Mark) → marks_of (entry t mark ∷ []) ≡ option_to_list mark
+pub marks_of_one : (t : Told) (mark : Option Mark) → marks_of (past_entry t mark ∷ []) ≡ option_to_list mark
 marks_of_one t None = refl
 marks_of_one t (Some m) = refl
 
@@ -46,7 +46,7 @@ runs_of_call {mark} call = record {
   quiet = call.quiet;
   past = λ all is. let p = call.past all is in record {
     earlier = p.earlier;
-    added = entry p.state mark ∷ [];
+    added = past_entry p.state mark ∷ [];
     was = p.was;
     whole = p.whole;
     few = omega arith;
@@ -127,7 +127,7 @@ longer xs ys e = ap length e ∙ length-append xs ys
 -- a call makes a past that is told longer, and so does a stretch with a call in it
 pub grows_of_call : {mark : Option Mark} {a b : DiskState} → Call mark a b → Grows a b
 grows_of_call {mark} call = record {
-  past = λ all is. let p = call.past all is in record { earlier = p.earlier; was = p.was; more = omega (arith, longer p.earlier (entry p.state mark ∷ []) p.whole) };
+  past = λ all is. let p = call.past all is in record { earlier = p.earlier; was = p.was; more = omega (arith, longer p.earlier (past_entry p.state mark ∷ []) p.whole) };
 }
 
 pub grows_then : {marks : List Mark} {most : ℕ} {a b c : DiskState} → Grows a b → Runs marks most b c → Grows a c

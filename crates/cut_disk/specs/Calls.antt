@@ -5,7 +5,7 @@ use Rattle.std.specs.Option.{option_to_list}
 pub use Rattle.fault_count.specs.FaultCount.{Rose}
 use Rattle.fault_count.specs.FaultCount.{last_count}
 use Rattle.cut_disk.specs.declared.Mark.TheVariants.{Cut, Stop, Fail}
-use Rattle.cut_disk.specs.State.{Told, Mark, Entry, entry, DiskState}
+use Rattle.cut_disk.specs.State.{Told, Mark, Entry, past_entry, DiskState}
 
 -- no call fails until one is armed: the disk says so, and its count is below the last value
 pub record IsQuiet (s : DiskState) : Type 0 where
@@ -33,7 +33,7 @@ pub record AddsOne (mark : Option Mark) (before : Option (List Entry)) (now : Op
   pub state : Told
   pub was : before ≡ Some earlier
   pub told : now ≡ Some state
-  pub whole : all ≡ earlier ++ entry state mark ∷ []
+  pub whole : all ≡ earlier ++ past_entry state mark ∷ []
 
 -- One call: no size changes, no count falls, bytes are told after it exactly where they were before, and a
 -- disk that tells its past told it before. Only a call that arms another ends a quiet time.

@@ -45,8 +45,8 @@ abbrev pub ReadsAs : Option Told → ℕ → List ℕ → Type 0
 ReadsAs told at out = (t : Told) → told ≡ Some t → out ≡ slice_range t.bytes at (at + length out)
 
 -- the bytes are written, and loose
-abbrev pub Writes : ℕ → List ℕ → Option Told → Option Told → Type 0
-Writes at bytes old new = (t : Told) → old ≡ Some t → new ≡ Some (with_bytes at bytes t)
+abbrev pub WritesLoose : ℕ → List ℕ → Option Told → Option Told → Type 0
+WritesLoose at bytes old new = (t : Told) → old ≡ Some t → new ≡ Some (with_bytes at bytes t)
 
 -- so many bytes from `at` on are anything, and loose
 pub record LeavesAny (at count : ℕ) (t : Told) (new : Option Told) : Type 0 where

@@ -25,8 +25,8 @@ pub record Entry : Type 0 where
   pub state : Told
   pub mark : Option Mark
 
-abbrev pub entry : Told → Option Mark → Entry
-entry state mark = record { state = state; mark = mark }
+abbrev pub past_entry : Told → Option Mark → Entry
+past_entry state mark = record { state = state; mark = mark }
 
 -- A disk's size in bytes; its bytes and loose marks, if it tells them; which calls are to fail; how many calls
 -- have failed; whether it is quiet, so that no call fails until one is armed; and its past, if it tells it.

@@ -1,7 +1,7 @@
 -- A tape: entries of one size, in room that was taken before.
 use Rattle.std.specs.Prelude.{◌≡◌, ℕ, ◌<◌, Bool, List, [], ◌∷◌, ◌++◌, length, take, map, slice_index_or, Option, Some, None, if◌then◌else◌, nat_lt}
 use Rattle.cut_disk.specs.declared.tape.PastEntry.{PastEntry}
-use Rattle.cut_disk.specs.State.{Entry, Mark, entry}
+use Rattle.cut_disk.specs.State.{Entry, Mark, past_entry}
 
 -- the size of each state, the greatest number of entries, and the past, if it is told
 pub record TapeState : Type 0 where
@@ -10,7 +10,7 @@ pub record TapeState : Type 0 where
   pub past : Option (List Entry)
 
 abbrev pub entry_of : PastEntry → Entry
-entry_of e = entry (record { bytes = e.bytes.items; loose = e.loose.items }) e.mark
+entry_of e = past_entry (record { bytes = e.bytes.items; loose = e.loose.items }) e.mark
 
 -- the entries in use, as long as there were never too many
 abbrev pub past_of : Bool → ℕ → List PastEntry → Option (List Entry)

@@ -42,7 +42,7 @@
 ghost use Rattle.std.specs.Prelude.{◌≡◌, ◌+◌, ◌≤◌, false, length, Some, None, IsErr, IsTrue, OnOk, OnErr};
 ghost use Rattle.cut_disk.specs.State.{DiskState, Cut, Stop, Fail};
 ghost use Rattle.cut_disk.specs.Arming.{fails, after_call, after_cut, with_stop, with_fail};
-ghost use Rattle.cut_disk.specs.Images.{ReadsAs, Writes, Tears, Syncs, CutsTo};
+ghost use Rattle.cut_disk.specs.Images.{ReadsAs, WritesLoose, Tears, Syncs, CutsTo};
 ghost use Rattle.cut_disk.specs.Calls.{Rose, Call, IsDisk};
 
 mod arming;
@@ -118,7 +118,7 @@ pub trait Disk {
         ensures failed { OnErr result (Rose (state self.old).faults (state self.new).faults) }
         ensures armed { IsTrue (fails (state self.old).arms) → IsErr result }
         ensures arms { (state self.new).arms ≡ after_call (state self.old).arms }
-        ensures written { OnOk result (Writes at bytes.now (state self.old).told (state self.new).told) }
+        ensures written { OnOk result (WritesLoose at bytes.now (state self.old).told (state self.new).told) }
         ensures torn { OnErr result (Tears at (length bytes.now) (state self.old).told (state self.new).told) };
 
     /// Makes all that was written outlast a power cut. A sync that fails changes no byte and no loose mark.

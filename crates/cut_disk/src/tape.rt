@@ -1,7 +1,7 @@
 //! Room for the past of a disk.
 ghost use Rattle.std.specs.Prelude.{◌≡◌, ◌≤◌, ◌<◌, Some, None, length, map, IfOk};
 ghost use Rattle.std.specs.Option.{option_map};
-ghost use Rattle.cut_disk.specs.State.{entry};
+ghost use Rattle.cut_disk.specs.State.{past_entry};
 
 use crate::{Mark, Memory};
 use std::alloc::Global;
@@ -32,7 +32,7 @@ impl PastEntry {
     fn fill(&mut self, bytes: &[u8], loose: &[bool], mark: Option<Mark>)
         requires bytes { length bytes.now ≡ length self.old.bytes.items }
         requires loose { length loose.now ≡ length self.old.loose.items }
-        ensures { entry_of self.new ≡ entry (record { bytes = bytes.now; loose = loose.now }) mark }
+        ensures { entry_of self.new ≡ past_entry (record { bytes = bytes.now; loose = loose.now }) mark }
     {
         self.bytes.copy_from_slice(bytes);
         self.loose.copy_from_slice(loose);
@@ -90,7 +90,7 @@ impl Tape {
     pub fn add(&mut self, bytes: &[u8], loose: &[bool], mark: Option<Mark>)
         requires bytes { length bytes.now ≡ self.old.size }
         requires loose { length loose.now ≡ self.old.size }
-        ensures { self.new ≡ record self.old { past = with_entry self.old.room (entry (record { bytes = bytes.now; loose = loose.now }) mark) self.old.past } }
+        ensures { self.new ≡ record self.old { past = with_entry self.old.room (past_entry (record { bytes = bytes.now; loose = loose.now }) mark) self.old.past } }
     {
         if self.used == self.entries.len() {
             self.over = true;

@@ -1,7 +1,7 @@
 //! A disk in memory that tells its past.
 ghost use Rattle.std.specs.Prelude.{◌≡◌, ◌+◌, ◌*◌, ◌^◌, ◌≤◌, List, length, map, replicate, slice_range, Some, None, not, is_ok, IfOk, OnOk, OnErr};
 ghost use Rattle.std.specs.Option.{option_map};
-ghost use Rattle.cut_disk.specs.State.{Entry, entry, Cut, Stop, Fail};
+ghost use Rattle.cut_disk.specs.State.{Entry, past_entry, Cut, Stop, Fail};
 ghost use Rattle.cut_disk.specs.Arming.{fails, with_stop, with_fail};
 ghost use Rattle.cut_disk.specs.Images.{CutsTo};
 ghost use Rattle.cut_disk.specs.Calls.{Call, newest};
@@ -131,7 +131,7 @@ impl CutDisk for TapeDisk {
 /// Adds the state of the disk to its past, with the mark of the call that left it.
 fn note(tape: &mut Tape, disk: &MemDisk, mark: Option<Mark>)
     requires { tape.old.size ≡ length (contents disk.now).bytes }
-    ensures { tape.new ≡ record tape.old { past = with_entry tape.old.room (entry (told_of (contents disk.now)) mark) tape.old.past } }
+    ensures { tape.new ≡ record tape.old { past = with_entry tape.old.room (past_entry (told_of (contents disk.now)) mark) tape.old.past } }
 {
     tape.add(disk.bytes(), disk.loose(), mark);
 }

@@ -1,5 +1,4 @@
-use Rattle.std.proofs.Common.{◌≡◌, ◌+◌, length, arith, ap, ◌∙◌}
-use Rattle.cell_store.specs.Log.{place_at}
+use Rattle.std.proofs.Common.{length, arith}
 use Rattle.cell_store.proofs.LogKeptLaws.{append-gate, append-images, append-done, append-besides}
 use Rattle.cell_store.proofs.Results.{OnErr-from}
 use Rattle.cell_store.proofs.appending.append.Goals as goal

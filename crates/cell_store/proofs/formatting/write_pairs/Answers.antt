@@ -3,7 +3,7 @@ use Rattle.std.proofs.Common.{◌≡◌, ◌+◌, ◌*◌, ◌∙◌, sym, refl,
 use Rattle.cut_disk.specs.CallLaws.{runs_then, runs_more}
 use Rattle.cell_store.specs.Layout.{base}
 use Rattle.cell_store.proofs.WritingLaws.{outside-none, outside-more, writes-tear}
-use Rattle.cell_store.proofs.FormatLaws.{pairs_none, pairs_more, pairs_all, writes_same}
+use Rattle.cell_store.proofs.FormatLaws.{pairs_none, pairs_more, writes_same}
 use Rattle.cell_store.proofs.formatting.write_pairs.Goals as goal
 
 pub loop-cell-init : goal.loop-cell-init

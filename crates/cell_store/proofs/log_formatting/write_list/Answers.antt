@@ -1,6 +1,5 @@
 -- One write a cell.
-use Rattle.std.proofs.Common.{◌≡◌, ◌+◌, ◌*◌, ◌∙◌, take, sym, refl, length, arith}
-use Rattle.std.specs.List.{flat_map}
+use Rattle.std.proofs.Common.{◌+◌, ◌*◌, ◌∙◌, sym, refl, length, arith}
 use Rattle.cut_disk.specs.CallLaws.{runs_then, runs_more}
 use Rattle.cell_store.proofs.FormatLaws.{tears_sized}
 use Rattle.cell_store.proofs.WroteLaws.{chunks-none, chunk-more, chunk-failed, length-front, front-more}

@@ -1,12 +1,11 @@
 -- The gate and the mark, all cells, and closed places.
-use Rattle.std.proofs.Common.{◌≡◌, ℕ, ◌+◌, ◌*◌, ◌∙◌, [], ◌∷◌, ◌++◌, sym, refl, length, replicate, arith, length-append}
+use Rattle.std.proofs.Common.{◌≡◌, ℕ, ◌+◌, ◌*◌, ◌∙◌, [], ◌∷◌, ◌++◌, sym, refl, length, replicate, arith}
 use Rattle.std.specs.List.{flat_map}
 use Rattle.std.proofs.lemmas.List.{length-replicate}
 use Rattle.std.proofs.lemmas.Result.{on_ok_weaker}
 use Rattle.cut_disk.specs.CallLaws.{runs_of_call, runs_join, runs_more}
-use Rattle.cell_store.specs.Log.{live_bank}
 use Rattle.cell_store.proofs.BankLaws.{length-cells}
-use Rattle.cell_store.proofs.WroteLaws.{wrote-call, wrote-then, wrote-same, loosens-widen, loosens-join, loosens-tears, writes-loosens}
+use Rattle.cell_store.proofs.WroteLaws.{wrote-call, wrote-then, loosens-widen, loosens-join, loosens-tears, writes-loosens}
 use Rattle.cell_store.proofs.log_formatting.write_live_bank.Goals as goal
 
 pub returns-in_err-write-clause-runs : goal.returns-in_err-write-clause-runs

@@ -1,8 +1,7 @@
-use Rattle.std.proofs.Common.{refl, ap, sym, ◌∙◌, arith}
+use Rattle.std.proofs.Common.{refl, arith}
 use Rattle.std.proofs.lemmas.Result.{err_from_is_err_and}
-use Rattle.cell_store.specs.LogReading.{bank_of}
-use Rattle.cell_store.proofs.ReadingLaws.{failed_more, failed_after, reads_join, reads_more}
-use Rattle.cell_store.proofs.LogReadingLaws.{bank-read, no-bank, told-bank, told-no-bank}
+use Rattle.cell_store.proofs.ReadingLaws.{failed_more, failed_after, reads_join}
+use Rattle.cell_store.proofs.LogReadingLaws.{told-bank, told-no-bank}
 use Rattle.cell_store.proofs.log_reading.read_bank.Goals as goal
 
 pub returns-in_err-first-clause-fault : goal.returns-in_err-first-clause-fault

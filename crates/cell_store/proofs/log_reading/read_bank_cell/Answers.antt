@@ -1,7 +1,5 @@
-use Rattle.std.proofs.Common.{◌+◌, ◌*◌, ap, sym, ◌∙◌, arith}
-use Rattle.std.proofs.lemmas.Result.{err_from_is_err_and}
-use Rattle.cut_disk.specs.Images.{ReadsAs}
-use Rattle.cell_store.specs.Log.{bank_at, place_at}
+use Rattle.std.proofs.Common.{◌+◌, ◌*◌, arith}
+use Rattle.cell_store.specs.Log.{bank_at}
 use Rattle.cell_store.proofs.ReadingLaws.{read_done, read_failed}
 use Rattle.cell_store.proofs.LogReadingLaws.{told-part}
 use Rattle.cell_store.proofs.Results.{OnErr-from}

@@ -1,5 +1,5 @@
 use Rattle.std.proofs.Common.{length, arith}
-use Rattle.cell_store.proofs.ReadingLaws.{failed_more, failed_after, reads_join, reads_more}
+use Rattle.cell_store.proofs.ReadingLaws.{failed_more, failed_after}
 use Rattle.cell_store.proofs.LogReadingLaws.{read-cells-more, read-cells-none}
 use Rattle.cell_store.proofs.Results.{OnErr-from}
 use Rattle.cell_store.proofs.log_reading.read_cells.Goals as goal

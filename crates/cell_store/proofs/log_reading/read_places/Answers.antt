@@ -1,8 +1,7 @@
-use Rattle.std.proofs.Common.{◌≡◌, ◌<◌, ◌≤◌, ◌⊎◌, inl, inr, length, refl, ap, sym, subst, ◌∙◌, arith}
+use Rattle.std.proofs.Common.{◌≡◌, ◌<◌, ◌≤◌, ◌⊎◌, inl, inr, length, refl, sym, ◌∙◌, arith}
 use Rattle.std.proofs.lemmas.Result.{err_from_is_err_and}
-use Rattle.cell_store.specs.Twin.{is_live}
-use Rattle.cell_store.specs.Log.{number, content}
-use Rattle.cell_store.proofs.ReadingLaws.{failed_more, failed_after, reads_join, reads_more}
+use Rattle.cell_store.specs.Log.{number}
+use Rattle.cell_store.proofs.ReadingLaws.{failed_more, failed_after}
 use Rattle.cell_store.proofs.LogReadingLaws.{read-places-none, read-places-closed, read-places-live, read-places-wrong}
 use Rattle.cell_store.proofs.log_reading.read_places.Goals.{then-used-p-via-then-used-p, then-used-p-via-else-used-p+then-number-count, then-is_live_place+else-used-p+else-number-count, else-is_live_place}
 use Rattle.cell_store.proofs.log_reading.read_places.Goals as goal

@@ -1,5 +1,4 @@
-use Rattle.std.proofs.Common.{◌+◌, length, arith}
-use Rattle.cell_store.specs.Log.{log_size}
+use Rattle.std.proofs.Common.{length, arith}
 use Rattle.cell_store.proofs.TwinSteps.{whole-items}
 use Rattle.cell_store.proofs.LogSteps.{log-read-store, log-read-attached, log-refused}
 use Rattle.cell_store.proofs.logs.read_into.Goals as goal

@@ -1,7 +1,7 @@
-use Rattle.std.proofs.Common.{◌+◌, length, arith}
+use Rattle.std.proofs.Common.{length, arith}
 use Rattle.std.proofs.lemmas.Result.{err_from_is_err_and}
 use Rattle.cell_store.specs.Layout.{twin_layout}
-use Rattle.cell_store.specs.Reading.{twin_reads, twin_reads_to}
+use Rattle.cell_store.specs.ReadOrder.{twin_reads, twin_reads_to}
 use Rattle.cell_store.proofs.ReadingLaws.{header-leaves, header-finds, read-more, cell-leaves, cell-finds}
 use Rattle.cell_store.proofs.reading.read_store.Goals as goal
 

@@ -1,5 +1,5 @@
-use Rattle.std.proofs.Common.{◌≡◌, ℕ, ◌+◌, ◌*◌, length, set, sym, ◌∙◌, arith, replicate, ap, rules}
-use Rattle.std.proofs.lemmas.List.{length-set, places}
+use Rattle.std.proofs.Common.{◌≡◌, ℕ, ◌+◌, ◌*◌, length, set, ◌∙◌, arith, replicate, ap}
+use Rattle.std.proofs.lemmas.List.{length-set}
 use Rattle.cell_store.proofs.BankLaws.{Sized-set}
 use Rattle.cell_store.proofs.Slices.{fill-whole, mid-length}
 use Rattle.cell_store.proofs.refilling.fill_bank.Goals as goal

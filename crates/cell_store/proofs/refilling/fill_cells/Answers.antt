@@ -1,4 +1,4 @@
-use Rattle.std.proofs.Common.{◌≡◌, length, set, sym, ◌∙◌, arith}
+use Rattle.std.proofs.Common.{set, sym, ◌∙◌, arith}
 use Rattle.std.proofs.lemmas.List.{length-set}
 use Rattle.cell_store.proofs.BankLaws.{Sized-set}
 use Rattle.cell_store.proofs.Slices.{splice-none, fill-step}

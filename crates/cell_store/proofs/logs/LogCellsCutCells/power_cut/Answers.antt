@@ -1,7 +1,7 @@
-use Rattle.std.proofs.Common.{◌+◌, length, arith}
+use Rattle.std.proofs.Common.{length, arith}
 use Rattle.cell_store.proofs.TwinSteps.{whole-items, leaves-runs}
 use Rattle.cell_store.proofs.LogSteps.{log-cut-runs, log-cut-store, log-cut-grows, log-cut-stands, log-cut-settled, log-cut-cause, log-cut-never, log-cut-first}
-use Rattle.cell_store.specs.LogReading.{log_reads, log_reads_to}
+use Rattle.cell_store.specs.ReadOrder.{log_reads, log_reads_to}
 use Rattle.cell_store.proofs.ReadingLaws.{no_stop-cut, leaves-stops}
 use Rattle.cell_store.proofs.logs.LogCellsCutCells.power_cut.Goals as goal
 
@@ -42,11 +42,11 @@ returns-in-Err-clause-never g c stood =
 
 pub returns-in-Err-clause-cause : goal.returns-in-Err-clause-cause
 returns-in-Err-clause-cause g c =
-    log-cut-cause c.self.inside.version (g.D.Disk.state c.self.inside.disk) (g.D.Disk.state c.power_cut.new.self) (g.D.Disk.state c.read_log.new.disk) c.self.inside.cells.items c.read_log.new.cells (length c.self.inside.reread.items) (length c.self.inside.space.items) c.self.inside.bank c.self.inside.bank c.self.inside.broken c.args.torn c.args.self.now c.self.view_is c.self.invariant c.power_cut.ensures.call c.power_cut.ensures.left c.in-Err.fault (rw c.deref_mut.ensures.value at c.in-Err.ensures.leaves) (rw c.deref_mut.ensures.value at c.in-Err.ensures.finds)
+    log-cut-cause c.self.inside.version (g.D.Disk.state c.self.inside.disk) (g.D.Disk.state c.power_cut.new.self) (g.D.Disk.state c.read_log.new.disk) c.self.inside.cells.items c.read_log.new.cells (length c.self.inside.reread.items) (length c.self.inside.space.items) c.self.inside.bank c.self.inside.bank c.self.inside.broken c.args.torn c.args.self.now c.self.view_is c.self.invariant c.power_cut.ensures.call c.power_cut.ensures.left c.in-Err.fault (rw c.deref_mut.ensures.value at c.in-Err.ensures.leaves) (rw c.deref_mut.ensures.value at c.in-Err.ensures.finds) c.power_cut.ensures.count
 
 pub returns-in-Err-clause-first : goal.returns-in-Err-clause-first
-returns-in-Err-clause-first g c e =
-    log-cut-first c.self.inside.version (g.D.Disk.state c.self.inside.disk) (g.D.Disk.state c.power_cut.new.self) (g.D.Disk.state c.read_log.new.disk) c.self.inside.cells.items c.read_log.new.cells (length c.self.inside.reread.items) (length c.self.inside.space.items) c.self.inside.bank c.self.inside.bank c.self.inside.broken c.args.torn c.args.self.now c.self.view_is c.self.invariant c.power_cut.ensures.call c.power_cut.ensures.left c.in-Err.fault (rw c.deref_mut.ensures.value at c.in-Err.ensures.leaves) e
+returns-in-Err-clause-first g c =
+    log-cut-first c.self.inside.version (g.D.Disk.state c.self.inside.disk) (g.D.Disk.state c.power_cut.new.self) (g.D.Disk.state c.read_log.new.disk) c.self.inside.cells.items c.read_log.new.cells (length c.self.inside.reread.items) (length c.self.inside.space.items) c.self.inside.bank c.self.inside.bank c.self.inside.broken c.args.torn c.args.self.now c.self.view_is c.self.invariant c.power_cut.ensures.call c.power_cut.ensures.left c.in-Err.fault (rw c.deref_mut.ensures.value at c.in-Err.ensures.leaves)
 
 pub returns-in-Ok-clause-stops : goal.returns-in-Ok-clause-stops
 returns-in-Ok-clause-stops g c = c.in-Ok.ensures.same.stops (no_stop-cut (g.D.Disk.state c.self.inside.disk).arms (g.D.Disk.state c.power_cut.new.self).arms c.power_cut.ensures.arms)

@@ -1,6 +1,6 @@
-use Rattle.std.proofs.Common.{◌+◌, length, arith}
-use Rattle.cell_store.proofs.TwinSteps.{whole-items, leaves-runs, cut-runs, cut-store, cut-grows, cut-stands, cut-settled, cut-never, cut-first}
-use Rattle.cell_store.specs.Reading.{twin_reads, twin_reads_to}
+use Rattle.std.proofs.Common.{length, arith}
+use Rattle.cell_store.proofs.TwinSteps.{whole-items, leaves-runs, cut-runs, cut-store, cut-grows, cut-stands, cut-settled, cut-never, cut-first, cut-cause}
+use Rattle.cell_store.specs.ReadOrder.{twin_reads, twin_reads_to}
 use Rattle.cell_store.proofs.ReadingLaws.{no_stop-cut, leaves-stops}
 use Rattle.cell_store.proofs.twin.TwinCellsCutCells.power_cut.Goals as goal
 
@@ -44,8 +44,12 @@ returns-in-Err-clause-never g c stood =
     cut-never c.self.inside.version (g.D.Disk.state c.self.inside.disk) (g.D.Disk.state c.power_cut.new.self) (g.D.Disk.state c.read_store.new.disk) c.self.inside.held.items c.read_store.new.held (length c.self.inside.reread.items) c.self.inside.broken c.args.torn c.args.self.now c.self.view_is c.self.invariant c.power_cut.ensures.call c.power_cut.ensures.left c.in-Err.fault (rw c.deref_mut.ensures.value at c.in-Err.ensures.finds) stood
 
 pub returns-in-Err-clause-first : goal.returns-in-Err-clause-first
-returns-in-Err-clause-first g c e =
-    cut-first c.self.inside.version (g.D.Disk.state c.self.inside.disk) (g.D.Disk.state c.power_cut.new.self) (g.D.Disk.state c.read_store.new.disk) c.self.inside.held.items c.read_store.new.held (length c.self.inside.reread.items) c.self.inside.broken c.args.torn c.args.self.now c.self.view_is c.self.invariant c.power_cut.ensures.call c.power_cut.ensures.left c.in-Err.fault (rw c.deref_mut.ensures.value at c.in-Err.ensures.leaves) e
+returns-in-Err-clause-first g c =
+    cut-first c.self.inside.version (g.D.Disk.state c.self.inside.disk) (g.D.Disk.state c.power_cut.new.self) (g.D.Disk.state c.read_store.new.disk) c.self.inside.held.items c.read_store.new.held (length c.self.inside.reread.items) c.self.inside.broken c.args.torn c.args.self.now c.self.view_is c.self.invariant c.power_cut.ensures.call c.power_cut.ensures.left c.in-Err.fault (rw c.deref_mut.ensures.value at c.in-Err.ensures.leaves)
+
+pub returns-in-Err-clause-cause : goal.returns-in-Err-clause-cause
+returns-in-Err-clause-cause g c =
+    cut-cause c.self.inside.version (g.D.Disk.state c.self.inside.disk) (g.D.Disk.state c.power_cut.new.self) (g.D.Disk.state c.read_store.new.disk) c.self.inside.held.items c.read_store.new.held (length c.self.inside.reread.items) c.self.inside.broken c.args.torn c.args.self.now c.self.view_is c.self.invariant c.power_cut.ensures.call c.power_cut.ensures.left c.in-Err.fault (rw c.deref_mut.ensures.value at c.in-Err.ensures.leaves) (rw c.deref_mut.ensures.value at c.in-Err.ensures.finds) c.power_cut.ensures.count
 
 pub returns-in-Ok-clause-stops : goal.returns-in-Ok-clause-stops
 returns-in-Ok-clause-stops g c = c.in-Ok.ensures.same.stops (no_stop-cut (g.D.Disk.state c.self.inside.disk).arms (g.D.Disk.state c.power_cut.new.self).arms c.power_cut.ensures.arms)
