@@ -1,6 +1,5 @@
 -- What a sink is, and what a call of `write` does to it.
 use Rattle.std.specs.Prelude.{◌≡◌, ℕ, ◌<◌, ◌≤◌, List, [], ◌++◌, length, take, Option, Some, Result, MatchResult}
-use Rattle.std.proofs.Common.{◌∙◌, sym, ap, arith, append_assoc, append-nil}
 use Rattle.bus_port.specs.Fault.{Rose}
 
 -- what is known of a sink: the bytes written, where it tells them; its count of faults
@@ -29,18 +28,3 @@ pub record WriteFails (before after : SinkState) : Type 0 where
 abbrev pub Writes : {E : Type 0} → SinkState → SinkState → List ℕ → Result ℕ E → Type 0
 Writes before after bytes result =
     MatchResult result (λ n. TakesUp before after bytes n) (λ _. WriteFails before after)
-
--- nothing was appended to a sink that nothing was done to
-pub Appended-nothing : (state : SinkState) → Appended state state []
-Appended-nothing state = record {
-  grown = λ held told. told ∙ ap Some (sym (append-nil held));
-  later = omega arith;
-}
-
--- what was appended first, and then what was appended next
-pub Appended-more : {first before after : SinkState} {some more : List ℕ} → Appended first before some
-    → Appended before after more → Appended first after (some ++ more)
-Appended-more {first} {before} {after} {some} {more} p q = record {
-  grown = λ held told. q.grown (held ++ some) (p.grown held told) ∙ ap Some (append_assoc held some more);
-  later = omega (arith, p.later, q.later);
-}

@@ -1,7 +1,6 @@
 -- What a source is, and what a call of `read` does to it.
 use Rattle.std.specs.Prelude.{◌≡◌, ◌↔◌, ℕ, ◌<◌, ◌≤◌, List, [], ◌++◌, length, take, drop, Option, Some, Result, MatchResult}
-use Rattle.std.proofs.Common.{◌∙◌, sym, ap, refl, arith, append_assoc, length-append}
-use Rattle.bus_port.specs.Fault.{Rose, RoseBy, RoseBy-none, RoseBy-more}
+use Rattle.bus_port.specs.Fault.{Rose, RoseBy}
 
 -- what is known of a source: the bytes left, where it tells them; how many bytes came from it so far; its count of faults
 pub record SourceState : Type 0 where
@@ -34,23 +33,3 @@ pub record ReadFails (before after : SourceState) (old new : List ℕ) : Type 0 
 abbrev pub Reads : {E : Type 0} → SourceState → SourceState → List ℕ → List ℕ → Result ℕ E → Type 0
 Reads before after old new result =
     MatchResult result (λ n. HandsOut before after old new n) (λ _. ReadFails before after old new)
-
--- nothing came from a source that nothing was done to
-pub Came-nothing : (state : SourceState) → Came state state []
-Came-nothing state = record {
-  next = λ left told. (left, told, refl);
-  counted = RoseBy-none state.taken;
-  later = omega arith;
-}
-
--- what came first, and then what came next
-pub Came-more : {first before after : SourceState} {some more : List ℕ} → Came first before some → Came before after more
-    → Came first after (some ++ more)
-Came-more {first} {before} {after} {some} {more} p q = record {
-  next = λ left told.
-      let one = p.next left told in
-      let two = q.next one.0 one.1 in
-      (two.0, two.1, one.2 ∙ ap (λ rest. some ++ rest) two.2 ∙ sym (append_assoc some more two.0));
-  counted = rw length-append (RoseBy-more first.taken before.taken after.taken (length some) (length more) p.counted q.counted);
-  later = omega (arith, p.later, q.later);
-}

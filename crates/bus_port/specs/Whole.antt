@@ -1,13 +1,10 @@
 -- What the calls on whole streams leave.
 use Rattle.std.specs.Prelude.{◌≡◌, ℕ, ◌+◌, ◌<◌, ◌≤◌, ◌-◌, List, [], ◌++◌, length, take, drop, Some, Result, Ok, Err}
-use Rattle.std.proofs.Common.{◌∙◌, subst, sym, ap, append-nil, arith, length-append}
-use Rattle.std.proofs.Math.Seq.{take-add}
 use Rattle.bus_port.specs.declared.whole_streams.ReadAll.{ReadAll}
 use Rattle.bus_port.specs.declared.whole_streams.ReadAll.TheVariants.{Failed, TooLong, Memory}
-use Rattle.fault_count.specs.CountLaws.{rose_after}
 use Rattle.bus_port.specs.Fault.{Rose}
-use Rattle.bus_port.specs.Source.{SourceState, Came, Came-more}
-use Rattle.bus_port.specs.Sink.{SinkState, Appended, Appended-more, WriteFails}
+use Rattle.bus_port.specs.Source.{SourceState, Came}
+use Rattle.bus_port.specs.Sink.{SinkState, Appended}
 
 -- all bytes up to the end came, at most `limit`, and no fault was counted
 pub record ReadsAll (before after : SourceState) (limit : ℕ) (bytes : List ℕ) : Type 0 where
@@ -56,30 +53,3 @@ pub record PieceWritten (before after : SinkState) (bytes : List ℕ) (done n : 
   pub fits : n ≤ length bytes
   pub appended : Appended before after (take (n - done) (drop done bytes))
   pub no_fault : after.faults ≡ before.faults
-
--- a refusal after these bytes came
-pub ReadsPart-more : {first before : SourceState} {some : List ℕ} (after : SourceState) (limit : ℕ) (cause : ReadAll) → length some ≤ limit
-    → before.faults ≡ first.faults → Came first before some → ReadsPart before after (limit - length some) cause → ReadsPart first after limit cause
-ReadsPart-more {some} after limit Failed fits no_fault so_far h =
-    let bytes = h.1.0 in
-    (rose_after _ _ _ so_far.later h.0, (some ++ bytes, omega (arith, length-append some bytes, h.1.1), Came-more so_far h.1.2))
-ReadsPart-more {some} after limit TooLong fits no_fault so_far h =
-    let bytes = h.1.0 in
-    (h.0 ∙ no_fault, (some ++ bytes, omega (arith, length-append some bytes, h.1.1), Came-more so_far h.1.2))
-ReadsPart-more {some} after limit Memory fits no_fault so_far h =
-    let bytes = h.1.0 in
-    (h.0 ∙ no_fault, (some ++ bytes, omega (arith, length-append some bytes, h.1.1), Came-more so_far h.1.2))
-
--- a call that fails after a front was appended leaves that front
-pub AppendedPart-failed : {first before after : SinkState} (bytes : List ℕ) (n : ℕ) → n < length bytes
-    → Appended first before (take n bytes) → WriteFails before after → AppendedPart first after bytes
-AppendedPart-failed {first} {before} {after} bytes n fits so_far failed =
-    (n, fits, subst (Appended first after) (append-nil (take n bytes)) (Appended-more so_far failed.nothing))
-
--- a front was appended, and then a piece of the rest
-pub Appended-front : {first before after : SinkState} (bytes : List ℕ) (done n : ℕ)
-    → Appended first before (take done bytes) → PieceWritten before after bytes done n → Appended first after (take n bytes)
-Appended-front {first} {before} {after} bytes done n so_far piece =
-    let joined : take (done + (n - done)) bytes ≡ take done bytes ++ take (n - done) (drop done bytes) = take-add done (n - done) bytes in
-    let all : done + (n - done) ≡ n = omega (arith, piece.more) in
-    subst (Appended first after) (sym joined ∙ ap (λ k. take k bytes) all) (Appended-more so_far piece.appended)

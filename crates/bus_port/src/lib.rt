@@ -5,6 +5,7 @@
 //! value. A port may tell its bytes, as the ones over memory do; a port over the outside doesn't.
 #![tactic(auto)]
 
+pub mod laws;
 mod memory_ports;
 mod port;
 mod standard_ports;

@@ -8,6 +8,7 @@ ghost use Rattle.bus_port.specs.Sink.{Writes};
 ghost use Rattle.bus_port.specs.StdPort.{StdReads, StdWrites, MovesOrKeeps, std_source, std_sink};
 
 use crate::port::{PIECE, PortFailed, Sink, Source};
+use fault_count::count_fault;
 use std::io::{Read, Write};
 use std::marker::Model;
 
@@ -86,7 +87,7 @@ impl<R: Read> Source for StdSource<R> {
                 Ok(count)
             }
             Err(failed) => {
-                self.faults = self.faults.saturating_add(1);
+                count_fault(&mut self.faults);
                 Err(failed)
             }
         }
@@ -132,7 +133,7 @@ impl<W: Write> Sink for StdSink<W> {
         match self.writer.write(bytes) {
             Ok(count) if count > 0 => Ok(count),
             _ => {
-                self.faults = self.faults.saturating_add(1);
+                count_fault(&mut self.faults);
                 Err(PortFailed)
             }
         }

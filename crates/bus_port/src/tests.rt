@@ -37,6 +37,44 @@ impl Write for Full {
     }
 }
 
+/// A reader whose first call fails, and which then gives its bytes.
+#[derive(Drop)]
+struct FailsFirst<'a> {
+    left: &'a [u8],
+    calls: u64,
+}
+
+impl<'a> Read for FailsFirst<'a> {
+    fn read(&mut self, buf: &mut [u8]) -> io::Result<usize> {
+        self.calls = self.calls.saturating_add(1);
+        if self.calls == 1 {
+            return Err(io::Error::from(ErrorKind::Other));
+        }
+        self.left.read(buf)
+    }
+}
+
+/// A writer whose first call fails, and which then takes all.
+#[derive(Drop)]
+struct FullFirst<'a> {
+    text: &'a mut Vec<u8>,
+    calls: u64,
+}
+
+impl<'a> Write for FullFirst<'a> {
+    fn write(&mut self, buf: &[u8]) -> io::Result<usize> {
+        self.calls = self.calls.saturating_add(1);
+        if self.calls == 1 {
+            return Err(io::Error::from(ErrorKind::Other));
+        }
+        self.text.write(buf)
+    }
+
+    fn flush(&mut self) -> io::Result<()> {
+        Ok(())
+    }
+}
+
 #[test]
 fn read_all_answers_by_its_limit_and_its_source(rt: HostRuntime) -> Result<(), Fail> {
     let cases: [(&[u64], usize, usize, Result<&[u8], ReadAll>); 8] = [
@@ -129,5 +167,31 @@ fn standard_sinks_write_and_count_a_write_that_took_nothing(rt: HostRuntime) -> 
     assert_eq!(rt; write_all(&mut StdSink::new(&mut text), b"hello"), Ok(()));
     assert_eq!(rt; text.as_slice(), b"hello".as_slice());
     assert!(rt; write_all(&mut StdSink::new(Full), b"hello").is_err());
+    Ok(())
+}
+
+#[test]
+fn ports_that_failed_once_work_again(rt: HostRuntime) -> Result<(), Fail> {
+    let reader = FailsFirst {
+        left: b"hello",
+        calls: 0,
+    };
+    let mut source = StdSource::new(reader);
+    assert_eq!(rt;
+        read_all(rt.alloc(), &mut source, 5).err(),
+        Some(ReadAll::Failed)
+    );
+    let all = read_all(rt.alloc(), &mut source, 5).ok().ok_or("refused")?;
+    assert_eq!(rt; all.as_slice(), b"hello".as_slice());
+
+    let mut text = Vec::new(rt.alloc());
+    let writer = FullFirst {
+        text: &mut text,
+        calls: 0,
+    };
+    let mut sink = StdSink::new(writer);
+    assert!(rt; write_all(&mut sink, b"hello").is_err());
+    assert_eq!(rt; write_all(&mut sink, b"hello"), Ok(()));
+    assert_eq!(rt; text.as_slice(), b"hello".as_slice());
     Ok(())
 }

@@ -1,6 +1,6 @@
 -- Laws of counts that rose.
-use Rattle.std.proofs.Common.{◌≡◌, ◌⊎◌, ℕ, ◌<◌, ◌≤◌, inl, inr, arith}
-use Rattle.fault_count.specs.FaultCount.{last_count, Rose}
+use Rattle.std.proofs.Common.{ℕ, ◌≤◌, inl, inr, arith}
+use Rattle.fault_count.specs.FaultCount.{Rose}
 
 -- a count that rose and doesn't fall afterwards has risen
 pub rose_then : (a b c : ℕ) → Rose a b → b ≤ c → Rose a c

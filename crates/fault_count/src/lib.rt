@@ -15,6 +15,7 @@ mod tests;
 pub fn count_fault(faults: &mut u64)
     ensures count { faults.new ≡ counted faults.old }
     ensures rose { Rose faults.old faults.new }
+    ensures later { faults.old ≤ faults.new }
 {
     *faults = faults.saturating_add(1);
 }

@@ -98,7 +98,6 @@ impl NodeConfig {
     pub fn new(uid: Uid, routes: Vec<Route>) -> Option<NodeConfig>
         ensures { SomeIff result (IsConfig (record { uid = uid; routes = routes.items })) (record { uid = uid; routes = routes.items }) }
     {
-        let _is_uid = uid.as_slice();
         let listed = routes.as_slice();
         if listed.len() > 256 || uid.is_zero() || !are_routes(listed) || !have_own_ids(listed) {
             return None;

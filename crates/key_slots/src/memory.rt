@@ -87,18 +87,6 @@ impl fmt::Debug for Slot {
     }
 }
 
-// The same slot: of a slot that is passed a proof knows that its key is a block and its counter fits 28 bits.
-fn told(slot: Slot) -> Slot
-    ensures value { result ≡ slot }
-    ensures is_slot { IsSlot slot }
-{
-    if let Slot::Filled { key, counter, .. } = slot {
-        let _key = key.bytes();
-        let _counter = counter.number();
-    }
-    slot
-}
-
 /// The key memory: slots 0 to 13. Contracts see it as the list of its fourteen slots.
 #[derive(Clone, Copy, Debug, PartialEq, Eq)]
 pub struct Slots {
@@ -146,6 +134,6 @@ impl Slots {
         ensures others { (k : ℕ) → k ≢ id → slice_get self.new k ≡ slice_get self.old k }
         ensures whole { IsSlots self.new }
     {
-        self.slots[usize::from(id.number())] = told(slot);
+        self.slots[usize::from(id.number())] = slot;
     }
 }

@@ -1,3 +1,4 @@
+mod Confirming
 pub mod AnswerSteps
 pub mod FieldSteps
 pub mod HeadSteps

@@ -5,20 +5,21 @@ use Rattle.std.proofs.Math.Seq.{take-append_seam, drop-append_seam, take-length}
 use Rattle.std.proofs.lemmas.List.{append-nil, take_more, length-take}
 use Rattle.std.proofs.lemmas.List.Elements.{All-nil, All-cons, All-head, All-tail, All-take, All-get_or}
 use Rattle.byte_lists.specs.Numbers.{number_of, bytes_of}
-use Rattle.byte_lists.specs.NumberLaws.{IsBytes-bytes_of, number_of-lt, number_of-bytes_of-lt, bytes_of-number_of, number_of-append, same_number, bytes_of-append}
+use Rattle.byte_lists.specs.NumberLaws.{IsBytes-bytes_of, number_of-lt, number_of-bytes_of-lt, bytes_of-number_of, number_of-append, bytes_of-append}
 use Rattle.key_slots.specs.declared.memory.Flags.{Flags}
 use Rattle.key_slots.specs.Flags.{flags_number, flags_from}
 use Rattle.key_slots.specs.FlagsLaws.{flags_number-lt, flags_from-number, flags_number-from}
-use Rattle.she_aes.specs.Cipher.{IsBlock, zero_block, enc, dec}
-use Rattle.she_aes.specs.CipherFacts.{IsBlock-zero_block, IsBlock-enc}
+use Rattle.she_aes.specs.Cipher.{IsBlock, zero_block}
+use Rattle.she_aes.specs.CipherFacts.{IsBlock-zero_block}
 use Rattle.she_aes.specs.Modes.{cbc, cbc_inverse}
-use Rattle.she_aes.specs.ModeLaws.{length-cbc, All-cbc, length-cbc_inverse, All-cbc_inverse, cbc_inverse-cbc, cbc-cbc_inverse, dec-enc}
+use Rattle.she_aes.specs.ModeLaws.{length-cbc, All-cbc, length-cbc_inverse, All-cbc_inverse}
+use Rattle.she_aes.proofs.ModesUndone.{cbc_inverse-cbc, cbc-cbc_inverse}
 use Rattle.she_kdf.specs.Derivation.{kdf}
 use Rattle.she_kdf.specs.DerivationLaws.{IsBlock-kdf}
 use Rattle.she_kdf.specs.declared.Constant.TheVariants.{Enc, Mac}
 use Rattle.she_cmac.specs.Cmac.{cmac}
 use Rattle.she_cmac.specs.CmacLaws.{IsBlock-cmac}
-use Rattle.memory_update.specs.Messages.{two_blocks, head_number, plain, request_mac, Carries, Builds, Confirms, id_of, auth_of, HasSlots, HeadOf, head_in, text_in, update_in, sealed_counter, SameConfirmed, IsUid, IsUpdate, IsRequest}
+use Rattle.memory_update.specs.Messages.{two_blocks, head_number, plain, request_mac, Carries, Builds, Confirms, id_of, auth_of, HasSlots, HeadOf, head_in, text_in, update_in, IsUid, IsRequest}
 use Rattle.memory_update.specs.declared.messages.Head.{Head}
 use Rattle.memory_update.specs.declared.messages.Update.{Update}
 use Rattle.memory_update.specs.declared.messages.Request.{Request}
@@ -112,55 +113,46 @@ unfolding number_of
 last_byte n b = omega arith
 
 -- an M1 is the UID's bytes and one more
-record InM1 (m1 : List ℕ) (last : ℕ) : Type 0 where
-  is_uid : IsUid (take 15 m1)
-  fits : last < 256
-  number : number_of m1 ≡ number_of (take 15 m1) * 256 + last
-
-in_m1 : (m1 : List ℕ) → IsBlock m1 → InM1 m1 (get_or m1 15 0)
+in_m1 : (m1 : List ℕ) → IsBlock m1 → IsUid (take 15 m1) × (get_or m1 15 0 < 256) × (number_of m1 ≡ number_of (take 15 m1) * 256 + get_or m1 15 0)
 in_m1 m1 is_m1 =
     let P : ℕ → Type 0 = λ b. b < 256 in
     let last : ℕ = get_or m1 15 0 in
     let uid : List ℕ = take 15 m1 in
     let within : 15 < length m1 = omega (arith, is_m1.size) in
-    let whole : m1 ≡ uid ++ last ∷ [] = sym (take-length m1) ∙ ap (λ n. take n m1) is_m1.size ∙ take_more m1 15 0 within in
-    record {
-      is_uid = record { size = length-take 15 m1 ∙ ap (min 15) is_m1.size; bytes = All-take P 15 m1 is_m1.bytes };
-      fits = All-get_or P m1 15 0 within is_m1.bytes;
-      number = ap number_of whole ∙ number_of-append uid (last ∷ []) ∙ last_byte (number_of uid) last;
-    }
+    let whole : m1 ≡ uid ++ last ∷ [] = sym (take-length m1) ∙ ap (λ n. take n m1) is_m1.size ∙ take_more m1 15 0 within in (
+      record { size = length-take 15 m1 ∙ ap (min 15) is_m1.size; bytes = All-take P 15 m1 is_m1.bytes },
+      All-get_or P m1 15 0 within is_m1.bytes,
+      ap number_of whole ∙ number_of-append uid (last ∷ []) ∙ last_byte (number_of uid) last,
+    )
 
 -- ID and AuthID stand in the last byte
 pub id_of-last : (m1 : List ℕ) → IsBlock m1 → id_of m1 ≡ get_or m1 15 0 / 16
-id_of-last m1 is_m1 = let parts = in_m1 m1 is_m1 in omega (arith, parts.number, parts.fits)
+id_of-last m1 is_m1 = let parts = in_m1 m1 is_m1 in omega (arith, parts.2, parts.1)
 
 pub auth_of-last : (m1 : List ℕ) → IsBlock m1 → auth_of m1 ≡ get_or m1 15 0 % 16
-auth_of-last m1 is_m1 = let parts = in_m1 m1 is_m1 in omega (arith, parts.number, parts.fits)
+auth_of-last m1 is_m1 = let parts = in_m1 m1 is_m1 in omega (arith, parts.2, parts.1)
 
 pub HeadOf-head_in : (m1 : List ℕ) → IsBlock m1 → HasSlots m1 → HeadOf m1 (head_in m1)
 HeadOf-head_in m1 is_m1 slots =
     let parts = in_m1 m1 is_m1 in
-    let number : number_of m1 ≡ head_number (take 15 m1) (id_of m1) (auth_of m1) = omega (arith, parts.number, parts.fits) in
+    let number : number_of m1 ≡ head_number (take 15 m1) (id_of m1) (auth_of m1) = omega (arith, parts.2, parts.1) in
     record {
-      is_head = record { is_uid = parts.is_uid; id_fits = slots.0; auth_fits = slots.1 };
+      is_head = record { is_uid = parts.0; id_fits = slots.0; auth_fits = slots.1 };
       m1_is = sym (bytes_of-number_of 16 m1 is_m1) ∙ ap (bytes_of 16) number;
     }
 
 -- ---- the text of M2
 
 -- the upper half of the text: counter, flags and padding
-abbrev upper : Update → ℕ → ℕ
-upper u pad = u.counter * 2 ^ 100 + flags_number u.flags * 2 ^ 95 + pad
-
-upper-lt : (u : Update) (pad : ℕ) → u.counter < 2 ^ 28 → pad < 2 ^ 95 → upper u pad < 2 ^ 128
+upper-lt : (u : Update) (pad : ℕ) → u.counter < 2 ^ 28 → pad < 2 ^ 95 → u.counter * 2 ^ 100 + flags_number u.flags * 2 ^ 95 + pad < 2 ^ 128
 upper-lt u pad counter_fits pad_fits = omega (arith, flags_number-lt u.flags)
 
-plain_halves : (u : Update) (pad : ℕ) → plain u pad ≡ upper u pad * 2 ^ 128 + number_of u.key
+plain_halves : (u : Update) (pad : ℕ) → plain u pad ≡ (u.counter * 2 ^ 100 + flags_number u.flags * 2 ^ 95 + pad) * 2 ^ 128 + number_of u.key
 plain_halves u pad = omega arith
 
 pub plain_blocks : (u : Update) (pad : ℕ) → u.counter < 2 ^ 28 → pad < 2 ^ 95 → IsBlock u.key → two_blocks (plain u pad) ≡ bytes_of 16 (u.counter * 2 ^ 100 + flags_number u.flags * 2 ^ 95 + pad) ∷ u.key ∷ []
 plain_blocks u pad counter_fits pad_fits is_key =
-    ap two_blocks (plain_halves u pad) ∙ two_blocks-pair (upper u pad) u.key (upper-lt u pad counter_fits pad_fits) is_key
+    ap two_blocks (plain_halves u pad) ∙ two_blocks-pair (u.counter * 2 ^ 100 + flags_number u.flags * 2 ^ 95 + pad) u.key (upper-lt u pad counter_fits pad_fits) is_key
 
 All-two : (x y : List ℕ) → IsBlock x → IsBlock y → All IsBlock (x ∷ y ∷ [])
 All-two x y is_x is_y = All-cons IsBlock x (y ∷ []) is_x (All-cons IsBlock y [] is_y (All-nil IsBlock))
@@ -170,11 +162,12 @@ text_in-carried : (m2 : List (List ℕ)) (authkey : List ℕ) (u : Update) (pad 
 unfolding text_in
 text_in-carried m2 authkey u pad is_authkey counter_fits pad_fits is_key sealed =
     let k : List ℕ = kdf authkey Enc in
-    let high : List ℕ = bytes_of 16 (upper u pad) in
+    let upper : ℕ = u.counter * 2 ^ 100 + flags_number u.flags * 2 ^ 95 + pad in
+    let high : List ℕ = bytes_of 16 upper in
     let text : two_blocks (plain u pad) ≡ high ∷ u.key ∷ [] = plain_blocks u pad counter_fits pad_fits is_key in
     let opened : cbc_inverse k zero_block m2 ≡ high ∷ u.key ∷ [] =
-    ap (λ m. cbc_inverse k zero_block m) (sealed ∙ ap (cbc k zero_block) text) ∙ cbc_inverse-cbc k zero_block (high ∷ u.key ∷ []) (IsBlock-kdf authkey Enc is_authkey) IsBlock-zero_block (All-two high u.key (IsBytes-bytes_of 16 (upper u pad)) is_key) in
-    ap (λ bs. number_of (concat bs)) opened ∙ number_of-two high u.key is_key ∙ ap (λ n. n * 2 ^ 128 + number_of u.key) (number_of-bytes_of-lt 16 (upper u pad) (upper-lt u pad counter_fits pad_fits)) ∙ sym (plain_halves u pad)
+    ap (λ m. cbc_inverse k zero_block m) (sealed ∙ ap (cbc k zero_block) text) ∙ cbc_inverse-cbc k zero_block (high ∷ u.key ∷ []) (IsBlock-kdf authkey Enc is_authkey) IsBlock-zero_block (All-two high u.key (IsBytes-bytes_of 16 upper) is_key) in
+    ap (λ bs. number_of (concat bs)) opened ∙ number_of-two high u.key is_key ∙ ap (λ n. n * 2 ^ 128 + number_of u.key) (number_of-bytes_of-lt 16 upper (upper-lt u pad counter_fits pad_fits)) ∙ sym (plain_halves u pad)
 
 -- a request has no update but the one that stands in M1 and M2
 pub update_in-carried : (request : Request) (authkey : List ℕ) (u : Update) → IsBlock authkey → Carries request authkey u → update_in authkey request ≡ u
@@ -203,38 +196,34 @@ same_update request authkey u v is_authkey x y =
 
 -- ---- the update that stands in a request
 
--- what M2 decrypts to, and its number
-record Opened (m2 : List (List ℕ)) (authkey x y : List ℕ) : Type 0 where
-  text_is : cbc_inverse (kdf authkey Enc) zero_block m2 ≡ x ∷ y ∷ []
-  is_x : IsBlock x
-  is_y : IsBlock y
-  number : text_in authkey m2 ≡ number_of x * 2 ^ 128 + number_of y
-
-opened_at : (m2 : List (List ℕ)) (authkey x y : List ℕ) → IsBlock authkey → All IsBlock m2 → cbc_inverse (kdf authkey Enc) zero_block m2 ≡ x ∷ y ∷ [] → Opened m2 authkey x y
+-- what M2 decrypts to are two blocks, and its text is their number
+opened_at : (m2 : List (List ℕ)) (authkey x y : List ℕ) → IsBlock authkey → All IsBlock m2 → cbc_inverse (kdf authkey Enc) zero_block m2 ≡ x ∷ y ∷ [] → IsBlock x × IsBlock y × (text_in authkey m2 ≡ number_of x * 2 ^ 128 + number_of y)
 unfolding text_in
 opened_at m2 authkey x y is_authkey is_m2 is =
     let all : All IsBlock (x ∷ y ∷ []) = subst (All IsBlock) is (All-cbc_inverse (kdf authkey Enc) zero_block m2 (IsBlock-kdf authkey Enc is_authkey) IsBlock-zero_block is_m2) in
     let is_y = All-head IsBlock y [] (All-tail IsBlock x (y ∷ []) all) in
-    record { text_is = is; is_x = All-head IsBlock x (y ∷ []) all; is_y = is_y; number = ap (λ bs. number_of (concat bs)) is ∙ number_of-two x y is_y }
+    (All-head IsBlock x (y ∷ []) all, is_y, ap (λ bs. number_of (concat bs)) is ∙ number_of-two x y is_y)
 
 -- M2 is what its text is encrypted to
-sealed_again : (m2 : List (List ℕ)) (authkey x y : List ℕ) (n : ℕ) → IsBlock authkey → All IsBlock m2 → Opened m2 authkey x y → n ≡ text_in authkey m2 → m2 ≡ cbc (kdf authkey Enc) zero_block (two_blocks n)
-sealed_again m2 authkey x y n is_authkey is_m2 o same =
+sealed_again : (m2 : List (List ℕ)) (authkey x y : List ℕ) (n : ℕ) → IsBlock authkey → All IsBlock m2 → cbc_inverse (kdf authkey Enc) zero_block m2 ≡ x ∷ y ∷ [] → n ≡ text_in authkey m2 → m2 ≡ cbc (kdf authkey Enc) zero_block (two_blocks n)
+sealed_again m2 authkey x y n is_authkey is_m2 is same =
+    let o = opened_at m2 authkey x y is_authkey is_m2 is in
     let k : List ℕ = kdf authkey Enc in
-    let text : two_blocks n ≡ cbc_inverse k zero_block m2 = ap two_blocks (same ∙ o.number) ∙ two_blocks-join x y o.is_x o.is_y ∙ sym o.text_is in
+    let text : two_blocks n ≡ cbc_inverse k zero_block m2 = ap two_blocks (same ∙ o.2) ∙ two_blocks-join x y o.0 o.1 ∙ sym is in
     sym (cbc-cbc_inverse k zero_block m2 (IsBlock-kdf authkey Enc is_authkey) is_m2) ∙ ap (cbc k zero_block) (sym text)
 
 -- the fields of a number of 256 bits make it up again
 made_up : (t f k : ℕ) → t < 2 ^ 256 → f ≡ t / 2 ^ 223 % 2 ^ 5 → k ≡ t % 2 ^ 128 → t / 2 ^ 228 * 2 ^ 228 + f * 2 ^ 223 + t / 2 ^ 128 % 2 ^ 95 * 2 ^ 128 + k ≡ t
 made_up t f k fits flags key = omega arith
 
-carries_opened : (request : Request) (authkey x y : List ℕ) → IsBlock authkey → IsRequest request → HasSlots request.m1 → Opened request.m2 authkey x y → request.m3 ≡ request_mac authkey request.m1 request.m2 → Carries request authkey (update_in authkey request)
+carries_opened : (request : Request) (authkey x y : List ℕ) → IsBlock authkey → IsRequest request → HasSlots request.m1 → cbc_inverse (kdf authkey Enc) zero_block request.m2 ≡ x ∷ y ∷ [] → request.m3 ≡ request_mac authkey request.m1 request.m2 → Carries request authkey (update_in authkey request)
 unfolding update_in
-carries_opened request authkey x y is_authkey is_request slots o mac =
+carries_opened request authkey x y is_authkey is_request slots is mac =
+    let o = opened_at request.m2 authkey x y is_authkey is_request.m2_is is in
     let t : ℕ = text_in authkey request.m2 in
     let m1 : List ℕ = request.m1 in
     let of = HeadOf-head_in m1 is_request.m1_is slots in
-    let fits : t < 2 ^ 256 = omega (arith, o.number, number_of-lt 16 x o.is_x, number_of-lt 16 y o.is_y) in
+    let fits : t < 2 ^ 256 = omega (arith, o.2, number_of-lt 16 x o.0, number_of-lt 16 y o.1) in
     let f : ℕ = t / 2 ^ 223 % 2 ^ 5 in
     let pad : ℕ = t / 2 ^ 128 % 2 ^ 95 in
     let flags : flags_number (flags_from f) ≡ f = flags_number-from f (omega arith) in
@@ -245,7 +234,7 @@ carries_opened request authkey x y is_authkey is_request slots o mac =
       padded = record {
         is_update = record { is_uid = of.is_head.is_uid; id_fits = slots.0; auth_fits = slots.1; counter_fits = omega (arith, fits); is_key = IsBytes-bytes_of 16 (t % 2 ^ 128) };
         m1_is = of.m1_is;
-        m2_is = sealed_again request.m2 authkey x y _ is_authkey is_request.m2_is o (made_up t (flags_number (flags_from f)) (number_of (bytes_of 16 (t % 2 ^ 128))) fits flags key);
+        m2_is = sealed_again request.m2 authkey x y _ is_authkey is_request.m2_is is (made_up t (flags_number (flags_from f)) (number_of (bytes_of 16 (t % 2 ^ 128))) fits flags key);
         m3_is = mac;
       };
     }
@@ -257,7 +246,7 @@ Carries-update_in request authkey is_authkey is_request slots mac =
     let two : length text ≡ 2 = length-cbc_inverse (kdf authkey Enc) zero_block request.m2 ∙ is_request.m2_has_2 in
     let x : List ℕ = get_or text 0 [] in
     let y : List ℕ = get_or text 1 [] in
-    carries_opened request authkey x y is_authkey is_request slots (opened_at request.m2 authkey x y is_authkey is_request.m2_is (list_of_two text [] [] two)) mac
+    carries_opened request authkey x y is_authkey is_request slots (list_of_two text [] [] two) mac
 
 -- the head of a request that carries an update
 pub HeadOf-Carries : (request : Request) (authkey : List ℕ) (u : Update) → Carries request authkey u → HeadOf request.m1 (record { uid = u.uid; id = u.id; auth = u.auth })
@@ -302,50 +291,3 @@ same_reply r s u uid x y =
     let m5s : r.m5 ≡ s.m5 = x.m5_is ∙ ap (λ m. cmac (kdf u.key Mac) (concat m)) m4s ∙ sym y.m5_is in
     let Make : List (List ℕ) → List ℕ → Reply = λ a b. record { m4 = a; m5 = b } in
     ap (λ a. Make a r.m5) m4s ∙ ap (Make s.m4) m5s
-
--- a reply has nothing of the flags, nor of the UID in the update
-pub Confirms-same : (r : Reply) (u v : Update) (uid : List ℕ) → u.id ≡ v.id → u.auth ≡ v.auth → u.counter ≡ v.counter → u.key ≡ v.key → Confirms r u uid → Confirms r v uid
-Confirms-same r u v uid ids auths counters keys x =
-    let M4 : ℕ → ℕ → ℕ → List ℕ → List (List ℕ) = λ i a c k. two_blocks (number_of uid * 2 ^ 136 + i * 2 ^ 132 + a * 2 ^ 128 + number_of (enc (kdf k Enc) (bytes_of 16 (c * 2 ^ 100 + 2 ^ 99)))) in
-    record {
-      m4_is = x.m4_is ∙ ap (λ i. M4 i u.auth u.counter u.key) ids ∙ ap (λ a. M4 v.id a u.counter u.key) auths ∙ ap (λ c. M4 v.id v.auth c u.key) counters ∙ ap (M4 v.id v.auth v.counter) keys;
-      m5_is = x.m5_is ∙ ap (λ k. cmac (kdf k Mac) (concat r.m4)) keys;
-    }
-
--- the two blocks of M4
-pub answer_blocks : (uid : List ℕ) (u : Update) → IsUid uid → u.id < 14 → u.auth < 14 → IsBlock u.key → bytes_of 16 (head_number uid u.id u.auth) ∷ sealed_counter u ∷ [] ≡ two_blocks (number_of uid * 2 ^ 136 + u.id * 2 ^ 132 + u.auth * 2 ^ 128 + number_of (sealed_counter u))
-answer_blocks uid u is_uid id_fits auth_fits is_key =
-    let last : List ℕ = sealed_counter u in
-    let is_last : IsBlock last = IsBlock-enc (kdf u.key Enc) (bytes_of 16 (u.counter * 2 ^ 100 + 2 ^ 99)) (IsBlock-kdf u.key Enc is_key) in
-    let sum : head_number uid u.id u.auth * 2 ^ 128 + number_of last ≡ number_of uid * 2 ^ 136 + u.id * 2 ^ 132 + u.auth * 2 ^ 128 + number_of last = omega arith in
-    sym (two_blocks-pair (head_number uid u.id u.auth) last (head_number-lt uid u.id u.auth is_uid id_fits auth_fits) is_last) ∙ ap two_blocks sum
-
-same_counter : (u v : Update) → IsUpdate u → IsUpdate v → sealed_counter u ≡ sealed_counter v → u.key ≡ v.key → u.counter ≡ v.counter
-same_counter u v is_u is_v sealed keys =
-    let k : List ℕ = kdf v.key Enc in
-    let is_k = IsBlock-kdf v.key Enc is_v.is_key in
-    let cu : List ℕ = bytes_of 16 (u.counter * 2 ^ 100 + 2 ^ 99) in
-    let cv : List ℕ = bytes_of 16 (v.counter * 2 ^ 100 + 2 ^ 99) in
-    let same_sealed : enc k cu ≡ enc k cv = ap (λ y. enc (kdf y Enc) cu) (sym keys) ∙ sealed in
-    let blocks : cu ≡ cv = sym (dec-enc k cu is_k (IsBytes-bytes_of 16 (u.counter * 2 ^ 100 + 2 ^ 99))) ∙ ap (dec k) same_sealed ∙ dec-enc k cv is_k (IsBytes-bytes_of 16 (v.counter * 2 ^ 100 + 2 ^ 99)) in
-    let numbers : u.counter * 2 ^ 100 + 2 ^ 99 ≡ v.counter * 2 ^ 100 + 2 ^ 99 = same_number 16 (u.counter * 2 ^ 100 + 2 ^ 99) (v.counter * 2 ^ 100 + 2 ^ 99) (omega (arith, is_u.counter_fits)) (omega (arith, is_v.counter_fits)) blocks in
-    omega arith
-
--- one reply confirms at most one update of a unit under one key, but for its flags and its UID
-pub same_confirmed : (r : Reply) (u v : Update) (uid other : List ℕ) → IsUpdate u → IsUpdate v → IsUid uid → IsUid other → Confirms r u uid → Confirms r v other → SameConfirmed uid other u v
-same_confirmed r u v uid other is_u is_v is_uid is_other x y =
-    let m1 : List ℕ = bytes_of 16 (head_number uid u.id u.auth) in
-    let blocks : m1 ∷ sealed_counter u ∷ [] ≡ bytes_of 16 (head_number other v.id v.auth) ∷ sealed_counter v ∷ [] =
-    answer_blocks uid u is_uid is_u.id_fits is_u.auth_fits is_u.is_key ∙ sym x.m4_is ∙ y.m4_is ∙ sym (answer_blocks other v is_other is_v.id_fits is_v.auth_fits is_v.is_key) in
-    let fronts : m1 ≡ bytes_of 16 (head_number other v.id v.auth) = cc in
-    let sealed : sealed_counter u ≡ sealed_counter v = cc in
-    let h : Head = record { uid = uid; id = u.id; auth = u.auth } in
-    let k : Head = record { uid = other; id = v.id; auth = v.auth } in
-    let of_h : HeadOf m1 h = record { is_head = record { is_uid = is_uid; id_fits = is_u.id_fits; auth_fits = is_u.auth_fits }; m1_is = refl } in
-    let of_k : HeadOf m1 k = record { is_head = record { is_uid = is_other; id_fits = is_v.id_fits; auth_fits = is_v.auth_fits }; m1_is = fronts } in
-    record {
-      uid_is = sym (uid_of-head m1 h of_h) ∙ uid_of-head m1 k of_k;
-      id_is = sym (id_of-head m1 h of_h) ∙ id_of-head m1 k of_k;
-      auth_is = sym (auth_of-head m1 h of_h) ∙ auth_of-head m1 k of_k;
-      counter_is = same_counter u v is_u is_v sealed;
-    }

@@ -1,6 +1,5 @@
 //! What the messages of a key update carry, and the messages themselves.
-ghost use Rattle.std.specs.Prelude.{◌≡◌, ◌↔◌, IsTrue, length, replicate, Some};
-ghost use Rattle.byte_lists.specs.Bytes.{IsBytes};
+ghost use Rattle.std.specs.Prelude.{◌≡◌, ◌↔◌, IsTrue, replicate, Some};
 ghost use Rattle.memory_update.specs.Identifier.{IsUid};
 ghost use Rattle.memory_update.specs.Shown.{shown_update};
 
@@ -26,21 +25,12 @@ impl Model for Uid {
     ghost inverse = { λ l. record { 0 = l } };
 }
 
-// The same bytes: of a slice that is passed a proof knows that its items are bytes.
-fn told(bytes: &[u8]) -> &[u8]
-    ensures value { result.now ≡ bytes.now }
-    ensures are_bytes { IsBytes (length bytes.now) bytes.now }
-{
-    bytes
-}
-
 impl Uid {
     /// The identifier with these bytes.
     pub fn of(bytes: [u8; 15]) -> Uid
         ensures value { result ≡ bytes }
         ensures is_uid { IsUid result }
     {
-        let _bytes = told(&bytes);
         Uid(bytes)
     }
 
@@ -62,7 +52,8 @@ impl Uid {
 
     /// Whether all its bytes are zero: a request with this identifier is meant for every engine.
     pub fn is_zero(&self) -> bool
-        ensures { IsTrue result ↔ (self.now ≡ replicate 15 0) }
+        ensures zero { IsTrue result ↔ (self.now ≡ replicate 15 0) }
+        ensures is_uid { IsUid self.now }
     {
         self.0 == [0; 15]
     }

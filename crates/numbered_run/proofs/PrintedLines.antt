@@ -2,7 +2,8 @@
 use Rattle.std.proofs.Common.{◌≡◌, ℕ, ◌+◌, List, [], ◌∷◌, ◌++◌, length, Result, Err, refl, sym, ◌∙◌, subst}
 use Rattle.std.proofs.lemmas.Result.{MatchResult-weaker}
 use Rattle.fault_count.specs.CountLaws.{rose_after}
-use Rattle.bus_port.specs.Sink.{SinkState, Appended-nothing, Appended-more}
+use Rattle.bus_port.specs.Sink.{SinkState}
+use Rattle.bus_port.specs.SinkLaws.{Appended-nothing, Appended-more}
 use Rattle.command_edge.specs.Told.{AppendedWell}
 use Rattle.machine_runs.specs.Run.{lines_in}
 use Rattle.numbered_run.specs.Driven.{TakenUp, Driven}

@@ -8,7 +8,7 @@ use Rattle.std.proofs.lemmas.Bool.{agree_below, agree_below_at, eqb-true, lt-ltb
 use Rattle.std.proofs.lemmas.Nat.Bits.{bit_at-lt}
 use Rattle.she_aes.specs.Field.{product, cancelled, remainder, sum_below, mul, inv}
 use Rattle.she_aes.specs.FieldFacts.{mul-xor, inv-lt}
-use Rattle.she_aes.specs.SBoxFacts.{same_at_bytes}
+use Rattle.she_aes.proofs.SBoxFacts.{same_at_bytes}
 use Rattle.she_aes.proofs.Tables.{none_rule}
 
 -- a byte by its bits

@@ -1,3 +1,7 @@
+pub mod SBoxFacts
+pub mod Mixing
+pub mod Undoing
+pub mod ModesUndone
 pub mod Tables
 pub mod Lanes
 pub mod Substituting

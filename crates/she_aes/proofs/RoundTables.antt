@@ -10,10 +10,10 @@ use Rattle.byte_lists.specs.Numbers.{number_of}
 use Rattle.byte_lists.specs.NumberLaws.{to_be_bytes-is, bytes_of-number_of}
 use Rattle.she_aes.specs.Field.{product, cancelled, remainder, mul, inv, affine, sub_byte}
 use Rattle.she_aes.specs.FieldFacts.{mul-lt, sub_byte-lt}
-use Rattle.she_aes.specs.SBoxFacts.{same_at_bytes}
+use Rattle.she_aes.proofs.SBoxFacts.{same_at_bytes}
 use Rattle.she_aes.specs.Cipher.{column, circulant, sub_bytes, shift_rows, mix_columns}
 use Rattle.she_aes.specs.CipherFacts.{block_of_self}
-use Rattle.she_aes.specs.Mixing.{four, turned}
+use Rattle.she_aes.proofs.Mixing.{four, turned}
 use Rattle.she_aes.specs.RoundTables.{AreRoundTables, mixed_column}
 use Rattle.she_aes.specs.declared.by_tables.TheConstants.{ROW_0, ROW_1, ROW_2, ROW_3}
 

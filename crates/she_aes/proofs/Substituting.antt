@@ -8,7 +8,7 @@ use Rattle.std.proofs.lemmas.Float.{T_from_true}
 use Rattle.std.proofs.lemmas.List.{get_or-map, length-map, ext_get_or}
 use Rattle.std.proofs.lemmas.Simd.{Each1-from_get_or, zip2_of_maps, splat_is_map, map-map, swz_l, SwzOk, SwzOk-from_Each1, length-swz_l, get_or-swz_l}
 use Rattle.she_aes.specs.Field.{product, cancelled, remainder, mul, inv, affine, sub_byte, inv_affine, inv_sub_byte}
-use Rattle.she_aes.specs.SBoxFacts.{same_at_bytes}
+use Rattle.she_aes.proofs.SBoxFacts.{same_at_bytes}
 use Rattle.she_aes.specs.Cipher.{sub_bytes, inv_sub_bytes}
 use Rattle.she_aes.specs.Lookups.{is_place, entry, GivesPlaces}
 use Rattle.she_aes.specs.Substitution.{low_nibble, high_nibble, pair, upper, lower, total, from_upper, from_total, first, second, substitute, PlacesFit}

@@ -3,7 +3,7 @@ use Rattle.std.specs.Prelude.{◌≡◌, ℕ, ◌<◌, ◌==◌, nat_lt, true, r
 use Rattle.std.proofs.Common.{sym, ◌∙◌}
 use Rattle.std.proofs.lemmas.Bool.{agree_below, agree_below_at, eqb-true, lt-ltb}
 use Rattle.she_aes.specs.Field.{product, cancelled, remainder, mul, inv}
-use Rattle.she_aes.specs.SBoxFacts.{same_at_bytes}
+use Rattle.she_aes.proofs.SBoxFacts.{same_at_bytes}
 
 none_ok : agree_below (λ b. mul 0 b == 0) (λ _. true) 256 ≡ true
 unfolding product cancelled remainder mul

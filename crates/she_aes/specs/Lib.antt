@@ -1,6 +1,5 @@
 pub mod Field
 pub mod FieldFacts
-pub mod SBoxFacts
 pub mod Lookups
 pub mod Substitution
 pub mod Cipher
@@ -9,8 +8,6 @@ pub mod RoundTables
 pub mod RoundKeys
 pub mod ReadBytes
 pub mod CipherFacts
-pub mod Mixing
-pub mod Undoing
 pub mod Modes
 pub mod ModeLaws
 pub mod Examples

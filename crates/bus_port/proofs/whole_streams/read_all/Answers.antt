@@ -1,6 +1,6 @@
 use Rattle.std.proofs.Common.{arith, length, ◌≤◌}
 use Rattle.std.proofs.lemmas.Result.{err_from_is_err_and}
-use Rattle.bus_port.specs.Whole.{ReadsPart-more}
+use Rattle.bus_port.proofs.Streams.{ReadsPart-more}
 use Rattle.bus_port.proofs.whole_streams.read_all.Goals as goal
 
 pub returns-in_err-add_piece-clause-refused : goal.returns-in_err-add_piece-clause-refused

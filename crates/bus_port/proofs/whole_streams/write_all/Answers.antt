@@ -1,6 +1,6 @@
 use Rattle.std.proofs.Common.{◌∙◌}
 use Rattle.std.proofs.lemmas.Result.{err_from_is_err_and}
-use Rattle.bus_port.specs.Whole.{AppendedPart-failed, Appended-front}
+use Rattle.bus_port.proofs.Streams.{AppendedPart-failed, Appended-front}
 use Rattle.bus_port.proofs.whole_streams.write_all.Goals as goal
 
 pub returns-in_err-done-clause-part : goal.returns-in_err-done-clause-part

@@ -1,4 +1,4 @@
-use Rattle.key_slots.specs.AuthorityLaws.{rule_of_pair, pair_of_rule}
+use Rattle.key_slots.proofs.PairRule.{rule_of_pair, pair_of_rule}
 use Rattle.key_slots.proofs.laws.pairs_have_their_rule.Goals as goal
 
 pub returns : goal.returns

@@ -2,7 +2,7 @@ use Rattle.std.proofs.Common.{◌≡◌, ℕ, List, [], ◌∷◌, ◌++◌, ◌
 use Rattle.std.specs.List.{concat}
 use Rattle.she_aes.specs.Cipher.{enc}
 use Rattle.she_cmac.specs.Cmac.{cmac}
-use Rattle.memory_update.specs.MessageLaws.{answer_blocks}
+use Rattle.memory_update.proofs.Confirming.{answer_blocks}
 use Rattle.memory_update.proofs.confirmation.confirm_for.Goals as goal
 
 pair_is : (x x' y k k' z z' : List ℕ) → x ≡ x' → y ≡ enc k z → k ≡ k' → z ≡ z' → x ∷ y ∷ [] ≡ x' ∷ enc k' z' ∷ []

@@ -1,4 +1,4 @@
-use Rattle.memory_update.specs.MessageLaws.{same_confirmed}
+use Rattle.memory_update.proofs.Confirming.{same_confirmed}
 use Rattle.memory_update.proofs.laws.a_reply_confirms_one_update.Goals as goal
 
 pub returns : goal.returns
