@@ -35,13 +35,17 @@ impl From<AllocError> for ReadAll {
     }
 }
 
-/// Appends the next piece of the source to `bytes`, and returns its length, which is 0 at the end.
-fn add_piece<S: Source>(source: &mut S, bytes: &mut Vec<u8>, limit: usize) -> Result<usize, ReadAll>
+/// Appends the next piece of the source to `bytes`, and returns its length, which is 0 at the end. `piece` is room for it.
+fn add_piece<S: Source>(
+    source: &mut S,
+    piece: &mut [u8; PIECE],
+    bytes: &mut Vec<u8>,
+    limit: usize,
+) -> Result<usize, ReadAll>
     requires small { limit < 2 ^ 32 }
     requires room { vec_len bytes.old ≤ limit }
     ensures { AddsPiece (S.state source.old) (S.state source.new) bytes.old.items bytes.new.items limit result }
 {
-    let mut piece = [0u8; PIECE];
     let room = PIECE.min(limit + 1 - bytes.len());
     let count = source.read(&mut piece[..room])?;
     if bytes.len() + count > limit {
@@ -67,7 +71,8 @@ pub fn read_all<S: Source>(alloc: Global, source: &mut S, limit: usize) -> Resul
         → IsErrOf result ReadAll.TooLong → limit < length left }
 {
     let mut bytes = Vec::new(alloc);
-    while add_piece(source, &mut bytes, limit)? > 0 {}
+    let mut piece = [0u8; PIECE];
+    while add_piece(source, &mut piece, &mut bytes, limit)? > 0 {}
     Ok(bytes)
 }
 
