@@ -1,5 +1,6 @@
 -- What a node may answer to what it is told to do, and what it then is
 use Rattle.std.specs.Prelude.{◌≡◌, ℕ, ◌+◌, ◌⊎◌, Bool, true, false, not, ◌&&◌, nat_lt, nat_le, ◌==◌, Option, None, Some, Ok, Err, List, [], ◌∷◌, length, option_map}
+use Rattle.key_slots.specs.declared.memory.Slot.{Slot}
 use Rattle.key_slots.specs.declared.refusals.Erc.TheVariants.{SequenceError}
 use Rattle.key_slots.specs.declared.usage.Purpose.TheVariants.{Mac}
 use Rattle.key_slots.specs.Usage.{usable}
@@ -12,6 +13,7 @@ use Rattle.secured_pdu.specs.Frame.{Secured}
 use Rattle.secured_pdu.specs.Verdict as verdict
 use Rattle.freshness_routes.specs.declared.routes.Direction.{Direction}
 use Rattle.freshness_routes.specs.declared.routes.Direction.TheVariants.{Sends, Receives}
+use Rattle.freshness_routes.specs.declared.routes.Route.{Route}
 use Rattle.freshness_routes.specs.Changes.{last_freshness, sender_change, receiver_change}
 use Rattle.bus_machine.specs.declared.lines.Line.{Line}
 use Rattle.bus_machine.specs.declared.lines.Line.TheVariants.{Sent, Accepted, FreshnessFailure, VerificationFailure, Keyed, Loaded, Boot, Up, Armed, NoFrame, Refused}
@@ -47,24 +49,33 @@ has_length least most bytes = nat_le least (length bytes) && nat_le (length byte
 abbrev pub has_route : Node → ℕ → Direction → Bool
 has_route node id direction = nat_lt (place_of node id direction) (length node.config.routes)
 
--- the refusal of the key of route k for a MAC
+-- the refusal of a MAC under a route's key; good says that a successful boot was made in this life
+abbrev pub mac_refusal : List Slot → Bool → Route → Option Refusal
+mac_refusal slots good route = option_map Key (usable slots route.slot good Mac)
+
+-- the same of route k of a node
 abbrev pub key_refusal : Node → ℕ → Option Refusal
-key_refusal node k = option_map Key (usable node.kept.slots (route_at node k).slot (is_good node.boot) Mac)
+key_refusal node k = mac_refusal node.kept.slots (is_good node.boot) (route_at node k)
+
+-- the refusals of a send under a route that is there, and of a PDU that it receives
+abbrev pub sender_refusals : List Slot → Bool → Route → ℕ → List ℕ → List (Option Refusal)
+sender_refusals slots good route counter payload =
+    when (not (has_length 1 60 payload)) BadLength ∷ mac_refusal slots good route ∷ when (counter == last_freshness) Exhausted ∷ []
+
+abbrev pub receiver_refusals : List Slot → Bool → Route → List ℕ → List (Option Refusal)
+receiver_refusals slots good route pdu = when (not (has_length 5 64 pdu)) BadLength ∷ mac_refusal slots good route ∷ []
 
 abbrev pub send_refusal : Node → ℕ → List ℕ → Option Refusal
 send_refusal node id payload = first_of (
     when (not node.up) Down
     ∷ when (not (has_route node id Sends)) NoRoute
-    ∷ when (not (has_length 1 60 payload)) BadLength
-    ∷ key_refusal node (place_of node id Sends)
-    ∷ when (counter_at node (place_of node id Sends) == last_freshness) Exhausted ∷ [])
+    ∷ sender_refusals node.kept.slots (is_good node.boot) (route_at node (place_of node id Sends)) (counter_at node (place_of node id Sends)) payload)
 
 abbrev pub receive_refusal : Node → ℕ → List ℕ → Option Refusal
 receive_refusal node id pdu = first_of (
     when (not node.up) Down
     ∷ when (not (has_route node id Receives)) NoRoute
-    ∷ when (not (has_length 5 64 pdu)) BadLength
-    ∷ key_refusal node (place_of node id Receives) ∷ [])
+    ∷ receiver_refusals node.kept.slots (is_good node.boot) (route_at node (place_of node id Receives)) pdu)
 
 -- ---- the changes that are due
 

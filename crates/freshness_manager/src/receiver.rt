@@ -94,6 +94,7 @@ impl Rx {
     pub fn candidate(&self, low: u8) -> Option<u64>
         ensures none { IfNone result ((v : ℕ) → ¬ Ahead self.now.counter self.now.window low v) }
         ensures ahead { IfSome result (Ahead self.now.counter self.now.window low) }
+        ensures window { IsWindow self.now.window }
     {
         candidate_of(self.counter, self.window, low)
     }

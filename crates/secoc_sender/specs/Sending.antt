@@ -1,0 +1,53 @@
+-- What the answer of a send is for the machine's node (own; the PDU is that of AUTOSAR SecOC, profile 1)
+use Rattle.std.specs.Prelude.{◌≡◌, ℕ, true, Option, None, Some, Result, Ok, Err, List, take}
+use Rattle.freshness_routes.specs.declared.routes.Direction.TheVariants.{Sends}
+use Rattle.freshness_routes.specs.declared.routes.Route.{Route}
+use Rattle.freshness_manager.specs.Counters.{SenderCounter}
+use Rattle.she_engine.specs.declared.engine.Engine.{Engine}
+use Rattle.bus_machine.specs.declared.lines.Line as line
+use Rattle.bus_machine.specs.declared.lines.Line.TheVariants.{Refused}
+use Rattle.bus_machine.specs.declared.lines.Refusal as machine
+use Rattle.bus_machine.specs.declared.lines.Refusal.TheVariants as refusal
+use Rattle.bus_machine.specs.Node.{Node, HasRoute, bound_to, place_of, route_at, bound_at, counter_at, with_counter, failed}
+use Rattle.bus_machine.specs.Steps.{send_change}
+use Rattle.secoc_sender.specs.declared.sender.Sent.{Sent}
+use Rattle.secoc_sender.specs.declared.sender.SendFault.{SendFault}
+use Rattle.secoc_sender.specs.declared.sender.SendFault.TheVariants.{BadLength, Key, Exhausted, Faulted}
+
+-- the route is the one whose counter this is
+pub record IsSenderRoute (route : Route) (tx : SenderCounter) : Type 0 where
+  pub direction : route.direction ≡ Sends
+  pub id : route.id ≡ tx.id
+  pub reserve : route.reserve ≡ tx.reserve
+
+-- the node is up and has the route, whose counter and bound are these, and its slots and its boot are the engine's
+pub record HasSender (node : Node) (engine : Engine) (tx : SenderCounter) (route : Route) : Type 0 where
+  pub is_up : node.up ≡ true
+  pub has_route : HasRoute node route.id Sends
+  pub route_is : route_at node (place_of node route.id Sends) ≡ route
+  pub counter_is : counter_at node (place_of node route.id Sends) ≡ tx.counter
+  pub bound_is : bound_at node (place_of node route.id Sends) ≡ tx.bound
+  pub slots_are : node.kept.slots ≡ engine.slots
+  pub boot_is : node.boot ≡ engine.boot
+
+-- the refusal that the machine knows the answer by, if it is one
+abbrev pub refusal_of_send : Result Sent SendFault → Option machine.Refusal
+refusal_of_send (Ok sent) = None
+refusal_of_send (Err BadLength) = Some refusal.BadLength
+refusal_of_send (Err (Key erc)) = Some (refusal.Key erc)
+refusal_of_send (Err Exhausted) = Some refusal.Exhausted
+refusal_of_send (Err (Faulted bound)) = None
+
+-- the line that tells of the send under this Data ID, whose PDU stands at the front of these bytes
+abbrev pub line_of_send : ℕ → Result Sent SendFault → List ℕ → line.Line
+line_of_send id (Ok sent) out = line.TheVariants.Sent id sent.freshness (take sent.len out)
+line_of_send id (Err BadLength) out = Refused refusal.BadLength
+line_of_send id (Err (Key erc)) out = Refused (refusal.Key erc)
+line_of_send id (Err Exhausted) out = Refused refusal.Exhausted
+line_of_send id (Err (Faulted bound)) out = Refused refusal.MemoryFailure
+
+-- the machine's node after the send: its counter rose, and its bound if that was due; or it waits for the bound that was to be put
+abbrev pub after_send : Node → ℕ → Result Sent SendFault → Node
+after_send node id (Ok sent) = with_counter (send_change node (place_of node id Sends)) (place_of node id Sends) sent.freshness node
+after_send node id (Err (Faulted bound)) = failed (bound_to (place_of node id Sends) bound) node
+after_send node id (Err fault) = node

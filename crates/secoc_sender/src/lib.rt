@@ -1,0 +1,13 @@
+//! One send of a node: the freshness above its counter, and the Secured I-PDU of AUTOSAR SecOC, profile 1, with it.
+//!
+//! The key is asked before anything of freshness. A bound that no longer covers the freshness is put before the PDU is written, so
+//! whatever a power cut leaves, no freshness is used twice.
+//!
+//! No call takes memory.
+#![tactic(auto)]
+
+mod sender;
+#[cfg(test)]
+mod tests;
+
+pub use sender::{SendFault, Sent, send};

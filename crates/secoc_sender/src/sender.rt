@@ -1,0 +1,126 @@
+//! A send, and why one isn't made.
+ghost use Rattle.std.specs.Prelude.{◌≡◌, ◌+◌, ◌≤◌, ◌↔◌, ℕ, List, [], take, drop, length, unwrap_or, false, None, Some, Err, IfOk, IfSome, OnOk, OnErr, IsErrOf};
+ghost use Rattle.cut_disk.specs.Calls.{Rose, Runs};
+ghost use Rattle.key_slots.specs.Slots.{slot_at};
+ghost use Rattle.key_slots.specs.Usage.{usable};
+ghost use Rattle.key_slots.specs.declared.usage.Purpose.TheVariants.{Mac};
+ghost use Rattle.memory_update.specs.Loading.{key_in};
+ghost use Rattle.secure_boot.specs.Booting.{is_good};
+ghost use Rattle.secured_pdu.specs.Frame.{IsPayload, Secured};
+ghost use Rattle.freshness_routes.specs.declared.routes.Direction.TheVariants.{Sends};
+ghost use Rattle.freshness_routes.specs.Changes.{sender_change as change_of_sender};
+ghost use Rattle.freshness_manager.specs.Counters.{KeepsBound};
+ghost use Rattle.freshness_manager.specs.Changing.{MakesChange, FailsChange};
+ghost use Rattle.bus_machine.specs.Node.{Node};
+ghost use Rattle.bus_machine.specs.Steps.{first_of, sender_refusals, sends, NodeStep};
+ghost use Rattle.secoc_sender.specs.Sending.{IsSenderRoute, HasSender, refusal_of_send, line_of_send, after_send};
+
+use cell_store::Cells;
+use freshness_manager::{Tx, TxFault};
+use freshness_routes::{Route, sender_change};
+use key_slots::Erc;
+use secured_pdu::{assemble, input_bytes};
+use she_engine::Engine;
+
+/// A payload that was sent.
+#[derive(Clone, Copy, Debug, PartialEq, Eq)]
+pub struct Sent {
+    /// The freshness, all 64 bits.
+    pub freshness: u64,
+    /// The length of the PDU in bytes, 5 to 64.
+    pub len: u8,
+}
+
+/// Why a payload isn't sent. The first that applies is answered.
+#[derive(Clone, Copy, Debug, PartialEq, Eq)]
+pub enum SendFault {
+    /// The payload has not 1 to 60 bytes.
+    BadLength,
+    /// The engine refuses a MAC under the route's key.
+    Key(Erc),
+    /// The counter stands at 2^64 - 1, the greatest freshness.
+    Exhausted,
+    /// The disk failed as this bound was put. After the next power-up the bound is the old one or this.
+    Faulted {
+        /// The bound that was to be put.
+        bound: u64,
+    },
+}
+
+/// Sends a payload under the freshness above the counter, which becomes the counter: the Secured I-PDU stands at the front of `out`.
+/// The sender is that of the route. Errors: the first of `BadLength`, `Key`, `Exhausted` and `Faulted` that applies, and `Faulted` only
+/// where the disk failed. After each of them `out` and the sender are as before, and no call of the disk was made but for `Faulted`.
+pub fn send<C: Cells>(
+    engine: &Engine,
+    tx: &mut Tx,
+    cells: &mut C,
+    route: &Route,
+    payload: &[u8],
+    out: &mut [u8; 64],
+) -> Result<Sent, SendFault>
+    requires whole { (C.state cells.old).broken ≡ false }
+    requires kept { KeepsBound (C.state cells.old).cells tx.old.place tx.old.id Sends tx.old.bound }
+    requires route { IsSenderRoute route.now tx.old }
+    ensures refusal { first_of (sender_refusals engine.now.slots (is_good engine.now.boot) route.now tx.old.counter payload.now)
+        ≡ refusal_of_send result }
+    ensures next { IfOk result (λ sent. sent.freshness ≡ tx.old.counter + 1) }
+    ensures length { IfOk result (λ sent. sent.len ≡ length payload.now + 4) }
+    ensures secured { IfOk result (λ sent. Secured (key_in (slot_at engine.now.slots route.now.slot)) route.now.id payload.now
+        sent.freshness (take sent.len out.new)) }
+    ensures rest { IfOk result (λ sent. drop sent.len out.new ≡ drop sent.len out.old) }
+    ensures counted { OnOk result (let change = change_of_sender tx.old.counter tx.old.bound tx.old.reserve
+        in tx.new ≡ record tx.old { counter = tx.old.counter + 1; bound = unwrap_or change tx.old.bound }) }
+    ensures covered { IfOk result (λ sent. sent.freshness ≤ tx.new.bound) }
+    ensures made { OnOk result (let change = change_of_sender tx.old.counter tx.old.bound tx.old.reserve
+        in MakesChange tx.old.place tx.old.id Sends change (C.state cells.old) (C.state cells.new)) }
+    ensures faults { OnOk result ((C.state cells.new).disk.faults ≡ (C.state cells.old).disk.faults) }
+    ensures whole { OnOk result ((C.state cells.new).broken ≡ false) }
+    ensures untouched { IfSome (refusal_of_send result) (λ _. C.state cells.new ≡ C.state cells.old) }
+    ensures bad_length { IsErrOf result SendFault.BadLength ↔ (¬ IsPayload payload.now) }
+    ensures due { (bound : ℕ) → result ≡ Err (SendFault.Faulted bound)
+        → change_of_sender tx.old.counter tx.old.bound tx.old.reserve ≡ Some bound }
+    ensures rose { (bound : ℕ) → result ≡ Err (SendFault.Faulted bound)
+        → Rose (C.state cells.old).disk.faults (C.state cells.new).disk.faults }
+    ensures failed { (bound : ℕ) → result ≡ Err (SendFault.Faulted bound)
+        → FailsChange tx.old.place tx.old.id Sends (Some bound) (C.state cells.old) (C.state cells.new) }
+    ensures as_before { OnErr result (tx.new ≡ tx.old) }
+    ensures unwritten { OnErr result (out.new ≡ out.old) }
+    ensures kept { KeepsBound (C.state cells.new).cells tx.new.place tx.new.id Sends tx.new.bound }
+    ensures runs { Runs [] 6 (C.state cells.old).disk (C.state cells.new).disk }
+    ensures step { (node : Node) → HasSender node engine.now tx.old route.now
+        → NodeStep node (sends route.now.id payload.now) (line_of_send route.now.id result out.new)
+        (after_send node route.now.id result) }
+{
+    if payload.is_empty() || payload.len() > 60 {
+        return Err(SendFault::BadLength);
+    }
+    if let Err(refusal) = engine.usable_for_mac(route.slot) {
+        return Err(SendFault::Key(refusal));
+    }
+    let change = sender_change(tx.counter(), tx.bound(), tx.reserve());
+    match tx.next(cells) {
+        Ok(freshness) => {
+            let len = secure(engine, route, payload, freshness, out);
+            Ok(Sent { freshness, len })
+        }
+        Err(TxFault::Exhausted) => Err(SendFault::Exhausted),
+        Err(TxFault::PutFailed) => Err(SendFault::Faulted {
+            bound: change.unwrap(),
+        }),
+    }
+}
+
+// Writes the Secured I-PDU under the route's key, which serves MACs, and gives its length.
+fn secure(engine: &Engine, route: &Route, payload: &[u8], freshness: u64, out: &mut [u8; 64]) -> u8
+    requires usable { usable engine.now.slots route.now.slot (is_good engine.now.boot) Mac ≡ None }
+    requires payload { IsPayload payload.now }
+    ensures length { result ≡ length payload.now + 4 }
+    ensures secured { Secured (key_in (slot_at engine.now.slots route.now.slot)) route.now.id payload.now freshness
+        (take result out.new) }
+    ensures rest { drop result out.new ≡ drop result out.old }
+{
+    let mut input = [0; 70];
+    let length = input_bytes(route.id, payload, freshness, &mut input);
+    let mac = engine.generate_mac(route.slot, &input[..length]).unwrap();
+    assemble(payload, freshness, &mac, out) as u8
+}
