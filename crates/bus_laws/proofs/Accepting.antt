@@ -36,7 +36,7 @@ sent_step before (Send node id payload) (Sent told v pdu) after new Q step q =
     Each-push _ before.sent _ (Each-map Q _ (λ s h. inl h) before.sent q)
     (inr (record {
       key = route_key (node_at before node) (place_of (node_at before node) told Sends);
-      sent = (refl, refl, refl);
+      sent = (ap (λ d. Send node d payload) (sym step.0), refl, refl, refl);
       secured = subst (λ d. Secured (route_key (node_at before node) (place_of (node_at before node) d Sends)) d payload v pdu) (sym step.0) step.1.pdu_is;
     }))
 sent_step before event line after new Q step q = Each-map Q _ (λ s h. inl h) before.sent q
@@ -52,6 +52,24 @@ sent_signed start (m ∷ ms) now Q run q =
       | inl (inr x) ↦ inr (record { key = x.key; sent = inl x.sent; secured = x.secured })
       | inr x ↦ inr (record { key = x.key; sent = inr x.sent; secured = x.secured })
     ]) now.sent (sent_signed m.after ms now (λ s. Q s ⊎ SignedHere start m s) run.1 next)
+
+-- the key that the sender's slot held at the send secures the line's PDU
+secured_here : (before : World) (m : Instant) (s : SentLine) (key : List ℕ) (new : Node) → SentAs s key before m
+    → NodeStep (node_at before (node_of m.command)) (act_of before m.command) m.line new → Secured key s.id s.payload s.freshness s.pdu
+secured_here before m s key new is step =
+    let node : Node = node_at before (node_of m.command) in
+    let told : act_of before m.command ≡ sends s.id s.payload = ap (act_of before) is.0 in
+    let sent : NodeStep node (sends s.id s.payload) (Sent s.id s.freshness s.pdu) new =
+    subst (λ a. NodeStep node a (Sent s.id s.freshness s.pdu) new) told (subst (λ l. NodeStep node (act_of before m.command) l new) is.1 step) in
+    subst (λ k. Secured k s.id s.payload s.freshness s.pdu) (sym is.3) sent.1.pdu_is
+
+pub secured_by_its_key : (start : World) (ms : Moments) (now : World) (s : SentLine) (key : List ℕ) → Run Step start ms now → AtSome (SentAs s key) start ms
+    → Secured key s.id s.payload s.freshness s.pdu
+secured_by_its_key start [] now s key run sent = absurd sent
+secured_by_its_key start (m ∷ ms) now s key run (inl here) =
+    let at = step_at start m.command m.line m.after run.0 in
+    secured_here start m s key _ here at.step
+secured_by_its_key start (m ∷ ms) now s key run (inr later) = secured_by_its_key m.after ms now s key run.1 later
 
 found_number : (o : Option SentLine) (e : ℕ) → option_map (λ s. s.number) o ≡ Some e → (s : SentLine) × (o ≡ Some s) × (s.number ≡ e)
 found_number None e h = cc
@@ -81,20 +99,26 @@ abbrev pub sent_as : ℕ → List ℕ → ℕ → SentLine → Bool
 sent_as id payload v s = (s.id == id) && bytes_eq s.payload payload && (s.freshness == v)
 
 names_sent : (start : World) (done : Moments) (before : World) (id v : ℕ) (payload : List ℕ) (number : ℕ) (key pdu : List ℕ) → Each (Signed start done) before.sent
-    → option_map (λ s. s.number) (find (sent_as id payload v) before.sent) ≡ Some number → Secured key id payload v pdu → WasSent start done number key pdu
+    → option_map (λ s. s.number) (find (sent_as id payload v) before.sent) ≡ Some number → Secured key id payload v pdu → WasSent start done number id v payload key pdu
 names_sent start done before id v payload number key pdu signed found secured =
     let f = found_number (find (sent_as id payload v) before.sent) number found in
     let s : SentLine = f.0 in
     let h = find_each (sent_as id payload v) (Signed start done) before.sent s signed f.1 in
     let t = both_true ((s.id == id) && bytes_eq s.payload payload) (s.freshness == v) h.0 in
     let u = both_true (s.id == id) (bytes_eq s.payload payload) t.0 in
+    let id_is : s.id ≡ id = eq_of_test s.id id u.0 in
+    let payload_is : s.payload ≡ payload = (bytes_eq-Decides s.payload payload).0 u.1 in
+    let freshness_is : s.freshness ≡ v = eq_of_test s.freshness v t.1 in
     record {
       sent = s;
       key = h.1.key;
       number_is = f.2;
+      id_is = id_is;
+      payload_is = payload_is;
+      freshness_is = freshness_is;
       was_sent = h.1.sent;
       same = λ k. h.1.secured.frame_is
-          ∙ same_frame h.1.key key s.id id s.payload payload s.freshness v k (eq_of_test s.id id u.0) ((bytes_eq-Decides s.payload payload).0 u.1) (eq_of_test s.freshness v t.1)
+          ∙ same_frame h.1.key key s.id id s.payload payload s.freshness v k id_is payload_is freshness_is
           ∙ sym secured.frame_is;
     }
 

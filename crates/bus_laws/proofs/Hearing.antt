@@ -16,7 +16,8 @@ use Rattle.bus_machine.specs.Node.{Node, place_of, route_at, counter_at, route_k
 use Rattle.bus_machine.specs.Sound.{Sound}
 use Rattle.bus_machine.specs.Steps.{receives, NodeStep, when, first_of, key_refusal, receive_refusal, has_length}
 use Rattle.bus_machine.specs.Bus.{World, SentLine, node_of, Moments, act_of, sent_after, hearing, Step, node_at, SoundBus}
-use Rattle.bus_machine.specs.Honest.{IsInTime, HonestDelivery, IsHeard}
+use Rattle.bus_machine.specs.Honest.{IsInTime, HonestDelivery, SameKeyDelivery, IsHeard}
+use Rattle.bus_laws.proofs.Accepting.{secured_by_its_key}
 use Rattle.bus_laws.proofs.Effects.{send_routed}
 use Rattle.bus_laws.proofs.SoundSteps.{route_is}
 use Rattle.bus_laws.proofs.BusSteps.{step_at, Sound-bus, Sound-run}
@@ -100,3 +101,18 @@ IsHeard-run start ms now sound empty run i number line after s h step =
     heard_line (node_at now i) s line (node_at after i)
     (facts (node_at now i) s (Sound-run start ms now sound run i at.inside) fits h.in_time)
     (subst (λ act. NodeStep (node_at now i) act line (node_at after i)) told at.step)
+
+-- the receiver's key secures the PDU, since it is the sender's
+pub same_key_is_honest : (start : World) (ms : Moments) (now : World) (node : Node) (number : ℕ) (s : SentLine) → Run Step start ms now
+    → SameKeyDelivery start ms now node number s → HonestDelivery now node number s
+same_key_is_honest start ms now node number s run d = record {
+  found = d.found;
+  in_time = record {
+    is_up = d.is_up;
+    has_route = d.has_route;
+    usable = d.usable;
+    secured = secured_by_its_key start ms now s _ run d.same_key;
+    above = d.above;
+    near = d.near;
+  };
+}

@@ -17,7 +17,7 @@ use Rattle.bus_machine.specs.Node.{Node, Change, slot_to, bound_to, changed, wit
 use Rattle.bus_machine.specs.Sound.{Sound}
 use Rattle.bus_machine.specs.Steps.{Act, sends, receives, loads, keys, boots, cuts, arms, hears_nothing, TakesUpdate, Makes, NodeStep}
 use Rattle.bus_machine.specs.Bus.{World, node_of, Instant, Moments, act_of, Step, node_at, SoundBus, state_after, AtSome}
-use Rattle.bus_machine.specs.KeysKept.{slot_in, IsTaken, Acknowledges, FailsUpdate, UpdatesHold, GoesOn, SlotsGoOn, KeysKept}
+use Rattle.bus_machine.specs.KeysKept.{slot_in, IsTaken, Acknowledges, FailsUpdate, UpdatesHold, GoesOn, SlotsGoOn, KeysKept, StaysOrRenews, SettledSlotsStay}
 use Rattle.bus_laws.proofs.SoundSteps.{takes_forward, pending_forward}
 use Rattle.bus_laws.proofs.Growth.{Renews, slots_by_bound}
 use Rattle.bus_laws.proofs.BusSteps.{step_at, other_at, as_many_run, Sound-bus, Sound-run, Grows-run, state_is}
@@ -227,3 +227,64 @@ KeysKept-run start ms now s run = record {
   updates_hold = UpdatesHold-run start ms now s run;
   slots_go_on = SlotsGoOn-run start ms now s run;
 }
+
+-- ---- from a world where nothing is pending
+
+-- a slot is as it was, or holds an update of a moment that was acknowledged or failed, or one that was pending from the start
+abbrev pub Renewed : ℕ → ℕ → World → Moments → Slot → Type 0
+Renewed i t start ms final =
+    (final ≡ slot_in start i t)
+    ⊎ (AtSome (Acknowledges i t final) start ms ⊎ (AtSome (FailsUpdate i t final) start ms ⊎ ((node_at start i).pending ≡ Some (slot_to t final))))
+
+renewed_here : (start : World) (m : Instant) (ms : Moments) (i t : ℕ) (final : Slot) → node_of m.command ≡ i
+    → NodeStep (node_at start i) (act_of start m.command) m.line (node_at m.after i)
+    → SlotStep (node_at start i) (act_of start m.command) m.line (node_at m.after i) t
+    → Renewed i t m.after ms final → Renewed i t start (m ∷ ms) final
+renewed_here start m ms i t final node_is step (unchanged e) (inl f) = inl (f ∙ e)
+renewed_here start m ms i t final node_is step (updated is makes) (inl f) =
+    inr (inl (inl (is, (node_is, subst (λ s. Makes (node_at start i) (act_of start m.command) (slot_to t s)) (sym f) makes))))
+renewed_here start m ms i t final node_is step (by_power pending) (inl f) = inr (inr (inr (pending ∙ ap (λ s. Some (slot_to t s)) (sym f))))
+renewed_here start m ms i t final node_is step _ (inr (inl a)) = inr (inl (inr a))
+renewed_here start m ms i t final node_is step _ (inr (inr (inl a))) = inr (inr (inl (inr a)))
+renewed_here start m ms i t final node_is step _ (inr (inr (inr p))) = elim (pending_step _ _ m.line _ (slot_to t final) step p) [
+  | inl f ↦ inr (inr (inl (inl (f.0, (node_is, f.1)))))
+  | inr q ↦ inr (inr (inr q.0))
+]
+
+renewed_other : (start : World) (m : Instant) (ms : Moments) (i t : ℕ) (final : Slot) → node_at m.after i ≡ node_at start i → Renewed i t m.after ms final → Renewed i t start (m ∷ ms) final
+renewed_other start m ms i t final e (inl f) = inl (f ∙ ap (λ n. slot_at n.kept.slots t) e)
+renewed_other start m ms i t final e (inr (inl a)) = inr (inl (inr a))
+renewed_other start m ms i t final e (inr (inr (inl a))) = inr (inr (inl (inr a)))
+renewed_other start m ms i t final e (inr (inr (inr p))) = inr (inr (inr (sym (ap (λ n. n.pending) e) ∙ p)))
+
+renewed_run : (start : World) (ms : Moments) (now : World) (i t : ℕ) → SoundBus start → Run Step start ms now → Renewed i t start ms (slot_in now i t)
+renewed_run start [] now i t s run = inl (ap (λ w. slot_in w i t) run)
+renewed_run start (m ∷ ms) now i t s run =
+    let rest = renewed_run m.after ms now i t (Sound-bus start m.command m.line m.after s run.0) run.1 in
+    let at = step_at start m.command m.line m.after run.0 in
+    elim (eqb_tells i (node_of m.command)) [
+      | inl here ↦
+          let step = subst (λ j. NodeStep (node_at start j) (act_of start m.command) m.line (node_at m.after j)) (sym here.1) at.step in
+          let sound = subst (λ j. Sound (node_at start j)) (sym here.1) (s (node_of m.command) at.inside) in
+          renewed_here start m ms i t (slot_in now i t) (sym here.1) step (slot_step _ _ m.line _ t sound step) rest
+      | inr other ↦ renewed_other start m ms i t (slot_in now i t) (other_at start m.command m.line m.after run.0 i other.1) rest
+    ]
+
+settled_run : (start : World) (ms : Moments) (now : World) (i t : ℕ) → SoundBus start → Run Step start ms now → (node_at start i).pending ≡ None
+    → (slot_in now i t ≡ slot_in start i t) ⊎ (AtSome (Acknowledges i t (slot_in now i t)) start ms ⊎ AtSome (FailsUpdate i t (slot_in now i t)) start ms)
+settled_run start ms now i t s run none = elim (renewed_run start ms now i t s run) [
+  | inl e ↦ inl e
+  | inr (inl a) ↦ inr (inl a)
+  | inr (inr (inl a)) ↦ inr (inr a)
+  | inr (inr (inr p)) ↦ absurd (None≢Some _ _ none p)
+]
+
+pub SettledSlotsStay-run : (start : World) (ms : Moments) (now : World) → SoundBus start → Run Step start ms now → SettledSlotsStay start ms
+SettledSlotsStay-run start ms now s run done since later i t all none =
+    let whole = Run-split Step start (done ++ since) later now (subst (λ xs. Run Step start xs now) all run) in
+    let parts = Run-split Step start done since whole.0 whole.1 in
+    let at : parts.0 ≡ state_after start done = state_is start done parts.0 parts.1 in
+    let end : whole.0 ≡ state_after parts.0 since = state_is parts.0 since whole.0 parts.2 in
+    subst (λ w. StaysOrRenews i t w since) at
+    (subst (λ w. (slot_in w i t ≡ slot_in parts.0 i t) ⊎ (AtSome (Acknowledges i t (slot_in w i t)) parts.0 since ⊎ AtSome (FailsUpdate i t (slot_in w i t)) parts.0 since)) end
+    (settled_run parts.0 since whole.0 i t (Sound-run start done parts.0 s parts.1) parts.2 (subst (λ w. (node_at w i).pending ≡ None) (sym at) none)))

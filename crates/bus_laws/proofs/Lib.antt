@@ -14,3 +14,4 @@ pub mod Hearing
 pub mod FirstWorld
 pub mod Determined
 pub mod OneLine
+pub mod Existence

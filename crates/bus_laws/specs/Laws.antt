@@ -1,10 +1,12 @@
 -- The laws of all runs from a first world, as statements
 use Rattle.std.specs.Prelude.{◌≡◌, ◌≢◌, ℕ, ◌<◌, true, None, List, [], ◌∷◌, All, length}
+use Rattle.she_aes.specs.Cipher.{IsBlock}
+use Rattle.memory_update.specs.Messages.{IsUpdate, IsRequest}
 use Rattle.freshness_routes.specs.Config.{Config}
 use Rattle.freshness_routes.specs.declared.routes.Direction.TheVariants.{Sends}
 use Rattle.machine_runs.specs.Run.{Run, commands_in}
 use Rattle.bus_machine.specs.declared.events.Event.{Event}
-use Rattle.bus_machine.specs.declared.events.Event.TheVariants.{Deliver, Cut}
+use Rattle.bus_machine.specs.declared.events.Event.TheVariants.{Deliver, Load, Key, Cut}
 use Rattle.bus_machine.specs.declared.lines.Line.{Line}
 use Rattle.bus_machine.specs.declared.lines.Line.TheVariants.{Up, Refused}
 use Rattle.bus_machine.specs.declared.lines.Refusal.TheVariants.{MemoryFailure}
@@ -14,9 +16,9 @@ use Rattle.bus_machine.specs.Steps.{Act, NodeStep}
 use Rattle.bus_machine.specs.Bus.{World, SentLine, First, node_of, Instant, Moments, IsBus, Step, node_at, SoundBus}
 use Rattle.bus_machine.specs.Freshness.{Rising, Single, AllCovered}
 use Rattle.bus_machine.specs.Authentic.{Authentic}
-use Rattle.bus_machine.specs.KeysKept.{KeysKept}
+use Rattle.bus_machine.specs.KeysKept.{KeysKept, SettledSlotsStay}
 use Rattle.bus_machine.specs.Skips.{SkipsLittle}
-use Rattle.bus_machine.specs.Honest.{HonestDelivery, IsHeard}
+use Rattle.bus_machine.specs.Honest.{HonestDelivery, SameKeyDelivery, IsHeard}
 
 -- a first world: no event and no sent line yet, and each node sound and up, with its counters at its bounds
 pub record IsFirst (world : World) : Type 0 where
@@ -63,6 +65,10 @@ RunsAreSingle = EachRun (λ start ms last. OneSender start → Single ms)
 abbrev pub RunsKeepKeys : Type 0
 RunsKeepKeys = EachRun (λ start ms last. KeysKept start ms)
 
+-- an update that failed, and that a power-up dropped, is gone for good
+abbrev pub RunsSettleKeys : Type 0
+RunsSettleKeys = EachRun (λ start ms last. SettledSlotsStay start ms)
+
 -- ---- cuts and honest PDUs
 
 abbrev pub CutsSkipLittle : Type 0
@@ -71,6 +77,29 @@ CutsSkipLittle = EachRun (λ start ms last. (m : Instant) → Step last m.comman
 abbrev pub HonestIsHeard : Type 0
 HonestIsHeard = EachRun (λ start ms last. (i number : ℕ) (line : Line) (after : World) (s : SentLine)
     → HonestDelivery last (node_at last i) number s → Step last (Deliver i number) line after → IsHeard s line)
+
+-- a delivery to a node whose slot holds the key that the sender's slot held at the send is such a delivery
+abbrev pub SameKeyIsHonest : Type 0
+SameKeyIsHonest = EachRun (λ start ms last. (i number : ℕ) (s : SentLine)
+    → SameKeyDelivery start ms last (node_at last i) number s → HonestDelivery last (node_at last i) number s)
+
+-- ---- no run is stuck
+
+-- the disk didn't fail
+abbrev pub NoFailure : Line → Type 0
+NoFailure (Refused MemoryFailure) = ⊥
+NoFailure _ = Unit {0}
+
+-- where the event is a key update, its keys, numbers and messages are such as the code's types have
+abbrev pub IsTypedUpdate : Event → Type 0
+IsTypedUpdate (Load node request) = IsRequest request
+IsTypedUpdate (Key node update authkey) = IsUpdate update × IsBlock authkey
+IsTypedUpdate _ = Unit {0}
+
+-- each event of a node of the bus has a line and a world after it, without a failure of the disk
+abbrev pub RunsGoOn : Type 0
+RunsGoOn = EachRun (λ start ms last. (event : Event) → node_of event < length last.nodes → IsTypedUpdate event
+    → (line : Line) × (after : World) × NoFailure line × Step last event line after)
 
 -- ---- what is determined
 
@@ -93,11 +122,6 @@ LinesDetermineWorlds = EachRun (λ start ms last. (ns : Moments) (other : World)
 abbrev pub NoCut : Event → Type 0
 NoCut (Cut node torn) = ⊥
 NoCut _ = Unit {0}
-
--- the disk didn't fail
-abbrev pub NoFailure : Line → Type 0
-NoFailure (Refused MemoryFailure) = ⊥
-NoFailure _ = Unit {0}
 
 abbrev pub IsCalm : Moments → Type 0
 IsCalm = All (λ m. NoCut m.command × NoFailure m.line)

@@ -1,5 +1,5 @@
 //! Each function has an empty body, and its contract is the law. A run begins at any first world, as that of a bus is.
-ghost use Rattle.bus_laws.specs.Laws.{BusesBeginFirst, StepsKeepSound, RunsAreSound, RunsAreCovered, RunsRise, RunsAreAuthentic, RunsAreSingle, RunsKeepKeys, CutsSkipLittle, HonestIsHeard, LinesDetermineWorlds, EventsDetermineLines};
+ghost use Rattle.bus_laws.specs.Laws.{BusesBeginFirst, StepsKeepSound, RunsAreSound, RunsAreCovered, RunsRise, RunsAreAuthentic, RunsAreSingle, RunsKeepKeys, RunsSettleKeys, CutsSkipLittle, HonestIsHeard, SameKeyIsHonest, RunsGoOn, LinesDetermineWorlds, EventsDetermineLines};
 
 /// The first world of a bus is a first world, in which no Data ID is sent by two nodes.
 pub fn buses_begin_first()
@@ -44,6 +44,12 @@ pub fn keys_are_kept()
     ensures { RunsKeepKeys }
 {}
 
+/// From a world in which no change of a node is pending, as after its power-up, its slots change only by updates of
+/// later events: one that failed before and was dropped by the power-up is gone for good.
+pub fn dropped_updates_are_gone()
+    ensures { RunsSettleKeys }
+{}
+
 /// A cut lets a sender skip at most its reserve, and a receiver less than its reserve, counted from its counter or from
 /// the freshness of the PDU whose call failed.
 pub fn cuts_skip_little()
@@ -53,6 +59,17 @@ pub fn cuts_skip_little()
 /// A delivered PDU that comes in time is accepted as it was sent, or the disk failed.
 pub fn honest_pdus_are_accepted()
     ensures { HonestIsHeard }
+{}
+
+/// The key that the sender's slot held at the send secures the PDU: where the receiver's slot holds that key and is usable,
+/// a PDU that comes in time is accepted.
+pub fn same_key_is_honest()
+    ensures { SameKeyIsHonest }
+{}
+
+/// No run is stuck: each event of a node of the bus has a line and a world after it, and one where no disk fails.
+pub fn runs_go_on()
+    ensures { RunsGoOn }
 {}
 
 /// The events and lines of a run, and what a node kept at each cut that found a change pending, determine every world.

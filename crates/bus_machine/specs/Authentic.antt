@@ -2,24 +2,30 @@
 use Rattle.std.specs.Prelude.{◌≡◌, ℕ, ◌+◌, Option, None, Some, List, ◌∷◌, ◌++◌}
 use Rattle.secured_pdu.specs.Frame.{Secured}
 use Rattle.freshness_routes.specs.declared.routes.Direction.TheVariants.{Sends, Receives}
+use Rattle.bus_machine.specs.declared.events.Event.TheVariants.{Send}
 use Rattle.bus_machine.specs.declared.lines.Line.{Line}
 use Rattle.bus_machine.specs.declared.lines.Line.TheVariants.{Sent, Accepted}
 use Rattle.bus_machine.specs.Node.{Node, place_of, route_key}
 use Rattle.bus_machine.specs.Steps.{receives, key_refusal}
 use Rattle.bus_machine.specs.Bus.{World, SentLine, Instant, Moments, node_of, node_at, act_of, source_of, state_after, AtSome}
 
--- the moment sent this line, while the slot of its route held this key
+-- the moment sent this line, with its payload, while the slot of its route held this key
 abbrev pub SentAs : SentLine → List ℕ → World → Instant → Type 0
 SentAs s key before m =
-    (m.line ≡ Sent s.id s.freshness s.pdu)
+    let node = node_at before (node_of m.command) in
+    (m.command ≡ Send (node_of m.command) s.id s.payload)
+    × (m.line ≡ Sent s.id s.freshness s.pdu)
     × (s.number ≡ before.events + 1)
-    × (key ≡ route_key (node_at before (node_of m.command)) (place_of (node_at before (node_of m.command)) s.id Sends))
+    × (key ≡ route_key node (place_of node s.id Sends))
 
--- the event of this number sent; where its slot held the receiver's key, the PDU that was received is the sent one, byte for byte
-pub record WasSent (start : World) (done : Moments) (number : ℕ) (receiver_key pdu : List ℕ) : Type 0 where
+-- the event of this number sent this payload with this freshness under this Data ID; where its slot held the receiver's key, the PDU that was received is the sent one, byte for byte
+pub record WasSent (start : World) (done : Moments) (number id v : ℕ) (payload receiver_key pdu : List ℕ) : Type 0 where
   pub sent : SentLine
   pub key : List ℕ
   pub number_is : sent.number ≡ number
+  pub id_is : sent.id ≡ id
+  pub payload_is : sent.payload ≡ payload
+  pub freshness_is : sent.freshness ≡ v
   pub was_sent : AtSome (SentAs sent key) start done
   pub same : key ≡ receiver_key → sent.pdu ≡ pdu
 
@@ -30,7 +36,7 @@ pub record AcceptedRight (start : World) (done : Moments) (before : World) (m : 
   pub usable : key_refusal node route ≡ None
   pub secured : Secured (route_key node route) id payload v pdu
   pub from : source ≡ source_of before id payload v
-  pub names : (number : ℕ) → source ≡ Some number → WasSent start done number (route_key node route) pdu
+  pub names : (number : ℕ) → source ≡ Some number → WasSent start done number id v payload (route_key node route) pdu
 
 -- a moment after those done
 abbrev pub RightLine : World → Moments → Instant → Line → Type 0

@@ -7,9 +7,10 @@ use Rattle.bus_machine.specs.declared.lines.Line.TheVariants.{Accepted, Refused}
 use Rattle.bus_machine.specs.declared.lines.Refusal.TheVariants.{MemoryFailure}
 use Rattle.bus_machine.specs.Node.{Node, HasRoute, place_of, route_at, counter_at, route_key}
 use Rattle.bus_machine.specs.Steps.{key_refusal}
-use Rattle.bus_machine.specs.Bus.{World, SentLine}
+use Rattle.bus_machine.specs.Bus.{World, SentLine, Moments, AtSome}
+use Rattle.bus_machine.specs.Authentic.{SentAs}
 
--- the node is up and has a route for the sent line, whose key is usable and secures the line's PDU, and the line's freshness is 1 to the route's window above the counter; the key that the sender's slot held at the send is such a key
+-- the node is up and has a route for the sent line, whose key is usable and secures the line's PDU, and the line's freshness is 1 to the route's window above the counter
 pub record IsInTime (node : Node) (s : SentLine) (route : ℕ) : Type 0 where
   pub is_up : node.up ≡ true
   pub has_route : HasRoute node s.id Receives
@@ -22,6 +23,16 @@ pub record IsInTime (node : Node) (s : SentLine) (route : ℕ) : Type 0 where
 pub record HonestDelivery (world : World) (node : Node) (number : ℕ) (s : SentLine) : Type 0 where
   pub found : find (λ s. s.number == number) world.sent ≡ Some s
   pub in_time : IsInTime node s (place_of node s.id Receives)
+
+-- the same, where the receiver's slot holds the key that the sender's slot held at the send: that the key secures the PDU follows
+pub record SameKeyDelivery (start : World) (ms : Moments) (world : World) (node : Node) (number : ℕ) (s : SentLine) : Type 0 where
+  pub found : find (λ s. s.number == number) world.sent ≡ Some s
+  pub is_up : node.up ≡ true
+  pub has_route : HasRoute node s.id Receives
+  pub usable : key_refusal node (place_of node s.id Receives) ≡ None
+  pub same_key : AtSome (SentAs s (route_key node (place_of node s.id Receives))) start ms
+  pub above : counter_at node (place_of node s.id Receives) < s.freshness
+  pub near : s.freshness ≤ counter_at node (place_of node s.id Receives) + (route_at node (place_of node s.id Receives)).window
 
 -- the line's payload is accepted with its freshness, or the disk failed
 abbrev pub IsHeard : SentLine → Line → Type 0

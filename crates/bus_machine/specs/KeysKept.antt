@@ -1,5 +1,5 @@
 -- No acknowledged update of a slot is undone but by a later one
-use Rattle.std.specs.Prelude.{◌≡◌, ℕ, ◌<◌, ◌≤◌, ◌⊎◌, true, ◌∷◌, ◌++◌, length}
+use Rattle.std.specs.Prelude.{◌≡◌, ℕ, ◌<◌, ◌≤◌, ◌⊎◌, true, None, ◌∷◌, ◌++◌, length}
 use Rattle.key_slots.specs.declared.memory.Slot.{Slot}
 use Rattle.key_slots.specs.Slots.{slot_at, counter_of, is_empty}
 use Rattle.bus_machine.specs.declared.lines.Line.{Line}
@@ -58,3 +58,19 @@ SlotsGoOn start ms =
 pub record KeysKept (start : World) (ms : Moments) : Type 0 where
   pub updates_hold : UpdatesHold start ms
   pub slots_go_on : SlotsGoOn start ms
+
+-- ---- what a power-up settled
+
+-- after the moments `since`, in which nothing was pending at first, slot t of node i holds what it held then, or an update of one of these moments that was acknowledged, or one that failed
+abbrev pub StaysOrRenews : ℕ → ℕ → World → Moments → Type 0
+StaysOrRenews i t world since =
+    let now = slot_in (state_after world since) i t in
+    (now ≡ slot_in world i t) ⊎ (AtSome (Acknowledges i t now) world since ⊎ AtSome (FailsUpdate i t now) world since)
+
+-- so an update that failed, and that a power-up then dropped, is gone for good
+abbrev pub SettledSlotsStay : World → Moments → Type 0
+SettledSlotsStay start ms =
+    (done since later : Moments) (i t : ℕ)
+    → ms ≡ done ++ since ++ later
+    → (node_at (state_after start done) i).pending ≡ None
+    → StaysOrRenews i t (state_after start done) since

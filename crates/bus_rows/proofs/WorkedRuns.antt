@@ -77,7 +77,7 @@ v0 = 0xe93d7e1173931729
 abbrev pub v1 : ℕ
 v1 = 0xe93d7e117393172a
 
-abbrev v2 : ℕ
+abbrev pub v2 : ℕ
 v2 = 0xe93d7e117393172e
 
 -- ---- a PDU is sent, accepted, or found stale
@@ -91,7 +91,7 @@ after_accepting v n = with_counter (receive_change n 0 v) 0 v n
 pub first_secured : Secured bus_key 0x6bc1 bus_payload v1 first_frame
 first_secured = record { is_payload = (omega arith, omega arith); frame_is = first_frame_is }
 
-later_secured : Secured bus_key 0x6bc1 bus_payload v2 later_frame
+pub later_secured : Secured bus_key 0x6bc1 bus_payload v2 later_frame
 later_secured = record { is_payload = (omega arith, omega arith); frame_is = later_frame_is }
 
 last_secured : Secured bus_key 0x6bc1 bus_payload 0xffffffffffffffff last_frame
@@ -109,26 +109,26 @@ right0 = first_node (receiving_from v0)
 abbrev pub own_update : ℕ → Update
 own_update uid = update_of (numbered_uid uid) 4 4 1 for_macs bus_key
 
-abbrev left1 : Node
+abbrev pub left1 : Node
 left1 = with_slot 4 (slot_of (own_update 1)) left0
 
-abbrev right1 : Node
+abbrev pub right1 : Node
 right1 = with_slot 4 (slot_of (own_update 2)) right0
 
-left_keyed : NodeStep left0 (keys (own_update 1) all_ones) (Keyed 4) left1
+pub left_keyed : NodeStep left0 (keys (own_update 1) all_ones) (Keyed 4) left1
 unfolding is_pair
 left_keyed =
     keyed left0 (own_update 1) all_ones refl (record { is_key = IsBlock-all_ones; is_update = is_update _ 4 4 1 for_macs bus_key IsUid-left (omega arith) (omega arith) (omega arith) IsBlock-bus_key; held = refl }) refl
 
-right_keyed : NodeStep right0 (keys (own_update 2) all_ones) (Keyed 4) right1
+pub right_keyed : NodeStep right0 (keys (own_update 2) all_ones) (Keyed 4) right1
 unfolding is_pair
 right_keyed =
     keyed right0 (own_update 2) all_ones refl (record { is_key = IsBlock-all_ones; is_update = is_update _ 4 4 1 for_macs bus_key IsUid-right (omega arith) (omega arith) (omega arith) IsBlock-bus_key; held = refl }) refl
 
-abbrev left2 : Node
+abbrev pub left2 : Node
 left2 = after_sending v1 left1
 
-left_sends : NodeStep left1 (sends 0x6bc1 bus_payload) (Sent 0x6bc1 v1 first_frame) left2
+pub left_sends : NodeStep left1 (sends 0x6bc1 bus_payload) (Sent 0x6bc1 v1 first_frame) left2
 unfolding usable
 left_sends = (refl, record { allowed = refl; freshness_is = refl; pdu_is = first_secured; after_is = refl })
 
@@ -177,13 +177,13 @@ first_three rest =
 abbrev w4 : World
 w4 = next w3 (Deliver 1 3) (Accepted 0x6bc1 v1 bus_payload (Some 3)) right2
 
-abbrev left3 : Node
+abbrev pub left3 : Node
 left3 = powered left2.config left2.kept
 
 abbrev w5 : World
 w5 = next w4 (Cut 0 Old) Up left3
 
-abbrev left4 : Node
+abbrev pub left4 : Node
 left4 = after_sending v2 left3
 
 abbrev w6 : World
@@ -195,7 +195,7 @@ right3 = after_accepting v2 right2
 abbrev w7 : World
 w7 = next w6 (Deliver 1 6) (Accepted 0x6bc1 v2 bus_payload (Some 6)) right3
 
-left_sends_later : NodeStep left3 (sends 0x6bc1 bus_payload) (Sent 0x6bc1 v2 later_frame) left4
+pub left_sends_later : NodeStep left3 (sends 0x6bc1 bus_payload) (Sent 0x6bc1 v2 later_frame) left4
 unfolding usable
 left_sends_later = (refl, record { allowed = refl; freshness_is = refl; pdu_is = later_secured; after_is = refl })
 

@@ -33,6 +33,20 @@ bus_a = sending_from 0xe93d7e1173931729 ∷ receiving_from 0xe93d7e1173931729 �
 abbrev pub last_bus : List Config
 last_bus = sending_from 0xfffffffffffffffe ∷ receiving_from 0xe93d7e1173931729 ∷ []
 
+-- a bus whose receiver has this reserve and this window
+abbrev pub receiving_with : ℕ → ℕ → Config
+receiving_with reserve window = record {
+  uid = numbered_uid 2;
+  routes = record { id = 0x6bc1; direction = Receives; slot = 4; reserve = reserve; window = window; start = 0xe93d7e1173931729 } ∷ [];
+}
+
+abbrev pub bus_with : ℕ → ℕ → List Config
+bus_with reserve window = sending_from 0xe93d7e1173931729 ∷ receiving_with reserve window ∷ []
+
+-- a bus whose receiver has accepted the greatest freshness
+abbrev pub ended_bus : List Config
+ended_bus = sending_from 0xe93d7e1173931729 ∷ receiving_from 0xffffffffffffffff ∷ []
+
 -- ---- keys and updates
 
 -- the authorising key of an empty slot

@@ -1,3 +1,4 @@
 pub mod Buses
 pub mod Rows
+pub mod ShortRows
 pub mod Breaches

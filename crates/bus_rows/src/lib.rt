@@ -11,6 +11,11 @@ pub use breaches::{
 };
 pub use rows::{
     a_boot_is_decided_once, a_counter_ends, a_failed_call_leaves_the_new_bound,
-    a_failed_call_leaves_the_old_bound, a_foreign_pdu_is_accepted, a_refused_cut_is_made_again,
-    a_sender_starts_at_its_bound, an_ordinary_run, updates_are_refused_in_their_order,
+    a_failed_call_leaves_the_old_bound, a_failed_send_leaves_the_new_bound,
+    a_failed_send_leaves_the_old_bound, a_failed_update_leaves_the_new_slot,
+    a_failed_update_leaves_the_old_slot, a_foreign_pdu_is_accepted, a_receiver_starts_at_its_bound,
+    a_refused_cut_is_made_again, a_sender_starts_at_its_bound, a_shorter_window_does_not,
+    a_window_ends_what_is_accepted, a_window_reaches_a_restarted_sender,
+    a_wrong_boot_opens_nothing, an_ordinary_run, frames_routes_and_lengths_come_first,
+    the_last_freshness_has_none_ahead, updates_are_refused_in_their_order,
 };

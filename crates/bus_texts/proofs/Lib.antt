@@ -1,0 +1,5 @@
+pub mod Added
+pub mod Cutting
+pub mod PlainWords
+pub mod ReadBack
+pub mod OneToOne

@@ -1,0 +1,3 @@
+pub mod LineTexts
+pub mod LineKinds
+pub mod Spaced
