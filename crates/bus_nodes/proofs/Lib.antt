@@ -1,0 +1,4 @@
+mod Sending
+mod Again
+mod Machine
+mod Named

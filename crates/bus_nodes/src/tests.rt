@@ -1,0 +1,82 @@
+//! Names and buses one step within and one step past each of their bounds, and each call once.
+use crate::{BusConfig, Name, NodeLine, place_named, sent_again};
+use cell_store::{Kind, Version};
+use freshness_routes::{Direction, NodeConfig, Route};
+use key_slots::SlotId;
+use memory_update::Uid;
+use std::alloc::Global;
+use std::test::Fail;
+
+const NAMES: [(&[u8], bool); 16] = [
+    (b"a", true),
+    (b"z", true),
+    (b"left", true),
+    (b"a-b_c9", true),
+    (b"abcdefghijklmnop", true),
+    (b"abcdefghijklmnopq", false),
+    (b"", false),
+    (b"A", false),
+    (b"aB", false),
+    (b"9a", false),
+    (b"-a", false),
+    (b"_a", false),
+    (b"a b", false),
+    (b"a.b", false),
+    (b"`", false),
+    (b"{", false),
+];
+
+#[test]
+fn names_are_told_from_other_words(rt: HostRuntime) {
+    for (word, is_one) in NAMES {
+        let name = Name::of(word);
+        assert_eq!(rt; name.is_some(), is_one);
+        if let Some(name) = name {
+            assert!(rt; name.bytes() == word);
+        }
+    }
+}
+
+// A node with these routes, each a Data ID and whether it is sent.
+fn node(alloc: Global, name: &[u8], routes: &[(u16, bool)]) -> Result<NodeLine, Fail> {
+    let mut listed = Vec::new(alloc);
+    for &(id, is_sent) in routes {
+        let direction = if is_sent {
+            Direction::Sends
+        } else {
+            Direction::Receives
+        };
+        let slot = SlotId::new(4).ok_or("slot 4")?;
+        listed.push(Route {
+            id,
+            direction,
+            slot,
+            reserve: 1,
+            window: 256,
+            start: 0,
+        })?;
+    }
+    Ok(NodeLine {
+        name: Name::of(name).ok_or("a name")?,
+        config: NodeConfig::new(Uid::of([1; 15]), listed).ok_or("a node")?,
+    })
+}
+
+#[test]
+fn a_bus_of_two_nodes_is_one_and_its_nodes_are_found(rt: HostRuntime) -> Result<(), Fail> {
+    let alloc = rt.alloc();
+    let mut nodes = Vec::new(alloc);
+    nodes.push(node(alloc, b"left", &[(0x6bc1, true), (0x7bc1, false)])?)?;
+    nodes.push(node(alloc, b"right", &[(0x6bc1, false), (0x7bc1, true)])?)?;
+    let bus = BusConfig::new(Kind::Log, Version::Two, nodes).ok_or("a bus")?;
+    assert!(rt; bus.kind() == Kind::Log && bus.version() == Version::Two);
+    assert_eq!(rt; bus.nodes().len(), 2);
+    assert_eq!(rt; bus.find(b"left"), Some(0));
+    assert_eq!(rt; bus.find(b"right"), Some(1));
+    assert_eq!(rt; bus.find(b"lef"), None);
+    assert_eq!(rt; bus.find(b"leftx"), None);
+    assert_eq!(rt; bus.find(b""), None);
+    assert_eq!(rt; place_named(bus.nodes(), b"right"), Some(1));
+    assert_eq!(rt; sent_again(bus.nodes()), None);
+    Ok(())
+}
