@@ -6,7 +6,8 @@ use Rattle.std.specs.Fmt.{decimal}
 use Rattle.hex.specs.Hex.{encode_lower}
 use Rattle.memory_update.specs.MessageLaws.{list_of_two}
 use Rattle.memory_update.specs.declared.messages.Update.{Update}
-use Rattle.keytool.specs.Texts.{row, flags_text, target_rows, content_rows, update_text}
+use Rattle.text_lines.specs.Written.{flags_text}
+use Rattle.keytool.specs.Texts.{row, target_rows, content_rows, update_text}
 
 pub two_digits : (blocks : List (List ℕ)) (x y front back : List ℕ) → length blocks ≡ 2
     → front ≡ encode_lower (get_or blocks 0 x) → back ≡ encode_lower (get_or blocks 1 y) → front ++ back ≡ flat_map encode_lower blocks

@@ -3,12 +3,11 @@ use Rattle.std.specs.Prelude.{◌≡◌, ◌≢◌, ◌⊎◌, ℕ, List, [], �
 use Rattle.std.specs.List.{flat_map}
 use Rattle.std.specs.Fmt.{decimal}
 use Rattle.hex.specs.Hex.{encode_lower}
-use Rattle.key_slots.specs.Flags.{bit}
-use Rattle.key_slots.specs.declared.memory.Flags.{Flags}
 use Rattle.memory_update.specs.declared.messages.Request.{Request}
 use Rattle.memory_update.specs.declared.messages.Update.{Update}
 use Rattle.memory_update.specs.Messages.{Builds, Carries, Confirms, HasSlots, request_mac}
 use Rattle.text_lines.specs.Texts.{line}
+use Rattle.text_lines.specs.Written.{flags_text}
 use Rattle.keytool.specs.declared.tasks.Task.{Task}
 use Rattle.keytool.specs.declared.tasks.Task.TheVariants.{Make, Read, Confirm}
 
@@ -24,11 +23,6 @@ value_text number = codes "value " ++ (decimal number ++ 10 ∷ [])
 abbrev pub request_text : Request → List ℕ
 request_text r =
     encode_lower r.m1 ++ (10 ∷ (flat_map encode_lower r.m2 ++ (10 ∷ (encode_lower r.m3 ++ 10 ∷ []))))
-
--- five digits 0 or 1, in the order WRITE_PROTECTION, BOOT_PROTECTION, DEBUGGER_PROTECTION, KEY_USAGE, WILDCARD
-abbrev pub flags_text : Flags → List ℕ
-flags_text f =
-    decimal (bit f.write) ++ (decimal (bit f.boot) ++ (decimal (bit f.debugger) ++ (decimal (bit f.usage) ++ decimal (bit f.wildcard))))
 
 -- a line of a name, a space, which is 32, and a text, before other lines
 abbrev pub row : List ℕ → List ℕ → List ℕ → List ℕ

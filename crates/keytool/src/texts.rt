@@ -2,13 +2,13 @@
 ghost use Rattle.std.specs.Prelude.{◌≡◌, [], IfOk, string_bytes};
 ghost use Rattle.std.specs.List.{flat_map};
 ghost use Rattle.hex.specs.Hex.{encode_lower};
-ghost use Rattle.keytool.specs.Texts.{request_text as request_lines, update_text as update_lines, target_rows, content_rows, flags_text as flags_digits, value_text as value_line};
+ghost use Rattle.keytool.specs.Texts.{request_text as request_lines, update_text as update_lines, target_rows, content_rows, value_text as value_line};
 
 use hex::encode;
-use key_slots::Flags;
 use memory_update::{Request, Update};
 use she_aes::Block;
 use std::alloc::{AllocError, Global};
+use text_lines::texts::flags_text;
 
 /// The line that names a value that isn't of its form.
 pub fn value_text(alloc: Global, number: u8) -> Result<String, AllocError>
@@ -65,16 +65,4 @@ fn content_text(alloc: Global, update: &Update) -> Result<String, AllocError>
     let flags = flags_text(alloc, update.flags)?;
     let key = encode(alloc, update.key.as_slice())?;
     format!(in alloc; "counter {counter}\nflags {flags}\nkey {key}\n")
-}
-
-/// The flags as five digits 0 or 1.
-fn flags_text(alloc: Global, flags: Flags) -> Result<String, AllocError>
-    ensures { IfOk result (λ text. string_bytes text ≡ flags_digits flags) }
-{
-    let write = u8::from(flags.write);
-    let boot = u8::from(flags.boot);
-    let debugger = u8::from(flags.debugger);
-    let usage = u8::from(flags.usage);
-    let wildcard = u8::from(flags.wildcard);
-    format!(in alloc; "{write}{boot}{debugger}{usage}{wildcard}")
 }

@@ -27,7 +27,7 @@ use Rattle.text_lines.proofs.Folds.{read_from-ok, limited-few, length_pushed}
 use Rattle.text_lines.proofs.WrittenLines.{words-written}
 
 -- bytes, read at any place
-digits_of : (n : ℕ) (bytes : List ℕ) → IsBytes n bytes → hex.IsBytes bytes
+pub digits_of : (n : ℕ) (bytes : List ℕ) → IsBytes n bytes → hex.IsBytes bytes
 digits_of n bytes are i =
     elim (cases_lt i (length bytes)) [
       | inl h ↦ All-get_or (λ b. b < 256) bytes i 0 h are.bytes
@@ -35,16 +35,16 @@ digits_of n bytes are i =
     ]
 
 -- a word of 2 * n digits reads as the n bytes that it was written for
-sized_encode : (n : ℕ) (bytes : List ℕ) → IsBytes n bytes → result_ok (decode_sized (encode_lower bytes) n) ≡ Some bytes
+pub sized_encode : (n : ℕ) (bytes : List ℕ) → IsBytes n bytes → result_ok (decode_sized (encode_lower bytes) n) ≡ Some bytes
 sized_encode n bytes are =
     let twice : length (encode_lower bytes) ≡ 2 * n = let size = are.size in omega (arith, length-encode_with lower_digits bytes) in
     ap result_ok (decode_sized-twice (encode_lower bytes) n twice ∙ decode_of-encode_lower bytes (digits_of n bytes are))
 
-key_form-encode : (bytes : List ℕ) → IsBytes 16 bytes → key_form (encode_lower bytes) ≡ Some bytes
+pub key_form-encode : (bytes : List ℕ) → IsBytes 16 bytes → key_form (encode_lower bytes) ≡ Some bytes
 unfolding key_form
 key_form-encode bytes block = sized_encode 16 bytes block
 
-data_id_form-encode : (id : ℕ) → id < 2 ^ 16 → data_id_form (encode_lower (bytes_of 2 id)) ≡ Some id
+pub data_id_form-encode : (id : ℕ) → id < 2 ^ 16 → data_id_form (encode_lower (bytes_of 2 id)) ≡ Some id
 unfolding data_id_form
 data_id_form-encode id fits =
     ap (option_map number_of) (sized_encode 2 (bytes_of 2 id) (IsBytes-bytes_of 2 id))
@@ -60,7 +60,7 @@ fresh_form-encode v fits =
 long_enough : (least most n count : ℕ) → least ≤ count → count ≤ most → n ≡ 2 * count → (nat_le least (n / 2) && nat_le (n / 2) most) ≡ true
 long_enough least most n count above below twice = let half : n / 2 ≡ count = omega arith in rw half (grind arith)
 
-hex_bytes_form-encode : (least most : ℕ) (bytes : List ℕ) → least ≤ length bytes → length bytes ≤ most → IsBytes (length bytes) bytes
+pub hex_bytes_form-encode : (least most : ℕ) (bytes : List ℕ) → least ≤ length bytes → length bytes ≤ most → IsBytes (length bytes) bytes
     → hex_bytes_form least most (encode_lower bytes) ≡ Some bytes
 unfolding hex_bytes_form
 hex_bytes_form-encode least most bytes above below are =
@@ -78,7 +78,7 @@ bytes_form-dash : bytes_form (45 ∷ []) ≡ Some []
 unfolding bytes_form
 bytes_form-dash = refl
 
-bytes_form-word : (bytes : List ℕ) → IsBytes (length bytes) bytes → bytes_form (bytes_word bytes) ≡ Some bytes
+pub bytes_form-word : (bytes : List ℕ) → IsBytes (length bytes) bytes → bytes_form (bytes_word bytes) ≡ Some bytes
 bytes_form-word [] are = bytes_form-dash
 bytes_form-word (b ∷ bytes) are =
     bytes_form-digits (encode_lower (b ∷ bytes)) (omega (arith, length-encode_with lower_digits (b ∷ bytes)))
@@ -128,7 +128,7 @@ two_form-encode first second one two =
       key_form-encode second two,
     ) refl
 
-pair_encode : (blocks : List (List ℕ)) → length blocks ≡ 2 → All (IsBytes 16) blocks → two_form (flat_map encode_lower blocks) ≡ Some blocks
+pub pair_encode : (blocks : List (List ℕ)) → length blocks ≡ 2 → All (IsBytes 16) blocks → two_form (flat_map encode_lower blocks) ≡ Some blocks
 pair_encode [] size are = absurd (omega arith)
 pair_encode (first ∷ []) size are = absurd (omega arith)
 pair_encode (first ∷ second ∷ []) size are =
@@ -181,14 +181,14 @@ first_digit (b ∷ bytes) some h =
     let fits : b < 256 = h 0 in
     (and_parts (is_word_byte (slice_index lower_digits (b / 16))) _ (digit_like (b / 16) (omega arith))).1
 
-plain_word : (n : ℕ) (bytes : List ℕ) → 0 < n → IsBytes n bytes → is_plain_word (encode_lower bytes) ≡ true
+pub plain_word : (n : ℕ) (bytes : List ℕ) → 0 < n → IsBytes n bytes → is_plain_word (encode_lower bytes) ≡ true
 plain_word n bytes some are =
     let digits = digits_plain bytes (digits_of n bytes are) in
     let twice = length-encode_with lower_digits bytes in
     let size = are.size in
     rw digits (let more : 0 < length (encode_lower bytes) = omega arith in grind arith)
 
-bytes_word-plain : (bytes : List ℕ) → IsBytes (length bytes) bytes → is_plain_word (bytes_word bytes) ≡ true
+pub bytes_word-plain : (bytes : List ℕ) → IsBytes (length bytes) bytes → is_plain_word (bytes_word bytes) ≡ true
 bytes_word-plain [] are = refl
 bytes_word-plain (b ∷ bytes) are = plain_word (length (b ∷ bytes)) (b ∷ bytes) (omega arith) are
 
@@ -231,7 +231,7 @@ blocks_some (block ∷ blocks) some are =
     let size = (All-head (IsBytes 16) block blocks are).size in
     omega (arith, length-append (encode_lower block) (flat_map encode_lower blocks), length-encode_with lower_digits block)
 
-blocks_word : (blocks : List (List ℕ)) → length blocks ≡ 2 → All (IsBytes 16) blocks → is_plain_word (flat_map encode_lower blocks) ≡ true
+pub blocks_word : (blocks : List (List ℕ)) → length blocks ≡ 2 → All (IsBytes 16) blocks → is_plain_word (flat_map encode_lower blocks) ≡ true
 blocks_word blocks two are =
     let plain = blocks_plain blocks are in
     rw plain (let more = blocks_some blocks (omega arith) are in grind arith)
@@ -240,14 +240,14 @@ load_writable : (request : Request) → IsLoad request → is_writable (load_wor
 load_writable request h =
     rw (key_first request.m1 h.m1, plain_word 16 request.m1 (lit< tt) h.m1, blocks_word request.m2 h.two h.m2, plain_word 16 request.m3 (lit< tt) h.m3) refl
 
-all_writable : {A : Type 0} (P : A → Type 0) (words : A → List (List ℕ)) → ((x : A) → P x → is_writable (words x) ≡ true)
+pub all_writable : {A : Type 0} (P : A → Type 0) (words : A → List (List ℕ)) → ((x : A) → P x → is_writable (words x) ≡ true)
     → (lines : List A) → All P lines → list_all is_writable (map words lines) ≡ true
 all_writable P words writable [] h = refl
 all_writable P words writable (line ∷ lines) h =
     rw (writable line (All-head P line lines h)) (all_writable P words writable lines (All-tail P line lines h))
 
 -- reading lines whose words are those of values
-read_from-words : {A : Type 0} (P : A → Type 0) (means : List (List ℕ) → Result A Cause) (words : A → List (List ℕ)) → ((x : A) → P x → means (words x) ≡ Ok x)
+pub read_from-words : {A : Type 0} (P : A → Type 0) (means : List (List ℕ) → Result A Cause) (words : A → List (List ℕ)) → ((x : A) → P x → means (words x) ≡ Ok x)
     → (most : ℕ) (seen : List A) (lines : List TextLine) (xs : List A) → map (λ line. line.words) lines ≡ map words xs → All P xs → length seen + length xs ≤ most
     → read_from (λ _ ws. means ws) most seen lines ≡ Ok (seen ++ xs)
 unfolding read_from

@@ -1,9 +1,12 @@
 -- Lines that are written with single spaces and lower-case digits.
 use Rattle.std.specs.Prelude.{◌≡◌, ℕ, ◌==◌, ◌&&◌, ◌<◌, ◌≤◌, ◌^◌, not, nat_lt, Bool, false, List, [], ◌∷◌, ◌++◌, length, slice_index, All}
 use Rattle.std.specs.List.{join_with_byte, flat_map, list_all}
+use Rattle.std.specs.Fmt.{decimal}
 use Rattle.byte_lists.specs.Bytes.{IsBytes}
 use Rattle.byte_lists.specs.Numbers.{bytes_of}
 use Rattle.hex.specs.Hex.{encode_lower}
+use Rattle.key_slots.specs.Flags.{bit}
+use Rattle.key_slots.specs.declared.memory.Flags.{Flags}
 use Rattle.memory_update.specs.declared.messages.Request.{Request}
 use Rattle.text_lines.specs.declared.frames.FrameLine.{FrameLine}
 use Rattle.text_lines.specs.declared.judges.JudgeLine.{JudgeLine}
@@ -46,6 +49,11 @@ judge_words line =
 -- the words of a line of `load`
 abbrev pub load_words : Request → List (List ℕ)
 load_words request = encode_lower request.m1 ∷ flat_map encode_lower request.m2 ∷ encode_lower request.m3 ∷ []
+
+-- five digits 0 or 1, in the order WRITE_PROTECTION, BOOT_PROTECTION, DEBUGGER_PROTECTION, KEY_USAGE, WILDCARD
+abbrev pub flags_text : Flags → List ℕ
+flags_text f =
+    decimal (bit f.write) ++ (decimal (bit f.boot) ++ (decimal (bit f.debugger) ++ (decimal (bit f.usage) ++ decimal (bit f.wildcard))))
 
 -- a line of `frame`: a key of 16 bytes, numbers that fit their types, and a payload of 1 to 60 bytes
 pub record IsFrameLine (line : FrameLine) : Type 0 where

@@ -3,7 +3,7 @@
 //! Each call but `cut` takes one word and answers none exactly where it isn't of the form.
 //! Hexadecimal digits are of either case.
 
-ghost use Rattle.std.specs.Prelude.{◌≡◌, IfOk};
+ghost use Rattle.std.specs.Prelude.{◌≡◌, ◌≤◌, IfOk, IfSome};
 ghost use Rattle.std.specs.Result.{result_ok};
 ghost use Rattle.hex.specs.Hex.{decode_of};
 ghost use Rattle.text_lines.specs.Forms.{key_form, two_form, data_id_form, fresh_form, is_number as is_numeral, number_form, hex_bytes_form, bytes_form};
@@ -70,7 +70,8 @@ fn is_number(word: &[u8]) -> bool
 /// A number from `least` to `most`, in decimal digits without sign. Only the number 0 begins with 0.
 #[tactic(auto, unfolding(crate::specs::Forms::number_form))]
 pub fn number(word: &[u8], least: u64, most: u64) -> Option<u64>
-    ensures { result ≡ number_form least most word.now }
+    ensures value { result ≡ number_form least most word.now }
+    ensures within { IfSome result (λ number. (least ≤ number) × (number ≤ most)) }
 {
     if !is_number(word) {
         return None;

@@ -11,8 +11,8 @@ returns-in_err-ok c =
     let is : is_number word ≡ true = sym c.is_number.ensures ∙ c.if-not-is_number.false in
     absurd (no_error c.from_utf8.result _ _ c.in_err-ok.ensures.value c.from_utf8.ensures.cases (λ e q. q.0 (IsUtf8-from_ascii word (IsAscii-from_digits word (IsNumeral-is_number word is).1))))
 
-pub returns-in_err-value : goal.returns-in_err-value
-returns-in_err-value c =
+pub returns-in_err-value-clause-value : goal.returns-in_err-value-clause-value
+returns-in_err-value-clause-value c =
     let word = c.args.word.now in
     let is : is_number word ≡ true = sym c.is_number.ensures ∙ c.if-not-is_number.false in
     let text = value_holds c.from_utf8.result _ _ c.in_ok-ok.field-0 c.in_ok-ok.ensures.value c.from_utf8.ensures.cases in
