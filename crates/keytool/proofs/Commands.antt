@@ -10,7 +10,7 @@ use Rattle.clap.specs.declared.error.kind.ErrorKind.TheVariants.{OutOfMemory}
 use Rattle.clap.proofs.OnLiterals.{clap_on_literals}
 use Rattle.clap.specs.Simple.{new_shape}
 use Rattle.keytool.specs.declared.subcommands.Subcommand.{Subcommand}
-use Rattle.keytool.specs.declared.subcommands.Subcommand.TheVariants.{Make, Read, Confirm}
+use Rattle.keytool.specs.declared.subcommands.Subcommand.TheVariants.{Make, Read, Confirm, Bootmac}
 use Rattle.keytool.specs.declared.parsing.NoValues.{NoValues}
 use Rattle.keytool.specs.declared.parsing.NoValues.TheVariants.{Refused, Memory}
 use Rattle.keytool.specs.Parsing.{command_of, found, refusals, required_text, simple_command}
@@ -44,11 +44,13 @@ unfolding clap_on_literals
 is_simple_and_free_command Make = refl
 is_simple_and_free_command Read = refl
 is_simple_and_free_command Confirm = refl
+is_simple_and_free_command Bootmac = refl
 
 is_simple_command : (s : Subcommand) → is_simple (command_of s) ≡ true
 is_simple_command Make = refl
 is_simple_command Read = refl
 is_simple_command Confirm = refl
+is_simple_command Bootmac = refl
 
 pub taken_words : (s : Subcommand) (a : App) (words : List (List ℕ)) → a ≡ command_of s
     → (is_simple_and_free a ≡ true → fault_of a words ≡ []) → refusals s words ≡ []

@@ -1,5 +1,5 @@
 -- Where no value begins with `-`, the run ends by the values alone.
-use Rattle.std.proofs.Common.{◌≡◌, ◌⊎◌, ◌∙◌, ℕ, true, List, [], ◌∷◌, Ok, Err, ap, sym, refl, subst, inl, inr, length}
+use Rattle.std.proofs.Common.{◌≡◌, ◌⊎◌, ◌∙◌, ℕ, true, List, ◌∷◌, Ok, Err, ap, sym, refl, subst, inl, inr, length}
 use Rattle.std.specs.Prelude.{Result}
 use Rattle.std.specs.List.{list_all}
 use Rattle.bus_port.specs.Fault.{Rose}
@@ -8,7 +8,7 @@ use Rattle.keytool.specs.declared.subcommands.Subcommand.{Subcommand}
 use Rattle.keytool.specs.declared.tasks.Task.{Task}
 use Rattle.keytool.specs.declared.tasks.BadValue.{BadValue}
 use Rattle.keytool.specs.Subcommands.{name_of, values_of}
-use Rattle.keytool.specs.Parsing.{given, is_plain, refusals}
+use Rattle.keytool.specs.Parsing.{is_plain, refusals}
 use Rattle.keytool.specs.Tasks.{task_of}
 use Rattle.keytool.specs.Answers.{AsksFor, IsRefused, KeyAnswer, KeyComes, KeyEnds, PlainEnds, PlainRow, TaskRow, denied, done, key_status, no_memory, refused_words, wrong_value}
 use Rattle.keytool.proofs.Named.{asks_one, names_one}

@@ -1,11 +1,11 @@
 -- A task that is denied isn't done.
-use Rattle.std.proofs.Common.{◌≡◌, ◌⊎◌, ◌∙◌, ℕ, List, [], Ok, Err, ap, sym, refl, subst, inl, inr}
+use Rattle.std.proofs.Common.{◌≡◌, ◌⊎◌, ◌∙◌, ℕ, List, Ok, Err, ap, sym, refl, subst, inl, inr}
 use Rattle.std.specs.Prelude.{Result}
 use Rattle.bus_port.specs.Sink.{SinkState}
 use Rattle.memory_update.specs.MessageLaws.{HasSlots-Carries}
 use Rattle.keytool.specs.declared.subcommands.Subcommand.{Subcommand}
 use Rattle.keytool.specs.declared.tasks.Task.{Task}
-use Rattle.keytool.specs.declared.tasks.Task.TheVariants.{Make, Read, Confirm}
+use Rattle.keytool.specs.declared.tasks.Task.TheVariants.{Make, Read, Confirm, Bootmac}
 use Rattle.keytool.specs.declared.tasks.BadValue.{BadValue}
 use Rattle.keytool.specs.Parsing.{refusals}
 use Rattle.keytool.specs.Texts.{Denies, PrintsDone}
@@ -20,6 +20,7 @@ not_both (Read request authkey) first second prints denies =
       | inr wrong ↦ wrong.1 prints.1.padded.m3_is
     ]
 not_both (Confirm reply update) first second prints denies = denies.0 prints.0
+not_both (Bootmac key image) first second prints denies = denies
 
 -- words that ask for something are not refused
 asks_taken : (words : List (List ℕ)) (asked : Result Task BadValue) → AsksFor words asked → IsRefused words → ⊥

@@ -1,8 +1,8 @@
 -- The words name one subcommand at most, and ask it for one thing.
-use Rattle.std.proofs.Common.{◌≡◌, ◌∙◌, ℕ, List, [], ◌∷◌, ap, sym, refl, subst, get_or, arith}
+use Rattle.std.proofs.Common.{◌≡◌, ◌∙◌, ℕ, List, [], ◌∷◌, ap, sym, refl, get_or, arith}
 use Rattle.std.specs.Prelude.{Result}
 use Rattle.keytool.specs.declared.subcommands.Subcommand.{Subcommand}
-use Rattle.keytool.specs.declared.subcommands.Subcommand.TheVariants.{Make, Read, Confirm}
+use Rattle.keytool.specs.declared.subcommands.Subcommand.TheVariants.{Make, Read, Confirm, Bootmac}
 use Rattle.keytool.specs.declared.tasks.Task.{Task}
 use Rattle.keytool.specs.declared.tasks.BadValue.{BadValue}
 use Rattle.keytool.specs.Subcommands.{NamesSubcommand, name_of}
@@ -15,12 +15,19 @@ first_letters : (r s : Subcommand) → get_or (name_of r) 0 0 ≡ get_or (name_o
 first_letters Make Make e = refl
 first_letters Make Read e = absurd (omega (arith, e))
 first_letters Make Confirm e = absurd (omega (arith, e))
+first_letters Make Bootmac e = absurd (omega (arith, e))
 first_letters Read Make e = absurd (omega (arith, e))
 first_letters Read Read e = refl
 first_letters Read Confirm e = absurd (omega (arith, e))
+first_letters Read Bootmac e = absurd (omega (arith, e))
 first_letters Confirm Make e = absurd (omega (arith, e))
 first_letters Confirm Read e = absurd (omega (arith, e))
 first_letters Confirm Confirm e = refl
+first_letters Confirm Bootmac e = absurd (omega (arith, e))
+first_letters Bootmac Make e = absurd (omega (arith, e))
+first_letters Bootmac Read e = absurd (omega (arith, e))
+first_letters Bootmac Confirm e = absurd (omega (arith, e))
+first_letters Bootmac Bootmac e = refl
 
 one_name : (r s : Subcommand) → name_of r ≡ name_of s → r ≡ s
 one_name r s e = first_letters r s (ap (λ (name : List ℕ). get_or name 0 0) e)

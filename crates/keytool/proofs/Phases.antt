@@ -1,6 +1,6 @@
 -- The two phases of a run.
 use Rattle.std.proofs.Common.{◌≡◌, ◌∙◌, ℕ, List, [], Err, ap, sym, refl, subst}
-use Rattle.std.specs.Prelude.{Result, string_bytes}
+use Rattle.std.specs.Prelude.{string_bytes}
 use Rattle.clap.specs.Words.{Row}
 use Rattle.bus_port.specs.Sink.{SinkState}
 use Rattle.command_edge.specs.Told.{EndingTold}

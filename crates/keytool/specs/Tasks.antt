@@ -2,14 +2,14 @@
 use Rattle.std.specs.Prelude.{ℕ, List, Option, Result, Ok, false}
 use Rattle.std.specs.Option.{ok_or}
 use Rattle.key_slots.specs.declared.memory.Flags.{Flags}
-use Rattle.text_lines.specs.Forms.{key_form, two_form}
+use Rattle.text_lines.specs.Forms.{key_form, two_form, hex_bytes_form}
 use Rattle.text_lines.specs.KeyForms.{uid_form, engine_uid_form, slot_form, counter_form, flags_form}
 use Rattle.text_lines.specs.Readings.{◌>>=◌, nth_word}
 use Rattle.keytool.specs.declared.tasks.Task.{Task}
 use Rattle.keytool.specs.declared.tasks.Task.TheVariants as task
 use Rattle.keytool.specs.declared.tasks.BadValue.{BadValue}
 use Rattle.keytool.specs.declared.subcommands.Subcommand.{Subcommand}
-use Rattle.keytool.specs.declared.subcommands.Subcommand.TheVariants.{Make, Read, Confirm}
+use Rattle.keytool.specs.declared.subcommands.Subcommand.TheVariants.{Make, Read, Confirm, Bootmac}
 
 -- the value with this number, counted from 1, which is to be of a form
 abbrev pub value_at : {A : Type 0} → ℕ → Option A → Result A BadValue
@@ -53,8 +53,20 @@ confirm_of values = do
   Ok (task.Confirm (record { m4 = m4; m5 = m5 })
       (record { uid = uid; id = id; auth = auth; counter = counter; flags = no_flags; key = key }))
 
+-- the boot MAC of these two values
+unfoldable pub boot_task : Option (List ℕ) → Option (List ℕ) → Result Task BadValue
+boot_task key_value image_value = do
+  key ← value_at 1 key_value
+  image ← value_at 2 image_value
+  Ok (task.Bootmac key image)
+
+-- KEY IMAGE, an image of 1 to 65,536 bytes
+unfoldable pub bootmac_of : List (List ℕ) → Result Task BadValue
+bootmac_of values = boot_task (key_form (nth_word values 1)) (hex_bytes_form 1 65536 (nth_word values 2))
+
 -- what the values of a subcommand ask for
 abbrev pub task_of : Subcommand → List (List ℕ) → Result Task BadValue
 task_of Make values = make_of values
 task_of Read values = read_of values
 task_of Confirm values = confirm_of values
+task_of Bootmac values = bootmac_of values

@@ -6,10 +6,11 @@ use Rattle.hex.specs.Hex.{encode_lower}
 use Rattle.memory_update.specs.declared.messages.Request.{Request}
 use Rattle.memory_update.specs.declared.messages.Update.{Update}
 use Rattle.memory_update.specs.Messages.{Builds, Carries, Confirms, HasSlots, request_mac}
+use Rattle.secure_boot.specs.Booting.{bootmac}
 use Rattle.text_lines.specs.Texts.{line}
 use Rattle.text_lines.specs.Written.{flags_text}
 use Rattle.keytool.specs.declared.tasks.Task.{Task}
-use Rattle.keytool.specs.declared.tasks.Task.TheVariants.{Make, Read, Confirm}
+use Rattle.keytool.specs.declared.tasks.Task.TheVariants.{Make, Read, Confirm, Bootmac}
 
 -- the line that is printed where the words are of no form
 abbrev pub key_usage : List ℕ
@@ -23,6 +24,10 @@ value_text number = codes "value " ++ (decimal number ++ 10 ∷ [])
 abbrev pub request_text : Request → List ℕ
 request_text r =
     encode_lower r.m1 ++ (10 ∷ (flat_map encode_lower r.m2 ++ (10 ∷ (encode_lower r.m3 ++ 10 ∷ []))))
+
+-- a MAC, on a line
+abbrev pub mac_text : List ℕ → List ℕ
+mac_text mac = encode_lower mac ++ 10 ∷ []
 
 -- a line of a name, a space, which is 32, and a text, before other lines
 abbrev pub row : List ℕ → List ℕ → List ℕ → List ℕ
@@ -42,13 +47,14 @@ content_rows u =
 abbrev pub update_text : Update → List ℕ
 update_text u = target_rows u (content_rows u)
 
--- what is printed where a task is done: the request that is built, the update that is carried, or the confirmation
+-- what is printed where a task is done: the request that is built, the update that is carried, the confirmation, or the boot MAC
 abbrev pub PrintsDone : Task → List ℕ → Type 0
 PrintsDone (Make update authkey) text =
     (request : Request) × Builds request authkey update × (text ≡ request_text request)
 PrintsDone (Read request authkey) text =
     (update : Update) × Carries request authkey update × (text ≡ update_text update)
 PrintsDone (Confirm reply update) text = Confirms reply update update.uid × (text ≡ line (codes "confirmed"))
+PrintsDone (Bootmac key image) text = text ≡ mac_text (bootmac key image)
 
 -- what is printed where the messages are refused: ID or AuthID is no slot's, M3 is wrong, or M4 and M5 are not the update's
 abbrev pub Denies : Task → List ℕ → Type 0
@@ -57,3 +63,4 @@ Denies (Read request authkey) text =
     (¬ HasSlots request.m1 × (text ≡ line (codes "BadId")))
     ⊎ (HasSlots request.m1 × (request.m3 ≢ request_mac authkey request.m1 request.m2) × (text ≡ line (codes "BadMac")))
 Denies (Confirm reply update) text = ¬ Confirms reply update update.uid × (text ≡ line (codes "not confirmed"))
+Denies (Bootmac key image) text = ⊥

@@ -1,10 +1,11 @@
 //! `keytool`: makes the messages of a key update (SHE specification, memory update protocol), reads them, and checks the
-//! engine's answer.
+//! engine's answer; and makes the boot MAC of an image (SHE specification, secure booting).
 //!
 //! [`run::run_key`] is the program; its clauses say what each status means and what is printed. This file makes the
 //! objects that it works on: standard output and standard input.
 #![tactic(auto)]
 
+mod image;
 mod outcome;
 mod parsing;
 mod refusal;

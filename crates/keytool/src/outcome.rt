@@ -1,12 +1,14 @@
 //! What a task comes to.
 ghost use Rattle.std.specs.Prelude.{◌≡◌, IfOk};
 ghost use Rattle.keytool.specs.Outcomes.{Does};
-ghost use Rattle.keytool.specs.declared.tasks.Task.TheVariants.{Make, Read, Confirm};
+ghost use Rattle.keytool.specs.declared.tasks.Task.TheVariants.{Make, Read, Confirm, Bootmac};
 
+use crate::image::Image;
 use crate::tasks::Task;
-use crate::texts::{request_text, update_text};
+use crate::texts::{mac_text, request_text, update_text};
 use memory_update::{Reply, Request, Unseal, Update, build, is_confirmed, unseal};
-use she_aes::Block;
+use secure_boot::boot_mac;
+use she_aes::{Block, expand};
 use std::alloc::{AllocError, Global};
 
 /// What a task comes to: it is done, or the messages are refused.
@@ -59,6 +61,7 @@ pub fn do_task(alloc: Global, task: &Task) -> Result<Outcome, AllocError>
         Task::Make { update, authkey } => make(alloc, update, authkey),
         Task::Read { request, authkey } => read(alloc, request, authkey),
         Task::Confirm { reply, update } => Ok(confirm(reply, update)),
+        Task::Bootmac { key, image } => boot(alloc, key, image),
     }
 }
 
@@ -83,6 +86,16 @@ fn read(alloc: Global, request: &Request, authkey: &Block) -> Result<Outcome, Al
         },
         Err(Unseal::BadId) => Ok(Outcome::BadId),
         Err(Unseal::BadMac) => Ok(Outcome::BadMac),
+    }
+}
+
+/// Makes the boot MAC.
+fn boot(alloc: Global, key: &Block, image: &Image) -> Result<Outcome, AllocError>
+    ensures { IfOk result (Does (Bootmac key.now image.now)) }
+{
+    match mac_text(alloc, &boot_mac(&expand(key), image.bytes())) {
+        Ok(text) => Ok(Outcome::Printed(text)),
+        Err(error) => Err(error),
     }
 }
 

@@ -55,6 +55,7 @@ fn command_of<'a>(alloc: Global, subcommand: Subcommand) -> Result<Command<'a>, 
             "confirm",
             &["UID", "ID", "AUTH", "COUNTER", "NEWKEY", "M4", "M5"],
         ),
+        Subcommand::Bootmac => simple_command(alloc, "bootmac", &["KEY", "IMAGE"]),
     }
 }
 

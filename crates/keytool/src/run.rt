@@ -44,7 +44,7 @@ pub fn run_key<S: Source, K: Sink, D: Disk>(
         → map string_bytes words.now ≡ program ∷ name_of s ∷ values → length values ≡ length (values_of s)
         → list_all is_plain values ≡ true → PlainEnds (task_of s values) (K.state sink.old) (K.state sink.new) result }
 
-    // 0: the sink has exactly the request that is built, the update that is carried, or that the reply confirms.
+    // 0: the sink has exactly the request that is built, the update that is carried, that the reply confirms, or the boot MAC.
     ensures done { result ≡ 0 → (task : Task) × AsksFor (drop 1 (map string_bytes words.now)) (Ok task)
         × (text : List ℕ) × PrintsDone task text × AppendedWell (K.state sink.old) (K.state sink.new) text }
 
@@ -106,9 +106,10 @@ fn prepare(alloc: Global, words: &[String]) -> Result<Task, Refusal>
         return Err(Refusal::Usage);
     };
     match parse(alloc, subcommand, words) {
-        Ok(matches) => match task_of(subcommand, &matches) {
-            Ok(task) => Ok(task),
-            Err(bad) => Err(Refusal::of_value(alloc, bad)),
+        Ok(matches) => match task_of(alloc, subcommand, &matches) {
+            Ok(Ok(task)) => Ok(task),
+            Ok(Err(bad)) => Err(Refusal::of_value(alloc, bad)),
+            Err(_) => Err(Refusal::Memory),
         },
         Err(NoValues::Refused) => Err(Refusal::Usage),
         Err(NoValues::Memory) => Err(Refusal::Memory),

@@ -12,6 +12,8 @@ pub enum Subcommand {
     Read,
     /// `confirm UID ID AUTH COUNTER NEWKEY M4 M5`: whether the messages confirm the update.
     Confirm,
+    /// `bootmac KEY IMAGE`: the boot MAC of the image under the key.
+    Bootmac,
 }
 
 /// The subcommand that the first of the words names, the program's name left out.
@@ -34,6 +36,7 @@ fn named(name: &str) -> Option<Subcommand>
         "make" => Some(Subcommand::Make),
         "read" => Some(Subcommand::Read),
         "confirm" => Some(Subcommand::Confirm),
+        "bootmac" => Some(Subcommand::Bootmac),
         _ => None,
     }
 }

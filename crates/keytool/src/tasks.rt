@@ -1,21 +1,23 @@
 //! What the values of a subcommand ask for.
-ghost use Rattle.std.specs.Prelude.{◌≡◌};
+ghost use Rattle.std.specs.Prelude.{◌≡◌, IfOk};
 ghost use Rattle.clap.specs.Words.{rows_of, found_of};
 ghost use Rattle.keytool.specs.Subcommands.{values_of as names_of};
 ghost use Rattle.keytool.specs.Parsing.{values_in};
-ghost use Rattle.keytool.specs.Tasks.{value_at, make_of, read_of, confirm_of, task_of as task_by};
+ghost use Rattle.keytool.specs.Tasks.{value_at, make_of, read_of, confirm_of, boot_task, bootmac_of, task_of as task_by};
 ghost use Rattle.keytool.specs.declared.subcommands.Subcommand.TheVariants as subcommand;
 
+use crate::image::Image;
 use crate::parsing::value_of;
 use crate::subcommands::Subcommand;
 use clap::ArgMatches;
 use key_slots::Flags;
 use memory_update::{Reply, Request, Update};
 use she_aes::Block;
-use text_lines::forms;
+use std::alloc::Global;
+use text_lines::{Memory, forms};
 
 /// What a subcommand is to do.
-#[derive(Clone, Copy, Debug, PartialEq, Eq)]
+#[derive(Debug, Drop)]
 pub enum Task {
     /// Make the request that puts the update into an engine whose slot `auth` holds this key.
     Make { update: Update, authkey: Block },
@@ -23,6 +25,8 @@ pub enum Task {
     Read { request: Request, authkey: Block },
     /// Check that the reply confirms the update to the engine with the update's identifier. The flags aren't asked for.
     Confirm { reply: Reply, update: Update },
+    /// Make the boot MAC of the image under the boot MAC key.
+    Bootmac { key: Block, image: Image },
 }
 
 /// The first value of a subcommand that isn't of its form, by its number, counted from 1.
@@ -31,14 +35,19 @@ pub struct BadValue {
     pub number: u8,
 }
 
-/// What the values ask a subcommand for, or the first value that isn't of its form.
-pub fn task_of(subcommand: Subcommand, matches: &ArgMatches<'_>) -> Result<Task, BadValue>
-    ensures { result ≡ task_by subcommand (values_in (names_of subcommand) (rows_of (found_of matches.now))) }
+/// What the values ask a subcommand for, or the first value that isn't of its form. Memory is taken for an image alone.
+pub fn task_of(
+    alloc: Global,
+    subcommand: Subcommand,
+    matches: &ArgMatches<'_>,
+) -> Result<Result<Task, BadValue>, Memory>
+    ensures { IfOk result (λ asked. asked ≡ task_by subcommand (values_in (names_of subcommand) (rows_of (found_of matches.now)))) }
 {
     match subcommand {
-        Subcommand::Make => make_of(matches),
-        Subcommand::Read => read_of(matches),
-        Subcommand::Confirm => confirm_of(matches),
+        Subcommand::Make => Ok(make_of(matches)),
+        Subcommand::Read => Ok(read_of(matches)),
+        Subcommand::Confirm => Ok(confirm_of(matches)),
+        Subcommand::Bootmac => bootmac_of(alloc, matches),
     }
 }
 
@@ -103,6 +112,25 @@ fn confirm_of(matches: &ArgMatches<'_>) -> Result<Task, BadValue>
     };
     let reply = Reply { m4, m5 };
     Ok(Task::Confirm { reply, update })
+}
+
+#[tactic(auto, unfolding(crate::specs::Tasks::bootmac_of))]
+fn bootmac_of(alloc: Global, matches: &ArgMatches<'_>) -> Result<Result<Task, BadValue>, Memory>
+    ensures { IfOk result (λ asked. asked ≡ bootmac_of (values_in (names_of subcommand.Bootmac) (rows_of (found_of matches.now)))) }
+{
+    let key = forms::key(value_of(matches, "KEY"));
+    let image = Image::of_word(alloc, value_of(matches, "IMAGE"))?;
+    Ok(boot_task(key, image))
+}
+
+/// The boot MAC of these two values, where both are of their forms.
+#[tactic(auto, unfolding(crate::specs::Tasks::boot_task))]
+fn boot_task(key: Option<Block>, image: Option<Image>) -> Result<Task, BadValue>
+    ensures { result ≡ boot_task key image }
+{
+    let key = value_at(1, key)?;
+    let image = value_at(2, image)?;
+    Ok(Task::Bootmac { key, image })
 }
 
 /// The value with this number, counted from 1, where it is of its form.

@@ -89,7 +89,15 @@ fn the_example_is_made_read_and_confirmed(rt: HostRuntime) -> Result<(), Fail> {
 fn refused_words_and_values_are_told(rt: HostRuntime) -> Result<(), Fail> {
     for (line, status, output) in [
         ("keytool", 2, USAGE),
-        ("keytool bootmac A 00", 2, USAGE),
+        ("keytool bootmac A", 2, USAGE),
+        ("keytool bootmac A 00 00", 2, USAGE),
+        ("keytool Bootmac A 00", 2, USAGE),
+        ("keytool bootmac A ", 3, "value 2\n"),
+        ("keytool bootmac A 0", 3, "value 2\n"),
+        ("keytool bootmac A 000", 3, "value 2\n"),
+        ("keytool bootmac A 0g", 3, "value 2\n"),
+        ("keytool bootmac A -", 3, "value 2\n"),
+        ("keytool bootmac M2 0g", 3, "value 1\n"),
         ("keytool load disk U", 2, USAGE),
         ("keytool Read A M1 M2 M3", 2, USAGE),
         ("keytool read A M1 M2", 2, USAGE),
@@ -114,6 +122,50 @@ fn refused_words_and_values_are_told(rt: HostRuntime) -> Result<(), Fail> {
         ),
     ] {
         check(&rt, rt.alloc(), line, status, output)?;
+    }
+    Ok(())
+}
+
+/// The values are those of OpenSSL's CMAC.
+#[test]
+fn boot_macs_are_printed(rt: HostRuntime) -> Result<(), Fail> {
+    for (line, output) in [
+        ("keytool bootmac A 00", "e9098f997b3a31472b55aef99e35170b\n"),
+        (
+            "keytool bootmac 2b7e151628aed2a6abf7158809cf4f3c 00",
+            "9338c4e062a714ace2849c32772de6c6\n",
+        ),
+        (
+            "keytool bootmac 2B7E151628AED2A6ABF7158809CF4F3C -- FF",
+            "568fbf106308a21d28946ae4e8e301e0\n",
+        ),
+        (
+            "keytool bootmac 2b7e151628aed2a6abf7158809cf4f3c 0102030405060708090a0b0c0d0e0f1011",
+            "4bf8b9397016e788f461ef487af0a5a4\n",
+        ),
+    ] {
+        check(&rt, rt.alloc(), line, 0, output)?;
+    }
+    Ok(())
+}
+
+/// No command line holds an image of 65,536 bytes, since Linux allows a word at most 131,071 bytes.
+#[test]
+fn the_largest_image_has_a_boot_mac(rt: HostRuntime) -> Result<(), Fail> {
+    let alloc = rt.alloc();
+    for (digits, status, output) in [
+        (131_072, 0, "31ed7e5e6a493ae8dbd126253c12cdcc\n"),
+        (131_074, 3, "value 2\n"),
+    ] {
+        let mut words = words_of(alloc, "keytool bootmac 2b7e151628aed2a6abf7158809cf4f3c")?;
+        let image = String::from_utf8(vec![in alloc; b'0'; digits]?);
+        words.push(image.ok().ok_or("no text")?)?;
+        let mut request = CleanSource::new(Vec::new(alloc));
+        let mut sink = MemSink::new(alloc, 64, Vec::new(alloc), 64)?;
+        let mut disks: Vec<MemDisk> = Vec::new(alloc);
+        let answer = run_key(alloc, words.as_slice(), &mut request, &mut sink, &mut disks);
+        assert_eq!(rt; answer, status, "{digits} digits");
+        assert_eq!(rt; sink.bytes(), output.as_bytes(), "{digits} digits");
     }
     Ok(())
 }

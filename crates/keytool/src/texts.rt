@@ -2,7 +2,7 @@
 ghost use Rattle.std.specs.Prelude.{◌≡◌, [], IfOk, string_bytes};
 ghost use Rattle.std.specs.List.{flat_map};
 ghost use Rattle.hex.specs.Hex.{encode_lower};
-ghost use Rattle.keytool.specs.Texts.{request_text as request_lines, update_text as update_lines, target_rows, content_rows, value_text as value_line};
+ghost use Rattle.keytool.specs.Texts.{mac_text as mac_line, request_text as request_lines, update_text as update_lines, target_rows, content_rows, value_text as value_line};
 
 use hex::encode;
 use memory_update::{Request, Update};
@@ -25,6 +25,14 @@ pub fn request_text(alloc: Global, request: &Request) -> Result<String, AllocErr
     let m2 = two_text(alloc, &request.m2)?;
     let m3 = encode(alloc, request.m3.as_slice())?;
     format!(in alloc; "{m1}\n{m2}\n{m3}\n")
+}
+
+/// A MAC, on a line.
+pub fn mac_text(alloc: Global, mac: &Block) -> Result<String, AllocError>
+    ensures { IfOk result (λ text. string_bytes text ≡ mac_line mac.now) }
+{
+    let digits = encode(alloc, mac.as_slice())?;
+    format!(in alloc; "{digits}\n")
 }
 
 /// The digits of two blocks, one behind the other.

@@ -1,6 +1,5 @@
 use Rattle.std.proofs.Common.{ap, drop, map}
 use Rattle.std.specs.Prelude.{string_bytes}
-use Rattle.keytool.specs.Answers.{KeyEnds}
 use Rattle.keytool.specs.Tasks.{task_of}
 use Rattle.keytool.proofs.Complete.{complete, plain_ends}
 use Rattle.keytool.proofs.Denied.{denied_only}
