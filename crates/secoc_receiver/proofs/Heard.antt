@@ -9,7 +9,7 @@ use Rattle.secoc_receiver.specs.declared.receiver.Reception.{Reception}
 use Rattle.secoc_receiver.specs.declared.receiver.Reception.TheVariants.{Accepted, FreshnessFailure, VerificationFailure}
 use Rattle.secoc_receiver.specs.declared.receiver.ReceiveFault.{ReceiveFault}
 use Rattle.secoc_receiver.specs.declared.receiver.ReceiveFault.TheVariants.{BadLength, Key, Faulted}
-use Rattle.secoc_receiver.specs.Receiving.{FaultedWith, IsTaken}
+use Rattle.secoc_receiver.specs.Receiving.{FaultedWith, ComesThrough}
 
 pub in_time : (key : List ℕ) (id c w window : ℕ) (pdu frame p : List ℕ) (v : ℕ) (o : verdict.Outcome) → IsWindow w → window ≡ w → pdu ≡ frame
     → Secured key id p v pdu → Ahead c window (v % 256) v → verdict.Verdict key id c w frame o → o ≡ verdict.Accepted p v
@@ -26,7 +26,7 @@ not_forged p v e = cc
 -- what is said where a freshness above the counter is to be taken
 pub taken : (p q : List ℕ) (v w len : ℕ) (rx : ReceiverCounter) (r : Result Reception ReceiveFault) (old new : CellsState)
     → IfOk r (λ said. said ≡ Accepted v len) → IfErr r (λ fault. FaultedWith fault rx v old new) → len ≡ length p
-    → verdict.Accepted p v ≡ verdict.Accepted q w → IsTaken q w r old new
+    → verdict.Accepted p v ≡ verdict.Accepted q w → ComesThrough q w r old new
 taken p q v w len rx (Ok (Accepted u l)) old new said failed is e =
     let v_is : u ≡ w = cc in
     let p_is : p ≡ q = cc in

@@ -80,10 +80,10 @@ pub record FaultedAt (bound : ℕ) (engine : Engine) (rx : ReceiverCounter) (rou
   pub failed : FaultedWith (Faulted bound) rx freshness old new
 
 -- the PDU is accepted with this payload and freshness, or the disk failed
-abbrev pub IsTaken : List ℕ → ℕ → Result Reception ReceiveFault → CellsState → CellsState → Type 0
-IsTaken payload v (Ok (Accepted freshness len)) old new = (freshness ≡ v) × (len ≡ length payload)
-IsTaken payload v (Err (Faulted bound)) old new = Rose old.disk.faults new.disk.faults
-IsTaken payload v _ old new = ⊥
+abbrev pub ComesThrough : List ℕ → ℕ → Result Reception ReceiveFault → CellsState → CellsState → Type 0
+ComesThrough payload v (Ok (Accepted freshness len)) old new = (freshness ≡ v) × (len ≡ length payload)
+ComesThrough payload v (Err (Faulted bound)) old new = Rose old.disk.faults new.disk.faults
+ComesThrough payload v _ old new = ⊥
 
 -- the line that tells of the verdict on a PDU under this Data ID, which came from this event
 abbrev pub line_of_receive : ℕ → List ℕ → Option ℕ → Result Reception ReceiveFault → line.Line

@@ -16,7 +16,7 @@ ghost use Rattle.freshness_manager.specs.Counters.{KeepsBound};
 ghost use Rattle.freshness_manager.specs.Changing.{MakesChange};
 ghost use Rattle.bus_machine.specs.Node.{Node};
 ghost use Rattle.bus_machine.specs.Steps.{first_of, receiver_refusals, receives, NodeStep};
-ghost use Rattle.secoc_receiver.specs.Receiving.{IsReceiverRoute, HasReceiver, refusal_of_receive, line_of_receive, after_receive, outcome_in, IfAccepted, IfNotAccepted, IfUnmoved, FaultedAt, FaultedWith, IsTaken};
+ghost use Rattle.secoc_receiver.specs.Receiving.{IsReceiverRoute, HasReceiver, refusal_of_receive, line_of_receive, after_receive, outcome_in, IfAccepted, IfNotAccepted, IfUnmoved, FaultedAt, FaultedWith, ComesThrough};
 
 use cell_store::{Cells, PutFailed};
 use freshness_manager::Rx;
@@ -93,7 +93,7 @@ pub fn receive<C: Cells>(
     ensures honest { (payload : List ℕ) (v : ℕ) → usable engine.now.slots route.now.slot (is_good engine.now.boot) Mac ≡ None
         → Secured (key_in (slot_at engine.now.slots route.now.slot)) route.now.id payload v pdu.now
         → Ahead rx.old.counter route.now.window (v % 256) v
-        → IsTaken payload v result (C.state cells.old) (C.state cells.new) }
+        → ComesThrough payload v result (C.state cells.old) (C.state cells.new) }
     ensures step { (node : Node) (source : Option ℕ) → HasReceiver node engine.now rx.old route.now
         → NodeStep node (receives route.now.id pdu.now) (line_of_receive route.now.id pdu.now source result)
         (after_receive node route.now.id result) }

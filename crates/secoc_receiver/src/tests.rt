@@ -1,6 +1,6 @@
 // A receiver over a twin store in memory: the key of slot 4 serves MACs, that of slot 5 only after a secure boot, that of slot 6
 // ciphers, and slot 7 is empty. The PDUs were made by OpenSSL's CMAC.
-ghost use Rattle.std.specs.Prelude.{◌≡◌, ◌×◌, false, length, IfOk, OnOk};
+ghost use Rattle.std.specs.Prelude.{◌≡◌, false, length, IfOk, OnOk};
 ghost use Rattle.freshness_routes.specs.declared.routes.Direction.TheVariants.{Receives};
 ghost use Rattle.freshness_manager.specs.Counters.{KeepsBound};
 

@@ -3,7 +3,6 @@
 ghost use Rattle.std.specs.Prelude.{◌≡◌, false, length, IfOk, OnOk};
 ghost use Rattle.freshness_routes.specs.declared.routes.Direction.TheVariants.{Sends};
 ghost use Rattle.freshness_manager.specs.Counters.{KeepsBound};
-ghost use Rattle.secoc_sender.specs.Sending.{IsSenderRoute};
 
 use super::*;
 use cell_store::{Cells, CutCells, TwinCells};
@@ -151,6 +150,7 @@ fn a_pdu_has_the_freshness_above_the_counter(rt: HostRuntime) -> Result<(), Fail
         (60, u64::MAX - 2, [0xfe, 0x30, 0x38, 0xa2]),
         (6, u64::MAX - 1, [0xff, 0x9a, 0x7f, 0x8d]),
     ] {
+        assert!(rt; size <= 60);
         let mut out = [0xaa; 64];
         let (answer, counter) = answer_to(rt.alloc(), &running(4, size, bound), &mut out)?;
         let sent = answer?;
