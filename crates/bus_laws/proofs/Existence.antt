@@ -1,6 +1,6 @@
 -- No event is without a line
-use Rattle.std.specs.Prelude.{◌≡◌, ℕ, zero, suc, ◌+◌, ◌*◌, ◌^◌, ◌<◌, ◌≤◌, ◌⊎◌, ◌==◌, ◌&&◌, not, nat_lt, nat_le, bytes_eq, Bool, true, false, cond, Option, None, Some, Result, Ok, Err, List, [], ◌∷◌, length, set, slice_get, option_map}
-use Rattle.std.proofs.Common.{refl, sym, ◌∙◌, ap, subst, arith, inl, inr}
+use Rattle.std.specs.Prelude.{◌≡◌, ℕ, zero, suc, ◌+◌, ◌*◌, ◌^◌, ◌<◌, ◌≤◌, ◌==◌, not, nat_le, bytes_eq, Bool, true, false, Option, None, Some, Result, Ok, Err, List, [], ◌∷◌, length, set, slice_get, option_map}
+use Rattle.std.proofs.Common.{refl, subst, arith, inl, inr}
 use Rattle.std.proofs.lemmas.Bool.{and_parts}
 use Rattle.std.proofs.lemmas.Bool.Decides.{nat_tests}
 use Rattle.std.proofs.lemmas.Option.{get_or_from_slice_get}
@@ -26,9 +26,8 @@ use Rattle.memory_update.specs.Loading.{Allows, slot_of}
 use Rattle.memory_update.specs.LoadingLaws.{Allows-some}
 use Rattle.memory_update.specs.Messages.{two_blocks, head_number, plain, request_mac, sealed_counter, Builds, Confirms, IsUpdate, IsRequest}
 use Rattle.memory_update.specs.MessageLaws.{Carries-Builds, IsRequest-Carries}
-use Rattle.secure_boot.specs.declared.state.BootState.{BootState}
 use Rattle.secure_boot.specs.Booting.{Boots, BootsBy, bootmac, is_good, is_decided}
-use Rattle.secured_pdu.specs.Frame.{Secured, secured_frame, IsFrame, IsPayload}
+use Rattle.secured_pdu.specs.Frame.{secured_frame}
 use Rattle.secured_pdu.specs.Verdict as verdict
 use Rattle.secured_pdu.proofs.Deciding.{verdict_at}
 use Rattle.freshness_routes.specs.declared.routes.Direction.TheVariants.{Sends, Receives}
@@ -44,7 +43,7 @@ use Rattle.bus_machine.specs.declared.lines.Refusal.TheVariants as why
 use Rattle.bus_machine.specs.declared.lines.Refusal.TheVariants.{Down, NoRoute, BadLength, Exhausted, MemoryFailure}
 use Rattle.bus_machine.specs.Node.{Node, place_of, route_at, counter_at, route_key, powered, with_counter, with_slot, booted, first_node}
 use Rattle.bus_machine.specs.Sound.{Sound}
-use Rattle.bus_machine.specs.Steps.{Act, sends, receives, loads, keys, boots, cuts, arms, hears_nothing, when, first_of, has_length, has_route, key_refusal, send_refusal, receive_refusal, send_change, receive_change, TakesUpdate, NodeStep}
+use Rattle.bus_machine.specs.Steps.{Act, sends, receives, loads, keys, boots, cuts, arms, hears_nothing, when, first_of, has_length, has_route, send_refusal, receive_refusal, send_change, receive_change, NodeStep}
 use Rattle.bus_machine.specs.Bus.{World, SentLine, node_of, Moments, act_of, hearing, sent_after, source_of, NamesSource, Step, no_config, node_at, SoundBus}
 use Rattle.bus_laws.specs.Laws.{IsTypedUpdate, NoFailure}
 use Rattle.bus_laws.proofs.Effects.{first_none, when_none, routed}

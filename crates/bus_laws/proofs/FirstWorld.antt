@@ -1,14 +1,17 @@
 -- First worlds
-use Rattle.std.specs.Prelude.{◌≡◌, ℕ, ◌<◌, true, None, List, [], ◌∷◌, length, zero, suc}
+use Rattle.std.specs.Prelude.{◌≡◌, ℕ, ◌<◌, true, None, List, [], ◌∷◌, length, map, replicate, All, zero, suc}
 use Rattle.std.proofs.Common.{refl, subst, ap, inl, inr}
 use Rattle.std.proofs.lemmas.Bool.{cases_lt}
 use Rattle.std.proofs.lemmas.List.{length-map, get_or_past}
+use Rattle.std.proofs.lemmas.List.Elements.{All-nil, All-cons}
+use Rattle.key_slots.specs.declared.memory.Slot.TheVariants.{Empty}
+use Rattle.secure_boot.specs.declared.state.BootState.TheVariants.{Undecided}
 use Rattle.freshness_routes.specs.declared.routes.Direction.TheVariants.{Sends}
 use Rattle.freshness_routes.specs.Config.{Config}
-use Rattle.bus_machine.specs.Node.{first_node, HasRoute}
+use Rattle.bus_machine.specs.Node.{Node, first_node, HasRoute}
 use Rattle.bus_machine.specs.Bus.{World, First, IsBus, node_at, no_config, SoundBus}
 use Rattle.bus_laws.proofs.BusSteps.{Sound-first, first_at}
-use Rattle.bus_laws.specs.Laws.{IsFirst, OneSender}
+use Rattle.bus_laws.specs.Laws.{IsFirst, OneSender, HasNodesOf}
 
 pub sound_first : (bus : List Config) → IsBus bus → SoundBus (First bus)
 sound_first bus is = Sound-first bus is.configs
@@ -38,6 +41,24 @@ is_first bus is = record {
   sound = sound_first bus is;
   up = λ i inside. first_up bus i;
   at_bounds = λ i inside. first_at_bounds bus i;
+}
+
+-- its nodes
+configs_back : (bus : List Config) → map (λ node. node.config) (map first_node bus) ≡ bus
+configs_back [] = refl
+configs_back (c ∷ cs) = ap (λ (l : List Config). c ∷ l) (configs_back cs)
+
+-- what holds of the first node of each configuration holds of each
+each_first : (P : Node → Type 0) → ((c : Config) → P (first_node c)) → (bus : List Config) → All P (map first_node bus)
+each_first P f [] = All-nil P
+each_first P f (c ∷ cs) = All-cons P (first_node c) (map first_node cs) (f c) (each_first P f cs)
+
+pub has_nodes : (bus : List Config) → HasNodesOf bus (First bus)
+has_nodes bus = record {
+  configs = configs_back bus;
+  slots = each_first (λ node. node.kept.slots ≡ replicate 14 Empty) (λ c. refl) bus;
+  bounds = each_first (λ node. node.kept.bounds ≡ map (λ route. route.start) node.config.routes) (λ c. refl) bus;
+  unbooted = each_first (λ node. node.boot ≡ Undecided) (λ c. refl) bus;
 }
 
 -- in a first world no node has a change pending

@@ -1,7 +1,9 @@
 -- The laws of all runs from a first world, as statements
-use Rattle.std.specs.Prelude.{◌≡◌, ◌≢◌, ℕ, ◌<◌, true, None, List, [], ◌∷◌, All, length}
+use Rattle.std.specs.Prelude.{◌≡◌, ◌≢◌, ℕ, ◌<◌, true, None, List, [], ◌∷◌, All, length, map, replicate}
 use Rattle.she_aes.specs.Cipher.{IsBlock}
+use Rattle.key_slots.specs.declared.memory.Slot.TheVariants.{Empty}
 use Rattle.memory_update.specs.Messages.{IsUpdate, IsRequest}
+use Rattle.secure_boot.specs.declared.state.BootState.TheVariants.{Undecided}
 use Rattle.freshness_routes.specs.Config.{Config}
 use Rattle.freshness_routes.specs.declared.routes.Direction.TheVariants.{Sends}
 use Rattle.machine_runs.specs.Run.{Run, commands_in}
@@ -35,6 +37,16 @@ OneSender world = (i j id : ℕ) → i < length world.nodes → j < length world
 -- the first world of a bus is one, with one sender
 abbrev pub BusesBeginFirst : Type 0
 BusesBeginFirst = (bus : List Config) → IsBus bus → IsFirst (First bus) × OneSender (First bus)
+
+-- its nodes are those of the bus, in their order: each slot is empty, each bound is its route's start, and no boot was made
+pub record HasNodesOf (bus : List Config) (world : World) : Type 0 where
+  pub configs : map (λ node. node.config) world.nodes ≡ bus
+  pub slots : All (λ node. node.kept.slots ≡ replicate 14 Empty) world.nodes
+  pub bounds : All (λ node. node.kept.bounds ≡ map (λ route. route.start) node.config.routes) world.nodes
+  pub unbooted : All (λ node. node.boot ≡ Undecided) world.nodes
+
+abbrev pub BusesBeginWithTheirNodes : Type 0
+BusesBeginWithTheirNodes = (bus : List Config) → HasNodesOf bus (First bus)
 
 -- each run from a first world has this
 abbrev pub EachRun : (World → Moments → World → Type 0) → Type 0

@@ -1,9 +1,14 @@
 //! Each function has an empty body, and its contract is the law. A run begins at any first world, as that of a bus is.
-ghost use Rattle.bus_laws.specs.Laws.{BusesBeginFirst, StepsKeepSound, RunsAreSound, RunsAreCovered, RunsRise, RunsAreAuthentic, RunsAreSingle, RunsKeepKeys, RunsSettleKeys, CutsSkipLittle, HonestIsHeard, SameKeyIsHonest, RunsGoOn, LinesDetermineWorlds, EventsDetermineLines};
+ghost use Rattle.bus_laws.specs.Laws.{BusesBeginFirst, BusesBeginWithTheirNodes, StepsKeepSound, RunsAreSound, RunsAreCovered, RunsRise, RunsAreAuthentic, RunsAreSingle, RunsKeepKeys, RunsSettleKeys, CutsSkipLittle, HonestIsHeard, SameKeyIsHonest, RunsGoOn, LinesDetermineWorlds, EventsDetermineLines};
 
 /// The first world of a bus is a first world, in which no Data ID is sent by two nodes.
 pub fn buses_begin_first()
     ensures { BusesBeginFirst }
+{}
+
+/// The first world of a bus has its nodes in their order, with empty slots, bounds equal to the starts, and no boot.
+pub fn buses_begin_with_their_nodes()
+    ensures { BusesBeginWithTheirNodes }
 {}
 
 /// A step keeps a node sound: counters within their bounds, slots as the code has them, and a pending change that

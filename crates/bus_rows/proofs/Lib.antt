@@ -5,4 +5,8 @@ pub mod MoreRuns
 pub mod Walks
 pub mod ShortRuns
 pub mod WrongBoot
+pub mod Messages
+pub mod LoadRun
+pub mod Tested
+pub mod MixedRun
 pub mod Refused

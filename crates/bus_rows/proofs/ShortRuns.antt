@@ -1,27 +1,23 @@
 -- The shorter worked runs
-use Rattle.std.specs.Prelude.{◌≡◌, ℕ, ◌<◌, ◌%◌, None, Some, true, false, List, [], ◌∷◌, get_or}
-use Rattle.std.proofs.Common.{refl, sym, ◌∙◌, ap, arith, inl, inr}
-use Rattle.key_slots.specs.declared.refusals.Erc.TheVariants.{KeyNotAvailable, KeyEmpty}
+use Rattle.std.specs.Prelude.{ℕ, ◌<◌, Some}
+use Rattle.std.proofs.Common.{refl, sym, ◌∙◌, arith, inl, inr}
+use Rattle.key_slots.specs.declared.refusals.Erc.TheVariants.{KeyEmpty}
 use Rattle.key_slots.specs.Authority.{is_pair}
 use Rattle.key_slots.specs.Usage.{usable}
-use Rattle.memory_update.specs.declared.messages.Update.{Update}
 use Rattle.memory_update.specs.Loading.{slot_of}
-use Rattle.freshness_routes.specs.Config.{Config}
-use Rattle.secured_pdu.specs.Frame.{Ahead, Secured}
-use Rattle.secured_pdu.specs.Verdict as verdict
-use Rattle.bus_machine.specs.declared.lines.Line.TheVariants as line
-use Rattle.bus_machine.specs.declared.lines.Line.TheVariants.{Sent, Accepted, FreshnessFailure, VerificationFailure, Keyed, Up, Armed, NoFrame, Refused}
+use Rattle.secured_pdu.specs.Frame.{Ahead}
+use Rattle.bus_machine.specs.declared.lines.Line.TheVariants.{Sent, Accepted, FreshnessFailure, VerificationFailure, Keyed, Refused}
 use Rattle.bus_machine.specs.declared.lines.Refusal.TheVariants as refusal
 use Rattle.bus_machine.specs.declared.lines.Refusal.TheVariants.{Down, NoRoute, BadLength, MemoryFailure}
-use Rattle.bus_machine.specs.Node.{Node, Change, slot_to, bound_to, changed, first_node, powered, with_slot, booted, failed}
-use Rattle.bus_machine.specs.Steps.{sends, receives, keys, boots, NodeStep, JudgesFrame, Makes}
-use Rattle.bus_rows.specs.Buses.{numbered_uid, sending_from, receiving_from, receiving_with, bus_a, bus_with, ended_bus, all_ones, bus_key, clear_flags, for_macs, for_macs_after_boot, update_of, bus_payload, first_frame, later_frame, altered_frame}
+use Rattle.bus_machine.specs.Node.{Node, Change, slot_to, bound_to, changed, first_node, powered, with_slot, failed}
+use Rattle.bus_machine.specs.Steps.{sends, receives, keys, NodeStep, Makes}
+use Rattle.bus_rows.specs.Buses.{receiving_from, receiving_with, bus_a, bus_with, ended_bus, all_ones, bus_key, for_macs, bus_payload, first_frame, later_frame, altered_frame}
 use Rattle.bus_rows.specs.Rows.{HasRun, restarted}
 use Rattle.bus_rows.specs.ShortRows.{past_the_window, too_far_ahead, receiver_restarted, none_ahead, refused_early, failed_send_old, failed_send_new, failed_key_old, failed_key_new}
 use Rattle.bus_rows.proofs.Frames.{repeated_frame_is}
 use Rattle.bus_rows.proofs.Building.{keyed, makes_update}
 use Rattle.bus_rows.proofs.Walks.{walked}
-use Rattle.bus_rows.proofs.WorkedRuns.{IsBlock-all_ones, IsBlock-bus_key, IsUid-left, IsUid-right, is_update, repeat_differs, v0, v1, v2, after_sending, after_accepting, first_secured, later_secured, left0, right0, left1, left2, left3, left4, own_update, left_keyed, left_sends, left_sends_later, right_keyed}
+use Rattle.bus_rows.proofs.WorkedRuns.{IsBlock-all_ones, IsBlock-bus_key, IsUid-left, IsUid-right, is_update, repeat_differs, v1, v2, after_sending, after_accepting, first_secured, later_secured, left0, right0, left1, left2, left3, left4, own_update, left_keyed, left_sends, left_sends_later}
 
 -- ---- receivers with a reserve and a window of their own
 

@@ -1,5 +1,5 @@
 -- Runs that are given row by row: each with its node before and after
-use Rattle.std.specs.Prelude.{◌≡◌, ℕ, Some, List, [], ◌∷◌, map, slice_get}
+use Rattle.std.specs.Prelude.{◌≡◌, Some, List, [], ◌∷◌, map, slice_get}
 use Rattle.std.proofs.Common.{refl, ap}
 use Rattle.freshness_routes.specs.Config.{Config}
 use Rattle.machine_runs.specs.Run.{Run}

@@ -132,7 +132,7 @@ pub left_sends : NodeStep left1 (sends 0x6bc1 bus_payload) (Sent 0x6bc1 v1 first
 unfolding usable
 left_sends = (refl, record { allowed = refl; freshness_is = refl; pdu_is = first_secured; after_is = refl })
 
-abbrev right2 : Node
+abbrev pub right2 : Node
 right2 = after_accepting v1 right1
 
 right_judges : JudgesFrame right1 0x6bc1 first_frame (verdict.Accepted bus_payload v1)
@@ -237,25 +237,25 @@ restarted_run = (
 
 -- ---- the disk of the receiver fails
 
-abbrev new_bound : Change
+abbrev pub new_bound : Change
 new_bound = bound_to 0 v1
 
-abbrev right_failed : Node
+abbrev pub right_failed : Node
 right_failed = failed new_bound right1
 
-abbrev right_old : Node
+abbrev pub right_old : Node
 right_old = powered right1.config right1.kept
 
 abbrev right_new : Node
 right_new = powered right1.config (changed new_bound right1.kept)
 
-right_faults : NodeStep right1 (receives 0x6bc1 first_frame) (Refused MemoryFailure) right_failed
+pub right_faults : NodeStep right1 (receives 0x6bc1 first_frame) (Refused MemoryFailure) right_failed
 right_faults = (new_bound, (bus_payload, v1, right_judges, refl), refl)
 
-abbrev right_again : Node
+abbrev pub right_again : Node
 right_again = after_accepting v1 right_old
 
-old_accepts : NodeStep right_old (receives 0x6bc1 first_frame) (Accepted 0x6bc1 v1 bus_payload (Some 3)) right_again
+pub old_accepts : NodeStep right_old (receives 0x6bc1 first_frame) (Accepted 0x6bc1 v1 bus_payload (Some 3)) right_again
 unfolding usable
 old_accepts = (
   refl,

@@ -9,7 +9,7 @@ use Rattle.bus_machine.specs.declared.lines.Line.TheVariants as line
 use Rattle.bus_machine.specs.declared.lines.Line.TheVariants.{Sent, Accepted, FreshnessFailure, VerificationFailure, Keyed, Up, Armed, NoFrame, Refused}
 use Rattle.bus_machine.specs.declared.lines.Refusal.TheVariants as refusal
 use Rattle.bus_machine.specs.declared.lines.Refusal.TheVariants.{Down, NoRoute, BadLength, MemoryFailure}
-use Rattle.bus_rows.specs.Buses.{numbered_uid, all_ones, bus_key, clear_flags, for_macs, for_macs_after_boot, update_of, bus_payload, first_frame, later_frame, altered_frame}
+use Rattle.bus_rows.specs.Buses.{numbered_uid, all_ones, bus_key, clear_flags, for_macs_after_boot, update_of, bus_payload, first_frame, later_frame, altered_frame}
 use Rattle.bus_rows.specs.Rows.{load_slot_4}
 
 -- what a receiver says of freshness past its window

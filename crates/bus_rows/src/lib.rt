@@ -17,5 +17,6 @@ pub use rows::{
     a_refused_cut_is_made_again, a_sender_starts_at_its_bound, a_shorter_window_does_not,
     a_window_ends_what_is_accepted, a_window_reaches_a_restarted_sender,
     a_wrong_boot_opens_nothing, an_ordinary_run, frames_routes_and_lengths_come_first,
-    the_last_freshness_has_none_ahead, updates_are_refused_in_their_order,
+    the_example_is_loaded_once, the_four_hold_of_a_mixed_run, the_last_freshness_has_none_ahead,
+    updates_are_refused_in_their_order,
 };

@@ -1,5 +1,7 @@
 //! Worked runs: some run of the bus has these events, and these lines for them.
 ghost use Rattle.bus_rows.specs.Buses.{bus_a, last_bus, bus_with, ended_bus};
+ghost use Rattle.bus_rows.specs.LoadRows.{example_loaded};
+ghost use Rattle.bus_rows.specs.Mixed.{mixed, HasGoodRun};
 ghost use Rattle.bus_rows.specs.ShortRows.{past_the_window, too_far_ahead, receiver_restarted, none_ahead, refused_early, failed_send_old, failed_send_new, failed_key_old, failed_key_new, booted_wrong};
 ghost use Rattle.bus_rows.specs.Rows.{HasRun, ordinary, restarted, failed_old, failed_new, refused_cut, last_freshness_used, foreign, boot_decided, updates};
 
@@ -101,4 +103,15 @@ pub fn a_failed_update_leaves_the_new_slot()
 /// An image with another boot MAC: the boot is wrong, and a key that wants a boot stays shut.
 pub fn a_wrong_boot_opens_nothing()
     ensures { HasRun bus_a booted_wrong }
+{}
+
+/// Sends, acceptances, updates, a failure and a cut with either choice: each of the four theorems is computed to hold.
+pub fn the_four_hold_of_a_mixed_run()
+    ensures { HasGoodRun bus_a mixed }
+{}
+
+/// The example of the SHE specification is loaded once; other updates are refused for their slots, an empty authorising
+/// slot, and the MAC of another key.
+pub fn the_example_is_loaded_once()
+    ensures { HasRun bus_a example_loaded }
 {}

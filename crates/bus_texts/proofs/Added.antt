@@ -1,5 +1,5 @@
 -- Pieces that are added to a text one after the other, and words that are written
-use Rattle.std.proofs.Common.{◌≡◌, ℕ, List, [], ◌∷◌, ◌++◌, refl, sym, ◌∙◌, ap, append_assoc, append-nil}
+use Rattle.std.proofs.Common.{◌≡◌, ℕ, List, [], ◌∷◌, ◌++◌, sym, ◌∙◌, ap, append_assoc, append-nil}
 use Rattle.std.specs.List.{join_with_byte}
 use Rattle.text_lines.specs.Written.{written}
 use Rattle.bus_texts.specs.Spaced.{spaced}

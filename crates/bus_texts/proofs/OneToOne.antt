@@ -1,18 +1,17 @@
 -- Lists of lines are told apart by their texts
-use Rattle.std.proofs.Common.{◌≡◌, ℕ, ◌+◌, ◌<◌, ◌^◌, List, [], ◌∷◌, ◌++◌, true, refl, sym, ◌∙◌, ap, length, length-append, append_assoc, arith}
+use Rattle.std.proofs.Common.{◌≡◌, ℕ, ◌+◌, ◌<◌, ◌^◌, List, [], ◌∷◌, ◌++◌, refl, sym, ◌∙◌, ap, length, length-append, append_assoc, arith}
 use Rattle.std.specs.Fmt.{decimal}
 use Rattle.std.specs.List.{All}
 use Rattle.std.proofs.lemmas.Fmt.{decimal_injective}
 use Rattle.std.proofs.lemmas.List.{append_cancel_left}
 use Rattle.std.proofs.lemmas.List.Elements.{All-head, All-tail}
-use Rattle.text_lines.specs.Written.{written}
 use Rattle.numbered_run.specs.Printed.{texts}
 use Rattle.bus_machine.specs.declared.lines.Line.{Line}
 use Rattle.bus_texts.specs.LineTexts.{line_text, text_of, told_words}
 use Rattle.bus_texts.specs.LineKinds.{IsLine}
 use Rattle.bus_texts.specs.Spaced.{spaced}
 use Rattle.bus_texts.proofs.Added.{written-spaced}
-use Rattle.bus_texts.proofs.Cutting.{are_plain, cut_first, cut_words}
+use Rattle.bus_texts.proofs.Cutting.{cut_first, cut_words}
 use Rattle.bus_texts.proofs.PlainWords.{decimal_plain, told_plain}
 use Rattle.bus_texts.proofs.ReadBack.{same_told}
 

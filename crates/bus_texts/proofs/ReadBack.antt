@@ -1,5 +1,5 @@
 -- The words of a line are read back as that line, so lines are told apart by their words
-use Rattle.std.proofs.Common.{◌≡◌, ℕ, ◌*◌, ◌<◌, ◌^◌, Bool, true, false, cond, Option, None, Some, Result, Ok, Err, List, [], ◌∷◌, ◌++◌, length, take, drop, refl, sym, ◌∙◌, ap, arith, append-nil, subst, inl, inr}
+use Rattle.std.proofs.Common.{◌≡◌, ℕ, ◌<◌, ◌^◌, true, false, cond, Option, None, Some, Result, Ok, Err, List, [], ◌∷◌, ◌++◌, length, take, drop, refl, sym, ◌∙◌, ap, arith, append-nil, subst, inl, inr}
 use Rattle.std.specs.Prelude.{IfSome, codes, bytes_eq}
 use Rattle.std.specs.Fmt.{decimal}
 use Rattle.std.specs.List.{flat_map, All}
@@ -21,8 +21,8 @@ use Rattle.bus_machine.specs.declared.lines.Line.{Line}
 use Rattle.bus_machine.specs.declared.lines.Line.TheVariants.{Sent, Accepted, FreshnessFailure, VerificationFailure, Keyed, Loaded, Boot, Up, Armed, NoFrame, Refused}
 use Rattle.bus_machine.specs.declared.lines.Refusal.{Refusal}
 use Rattle.bus_machine.specs.declared.lines.Refusal.TheVariants.{Down, NoRoute, BadLength, Key, Exhausted, MemoryFailure, NotFormatted, Damaged, BadSlot, BadBound}
-use Rattle.bus_texts.specs.LineTexts.{told_words, refusal_words, source_word, boot_word}
-use Rattle.bus_texts.specs.LineKinds.{IsLine, IsRefusal, IsReply}
+use Rattle.bus_texts.specs.LineTexts.{told_words, refusal_words, source_word}
+use Rattle.bus_texts.specs.LineKinds.{IsLine, IsRefusal}
 use Rattle.bus_texts.proofs.PlainWords.{read_anywhere}
 
 -- ---- reading words
