@@ -1,6 +1,6 @@
 // Nodes under their names, and what a list of them sends.
 
-ghost use Rattle.std.specs.Prelude.{◌≡◌, ◌==◌, ◌&&◌, ◌++◌};
+ghost use Rattle.std.specs.Prelude.{◌≡◌, ◌≢◌, ◌==◌, ◌&&◌, ◌++◌, IsNone, All, AllPairs};
 ghost use Rattle.std.specs.List.{list_any};
 ghost use Rattle.freshness_routes.specs.declared.routes.Direction.TheVariants.{Sends};
 ghost use Rattle.bus_machine.specs.Node.{same_direction};
@@ -18,7 +18,8 @@ pub struct NodeLine {
 
 /// The place of the first node with this name, counted from 0; `None` where there is none.
 pub fn place_named(nodes: &[NodeLine], name: &[u8]) -> Option<usize>
-    ensures { result ≡ place_of_name nodes.now name.now }
+    ensures value { result ≡ place_of_name nodes.now name.now }
+    ensures nowhere { IsNone result → All (λ node. node.name ≢ name.now) nodes.now }
 {
     nodes.iter().position(|node| node.name.bytes() == name)
 }
@@ -65,7 +66,8 @@ fn again_in(before: &[NodeLine], routes: &[Route]) -> Option<u16>
 /// The first Data ID, in the order of the nodes and of their routes, that is sent by a route and by an earlier one;
 /// `None` where each is sent by one route.
 pub fn sent_again(nodes: &[NodeLine]) -> Option<u16>
-    ensures { result ≡ first_sent_again nodes.now }
+    ensures value { result ≡ first_sent_again nodes.now }
+    ensures once { IsNone result → AllPairs (λ i j. i ≢ j) (ids_sent nodes.now) }
 {
     for (place, node) in nodes.iter().enumerate() {
         let again = again_in(&nodes[..place], node.config.routes.as_slice());

@@ -8,7 +8,7 @@ use Rattle.bus_nodes.proofs.buses.BusConfig.new.Goals as goal
 pub returns-then-is_some : goal.returns-then-is_some
 returns-then-is_some c is =
     let found = some_when c.sent_again.result (sym c.is_some.ensures ∙ c.if-is_some.true) in
-    let asked : c.sent_again.result ≡ sent_again c.args.nodes.items = c.sent_again.ensures ∙ ap sent_again c.as_slice-listed.ensures.value in
+    let asked : c.sent_again.result ≡ sent_again c.args.nodes.items = c.sent_again.ensures.value ∙ ap sent_again c.as_slice-listed.ensures.value in
     some_not_none found.0 (sym found.1 ∙ asked ∙ none_from_differ [] (ids_sent c.args.nodes.items) is.sent_once)
 
 -- what was asked of the nodes makes them a bus
@@ -20,7 +20,7 @@ made c =
     subst (λ ns. All (λ n. IsTrue (is_name n.name)) ns) listed (c.have_own_names.ensures.named c.if-not-have_own_names.false) in
     let configs : All (λ n. IsConfig n.config) nodes =
     subst (λ ns. All (λ n. IsConfig n.config) ns) listed (c.have_few_routes.ensures.configs c.if-not-have_few_routes.false) in
-    let asked : c.sent_again.result ≡ sent_again nodes = c.sent_again.ensures ∙ ap sent_again listed in
+    let asked : c.sent_again.result ≡ sent_again nodes = c.sent_again.ensures.value ∙ ap sent_again listed in
     let few : All (λ n. length n.config.routes ≤ most_routes c.args.version) c.as_slice-listed.result.now =
     subst (λ m. All (λ n. length n.config.routes ≤ m) c.as_slice-listed.result.now) c.most_routes.ensures (c.have_few_routes.ensures.few.0 c.if-not-have_few_routes.false) in
     record {

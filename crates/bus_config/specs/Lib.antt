@@ -1,0 +1,6 @@
+pub mod Values
+pub mod Rows
+pub mod BusFile
+pub mod Answers
+pub mod FaultTexts
+pub mod Heads

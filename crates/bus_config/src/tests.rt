@@ -1,0 +1,486 @@
+//! Bus files that are read, and each fault, by itself and beside those that are looked for behind it.
+use crate::{ConfigFault, config_fault_text, read_config};
+use bus_nodes::BusConfig;
+use cell_store::{Kind, Version};
+use freshness_routes::{Direction, Route};
+use std::alloc::Global;
+use std::test::Fail;
+
+const FAULTS: [(&str, ConfigFault); 75] = [
+    (r#"="#, ConfigFault::Toml),
+    ("store=\"twin\"\nstore=\"log\"", ConfigFault::Toml),
+    (r#"store=twin"#, ConfigFault::Toml),
+    (r#""#, ConfigFault::Root),
+    (
+        "bus=1\nnode=[{name=\"a\",uid=\"000000000000000000000000000001\"}]",
+        ConfigFault::Root,
+    ),
+    (
+        "store=1\nnode=[{name=\"a\",uid=\"000000000000000000000000000001\"}]",
+        ConfigFault::Root,
+    ),
+    (
+        "store=\"Twin\"\nnode=[{name=\"a\",uid=\"000000000000000000000000000001\"}]",
+        ConfigFault::Root,
+    ),
+    (
+        "store=\"twins\"\nnode=[{name=\"a\",uid=\"000000000000000000000000000001\"}]",
+        ConfigFault::Root,
+    ),
+    (
+        "version=0\nnode=[{name=\"a\",uid=\"000000000000000000000000000001\"}]",
+        ConfigFault::Root,
+    ),
+    (
+        "version=3\nnode=[{name=\"a\",uid=\"000000000000000000000000000001\"}]",
+        ConfigFault::Root,
+    ),
+    (
+        "version=\"1\"\nnode=[{name=\"a\",uid=\"000000000000000000000000000001\"}]",
+        ConfigFault::Root,
+    ),
+    (
+        "version=1.0\nnode=[{name=\"a\",uid=\"000000000000000000000000000001\"}]",
+        ConfigFault::Root,
+    ),
+    (r#"store="log""#, ConfigFault::Root),
+    (r#"node=[]"#, ConfigFault::Root),
+    (r#"node=1"#, ConfigFault::Root),
+    (r#"node={}"#, ConfigFault::Root),
+    (r#"node=[1]"#, ConfigFault::Root),
+    (
+        r#"node=[{name="a",uid="000000000000000000000000000001"},1]"#,
+        ConfigFault::Root,
+    ),
+    (
+        r#"node=[{name="n0",uid="000000000000000000000000000001"},{name="n1",uid="000000000000000000000000000001"},{name="n2",uid="000000000000000000000000000001"},{name="n3",uid="000000000000000000000000000001"},{name="n4",uid="000000000000000000000000000001"},{name="n5",uid="000000000000000000000000000001"},{name="n6",uid="000000000000000000000000000001"},{name="n7",uid="000000000000000000000000000001"},{name="n8",uid="000000000000000000000000000001"}]"#,
+        ConfigFault::Root,
+    ),
+    (
+        r#"node=[{name="a",uid="000000000000000000000000000001",key=1}]"#,
+        ConfigFault::Node(1),
+    ),
+    (
+        r#"node=[{uid="000000000000000000000000000001"}]"#,
+        ConfigFault::Node(1),
+    ),
+    (
+        r#"node=[{name=1,uid="000000000000000000000000000001"}]"#,
+        ConfigFault::Node(1),
+    ),
+    (
+        r#"node=[{name="",uid="000000000000000000000000000001"}]"#,
+        ConfigFault::Node(1),
+    ),
+    (
+        r#"node=[{name="abcdefghijklmnopq",uid="000000000000000000000000000001"}]"#,
+        ConfigFault::Node(1),
+    ),
+    (
+        r#"node=[{name="9a",uid="000000000000000000000000000001"}]"#,
+        ConfigFault::Node(1),
+    ),
+    (
+        r#"node=[{name="aB",uid="000000000000000000000000000001"}]"#,
+        ConfigFault::Node(1),
+    ),
+    (
+        r#"node=[{name="a b",uid="000000000000000000000000000001"}]"#,
+        ConfigFault::Node(1),
+    ),
+    (
+        r#"node=[{name="-a",uid="000000000000000000000000000001"}]"#,
+        ConfigFault::Node(1),
+    ),
+    (
+        r#"node=[{name="a",uid="000000000000000000000000000001"},{name="a",uid="000000000000000000000000000001"}]"#,
+        ConfigFault::Node(2),
+    ),
+    (
+        r#"node=[{name="ab",uid="000000000000000000000000000001"},{name="ac",uid="000000000000000000000000000001"},{name="ab",uid="000000000000000000000000000001"}]"#,
+        ConfigFault::Node(3),
+    ),
+    (r#"node=[{name="a"}]"#, ConfigFault::Node(1)),
+    (r#"node=[{name="a",uid=1}]"#, ConfigFault::Node(1)),
+    (
+        r#"node=[{name="a",uid="00000000000000000000000000001"}]"#,
+        ConfigFault::Node(1),
+    ),
+    (
+        r#"node=[{name="a",uid="0000000000000000000000000000001"}]"#,
+        ConfigFault::Node(1),
+    ),
+    (
+        r#"node=[{name="a",uid="000000000000000000000000000000"}]"#,
+        ConfigFault::Node(1),
+    ),
+    (
+        r#"node=[{name="a",uid="00000000000000000000000000000g"}]"#,
+        ConfigFault::Node(1),
+    ),
+    (
+        r#"node=[{name="a",uid="000000000000000000000000000001",route=1}]"#,
+        ConfigFault::Node(1),
+    ),
+    (
+        r#"node=[{name="a",uid="000000000000000000000000000001",route={}}]"#,
+        ConfigFault::Node(1),
+    ),
+    (
+        r#"node=[{name="a",uid="000000000000000000000000000001",route=[1]}]"#,
+        ConfigFault::Node(1),
+    ),
+    (
+        r#"node=[{name="a",uid="000000000000000000000000000001",route=[{id="6bc1",direction="send",slot=4},1]}]"#,
+        ConfigFault::Node(1),
+    ),
+    (
+        r#"node=[{name="a",uid="000000000000000000000000000001",route=[{id="6bc1",direction="send",slot=4,key=1}]}]"#,
+        ConfigFault::Route(1, 1),
+    ),
+    (
+        r#"node=[{name="a",uid="000000000000000000000000000001",route=[{direction="send",slot=4}]}]"#,
+        ConfigFault::Route(1, 1),
+    ),
+    (
+        r#"node=[{name="a",uid="000000000000000000000000000001",route=[{id=6,direction="send",slot=4}]}]"#,
+        ConfigFault::Route(1, 1),
+    ),
+    (
+        r#"node=[{name="a",uid="000000000000000000000000000001",route=[{id="6bc",direction="send",slot=4}]}]"#,
+        ConfigFault::Route(1, 1),
+    ),
+    (
+        r#"node=[{name="a",uid="000000000000000000000000000001",route=[{id="6bc1f",direction="send",slot=4}]}]"#,
+        ConfigFault::Route(1, 1),
+    ),
+    (
+        r#"node=[{name="a",uid="000000000000000000000000000001",route=[{id="6bcg",direction="send",slot=4}]}]"#,
+        ConfigFault::Route(1, 1),
+    ),
+    (
+        r#"node=[{name="a",uid="000000000000000000000000000001",route=[{id="6bc1",slot=4}]}]"#,
+        ConfigFault::Route(1, 1),
+    ),
+    (
+        r#"node=[{name="a",uid="000000000000000000000000000001",route=[{id="6bc1",direction=1,slot=4}]}]"#,
+        ConfigFault::Route(1, 1),
+    ),
+    (
+        r#"node=[{name="a",uid="000000000000000000000000000001",route=[{id="6bc1",direction="sends",slot=4}]}]"#,
+        ConfigFault::Route(1, 1),
+    ),
+    (
+        r#"node=[{name="a",uid="000000000000000000000000000001",route=[{id="6bc1",direction="Send",slot=4}]}]"#,
+        ConfigFault::Route(1, 1),
+    ),
+    (
+        r#"node=[{name="a",uid="000000000000000000000000000001",route=[{id="6bc1",direction="send"}]}]"#,
+        ConfigFault::Route(1, 1),
+    ),
+    (
+        r#"node=[{name="a",uid="000000000000000000000000000001",route=[{id="6bc1",direction="send",slot=3}]}]"#,
+        ConfigFault::Route(1, 1),
+    ),
+    (
+        r#"node=[{name="a",uid="000000000000000000000000000001",route=[{id="6bc1",direction="send",slot=14}]}]"#,
+        ConfigFault::Route(1, 1),
+    ),
+    (
+        r#"node=[{name="a",uid="000000000000000000000000000001",route=[{id="6bc1",direction="send",slot="4"}]}]"#,
+        ConfigFault::Route(1, 1),
+    ),
+    (
+        r#"node=[{name="a",uid="000000000000000000000000000001",route=[{id="6bc1",direction="send",slot=4.0}]}]"#,
+        ConfigFault::Route(1, 1),
+    ),
+    (
+        r#"node=[{name="a",uid="000000000000000000000000000001",route=[{id="6bc1",direction="send",slot=-4}]}]"#,
+        ConfigFault::Route(1, 1),
+    ),
+    (
+        r#"node=[{name="a",uid="000000000000000000000000000001",route=[{id="6bc1",direction="send",slot=260}]}]"#,
+        ConfigFault::Route(1, 1),
+    ),
+    (
+        r#"node=[{name="a",uid="000000000000000000000000000001",route=[{id="6bc1",direction="send",slot=65540}]}]"#,
+        ConfigFault::Route(1, 1),
+    ),
+    (
+        r#"node=[{name="a",uid="000000000000000000000000000001",route=[{id="6bc1",direction="send",slot=4,reserve=0}]}]"#,
+        ConfigFault::Route(1, 1),
+    ),
+    (
+        r#"node=[{name="a",uid="000000000000000000000000000001",route=[{id="6bc1",direction="send",slot=4,reserve=129}]}]"#,
+        ConfigFault::Route(1, 1),
+    ),
+    (
+        r#"node=[{name="a",uid="000000000000000000000000000001",route=[{id="6bc1",direction="send",slot=4,reserve="1"}]}]"#,
+        ConfigFault::Route(1, 1),
+    ),
+    (
+        r#"node=[{name="a",uid="000000000000000000000000000001",route=[{id="6bc1",direction="receive",slot=4,window=0}]}]"#,
+        ConfigFault::Route(1, 1),
+    ),
+    (
+        r#"node=[{name="a",uid="000000000000000000000000000001",route=[{id="6bc1",direction="receive",slot=4,window=257}]}]"#,
+        ConfigFault::Route(1, 1),
+    ),
+    (
+        r#"node=[{name="a",uid="000000000000000000000000000001",route=[{id="6bc1",direction="receive",slot=4,window=true}]}]"#,
+        ConfigFault::Route(1, 1),
+    ),
+    (
+        r#"node=[{name="a",uid="000000000000000000000000000001",route=[{id="6bc1",direction="send",slot=4,window=256}]}]"#,
+        ConfigFault::Route(1, 1),
+    ),
+    (
+        r#"node=[{name="a",uid="000000000000000000000000000001",route=[{id="6bc1",direction="send",slot=4,window=16}]}]"#,
+        ConfigFault::Route(1, 1),
+    ),
+    (
+        r#"node=[{name="a",uid="000000000000000000000000000001",route=[{id="6bc1",direction="send",slot=4,start="e93d7e117393172"}]}]"#,
+        ConfigFault::Route(1, 1),
+    ),
+    (
+        r#"node=[{name="a",uid="000000000000000000000000000001",route=[{id="6bc1",direction="send",slot=4,start=1}]}]"#,
+        ConfigFault::Route(1, 1),
+    ),
+    (
+        r#"node=[{name="a",uid="000000000000000000000000000001",route=[{id="6bc1",direction="send",slot=4,start="e93d7e117393172g"}]}]"#,
+        ConfigFault::Route(1, 1),
+    ),
+    (
+        r#"node=[{name="a",uid="000000000000000000000000000001",route=[{id="6bc1",direction="send",slot=4},{id="6bc1",direction="receive",slot=4}]}]"#,
+        ConfigFault::Route(1, 2),
+    ),
+    (
+        r#"node=[{name="a",uid="000000000000000000000000000001",route=[{id="6bc1",direction="send",slot=4},{id="7bc1",direction="send",slot=4},{id="6bc1",direction="send",slot=4}]}]"#,
+        ConfigFault::Route(1, 3),
+    ),
+    (
+        r#"node=[{name="a",uid="000000000000000000000000000001",route=[{id="6bc1",direction="send",slot=4},{id="6BC1",direction="receive",slot=4}]}]"#,
+        ConfigFault::Route(1, 2),
+    ),
+    (
+        r#"node=[{name="a",uid="000000000000000000000000000001",route=[{id="6bc1",direction="send",slot=4}]},{name="b",uid="000000000000000000000000000001",route=[{id="6bc1",direction="send",slot=4}]}]"#,
+        ConfigFault::Sender(0x6bc1),
+    ),
+    (
+        r#"node=[{name="a",uid="000000000000000000000000000001",route=[{id="1111",direction="send",slot=4},{id="2222",direction="send",slot=4}]},{name="b",uid="000000000000000000000000000001",route=[{id="2222",direction="send",slot=4},{id="1111",direction="send",slot=4}]}]"#,
+        ConfigFault::Sender(0x2222),
+    ),
+    (
+        r#"node=[{name="a",uid="000000000000000000000000000001",route=[{id="1111",direction="send",slot=4}]},{name="b",uid="000000000000000000000000000001",route=[{id="1111",direction="receive",slot=4},{id="2222",direction="send",slot=4}]},{name="c",uid="000000000000000000000000000001",route=[{id="2222",direction="send",slot=4}]}]"#,
+        ConfigFault::Sender(0x2222),
+    ),
+];
+
+// Two faults, of which the first that is looked for is answered.
+const TWO_FAULTS: [(&str, ConfigFault); 13] = [
+    ("bus=1\n=", ConfigFault::Toml),
+    ("store=\"log\"\nversion=3\nnode=[]\nuid=", ConfigFault::Toml),
+    (
+        "version=3\nnode=[{name=\"A\",uid=\"000000000000000000000000000001\"}]",
+        ConfigFault::Root,
+    ),
+    (
+        r#"node=[{name="A",uid="000000000000000000000000000001"},{name="n0",uid="000000000000000000000000000001"},{name="n1",uid="000000000000000000000000000001"},{name="n2",uid="000000000000000000000000000001"},{name="n3",uid="000000000000000000000000000001"},{name="n4",uid="000000000000000000000000000001"},{name="n5",uid="000000000000000000000000000001"},{name="n6",uid="000000000000000000000000000001"},{name="n7",uid="000000000000000000000000000001"}]"#,
+        ConfigFault::Root,
+    ),
+    (
+        r#"node=[{name="A",uid="000000000000000000000000000001"},{name="B",uid="000000000000000000000000000001"}]"#,
+        ConfigFault::Node(1),
+    ),
+    (
+        r#"node=[{name="A",uid="000000000000000000000000000001",route=[{id="6bc1",direction="send",slot=3}]}]"#,
+        ConfigFault::Node(1),
+    ),
+    (
+        r#"node=[{name="a",uid="000000000000000000000000000001",route=[{id="6bc1",direction="send",slot=3}]},{name="B",uid="000000000000000000000000000001"}]"#,
+        ConfigFault::Route(1, 1),
+    ),
+    (
+        r#"node=[{name="a",uid="000000000000000000000000000001"},{name="B",uid="000000000000000000000000000001",route=[{id="6bc1",direction="send",slot=3}]},{name="c",uid="000000000000000000000000000001",route=[{id="6bc1",direction="send",slot=3}]}]"#,
+        ConfigFault::Node(2),
+    ),
+    (
+        r#"node=[{name="a",uid="000000000000000000000000000001",route=[{id="6bc1",direction="send",slot=3},{id="6bc1",direction="send",slot=3}]}]"#,
+        ConfigFault::Route(1, 1),
+    ),
+    (
+        r#"node=[{name="a",uid="000000000000000000000000000001",route=[{id="6bc1",direction="send",slot=4},{id="6bc1",direction="send",slot=4},{id="6bc1",direction="send",slot=3}]}]"#,
+        ConfigFault::Route(1, 2),
+    ),
+    (
+        r#"node=[{name="a",uid="000000000000000000000000000001",route=[{id="6bc1",direction="send",slot=3}]},{name="b",uid="000000000000000000000000000001",route=[{id="6bc1",direction="send",slot=3}]}]"#,
+        ConfigFault::Route(1, 1),
+    ),
+    (
+        r#"node=[{name="a",uid="000000000000000000000000000001",route=[{id="6bc1",direction="send",slot=4}]},{name="b",uid="000000000000000000000000000001",route=[{id="6bc1",direction="send",slot=4},{id="7bc1",direction="send",slot=3}]}]"#,
+        ConfigFault::Route(2, 2),
+    ),
+    (
+        r#"node=[{name="a",uid="000000000000000000000000000001",route=[{id="6bc1",direction="send",slot=4}]},{name="b",uid="000000000000000000000000000001",route=[{id="6bc1",direction="send",slot=4}]},{name="B",uid="000000000000000000000000000001"}]"#,
+        ConfigFault::Node(3),
+    ),
+];
+
+const READ: [&str; 18] = [
+    r#"node=[{name="a",uid="000000000000000000000000000001"}]"#,
+    "store=\"twin\"\nversion=1\nnode=[{name=\"a\",uid=\"000000000000000000000000000001\"}]",
+    "store=\"log\"\nversion=2\nnode=[{name=\"a\",uid=\"000000000000000000000000000001\"}]",
+    r#"node=[{name="abcdefghijklmnop",uid="000000000000000000000000000001"}]"#,
+    r#"node=[{name="a-_9z",uid="000000000000000000000000000001"}]"#,
+    r#"node=[{name="a",uid="000000000000000000000000000001"},{name="b",uid="000000000000000000000000000001"}]"#,
+    r#"node=[{name="n0",uid="000000000000000000000000000001"},{name="n1",uid="000000000000000000000000000001"},{name="n2",uid="000000000000000000000000000001"},{name="n3",uid="000000000000000000000000000001"},{name="n4",uid="000000000000000000000000000001"},{name="n5",uid="000000000000000000000000000001"},{name="n6",uid="000000000000000000000000000001"},{name="n7",uid="000000000000000000000000000001"}]"#,
+    r#"node=[{name="a",uid="000000000000000000000000000001",route=[]}]"#,
+    r#"node=[{name="a",uid="FFFFFFFFFFFFFFFFFFFFFFFFFFFFFF"}]"#,
+    r#"node=[{name="a",uid="000000000000000000000000000001",route=[{id="6bc1",direction="send",slot=13,reserve=128}]}]"#,
+    r#"node=[{name="a",uid="000000000000000000000000000001",route=[{id="6bc1",direction="send",slot=4,reserve=1}]}]"#,
+    r#"node=[{name="a",uid="000000000000000000000000000001",route=[{id="6bc1",direction="receive",slot=4,window=1}]}]"#,
+    r#"node=[{name="a",uid="000000000000000000000000000001",route=[{id="6bc1",direction="receive",slot=4,window=256,reserve=128,start="FFFFFFFFFFFFFFFF"}]}]"#,
+    r#"node=[{name="a",uid="000000000000000000000000000001",route=[{id="6bc1",direction="send",slot=4},{id="7bc1",direction="receive",slot=4}]},{name="b",uid="000000000000000000000000000001",route=[{id="6bc1",direction="receive",slot=4},{id="7bc1",direction="send",slot=4}]}]"#,
+    r#"node=[{name="a",uid="000000000000000000000000000001",route=[{id="6bc1",direction="receive",slot=4}]},{name="b",uid="000000000000000000000000000001",route=[{id="6bc1",direction="receive",slot=4}]}]"#,
+    "# a bus\r\nstore = 'log' # of cells\r\n\r\n[[node]]\r\nname = 'left'\r\nuid = '000000000000000000000000000001'\r\nroute = [\r\n  { id = '6BC1', direction = 'send', slot = 0x4 }, # the brakes\r\n]\r\n",
+    "[[node]]\n  \"name\" = \"\"\"left\"\"\"\n  uid = \"000000000000000000000000000001\"\n[[ node . route ]]\n  id = \"6bc\\u0031\"\n  direction = \"receive\"\n  slot = 0b100\n  reserve = 1_6\n  window = 0x10\n",
+    "[[node]]\nname = \"left\"\nuid = \"000000000000000000000000000001\"\n\n[[node.route]]\nid = \"6bc1\"\ndirection = \"send\"\nslot = 0o4\n",
+];
+
+// A bus of two nodes, the left of which sends what the right receives.
+const BUS: &str =
+    "[[node]]\nname = \"left\"\nuid = \"000000000000000000000000000001\"\n[[node.route]]\nid = \"6bc1\"\ndirection = \"send\"\nslot = 4\nreserve = 4\nstart = \"e93d7e1173931729\"\n[[node]]\nname = \"right\"\nuid = \"000000000000000000000000000002\"\n[[node.route]]\nid = \"6bc1\"\ndirection = \"receive\"\nslot = 4\nstart = \"e93d7e1173931729\"\n";
+
+const TEXTS: [(ConfigFault, &str); 7] = [
+    (ConfigFault::Toml, "config: toml\n"),
+    (ConfigFault::Root, "config: root\n"),
+    (ConfigFault::Node(8), "config: node 8\n"),
+    (ConfigFault::Route(2, 256), "config: route 2 256\n"),
+    (ConfigFault::Sender(0x6bc1), "config: sender 6bc1\n"),
+    (ConfigFault::Sender(0x0a), "config: sender 000a\n"),
+    (ConfigFault::Sender(0xffff), "config: sender ffff\n"),
+];
+
+#[test]
+fn each_fault_is_told(rt: HostRuntime) {
+    for (text, fault) in &FAULTS {
+        let told = read_config(rt.alloc(), text.as_bytes()).err();
+        assert_eq!(rt; told, Some(*fault), "{text}");
+    }
+}
+
+#[test]
+fn the_first_of_two_faults_is_told(rt: HostRuntime) {
+    for (text, fault) in &TWO_FAULTS {
+        let told = read_config(rt.alloc(), text.as_bytes()).err();
+        assert_eq!(rt; told, Some(*fault), "{text}");
+    }
+}
+
+#[test]
+fn bytes_that_are_no_text_are_no_document(rt: HostRuntime) {
+    let told = read_config(rt.alloc(), b"store = \"\xff\"").err();
+    assert_eq!(rt; told, Some(ConfigFault::Toml));
+}
+
+#[test]
+fn buses_are_read(rt: HostRuntime) {
+    for text in &READ {
+        let told = read_config(rt.alloc(), text.as_bytes()).err();
+        assert_eq!(rt; told, None, "{text}");
+    }
+}
+
+fn bus_of(alloc: Global, text: &str) -> Result<BusConfig, Fail> {
+    match read_config(alloc, text.as_bytes()) {
+        Ok(bus) => Ok(bus),
+        Err(_) => Err("no bus".into()),
+    }
+}
+
+#[test]
+fn what_is_told_is_in_the_bus(rt: HostRuntime) -> Result<(), Fail> {
+    let bus = bus_of(rt.alloc(), BUS)?;
+    assert!(rt; bus.kind() == Kind::Twin && bus.version() == Version::One);
+    assert_eq!(rt; bus.nodes().len(), 2);
+    assert_eq!(rt; bus.find(b"right"), Some(1));
+    let left = &bus.nodes()[0];
+    assert!(rt; left.name.bytes() == b"left".as_slice());
+    assert!(rt; *left.config.uid.bytes() == [0, 0, 0, 0, 0, 0, 0, 0, 0, 0, 0, 0, 0, 0, 1]);
+    let sent = left.config.routes.as_slice()[0];
+    assert_eq!(rt; sent.id, 0x6bc1);
+    assert_eq!(rt; sent.direction, Direction::Sends);
+    assert_eq!(rt; sent.slot.number(), 4);
+    assert_eq!(rt; (sent.reserve, sent.window), (4, 256));
+    assert_eq!(rt; sent.start, 0xe93d_7e11_7393_1729);
+    let heard = bus.nodes()[1].config.routes.as_slice()[0];
+    assert_eq!(rt; heard.direction, Direction::Receives);
+    assert_eq!(rt; (heard.reserve, heard.window), (1, 256));
+    let spare = bus_of(
+        rt.alloc(),
+        r#"store="log"
+version=2
+node=[{name="a",uid="0000000000000000000000000000Ab",route=[{id="000F",direction="receive",slot=0xd,window=16}]}]"#,
+    )?;
+    assert!(rt; spare.kind() == Kind::Log && spare.version() == Version::Two);
+    let config = &spare.nodes()[0].config;
+    assert_eq!(rt; config.uid.bytes()[14], 0xab);
+    let route = config.routes.as_slice()[0];
+    assert_eq!(rt; (route.id, route.slot.number()), (15, 13));
+    assert_eq!(rt; (route.reserve, route.window), (1, 16));
+    assert_eq!(rt; route.start, 0);
+    Ok(())
+}
+
+#[test]
+fn each_fault_has_its_text(rt: HostRuntime) -> Result<(), Fail> {
+    for (fault, text) in &TEXTS {
+        let told = config_fault_text(rt.alloc(), fault).map_err(|_| "no memory")?;
+        assert_eq!(rt; told.as_str(), *text);
+    }
+    assert!(rt; config_fault_text(rt.alloc(), &ConfigFault::Memory).is_err());
+    Ok(())
+}
+
+// A bus of nodes with this number of routes each, all of which receive but those of the first node.
+fn wide(alloc: Global, version: u8, nodes: u16, routes: u16) -> Result<String, Fail> {
+    let mut text = format!(in alloc; "version = {version}\n")?;
+    for node in 0..nodes {
+        let head = format!(in alloc;
+            "[[node]]\nname = \"n{node}\"\nuid = \"000000000000000000000000000001\"\n"
+        )?;
+        text.push_str(head.as_str())?;
+        for id in 0..routes {
+            let direction = if node == 0 { "send" } else { "receive" };
+            let row = format!(in alloc;
+                "[[node.route]]\nid = \"{id:04x}\"\ndirection = \"{direction}\"\nslot = 4\n"
+            )?;
+            text.push_str(row.as_str())?;
+        }
+    }
+    Ok(text)
+}
+
+#[test]
+fn nodes_have_as_many_routes_as_their_version_has(rt: HostRuntime) -> Result<(), Fail> {
+    for (version, nodes, routes, fault) in [
+        (1, 8, 64, None),
+        (1, 1, 65, Some(ConfigFault::Node(1))),
+        (2, 1, 65, None),
+        (2, 8, 256, None),
+        (2, 1, 257, Some(ConfigFault::Node(1))),
+        (1, 1, 257, Some(ConfigFault::Node(1))),
+    ] {
+        let text = wide(rt.alloc(), version, nodes, routes)?;
+        match read_config(rt.alloc(), text.as_bytes()) {
+            Ok(bus) => {
+                assert_eq!(rt; fault, None, "{version} {nodes} {routes}");
+                assert_eq!(rt; bus.nodes().len(), nodes as usize);
+                let read = bus.nodes()[0].config.routes.as_slice();
+                assert_eq!(rt; read.len(), routes as usize);
+            }
+            Err(told) => assert_eq!(rt; Some(told), fault, "{version} {nodes} {routes}"),
+        }
+    }
+    Ok(())
+}
