@@ -1,4 +1,4 @@
 mod Sending
 mod Again
 mod Machine
-mod Named
+pub mod Named

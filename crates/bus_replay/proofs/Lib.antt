@@ -1,3 +1,4 @@
+pub mod Canonical
 pub mod Each
 pub mod Judged
 pub mod Phases

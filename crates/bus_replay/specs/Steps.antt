@@ -1,5 +1,6 @@
 -- What the steps of the work say to one another.
 use Rattle.std.specs.Prelude.{◌≡◌, ◌⊎◌, ℕ, Some, List, ◌++◌, All, Result, Ok, Err, Vec, string_bytes}
+use Rattle.std.specs.List.{flat_map}
 use Rattle.std.specs.declared.alloc.Global.{Global}
 use Rattle.bus_port.specs.Source.{SourceState}
 use Rattle.bus_port.specs.Sink.{SinkState}
@@ -10,15 +11,24 @@ use Rattle.text_lines.specs.declared.judges.JudgeLine.{JudgeLine}
 use Rattle.text_lines.specs.Frames.{frames_of, judges_of}
 use Rattle.text_lines.specs.Readings.{Fault}
 use Rattle.text_lines.specs.Texts.{fault_text_of}
+use Rattle.bus_nodes.specs.Buses.{NamedBus}
+use Rattle.bus_config.specs.declared.fault.ConfigFault.{ConfigFault}
+use Rattle.bus_config.specs.BusFile.{bus_of}
+use Rattle.bus_config.specs.FaultTexts.{config_fault_text}
+use Rattle.bus_machine.specs.declared.events.Event.{Event}
+use Rattle.bus_script.specs.EventForms.{events_of}
+use Rattle.bus_script.specs.ScriptEvents.{IsScriptEvent}
+use Rattle.bus_script.specs.Canon.{canon}
 use Rattle.bus_replay.specs.declared.job.Job.{Job}
-use Rattle.bus_replay.specs.declared.job.Job.TheVariants.{Frames, Judgements}
+use Rattle.bus_replay.specs.declared.job.Job.TheVariants.{Frames, Judgements, Events}
+use Rattle.bus_replay.specs.declared.task.Task.{Task}
+use Rattle.bus_replay.specs.declared.task.Task.TheVariants.{Frame, Judge, Check}
 use Rattle.bus_replay.specs.declared.words.Command.{Command}
-use Rattle.bus_replay.specs.declared.words.Command.TheVariants.{Frame, Judge}
 use Rattle.bus_replay.specs.declared.refusal.Refusal.{Refusal}
-use Rattle.bus_replay.specs.declared.refusal.Refusal.TheVariants.{Usage, ReadFault, TooLong, Script, Memory}
+use Rattle.bus_replay.specs.declared.refusal.Refusal.TheVariants.{Usage, ReadFault, TooLong, Config, Script, Memory}
 use Rattle.bus_replay.specs.Texts.{TellsEach, TellsFrame, TellsJudgement, fault_of}
 use Rattle.bus_replay.specs.Refusals.{refusal_status, refusal_text}
-use Rattle.bus_replay.specs.Answers.{Answer, answer_status, answer_text, Comes, Over}
+use Rattle.bus_replay.specs.Answers.{Answer, answer_status, answer_text, Inputs, inputs, Comes, Over, SetsTask}
 
 -- the line's payload has 1 to 60 bytes
 abbrev pub HasPayload : FrameLine → Type 0
@@ -39,47 +49,72 @@ RefusesLines meaning Memory = Unit {0}
 RefusesLines meaning Usage = ⊥
 RefusesLines meaning ReadFault = ⊥
 RefusesLines meaning TooLong = ⊥
+RefusesLines meaning (Config text) = ⊥
 
 -- the lines are those that the input has, each of them whole, or they are refused
 abbrev pub ReadsLines : {A : Type 0} → (A → Type 0) → Result (List A) Fault → Result (Vec A Global) Refusal → Type 0
 ReadsLines P meaning (Ok lines) = (meaning ≡ Ok lines.items) × All P lines.items
 ReadsLines P meaning (Err refusal) = RefusesLines meaning refusal
 
+-- the bus is the one that a bus file has, or the file is refused
+abbrev pub ReadsBusFile : List ℕ → Result NamedBus Refusal → Type 0
+ReadsBusFile text (Ok bus) = bus_of text ≡ Ok bus
+ReadsBusFile text (Err (Config told)) =
+    (fault : ConfigFault) × (bus_of text ≡ Err fault) × (config_fault_text fault ≡ Some (string_bytes told))
+ReadsBusFile text (Err Memory) = Unit {0}
+ReadsBusFile text (Err Usage) = ⊥
+ReadsBusFile text (Err ReadFault) = ⊥
+ReadsBusFile text (Err TooLong) = ⊥
+ReadsBusFile text (Err (Script told)) = ⊥
+
 -- each line of the job is whole
 abbrev pub IsWholeJob : Job → Type 0
 IsWholeJob (Frames lines) = All HasPayload lines.items
 IsWholeJob (Judgements lines) = All IsAny lines.items
+IsWholeJob (Events bus events) = All (IsScriptEvent bus.nodes) events.items
 
--- the job is what the command is to do with the input
-abbrev pub IsJobOf : Command → List ℕ → Job → Type 0
+-- the job is what the task is to do with the input
+abbrev pub IsJobOf : Task → List ℕ → Job → Type 0
 IsJobOf Frame input (Frames lines) = frames_of input ≡ Ok lines.items
-IsJobOf Judge input (Judgements lines) = judges_of input ≡ Ok lines.items
 IsJobOf Frame input (Judgements lines) = ⊥
+IsJobOf Frame input (Events bus events) = ⊥
 IsJobOf Judge input (Frames lines) = ⊥
+IsJobOf Judge input (Judgements lines) = judges_of input ≡ Ok lines.items
+IsJobOf Judge input (Events bus events) = ⊥
+IsJobOf (Check bus) input (Frames lines) = ⊥
+IsJobOf (Check bus) input (Judgements lines) = ⊥
+IsJobOf (Check bus) input (Events over events) = (over ≡ bus) × (events_of bus.nodes input ≡ Ok events.items)
 
 -- the text is what the job prints
 abbrev pub TellsJob : Job → List ℕ → Type 0
 TellsJob (Frames lines) text = TellsEach TellsFrame lines.items text
 TellsJob (Judgements lines) text = TellsEach TellsJudgement lines.items text
+TellsJob (Events bus events) text = text ≡ flat_map (canon bus.nodes) events.items
 
--- the job of a command over an input, or the refusal of a line
-abbrev pub JobOf : Command → List ℕ → Result Job Refusal → Type 0
-JobOf command input (Ok job) = IsWholeJob job × IsJobOf command input job
-JobOf command input (Err (Script text)) = (fault : Fault) × (fault_of command input ≡ Some fault) × (string_bytes text ≡ fault_text_of fault)
-JobOf command input (Err Memory) = Unit {0}
-JobOf command input (Err Usage) = ⊥
-JobOf command input (Err ReadFault) = ⊥
-JobOf command input (Err TooLong) = ⊥
+-- the job of a task over an input, or the refusal of a line
+abbrev pub JobOf : Task → List ℕ → Result Job Refusal → Type 0
+JobOf task input (Ok job) = IsWholeJob job × IsJobOf task input job
+JobOf task input (Err (Script text)) = (fault : Fault) × (fault_of task input ≡ Some fault) × (string_bytes text ≡ fault_text_of fault)
+JobOf task input (Err Memory) = Unit {0}
+JobOf task input (Err Usage) = ⊥
+JobOf task input (Err ReadFault) = ⊥
+JobOf task input (Err TooLong) = ⊥
+JobOf task input (Err (Config text)) = ⊥
 
 -- a refusal prints the text of a row that comes, and has its status
-abbrev pub Refuses : List (List ℕ) → SourceState → SourceState → Refusal → Type 0
-Refuses words before after refusal =
-    (answer : Answer) × Comes words before after answer × (refusal_text refusal ≡ answer_text answer) × (refusal_status refusal ≡ answer_status answer)
+abbrev pub Refuses : List (List ℕ) → Inputs → Refusal → Type 0
+Refuses words i refusal =
+    (answer : Answer) × Comes words i answer × (refusal_text refusal ≡ answer_text answer) × (refusal_status refusal ≡ answer_status answer)
+
+-- the task that the words and the bus file give, or a refusal, whatever the source of the lines is that stays as it was
+abbrev pub SetsOrRefuses : List (List ℕ) → SourceState → SourceState → Result Task Refusal → Type 0
+SetsOrRefuses words before after (Ok task) = SetsTask words before after task
+SetsOrRefuses words before after (Err refusal) = (script : SourceState) → Refuses words (inputs before after script script) refusal
 
 -- how the first phase ends: in a job over the whole input, or in a refusal
-abbrev pub Prepares : List (List ℕ) → SourceState → SourceState → Result Job Refusal → Type 0
-Prepares words before after (Ok job) = IsWholeJob job × Over words before after (λ command input. IsJobOf command input job)
-Prepares words before after (Err refusal) = Refuses words before after refusal
+abbrev pub Prepares : List (List ℕ) → Inputs → Result Job Refusal → Type 0
+Prepares words i (Ok job) = IsWholeJob job × Over words i (λ task input. IsJobOf task input job)
+Prepares words i (Err refusal) = Refuses words i refusal
 
 -- how the second phase ends: the whole text of the job is told, or there was no memory for it
 abbrev pub DoesJob : Job → SinkState → SinkState → ℕ → Type 0

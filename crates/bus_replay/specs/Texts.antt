@@ -1,5 +1,6 @@
--- What the commands print of an input, in lower-case digits, each line with its line feed.
+-- What the tasks print of an input, in lower-case digits, each line with its line feed.
 use Rattle.std.specs.Prelude.{◌≡◌, ◌⊎◌, ℕ, List, [], ◌∷◌, ◌++◌, Option, Ok, codes}
+use Rattle.std.specs.List.{flat_map}
 use Rattle.std.specs.Result.{result_err}
 use Rattle.hex.specs.Hex.{encode_lower}
 use Rattle.secured_pdu.specs.Frame.{Secured, IsFrame}
@@ -9,8 +10,11 @@ use Rattle.text_lines.specs.declared.judges.JudgeLine.{JudgeLine}
 use Rattle.text_lines.specs.Frames.{frames_of, judges_of}
 use Rattle.text_lines.specs.Readings.{Fault}
 use Rattle.text_lines.specs.Texts.{line, outcome_text, bad_length_text}
-use Rattle.bus_replay.specs.declared.words.Command.{Command}
-use Rattle.bus_replay.specs.declared.words.Command.TheVariants.{Frame, Judge}
+use Rattle.bus_machine.specs.declared.events.Event.{Event}
+use Rattle.bus_script.specs.EventForms.{events_of}
+use Rattle.bus_script.specs.Canon.{canon}
+use Rattle.bus_replay.specs.declared.task.Task.{Task}
+use Rattle.bus_replay.specs.declared.task.Task.TheVariants.{Frame, Judge, Check}
 
 -- the line of words that is printed where the words are of no form
 abbrev pub usage : List ℕ
@@ -32,12 +36,15 @@ TellsEach Tells [] text = text ≡ []
 TellsEach Tells (l ∷ lines) text =
     (first rest : List ℕ) × Tells l first × TellsEach Tells lines rest × (text ≡ first ++ rest)
 
--- the text is what a command prints of an input
-abbrev pub Prints : Command → List ℕ → List ℕ → Type 0
+-- the text is what a task prints of an input
+abbrev pub Prints : Task → List ℕ → List ℕ → Type 0
 Prints Frame input text = (lines : List FrameLine) × (frames_of input ≡ Ok lines) × TellsEach TellsFrame lines text
 Prints Judge input text = (lines : List JudgeLine) × (judges_of input ≡ Ok lines) × TellsEach TellsJudgement lines text
+Prints (Check bus) input text =
+    (events : List Event) × (events_of bus.nodes input ≡ Ok events) × (text ≡ flat_map (canon bus.nodes) events)
 
 -- the first fault of an input, if it has one
-abbrev pub fault_of : Command → List ℕ → Option Fault
+abbrev pub fault_of : Task → List ℕ → Option Fault
 fault_of Frame input = result_err (frames_of input)
 fault_of Judge input = result_err (judges_of input)
+fault_of (Check bus) input = result_err (events_of bus.nodes input)

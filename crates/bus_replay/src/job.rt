@@ -2,34 +2,42 @@
 ghost use Rattle.std.specs.Prelude.{◌<◌, ◌^◌, length, IfOk};
 ghost use Rattle.bus_replay.specs.Steps.{JobOf};
 
+use crate::events::canonical;
 use crate::questions::{answers, questions};
 use crate::refusal::Refusal;
-use crate::words::Command;
+use crate::task::Task;
+use bus_nodes::BusConfig;
+use bus_script::{Event, FrameLine, JudgeLine, read_script};
 use std::alloc::{AllocError, Global};
-use text_lines::{FrameLine, JudgeLine};
 
 /// What is to be done.
-#[derive(Debug, Drop)]
+#[derive(Drop)]
 pub enum Job {
     /// Print the Secured I-PDU of each line.
     Frames(Vec<FrameLine>),
     /// Print the verdict on the PDU of each line.
     Judgements(Vec<JudgeLine>),
+    /// Print the events, which are of this bus, in canonical form.
+    Events(BusConfig, Vec<Event>),
 }
 
-/// The job of a command over its whole input, or the refusal of a line.
-pub fn job_of(alloc: Global, command: Command, input: &[u8]) -> Result<Job, Refusal>
+/// The job of a task over its whole input, or the refusal of a line.
+pub fn job_of(alloc: Global, task: Task, input: &[u8]) -> Result<Job, Refusal>
     requires { length input.now < 2 ^ 32 }
-    ensures { JobOf command input.now result }
+    ensures { JobOf task input.now result }
 {
-    match command {
-        Command::Frame => match questions(alloc, input) {
+    match task {
+        Task::Frame => match questions(alloc, input) {
             Ok(lines) => Ok(Job::Frames(lines)),
             Err(refusal) => Err(refusal),
         },
-        Command::Judge => match questions(alloc, input) {
+        Task::Judge => match questions(alloc, input) {
             Ok(lines) => Ok(Job::Judgements(lines)),
             Err(refusal) => Err(refusal),
+        },
+        Task::Check(bus) => match read_script(alloc, input, &bus) {
+            Ok(events) => Ok(Job::Events(bus, events)),
+            Err(fault) => Err(Refusal::of_line(alloc, fault)),
         },
     }
 }
@@ -45,6 +53,7 @@ impl Job {
         match self {
             Job::Frames(lines) => answers(alloc, lines.as_slice()),
             Job::Judgements(lines) => answers(alloc, lines.as_slice()),
+            Job::Events(bus, events) => canonical(alloc, bus, events.as_slice()),
         }
     }
 }

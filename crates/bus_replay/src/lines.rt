@@ -3,11 +3,11 @@ ghost use Rattle.std.specs.Prelude.{OnOk};
 ghost use Rattle.bus_replay.specs.Texts.{TellsFrame, TellsJudgement};
 ghost use Rattle.bus_replay.specs.Steps.{HasPayload, Adds};
 
+use bus_script::{FrameLine, JudgeLine};
 use secured_pdu::{build, judge, split};
 use she_aes::expand;
 use std::alloc::AllocError;
 use text_lines::verdicts::{push_bad_length, push_digits, push_outcome};
-use text_lines::{FrameLine, JudgeLine};
 
 /// Adds the answer of a line of `frame`.
 pub fn push_frame(text: &mut Vec<u8>, line: &FrameLine) -> Result<(), AllocError>

@@ -1,14 +1,16 @@
-//! `bus_replay`: Secured I-PDUs and verdicts (AUTOSAR SecOC, profile 1) from lines of text.
+//! `bus_replay`: Secured I-PDUs and verdicts (AUTOSAR SecOC, profile 1) from lines of text, and scripts of a bus.
 //!
 //! [`run::run`] is the program; its clauses say what each status means and what is printed. This file makes the objects
-//! that it works on: standard output, and standard input or the file that the words name.
+//! that it works on: standard output, and standard input or the files that the words name.
 #![tactic(auto)]
 
+mod events;
 mod job;
 mod lines;
 mod questions;
 mod refusal;
 mod run;
+mod task;
 #[cfg(test)]
 mod tests;
 mod words;
@@ -17,11 +19,14 @@ ghost use Rattle.std.specs.Prelude.{◌≡◌, ◌⊎◌, drop, map, string_byte
 ghost use Rattle.bus_replay.specs.Words.{AsksNothing};
 
 use crate::run::run;
-use crate::words::script_word;
-use bus_port::StdSink;
-use command_edge::{NO_MEMORY, behind_name, open_named, words_of};
+use crate::words::{config_word, script_word};
+use bus_port::{StdSink, StdSource};
+use command_edge::{NO_MEMORY, NamedSource, behind_name, open_named, words_of};
+use cut_disk::MemDisk;
 use std::alloc::AllocError;
+use std::io::Read;
 use std::process::ExitCode;
+use std::rt::Files;
 
 fn main(rt: HostRuntime) -> ExitCode {
     let status = match words_of(&rt) {
@@ -31,14 +36,31 @@ fn main(rt: HostRuntime) -> ExitCode {
     ExitCode::from(status)
 }
 
-/// Runs the words of the command line, the program's name first, over standard output and the source that they name.
+/// Runs the words of the command line, the program's name first, over standard output and the sources that they name.
 /// No file is opened before the words are known to ask for a command.
 fn start(rt: &HostRuntime, words: &[String]) -> u8
     ensures usage { result ≡ 2 → AsksNothing (drop 1 (map string_bytes words.now)) }
     ensures usage_only { AsksNothing (drop 1 (map string_bytes words.now)) → (result ≡ 2) ⊎ (result ≡ 6) }
 {
     let words = behind_name(words);
-    let mut script = open_named(rt, rt.stdin(), script_word(words));
+    let mut config = open(rt, rt.stdin(), config_word(words));
+    let mut script = open(rt, rt.stdin(), script_word(words));
     let mut sink = StdSink::new(rt.stdout());
-    run(rt.alloc(), words, &mut script, &mut sink)
+    let mut disks: Vec<MemDisk> = Vec::new(rt.alloc());
+    run(
+        rt.alloc(),
+        words,
+        &mut config,
+        &mut script,
+        &mut sink,
+        &mut disks,
+    )
+}
+
+/// What a word names, or a missing source where there is no word.
+fn open<R: Files, I: Read + Drop>(rt: &R, stdin: I, word: Option<&str>) -> NamedSource<R::File, I> {
+    match word {
+        Some(word) => open_named(rt, stdin, word),
+        None => NamedSource::File(StdSource::missing()),
+    }
 }

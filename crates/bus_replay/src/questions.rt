@@ -7,8 +7,8 @@ ghost use Rattle.bus_replay.specs.Steps.{HasPayload, IsAny, Adds, ReadsLines};
 
 use crate::lines::{push_frame, push_judgement};
 use crate::refusal::Refusal;
+use bus_script::{FrameLine, JudgeLine, ScriptFault, read_frames, read_judges};
 use std::alloc::{AllocError, Global};
-use text_lines::{FrameLine, JudgeLine, ScriptFault, read_frames, read_judges};
 
 /// A kind of line that a command reads, each of which has an answer.
 pub trait Question: Sized + Drop {

@@ -1,12 +1,13 @@
 //! Why a command isn't done.
 ghost use Rattle.std.specs.Prelude.{◌≡◌};
 ghost use Rattle.text_lines.specs.declared.fault.ScriptFault.{ScriptFault};
-ghost use Rattle.bus_replay.specs.Refusals.{TellsFault};
+ghost use Rattle.bus_replay.specs.Refusals.{TellsConfig, TellsFault};
 
+use bus_config::{ConfigFault, Memory as NoMemory, config_fault_text};
+use bus_script::{Memory, ScriptFault};
 use command_edge::{InputFault, NO_MEMORY};
 use std::alloc::Global;
 use text_lines::texts::fault_text;
-use text_lines::{Memory, ScriptFault};
 
 /// Why a command isn't done: the first cause that applies, in the order in which they are looked for.
 #[derive(Debug, Drop)]
@@ -17,6 +18,8 @@ pub enum Refusal {
     ReadFault,
     /// The input has more bytes than an input may have.
     TooLong,
+    /// The bus file is refused, with this text.
+    Config(String),
     /// A line of the input is refused, with this text.
     Script(String),
     /// There was no memory.
@@ -37,6 +40,7 @@ impl Refusal {
             Refusal::Usage => 2,
             Refusal::ReadFault => InputFault::ReadFault.status(),
             Refusal::TooLong => InputFault::TooLong.status(),
+            Refusal::Config(_) => 3,
             Refusal::Script(_) => 4,
             Refusal::Memory => NO_MEMORY,
         }
@@ -50,8 +54,18 @@ impl Refusal {
             Refusal::Usage => USAGE,
             Refusal::ReadFault => InputFault::ReadFault.text(),
             Refusal::TooLong => InputFault::TooLong.text(),
-            Refusal::Script(text) => text.as_str(),
+            Refusal::Config(text) | Refusal::Script(text) => text.as_str(),
             Refusal::Memory => "",
+        }
+    }
+
+    /// The refusal of a bus file, with the text that names its fault, or want of memory.
+    pub fn of_config(alloc: Global, fault: &ConfigFault) -> Refusal
+        ensures { TellsConfig fault.now result }
+    {
+        match config_fault_text(alloc, fault) {
+            Ok(text) => Refusal::Config(text),
+            Err(NoMemory) => Refusal::Memory,
         }
     }
 

@@ -1,6 +1,7 @@
 //! Whole runs over ports in memory: the words, the bytes that come in, the status and the bytes that go out.
 use crate::run::run;
-use bus_port::{CleanSource, MemSink, MemSource};
+use bus_port::{CleanSource, MemSink, MemSource, Sink, Source};
+use cut_disk::MemDisk;
 use std::alloc::{AllocError, Global};
 use std::process::Abort;
 use std::test::Fail;
@@ -22,6 +23,18 @@ fn words_of(alloc: Global, line: &str) -> Result<Vec<String>, AllocError> {
     Ok(words)
 }
 
+/// Runs words that read no bus file over a source of lines.
+fn over_lines<T: Source, K: Sink>(
+    alloc: Global,
+    words: &[String],
+    script: &mut T,
+    sink: &mut K,
+) -> u8 {
+    let mut config = CleanSource::new(Vec::new(alloc));
+    let mut disks: Vec<MemDisk> = Vec::new(alloc);
+    run(alloc, words, &mut config, script, sink, &mut disks)
+}
+
 /// Runs the words over an input, with room for all output, and compares the status and the output.
 fn check(
     rt: &impl Abort,
@@ -34,7 +47,7 @@ fn check(
     let words = words_of(alloc, line)?;
     let mut script = CleanSource::new(Vec::from_slice(alloc, input.as_bytes())?);
     let mut sink = MemSink::new(alloc, 1024, Vec::new(alloc), 1024)?;
-    let answer = run(alloc, words.as_slice(), &mut script, &mut sink);
+    let answer = over_lines(alloc, words.as_slice(), &mut script, &mut sink);
     assert_eq!(rt; answer, status, "{line}: {input}");
     assert_eq!(rt; sink.bytes(), output.as_bytes(), "{line}: {input}");
     Ok(())
@@ -94,7 +107,10 @@ fn as_many_lines_as_an_input_has_are_answered(rt: HostRuntime) -> Result<(), Fai
     let words = words_of(alloc, "frame F")?;
     let mut script = CleanSource::new(input);
     let mut sink = MemSink::new(alloc, 1_048_576, Vec::new(alloc), 1_048_576)?;
-    assert_eq!(rt; run(alloc, words.as_slice(), &mut script, &mut sink), 0);
+    assert_eq!(rt;
+        over_lines(alloc, words.as_slice(), &mut script, &mut sink),
+        0
+    );
     assert_eq!(rt; sink.bytes(), output.as_slice());
     Ok(())
 }
@@ -179,7 +195,10 @@ fn faults_of_the_ports_and_a_long_input_are_told(rt: HostRuntime) -> Result<(), 
     // The source fails at its first read.
     let mut script = MemSource::new(Vec::from_slice(alloc, text)?, vec![in alloc; 1]?, 16);
     let mut sink = MemSink::new(alloc, 64, Vec::new(alloc), 64)?;
-    assert_eq!(rt; run(alloc, words.as_slice(), &mut script, &mut sink), 5);
+    assert_eq!(rt;
+        over_lines(alloc, words.as_slice(), &mut script, &mut sink),
+        5
+    );
     assert_eq!(rt; sink.bytes(), b"read fault\n".as_slice());
 
     // The input has one byte more than it may have; then as many as it may have, all of them a comment.
@@ -187,7 +206,7 @@ fn faults_of_the_ports_and_a_long_input_are_told(rt: HostRuntime) -> Result<(), 
         let mut script = CleanSource::new(vec![in alloc; b'#'; len]?);
         let mut sink = MemSink::new(alloc, 64, Vec::new(alloc), 64)?;
         assert_eq!(rt;
-            run(alloc, words.as_slice(), &mut script, &mut sink),
+            over_lines(alloc, words.as_slice(), &mut script, &mut sink),
             status
         );
         assert_eq!(rt; sink.bytes(), output.as_bytes());
@@ -201,8 +220,138 @@ fn faults_of_the_ports_and_a_long_input_are_told(rt: HostRuntime) -> Result<(), 
     ] {
         let mut script = CleanSource::new(Vec::from_slice(alloc, text)?);
         let mut sink = MemSink::new(alloc, room, vec![in alloc; failing]?, piece)?;
-        assert_eq!(rt; run(alloc, words.as_slice(), &mut script, &mut sink), 6);
+        assert_eq!(rt;
+            over_lines(alloc, words.as_slice(), &mut script, &mut sink),
+            6
+        );
         assert_eq!(rt; sink.bytes(), written.as_bytes());
+    }
+    Ok(())
+}
+
+/// A bus of two nodes: `left` sends 6bc1, and `right` receives it.
+const BUS: &str =
+    "[[node]]\nname = \"left\"\nuid = \"000000000000000000000000000001\"\n[[node.route]]\nid = \"6bc1\"\ndirection = \"send\"\nslot = 4\nreserve = 4\nstart = \"e93d7e1173931729\"\n[[node]]\nname = \"right\"\nuid = \"000000000000000000000000000002\"\n[[node.route]]\nid = \"6bc1\"\ndirection = \"receive\"\nslot = 4\nstart = \"e93d7e1173931729\"\n";
+
+/// What is to be read from each source, and whether its first read fails.
+#[derive(Clone, Copy)]
+struct Given<'a> {
+    config: &'a str,
+    config_fails: bool,
+    script: &'a str,
+    script_fails: bool,
+}
+
+/// The calls of a source that fail: the first, or none.
+fn first_fails(alloc: Global, fails: bool) -> Result<Vec<u64>, AllocError> {
+    let mut calls = Vec::new(alloc);
+    if fails {
+        calls.push(1)?;
+    }
+    Ok(calls)
+}
+
+/// Runs `check B F` over these inputs, and compares the status and the output.
+fn check_script(
+    rt: &impl Abort,
+    alloc: Global,
+    given: &Given<'_>,
+    status: u8,
+    output: &str,
+) -> Result<(), Fail> {
+    let words = words_of(alloc, "check B F")?;
+    let config = Vec::from_slice(alloc, given.config.as_bytes())?;
+    let script = Vec::from_slice(alloc, given.script.as_bytes())?;
+    let mut config = MemSource::new(config, first_fails(alloc, given.config_fails)?, 64);
+    let mut script = MemSource::new(script, first_fails(alloc, given.script_fails)?, 64);
+    let mut sink = MemSink::new(alloc, 1024, Vec::new(alloc), 1024)?;
+    let mut disks: Vec<MemDisk> = Vec::new(alloc);
+    let answer = run(
+        alloc,
+        words.as_slice(),
+        &mut config,
+        &mut script,
+        &mut sink,
+        &mut disks,
+    );
+    assert_eq!(rt; answer, status, "{}", given.script);
+    assert_eq!(rt; sink.bytes(), output.as_bytes(), "{}", given.script);
+    Ok(())
+}
+
+#[test]
+fn check_prints_the_canonical_lines(rt: HostRuntime) -> Result<(), Fail> {
+    for (script, output) in [
+        ("", ""),
+        (
+            "# start\n\tsend  left 6BC1 BEE22E409F96\r\n",
+            "send left 6bc1 bee22e409f96\n",
+        ),
+        (
+            "key right - 4 4 FFFFFFFFFFFFFFFFFFFFFFFFFFFFFFFF 1 00010 2B7E151628AED2A6ABF7158809CF4F3C\ndeliver right 1\ncut left A7",
+            "key right 000000000000000000000000000002 4 4 ffffffffffffffffffffffffffffffff 1 00010 2b7e151628aed2a6abf7158809cf4f3c\ndeliver right 1\ncut left a7\n",
+        ),
+    ] {
+        let given = Given {
+            config: BUS,
+            config_fails: false,
+            script,
+            script_fails: false,
+        };
+        check_script(&rt, rt.alloc(), &given, 0, output)?;
+    }
+    Ok(())
+}
+
+#[test]
+fn the_bus_file_is_refused_before_the_script(rt: HostRuntime) -> Result<(), Fail> {
+    for (config, config_fails, script, script_fails, status, output) in [
+        ("", false, "", false, 3, "config: root\n"),
+        ("", false, "sent left 6bc1 00", false, 3, "config: root\n"),
+        ("", false, "", true, 3, "config: root\n"),
+        ("", true, "sent left 6bc1 00", false, 5, "read fault\n"),
+        (BUS, true, "sent left 6bc1 00", true, 5, "read fault\n"),
+        (BUS, false, "sent left 6bc1 00", true, 5, "read fault\n"),
+        (
+            BUS,
+            false,
+            "sent left 6bc1 00",
+            false,
+            4,
+            "script: line 1: unknown event\n",
+        ),
+        (
+            BUS,
+            false,
+            "send left 6bc1",
+            false,
+            4,
+            "script: line 1: wrong number of words\n",
+        ),
+        (
+            BUS,
+            false,
+            "send left 6bc1 bee",
+            false,
+            4,
+            "script: line 1: word 4\n",
+        ),
+        (
+            BUS,
+            false,
+            "\nsend up 6bc 0\nsent",
+            false,
+            4,
+            "script: line 2: word 2\n",
+        ),
+    ] {
+        let given = Given {
+            config,
+            config_fails,
+            script,
+            script_fails,
+        };
+        check_script(&rt, rt.alloc(), &given, status, output)?;
     }
     Ok(())
 }

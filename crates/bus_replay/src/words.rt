@@ -1,6 +1,6 @@
 //! The words of the command line.
-ghost use Rattle.std.specs.Prelude.{map, string_bytes, IfSome, IfNone};
-ghost use Rattle.bus_replay.specs.Words.{Asks, NamesCommand, AsksNothing, NamesScript};
+ghost use Rattle.std.specs.Prelude.{◌≡◌, ℕ, List, map, string_bytes, IfSome, IfNone};
+ghost use Rattle.bus_replay.specs.Words.{Asks, NamesCommand, NamesBusCommand, AsksNothing, NamesConfig, NamesScript, AreInput};
 ghost use Rattle.bus_replay.specs.declared.words.Command.{Command};
 
 /// What the words ask for.
@@ -10,22 +10,25 @@ pub enum Command {
     Frame,
     /// `judge F`: one verdict a line.
     Judge,
+    /// `check B F`: the events of a script in canonical form.
+    Check,
 }
 
-/// The command that the words ask for, the program's name left out. `F` may be any text.
+/// The command that the words ask for, the program's name left out. `B` and `F` may be any text.
 pub fn command_of(words: &[String]) -> Option<Command>
     ensures found { IfSome result (Asks (map string_bytes words.now)) }
     ensures none { IfNone result (AsksNothing (map string_bytes words.now)) }
 {
     match words {
         [] => Some(Command::Frame),
-        [name, _file] => named(name.as_str()),
+        [name, _file] => over_lines(name.as_str()),
+        [name, _bus, _file] => over_a_bus(name.as_str()),
         _ => None,
     }
 }
 
-/// The command of this name.
-fn named(name: &str) -> Option<Command>
+/// The command of this name that reads lines alone.
+fn over_lines(name: &str) -> Option<Command>
     ensures found { IfSome result (NamesCommand name.now) }
     ensures none { IfNone result ((command : Command) → ¬ NamesCommand name.now command) }
 {
@@ -36,12 +39,53 @@ fn named(name: &str) -> Option<Command>
     }
 }
 
-/// The word that names the script: `-`, standard input, where there are no words or they are of no form.
-pub fn script_word(words: &[String]) -> &str
-    ensures { NamesScript (map string_bytes words.now) result.now }
+/// The command of this name that reads a bus file and a script.
+fn over_a_bus(name: &str) -> Option<Command>
+    ensures found { IfSome result (NamesBusCommand name.now) }
+    ensures none { IfNone result ((command : Command) → ¬ NamesBusCommand name.now command) }
+{
+    match name {
+        "check" => Some(Command::Check),
+        _ => None,
+    }
+}
+
+/// The word that names the bus file. None where the command reads none, or the words are of no form.
+pub fn config_word(words: &[String]) -> Option<&str>
+    ensures some { IfSome result (λ word. NamesConfig (map string_bytes words.now) word.now) }
+    ensures none { IfNone result ((word : List ℕ) → ¬ NamesConfig (map string_bytes words.now) word) }
 {
     match words {
-        [name, file] if named(name.as_str()).is_some() => file.as_str(),
-        _ => "-",
+        [name, bus, _file] if over_a_bus(name.as_str()).is_some() => Some(bus.as_str()),
+        _ => None,
+    }
+}
+
+/// The word that names the lines: `-`, standard input, with no words. None where the bus file is standard input already
+/// and the script is to be too, or the words are of no form.
+pub fn script_word(words: &[String]) -> Option<&str>
+    ensures some { IfSome result (λ word. NamesScript (map string_bytes words.now) word.now) }
+    ensures none { IfNone result ((word : List ℕ) → ¬ NamesScript (map string_bytes words.now) word) }
+{
+    match words {
+        [] => Some("-"),
+        [name, file] if over_lines(name.as_str()).is_some() => Some(file.as_str()),
+        [name, bus, file] if over_a_bus(name.as_str()).is_some() => beside(
+            bus.as_str(),
+            file.as_str(),
+        ),
+        _ => None,
+    }
+}
+
+/// The script's word, unless both words are standard input.
+fn beside<'a>(bus: &str, file: &'a str) -> Option<&'a str>
+    ensures some { IfSome result (λ word. (word.now ≡ file.now) × ¬ AreInput bus.now file.now) }
+    ensures none { IfNone result (AreInput bus.now file.now) }
+{
+    if bus == "-" && file == "-" {
+        None
+    } else {
+        Some(file)
     }
 }

@@ -1,0 +1,11 @@
+use Rattle.std.proofs.Common.{subst, sym, Err}
+use Rattle.bus_replay.specs.declared.task.Task.{Task}
+use Rattle.bus_replay.specs.Steps.{JobOf}
+use Rattle.bus_replay.proofs.Phases.{JobOf-refused}
+use Rattle.bus_replay.proofs.job.job_of.Goals as goal
+
+pub returns-in-Err-read_script : goal.returns-in-Err-read_script
+returns-in-Err-read_script c =
+    subst (λ (t : Task). JobOf t c.args.input.now (Err c.of_line.result)) (sym c.in-Check.is)
+    (JobOf-refused c.in-Check.bus c.args.input.now c.in-Err-read_script.fault c.of_line.result
+    c.in-Err-read_script.ensures.exact c.of_line.ensures)

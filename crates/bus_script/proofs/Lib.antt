@@ -1,0 +1,7 @@
+pub mod BigEndian
+pub mod EventValues
+pub mod EventsRead
+pub mod EventsWritten
+pub mod FormValues
+pub mod NoWords
+pub mod Pieces

@@ -1,0 +1,5 @@
+pub mod EventKinds
+pub mod EventForms
+pub mod Canon
+pub mod ScriptEvents
+pub mod WordsAdded

@@ -1,0 +1,27 @@
+//! Scripts of a bus: the lines of its events, read and written; and all that reads lines of text.
+//!
+//! A script is read over a [`BusConfig`], whose nodes its events name. [`read_script`] gives the events of a text or its
+//! first fault, and [`write_event`] an event's canonical line: single spaces, lower-case digits, every identifier written
+//! out. [`laws`] says that what was read is read again from its canonical lines. The printed lines of a run
+//! ([`write_line`]), the lines of `frame`, `judge` and `keytool load`, and the [`forms`] of words, are offered here again.
+#![tactic(auto)]
+
+mod fields;
+mod kinds;
+pub mod laws;
+mod lines;
+mod pushing;
+mod reader;
+#[cfg(test)]
+mod tests;
+mod writing;
+
+pub use crate::reader::read_script;
+pub use crate::writing::write_event;
+pub use bus_machine::{Event, Line, Refusal};
+pub use bus_nodes::BusConfig;
+pub use bus_texts::write_line;
+pub use byte_lists::{Bytes, Pdu};
+pub use text_lines::{
+    Cause, FrameLine, JudgeLine, Memory, ScriptFault, forms, read_frames, read_judges, read_loads,
+};
