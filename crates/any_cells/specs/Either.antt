@@ -2,14 +2,10 @@
 use Rattle.std.specs.Prelude.{ℕ, ◌+◌, ◌*◌}
 use Rattle.cell_store.specs.declared.kinds.Kind.{Kind}
 use Rattle.cell_store.specs.declared.kinds.Kind.TheVariants as kind
-use Rattle.cell_store.specs.declared.kinds.Version.{Version}
-use Rattle.cell_store.specs.declared.kinds.Layout.{Layout}
+pub use Rattle.cell_store.specs.Layout.{layout}
 use Rattle.cell_store.specs.Cells.{CellsState}
 use Rattle.any_cells.specs.declared.AnyCells.{AnyCells}
 use Rattle.any_cells.specs.declared.AnyCells.TheVariants.{Twin, Log}
-
-abbrev pub layout : Kind → Version → Layout
-layout kind version = record { kind = kind; version = version }
 
 -- how many calls a format of n cells makes
 abbrev pub format_calls : Kind → ℕ → ℕ

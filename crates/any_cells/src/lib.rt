@@ -1,6 +1,7 @@
 //! A store of either kind, in either version: each call is passed on to the store that it is.
 #![tactic(auto)]
 
+mod migrating;
 #[cfg(test)]
 mod tests;
 
@@ -18,6 +19,7 @@ use cell_store::{
     Version, log_size, probe_as, twin_size,
 };
 use cut_disk::{CutDisk, Disk, Torn};
+pub use migrating::migrate;
 use std::alloc::Global;
 
 /// The number of bytes that a disk needs for a store of so many cells: 0 or 32768 for the version,

@@ -3,7 +3,7 @@ ghost use Rattle.std.specs.Prelude.{◌≡◌, ◌<◌, ◌≤◌, length, false
 ghost use Rattle.any_cells.specs.Either.{any_state};
 
 use super::*;
-use cut_disk::MemDisk;
+use cut_disk::{CutDisk, Disk, MemDisk};
 use std::alloc::Global;
 use std::test::Fail;
 
@@ -52,6 +52,7 @@ fn a_put_is_whole_or_absent_in_either_store(rt: HostRuntime) -> Result<(), Fail>
     let torn = [
         (Torn::Keep, true),
         (Torn::Old, false),
+        (Torn::Half, true),
         (Torn::Fill(0xa7), true),
         (Torn::Fill(0), false),
     ];
@@ -96,5 +97,158 @@ fn sizes_are_those_of_kind_and_version(rt: HostRuntime) -> Result<(), Fail> {
     assert_eq!(rt; store_size(Kind::Log, Version::One, 15), 5476);
     assert_eq!(rt; store_size(Kind::Twin, Version::Two, 15), 33820);
     assert_eq!(rt; store_size(Kind::Log, Version::Two, 15), 38244);
+    Ok(())
+}
+
+/// Fifteen cells, of which no two are the same.
+fn fifteen_cells() -> [[u8; 32]; 15] {
+    let mut cells = [ZEROS; 15];
+    for i in 0..15u8 {
+        cells[usize::from(i)] = [i + 1; 32];
+    }
+    cells
+}
+
+/// A disk that just has room for fifteen cells in version 2, with a store of them in this version.
+fn disk_of_fifteen(alloc: Global, kind: Kind, version: Version) -> Result<MemDisk, Fail> {
+    let size = match kind {
+        Kind::Twin => 33820,
+        Kind::Log => 38244,
+    };
+    let disk = MemDisk::new(alloc, size)?;
+    match AnyCells::format_as(disk, kind, version, &fifteen_cells()) {
+        Ok(disk) => Ok(disk),
+        Err(refused) => Err(Fail::from(refused.fault)),
+    }
+}
+
+/// Whether a store of version 2 has the fifteen cells.
+fn has_fifteen(alloc: Global, disk: MemDisk, kind: Kind) -> Result<bool, Fail> {
+    let store = match AnyCells::attach_as(alloc, disk, kind, Version::Two, 15) {
+        Ok(store) => store,
+        Err(refused) => return Err(Fail::from(refused.fault)),
+    };
+    let mut all = true;
+    for i in 0..15u8 {
+        let mut read = [0; 32];
+        store.get(u16::from(i), &mut read);
+        all = all && read == [i + 1; 32];
+    }
+    Ok(all)
+}
+
+/// Migrates a store of version 1 whose disk stops at this call, cuts the power and migrates again:
+/// whether the first was done, and the disk then.
+fn stop_and_migrate(
+    alloc: Global,
+    kind: Kind,
+    call: u64,
+    torn: Torn,
+) -> Result<(bool, MemDisk), Fail>
+    requires { 1 ≤ call }
+{
+    let mut disk = disk_of_fifteen(alloc, kind, Version::One)?;
+    disk.stop_at(call);
+    let (done, mut disk) = match migrate(alloc, disk, kind, 15) {
+        Ok(disk) => (true, disk),
+        Err(refused) => (false, refused.disk),
+    };
+    disk.power_cut(torn);
+    match migrate(alloc, disk, kind, 15) {
+        Ok(disk) => Ok((done, disk)),
+        Err(refused) => Err(Fail::from(refused.fault)),
+    }
+}
+
+#[test]
+fn a_migration_that_is_stopped_and_cut_keeps_the_cells(rt: HostRuntime) -> Result<(), Fail> {
+    let torn = [
+        Torn::Keep,
+        Torn::Old,
+        Torn::Half,
+        Torn::Fill(0xa7),
+        Torn::Fill(0),
+    ];
+    for (kind, calls) in &[(Kind::Twin, 35u16), (Kind::Log, 258)] {
+        for call in 1..*calls + 2 {
+            for torn in &torn {
+                let (done, disk) = stop_and_migrate(rt.alloc(), *kind, u64::from(call), *torn)?;
+                assert_eq!(rt; done, call > *calls);
+                assert!(rt; has_fifteen(rt.alloc(), disk, *kind)?);
+            }
+        }
+    }
+    Ok(())
+}
+
+/// Migrates a disk of this kind on which these bytes are changed: the fault, if it is refused.
+fn migrated(
+    alloc: Global,
+    disk: MemDisk,
+    kind: Kind,
+    changes: &[(u64, u8); 2],
+) -> Result<Option<StoreFault>, Fail> {
+    let mut disk = disk;
+    for (place, byte) in changes {
+        if *place < disk.size() {
+            disk.write(*place, &[*byte])?;
+        }
+    }
+    match migrate(alloc, disk, kind, 15) {
+        Ok(_) => Ok(None),
+        Err(refused) => Ok(Some(refused.fault)),
+    }
+}
+
+#[test]
+fn a_migration_is_refused_by_size_and_by_the_bytes_that_count(rt: HostRuntime) -> Result<(), Fail> {
+    let rows = [
+        (Kind::Twin, Version::One, [(0, 0x53), (0, 0x53)], None),
+        (Kind::Twin, Version::Two, [(0, 0), (0, 0)], None),
+        (
+            Kind::Twin,
+            Version::One,
+            [(0, 0), (0, 0)],
+            Some(StoreFault::NotFormatted),
+        ),
+        (
+            Kind::Twin,
+            Version::Two,
+            [(32768, 0), (0, 0)],
+            Some(StoreFault::NotFormatted),
+        ),
+        (
+            Kind::Twin,
+            Version::One,
+            [(100, 0), (134, 0)],
+            Some(StoreFault::Damaged(1)),
+        ),
+        (
+            Kind::Twin,
+            Version::Two,
+            [(32868, 0), (32902, 0)],
+            Some(StoreFault::Damaged(1)),
+        ),
+        (
+            Kind::Log,
+            Version::One,
+            [(32, 0), (32, 0)],
+            Some(StoreFault::Damaged(0)),
+        ),
+        (
+            Kind::Log,
+            Version::Two,
+            [(32800, 0), (32800, 0)],
+            Some(StoreFault::Damaged(0)),
+        ),
+    ];
+    for (kind, version, changes, fault) in &rows {
+        let disk = disk_of_fifteen(rt.alloc(), *kind, *version)?;
+        assert_eq!(rt; migrated(rt.alloc(), disk, *kind, changes)?, *fault);
+    }
+    let disk = MemDisk::new(rt.alloc(), 33819)?;
+    let unchanged = [(0, 0), (0, 0)];
+    let fault = migrated(rt.alloc(), disk, Kind::Twin, &unchanged)?;
+    assert_eq!(rt; fault, Some(StoreFault::TooSmall));
     Ok(())
 }

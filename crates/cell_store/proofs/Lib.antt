@@ -23,3 +23,4 @@ pub mod LogReadingLaws
 pub mod LogSteps
 pub mod CellsLaws
 pub mod Vectors
+pub mod MovingLaws

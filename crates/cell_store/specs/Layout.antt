@@ -39,6 +39,10 @@ version_byte Two = 2
 unfoldable pub header : Layout → ℕ → List ℕ
 header layout n = codes "SECOCST1" ++ (kind_byte layout.kind ∷ version_byte layout.version ∷ (bytes_of 2 n ++ replicate 20 0))
 
+-- the layout of this kind and version
+abbrev pub layout : Kind → Version → Layout
+layout kind version = record { kind = kind; version = version }
+
 -- the layouts of the two kinds
 abbrev pub twin_layout : Version → Layout
 twin_layout version = record { kind = Twin; version = version }

@@ -11,6 +11,7 @@ pub mod Writing
 pub mod Kept
 pub mod Reading
 pub mod Formats
+pub mod Moving
 pub mod TwinStore
 pub mod Attaching
 pub mod LogKept

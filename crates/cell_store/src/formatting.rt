@@ -12,7 +12,7 @@ use crate::layout::{HEADER, header, pair_place};
 use cut_disk::{Disk, DiskFailed, write_and_sync};
 
 /// Writes the two copies of each cell, 68 bytes in one call.
-fn write_pairs<D: Disk>(
+pub fn write_pairs<D: Disk>(
     disk: &mut D,
     version: Version,
     cells: &[[u8; 32]],
@@ -35,7 +35,7 @@ fn write_pairs<D: Disk>(
 }
 
 /// Does the same, and then syncs once.
-fn write_cells<D: Disk>(
+pub fn write_cells<D: Disk>(
     disk: &mut D,
     version: Version,
     cells: &[[u8; 32]],

@@ -54,6 +54,7 @@ mod layout;
 mod log_formatting;
 mod log_reading;
 mod logs;
+mod moving;
 mod probing;
 mod reading;
 mod refilling;
@@ -65,6 +66,7 @@ pub use faults::{PutFailed, Refused, Reread, StoreFault};
 pub use kinds::{Kind, Layout, Probe, Version};
 pub use layout::twin_size;
 pub use logs::{LogCells, log_size};
+pub use moving::move_up;
 pub use probing::{probe, probe_as};
 pub use twin::TwinCells;
 

@@ -82,7 +82,7 @@ fn write_closed_bank<D: Disk>(disk: &mut D, at: u64, cells: u16) -> Result<(), D
 }
 
 /// Writes both banks, and then syncs once.
-fn write_banks<D: Disk>(
+pub fn write_banks<D: Disk>(
     disk: &mut D,
     version: Version,
     cells: &[[u8; 32]],

@@ -112,53 +112,51 @@ fn a_put_takes_the_first_free_place(rt: HostRuntime) -> Result<(), Fail> {
     Ok(())
 }
 
-/// A store of one cell whose first bank has no free place, nor its second where that counts.
-fn full_bytes(second: bool) -> [u8; 4580] {
-    let mut bytes = fresh_bytes();
-    for p in 0..64 {
-        bytes[66 + 35 * p] = 0xa7;
-    }
-    if second {
-        bytes[2306] = 0xa7;
-        bytes[2307] = 1;
-        for p in 0..64 {
-            bytes[2340 + 35 * p] = 0xa7;
-        }
-    }
-    bytes
-}
-
-/// The first two bytes of the bank at this place after a put of which the call behind so many is to
-/// fail, if it makes more.
-fn bank_after(alloc: Global, second: bool, calls: u8, place: u64) -> Result<(bool, [u8; 2]), Fail> {
-    let disk = MemDisk::of(alloc, &full_bytes(second))?;
+/// Attaches the store of version 1 on this disk and puts elevens into its cell. Where `calls` isn't 0, the
+/// call behind so many is to fail.
+fn put_elevens(alloc: Global, disk: MemDisk, calls: u8) -> Result<MemDisk, Fail> {
     let mut store = match LogCells::attach(alloc, disk, 1) {
         Ok(store) => store,
         Err(refused) => return Err(Fail::from(refused.fault)),
     };
-    store.fail_at(u64::from(calls) + 1);
-    let done = store.put(0, &ELEVENS).is_ok();
-    let mut disk = store.release();
-    let mut out = [0; 2];
-    if done {
-        // The arm is still there: the first read fails, and the second gives the bytes.
-        let _ = disk.read(0, &mut []);
-        read_from(&mut disk, Version::One, place, &mut out)?;
+    if calls > 0 {
+        store.fail_at(u64::from(calls) + 1);
     }
-    Ok((done, out))
+    if store.put(0, &ELEVENS).is_err() {
+        return Err(Fail::from("the put failed"));
+    }
+    Ok(store.release())
+}
+
+/// After 64 puts, each into a free place, one more that makes just so many calls: the first two bytes of
+/// the bank at this place.
+fn fill_and_put(
+    alloc: Global,
+    disk: MemDisk,
+    calls: u8,
+    place: u64,
+) -> Result<(bool, [u8; 2], MemDisk), Fail> {
+    let mut disk = disk;
+    for _ in 0..64u8 {
+        disk = put_elevens(alloc, disk, 0)?;
+    }
+    let mut disk = put_elevens(alloc, disk, calls)?;
+    let next_fails = disk.read(0, &mut []).is_err();
+    let mut out = [0; 2];
+    read_from(&mut disk, Version::One, place, &mut out)?;
+    Ok((next_fails, out, disk))
 }
 
 #[test]
-fn a_full_bank_is_left_for_the_other(rt: HostRuntime) -> Result<(), Fail> {
-    let rows = [
-        (false, 3, 2306, (false, [0, 0])),
-        (false, 4, 2306, (true, [0xa7, 1])),
-        (true, 5, 32, (false, [0, 0])),
-        (true, 6, 32, (true, [0xa7, 2])),
-    ];
-    for (second, calls, place, expected) in &rows {
-        assert_eq!(rt; bank_after(rt.alloc(), *second, *calls, *place)?, *expected);
-    }
+fn the_65th_and_the_130th_put_fill_the_other_bank(rt: HostRuntime) -> Result<(), Fail> {
+    let alloc = rt.alloc();
+    let disk = fresh_store(alloc, Version::One)?.release();
+    let (next_fails, out, disk) = fill_and_put(alloc, disk, 4, 2306)?;
+    assert!(rt; next_fails);
+    assert_eq!(rt; out, [0xa7, 1]);
+    let (next_fails, out, _) = fill_and_put(alloc, disk, 6, 32)?;
+    assert!(rt; next_fails);
+    assert_eq!(rt; out, [0xa7, 2]);
     Ok(())
 }
 

@@ -34,7 +34,7 @@ pub fn read_header<D: Disk>(disk: &mut D, layout: Layout, cells: u16) -> Result<
 }
 
 /// Reads both copies of a cell in one call.
-fn read_cell<D: Disk>(disk: &mut D, version: Version, cell: u16) -> Result<Held, Reread>
+pub fn read_cell<D: Disk>(disk: &mut D, version: Version, cell: u16) -> Result<Held, Reread>
     requires { base version + twin_size (cell + 1) ≤ (D.state disk.old).size }
     ensures same { OnOk result (ReadOnly 1 (D.state disk.old) (D.state disk.new)) }
     ensures keeps { IfOk result (ToldKeeps version (D.state disk.old).told cell) }
