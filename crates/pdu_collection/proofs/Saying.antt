@@ -1,0 +1,128 @@
+-- What is said of arrivals, put together.
+use Rattle.std.proofs.Common.{◌≡◌, ℕ, ◌<◌, ◌≤◌, ◌+◌, Bool, true, false, List, [], ◌∷◌, ◌++◌, length, take, refl, sym, ap, ◌∙◌, subst, arith, append-nil, append_assoc}
+use Rattle.std.proofs.lemmas.Bool.Decides.{nat_tests}
+use Rattle.std.specs.Prelude.{Option, None, Some, Result, Ok, Err, IfOk, IfErr}
+use Rattle.secured_pdu.specs.Verdict.{Outcome, Verdict}
+use Rattle.text_lines.specs.Texts.{outcome_text}
+use Rattle.pdu_collection.specs.declared.joiner.BadLength.{BadLength}
+use Rattle.pdu_collection.specs.declared.answering.Receiver.{Receiver}
+use Rattle.pdu_collection.specs.declared.pair_lines.Head.{Head}
+use Rattle.pdu_collection.specs.Collection.{Place}
+use Rattle.pdu_collection.specs.Joining.{Kind, authentic, cryptographic, Arrival}
+use Rattle.pdu_collection.specs.Joined.{JoinerState, NextJoins, Given, Tells, Arrives, joined_with}
+use Rattle.pdu_collection.specs.Answering.{HasLength, has_length_of, arrives, Said, bad_length, waits, judged, said_text, counter_after, SaysOf}
+use Rattle.pdu_collection.specs.Receiving.{Judges, Arrived, AnswersArrival}
+
+-- the test of a length says what it should
+right_length : (place : Place) (kind : Kind) (pdu : List ℕ) → HasLength place kind pdu → has_length_of place kind pdu ≡ true
+right_length place authentic pdu h = grind (arith, nat_tests, h.0.0, h.0.1, h.1)
+right_length place cryptographic pdu h = grind (arith, nat_tests, h)
+
+wrong_length : (place : Place) (kind : Kind) (pdu : List ℕ) (b : Bool) → has_length_of place kind pdu ≡ b → (HasLength place kind pdu → ⊥) → b ≡ false
+wrong_length place kind pdu false e wrong = refl
+wrong_length place authentic pdu true e wrong = absurd (wrong (grind (arith, nat_tests, e)))
+wrong_length place cryptographic pdu true e wrong = absurd (wrong (grind (arith, nat_tests, e)))
+
+arrives_right : (place : Place) (kind : Kind) (pdu : List ℕ) → HasLength place kind pdu → arrives place kind pdu ≡ record { kind = kind; pdu = pdu } ∷ []
+arrives_right place kind pdu h = rw (right_length place kind pdu h) refl
+
+arrives_wrong : (place : Place) (kind : Kind) (pdu : List ℕ) → (HasLength place kind pdu → ⊥) → arrives place kind pdu ≡ []
+arrives_wrong place kind pdu h = rw (wrong_length place kind pdu (has_length_of place kind pdu) refl h) refl
+
+-- what a joiner told of an arrival
+pub Arrived_of : (old new : JoinerState) (kind : Kind) (pdu room joined : List ℕ) (told : Result (Option ℕ) BadLength)
+    → IfErr told (λ _. (HasLength old.place kind pdu → ⊥) × (new ≡ old) × (joined ≡ room)) → IfOk told (λ _. HasLength old.place kind pdu)
+    → IfOk told (Arrives old new (record { kind = kind; pdu = pdu }) room joined) → Arrived old new kind pdu joined told
+Arrived_of old new kind pdu room joined (Ok size) refused right arrives = (right, (room, arrives))
+Arrived_of old new kind pdu room joined (Err bad) refused right arrives = (refused.0, refused.1)
+
+-- two words and a line feed that were added
+pub words_added : (old a b t1 t2 t3 t4 : List ℕ) → t1 ≡ old ++ a → t2 ≡ t1 ++ 32 ∷ [] → t3 ≡ t2 ++ b → t4 ≡ t3 ++ 10 ∷ []
+    → t4 ≡ old ++ (((a ++ 32 ∷ []) ++ b) ++ 10 ∷ [])
+words_added old a b t1 t2 t3 t4 e1 e2 e3 e4 =
+    let two : t2 ≡ old ++ (a ++ 32 ∷ []) = e2 ∙ ap (λ t. t ++ 32 ∷ []) e1 ∙ append_assoc old a (32 ∷ []) in
+    let three : t3 ≡ old ++ ((a ++ 32 ∷ []) ++ b) = e3 ∙ ap (λ t. t ++ b) two ∙ append_assoc old (a ++ 32 ∷ []) b in
+    e4 ∙ ap (λ t. t ++ 10 ∷ []) three ∙ append_assoc old ((a ++ 32 ∷ []) ++ b) (10 ∷ [])
+
+-- what an arrival joins fits what is told
+joins_none : (next : Arrival) (joined : Option (List ℕ)) (before after : List ℕ) → Tells next joined before after None → joined ≡ None
+joins_none next None before after t = refl
+joins_none next (Some pdu) before after t = absurd t
+
+joins_some : (next : Arrival) (joined : Option (List ℕ)) (before after : List ℕ) (size : ℕ) → Tells next joined before after (Some size)
+    → (pdu : List ℕ) × (joined ≡ Some pdu) × (take size after ≡ joined_with next.kind next.pdu pdu)
+joins_some next None before after size t = absurd t
+joins_some next (Some pdu) before after size t = (pdu, refl, t.0)
+
+module _ (head : Head) (before : JoinerState) (counter : ℕ) (kind : Kind) (pdu text : List ℕ) (place_is : before.place ≡ head.place) where
+  abbrev next : Arrival
+  next = record { kind = kind; pdu = pdu }
+
+  abbrev old : Receiver
+  old = record { joiner = before; counter = counter }
+
+  -- the arrival is given to the joiner
+  given_next : (new : JoinerState) (room joined : List ℕ) (size : Option ℕ) (a : Arrives before new next room joined size) (arrivals : List Arrival)
+      → HasLength head.place kind pdu → Given before arrivals
+      → NextJoins head.place arrivals next a.joined × Given new (arrivals ++ arrives head.place kind pdu)
+  given_next new room joined size a arrivals right g =
+      let both = a.given arrivals g in (
+        subst (λ p. NextJoins p arrivals next a.joined) place_is both.0,
+        subst (λ l. Given new (arrivals ++ l)) (sym (arrives_right head.place kind pdu right)) both.1,
+      )
+
+  -- a PDU of a wrong length
+  pub said_bad_length : (new : JoinerState) (after : List ℕ) → (HasLength before.place kind pdu → ⊥) → new ≡ before
+      → after ≡ text ++ said_text bad_length → AnswersArrival head old (record { joiner = new; counter = counter }) kind pdu text after
+  said_bad_length new after wrong same after_is =
+      let wrong_here : HasLength head.place kind pdu → ⊥ = λ h. wrong (subst (λ p. HasLength p kind pdu) (sym place_is) h) in (
+        bad_length,
+        after_is,
+        ap (λ (s : JoinerState). s.place) same,
+        refl,
+        λ arrivals g. (
+          wrong_here,
+          subst (Given new) (sym (append-nil arrivals) ∙ ap (λ l. arrivals ++ l) (sym (arrives_wrong head.place kind pdu wrong_here)))
+              (subst (λ s. Given s arrivals) (sym same) g),
+        ),
+      )
+
+  -- a PDU that joins none
+  pub said_waits : (new : JoinerState) (after room joined : List ℕ) → HasLength before.place kind pdu → Arrives before new next room joined None
+      → after ≡ text ++ said_text waits → AnswersArrival head old (record { joiner = new; counter = counter }) kind pdu text after
+  said_waits new after room joined right a after_is =
+      let right_here : HasLength head.place kind pdu = subst (λ p. HasLength p kind pdu) place_is right in (
+        waits,
+        after_is,
+        a.place_is,
+        refl,
+        λ arrivals g.
+            let both = given_next new room joined None a arrivals right_here g in
+            ((right_here, subst (NextJoins head.place arrivals next) (joins_none next a.joined room joined a.tells) both.0), both.1),
+      )
+
+  -- a PDU that joins one, and what is judged of both
+  pub said_judged : (new : JoinerState) (end : Receiver) (after room joined : List ℕ) (size : ℕ) → HasLength before.place kind pdu
+      → Arrives before new next room joined (Some size)
+      → Judges head (record { joiner = new; counter = counter }) end (take size joined) text after
+      → AnswersArrival head old end kind pdu text after
+  said_judged new end after room joined size right a (outcome, verdict, after_is, end_is) =
+      let right_here : HasLength head.place kind pdu = subst (λ p. HasLength p kind pdu) place_is right in
+      let (partner, joined_is, text_is) = joins_some next a.joined room joined size a.tells in (
+        judged outcome,
+        after_is,
+        ap (λ (r : Receiver). r.joiner.place) end_is ∙ a.place_is,
+        ap (λ (r : Receiver). r.counter) end_is,
+        λ arrivals g.
+            let both = given_next new room joined (Some size) a arrivals right_here g in (
+              (
+                right_here,
+                (
+                  partner,
+                  subst (NextJoins head.place arrivals next) joined_is both.0,
+                  subst (λ f. Verdict head.key head.id counter 256 f outcome) text_is verdict,
+                ),
+              ),
+              subst (λ s. Given s (arrivals ++ arrives head.place kind pdu)) (sym (ap (λ (r : Receiver). r.joiner) end_is)) both.1,
+            ),
+      )

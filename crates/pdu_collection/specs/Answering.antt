@@ -1,0 +1,108 @@
+-- What is said of each line of a script of pairs, and printed
+use Rattle.std.specs.Prelude.{◌≡◌, ◌⊎◌, ◌<◌, ℕ, nat_le, ◌&&◌, ◌+◌, ◌==◌, if◌then◌else◌, List, [], ◌∷◌, ◌++◌, length, codes, None, Some, Bool}
+use Rattle.std.specs.List.{flat_map}
+use Rattle.hex.specs.Hex.{encode_lower}
+use Rattle.secured_pdu.specs.Verdict.{Outcome, Accepted, Verdict}
+use Rattle.text_lines.specs.Texts.{line, outcome_text, bad_length_text}
+use Rattle.pdu_collection.specs.declared.pair_lines.Head.{Head}
+use Rattle.pdu_collection.specs.declared.pair_lines.Entry.{Entry}
+use Rattle.pdu_collection.specs.declared.pair_lines.Entry.TheVariants.{Authentic, Cryptographic, Secured}
+use Rattle.pdu_collection.specs.declared.pair_lines.PairLine.{PairLine}
+use Rattle.pdu_collection.specs.PairLines.{IsScript}
+use Rattle.pdu_collection.specs.Collection.{Place, IsAuthentic, IsCryptographic, IsPartOf}
+use Rattle.pdu_collection.specs.Joining.{Kind, authentic, cryptographic, Arrival}
+use Rattle.pdu_collection.specs.Joined.{NextJoins, joined_with}
+
+-- what is said of a line
+pub data Said : Type 0 where
+  bad_length : Said
+  waits : Said
+  judged : (outcome : Outcome) → Said
+  made : (payload pdu : List ℕ) → Said
+
+-- the text of it: for PDUs that were asked for both, in lower-case digits
+abbrev pub said_text : Said → List ℕ
+said_text bad_length = bad_length_text
+said_text waits = line (codes "waiting")
+said_text (judged outcome) = outcome_text outcome
+said_text (made payload pdu) = line (encode_lower payload ++ codes " " ++ encode_lower pdu)
+
+-- ---- arrivals
+
+-- a PDU has the length of its kind
+abbrev pub HasLength : Place → Kind → List ℕ → Type 0
+HasLength place authentic pdu = IsAuthentic place pdu
+HasLength place cryptographic pdu = IsCryptographic place pdu
+
+abbrev pub has_length_of : Place → Kind → List ℕ → Bool
+has_length_of place authentic pdu = nat_le 1 (length pdu) && nat_le (length pdu) 60 && nat_le (place.at + place.size) (length pdu)
+has_length_of place cryptographic pdu = length pdu == 4 + place.size
+
+abbrev pub arrives : Place → Kind → List ℕ → List Arrival
+arrives place kind pdu = if has_length_of place kind pdu then record { kind = kind; pdu = pdu } ∷ [] else []
+
+-- the arrival of an entry, if it is one and has the length of its kind
+abbrev pub arrival_of : Place → Entry → List Arrival
+arrival_of place (Authentic pdu) = arrives place authentic pdu
+arrival_of place (Cryptographic pdu) = arrives place cryptographic pdu
+arrival_of place (Secured freshness payload) = []
+
+-- ---- the counter
+
+-- the counter behind what was said of a line
+abbrev pub counter_after : ℕ → Said → ℕ
+counter_after counter (judged (Accepted payload freshness)) = freshness
+counter_after counter _ = counter
+
+-- the freshness of the latest line that was accepted, or the counter of before
+abbrev pub last_accepted : ℕ → List Said → ℕ
+last_accepted counter [] = counter
+last_accepted counter (s ∷ said) = last_accepted (counter_after counter s) said
+
+-- ---- what is said of one line
+
+-- an arrival waits, or joins one before it, and both together are judged as one Secured I-PDU is, by a receiver with the widest window
+abbrev pub SaysOf : Head → List Arrival → ℕ → Kind → List ℕ → Said → Type 0
+SaysOf head before counter kind pdu bad_length = ¬ HasLength head.place kind pdu
+SaysOf head before counter kind pdu waits =
+    HasLength head.place kind pdu × NextJoins head.place before (record { kind = kind; pdu = pdu }) None
+SaysOf head before counter kind pdu (judged outcome) =
+    HasLength head.place kind pdu × ((joined : List ℕ) × NextJoins head.place before (record { kind = kind; pdu = pdu }) (Some joined)
+    × Verdict head.key head.id counter 256 (joined_with kind pdu joined) outcome)
+SaysOf head before counter kind pdu (made payload part) = ⊥
+
+-- the PDUs that are asked for are those of the payload
+abbrev pub SaysMade : Head → ℕ → List ℕ → Said → Type 0
+SaysMade head freshness payload bad_length = ¬ IsAuthentic head.place payload
+SaysMade head freshness payload (made authentic_pdu part) =
+    IsAuthentic head.place payload × (authentic_pdu ≡ payload) × IsPartOf head.key head.id head.place payload freshness part
+SaysMade head freshness payload waits = ⊥
+SaysMade head freshness payload (judged outcome) = ⊥
+
+-- behind these arrivals, and with this counter
+abbrev pub Says : Head → List Arrival → ℕ → Entry → Said → Type 0
+Says head before counter (Authentic pdu) said = SaysOf head before counter authentic pdu said
+Says head before counter (Cryptographic pdu) said = SaysOf head before counter cryptographic pdu said
+Says head before counter (Secured freshness payload) said = SaysMade head freshness payload said
+
+-- ---- the whole script
+
+-- what is said of the entries so far; of one more it is said behind the arrivals among them, with the freshness that was accepted last
+pub data SaysEach (head : Head) : List Entry → List Said → Type 0 where
+  none : SaysEach head [] []
+  more : (entries : List Entry) (said : List Said) (entry : Entry) (s : Said) → SaysEach head entries said
+      → Says head (flat_map (arrival_of head.place) entries) (last_accepted head.counter said) entry s
+      → SaysEach head (entries ++ entry ∷ []) (said ++ s ∷ [])
+
+-- the text is what is said of each line behind the head; without a head there is none
+abbrev pub TellsPairs : List PairLine → List ℕ → Type 0
+TellsPairs lines text =
+    ((lines ≡ []) × (text ≡ []))
+    ⊎ ((head : Head) × (entries : List Entry) × (said : List Said)
+    × IsScript lines head entries × SaysEach head entries said × (text ≡ flat_map said_text said))
+
+-- ---- what holds of it
+
+abbrev pub AcceptedRise : Said → Said → Type 0
+AcceptedRise (judged (Accepted payload v)) (judged (Accepted payload' v')) = v < v'
+AcceptedRise _ _ = Unit {0}

@@ -1,0 +1,73 @@
+-- What the steps of the answers say to one another
+use Rattle.std.specs.Prelude.{◌≡◌, ◌⊎◌, ℕ, List, [], ◌∷◌, ◌++◌, map, length, drop, take, Option, None, Some, Result, Ok, Err}
+use Rattle.std.specs.List.{flat_map}
+use Rattle.secured_pdu.specs.Frame.{IsPayload}
+use Rattle.secured_pdu.specs.Verdict.{Outcome, Verdict}
+use Rattle.text_lines.specs.Texts.{outcome_text}
+use Rattle.pdu_collection.specs.declared.joiner.BadLength.{BadLength}
+use Rattle.pdu_collection.specs.declared.answering.Receiver.{Receiver}
+use Rattle.pdu_collection.specs.declared.pair_lines.Head.{Head}
+use Rattle.pdu_collection.specs.declared.pair_lines.Entry.{Entry}
+use Rattle.pdu_collection.specs.declared.pair_lines.PairLine.{PairLine}
+use Rattle.pdu_collection.specs.declared.pair_lines.PairLine.TheVariants as line
+use Rattle.pdu_collection.specs.Collection.{Place, IsAuthentic, IsCryptographic}
+use Rattle.pdu_collection.specs.Joining.{Kind, Arrival}
+use Rattle.pdu_collection.specs.Joined.{JoinerState, Given, Arrives}
+use Rattle.pdu_collection.specs.PairLines.{IsScript}
+use Rattle.pdu_collection.specs.Answering.{HasLength, Said, bad_length, waits, judged, made, said_text, arrives, arrival_of, counter_after, last_accepted, SaysOf, Says, SaysMade, SaysEach}
+
+-- the lines are none, or a script
+abbrev pub IsPairScript : List PairLine → Type 0
+IsPairScript lines = (lines ≡ []) ⊎ ((head : Head) × (entries : List Entry) × IsScript lines head entries)
+
+-- the lines are entries alone
+abbrev pub AreEntries : List PairLine → Type 0
+AreEntries lines = (entries : List Entry) × (lines ≡ map line.Entry entries)
+
+-- the text is what is said of each of the lines, which are entries
+abbrev pub TellsEntries : Head → List PairLine → List ℕ → Type 0
+TellsEntries head lines text =
+    (entries : List Entry) × (said : List Said)
+    × (lines ≡ map line.Entry entries) × SaysEach head entries said × (text ≡ flat_map said_text said)
+
+-- the verdict on a Secured I-PDU was added, and the counter is the one behind it
+abbrev pub Judges : Head → Receiver → Receiver → List ℕ → List ℕ → List ℕ → Type 0
+Judges head old new pdu before after =
+    (outcome : Outcome) × Verdict head.key head.id old.counter 256 pdu outcome × (after ≡ before ++ outcome_text outcome)
+    × (new ≡ record { joiner = old.joiner; counter = counter_after old.counter (judged outcome) })
+
+-- what is said of an entry was added, and the receiver was given it, whatever it was given before
+abbrev pub Answers : Head → Receiver → Receiver → Entry → List ℕ → List ℕ → Type 0
+Answers head old new entry before after =
+    (said : Said) × (after ≡ before ++ said_text said) × (new.joiner.place ≡ old.joiner.place)
+    × (new.counter ≡ counter_after old.counter said)
+    × ((arrivals : List Arrival) → Given old.joiner arrivals
+    → Says head arrivals old.counter entry said × Given new.joiner (arrivals ++ arrival_of head.place entry))
+
+-- the same of a PDU of this kind
+abbrev pub AnswersArrival : Head → Receiver → Receiver → Kind → List ℕ → List ℕ → List ℕ → Type 0
+AnswersArrival head old new kind pdu before after =
+    (said : Said) × (after ≡ before ++ said_text said) × (new.joiner.place ≡ old.joiner.place)
+    × (new.counter ≡ counter_after old.counter said)
+    × ((arrivals : List Arrival) → Given old.joiner arrivals
+    → SaysOf head arrivals old.counter kind pdu said × Given new.joiner (arrivals ++ arrives head.place kind pdu))
+
+-- the PDUs that are asked for were added
+abbrev pub AddsMade : Head → ℕ → List ℕ → List ℕ → List ℕ → Type 0
+AddsMade head freshness payload before after = (said : Said) × SaysMade head freshness payload said × (after ≡ before ++ said_text said)
+
+-- what a joiner told of a PDU of this kind that arrived
+abbrev pub Arrived : JoinerState → JoinerState → Kind → List ℕ → List ℕ → Result (Option ℕ) BadLength → Type 0
+Arrived old new kind pdu joined (Ok size) =
+    HasLength old.place kind pdu
+    × ((room : List ℕ) × Arrives old new (record { kind = kind; pdu = pdu }) room joined size)
+Arrived old new kind pdu joined (Err refused) = ¬ HasLength old.place kind pdu × (new ≡ old)
+
+-- the entries so far were answered
+pub record Answered (head : Head) (entries : List Entry) (receiver : Receiver) (text : List ℕ) : Type 0 where
+  pub said : List Said
+  pub says : SaysEach head entries said
+  pub text_is : text ≡ flat_map said_text said
+  pub place_is : receiver.joiner.place ≡ head.place
+  pub counter_is : receiver.counter ≡ last_accepted head.counter said
+  pub given : Given receiver.joiner (flat_map (arrival_of head.place) entries)
