@@ -1,5 +1,6 @@
-/* The work of `bus_replay frame` in C, for comparison: reads lines of KEY, ID, FRESH and a payload from standard
-   input and prints one Secured I-PDU a line. Lines that begin with '#' are skipped; the input is taken to be right.
+/* The work of `bus_replay frame` and, with the word judge, of `bus_replay judge` in C, for comparison: reads lines of KEY, ID, FRESH and a
+   payload or a PDU from standard input and prints one Secured I-PDU, or one verdict, a line. Lines that begin with '#' are skipped; the
+   input is taken to be right.
    Build with -DOPENSSL (the C library of OpenSSL, its table-driven AES) or -DBEARSSL (BearSSL's table-driven AES). */
 #include <stdint.h>
 #include <stdio.h>
@@ -62,32 +63,99 @@ static size_t bytes_of(const char *word, size_t digits, uint8_t *out)
     return digits / 2;
 }
 
-int main(void)
+static char input[1 << 21];
+static char output[1 << 21];
+static size_t made;
+
+static void print(const char *text, size_t len)
 {
-    static char input[1 << 21];
-    static char output[1 << 21];
-    size_t len = fread(input, 1, sizeof input, stdin), made = 0;
+    memcpy(output + made, text, len);
+    made += len;
+}
+
+static void print_digits(const uint8_t *bytes, size_t len)
+{
+    for (size_t i = 0; i < len; i++) {
+        output[made++] = "0123456789abcdef"[bytes[i] >> 4];
+        output[made++] = "0123456789abcdef"[bytes[i] & 15];
+    }
+}
+
+/* The schedule of the key at the front of a line; it is kept while the key is the same. */
+static const schedule *schedule_of(const char *line)
+{
+    static uint8_t kept[16];
+    static schedule s;
+    static int any;
+    uint8_t key[16];
+    bytes_of(line, 32, key);
+    if (!any || memcmp(key, kept, 16) != 0) {
+        expand(&s, key);
+        memcpy(kept, key, 16);
+        any = 1;
+    }
+    return &s;
+}
+
+static void frame_line(const char *line, size_t len)
+{
+    uint8_t message[70], mac[16];
+    const schedule *s = schedule_of(line);
+    bytes_of(line + 33, 4, message);
+    size_t payload = bytes_of(line + 55, len - 55, message + 2);
+    bytes_of(line + 38, 16, message + 2 + payload);
+    cmac(s, message, payload + 10, mac);
+    print_digits(message + 2, payload);
+    print_digits(message + payload + 9, 1);
+    print_digits(mac, 3);
+    print("\n", 1);
+}
+
+static void judge_line(const char *line, size_t len)
+{
+    uint8_t message[74], mac[16], counter[8];
+    const schedule *s = schedule_of(line);
+    bytes_of(line + 33, 4, message);
+    bytes_of(line + 38, 16, counter);
+    size_t pdu = bytes_of(line + 55, len - 55, message + 2);
+    if (pdu < 5 || pdu > 64) {
+        print("BadLength\n", 10);
+        return;
+    }
+    size_t payload = pdu - 4;
+    uint8_t low = message[2 + payload], tag[3];
+    memcpy(tag, message + 3 + payload, 3);
+    uint64_t before = 0;
+    for (int i = 0; i < 8; i++) before = before << 8 | counter[i];
+    uint64_t freshness = (before & ~(uint64_t)255) | low;
+    if (freshness <= before && (freshness += 256) < 256) {
+        print("FRESHNESSFAILURE\n", 17);
+        return;
+    }
+    uint8_t *end = message + 2 + payload;
+    for (int i = 0; i < 8; i++) end[i] = (uint8_t)(freshness >> (56 - 8 * i));
+    cmac(s, message, payload + 10, mac);
+    if (memcmp(mac, tag, 3) != 0) {
+        print("VERIFICATIONFAILURE\n", 20);
+        return;
+    }
+    print("VERIFICATIONSUCCESS ", 20);
+    print_digits(end, 8);
+    print(" ", 1);
+    print_digits(message + 2, payload);
+    print("\n", 1);
+}
+
+int main(int count, char **words)
+{
+    int judges = count > 1 && strcmp(words[1], "judge") == 0;
+    size_t len = fread(input, 1, sizeof input, stdin);
     for (size_t at = 0; at < len;) {
         char *end = memchr(input + at, '\n', len - at);
         size_t stop = end ? (size_t)(end - input) : len;
         if (input[at] != '#' && stop > at) {
-            uint8_t key[16], message[70], mac[16], frame[64];
-            const char *line = input + at;
-            bytes_of(line, 32, key);
-            bytes_of(line + 33, 4, message);
-            size_t payload = bytes_of(line + 55, stop - at - 55, message + 2);
-            bytes_of(line + 38, 16, message + 2 + payload);
-            schedule s;
-            expand(&s, key);
-            cmac(&s, message, payload + 10, mac);
-            memcpy(frame, message + 2, payload);
-            frame[payload] = message[payload + 9];
-            memcpy(frame + payload + 1, mac, 3);
-            for (size_t i = 0; i < payload + 4; i++) {
-                output[made++] = "0123456789abcdef"[frame[i] >> 4];
-                output[made++] = "0123456789abcdef"[frame[i] & 15];
-            }
-            output[made++] = '\n';
+            if (judges) judge_line(input + at, stop - at);
+            else frame_line(input + at, stop - at);
         }
         at = stop + 1;
     }
