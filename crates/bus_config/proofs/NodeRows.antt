@@ -1,19 +1,17 @@
 -- One more row of the nodes
 use Rattle.std.proofs.Common.{◌≡◌, ℕ, ◌+◌, ◌<◌, ◌≤◌, Result, Ok, Err, List, [], ◌∷◌, ◌++◌, length, drop, get_or, map, ap, ◌∙◌}
-use Rattle.std.proofs.lemmas.List.{drop_more, drop_all}
+use Rattle.std.proofs.lemmas.List.{drop_all}
 use Rattle.toml.specs.declared.value.Value.{Value}
 use Rattle.toml.specs.View.{view}
 use Rattle.cell_store.specs.declared.kinds.Version.{Version}
 use Rattle.text_lines.specs.Readings.{◌>>=◌}
 use Rattle.bus_nodes.specs.declared.nodes.NodeLine.{NodeLine}
 use Rattle.bus_config.specs.declared.fault.ConfigFault.{ConfigFault}
+use Rattle.bus_config.proofs.RowLists.{rows_left}
 use Rattle.bus_config.specs.BusFile.{next_node, nodes_from}
 
 abbrev pub nodes_left : Version → List NodeLine → List Value → ℕ → Result (List NodeLine) ConfigFault
 nodes_left version before rows i = nodes_from version before (map view (drop i rows))
-
-rows_left : (rows : List Value) (i : ℕ) (row : Value) → i < length rows → get_or rows i row ≡ row → map view (drop i rows) ≡ view row ∷ map view (drop (i + 1) rows)
-rows_left rows i row inside here = ap (map view) (drop_more rows i row inside) ∙ ap (λ r. view r ∷ map view (drop (i + 1) rows)) here
 
 pub node_kept : (version : Version) (before : List NodeLine) (rows : List Value) (i : ℕ) (row : Value) (node : NodeLine) → i < length rows → get_or rows i row ≡ row
     → next_node version before (view row) ≡ Ok node → nodes_left version before rows i ≡ nodes_left version (before ++ node ∷ []) rows (i + 1)

@@ -4,7 +4,7 @@ use Rattle.std.specs.Prelude.{◌==◌}
 use Rattle.std.specs.Option.{ok_or}
 use Rattle.std.specs.List.{list_any}
 use Rattle.std.proofs.lemmas.Bool.{both_ways, eq-eqb}
-use Rattle.std.proofs.lemmas.List.{drop_more, drop_all}
+use Rattle.std.proofs.lemmas.List.{drop_all}
 use Rattle.std.proofs.lemmas.List.Folds.{list_any_at}
 use Rattle.toml.specs.declared.value.Value.{Value}
 use Rattle.toml.specs.View.{view}
@@ -13,13 +13,11 @@ use Rattle.text_lines.specs.Readings.{◌>>=◌}
 use Rattle.bus_config.specs.declared.fault.ConfigFault.{ConfigFault}
 use Rattle.bus_config.specs.declared.fault.ConfigFault.TheVariants as fault
 use Rattle.bus_config.specs.Rows.{next_route}
+use Rattle.bus_config.proofs.RowLists.{rows_left}
 use Rattle.bus_config.specs.BusFile.{routes_from}
 
 abbrev pub routes_left : ℕ → List Route → List Value → ℕ → Result (List Route) ConfigFault
 routes_left node before rows i = routes_from node before (map view (drop i rows))
-
-rows_left : (rows : List Value) (i : ℕ) (row : Value) → i < length rows → get_or rows i row ≡ row → map view (drop i rows) ≡ view row ∷ map view (drop (i + 1) rows)
-rows_left rows i row inside here = ap (map view) (drop_more rows i row inside) ∙ ap (λ r. view r ∷ map view (drop (i + 1) rows)) here
 
 pub route_kept : (node : ℕ) (before : List Route) (rows : List Value) (i : ℕ) (row : Value) (route : Route) → i < length rows → get_or rows i row ≡ row
     → next_route before (view row) ≡ Some route → routes_left node before rows i ≡ routes_left node (before ++ route ∷ []) rows (i + 1)

@@ -9,7 +9,7 @@ ghost use Rattle.bus_config.specs.Heads.{head_view, root_view, IsNewHead};
 
 use crate::tables::{has_only, member};
 use crate::values;
-use bus_nodes::{Name, NodeLine, place_named};
+use bus_nodes::{Name, NodeLine, most_routes, place_named};
 use cell_store::{Kind, Version};
 use memory_update::Uid;
 use toml::{Table, Value};
@@ -28,15 +28,6 @@ pub(crate) struct Root<'a> {
     pub(crate) kind: Kind,
     pub(crate) version: Version,
     pub(crate) rows: &'a [Value],
-}
-
-fn most_routes(version: Version) -> usize
-    ensures { result ≡ routes_at_most version }
-{
-    match version {
-        Version::One => 64,
-        Version::Two => 256,
-    }
 }
 
 fn routes(row: &Table, version: Version) -> Option<&[Value]>

@@ -28,7 +28,8 @@ impl Model for BusConfig {
     ghost invariant = { λ b. IsNamedBus (record { kind = b.kind; version = b.version; nodes = b.nodes.items }) };
 }
 
-fn most_routes(version: Version) -> usize
+/// How many routes a node has at most where the stores are of this version: 64 in version 1, and 256 in version 2.
+pub fn most_routes(version: Version) -> usize
     ensures { result ≡ routes_at_most version }
 {
     match version {

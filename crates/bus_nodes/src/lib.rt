@@ -10,7 +10,7 @@ mod nodes;
 #[cfg(test)]
 mod tests;
 
-pub use buses::BusConfig;
+pub use buses::{BusConfig, most_routes};
 pub use laws::{named_buses_are_buses, names_tell_nodes};
 pub use names::Name;
 pub use nodes::{NodeLine, place_named, sent_again};

@@ -1,5 +1,5 @@
 //! Names and buses one step within and one step past each of their bounds, and each call once.
-use crate::{BusConfig, Name, NodeLine, place_named, sent_again};
+use crate::{BusConfig, Name, NodeLine, most_routes, place_named, sent_again};
 use cell_store::{Kind, Version};
 use freshness_routes::{Direction, NodeConfig, Route};
 use key_slots::SlotId;
@@ -71,6 +71,10 @@ fn a_bus_of_two_nodes_is_one_and_its_nodes_are_found(rt: HostRuntime) -> Result<
     let bus = BusConfig::new(Kind::Log, Version::Two, nodes).ok_or("a bus")?;
     assert!(rt; bus.kind() == Kind::Log && bus.version() == Version::Two);
     assert_eq!(rt; bus.nodes().len(), 2);
+    assert_eq!(rt;
+        (most_routes(Version::One), most_routes(Version::Two)),
+        (64, 256)
+    );
     assert_eq!(rt; bus.find(b"left"), Some(0));
     assert_eq!(rt; bus.find(b"right"), Some(1));
     assert_eq!(rt; bus.find(b"lef"), None);
@@ -78,5 +82,54 @@ fn a_bus_of_two_nodes_is_one_and_its_nodes_are_found(rt: HostRuntime) -> Result<
     assert_eq!(rt; bus.find(b""), None);
     assert_eq!(rt; place_named(bus.nodes(), b"right"), Some(1));
     assert_eq!(rt; sent_again(bus.nodes()), None);
+    Ok(())
+}
+
+// Nodes with these names, the first of which sends so many Data IDs and each other the last of them.
+fn nodes(alloc: Global, names: &[&[u8]], sent: u16, again: bool) -> Result<Vec<NodeLine>, Fail> {
+    let mut listed = Vec::new(alloc);
+    for (place, name) in names.iter().enumerate() {
+        let mut routes = Vec::new(alloc);
+        if place == 0 {
+            for id in 0..sent {
+                routes.push((id, true))?;
+            }
+        } else {
+            routes.push((sent - 1, again))?;
+        }
+        listed.push(node(alloc, name, routes.as_slice())?)?;
+    }
+    Ok(listed)
+}
+
+const EIGHT: [&[u8]; 8] = [b"a", b"b", b"c", b"d", b"e", b"f", b"g", b"h"];
+
+const NINE: [&[u8]; 9] = [b"a", b"b", b"c", b"d", b"e", b"f", b"g", b"h", b"i"];
+
+const SAME: [&[u8]; 3] = [b"ab", b"ac", b"ab"];
+
+#[test]
+fn a_bus_has_its_bounds(rt: HostRuntime) -> Result<(), Fail> {
+    let alloc = rt.alloc();
+    let none: [&[u8]; 0] = [];
+    let rows: [(&[&[u8]], u16, bool, Version, bool); 10] = [
+        (&none, 1, false, Version::One, false),
+        (&EIGHT[..1], 1, false, Version::One, true),
+        (&EIGHT, 64, false, Version::One, true),
+        (&NINE, 1, false, Version::One, false),
+        (&EIGHT[..2], 65, false, Version::One, false),
+        (&EIGHT[..2], 65, false, Version::Two, true),
+        (&EIGHT, 256, false, Version::Two, true),
+        (&SAME, 1, false, Version::One, false),
+        (&SAME[..2], 1, false, Version::One, true),
+        (&EIGHT[..3], 2, true, Version::One, false),
+    ];
+    for (names, sent, again, version, is_one) in rows {
+        let listed = nodes(alloc, names, sent, again)?;
+        let sent_twice = sent_again(listed.as_slice());
+        assert_eq!(rt; sent_twice, if again { Some(sent - 1) } else { None });
+        let made = BusConfig::new(Kind::Twin, version, listed);
+        assert_eq!(rt; made.is_some(), is_one, "{sent} {again} {is_one}");
+    }
     Ok(())
 }
