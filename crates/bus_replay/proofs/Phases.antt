@@ -31,7 +31,7 @@ use Rattle.bus_replay.specs.declared.refusal.Refusal.TheVariants.{Usage, ReadFau
 use Rattle.bus_replay.specs.Words.{Asks, AsksSomething}
 use Rattle.bus_replay.specs.Texts.{Prints}
 use Rattle.bus_replay.specs.Refusals.{of_input, TellsConfig, TellsFault}
-use Rattle.bus_replay.specs.Answers.{Inputs, inputs, AsksOverBus, SetsTask, Ends, Over, config_read_fault, config_too_long, config_refused, script_read_fault, script_too_long, script_refused, no_memory, done}
+use Rattle.bus_replay.specs.Answers.{Inputs, inputs, SetsTask, Ends, Over, config_read_fault, config_too_long, config_refused, script_read_fault, script_too_long, script_refused, no_memory, done}
 use Rattle.bus_replay.specs.Steps.{DoesJob, IsJobOf, JobOf, Prepares, Refuses, ReadsBusFile, TellsJob}
 
 -- nothing came from a source that was left alone

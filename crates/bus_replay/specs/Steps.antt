@@ -15,7 +15,6 @@ use Rattle.bus_nodes.specs.Buses.{NamedBus}
 use Rattle.bus_config.specs.declared.fault.ConfigFault.{ConfigFault}
 use Rattle.bus_config.specs.BusFile.{bus_of}
 use Rattle.bus_config.specs.FaultTexts.{config_fault_text}
-use Rattle.bus_machine.specs.declared.events.Event.{Event}
 use Rattle.bus_script.specs.EventForms.{events_of}
 use Rattle.bus_script.specs.ScriptEvents.{IsScriptEvent}
 use Rattle.bus_script.specs.Canon.{canon}
@@ -23,7 +22,6 @@ use Rattle.bus_replay.specs.declared.job.Job.{Job}
 use Rattle.bus_replay.specs.declared.job.Job.TheVariants.{Frames, Judgements, Events}
 use Rattle.bus_replay.specs.declared.task.Task.{Task}
 use Rattle.bus_replay.specs.declared.task.Task.TheVariants.{Frame, Judge, Check}
-use Rattle.bus_replay.specs.declared.words.Command.{Command}
 use Rattle.bus_replay.specs.declared.refusal.Refusal.{Refusal}
 use Rattle.bus_replay.specs.declared.refusal.Refusal.TheVariants.{Usage, ReadFault, TooLong, Config, Script, Memory}
 use Rattle.bus_replay.specs.Texts.{TellsEach, TellsFrame, TellsJudgement, fault_of}

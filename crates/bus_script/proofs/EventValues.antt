@@ -1,5 +1,5 @@
 -- What is read is an event that a script can have.
-use Rattle.std.proofs.Common.{◌≡◌, ℕ, ◌<◌, ◌≤◌, ◌^◌, cond, ltb, Bool, true, false, List, [], ◌∷◌, length, All, Some, None, Result, Ok, Err, refl, sym, ap, subst, arith, lit<}
+use Rattle.std.proofs.Common.{◌≡◌, ℕ, ◌<◌, ◌≤◌, List, [], length, All, Result, Ok, Err, ap, subst, arith}
 use Rattle.std.specs.Prelude.{◌==◌, Vec, IfOk}
 use Rattle.std.specs.Result.{result_unwrap_or}
 use Rattle.std.specs.Option.{ok_or}
@@ -14,7 +14,7 @@ use Rattle.text_lines.specs.Forms.{key_form, two_form, data_id_form, bytes_form}
 use Rattle.text_lines.specs.Frames.{most_lines}
 use Rattle.text_lines.specs.KeyForms.{slot_form, counter_form, flags_form}
 use Rattle.text_lines.specs.Lines.{lines_of}
-use Rattle.text_lines.specs.Readings.{Fault, ◌>>=◌, nth_word, field, with_count, read_from, Gives}
+use Rattle.text_lines.specs.Readings.{nth_word, field, Gives}
 use Rattle.text_lines.proofs.Results.{bind_ok, field_ok, counted_ok}
 use Rattle.text_lines.proofs.Sizes.{All-read_from}
 use Rattle.text_lines.proofs.Values.{values_given}

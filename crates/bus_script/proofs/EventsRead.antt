@@ -1,10 +1,9 @@
 -- The canonical lines of events are read as these events.
-use Rattle.std.proofs.Common.{◌≡◌, ℕ, ◌+◌, ◌<◌, ◌≤◌, ◌^◌, Bool, true, false, cond, List, [], ◌∷◌, ◌++◌, length, map, All, Some, None, Result, Ok, Err, refl, sym, ◌∙◌, ap, subst, arith, lit<, append-nil}
-use Rattle.std.specs.Prelude.{◌==◌, ◌&&◌, not, IsTrue, slice_index, codes}
+use Rattle.std.proofs.Common.{◌≡◌, ℕ, ◌<◌, ◌≤◌, ◌^◌, Bool, true, List, [], ◌∷◌, ◌++◌, length, map, All, Some, Ok, refl, sym, ◌∙◌, ap, arith, lit<, append-nil}
+use Rattle.std.specs.Prelude.{◌==◌, ◌&&◌, not, slice_index}
 use Rattle.std.specs.List.{list_all, flat_map}
-use Rattle.std.specs.Fmt.{decimal}
 use Rattle.std.proofs.lemmas.Bool.{and_parts}
-use Rattle.std.proofs.lemmas.List.Elements.{All-nil, All-cons, All-head, All-tail}
+use Rattle.std.proofs.lemmas.List.Elements.{All-nil, All-cons}
 use Rattle.byte_lists.specs.Bytes.{IsBytes}
 use Rattle.byte_lists.specs.Numbers.{bytes_of}
 use Rattle.byte_lists.specs.NumberLaws.{IsBytes-bytes_of}
@@ -14,20 +13,20 @@ use Rattle.memory_update.specs.declared.messages.Request.{Request}
 use Rattle.memory_update.specs.declared.messages.Update.{Update}
 use Rattle.memory_update.specs.Messages.{IsUpdate}
 use Rattle.text_lines.specs.Frames.{most_lines}
-use Rattle.text_lines.specs.Lines.{TextLine, lines_of}
-use Rattle.text_lines.specs.Written.{written, is_word_byte, is_plain_word, is_writable, bytes_word, load_words, flags_text, IsLoad}
+use Rattle.text_lines.specs.Lines.{lines_of}
+use Rattle.text_lines.specs.Written.{written, is_word_byte, is_plain_word, is_writable, bytes_word, IsLoad}
 use Rattle.text_lines.proofs.WrittenKinds.{key_form-encode, data_id_form-encode, bytes_form-word, hex_bytes_form-encode, pair_encode, plain_word, bytes_word-plain, blocks_word, all_writable, read_from-words}
 use Rattle.text_lines.proofs.WrittenLines.{words-written}
 use Rattle.bus_nodes.specs.declared.nodes.NodeLine.{NodeLine}
-use Rattle.bus_nodes.specs.Names.{is_letter, is_name_byte, is_name}
-use Rattle.bus_nodes.specs.Buses.{NamedBus, IsNamedBus, IsNodeLine, place_named}
+use Rattle.bus_nodes.specs.Names.{is_name_byte, is_name}
+use Rattle.bus_nodes.specs.Buses.{NamedBus, IsNamedBus, place_named}
 use Rattle.bus_nodes.proofs.Named.{own_name_found}
 use Rattle.bus_machine.specs.declared.events.Event.{Event}
 use Rattle.bus_machine.specs.declared.events.Event.TheVariants as event
 use Rattle.bus_machine.specs.Bus.{node_of}
 use Rattle.bus_script.specs.EventKinds.{kind_name, kind_of}
 use Rattle.bus_script.specs.EventForms.{no_node, uid_at, send_of, deliver_of, inject_of, load_event_of, key_event_of, boot_of, cut_of, stop_of, fail_of, event_of, events_of}
-use Rattle.bus_script.specs.Canon.{name_at, torn_word, update_words, field_words, event_words, event_kind, canon}
+use Rattle.bus_script.specs.Canon.{name_at, field_words, event_words, event_kind, canon}
 use Rattle.bus_script.specs.ScriptEvents.{AreBytes, IsTorn, IsScriptEvent}
 use Rattle.bus_script.proofs.EventsWritten.{uid_written, number_written, number_plain, flags_written, flags_plain, torn_written, torn_plain}
 use Rattle.bus_script.proofs.EventValues.{events_of-values, events_of-few}

@@ -1,21 +1,18 @@
 -- Events that are written in canonical form are read again.
-use Rattle.std.proofs.Common.{◌≡◌, ℕ, zero, suc, ◌+◌, ◌<◌, ◌≤◌, ◌^◌, ◌*◌, Bool, true, false, cond, List, [], ◌∷◌, ◌++◌, length, map, All, Some, None, Result, Ok, Err, refl, sym, ◌∙◌, ap, subst, inl, inr, arith, lit<, append-nil}
-use Rattle.std.specs.Prelude.{◌==◌, ◌&&◌, not, nat_le, nat_lt, IsTrue, slice_index, slice_index_or, codes, option_map}
-use Rattle.std.specs.List.{list_all, flat_map}
+use Rattle.std.proofs.Common.{◌≡◌, ℕ, zero, suc, ◌<◌, ◌≤◌, ◌^◌, ◌*◌, Bool, true, false, cond, List, [], ◌∷◌, length, Some, None, refl, ◌∙◌, ap, inl, inr, arith, lit<}
+use Rattle.std.specs.Prelude.{◌&&◌, nat_le, slice_index, slice_index_or, codes, option_map}
+use Rattle.std.specs.List.{list_all}
 use Rattle.std.specs.Fmt.{decimal}
-use Rattle.std.specs.Result.{result_ok}
 use Rattle.std.specs.Str.{bytes_eq}
-use Rattle.std.specs.Str.Parse.{AllDigits, IsNumeral, digits_value}
+use Rattle.std.specs.Str.Parse.{AllDigits}
 use Rattle.std.specs.Char.{is_ascii_digit}
-use Rattle.std.proofs.lemmas.Bool.{and_parts, cases_Bool, cases_lt}
+use Rattle.std.proofs.lemmas.Bool.{and_parts, cases_Bool}
 use Rattle.std.proofs.lemmas.Fmt.{decimal_is_IsNumeral, first_decimal, decimal_digit}
 use Rattle.std.proofs.lemmas.Str.Parse.{digit_from_value}
 use Rattle.std.proofs.lemmas.Slice.Eq.{bytes_eq-Decides}
-use Rattle.std.proofs.lemmas.List.Elements.{All-nil, All-cons, All-head, All-tail}
+use Rattle.std.proofs.lemmas.List.Elements.{All-nil, All-cons}
 use Rattle.byte_lists.specs.Bytes.{IsBytes}
-use Rattle.byte_lists.specs.Numbers.{bytes_of}
-use Rattle.byte_lists.specs.NumberLaws.{IsBytes-bytes_of}
-use Rattle.hex.specs.Hex.{encode_lower, decode_sized, lower_digits}
+use Rattle.hex.specs.Hex.{encode_lower, lower_digits}
 use Rattle.hex.proofs.HexLemmas.{length-encode_with}
 use Rattle.cut_disk.specs.declared.Torn.{Torn}
 use Rattle.cut_disk.specs.declared.Torn.TheVariants.{Keep, Old, Half, Fill}
@@ -23,8 +20,8 @@ use Rattle.key_slots.specs.Flags.{bit}
 use Rattle.key_slots.specs.declared.memory.Flags.{Flags}
 use Rattle.text_lines.specs.DiskForms.{torn_form}
 use Rattle.text_lines.specs.Forms.{is_number, number_form}
-use Rattle.text_lines.specs.KeyForms.{uid_form, flag_form, five_flags, flags_form}
-use Rattle.text_lines.specs.Written.{is_word_byte, is_plain_word, is_writable, flags_text}
+use Rattle.text_lines.specs.KeyForms.{uid_form, flag_form, flags_form}
+use Rattle.text_lines.specs.Written.{is_word_byte, is_plain_word, flags_text}
 use Rattle.text_lines.proofs.WrittenKinds.{sized_encode, plain_word}
 use Rattle.bus_script.specs.EventForms.{event_uid_form}
 use Rattle.bus_script.specs.Canon.{torn_word}

@@ -1,5 +1,5 @@
 -- Words that are added one behind the other.
-use Rattle.std.proofs.Common.{◌≡◌, ℕ, List, [], ◌∷◌, ◌++◌, ◌∙◌, sym, ap, append_assoc, append-nil}
+use Rattle.std.proofs.Common.{ℕ, List, [], ◌∷◌, ◌++◌, ◌∙◌, sym, ap, append_assoc, append-nil}
 use Rattle.bus_script.specs.WordsAdded.{AddsWord, AddsWords}
 
 pub two_words : (old first second mid new : List ℕ) → AddsWord old mid first → AddsWord mid new second → AddsWords old new (first ∷ second ∷ [])

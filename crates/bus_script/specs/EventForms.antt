@@ -1,5 +1,5 @@
 -- What the words of a line mean as an event of a bus, whose nodes are these.
-use Rattle.std.specs.Prelude.{ℕ, ◌==◌, if◌then◌else◌, List, [], slice_index_or, codes, Option, Some, Result, Ok}
+use Rattle.std.specs.Prelude.{ℕ, if◌then◌else◌, List, [], slice_index_or, codes, Option, Some, Result, Ok}
 use Rattle.std.specs.Option.{ok_or}
 use Rattle.std.specs.Str.{bytes_eq}
 use Rattle.bus_nodes.specs.declared.nodes.NodeLine.{NodeLine}

@@ -9,6 +9,9 @@ use std::alloc::Global;
 use std::process::Abort;
 use std::test::Fail;
 
+/// More bytes than any script here has.
+const MOST_BYTES: usize = 1_048_576;
+
 // A node with one route of Data ID 6bc1.
 fn node(alloc: Global, name: &[u8], last: u8, direction: Direction) -> Result<NodeLine, Fail> {
     let mut uid = [0; 15];
@@ -39,7 +42,11 @@ fn bus(alloc: Global) -> Result<BusConfig, Fail> {
 
 // What is written of the events of a script.
 fn canonical(alloc: Global, bus: &BusConfig, script: &str) -> Result<Vec<u8>, Fail> {
-    let events = match read_script(alloc, script.as_bytes(), bus) {
+    let text = script.as_bytes();
+    if text.len() > MOST_BYTES {
+        return Err(Fail::from("a long script"));
+    }
+    let events = match read_script(alloc, text, bus) {
         Ok(events) => events,
         Err(_) => return Err(Fail::from("the script is refused")),
     };
@@ -67,7 +74,12 @@ fn every_event_is_read_and_written_in_canonical_form(rt: HostRuntime) -> Result<
 
 // The fault of a script.
 fn refused(rt: &impl Abort, alloc: Global, bus: &BusConfig, script: &str, line: u32, cause: Cause) {
-    match read_script(alloc, script.as_bytes(), bus) {
+    let text = script.as_bytes();
+    if text.len() > MOST_BYTES {
+        assert!(rt; false, "a long script");
+        return;
+    }
+    match read_script(alloc, text, bus) {
         Err(fault) => assert_eq!(rt; fault, ScriptFault::At { line, cause }, "{script}"),
         Ok(_) => assert!(rt; false, "{script}"),
     }
@@ -157,22 +169,21 @@ fn the_first_of_two_causes_is_given(rt: HostRuntime) -> Result<(), Fail> {
 fn as_many_events_as_a_script_has_are_read(rt: HostRuntime) -> Result<(), Fail> {
     let alloc = rt.alloc();
     let bus = bus(alloc)?;
-    let mut script = Vec::new(alloc);
-    for _ in 0..65_536 {
-        script.extend_from_slice(b"stop left 1\n")?;
-    }
-    match read_script(alloc, script.as_slice(), &bus) {
-        Ok(events) => assert_eq!(rt; events.len(), 65_536),
-        Err(_) => assert!(rt; false),
-    }
-    script.extend_from_slice(b"sent\n")?;
     let fault = ScriptFault::At {
         line: 65_537,
         cause: Cause::TooMany,
     };
-    match read_script(alloc, script.as_slice(), &bus) {
-        Ok(_) => assert!(rt; false),
-        Err(found) => assert_eq!(rt; found, fault),
+    for (behind, answer) in [("", Ok(65_536)), ("sent\n", Err(fault))] {
+        let mut script = Vec::new(alloc);
+        for _ in 0..65_536 {
+            script.extend_from_slice(b"stop left 1\n")?;
+        }
+        script.extend_from_slice(behind.as_bytes())?;
+        if script.len() > MOST_BYTES {
+            return Err(Fail::from("a long script"));
+        }
+        let events = read_script(alloc, script.as_slice(), &bus);
+        assert_eq!(rt; events.map(|events| events.len()), answer);
     }
     Ok(())
 }
