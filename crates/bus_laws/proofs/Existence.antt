@@ -1,8 +1,9 @@
 -- No event is without a line
-use Rattle.std.specs.Prelude.{◌≡◌, ℕ, zero, suc, ◌+◌, ◌*◌, ◌^◌, ◌<◌, ◌≤◌, ◌==◌, not, nat_le, bytes_eq, Bool, true, false, Option, None, Some, Result, Ok, Err, List, [], ◌∷◌, length, set, slice_get, option_map}
-use Rattle.std.proofs.Common.{refl, subst, arith, inl, inr}
+use Rattle.std.specs.Prelude.{◌≡◌, ℕ, zero, suc, ◌+◌, ◌*◌, ◌^◌, ◌<◌, ◌≤◌, ◌==◌, not, nat_le, bytes_eq, Bool, true, false, Option, None, Some, Result, Ok, Err, List, [], ◌∷◌, length, set, slice_get, option_map, All, get_or}
+use Rattle.std.proofs.Common.{refl, sym, ap, subst, arith, inl, inr}
 use Rattle.std.proofs.lemmas.Bool.{and_parts}
 use Rattle.std.proofs.lemmas.Bool.Decides.{nat_tests}
+use Rattle.std.proofs.lemmas.List.Elements.{All-nil, All-cons, All-head, All-tail}
 use Rattle.std.proofs.lemmas.Option.{get_or_from_slice_get}
 use Rattle.std.proofs.lemmas.Slice.Eq.{bytes_eq-Decides}
 use Rattle.byte_lists.specs.Numbers.{bytes_of, number_of}
@@ -32,7 +33,7 @@ use Rattle.secured_pdu.specs.Verdict as verdict
 use Rattle.secured_pdu.proofs.Deciding.{verdict_at}
 use Rattle.freshness_routes.specs.declared.routes.Direction.TheVariants.{Sends, Receives}
 use Rattle.freshness_routes.specs.Changes.{last_freshness}
-use Rattle.machine_runs.specs.Run.{Run}
+use Rattle.machine_runs.specs.Run.{Run, commands_in}
 use Rattle.bus_machine.specs.declared.events.Event.{Event}
 use Rattle.bus_machine.specs.declared.events.Event.TheVariants.{Send, Deliver, Inject, Load, Key, Boot, Cut, Stop, Fail}
 use Rattle.bus_machine.specs.declared.lines.Line.{Line}
@@ -44,11 +45,11 @@ use Rattle.bus_machine.specs.declared.lines.Refusal.TheVariants.{Down, NoRoute, 
 use Rattle.bus_machine.specs.Node.{Node, place_of, route_at, counter_at, route_key, powered, with_counter, with_slot, booted, first_node}
 use Rattle.bus_machine.specs.Sound.{Sound}
 use Rattle.bus_machine.specs.Steps.{Act, sends, receives, loads, keys, boots, cuts, arms, hears_nothing, when, first_of, has_length, has_route, send_refusal, receive_refusal, send_change, receive_change, NodeStep}
-use Rattle.bus_machine.specs.Bus.{World, SentLine, node_of, Moments, act_of, hearing, sent_after, source_of, NamesSource, Step, no_config, node_at, SoundBus}
+use Rattle.bus_machine.specs.Bus.{World, SentLine, node_of, Instant, Moments, act_of, hearing, sent_after, source_of, NamesSource, Step, no_config, node_at, SoundBus}
 use Rattle.bus_laws.specs.Laws.{IsTypedUpdate, NoFailure}
 use Rattle.bus_laws.proofs.Effects.{first_none, when_none, routed}
 use Rattle.bus_laws.proofs.SoundSteps.{route_is}
-use Rattle.bus_laws.proofs.BusSteps.{Sound-run}
+use Rattle.bus_laws.proofs.BusSteps.{Sound-bus, Sound-run, as_many}
 
 -- a line without a failure of the disk, and the node after it
 pub record Goes (node : Node) (act : Act) : Type 0 where
@@ -306,4 +307,31 @@ goes_on start ms last s run event inside typed =
         events = refl;
         sent = refl;
       },
+    )
+
+-- ---- lists of events
+
+abbrev CanBe : World → Event → Type 0
+CanBe world event = (node_of event < length world.nodes) × IsTypedUpdate event
+
+-- an event of the first of them is one of the other, which has as many nodes
+can_still_be : (world after : World) (events : List Event) → length after.nodes ≡ length world.nodes → All (CanBe world) events → All (CanBe after) events
+can_still_be world after events e all = λ k d inside. (subst (λ n. node_of (get_or events k d) < n) (sym e) (all k d inside).0, (all k d inside).1)
+
+pub run_of_events : (start : World) (events : List Event) → SoundBus start → All (CanBe start) events
+    → (ms : Moments) × (last : World) × Run Step start ms last × (commands_in ms ≡ events) × All (λ m. NoFailure m.line) ms
+run_of_events start [] s all = ([], start, refl, refl, All-nil (λ (m : Instant). NoFailure m.line))
+run_of_events start (event ∷ events) s all =
+    let here = All-head (CanBe start) event events all in
+    let next = goes_on start [] start s refl event here.0 here.1 in
+    let after : World = next.1 in
+    let sound = Sound-bus start event next.0 after s next.3 in
+    let rest = run_of_events after events sound
+    (can_still_be start after events (as_many start event next.0 after next.3) (All-tail (CanBe start) event events all)) in
+    let m : Instant = record { command = event; line = next.0; after = after } in (
+      m ∷ rest.0,
+      rest.1,
+      (next.3, rest.2),
+      ap (λ (l : List Event). event ∷ l) rest.3,
+      All-cons (λ (n : Instant). NoFailure n.line) m rest.0 next.2 rest.4,
     )

@@ -113,6 +113,12 @@ abbrev pub RunsGoOn : Type 0
 RunsGoOn = EachRun (λ start ms last. (event : Event) → node_of event < length last.nodes → IsTypedUpdate event
     → (line : Line) × (after : World) × NoFailure line × Step last event line after)
 
+-- so each list of such events has a run from a first world
+abbrev pub EventsHaveRuns : Type 0
+EventsHaveRuns = (start : World) (events : List Event) → IsFirst start
+    → All (λ event. (node_of event < length start.nodes) × IsTypedUpdate event) events
+    → (ms : Moments) × (last : World) × Run Step start ms last × (commands_in ms ≡ events) × All (λ m. NoFailure m.line) ms
+
 -- ---- what is determined
 
 -- two lists of moments with the same events and lines, and with the same choice at each cut that found a change pending: what the node then keeps

@@ -1,5 +1,5 @@
 //! Each function has an empty body, and its contract is the law. A run begins at any first world, as that of a bus is.
-ghost use Rattle.bus_laws.specs.Laws.{BusesBeginFirst, BusesBeginWithTheirNodes, StepsKeepSound, RunsAreSound, RunsAreCovered, RunsRise, RunsAreAuthentic, RunsAreSingle, RunsKeepKeys, RunsSettleKeys, CutsSkipLittle, HonestIsHeard, SameKeyIsHonest, RunsGoOn, LinesDetermineWorlds, EventsDetermineLines};
+ghost use Rattle.bus_laws.specs.Laws.{BusesBeginFirst, BusesBeginWithTheirNodes, StepsKeepSound, RunsAreSound, RunsAreCovered, RunsRise, RunsAreAuthentic, RunsAreSingle, RunsKeepKeys, RunsSettleKeys, CutsSkipLittle, HonestIsHeard, SameKeyIsHonest, RunsGoOn, EventsHaveRuns, LinesDetermineWorlds, EventsDetermineLines};
 
 /// The first world of a bus is a first world, in which no Data ID is sent by two nodes.
 pub fn buses_begin_first()
@@ -75,6 +75,11 @@ pub fn same_key_is_honest()
 /// No run is stuck: each event of a node of the bus has a line and a world after it, and one where no disk fails.
 pub fn runs_go_on()
     ensures { RunsGoOn }
+{}
+
+/// So each list of events has a run in which no disk fails.
+pub fn events_have_runs()
+    ensures { EventsHaveRuns }
 {}
 
 /// The events and lines of a run, and what a node kept at each cut that found a change pending, determine every world.
