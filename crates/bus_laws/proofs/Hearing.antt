@@ -38,14 +38,14 @@ long_enough : (pdu : List ℕ) → IsFrame pdu → has_length 5 64 pdu ≡ true
 long_enough pdu is = rw (test_le 5 (length pdu) is.0, test_le (length pdu) 64 is.1) refl
 
 -- what is known of the PDU at its route
-record Facts (node : Node) (s : SentLine) (k : ℕ) : Type 0 where
+pub record Facts (node : Node) (s : SentLine) (k : ℕ) : Type 0 where
   pub clear : receive_refusal node s.id s.pdu ≡ None
   pub ahead : Ahead (counter_at node k) (route_at node k).window (low_of s.pdu) s.freshness
   pub payload_is : payload_of s.pdu ≡ s.payload
   pub secured : Secured (route_key node k) s.id s.payload s.freshness s.pdu
   pub window : (route_at node k).window ≤ 256
 
-facts : (node : Node) (s : SentLine) → Sound node → s.freshness < 2 ^ 64 → IsInTime node s (place_of node s.id Receives) → Facts node s (place_of node s.id Receives)
+pub facts : (node : Node) (s : SentLine) → Sound node → s.freshness < 2 ^ 64 → IsInTime node s (place_of node s.id Receives) → Facts node s (place_of node s.id Receives)
 facts node s sound fits t =
     let k : ℕ = place_of node s.id Receives in
     record {
@@ -57,7 +57,7 @@ facts node s sound fits t =
       window = (route_is node k sound t.has_route).window_most;
     }
 
-heard_line : (node : Node) (s : SentLine) (line : Line) (after : Node) → Facts node s (place_of node s.id Receives) → NodeStep node (receives s.id s.pdu) line after → IsHeard s line
+pub heard_line : (node : Node) (s : SentLine) (line : Line) (after : Node) → Facts node s (place_of node s.id Receives) → NodeStep node (receives s.id s.pdu) line after → IsHeard s line
 heard_line node s (Accepted told w given source) after f step =
     (step.0, same_from_Ahead _ _ _ w s.freshness f.window step.1.judged.verdict_is.0 f.ahead, step.1.judged.verdict_is.1 ∙ f.payload_is)
 heard_line node s FreshnessFailure after f step = absurd (step.0.verdict_is s.freshness f.ahead)

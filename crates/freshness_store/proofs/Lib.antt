@@ -1,1 +1,1 @@
-mod CellLaws
+pub mod CellLaws

@@ -1,0 +1,11 @@
+pub mod CellsLaws
+pub mod FirstCells
+pub mod KeptLaws
+pub mod FitsLaws
+pub mod LifeLaws
+pub mod MovedLaws
+pub mod CallLaws
+pub mod CutLaws
+pub mod RouteLaws
+pub mod SendLaws
+pub mod ReceiveLaws

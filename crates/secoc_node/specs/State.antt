@@ -1,0 +1,35 @@
+-- What a node means to a proof: the node of the machine, and the store in which it keeps what outlasts a power cut
+use Rattle.std.specs.Prelude.{◌≡◌, ℕ, ◌+◌, ◌≤◌, [], Some}
+use Rattle.cut_disk.specs.State.{Told}
+use Rattle.cut_disk.specs.Calls.{Runs}
+use Rattle.cell_store.specs.Cells.{CellsState}
+use Rattle.freshness_routes.specs.declared.routes.Direction.{Direction}
+use Rattle.freshness_manager.specs.Counters.{KeepsBound}
+use Rattle.bus_machine.specs.Node.{Node, place_of}
+use Rattle.secoc_node.specs.Fits.{Fits}
+
+pub record NodeState : Type 0 where
+  pub node : Node
+  pub store : CellsState
+
+-- where the disk tells its bytes, they fit the node
+abbrev pub FitsNow : NodeState → Type 0
+FitsNow s = (told : Told) → s.store.disk.told ≡ Some told → Fits s.store.layout s.node told
+
+-- the disk tells its bytes, and they fit the node
+pub record TellsFitting (s : NodeState) : Type 0 where
+  pub now : Told
+  pub told : s.store.disk.told ≡ Some now
+  pub fits : Fits s.store.layout s.node now
+
+-- the bound in the cell of the route with this Data ID and direction is at least this freshness
+pub record IsCovered (s : NodeState) (id : ℕ) (direction : Direction) (freshness : ℕ) : Type 0 where
+  pub bound : ℕ
+  pub kept : KeepsBound s.store.cells (14 + place_of s.node id direction) id direction bound
+  pub covers : freshness ≤ bound
+
+-- what every call that is no cut and arms nothing leaves of the disk: at most six calls of it, none of them marked, and what fitted fits
+pub record Served (old new : NodeState) : Type 0 where
+  pub layout : new.store.layout ≡ old.store.layout
+  pub runs : Runs [] 6 old.store.disk new.store.disk
+  pub fits : FitsNow old → FitsNow new
