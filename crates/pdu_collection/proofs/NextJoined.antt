@@ -5,7 +5,7 @@ use Rattle.std.proofs.lemmas.Bool.{cases_lt}
 use Rattle.std.proofs.lemmas.Option.{same_Some}
 use Rattle.std.proofs.lemmas.List.{get_or_append_left, get_or_push, length_push}
 use Rattle.pdu_collection.specs.Collection.{Place}
-use Rattle.pdu_collection.specs.Joining.{Kind, authentic, cryptographic, other, Arrival, link, arrival_at, partner_at, IsLatest, IsSingle, Joins, Joining}
+use Rattle.pdu_collection.specs.Joining.{Kind, authentic, cryptographic, other_kind, Arrival, link, arrival_at, partner_at, IsLatest, IsSingle, Joins, Joining}
 use Rattle.pdu_collection.specs.Joined.{Waits}
 
 -- ---- kinds
@@ -14,7 +14,7 @@ is_authentic : Kind → Type 0
 is_authentic authentic = Unit {0}
 is_authentic cryptographic = ⊥
 
-other-differs : (kind : Kind) → other kind ≡ kind → ⊥
+other-differs : (kind : Kind) → other_kind kind ≡ kind → ⊥
 unfolding is_authentic
 other-differs authentic e = subst is_authentic (sym e) tt
 other-differs cryptographic e = subst is_authentic e tt
@@ -27,7 +27,7 @@ None≢Some : (j : ℕ) → None ≡ Some j → ⊥
 unfolding is_none
 None≢Some j e = subst is_none e tt
 
-pub kinds : (kind next : Kind) → (kind ≡ next) ⊎ (kind ≡ other next)
+pub kinds : (kind next : Kind) → (kind ≡ next) ⊎ (kind ≡ other_kind next)
 kinds authentic authentic = inl refl
 kinds authentic cryptographic = inr refl
 kinds cryptographic authentic = inr refl
@@ -58,8 +58,8 @@ Joins-same place xs ys ps qs i j same same_p h =
     record {
       latest = record {
         earlier = h.latest.earlier;
-        kind_is = ap (λ (a : Arrival). a.kind) (sym there) ∙ h.latest.kind_is ∙ ap (λ (a : Arrival). other a.kind) here;
-        latest = λ k a b e. h.latest.latest k a b (ap (λ (x : Arrival). x.kind) (same k (omega (arith, b))) ∙ e ∙ ap (λ (x : Arrival). other x.kind) (sym here));
+        kind_is = ap (λ (a : Arrival). a.kind) (sym there) ∙ h.latest.kind_is ∙ ap (λ (a : Arrival). other_kind a.kind) here;
+        latest = λ k a b e. h.latest.latest k a b (ap (λ (x : Arrival). x.kind) (same k (omega (arith, b))) ∙ e ∙ ap (λ (x : Arrival). other_kind x.kind) (sym here));
       };
       same_link = ap (link place) (sym there) ∙ h.same_link ∙ ap (link place) here;
       single = record {
@@ -131,16 +131,16 @@ module _ (xs : List Arrival) (x : Arrival) (ps : List (Option ℕ)) (p : Option 
       }
 
   -- what the new arrival joins, in the longer lists
-  joins_in : (place : Place) (j : ℕ) → IsLatest xs (other x.kind) (length xs) j → IsSingle ps (length xs) j
+  joins_in : (place : Place) (j : ℕ) → IsLatest xs (other_kind x.kind) (length xs) j → IsSingle ps (length xs) j
       → link place (arrival_at xs j) ≡ link place x → Joins place longer more (length xs) j
   joins_in place j latest single same = record {
-    latest = subst (λ (a : Arrival). IsLatest longer (other a.kind) (length xs) j) (sym (at_new xs x)) (latest_in (other x.kind) j latest);
+    latest = subst (λ (a : Arrival). IsLatest longer (other_kind a.kind) (length xs) j) (sym (at_new xs x)) (latest_in (other_kind x.kind) j latest);
     same_link = ap (link place) (at_old xs x j latest.earlier) ∙ same ∙ ap (link place) (sym (at_new xs x));
     single = single_in j latest.earlier single;
   }
 
-  latest_of_joined : (place : Place) (j : ℕ) → Joins place longer more (length xs) j → IsLatest xs (other x.kind) (length xs) j
-  latest_of_joined place j h = latest_out (other x.kind) j (subst (λ (a : Arrival). IsLatest longer (other a.kind) (length xs) j) (at_new xs x) h.latest)
+  latest_of_joined : (place : Place) (j : ℕ) → Joins place longer more (length xs) j → IsLatest xs (other_kind x.kind) (length xs) j
+  latest_of_joined place j h = latest_out (other_kind x.kind) j (subst (λ (a : Arrival). IsLatest longer (other_kind a.kind) (length xs) j) (at_new xs x) h.latest)
 
   link_of_joined : (place : Place) (j : ℕ) → Joins place longer more (length xs) j → link place (arrival_at xs j) ≡ link place x
   link_of_joined place j h =
@@ -152,9 +152,9 @@ module _ (xs : List Arrival) (x : Arrival) (ps : List (Option ℕ)) (p : Option 
       ⊎_elim (λ (lt : j < length xs). absurd (h.latest (length xs) lt (omega (arith, e)) (ap (λ (a : Arrival). a.kind) (at_new xs x))))
       (λ (le : length xs ≤ j). omega (arith, le, h.earlier, e)) (cases_lt j (length xs))
 
-  latest_is_old : (n j : ℕ) → n ≡ length xs + 1 → IsLatest longer (other x.kind) n j → IsLatest xs (other x.kind) (length xs) j
+  latest_is_old : (n j : ℕ) → n ≡ length xs + 1 → IsLatest longer (other_kind x.kind) n j → IsLatest xs (other_kind x.kind) (length xs) j
   latest_is_old n j e h =
-      ⊎_elim (λ (lt : j < length xs). latest_out (other x.kind) j
+      ⊎_elim (λ (lt : j < length xs). latest_out (other_kind x.kind) j
       (record { earlier = lt; kind_is = h.kind_is; latest = λ k a b. h.latest k a (omega (arith, b, e)) }))
       (λ (le : length xs ≤ j).
       let is : j ≡ length xs = omega (arith, le, h.earlier, e) in
@@ -164,7 +164,7 @@ module _ (xs : List Arrival) (x : Arrival) (ps : List (Option ℕ)) (p : Option 
 -- ---- the new arrival joins one
 
 pub joins : (place : Place) (xs : List Arrival) (x : Arrival) (ps : List (Option ℕ)) (j : ℕ) → Joining place xs ps
-    → IsLatest xs (other x.kind) (length xs) j → IsSingle ps (length xs) j → link place (arrival_at xs j) ≡ link place x
+    → IsLatest xs (other_kind x.kind) (length xs) j → IsSingle ps (length xs) j → link place (arrival_at xs j) ≡ link place x
     → Joining place (xs ++ x ∷ []) (ps ++ Some j ∷ []) × ((kind : Kind) → Waits (xs ++ x ∷ []) (ps ++ Some j ∷ []) kind None)
 joins place xs x ps j old latest single same =
     let p : Option ℕ = Some j in
@@ -173,25 +173,25 @@ joins place xs x ps j old latest single same =
     λ k h s.
     let here : k ≡ length xs = latest_is_new xs x ps p old.as_many _ k n h in
     None≢Some j (sym s.joins_none ∙ ap (partner_at (ps ++ p ∷ [])) here ∙ partner_new ps p (length xs) old.as_many) in
-    let of_other : (k : ℕ) → IsLatest (xs ++ x ∷ []) (other x.kind) (length (xs ++ x ∷ [])) k → IsSingle (ps ++ p ∷ []) (length (xs ++ x ∷ [])) k → ⊥ =
+    let of_other : (k : ℕ) → IsLatest (xs ++ x ∷ []) (other_kind x.kind) (length (xs ++ x ∷ [])) k → IsSingle (ps ++ p ∷ []) (length (xs ++ x ∷ [])) k → ⊥ =
     λ k h s.
-    let was : IsLatest xs (other x.kind) (length xs) k = latest_is_old xs x ps p old.as_many _ k n h in
-    let is : j ≡ k = one_latest xs (other x.kind) (length xs) j k latest was in
+    let was : IsLatest xs (other_kind x.kind) (length xs) k = latest_is_old xs x ps p old.as_many _ k n h in
+    let is : j ≡ k = one_latest xs (other_kind x.kind) (length xs) j k latest was in
     s.joined_by_none (length xs) was.earlier (omega (arith, n)) (partner_new ps p (length xs) old.as_many ∙ ap (λ i. Some i) is) in (
       Joining-more xs x ps p old.as_many place old (λ k. (
         λ e. subst (λ i. Joins place (xs ++ x ∷ []) (ps ++ p ∷ []) (length xs) i) (same_Some j k e) (joins_in xs x ps p old.as_many place j latest single same),
-        λ h. ap (λ i. Some i) (one_latest xs (other x.kind) (length xs) j k latest (latest_of_joined xs x ps p old.as_many place k h)),
+        λ h. ap (λ i. Some i) (one_latest xs (other_kind x.kind) (length xs) j k latest (latest_of_joined xs x ps p old.as_many place k h)),
       )),
       λ kind k. ⊎_elim
           (λ (e : kind ≡ x.kind). subst (λ a. IsLatest (xs ++ x ∷ []) a (length (xs ++ x ∷ [])) k → IsSingle (ps ++ p ∷ []) (length (xs ++ x ∷ [])) k → ⊥) (sym e) (of_mine k))
-          (λ (e : kind ≡ other x.kind). subst (λ a. IsLatest (xs ++ x ∷ []) a (length (xs ++ x ∷ [])) k → IsSingle (ps ++ p ∷ []) (length (xs ++ x ∷ [])) k → ⊥) (sym e) (of_other k))
+          (λ (e : kind ≡ other_kind x.kind). subst (λ a. IsLatest (xs ++ x ∷ []) a (length (xs ++ x ∷ [])) k → IsSingle (ps ++ p ∷ []) (length (xs ++ x ∷ [])) k → ⊥) (sym e) (of_other k))
           (kinds kind x.kind),
     )
 
 -- ---- the new arrival joins none
 
 module _ (place : Place) (xs : List Arrival) (x : Arrival) (ps : List (Option ℕ)) (old : Joining place xs ps) where
-  pub joins_none : ((j : ℕ) → IsLatest xs (other x.kind) (length xs) j → IsSingle ps (length xs) j → link place (arrival_at xs j) ≡ link place x → ⊥)
+  pub joins_none : ((j : ℕ) → IsLatest xs (other_kind x.kind) (length xs) j → IsSingle ps (length xs) j → link place (arrival_at xs j) ≡ link place x → ⊥)
       → Joining place (xs ++ x ∷ []) (ps ++ None ∷ [])
   joins_none none = Joining-more xs x ps None old.as_many place old
       (λ j. (
@@ -215,13 +215,13 @@ module _ (place : Place) (xs : List Arrival) (x : Arrival) (ps : List (Option �
     ap (λ (a : Arrival). a.pdu) (sym (at_new xs x)),
   )
 
-  pub waits_old : (waiting : Option (List ℕ)) → Waits xs ps (other x.kind) waiting → Waits (xs ++ x ∷ []) (ps ++ None ∷ []) (other x.kind) waiting
+  pub waits_old : (waiting : Option (List ℕ)) → Waits xs ps (other_kind x.kind) waiting → Waits (xs ++ x ∷ []) (ps ++ None ∷ []) (other_kind x.kind) waiting
   waits_old None was = λ j h s.
-      let before : IsLatest xs (other x.kind) (length xs) j = latest_is_old xs x ps None old.as_many _ j (length_push xs x) h in
+      let before : IsLatest xs (other_kind x.kind) (length xs) j = latest_is_old xs x ps None old.as_many _ j (length_push xs x) h in
       was j before (single_out xs x ps None old.as_many _ j (omega (arith, length_push xs x)) before.earlier s)
   waits_old (Some pdu) (j, latest, single, is) =
       let n : length (xs ++ x ∷ []) ≡ length xs + 1 = length_push xs x in
-      let inside = latest_in xs x ps None old.as_many (other x.kind) j latest in
+      let inside = latest_in xs x ps None old.as_many (other_kind x.kind) j latest in
       let still = single_in xs x ps None old.as_many j latest.earlier single in (
         j,
         record {

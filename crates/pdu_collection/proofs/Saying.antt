@@ -9,7 +9,7 @@ use Rattle.pdu_collection.specs.declared.answering.Receiver.{Receiver}
 use Rattle.pdu_collection.specs.declared.pair_lines.Head.{Head}
 use Rattle.pdu_collection.specs.Collection.{Place}
 use Rattle.pdu_collection.specs.Joining.{Kind, authentic, cryptographic, Arrival}
-use Rattle.pdu_collection.specs.Joined.{JoinerState, NextJoins, Given, Tells, Arrives, joined_with}
+use Rattle.pdu_collection.specs.Joined.{JoinerState, NextJoins, Given, IsToldOf, Arrives, joined_with}
 use Rattle.pdu_collection.specs.Answering.{HasLength, has_length_of, arrives, Said, bad_length, waits, judged, said_text, counter_after, SaysOf}
 use Rattle.pdu_collection.specs.Receiving.{Judges, Arrived, AnswersArrival}
 
@@ -45,11 +45,11 @@ words_added old a b t1 t2 t3 t4 e1 e2 e3 e4 =
     e4 ∙ ap (λ t. t ++ 10 ∷ []) three ∙ append_assoc old ((a ++ 32 ∷ []) ++ b) (10 ∷ [])
 
 -- what an arrival joins fits what is told
-joins_none : (next : Arrival) (joined : Option (List ℕ)) (before after : List ℕ) → Tells next joined before after None → joined ≡ None
+joins_none : (next : Arrival) (joined : Option (List ℕ)) (before after : List ℕ) → IsToldOf next joined before after None → joined ≡ None
 joins_none next None before after t = refl
 joins_none next (Some pdu) before after t = absurd t
 
-joins_some : (next : Arrival) (joined : Option (List ℕ)) (before after : List ℕ) (size : ℕ) → Tells next joined before after (Some size)
+joins_some : (next : Arrival) (joined : Option (List ℕ)) (before after : List ℕ) (size : ℕ) → IsToldOf next joined before after (Some size)
     → (pdu : List ℕ) × (joined ≡ Some pdu) × (take size after ≡ joined_with next.kind next.pdu pdu)
 joins_some next None before after size t = absurd t
 joins_some next (Some pdu) before after size t = (pdu, refl, t.0)

@@ -11,7 +11,7 @@ use Rattle.pdu_collection.specs.declared.pair_lines.Head.{Head}
 use Rattle.pdu_collection.specs.declared.pair_lines.Entry.{Entry}
 use Rattle.pdu_collection.specs.declared.pair_lines.PairLine.{PairLine}
 use Rattle.pdu_collection.specs.declared.pair_lines.PairLine.TheVariants as line
-use Rattle.pdu_collection.specs.PairLines.{head_of, entry_of, pair_line_of, pairs_of, IsScript}
+use Rattle.pdu_collection.specs.PairLines.{head_of, pair_entry_of, pair_line_of, pairs_of, IsScript}
 use Rattle.pdu_collection.specs.Receiving.{IsPairScript}
 
 bind_ok : {A B E : Type 0} (r : Result A E) (f : A → Result B E) (y : B) → (r >>= f) ≡ Ok y → (x : A) × (r ≡ Ok x) × (f x ≡ Ok y)
@@ -29,7 +29,7 @@ script_more [] words value script e =
     inr (head, [], ap (λ v. v ∷ []) (sym (ok_same (line.Head head) value is)))
 script_more (first ∷ rest) words value (inl none) e = cc
 script_more (first ∷ rest) words value (inr (head, entries, is_script)) e =
-    let (entry, entry_is, is) = bind_ok (entry_of words) (λ x. Ok (line.Entry x)) value e in
+    let (entry, entry_is, is) = bind_ok (pair_entry_of words) (λ x. Ok (line.Entry x)) value e in
     inr (
       head,
       entries ++ entry ∷ [],

@@ -52,16 +52,16 @@ joined_with authentic payload pdu = joined_pdu payload pdu
 joined_with cryptographic pdu payload = joined_pdu payload pdu
 
 -- what is told of an arrival that joins this PDU, or none: the Secured I-PDU in front, the rest as before
-abbrev pub Tells : Arrival → Option (List ℕ) → List ℕ → List ℕ → Option ℕ → Type 0
-Tells next (Some pdu) before after (Some size) =
+abbrev pub IsToldOf : Arrival → Option (List ℕ) → List ℕ → List ℕ → Option ℕ → Type 0
+IsToldOf next (Some pdu) before after (Some size) =
     (take size after ≡ joined_with next.kind next.pdu pdu) × (drop size after ≡ drop size before)
-Tells next None before after None = after ≡ before
-Tells next (Some pdu) before after None = ⊥
-Tells next None before after (Some size) = ⊥
+IsToldOf next None before after None = after ≡ before
+IsToldOf next (Some pdu) before after None = ⊥
+IsToldOf next None before after (Some size) = ⊥
 
 -- the arrival was given to the joiner, whatever was given before, and it is told what it joins
 pub record Arrives (old new : JoinerState) (next : Arrival) (before after : List ℕ) (size : Option ℕ) : Type 0 where
   pub place_is : new.place ≡ old.place
   pub joined : Option (List ℕ)
   pub given : (arrivals : List Arrival) → Given old arrivals → NextJoins old.place arrivals next joined × Given new (arrivals ++ next ∷ [])
-  pub tells : Tells next joined before after size
+  pub tells : IsToldOf next joined before after size

@@ -6,9 +6,9 @@ pub data Kind : Type 0 where
   authentic : Kind
   cryptographic : Kind
 
-abbrev pub other : Kind → Kind
-other authentic = cryptographic
-other cryptographic = authentic
+abbrev pub other_kind : Kind → Kind
+other_kind authentic = cryptographic
+other_kind cryptographic = authentic
 
 -- a PDU that arrived, of the right length for its kind
 pub record Arrival : Type 0 where
@@ -44,7 +44,7 @@ pub record IsSingle (partners : List (Option ℕ)) (i j : ℕ) : Type 0 where
 
 -- arrival i joins j: the latest earlier one of the other kind, where their links are equal and j is single
 pub record Joins (place : Place) (arrivals : List Arrival) (partners : List (Option ℕ)) (i j : ℕ) : Type 0 where
-  pub latest : IsLatest arrivals (other (arrival_at arrivals i).kind) i j
+  pub latest : IsLatest arrivals (other_kind (arrival_at arrivals i).kind) i j
   pub same_link : link place (arrival_at arrivals j) ≡ link place (arrival_at arrivals i)
   pub single : IsSingle partners i j
 

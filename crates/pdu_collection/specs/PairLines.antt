@@ -53,8 +53,8 @@ secured_of words = with_count 3 words (do
   Ok (Secured freshness payload))
 
 -- a line behind the head
-unfoldable pub entry_of : List (List ℕ) → Result Entry Cause
-entry_of words =
+unfoldable pub pair_entry_of : List (List ℕ) → Result Entry Cause
+pair_entry_of words =
     if bytes_eq (nth_word words 1) (codes "a") then authentic_of words
     else if bytes_eq (nth_word words 1) (codes "c") then cryptographic_of words
     else if bytes_eq (nth_word words 1) (codes "s") then secured_of words
@@ -66,7 +66,7 @@ pair_line_of [] words = do
   head ← head_of words
   Ok (line.Head head)
 pair_line_of (_ ∷ _) words = do
-  entry ← entry_of words
+  entry ← pair_entry_of words
   Ok (line.Entry entry)
 
 -- the lines of a script of pairs, or its first fault

@@ -1,7 +1,7 @@
 //! The lines of a script of pairs.
 ghost use Rattle.std.specs.Prelude.{◌≡◌, ◌<◌, ◌≤◌, ◌^◌, length, IfOk};
 ghost use Rattle.text_lines.specs.Readings.{Gives, GivesLine};
-ghost use Rattle.pdu_collection.specs.PairLines.{place_form, head_of, authentic_of, cryptographic_of, secured_of, entry_of, pairs_of};
+ghost use Rattle.pdu_collection.specs.PairLines.{place_form, head_of, authentic_of, cryptographic_of, secured_of, pair_entry_of, pairs_of};
 ghost use Rattle.pdu_collection.specs.Receiving.{IsPairScript};
 
 use crate::linker::Linker;
@@ -140,9 +140,9 @@ fn read_secured(alloc: Global, words: &Words<'_>) -> Result<Entry, LineFault>
 }
 
 /// Reads a line behind the first.
-#[tactic(auto, unfolding(crate::specs::PairLines::entry_of))]
+#[tactic(auto, unfolding(crate::specs::PairLines::pair_entry_of))]
 fn read_entry(alloc: Global, words: &Words<'_>) -> Result<Entry, LineFault>
-    ensures { GivesLine (entry_of words.now) result }
+    ensures { GivesLine (pair_entry_of words.now) result }
 {
     if words.is_empty() {
         return Err(LineFault::Refused(Cause::Event));

@@ -19,7 +19,7 @@ use bus_port::{Sink, Source};
 use command_edge::{DONE, NO_MEMORY, read_input, tell};
 use std::alloc::{AllocError, Global};
 
-/// Tells what is said of each line of a script of pairs, and gives the status that the program ends with. One word, which names the
+/// IsToldOf what is said of each line of a script of pairs, and gives the status that the program ends with. One word, which names the
 /// script and may be any text, is the form of the words, the program's name left out. All reading comes before all printing, and every
 /// text that is printed ends with a line feed.
 ///
