@@ -1,5 +1,5 @@
 -- What a move of a store to version 2 is as a migration.
-use Rattle.std.proofs.Common.{◌≡◌, ℕ, ◌≤◌, ◌⊎◌, inl, inr, Option, Some, List, [], length, refl, sym, subst, ap, ◌∙◌, arith}
+use Rattle.std.proofs.Common.{◌≡◌, ℕ, ◌≤◌, inr, Option, Some, List, [], length, sym, subst, ap, ◌∙◌, arith}
 use Rattle.std.proofs.lemmas.Option.{same_Some}
 use Rattle.cut_disk.specs.State.{DiskState, Told}
 use Rattle.cut_disk.specs.Images.{firm, Image, EachImage}
@@ -9,14 +9,13 @@ use Rattle.cell_store.specs.declared.kinds.Kind.{Kind}
 use Rattle.cell_store.specs.declared.kinds.Kind.TheVariants.{Twin, Log}
 use Rattle.cell_store.specs.declared.kinds.Version.{Version}
 use Rattle.cell_store.specs.declared.kinds.Version.TheVariants.{One, Two}
-use Rattle.cell_store.specs.declared.faults.StoreFault.TheVariants as store
 use Rattle.cell_store.specs.declared.faults.Reread.{Reread}
 use Rattle.cell_store.specs.declared.faults.Reread.TheVariants as reread
 use Rattle.cell_store.specs.Layout.{layout}
 use Rattle.cell_store.specs.Faults.{store_fault}
 use Rattle.cell_store.specs.Store.{FewCells, Stands, store_size, size_from_base}
-use Rattle.cell_store.specs.Moving.{StandsAsCounted, AfterMove, Moved, Moves, Unmoved, OnlyDisk, KeepsCounted, move_calls}
-use Rattle.any_cells.specs.Migrating.{FewToMigrate, StandsInTwo, Migrated, Migrates, NotMigrated, OnlyRoomOrDisk}
+use Rattle.cell_store.specs.Moving.{StandsAsCounted, AfterMove, Moves, Unmoved, OnlyDisk, KeepsCounted, move_calls}
+use Rattle.any_cells.specs.Migrating.{FewToMigrate, StandsInTwo, Migrates, NotMigrated, OnlyRoomOrDisk}
 
 -- few enough for the room below 32768
 pub few-cells : (n : ℕ) → FewToMigrate n → FewCells n

@@ -1,13 +1,13 @@
 -- What moving a store to version 2 reads and leaves.
-use Rattle.std.proofs.Common.{◌≡◌, ℕ, zero, suc, ◌+◌, ◌-◌, ◌*◌, ◌<◌, ◌≤◌, ◌⊎◌, inl, inr, true, false, Option, Some, None, List, [], ◌∷◌, ◌++◌, length, drop, set, get_or, replicate, refl, sym, ap, subst, ◌∙◌, arith, length-drop, length-append}
+use Rattle.std.proofs.Common.{◌≡◌, ℕ, suc, ◌+◌, ◌-◌, ◌*◌, ◌<◌, ◌≤◌, ◌⊎◌, inl, inr, false, Option, Some, List, [], ◌∷◌, ◌++◌, length, drop, set, get_or, replicate, refl, sym, ap, subst, ◌∙◌, arith, length-drop, length-append}
 use Rattle.std.proofs.lemmas.List.{ext_get_or, get_or-drop, length-set, length-map, map-set, length-replicate, get_or-set_same, get_or-set_other}
 use Rattle.std.proofs.lemmas.Bool.{cases_eq, cases_lt}
 use Rattle.std.proofs.lemmas.Option.{same_Some}
 use Rattle.cut_disk.specs.State.{DiskState, Told}
-use Rattle.cut_disk.specs.Images.{splice, firm, Image, EachImage, Tears}
+use Rattle.cut_disk.specs.Images.{splice, firm, Image, Tears}
 use Rattle.cut_disk.specs.ImageLaws.{image_of_firm}
-use Rattle.cut_disk.specs.Splices.{splice-beside, splice-apart, length-splice}
-use Rattle.cut_disk.specs.Calls.{Rose, Grows}
+use Rattle.cut_disk.specs.Splices.{splice-beside, splice-apart}
+use Rattle.cut_disk.specs.Calls.{Grows}
 use Rattle.cut_disk.specs.CallLaws.{rose_after}
 use Rattle.cut_disk.specs.Lasting.{Lasts}
 use Rattle.cell_store.specs.declared.kinds.Kind.{Kind}
@@ -22,16 +22,16 @@ use Rattle.cell_store.specs.declared.copies.Held.{Held}
 use Rattle.cell_store.specs.declared.banks.Bank.{Bank}
 use Rattle.cell_store.specs.Layout.{part, SameOutside, base, from_base, header, layout, twin_layout, log_layout}
 use Rattle.cell_store.specs.Twin.{cell_at}
-use Rattle.cell_store.specs.Copies.{Keeps, other}
-use Rattle.cell_store.specs.Log.{log_size, bank_at, bank_head, bank_cell, place_at, place, BankCounts, Places, LogHolds, listed}
+use Rattle.cell_store.specs.Copies.{other}
+use Rattle.cell_store.specs.Log.{log_size, bank_at, bank_head, place_at, place, LogHolds}
 use Rattle.cell_store.specs.Store.{FewCells, HoldsCells, HasHeader, Stands, FirstDamaged, Fresh, SameBesides, fresh_cells, fresh_store, store_size, size_from_base}
-use Rattle.cell_store.specs.Kept.{KeepsAll, cells_of}
+use Rattle.cell_store.specs.Kept.{cells_of}
 use Rattle.cell_store.specs.LogKept.{KeepsLog}
 use Rattle.cell_store.specs.Reading.{ReadOnly, ToldKeeps, Leaves, Finds}
 use Rattle.cell_store.specs.ReadOrder.{reads, reads_to}
 use Rattle.cell_store.specs.Writing.{LeavesOutside}
-use Rattle.cell_store.specs.Formats.{FreshOn, FreshButHeader, FirmCells, Formats}
-use Rattle.cell_store.specs.Moving.{Counts, StandsAsCounted, Moves, behind_header, HeaderLast, LeavesHeaderLast, KeepsCounted, LeavesBelow, Unmoved, DamagedAsCounted, OnlyDisk}
+use Rattle.cell_store.specs.Formats.{FirmCells, Formats}
+use Rattle.cell_store.specs.Moving.{Counts, StandsAsCounted, Moves, behind_header, HeaderLast, LeavesHeaderLast, KeepsCounted, LeavesBelow, Unmoved, OnlyDisk}
 use Rattle.cell_store.proofs.LayoutLaws.{part-same, get_or-part, SameOutside-splice, SameOutside-after, SameOutside-widen, SameOutside-refl, SameOutside-drop}
 use Rattle.cell_store.proofs.StoreLaws.{length-header, stands_once, stands-whole}
 use Rattle.cell_store.proofs.ReadingLaws.{ReadSoFar, read-more, reads_join, reads_more}

@@ -1,4 +1,4 @@
-use Rattle.std.proofs.Common.{◌≡◌, ap, length, arith}
+use Rattle.std.proofs.Common.{ap, length, arith}
 use Rattle.any_cells.proofs.MigratingLaws.{migrates, only-disk}
 use Rattle.any_cells.proofs.migrating.migrate_into.Goals as goal
 

@@ -1,10 +1,10 @@
-use Rattle.std.proofs.Common.{◌≡◌, ◌+◌, length, arith, ◌∙◌}
+use Rattle.std.proofs.Common.{◌≡◌, length, arith, ◌∙◌}
 use Rattle.std.proofs.lemmas.Result.{err_from_is_err_and}
 use Rattle.cut_disk.specs.CallLaws.{runs_join, runs_more, grows_after, grows_then}
 use Rattle.cell_store.specs.ReadOrder.{reads, reads_to}
 use Rattle.cell_store.specs.Moving.{move_calls}
 use Rattle.cell_store.proofs.TwinSteps.{leaves-runs}
-use Rattle.cell_store.proofs.MovingLaws.{kept-same, below-same, leaves-told, damaged-unmoved, only-disk, one-read, not-two, second-unmoved, read-moves, torn-counted, torn-below, fresh-counted, fresh-below, fresh-moves}
+use Rattle.cell_store.proofs.MovingLaws.{kept-same, below-same, leaves-told, damaged-unmoved, only-disk, one-read, not-two, second-unmoved, read-moves, torn-counted, fresh-counted, fresh-below, fresh-moves}
 use Rattle.cell_store.proofs.moving.move_up.Goals as goal
 
 pub returns-in-Ok-clause-runs : goal.returns-in-Ok-clause-runs

@@ -1,5 +1,5 @@
 -- All behind the header, and then the header.
-use Rattle.std.proofs.Common.{◌+◌, None, length, arith}
+use Rattle.std.proofs.Common.{None, length, arith}
 use Rattle.std.proofs.lemmas.Result.{on_ok_weaker, on_err_weaker}
 use Rattle.cut_disk.specs.CallLaws.{runs_join, runs_more, grows_then}
 use Rattle.cell_store.proofs.FormatLaws.{lasts_same, lasts_at, tears_sized, tears_at}
