@@ -9,13 +9,13 @@ use Rattle.bus_machine.specs.declared.events.Event.TheVariants.{Deliver, Inject,
 use Rattle.bus_machine.specs.declared.lines.Line.TheVariants.{Accepted, Keyed, Up, Refused}
 use Rattle.bus_machine.specs.declared.lines.Refusal.TheVariants.{MemoryFailure}
 use Rattle.memory_update.specs.Loading.{slot_of}
-use Rattle.bus_machine.specs.Node.{Node, slot_to}
+use Rattle.bus_machine.specs.Node.{Node, slot_to, failed}
 use Rattle.bus_machine.specs.Steps.{Act, receives, keys, Makes}
 use Rattle.bus_machine.specs.Bus.{World, Instant, AtSome}
 use Rattle.bus_machine.specs.KeysKept.{Acknowledges, FailsUpdate}
-use Rattle.cut_disk.specs.declared.Torn.TheVariants.{Keep}
+use Rattle.cut_disk.specs.declared.Torn.TheVariants.{Keep, Old}
 use Rattle.bus_rows.specs.Buses.{all_ones, bus_key, for_macs, altered_payload, altered_frame}
-use Rattle.bus_rows.specs.Breaches.{instant, keyed_node, ReplayIsNoRising, RestartIsNoSingle, OtherCmacIsNoAuthentic, UndoneIsNoKept}
+use Rattle.bus_rows.specs.Breaches.{instant, keyed_node, ReplayIsNoRising, RestartIsNoSingle, OtherCmacIsNoAuthentic, UndoneIsNoKept, ReturnIsNoSettled}
 use Rattle.bus_rows.proofs.Frames.{other_frame, other_frame_is}
 use Rattle.bus_rows.proofs.Building.{makes_update}
 use Rattle.bus_rows.proofs.WorkedRuns.{IsBlock-all_ones, IsBlock-bus_key, IsUid-left, is_update, left0, right0, own_update}
@@ -85,3 +85,21 @@ undone kept =
     holds_no_longer acknowledged.after nodes_after
     (kept.updates_hold [] acknowledged (instant (Cut 0 Keep) Up nodes_after ∷ []) [] 0 4 (slot_of (own_update 1)) refl (tt, (refl, own_update_made))
     (λ other a. cut_takes_nothing other acknowledged.after nodes_after a))
+
+-- what a power-up dropped doesn't come back with a later one
+cut_returns_nothing : (slot : Slot) (world : World) (nodes : List Node) → (slot ≡ Empty → ⊥)
+    → (slot ≡ Empty) ⊎ (AtSome (Acknowledges 0 4 slot) world (instant (Cut 0 Keep) Up nodes ∷ []) ⊎ AtSome (FailsUpdate 0 4 slot) world (instant (Cut 0 Keep) Up nodes ∷ [])) → ⊥
+cut_returns_nothing slot world nodes filled (inl empty) = filled empty
+cut_returns_nothing slot world nodes filled (inr (inl taken)) = cut_takes_nothing slot world nodes taken
+cut_returns_nothing slot world nodes filled (inr (inr failed)) = cut_fails_nothing slot world nodes failed
+
+abbrev unkeyed : Instant
+unkeyed = instant (Key 0 (own_update 1) all_ones) (Refused MemoryFailure) (failed (slot_to 4 (slot_of (own_update 1))) left0 ∷ right0 ∷ [])
+
+abbrev dropped : Instant
+dropped = instant (Cut 0 Old) Up nodes_after
+
+pub returned : ReturnIsNoSettled
+returned settled =
+    cut_returns_nothing (slot_of (own_update 1)) dropped.after nodes_before (λ e. empty_differs (slot_of (own_update 1)) _ _ _ refl e)
+    (settled (unkeyed ∷ dropped ∷ []) (instant (Cut 0 Keep) Up nodes_before ∷ []) [] 0 4 refl refl)

@@ -1,16 +1,17 @@
 -- Breaches of the four theorems, as lists of moments that are written out; the worlds in them are only those that the breach needs
 use Rattle.std.specs.Prelude.{ℕ, None, Some, List, [], ◌∷◌}
-use Rattle.cut_disk.specs.declared.Torn.TheVariants.{Keep}
+use Rattle.cut_disk.specs.declared.Torn.TheVariants.{Keep, Old}
 use Rattle.memory_update.specs.Loading.{slot_of}
 use Rattle.bus_machine.specs.declared.events.Event.{Event}
 use Rattle.bus_machine.specs.declared.events.Event.TheVariants.{Send, Deliver, Inject, Key, Cut}
 use Rattle.bus_machine.specs.declared.lines.Line.{Line}
-use Rattle.bus_machine.specs.declared.lines.Line.TheVariants.{Sent, Accepted, Keyed, Up}
-use Rattle.bus_machine.specs.Node.{Node, first_node, with_slot}
+use Rattle.bus_machine.specs.declared.lines.Line.TheVariants.{Sent, Accepted, Keyed, Up, Refused}
+use Rattle.bus_machine.specs.declared.lines.Refusal.TheVariants.{MemoryFailure}
+use Rattle.bus_machine.specs.Node.{Node, slot_to, first_node, with_slot, failed}
 use Rattle.bus_machine.specs.Bus.{World, First, Instant}
 use Rattle.bus_machine.specs.Freshness.{Rising, Single}
 use Rattle.bus_machine.specs.Authentic.{Authentic}
-use Rattle.bus_machine.specs.KeysKept.{KeysKept}
+use Rattle.bus_machine.specs.KeysKept.{KeysKept, SettledSlotsStay}
 use Rattle.bus_rows.specs.Buses.{numbered_uid, sending_from, receiving_from, bus_a, all_ones, bus_key, for_macs, update_of, bus_payload, altered_payload, first_frame, altered_frame}
 
 -- an event, its line, and the nodes after it
@@ -51,3 +52,11 @@ abbrev pub UndoneIsNoKept : Type 0
 UndoneIsNoKept = ¬ KeysKept (First bus_a) (
     instant (Key 0 (update_of (numbered_uid 1) 4 4 1 for_macs bus_key) all_ones) (Keyed 4) (keyed_node (first_node (sending_from 0xe93d7e1173931729)) 1 ∷ first_node (receiving_from 0xe93d7e1173931729) ∷ [])
     ∷ instant (Cut 0 Keep) Up (first_node (sending_from 0xe93d7e1173931729) ∷ first_node (receiving_from 0xe93d7e1173931729) ∷ []) ∷ [])
+
+-- the disk fails while a slot is updated, a cut leaves it empty, and after the next cut it holds the update
+abbrev pub ReturnIsNoSettled : Type 0
+ReturnIsNoSettled = ¬ SettledSlotsStay (First bus_a) (
+    instant (Key 0 (update_of (numbered_uid 1) 4 4 1 for_macs bus_key) all_ones) (Refused MemoryFailure)
+    (failed (slot_to 4 (slot_of (update_of (numbered_uid 1) 4 4 1 for_macs bus_key))) (first_node (sending_from 0xe93d7e1173931729)) ∷ first_node (receiving_from 0xe93d7e1173931729) ∷ [])
+    ∷ instant (Cut 0 Old) Up (first_node (sending_from 0xe93d7e1173931729) ∷ first_node (receiving_from 0xe93d7e1173931729) ∷ [])
+    ∷ instant (Cut 0 Keep) Up (keyed_node (first_node (sending_from 0xe93d7e1173931729)) 1 ∷ first_node (receiving_from 0xe93d7e1173931729) ∷ []) ∷ [])

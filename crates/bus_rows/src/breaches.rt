@@ -1,5 +1,5 @@
 //! Breaches, written out: what an honest reader would call one, the theorem's definition refuses.
-ghost use Rattle.bus_rows.specs.Breaches.{ReplayIsNoRising, RestartIsNoSingle, OtherCmacIsNoAuthentic, UndoneIsNoKept};
+ghost use Rattle.bus_rows.specs.Breaches.{ReplayIsNoRising, RestartIsNoSingle, OtherCmacIsNoAuthentic, UndoneIsNoKept, ReturnIsNoSettled};
 
 /// A PDU that is accepted twice doesn't rise.
 pub fn a_replayed_pdu_is_no_rising_run()
@@ -19,4 +19,9 @@ pub fn a_pdu_with_another_cmac_is_no_authentic_run()
 /// An acknowledged update that is gone after a cut isn't kept.
 pub fn an_undone_update_is_no_run_that_keeps_keys()
     ensures { UndoneIsNoKept }
+{}
+
+/// An update that the disk dropped at a power-up comes back at a later one.
+pub fn an_update_that_returns_is_no_settled_run()
+    ensures { ReturnIsNoSettled }
 {}

@@ -8,6 +8,7 @@ mod rows;
 pub use breaches::{
     a_pdu_with_another_cmac_is_no_authentic_run, a_replayed_pdu_is_no_rising_run,
     a_restarted_sender_is_no_single_run, an_undone_update_is_no_run_that_keeps_keys,
+    an_update_that_returns_is_no_settled_run,
 };
 pub use rows::{
     a_boot_is_decided_once, a_counter_ends, a_failed_call_leaves_the_new_bound,
