@@ -98,7 +98,7 @@ module _ (routes : List Route) (cells : List (List ℕ)) (place cell : ℕ) (rou
   bound_there bound holds = (
     bound,
     subst (λ r. HoldsBound (cell_in cells (14 + place)) r.id r.direction bound) route_is
-    (subst (λ n. HoldsBound (cell_in cells n) route.id route.direction bound) at holds),
+        (subst (λ n. HoldsBound (cell_in cells n) route.id route.direction bound) at holds),
   )
 
   pub no_bound_there : HoldsBounds routes cells → HoldsNoBound (cell_in cells cell) route.id route.direction → ⊥

@@ -75,7 +75,7 @@ module _ (old new : NodeState) (i : ℕ) (c : List ℕ) (fits : FitsNow old) (up
             change,
             refl,
             subst (λ layout. Stands layout x (CellsOf old.node.config (changed change old.node.kept))) (sym fails.layout)
-            (subst (λ cells. Stands old.store.layout x cells) (sym made) (subst (λ cells. Stands old.store.layout x (set cells i c)) keeps.cells stands)),
+                (subst (λ cells. Stands old.store.layout x cells) (sym made) (subst (λ cells. Stands old.store.layout x (set cells i c)) keeps.cells stands)),
           )
         ];
         firm_up = λ up. absurd (true≢false (sym up));

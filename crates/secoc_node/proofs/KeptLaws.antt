@@ -47,8 +47,8 @@ cells_found config kept cells is size slots bounds =
     ext_get_or [] (drop 14 cells) (bound_cells config.routes kept.bounds)
     (omega (arith, length-drop 14 cells, size, length-bound_cells config.routes kept.bounds is.bounds))
     (λ k inside.
-        let within : k < length config.routes = omega (arith, length-drop 14 cells, size, inside) in
-        get_or-drop 14 cells k [] ∙ bounds k within ∙ sym (get_or-bound_cells config.routes kept.bounds k is.bounds within)) in
+    let within : k < length config.routes = omega (arith, length-drop 14 cells, size, inside) in
+    get_or-drop 14 cells k [] ∙ bounds k within ∙ sym (get_or-bound_cells config.routes kept.bounds k is.bounds within)) in
     sym (take-append-drop 14 cells) ∙ ap (λ front. front ++ drop 14 cells) slots.cells_are ∙ ap (λ rest. map slot_cell kept.slots ++ rest) behind
 
 -- ---- the list of cells tells what is kept
@@ -70,11 +70,11 @@ kept_once config kept other good is also same =
     (one_list (CellsOf config kept) kept.slots other.slots (hold_slots config kept is) (subst (λ cells. HoldSlots cells other.slots) (sym same) (hold_slots config other also)))
     (ext_get_or 0 kept.bounds other.bounds (is.bounds ∙ sym also.bounds)
     (λ k inside.
-        let within : k < length config.routes = omega (arith, inside, is.bounds) in
-        let route = route_in config.routes k in
-        (one_bound (cell_in (CellsOf config kept) (14 + k)) route.id route.id route.direction route.direction (get_or kept.bounds k 0) (get_or other.bounds k 0)
-        (holds_kept config kept k good is within)
-        (subst (λ cells. HoldsBound (cell_in cells (14 + k)) route.id route.direction (get_or other.bounds k 0)) (sym same) (holds_kept config other k good also within))).2))
+    let within : k < length config.routes = omega (arith, inside, is.bounds) in
+    let route = route_in config.routes k in
+    (one_bound (cell_in (CellsOf config kept) (14 + k)) route.id route.id route.direction route.direction (get_or kept.bounds k 0) (get_or other.bounds k 0)
+    (holds_kept config kept k good is within)
+    (subst (λ cells. HoldsBound (cell_in cells (14 + k)) route.id route.direction (get_or other.bounds k 0)) (sym same) (holds_kept config other k good also within))).2))
 
 -- ---- these cells are all slots and bounds
 

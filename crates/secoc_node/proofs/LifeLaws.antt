@@ -60,11 +60,11 @@ counters_at_bounds : (routes : List Route) (cells : List (List ℕ)) (counters :
 counters_at_bounds routes cells counters begun =
     ext_get_or 0 (map freshness_in counters) (map bound_in counters) (length-map counters freshness_in ∙ sym (length-map counters bound_in))
     (λ k inside.
-        let within : k < length counters = omega (arith, inside, length-map counters freshness_in) in
-        let b = begun.each k (omega (arith, within, begun.as_many)) in
-        get_or-map freshness_in counters k no_counter 0 within
-        ∙ at_bound cells (14 + k) (route_in routes k) (counter_in counters k) b
-        ∙ sym (get_or-map bound_in counters k no_counter 0 within))
+    let within : k < length counters = omega (arith, inside, length-map counters freshness_in) in
+    let b = begun.each k (omega (arith, within, begun.as_many)) in
+    get_or-map freshness_in counters k no_counter 0 within
+    ∙ at_bound cells (14 + k) (route_in routes k) (counter_in counters k) b
+    ∙ sym (get_or-map bound_in counters k no_counter 0 within))
 
 -- ---- the node
 

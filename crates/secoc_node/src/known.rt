@@ -6,8 +6,8 @@ ghost use Rattle.bus_machine.specs.Node.{place_in};
 ghost use Rattle.secoc_node.specs.Keeping.{BeginsLife, FindsRoute};
 
 use crate::counters::{RouteCounter, begin_again, check_bounds, counters_of};
-use crate::routes::place_of;
 use crate::faults::{AttachFault, CutFault, NodeFault};
+use crate::routes::place_of;
 use cell_store::Cells;
 use freshness_manager::{Direction, NodeConfig, Route};
 use she_engine::Engine;

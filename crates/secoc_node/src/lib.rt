@@ -14,9 +14,13 @@ mod cells;
 mod counters;
 mod faults;
 mod known;
+mod laws;
 mod node;
 mod routes;
+#[cfg(test)]
+mod tests;
 
 pub use cells::first_cells;
 pub use faults::{AttachFault, CutFault, NodeFault, NodeRefused};
+pub use laws::{a_settled_disk_fits_its_node, cells_tell_what_is_kept};
 pub use node::Node;

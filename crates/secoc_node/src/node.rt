@@ -105,7 +105,14 @@ impl<C: Cells> Node<C> {
         let RouteCounter::Sends(tx) = &mut self.known.counters[place] else {
             unreachable!();
         };
-        match send(&self.known.engine, tx, &mut self.cells, &route, payload, out) {
+        match send(
+            &self.known.engine,
+            tx,
+            &mut self.cells,
+            &route,
+            payload,
+            out,
+        ) {
             Ok(sent) => Ok(sent),
             Err(SendFault::BadLength) => Err(NodeFault::BadLength),
             Err(SendFault::Key(refusal)) => Err(NodeFault::Key(refusal)),
