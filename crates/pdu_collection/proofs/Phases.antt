@@ -3,7 +3,8 @@ use Rattle.std.proofs.Common.{◌≡◌, ℕ, List, [], refl, inl, inr, ap, subs
 use Rattle.std.specs.Prelude.{Result, Ok, Err, Vec}
 use Rattle.std.specs.declared.alloc.Global.{Global}
 use Rattle.bus_port.specs.Source.{SourceState}
-use Rattle.bus_port.specs.Sink.{SinkState, Appended, Appended-nothing}
+use Rattle.bus_port.specs.Sink.{SinkState, Appended}
+use Rattle.bus_port.specs.SinkLaws.{Appended-nothing}
 use Rattle.bus_port.specs.Whole.{ReadsAll}
 use Rattle.command_edge.specs.Input.{input_limit, NoInput}
 use Rattle.command_edge.specs.declared.input.InputFault.TheVariants as input
