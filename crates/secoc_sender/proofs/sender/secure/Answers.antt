@@ -1,5 +1,5 @@
 -- The PDU is assembled with the authenticator of its own input.
-use Rattle.std.proofs.Common.{◌≡◌, List, ℕ, Result, Ok, Err, IfOk, take, ap, ◌∙◌}
+use Rattle.std.proofs.Common.{◌≡◌, List, ℕ, Result, Ok, Err, IfOk, ap, ◌∙◌}
 use Rattle.key_slots.specs.declared.refusals.Erc.{Erc}
 use Rattle.key_slots.specs.Slots.{slot_at}
 use Rattle.memory_update.specs.Loading.{key_in}
