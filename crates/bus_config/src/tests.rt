@@ -404,16 +404,17 @@ fn what_is_told_is_in_the_bus(rt: HostRuntime) -> Result<(), Fail> {
     assert!(rt; bus.kind() == Kind::Twin && bus.version() == Version::One);
     assert_eq!(rt; bus.nodes().len(), 2);
     assert_eq!(rt; bus.find(b"right"), Some(1));
-    let left = &bus.nodes()[0];
+    let left = bus.nodes().first().ok_or("a node")?;
     assert!(rt; left.name.bytes() == b"left".as_slice());
     assert!(rt; *left.config.uid.bytes() == [0, 0, 0, 0, 0, 0, 0, 0, 0, 0, 0, 0, 0, 0, 1]);
-    let sent = left.config.routes.as_slice()[0];
+    let sent = left.config.routes.as_slice().first().ok_or("a route")?;
     assert_eq!(rt; sent.id, 0x6bc1);
     assert_eq!(rt; sent.direction, Direction::Sends);
     assert_eq!(rt; sent.slot.number(), 4);
     assert_eq!(rt; (sent.reserve, sent.window), (4, 256));
     assert_eq!(rt; sent.start, 0xe93d_7e11_7393_1729);
-    let heard = bus.nodes()[1].config.routes.as_slice()[0];
+    let right = bus.nodes().get(1).ok_or("a node")?;
+    let heard = right.config.routes.as_slice().first().ok_or("a route")?;
     assert_eq!(rt; heard.direction, Direction::Receives);
     assert_eq!(rt; (heard.reserve, heard.window), (1, 256));
     let spare = bus_of(
@@ -423,9 +424,9 @@ version=2
 node=[{name="a",uid="0000000000000000000000000000Ab",route=[{id="000F",direction="receive",slot=0xd,window=16}]}]"#,
     )?;
     assert!(rt; spare.kind() == Kind::Log && spare.version() == Version::Two);
-    let config = &spare.nodes()[0].config;
+    let config = &spare.nodes().first().ok_or("a node")?.config;
     assert_eq!(rt; config.uid.bytes()[14], 0xab);
-    let route = config.routes.as_slice()[0];
+    let route = config.routes.as_slice().first().ok_or("a route")?;
     assert_eq!(rt; (route.id, route.slot.number()), (15, 13));
     assert_eq!(rt; (route.reserve, route.window), (1, 16));
     assert_eq!(rt; route.start, 0);
@@ -476,7 +477,8 @@ fn nodes_have_as_many_routes_as_their_version_has(rt: HostRuntime) -> Result<(),
             Ok(bus) => {
                 assert_eq!(rt; fault, None, "{version} {nodes} {routes}");
                 assert_eq!(rt; bus.nodes().len(), nodes as usize);
-                let read = bus.nodes()[0].config.routes.as_slice();
+                let node = bus.nodes().first().ok_or("a node")?;
+                let read = node.config.routes.as_slice();
                 assert_eq!(rt; read.len(), routes as usize);
             }
             Err(told) => assert_eq!(rt; Some(told), fault, "{version} {nodes} {routes}"),

@@ -85,21 +85,13 @@ fn a_bus_of_two_nodes_is_one_and_its_nodes_are_found(rt: HostRuntime) -> Result<
     Ok(())
 }
 
-// Nodes with these names, the first of which sends so many Data IDs and each other the last of them.
-fn nodes(alloc: Global, names: &[&[u8]], sent: u16, again: bool) -> Result<Vec<NodeLine>, Fail> {
-    let mut listed = Vec::new(alloc);
-    for (place, name) in names.iter().enumerate() {
-        let mut routes = Vec::new(alloc);
-        if place == 0 {
-            for id in 0..sent {
-                routes.push((id, true))?;
-            }
-        } else {
-            routes.push((sent - 1, again))?;
-        }
-        listed.push(node(alloc, name, routes.as_slice())?)?;
+// A node that receives so many Data IDs, counted from 0.
+fn hearer(alloc: Global, name: &[u8], count: u16) -> Result<NodeLine, Fail> {
+    let mut routes = Vec::new(alloc);
+    for id in 0..count {
+        routes.push((id, false))?;
     }
-    Ok(listed)
+    node(alloc, name, routes.as_slice())
 }
 
 const EIGHT: [&[u8]; 8] = [b"a", b"b", b"c", b"d", b"e", b"f", b"g", b"h"];
@@ -108,28 +100,41 @@ const NINE: [&[u8]; 9] = [b"a", b"b", b"c", b"d", b"e", b"f", b"g", b"h", b"i"];
 
 const SAME: [&[u8]; 3] = [b"ab", b"ac", b"ab"];
 
+const OTHER: [&[u8]; 2] = [b"ab", b"ac"];
+
 #[test]
 fn a_bus_has_its_bounds(rt: HostRuntime) -> Result<(), Fail> {
-    let alloc = rt.alloc();
     let none: [&[u8]; 0] = [];
-    let rows: [(&[&[u8]], u16, bool, Version, bool); 10] = [
-        (&none, 1, false, Version::One, false),
-        (&EIGHT[..1], 1, false, Version::One, true),
-        (&EIGHT, 64, false, Version::One, true),
-        (&NINE, 1, false, Version::One, false),
-        (&EIGHT[..2], 65, false, Version::One, false),
-        (&EIGHT[..2], 65, false, Version::Two, true),
-        (&EIGHT, 256, false, Version::Two, true),
-        (&SAME, 1, false, Version::One, false),
-        (&SAME[..2], 1, false, Version::One, true),
-        (&EIGHT[..3], 2, true, Version::One, false),
+    let rows: [(&[&[u8]], u16, Version, bool); 8] = [
+        (&none, 1, Version::One, false),
+        (&EIGHT, 64, Version::One, true),
+        (&NINE, 1, Version::One, false),
+        (&EIGHT, 65, Version::One, false),
+        (&OTHER, 65, Version::Two, true),
+        (&EIGHT, 256, Version::Two, true),
+        (&SAME, 1, Version::One, false),
+        (&OTHER, 1, Version::One, true),
     ];
-    for (names, sent, again, version, is_one) in rows {
-        let listed = nodes(alloc, names, sent, again)?;
-        let sent_twice = sent_again(listed.as_slice());
-        assert_eq!(rt; sent_twice, if again { Some(sent - 1) } else { None });
-        let made = BusConfig::new(Kind::Twin, version, listed);
-        assert_eq!(rt; made.is_some(), is_one, "{sent} {again} {is_one}");
+    for (names, count, version, is_one) in rows {
+        let mut nodes = Vec::new(rt.alloc());
+        for name in names {
+            nodes.push(hearer(rt.alloc(), name, count)?)?;
+        }
+        let made = BusConfig::new(Kind::Twin, version, nodes);
+        assert_eq!(rt; made.is_some(), is_one, "{count} routes");
     }
+    Ok(())
+}
+
+#[test]
+fn a_data_id_is_sent_by_one_route(rt: HostRuntime) -> Result<(), Fail> {
+    let alloc = rt.alloc();
+    let mut nodes = Vec::new(alloc);
+    nodes.push(node(alloc, b"a", &[(1, true), (2, true), (3, false)])?)?;
+    nodes.push(node(alloc, b"b", &[(1, false), (3, true)])?)?;
+    assert_eq!(rt; sent_again(nodes.as_slice()), None);
+    nodes.push(node(alloc, b"c", &[(4, true), (2, true), (1, true)])?)?;
+    assert_eq!(rt; sent_again(nodes.as_slice()), Some(2));
+    assert!(rt; BusConfig::new(Kind::Twin, Version::One, nodes).is_none());
     Ok(())
 }
