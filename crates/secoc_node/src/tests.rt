@@ -1,5 +1,7 @@
 //! Two nodes of a bus over either store in memory, in both versions: keys that gate sends, frames that are accepted once, power cuts, a disk
 //! that stops within any call, and the last freshness. The tags are those of OpenSSL's CMAC.
+ghost use Rattle.std.specs.Prelude.{◌≤◌};
+
 use crate::{AttachFault, Node, NodeFault, first_cells};
 use cell_store::{Cells, CutCells, LogCells, TwinCells, Version};
 use cut_disk::{MemDisk, Torn};
@@ -79,7 +81,16 @@ fn twin_node(
     config: NodeConfig,
 ) -> Result<Node<TwinCells<MemDisk>>, Fail> {
     let mut cells = [[0; 32]; 270];
-    let count = first_cells(&config, &mut cells);
+    twin_over(alloc, version, config, &mut cells)
+}
+
+fn twin_over(
+    alloc: Global,
+    version: Version,
+    config: NodeConfig,
+    cells: &mut [[u8; 32]; 270],
+) -> Result<Node<TwinCells<MemDisk>>, Fail> {
+    let count = first_cells(&config, cells);
     let disk = MemDisk::new(alloc, 40_000)?;
     let disk = match TwinCells::format_as(disk, version, &cells[..count]) {
         Ok(disk) => disk,
@@ -101,7 +112,16 @@ fn log_node(
     config: NodeConfig,
 ) -> Result<Node<LogCells<MemDisk>>, Fail> {
     let mut cells = [[0; 32]; 270];
-    let count = first_cells(&config, &mut cells);
+    log_over(alloc, version, config, &mut cells)
+}
+
+fn log_over(
+    alloc: Global,
+    version: Version,
+    config: NodeConfig,
+    cells: &mut [[u8; 32]; 270],
+) -> Result<Node<LogCells<MemDisk>>, Fail> {
+    let count = first_cells(&config, cells);
     let disk = MemDisk::new(alloc, 40_000)?;
     let disk = match LogCells::format_as(disk, version, &cells[..count]) {
         Ok(disk) => disk,
@@ -423,7 +443,9 @@ fn stops<C: CutCells>(
     calls: u64,
     torn: Torn,
     is_new: bool,
-) -> Result<(), Fail> {
+) -> Result<(), Fail>
+    requires { 1 ≤ calls }
+{
     load_key(node, 2)?;
     node.stop_at(calls);
     assert_eq!(rt; node.receive(ID, &FIRST), Err(NodeFault::Faulted));
