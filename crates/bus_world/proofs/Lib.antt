@@ -1,0 +1,6 @@
+mod Finding
+mod Searching
+mod Keeping
+mod Turning
+mod Stepping
+mod StepLaws

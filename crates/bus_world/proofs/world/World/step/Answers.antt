@@ -1,0 +1,26 @@
+use Rattle.std.specs.Prelude.{◌≡◌, ◌+◌}
+use Rattle.std.proofs.Common.{refl, sym, ap, subst, ◌∙◌}
+use Rattle.machine_runs.specs.Members.{MemberSteps}
+use Rattle.bus_machine.specs.Bus.{node_of}
+use Rattle.bus_world.specs.Turns.{duty_of, NodeTurn}
+use Rattle.bus_world.specs.History.{HistoryState, noted}
+use Rattle.bus_world.specs.Worlds.{BusState, world_of}
+use Rattle.bus_world.proofs.Turning.{turn_is_send, noted_lines, noted_counts}
+use Rattle.bus_world.proofs.world.World.step.Goals as goal
+
+pub returns : goal.returns
+returns g c =
+    let turned = c.turn-line.ensures in
+    let old = c.args.self.now in
+    let line = c.turn-line.result in
+    let history = c.self.inside.history in
+    let events : history.events ≡ old.events = ap (λ (s : BusState). s.events) c.self.view_is ∙ turned.events in
+    let sent : history.lines ≡ old.sent = ap (λ (s : BusState). s.sent) c.self.view_is ∙ turned.sent in
+    record {
+      one = subst (λ nodes. MemberSteps NodeTurn old.nodes (node_of c.args.event.now) (duty_of (world_of old) c.args.event.now) line nodes) (sym (ap (λ (s : BusState). s.nodes) c.self.view_is)) turned.one;
+      source = turned.source;
+      events = ap (λ (h : HistoryState). h.events) c.note.ensures ∙ (noted_counts history line).0 ∙ ap (λ n. n + 1) events;
+      most = ap (λ (h : HistoryState). h.most) c.note.ensures ∙ (noted_counts history line).1 ∙ ap (λ (s : BusState). s.most) c.self.view_is ∙ turned.most;
+      sent = ap (λ (h : HistoryState). h.lines) c.note.ensures
+          ∙ noted_lines history (world_of old) c.args.event.now line (sym events) (sym sent) (turn_is_send (world_of old) c.args.event.now line turned.one.before turned.one.after turned.one.step);
+    }

@@ -1,0 +1,4 @@
+pub mod History
+pub mod Records
+pub mod Turns
+pub mod Worlds

@@ -1,0 +1,64 @@
+-- Worlds over disks: the nodes of a bus with their stores, and what was sent on it
+use Rattle.std.specs.Prelude.{◌≡◌, ℕ, ◌+◌, ◌<◌, ◌≤◌, Some, List, length, map, slice_get, All}
+use Rattle.machine_runs.specs.Members.{MemberSteps}
+use Rattle.machine_runs.specs.Run.{Moment, Run, seen_as}
+use Rattle.bus_machine.specs.declared.events.Event.{Event}
+use Rattle.bus_machine.specs.declared.lines.Line.{Line}
+use Rattle.bus_machine.specs.Bus.{World, SentLine, node_of, NamesSource, sent_after, Step}
+use Rattle.bus_machine.specs.Past.{mark_of}
+use Rattle.secoc_node.specs.State.{NodeState, TellsFitting}
+use Rattle.bus_world.specs.Turns.{HasFields, IsCertain, duty_of, NodeTurn}
+
+-- the nodes in their order, how many events there were and may be, and the lines that were sent
+pub record BusState : Type 0 where
+  pub nodes : List NodeState
+  pub events : ℕ
+  pub most : ℕ
+  pub sent : List SentLine
+
+-- the world of the machine
+abbrev pub world_of : BusState → World
+world_of s = record { nodes = map (λ n. n.node) s.nodes; events = s.events; sent = s.sent }
+
+-- an event of a bus of so many nodes, as scripts have them
+pub record IsEventOf (nodes : ℕ) (event : Event) : Type 0 where
+  pub of_bus : node_of event < nodes
+  pub fields : HasFields event
+
+-- a world may be given these events, in this order: they are of its nodes, and there is room for what they send
+pub record IsReady (s : BusState) (events : List Event) : Type 0 where
+  pub of_bus : All (IsEventOf (length s.nodes)) events
+  pub room : s.events + length events ≤ s.most
+
+-- the event's node takes its turn over its disk, the other nodes and their disks are as before, and what was sent is put down
+pub record BusTurn (before : BusState) (event : Event) (line : Line) (after : BusState) : Type 0 where
+  pub one : MemberSteps NodeTurn before.nodes (node_of event) (duty_of (world_of before) event) line after.nodes
+  pub source : NamesSource (world_of before) line
+  pub events : after.events ≡ before.events + 1
+  pub most : after.most ≡ before.most
+  pub sent : after.sent ≡ sent_after (world_of before) event line
+
+-- what the turn changes before the event is put down
+pub record Turned (before : BusState) (event : Event) (line : Line) (after : BusState) : Type 0 where
+  pub one : MemberSteps NodeTurn before.nodes (node_of event) (duty_of (world_of before) event) line after.nodes
+  pub source : NamesSource (world_of before) line
+  pub events : after.events ≡ before.events
+  pub most : after.most ≡ before.most
+  pub sent : after.sent ≡ before.sent
+
+-- ---- worlds as those of the machine
+
+-- each disk tells its bytes, and they fit its node
+abbrev pub EachFits : BusState → Type 0
+EachFits s = (i : ℕ) (n : NodeState) → slice_get s.nodes i ≡ Some n → TellsFitting n
+
+-- a turn is the machine's step: always where the event is no cut, and where it is one, over a disk that tells its bytes and fits its node
+abbrev pub TurnsAreSteps : Type 0
+TurnsAreSteps = (before : BusState) (event : Event) (line : Line) (after : BusState) → BusTurn before event line after
+    → ((n : NodeState) → slice_get before.nodes (node_of event) ≡ Some n → IsCertain (mark_of event) n)
+    → Step (world_of before) event line (world_of after)
+
+-- turns over disks that tell their bytes and fit are a run of the machine, and leave the disks so
+abbrev pub TurnsAreRuns : Type 0
+TurnsAreRuns = (start now : BusState) (moments : List (Moment Event Line BusState)) → EachFits start → Run BusTurn start moments now
+    → Run Step (world_of start) (seen_as (λ event. event) world_of moments) (world_of now) × EachFits now

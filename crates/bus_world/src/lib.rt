@@ -1,0 +1,11 @@
+//! The world of a bus: its nodes over their disks, and what was sent on it so far.
+#![tactic(auto)]
+
+mod history;
+mod laws;
+mod records;
+mod turns;
+mod world;
+
+pub use laws::{turns_are_runs, turns_are_steps};
+pub use world::World;

@@ -1,0 +1,210 @@
+//! What an event is for its node: a call, and the line that tells its answer.
+ghost use Rattle.std.specs.Prelude.{◌≡◌, ◌≤◌, ◌==◌, None, Some, length, take, find};
+ghost use Rattle.bus_machine.specs.Bus.{World, node_of as place_of_node, hearing, NamesSource};
+ghost use Rattle.cut_disk.specs.State.{Cut, Stop, Fail};
+ghost use Rattle.secure_boot.specs.Booting.{IsImage};
+ghost use Rattle.bus_machine.specs.Steps.{sends, receives, loads, keys, boots, cuts, arms};
+ghost use Rattle.secoc_node.specs.Lines.{refusal_of_fault, refusal_of_cut};
+ghost use Rattle.bus_world.specs.Turns.{NodeTurn, duty, duty_of, HasFields, NamesSourceIn};
+
+use crate::history::History;
+use bus_machine::{Event, Line, Refusal};
+use byte_lists::Pdu;
+use cell_store::{Cells, CutCells, Reread};
+use cut_disk::Torn;
+use memory_update::{Request, Update, build};
+use secoc_node::{CutFault, Node, NodeFault};
+use secoc_receiver::Reception;
+use she_aes::Block;
+
+/// The place of the event's node in the bus.
+pub(crate) fn node_of(event: &Event) -> u8
+    ensures { result ≡ place_of_node event.now }
+{
+    match event {
+        Event::Send { node, .. } => *node,
+        Event::Deliver { node, .. } => *node,
+        Event::Inject { node, .. } => *node,
+        Event::Load { node, .. } => *node,
+        Event::Key { node, .. } => *node,
+        Event::Boot { node, .. } => *node,
+        Event::Cut { node, .. } => *node,
+        Event::Stop { node, .. } => *node,
+        Event::Fail { node, .. } => *node,
+    }
+}
+
+/// The node of an event does what the event tells it, after what was sent so far.
+pub(crate) fn take_turn<C: CutCells>(node: &mut Node<C>, event: &Event, history: &History) -> Line
+    requires { HasFields event.now }
+    ensures turn { (world : World) → world.sent ≡ history.now.lines
+        → NodeTurn node.old (duty_of world event.now) result node.new }
+    ensures source { (world : World) → world.sent ≡ history.now.lines → NamesSource world result }
+{
+    match event {
+        Event::Send { id, payload, .. } => send(node, *id, payload.bytes()),
+        Event::Deliver { event, .. } => deliver(node, *event, history),
+        Event::Inject { id, pdu, .. } => receive(node, *id, pdu.bytes(), history),
+        Event::Load { request, .. } => load(node, request),
+        Event::Key {
+            update,
+            authkey,
+            ..
+        } => key(node, update, authkey),
+        Event::Boot { image, .. } => boot(node, image.bytes()),
+        Event::Cut { torn, .. } => cut(node, *torn),
+        Event::Stop { calls, .. } => stop(node, *calls),
+        Event::Fail { calls, .. } => fail(node, *calls),
+    }
+}
+
+/// The node sends a payload.
+fn send<C: Cells>(node: &mut Node<C>, id: u16, payload: &[u8]) -> Line
+    ensures { NodeTurn node.old (duty (sends id payload.now) None) result node.new }
+{
+    let mut out = [0; 64];
+    match node.send(id, payload, &mut out) {
+        Ok(sent) => Line::Sent {
+            id,
+            freshness: sent.freshness,
+            pdu: front(&out, sent.len),
+        },
+        Err(fault) => Line::Refused(refusal_of(fault)),
+    }
+}
+
+/// The node receives the PDU that the event of this number sent, if it did.
+fn deliver<C: Cells>(node: &mut Node<C>, event: u32, history: &History) -> Line
+    ensures turn { NodeTurn node.old (duty (hearing (find (λ s. s.number == event) history.now.lines)) None) result node.new }
+    ensures source { NamesSourceIn history.now.lines result }
+{
+    match history.frame(event) {
+        Some(frame) => receive(node, frame.id, frame.pdu.bytes(), history),
+        None => Line::NoFrame,
+    }
+}
+
+/// The node receives a PDU. An accepted line names the earliest event that sent what is accepted.
+fn receive<C: Cells>(node: &mut Node<C>, id: u16, pdu: &[u8], history: &History) -> Line
+    ensures turn { NodeTurn node.old (duty (receives id pdu.now) None) result node.new }
+    ensures source { NamesSourceIn history.now.lines result }
+{
+    match node.receive(id, pdu) {
+        Ok(Reception::Accepted { freshness, len }) => {
+            let payload = front(pdu, len);
+            Line::Accepted {
+                id,
+                freshness,
+                payload,
+                from: history.source(id, payload.bytes(), freshness),
+            }
+        }
+        Ok(Reception::FreshnessFailure) => Line::FreshnessFailure,
+        Ok(Reception::VerificationFailure) => Line::VerificationFailure,
+        Err(fault) => Line::Refused(refusal_of(fault)),
+    }
+}
+
+/// The first bytes, so many of them, as a PDU.
+fn front(bytes: &[u8], len: u8) -> Pdu
+    requires { length (take len bytes.now) ≤ 64 }
+    ensures { result ≡ take len bytes.now }
+{
+    let len = usize::from(len).min(bytes.len());
+    Pdu::of(&bytes[..len]).unwrap()
+}
+
+/// The node's engine gets a request.
+fn load<C: Cells>(node: &mut Node<C>, request: &Request) -> Line
+    ensures { NodeTurn node.old (duty (loads request.now) None) result node.new }
+{
+    match node.load(request) {
+        Ok(reply) => Line::Loaded { reply },
+        Err(fault) => Line::Refused(refusal_of(fault)),
+    }
+}
+
+/// The node's engine gets the request that carries an update.
+fn key<C: Cells>(node: &mut Node<C>, update: &Update, authkey: &Block) -> Line
+    ensures { NodeTurn node.old (duty (keys update.now authkey.now) None) result node.new }
+{
+    match node.load(&build(update, authkey)) {
+        Ok(_) => Line::Keyed { slot: update.id },
+        Err(fault) => Line::Refused(refusal_of(fault)),
+    }
+}
+
+/// The node makes a secure boot.
+fn boot<C: Cells>(node: &mut Node<C>, image: &[u8]) -> Line
+    requires { IsImage image.now }
+    ensures { NodeTurn node.old (duty (boots image.now) None) result node.new }
+{
+    match node.boot(image) {
+        Ok(good) => Line::Boot { good },
+        Err(fault) => Line::Refused(refusal_of(fault)),
+    }
+}
+
+/// The node's power is cut and comes back.
+fn cut<C: CutCells>(node: &mut Node<C>, torn: Torn) -> Line
+    ensures { NodeTurn node.old (duty cuts (Some (Cut torn))) result node.new }
+{
+    match node.power_cut(torn) {
+        Ok(()) => Line::Up,
+        Err(fault) => Line::Refused(cut_refusal(&fault)),
+    }
+}
+
+/// From a call on each call of the node's disk fails, until its power is cut.
+fn stop<C: CutCells>(node: &mut Node<C>, calls: u32) -> Line
+    requires { 1 ≤ calls }
+    ensures { NodeTurn node.old (duty arms (Some (Stop calls))) result node.new }
+{
+    node.stop_at(u64::from(calls));
+    Line::Armed
+}
+
+/// A call of the node's disk fails.
+fn fail<C: CutCells>(node: &mut Node<C>, calls: u32) -> Line
+    requires { 1 ≤ calls }
+    ensures { NodeTurn node.old (duty arms (Some (Fail calls))) result node.new }
+{
+    node.fail_at(u64::from(calls));
+    Line::Armed
+}
+
+/// Why a node refused.
+fn refusal_of(fault: NodeFault) -> Refusal
+    ensures { result ≡ refusal_of_fault fault }
+{
+    match fault {
+        NodeFault::Down => Refusal::Down,
+        NodeFault::NoRoute => Refusal::NoRoute,
+        NodeFault::BadLength => Refusal::BadLength,
+        NodeFault::Key(erc) => Refusal::Key(erc),
+        NodeFault::Exhausted => Refusal::Exhausted,
+        NodeFault::Faulted => Refusal::MemoryFailure,
+    }
+}
+
+/// Why a node didn't come up.
+fn cut_refusal(fault: &CutFault) -> Refusal
+    ensures { result ≡ refusal_of_cut fault.now }
+{
+    match fault {
+        CutFault::Store(reread) => reread_refusal(reread),
+        CutFault::BadSlot(slot) => Refusal::BadSlot(*slot),
+        CutFault::BadBound(cell) => Refusal::BadBound(*cell),
+    }
+}
+
+/// Why a store wasn't read anew.
+fn reread_refusal(reread: &Reread) -> Refusal
+    ensures { result ≡ refusal_of_cut (CutFault.Store reread.now) }
+{
+    match reread {
+        Reread::DiskFailed => Refusal::MemoryFailure,
+        Reread::NotFormatted => Refusal::NotFormatted,
+        Reread::Damaged(place) => Refusal::Damaged(*place),
+    }
+}
