@@ -16,6 +16,8 @@ mod run;
 #[cfg(test)]
 mod tests;
 
+ghost use Rattle.std.specs.Prelude.{◌≡◌, ◌≢◌, ◌⊎◌, ◌<◌, drop, length, map, string_bytes, IfOk};
+
 use crate::run::run_pairs;
 use bus_port::{CleanSource, Sink, StdSink};
 use command_edge::{NO_MEMORY, behind_name, open_named, words_of};
@@ -41,7 +43,10 @@ fn main(rt: HostRuntime) -> ExitCode {
 
 /// Runs the words of the command line, the program's name first, over standard output and the script that they name; without a word over
 /// the example.
-fn start(rt: &HostRuntime, words: &[String]) -> u8 {
+fn start(rt: &HostRuntime, words: &[String]) -> u8
+    ensures usage { result ≡ 2 → 1 < length (drop 1 (map string_bytes words.now)) }
+    ensures usage_only { 1 < length (drop 1 (map string_bytes words.now)) → (result ≡ 2) ⊎ (result ≡ 6) }
+{
     let words = behind_name(words);
     let mut sink = StdSink::new(rt.stdout());
     match words {
@@ -54,7 +59,9 @@ fn start(rt: &HostRuntime, words: &[String]) -> u8 {
 }
 
 /// Runs the example.
-fn run_example<K: Sink>(alloc: Global, sink: &mut K) -> u8 {
+fn run_example<K: Sink>(alloc: Global, sink: &mut K) -> u8
+    ensures { result ≢ 2 }
+{
     match example(alloc) {
         Ok((words, bytes)) => {
             let mut script = CleanSource::new(bytes);
@@ -65,7 +72,9 @@ fn run_example<K: Sink>(alloc: Global, sink: &mut K) -> u8 {
 }
 
 /// The one word of the example, and its script.
-fn example(alloc: Global) -> Result<(Vec<String>, Vec<u8>), AllocError> {
+fn example(alloc: Global) -> Result<(Vec<String>, Vec<u8>), AllocError>
+    ensures { IfOk result (λ made. length (made.0.items) ≡ 1) }
+{
     let mut words = Vec::new(alloc);
     words.push(String::from_str(alloc, "-")?)?;
     let mut bytes = Vec::new(alloc);
