@@ -20,7 +20,7 @@ use Rattle.secoc_node.specs.declared.faults.NodeFault.{NodeFault}
 use Rattle.secoc_node.specs.declared.faults.NodeFault.TheVariants as fault
 use Rattle.secoc_node.specs.Lines.{refusal_of_fault, IfLeftAlone}
 use Rattle.secoc_node.specs.State.{NodeState, FitsNow}
-use Rattle.bus_world.specs.History.{HistoryState, noted}
+use Rattle.bus_world.specs.History.{HistoryState, with_line}
 use Rattle.bus_world.specs.Turns.{duty, duty_of, TellsFaults, NodeTurn}
 use Rattle.bus_machine.specs.Steps.{Act, sends, receives, loads, keys, boots, cuts, arms, hears_nothing, Faults, PowersUp, NodeStep}
 
@@ -136,7 +136,7 @@ turn_is_send w (event.Stop node calls) (Sent told v pdu) before after turn = tur
 turn_is_send w (event.Fail node calls) (Sent told v pdu) before after turn = turn.step tt
 turn_is_send w _ _ before after turn = tt
 
-pub noted_lines : (h : HistoryState) (w : World) (e : Event) (line : Line) → w.events ≡ h.events → w.sent ≡ h.lines → IsSendOf e line → (noted h line).lines ≡ sent_after w e line
+pub noted_lines : (h : HistoryState) (w : World) (e : Event) (line : Line) → w.events ≡ h.events → w.sent ≡ h.lines → IsSendOf e line → (with_line h line).lines ≡ sent_after w e line
 noted_lines h w (event.Send node id payload) (Sent told v pdu) events sent is =
     ap (λ lines. lines ++ record { number = h.events + 1; id = told; payload = payload_of pdu; freshness = v; pdu = pdu } ∷ []) (sym sent)
     ∙ ap (λ n. w.sent ++ record { number = n + 1; id = told; payload = payload_of pdu; freshness = v; pdu = pdu } ∷ []) (sym events)
@@ -144,6 +144,6 @@ noted_lines h w (event.Send node id payload) (Sent told v pdu) events sent is =
 noted_lines h w _ (Sent told v pdu) events sent is = absurd is
 noted_lines h w _ _ events sent is = sym sent
 
-pub noted_counts : (h : HistoryState) (line : Line) → ((noted h line).events ≡ h.events + 1) × ((noted h line).most ≡ h.most)
+pub noted_counts : (h : HistoryState) (line : Line) → ((with_line h line).events ≡ h.events + 1) × ((with_line h line).most ≡ h.most)
 noted_counts h (Sent told v pdu) = (refl, refl)
 noted_counts h _ = (refl, refl)

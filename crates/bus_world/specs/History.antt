@@ -27,9 +27,9 @@ with_sent h id v pdu = record {
 }
 
 -- one more event with this line
-abbrev pub noted : HistoryState → Line → HistoryState
-noted h (Sent id v pdu) = with_sent h id v pdu
-noted h _ = record { events = h.events + 1; most = h.most; lines = h.lines }
+abbrev pub with_line : HistoryState → Line → HistoryState
+with_line h (Sent id v pdu) = with_sent h id v pdu
+with_line h _ = record { events = h.events + 1; most = h.most; lines = h.lines }
 
 -- the Data ID and the PDU of the line of this event, if it sent one
 abbrev pub frame_in : ℕ → List SentLine → Option Frame

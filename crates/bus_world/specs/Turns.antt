@@ -53,11 +53,11 @@ TellsFaults (Refused (BadBound cell)) before after = Unit {0}
 TellsFaults _ before after = after ≡ before
 
 -- a boot image has 1 to 65,536 bytes, and the calls of a stop or a failure are counted from 1
-abbrev pub HasFields : Event → Type 0
-HasFields (Boot node image) = IsImage image
-HasFields (Stop node calls) = 1 ≤ calls
-HasFields (Fail node calls) = 1 ≤ calls
-HasFields event = Unit {0}
+abbrev pub CanBeDone : Event → Type 0
+CanBeDone (Boot node image) = IsImage image
+CanBeDone (Stop node calls) = 1 ≤ calls
+CanBeDone (Fail node calls) = 1 ≤ calls
+CanBeDone event = Unit {0}
 
 -- an accepted line names the earliest of these lines that sent what it accepts
 abbrev pub NamesSourceIn : List SentLine → Line → Type 0

@@ -7,7 +7,7 @@ use Rattle.bus_machine.specs.declared.lines.Line.{Line}
 use Rattle.bus_machine.specs.Bus.{World, SentLine, node_of, NamesSource, sent_after, Step}
 use Rattle.bus_machine.specs.Past.{mark_of}
 use Rattle.secoc_node.specs.State.{NodeState, TellsFitting}
-use Rattle.bus_world.specs.Turns.{HasFields, IsCertain, duty_of, NodeTurn}
+use Rattle.bus_world.specs.Turns.{CanBeDone, IsCertain, duty_of, NodeTurn}
 
 -- the nodes in their order, how many events there were and may be, and the lines that were sent
 pub record BusState : Type 0 where
@@ -23,7 +23,7 @@ world_of s = record { nodes = map (λ n. n.node) s.nodes; events = s.events; sen
 -- an event of a bus of so many nodes, as scripts have them
 pub record IsEventOf (nodes : ℕ) (event : Event) : Type 0 where
   pub of_bus : node_of event < nodes
-  pub fields : HasFields event
+  pub fields : CanBeDone event
 
 -- a world may be given these events, in this order: they are of its nodes, and there is room for what they send
 pub record IsReady (s : BusState) (events : List Event) : Type 0 where

@@ -60,7 +60,7 @@ fn no_places(alloc: Global) -> Result<Vec<Option<u32>>, AllocError>
 
 impl History {
     ghost use Rattle.std.specs.Prelude.{◌≡◌, ◌<◌, IfOk, [], find, option_map};
-    ghost use Rattle.bus_world.specs.History.{noted, with_sent, frame_in, has_values};
+    ghost use Rattle.bus_world.specs.History.{with_line, with_sent, frame_in, has_values};
 
     /// No event yet, and room for the lines of so many.
     pub(crate) fn new(alloc: Global, most: u32) -> Result<History, AllocError>
@@ -118,7 +118,7 @@ impl History {
     /// Counts an event, and keeps its line where it was sent.
     pub(crate) fn note(&mut self, line: &Line)
         requires { self.old.events < self.old.most }
-        ensures { self.new ≡ noted self.old line.now }
+        ensures { self.new ≡ with_line self.old line.now }
     {
         match line {
             Line::Sent { id, freshness, pdu } => self.put(*id, *freshness, pdu),

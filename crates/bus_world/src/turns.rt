@@ -5,7 +5,7 @@ ghost use Rattle.cut_disk.specs.State.{Cut, Stop, Fail};
 ghost use Rattle.secure_boot.specs.Booting.{IsImage};
 ghost use Rattle.bus_machine.specs.Steps.{sends, receives, loads, keys, boots, cuts, arms};
 ghost use Rattle.secoc_node.specs.Lines.{refusal_of_fault, refusal_of_cut};
-ghost use Rattle.bus_world.specs.Turns.{NodeTurn, duty, duty_of, HasFields, NamesSourceIn};
+ghost use Rattle.bus_world.specs.Turns.{NodeTurn, duty, duty_of, CanBeDone, NamesSourceIn};
 
 use crate::history::History;
 use bus_machine::{Event, Line, Refusal};
@@ -36,7 +36,7 @@ pub(crate) fn node_of(event: &Event) -> u8
 
 /// The node of an event does what the event tells it, after what was sent so far.
 pub(crate) fn take_turn<C: CutCells>(node: &mut Node<C>, event: &Event, history: &History) -> Line
-    requires { HasFields event.now }
+    requires { CanBeDone event.now }
     ensures turn { (world : World) → world.sent ≡ history.now.lines
         → NodeTurn node.old (duty_of world event.now) result node.new }
     ensures source { (world : World) → world.sent ≡ history.now.lines → NamesSource world result }
