@@ -1,10 +1,9 @@
 -- The first element of a list that passes a test
-use Rattle.std.specs.Prelude.{◌≡◌, ◌≢◌, ℕ, suc, ◌<◌, ◌≤◌, ◌&&◌, ◌==◌, bytes_eq, Bool, true, false, cond, Option, None, Some, List, [], ◌∷◌, length, get_or, map, find, option_map}
+use Rattle.std.specs.Prelude.{◌≡◌, ℕ, suc, ◌<◌, Bool, true, false, cond, None, Some, List, [], ◌∷◌, length, get_or, map, find}
 use Rattle.std.proofs.Common.{refl, sym, ap, ◌∙◌, arith, zero}
-use Rattle.std.proofs.lemmas.List.{get_or-map, length-map}
 use Rattle.bus_machine.specs.Bus.{SentLine}
 use Rattle.bus_world.specs.declared.records.Record.{Record}
-use Rattle.bus_world.specs.History.{line_of, has_values}
+use Rattle.bus_world.specs.History.{line_of}
 
 pub find_none : {X : Type 0} (q : X → Bool) (xs : List X) → ((k : ℕ) (d : X) → k < length xs → q (get_or xs k d) ≡ false) → find q xs ≡ None
 find_none q [] none = refl

@@ -3,4 +3,6 @@ mod Searching
 mod Keeping
 mod Turning
 mod Stepping
+mod OpenLaws
 mod StepLaws
+mod StartLaws

@@ -1,5 +1,5 @@
 -- Searches among linked records
-use Rattle.std.specs.Prelude.{◌≡◌, ◌≢◌, ℕ, suc, ◌+◌, ◌<◌, ◌≤◌, ◌⊎◌, ◌&&◌, ◌==◌, bytes_eq, Bool, true, false, Option, None, Some, List, [], ◌∷◌, length, get_or, map, find, option_map}
+use Rattle.std.specs.Prelude.{◌≡◌, ◌≢◌, ℕ, ◌<◌, ◌≤◌, ◌⊎◌, ◌&&◌, ◌==◌, bytes_eq, Bool, true, false, Option, None, Some, List, [], length, get_or, map, find, option_map}
 use Rattle.std.specs.List.Sorted.{IsPartitionedBy}
 use Rattle.std.proofs.Common.{refl, sym, ap, ◌∙◌, arith, subst, inl, inr}
 use Rattle.std.proofs.Math.Dec.{ltb}
@@ -11,9 +11,8 @@ use Rattle.bus_machine.specs.Bus.{SentLine}
 use Rattle.secured_pdu.specs.Verdict.{payload_of}
 use Rattle.bus_world.specs.declared.records.Record.{Record}
 use Rattle.bus_world.specs.declared.records.Links.{Links}
-use Rattle.bus_world.specs.declared.history.Frame.{Frame}
 use Rattle.bus_world.specs.History.{line_of, has_values, frame_in}
-use Rattle.bus_world.specs.Records.{SameID, NoneWithin, IsLatest, LinkedAt, Linked, RisesByID, RisesByNumber, IsNumbered, NoneNumbered, HasAt, FoundAt, NotFound, BelowNext, UpTo}
+use Rattle.bus_world.specs.Records.{SameID, IsLatest, Linked, RisesByID, RisesByNumber, IsNumbered, NoneNumbered, HasAt, NotFound, BelowNext, UpTo}
 use Rattle.bus_world.proofs.Finding.{find_line, find_no_line}
 
 -- a record, for the default of a read

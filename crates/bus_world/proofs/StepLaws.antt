@@ -1,11 +1,10 @@
 -- Turns of a world as steps of the machine
-use Rattle.std.specs.Prelude.{◌≡◌, ◌⊎◌, ℕ, suc, Some, None, List, [], ◌∷◌, ◌++◌, map, set, slice_get, is_some}
-use Rattle.std.proofs.Common.{refl, sym, ap, ◌∙◌, subst, inl, inr, zero}
+use Rattle.std.specs.Prelude.{◌≡◌, ◌⊎◌, ℕ, suc, Some, List, [], ◌∷◌, map, set, slice_get}
+use Rattle.std.proofs.Common.{sym, ap, ◌∙◌, subst, inl, inr, zero}
 use Rattle.std.proofs.lemmas.List.{map-set}
 use Rattle.std.proofs.lemmas.Option.{same_Some}
 use Rattle.machine_runs.specs.Run.{Moment, Run, seen_as}
-use Rattle.machine_runs.specs.RunLaws.{Run-seen_as, Run-keeps}
-use Rattle.cut_disk.specs.State.{Told}
+use Rattle.machine_runs.specs.RunLaws.{Run-seen_as}
 use Rattle.bus_machine.specs.declared.events.Event.{Event}
 use Rattle.bus_machine.specs.declared.events.Event.TheVariants as event
 use Rattle.bus_machine.specs.declared.lines.Line.{Line}

@@ -1,21 +1,17 @@
 -- Turns of a node, from what its calls ensure
-use Rattle.std.specs.Prelude.{◌≡◌, ◌≢◌, ℕ, ◌+◌, ◌≤◌, None, Some, Option, Ok, Err, List, [], ◌∷◌, ◌++◌, length}
+use Rattle.std.specs.Prelude.{◌≡◌, ◌≢◌, ℕ, ◌+◌, ◌≤◌, None, Some, Option, Err, List, [], ◌∷◌, ◌++◌, length}
 use Rattle.std.proofs.Common.{refl, sym, ap, ◌∙◌, inl, inr, arith}
 use Rattle.bus_machine.specs.declared.lines.Line.{Line}
 use Rattle.bus_machine.specs.declared.lines.Line.TheVariants.{Sent, Accepted, FreshnessFailure, VerificationFailure, Keyed, Loaded, Boot, Up, Armed, NoFrame, Refused}
-use Rattle.bus_machine.specs.declared.lines.Refusal.{Refusal}
-use Rattle.bus_machine.specs.declared.lines.Refusal.TheVariants.{Down, NoRoute, BadLength, Key, Exhausted, MemoryFailure}
-use Rattle.cut_disk.specs.State.{DiskState}
+use Rattle.bus_machine.specs.declared.lines.Refusal.TheVariants.{MemoryFailure}
 use Rattle.cut_disk.specs.Calls.{Rose, Runs}
 use Rattle.cut_disk.specs.CallLaws.{runs_none, runs_more}
-use Rattle.secured_pdu.specs.Frame.{Secured}
 use Rattle.secured_pdu.specs.FrameLaws.{payload_of_secured}
 use Rattle.secured_pdu.specs.Verdict.{payload_of}
-use Rattle.bus_machine.specs.Node.{Node, Change, powered, changed, failed}
-use Rattle.machine_runs.specs.Members.{MemberSteps}
+use Rattle.bus_machine.specs.Node.{Node}
 use Rattle.bus_machine.specs.declared.events.Event.{Event}
 use Rattle.bus_machine.specs.declared.events.Event.TheVariants as event
-use Rattle.bus_machine.specs.Bus.{World, SentLine, hearing, act_of, sent_after}
+use Rattle.bus_machine.specs.Bus.{World, SentLine, hearing, sent_after}
 use Rattle.secoc_node.specs.declared.faults.NodeFault.{NodeFault}
 use Rattle.secoc_node.specs.declared.faults.NodeFault.TheVariants as fault
 use Rattle.secoc_node.specs.Lines.{refusal_of_fault, IfLeftAlone}

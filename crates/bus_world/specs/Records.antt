@@ -1,5 +1,5 @@
 -- Sent lines, each linked with earlier ones of its Data ID
-use Rattle.std.specs.Prelude.{◌≡◌, ◌≢◌, ℕ, ◌^◌, ◌<◌, ◌≤◌, Bool, true, Option, None, Some, List, length, get_or, option_map}
+use Rattle.std.specs.Prelude.{◌≡◌, ◌≢◌, ℕ, ◌<◌, ◌≤◌, Option, None, Some, List, length, get_or, option_map}
 use Rattle.bus_world.specs.declared.records.Record.{Record}
 use Rattle.bus_world.specs.declared.records.Links.{Links}
 

@@ -1,5 +1,5 @@
 -- What one event does to its node and the node's disk
-use Rattle.std.specs.Prelude.{◌≡◌, ℕ, ◌+◌, ◌≤◌, Option, None, Some, List, find, option_map}
+use Rattle.std.specs.Prelude.{◌≡◌, ℕ, ◌+◌, ◌≤◌, Option, Some, List, find, option_map}
 use Rattle.std.specs.Option.{option_to_list}
 use Rattle.cut_disk.specs.declared.Mark.{Mark}
 use Rattle.cut_disk.specs.declared.Mark.TheVariants as mark

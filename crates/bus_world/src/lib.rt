@@ -3,9 +3,12 @@
 
 mod history;
 mod laws;
+mod opening;
 mod records;
+mod start;
 mod turns;
 mod world;
 
 pub use laws::{turns_are_runs, turns_are_steps};
+pub use start::{Start, StartFault};
 pub use world::World;

@@ -1,5 +1,5 @@
 use Rattle.std.proofs.Common.{◌≡◌, replicate}
-use Rattle.std.specs.Prelude.{Option, None}
+use Rattle.std.specs.Prelude.{None}
 use Rattle.bus_world.proofs.history.no_places.Given as goal
 
 abbrev pub invariant-loop-id : goal.invariant-loop-id

@@ -1,4 +1,4 @@
-use Rattle.std.proofs.Common.{ℕ, ◌+◌}
+use Rattle.std.proofs.Common.{◌+◌}
 use Rattle.std.specs.Option.{option_map_or}
 use Rattle.bus_world.specs.Records.{UpTo}
 use Rattle.bus_world.proofs.records.place_of.Given as goal

@@ -1,6 +1,6 @@
 use Rattle.std.specs.Prelude.{None, Err}
 use Rattle.std.proofs.Common.{ap}
-use Rattle.bus_machine.specs.Steps.{NodeStep, receives}
+use Rattle.bus_machine.specs.Steps.{receives}
 use Rattle.bus_world.proofs.Turning.{calm_turn, receives_no_cut, faults_told, unmoved_by, accepted_short}
 use Rattle.bus_world.proofs.turns.receive.Goals as goal
 

@@ -1,4 +1,4 @@
-use Rattle.std.specs.Prelude.{◌≡◌, ◌<◌, length, set}
+use Rattle.std.specs.Prelude.{◌<◌, length, set}
 use Rattle.std.proofs.Common.{refl, sym, subst, arith}
 use Rattle.machine_runs.specs.Members.{MemberSteps}
 use Rattle.bus_machine.specs.Bus.{node_of}

@@ -1,4 +1,4 @@
-use Rattle.std.specs.Prelude.{All, suc, length, ◌+◌, ◌∷◌}
+use Rattle.std.specs.Prelude.{All, suc}
 use Rattle.std.proofs.Common.{sym, subst, arith}
 use Rattle.machine_runs.specs.MemberLaws.{MemberSteps-length}
 use Rattle.bus_world.specs.Worlds.{IsEventOf}

@@ -1,0 +1,138 @@
+-- A start that is refused behind some nodes that are open
+use Rattle.std.specs.Prelude.{◌≡◌, ℕ, suc, ◌+◌, ◌-◌, ◌<◌, ◌≤◌, false, None, List, [], ◌∷◌, ◌++◌, length, drop, get_or}
+use Rattle.std.proofs.Common.{sym, ap, ◌∙◌, subst, arith, inl, inr, length-append}
+use Rattle.std.proofs.lemmas.Bool.{cases_lt}
+use Rattle.std.proofs.Math.Nat.{eq-or-lt_of_le}
+use Rattle.std.proofs.lemmas.List.{length-map, length-drop, get_or-map, get_or_append_left, get_or-append_right, get_or-drop, ext_get_or}
+use Rattle.cut_disk.specs.State.{DiskState}
+use Rattle.cut_disk.specs.Calls.{Rose, Runs}
+use Rattle.cut_disk.specs.CallLaws.{runs_none, runs_more}
+use Rattle.cell_store.specs.declared.kinds.Kind.{Kind}
+use Rattle.cell_store.specs.declared.kinds.Version.{Version}
+use Rattle.cell_store.specs.declared.faults.Reread.TheVariants as reread
+use Rattle.cell_store.specs.Store.{Stands}
+use Rattle.any_cells.specs.Either.{layout}
+use Rattle.freshness_routes.specs.Config.{Config}
+use Rattle.bus_machine.specs.Node.{Node, first_node}
+use Rattle.bus_machine.specs.Bus.{no_config}
+use Rattle.bus_nodes.specs.declared.nodes.NodeLine.{NodeLine}
+use Rattle.bus_nodes.specs.Buses.{NamedBus}
+use Rattle.secoc_node.specs.Fits.{StandsForNode}
+use Rattle.secoc_node.specs.State.{NodeState}
+use Rattle.secoc_node.proofs.FitsLaws.{told_before}
+use Rattle.bus_world.specs.declared.opening.OpenFault.{OpenFault}
+use Rattle.bus_world.specs.declared.opening.OpenFault.TheVariants as open_fault
+use Rattle.bus_world.specs.declared.start.StartFault.{StartFault}
+use Rattle.bus_world.specs.Starts.{new_cells, start_calls, disks_of, Opened, LeftOver, OpenCause, HasRoom, OfNumber, StartCause, Broken, NotStarted, OpensTo, fault_of_node}
+
+-- a new node's disk stands for its cells
+stands_new : (config : Config) (kind : Kind) (version : Version) (node : Node) (x : List ℕ) → node ≡ first_node config → StandsForNode (layout kind version) node x → Stands (layout kind version) x (new_cells config)
+stands_new config kind version node x is stands = elim (subst (λ n. StandsForNode (layout kind version) n x) is stands) [
+  | inl kept ↦ kept
+  | inr made ↦ cc
+]
+
+pub opened_left : (kind : Kind) (version : Version) (config : Config) (before : DiskState) (n : NodeState) → Opened kind version config before n → LeftOver kind version config before n.store.disk
+opened_left kind version config before n o = inr (inl (λ t told x image.
+    let old = told_before before.told n.store.disk.told o.runs.tells t told in
+    stands_new config kind version n.node x (o.first old.0 old.1) (subst (λ l. StandsForNode l n.node x) o.layout_is ((o.fits t told).images x image))))
+
+-- something past the last node and the last line
+abbrev no_node : NamedBus → DiskState → NodeState
+no_node bus d = record { node = first_node no_config; store = record { layout = layout bus.kind bus.version; cells = []; disk = d; broken = false } }
+
+abbrev no_line : NodeLine
+no_line = record { name = []; config = no_config }
+
+-- what is left of a disk
+abbrev Left : NamedBus → List DiskState → List DiskState → ℕ → NodeLine → DiskState → Type 0
+Left bus before after i l d =
+    Runs [] (start_calls bus.kind (get_or bus.nodes i l).config) (get_or before i d) (get_or after i d)
+    × LeftOver bus.kind bus.version (get_or bus.nodes i l).config (get_or before i d) (get_or after i d)
+
+untouched : (bus : NamedBus) (before after : List DiskState) (i : ℕ) (l : NodeLine) (d : DiskState) → get_or after i d ≡ get_or before i d → Left bus before after i l d
+untouched bus before after i l d same =
+    (subst (λ s. Runs [] (start_calls bus.kind (get_or bus.nodes i l).config) (get_or before i d) s) (sym same) (runs_more _ (omega arith) (runs_none (get_or before i d))), inl same)
+
+at_number : (before after : List DiskState) (place : ℕ) (P : DiskState → DiskState → Type 0) → ((d : DiskState) → P (get_or before place d) (get_or after place d)) → OfNumber before after (place + 1) P
+at_number before after place P holds = λ d.
+    (omega arith, subst (λ k. P (get_or before k d) (get_or after k d)) {y = place + 1 - 1} (omega arith) (holds d))
+
+start_cause : (before after : List DiskState) (place : ℕ) (cause : OpenFault) → ((d : DiskState) → OpenCause (get_or before place d) (get_or after place d) cause) → StartCause before after (fault_of_node (place + 1) cause)
+start_cause before after place (open_fault.Store reread.DiskFailed) h = at_number before after place (λ old new. Rose old.faults new.faults) h
+start_cause before after place (open_fault.Store reread.NotFormatted) h = at_number before after place (λ old new. old.told ≡ None) h
+start_cause before after place (open_fault.Store (reread.Damaged i)) h = at_number before after place (λ old new. old.told ≡ None) h
+start_cause before after place (open_fault.BadSlot slot) h = at_number before after place (λ old new. old.told ≡ None) h
+start_cause before after place (open_fault.BadBound cell) h = at_number before after place (λ old new. old.told ≡ None) h
+start_cause before after place open_fault.Memory h = tt
+
+as_broken : (bus : NamedBus) (before after : List DiskState) (n : ℕ) (cause : OpenFault) → Broken bus before after (fault_of_node n cause) → NotStarted bus before after (fault_of_node n cause)
+as_broken bus before after n (open_fault.Store fault) b = b
+as_broken bus before after n (open_fault.BadSlot slot) b = b
+as_broken bus before after n (open_fault.BadBound cell) b = b
+as_broken bus before after n open_fault.Memory b = b
+
+module _ (bus : NamedBus) (before mid after : List DiskState) (nodes : List NodeState) (fault : StartFault) (room : HasRoom bus before) (o : OpensTo bus before mid nodes fault) (is : after ≡ disks_of nodes ++ mid) where
+  all : after ≡ disks_of nodes ++ o.disk ∷ drop (o.place + 1) before
+  all = is ∙ ap (λ ys. disks_of nodes ++ ys) o.left
+
+  opened_count : length (disks_of nodes) ≡ o.place
+  opened_count = length-map nodes (λ (n : NodeState). n.store.disk) ∙ o.opened.count
+
+  within : o.place < length before
+  within = omega (arith, o.inside, room.enough)
+
+  count : length after ≡ length before
+  count = ap length all ∙ length-append (disks_of nodes) (o.disk ∷ drop (o.place + 1) before) ∙ omega (arith, opened_count, length-drop (o.place + 1) before, within)
+
+  earlier : (i : ℕ) (d : DiskState) (n : NodeState) → i < o.place → get_or after i d ≡ (get_or nodes i n).store.disk
+  earlier i d n less =
+      ap (λ ys. get_or ys i d) all ∙ get_or_append_left (disks_of nodes) (o.disk ∷ drop (o.place + 1) before) d i (omega (arith, opened_count))
+      ∙ get_or-map (λ (n : NodeState). n.store.disk) nodes i n d (omega (arith, o.opened.count))
+
+  behind : (i : ℕ) (d : DiskState) → o.place ≤ i → get_or after i d ≡ get_or (o.disk ∷ drop (o.place + 1) before) (i - o.place) d
+  behind i d from = ap (λ ys. get_or ys i d) all ∙ get_or-append_right (disks_of nodes) (o.disk ∷ drop (o.place + 1) before) o.place i d opened_count from
+
+  here : (d : DiskState) → get_or after o.place d ≡ o.disk
+  here d = behind o.place d (omega arith) ∙ ap (λ k. get_or (o.disk ∷ drop (o.place + 1) before) k d) {y = 0} (omega arith)
+
+  later : (i : ℕ) (d : DiskState) → o.place < i → get_or after i d ≡ get_or before i d
+  later i d more =
+      behind i d (omega arith)
+      ∙ ap (λ k. get_or (o.disk ∷ drop (o.place + 1) before) k d) {y = suc (i - (o.place + 1))} (omega arith)
+      ∙ get_or-drop (o.place + 1) before (i - (o.place + 1)) d
+      ∙ ap (λ k. get_or before k d) (omega arith)
+
+  left : (i : ℕ) (l : NodeLine) (d : DiskState) → i < length bus.nodes → Left bus before after i l d
+  left i l d inside = elim (cases_lt i o.place) [
+    | inl less ↦ let n : NodeState = get_or nodes i (no_node bus d) in
+        let opened = o.opened.opened i l d (no_node bus d) less in (
+          subst (λ s. Runs [] (start_calls bus.kind (get_or bus.nodes i l).config) (get_or before i d) s) (sym (earlier i d (no_node bus d) less)) opened.runs,
+          subst (λ s. LeftOver bus.kind bus.version (get_or bus.nodes i l).config (get_or before i d) s) (sym (earlier i d (no_node bus d) less))
+              (opened_left bus.kind bus.version (get_or bus.nodes i l).config (get_or before i d) n opened),
+        )
+    | inr from ↦ elim (eq-or-lt_of_le from) [
+      | inl same ↦ subst (λ k. Left bus before after k l d) same
+          (let refused = o.refused l d in (
+            subst (λ s. Runs [] (start_calls bus.kind (get_or bus.nodes o.place l).config) (get_or before o.place d) s) (sym (here d)) refused.runs,
+            subst (λ s. LeftOver bus.kind bus.version (get_or bus.nodes o.place l).config (get_or before o.place d) s) (sym (here d)) refused.left,
+          ))
+      | inr more ↦ untouched bus before after i l d (later i d more)
+    ]
+  ]
+
+  rest : drop (length bus.nodes) after ≡ drop (length bus.nodes) before
+  rest = ext_get_or o.disk (drop (length bus.nodes) after) (drop (length bus.nodes) before)
+      (length-drop (length bus.nodes) after ∙ ap (λ n. n - length bus.nodes) count ∙ sym (length-drop (length bus.nodes) before))
+      (λ k inside. get_or-drop (length bus.nodes) after k o.disk ∙ later (length bus.nodes + k) o.disk (omega (arith, o.inside)) ∙ sym (get_or-drop (length bus.nodes) before k o.disk))
+
+  open_cause : (d : DiskState) → OpenCause (get_or before o.place d) (get_or after o.place d) o.cause
+  open_cause d = subst (λ s. OpenCause (get_or before o.place d) s o.cause) (sym (here d)) (o.refused no_line d).cause
+
+  pub broken : Broken bus before after (fault_of_node (o.place + 1) o.cause)
+  broken = record { room = room; count = count; left = left; rest = rest; cause = start_cause before after o.place o.cause open_cause }
+
+pub start_refused : (bus : NamedBus) (before mid after : List DiskState) (nodes : List NodeState) (fault : StartFault) → HasRoom bus before → OpensTo bus before mid nodes fault → after ≡ disks_of nodes ++ mid
+    → NotStarted bus before after fault
+start_refused bus before mid after nodes fault room o is =
+    subst (NotStarted bus before after) (sym o.fault_is) (as_broken bus before after (o.place + 1) o.cause (broken bus before mid after nodes fault room o is))
