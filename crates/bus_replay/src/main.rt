@@ -15,7 +15,9 @@ mod task;
 mod tests;
 mod words;
 
-ghost use Rattle.std.specs.Prelude.{◌≡◌, ◌⊎◌, drop, map, string_bytes};
+ghost use Rattle.std.specs.Prelude.{◌≡◌, ◌⊎◌, drop, map, string_bytes, codes, IfSome, IfNone, None};
+ghost use Rattle.command_edge.specs.Named.{IsFreshFile, IsFreshInput};
+ghost use Rattle.command_edge.specs.declared.opening.NamedSource.TheVariants as named;
 ghost use Rattle.bus_replay.specs.Words.{AsksNothing};
 
 use crate::run::run;
@@ -57,8 +59,12 @@ fn start(rt: &HostRuntime, words: &[String]) -> u8
     )
 }
 
-/// What a word names, or a missing source where there is no word.
-fn open<R: Files, I: Read + Drop>(rt: &R, stdin: I, word: Option<&str>) -> NamedSource<R::File, I> {
+/// What a word names, from which nothing came yet: standard input for `-`, else a file; or a missing source where there is no word.
+fn open<R: Files, I: Read + Drop>(rt: &R, stdin: I, word: Option<&str>) -> NamedSource<R::File, I>
+    ensures input { IfSome word.entry (λ name. name.now ≡ codes "-" → IsFreshInput stdin result) }
+    ensures file { IfSome word.entry (λ name. ¬ (name.now ≡ codes "-") → IsFreshFile result) }
+    ensures missing { IfNone word.entry (result ≡ named.File (record { reader = None; taken = 0; faults = 0 })) }
+{
     match word {
         Some(word) => open_named(rt, stdin, word),
         None => NamedSource::File(StdSource::missing()),
