@@ -11,7 +11,7 @@ use Rattle.cell_store.specs.declared.faults.Reread.{Reread}
 use Rattle.cell_store.specs.declared.faults.Reread.TheVariants as reread
 use Rattle.cell_store.specs.Layout.{layout}
 use Rattle.cell_store.specs.Store.{Stands, store_size}
-use Rattle.cell_store.specs.Moving.{Counts, StandsAsCounted, Moved, Unmoved, move_calls}
+use Rattle.cell_store.specs.Moving.{CountsAs, StandsAsCounted, Moved, Unmoved, move_calls}
 
 -- a store of 1 to 441 cells, of either kind, ends before 32768 in version 1
 pub record FewToMigrate (n : ℕ) : Type 0 where
@@ -20,7 +20,7 @@ pub record FewToMigrate (n : ℕ) : Type 0 where
 
 -- the bytes x count as version 2, and stand for these cells in it
 pub record StandsInTwo (kind : Kind) (cells : List (List ℕ)) (x : List ℕ) : Type 0 where
-  pub counting : Counts kind (length cells) x Two
+  pub counting : CountsAs kind (length cells) x Two
   pub stands : Stands (layout kind Two) x cells
 
 -- The bytes stood for a list of n cells in the version that counts, and are as they were, or a fresh store of version 2

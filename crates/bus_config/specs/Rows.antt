@@ -50,8 +50,8 @@ abbrev pub window_in : Direction → Members → Option ℕ
 window_in Receives row = optional 256 (whole_in 1 256) (codes "window") row
 window_in Sends row = if is_some (get_member (codes "window") row) then None else Some 256
 
-unfoldable pub route_in : Members → Option Route
-route_in row = if_only route_keys row (do
+unfoldable pub route_in_row : Members → Option Route
+route_in_row row = if_only route_keys row (do
   id ← needed id_in (codes "id") row
   direction ← needed direction_in (codes "direction") row
   slot ← needed (whole_in 4 13) (codes "slot") row
@@ -67,7 +67,7 @@ unless_taken before route = if list_any (λ r. r.id == route.id) before then Non
 unfoldable pub next_route : List Route → Data → Option Route
 next_route before row = do
   table ← as_table row
-  route ← route_in table
+  route ← route_in_row table
   unless_taken before route
 
 -- ---- a node without its routes

@@ -5,7 +5,7 @@ ghost use Rattle.std.specs.Prelude.{◌≡◌, ◌==◌, ◌≢◌, ◌+◌, ◌
 ghost use Rattle.toml.specs.View.{view, table_view};
 ghost use Rattle.freshness_routes.specs.Config.{IsRoute};
 ghost use Rattle.bus_config.specs.Values.{whole_in, start_in};
-ghost use Rattle.bus_config.specs.Rows.{route_in, window_in, optional, next_route as next_route_in};
+ghost use Rattle.bus_config.specs.Rows.{route_in_row, window_in, optional, next_route as next_route_in};
 ghost use Rattle.bus_config.specs.BusFile.{routes_from};
 ghost use Rattle.bus_config.specs.Answers.{AnswersAsList};
 
@@ -45,9 +45,9 @@ fn start(row: &Table) -> Option<u64>
     }
 }
 
-#[tactic(auto, unfolding(crate::specs::Rows::route_in))]
+#[tactic(auto, unfolding(crate::specs::Rows::route_in_row))]
 fn route(row: &Table) -> Option<Route>
-    ensures value { result ≡ route_in (table_view row.now) }
+    ensures value { result ≡ route_in_row (table_view row.now) }
     ensures is_route { IfSome result IsRoute }
 {
     if !has_only(

@@ -31,7 +31,7 @@ use Rattle.cell_store.specs.Reading.{ReadOnly, ToldKeeps, Leaves, Finds}
 use Rattle.cell_store.specs.ReadOrder.{reads, reads_to}
 use Rattle.cell_store.specs.Writing.{LeavesOutside}
 use Rattle.cell_store.specs.Formats.{FirmCells, Formats}
-use Rattle.cell_store.specs.Moving.{Counts, StandsAsCounted, Moves, behind_header, HeaderLast, LeavesHeaderLast, KeepsCounted, LeavesBelow, Unmoved, OnlyDisk}
+use Rattle.cell_store.specs.Moving.{CountsAs, StandsAsCounted, Moves, behind_header, HeaderLast, LeavesHeaderLast, KeepsCounted, LeavesBelow, Unmoved, OnlyDisk}
 use Rattle.cell_store.proofs.LayoutLaws.{part-same, get_or-part, SameOutside-splice, SameOutside-after, SameOutside-widen, SameOutside-refl, SameOutside-drop}
 use Rattle.cell_store.proofs.StoreLaws.{length-header, stands_once, stands-whole}
 use Rattle.cell_store.proofs.ReadingLaws.{ReadSoFar, read-more, reads_join, reads_more}
@@ -278,7 +278,7 @@ module _ (kind : Kind) (cells : List (List ℕ)) (n : ℕ) (count : length cells
   no-two : (t : Told) → old ≡ Some t → HasHeader (layout kind Two) (length cells) t.bytes → ⊥
   no-two t is = rw count (not_two t is)
 
-  by-version : (b : List ℕ) (list : List (List ℕ)) → old ≡ Some (firm b) → length list ≡ n → (version : Version) → Counts kind (length list) b version → Stands (layout kind version) b list → list ≡ cells
+  by-version : (b : List ℕ) (list : List (List ℕ)) → old ≡ Some (firm b) → length list ≡ n → (version : Version) → CountsAs kind (length list) b version → Stands (layout kind version) b list → list ≡ cells
   by-version b list is m One counting stands = stands_once (layout kind One) b list cells stands (one (firm b) is)
   by-version b list is m Two counting stands = absurd (not_two (firm b) is (subst (λ k. HasHeader (layout kind Two) k b) m counting))
 
@@ -365,7 +365,7 @@ module _ (kind : Kind) (n : ℕ) (a m : DiskState) (first : Reread) (is : first 
   )
 
 -- bytes that stand in the version that counts are refused for no other cause than the disk
-counted-whole : (kind : Kind) (n i : ℕ) (b : List ℕ) (cells : List (List ℕ)) → length cells ≡ n → (v w : Version) → Counts kind (length cells) b v → Stands (layout kind v) b cells → Counts kind n b w → FirstDamaged (layout kind w) b n i → ⊥
+counted-whole : (kind : Kind) (n i : ℕ) (b : List ℕ) (cells : List (List ℕ)) → length cells ≡ n → (v w : Version) → CountsAs kind (length cells) b v → Stands (layout kind v) b cells → CountsAs kind n b w → FirstDamaged (layout kind w) b n i → ⊥
 counted-whole kind n i b cells m One One c s d f = stands-whole (layout kind One) b cells n i s m f
 counted-whole kind n i b cells m One Two c s d f = c (subst (λ k. HasHeader (layout kind Two) k b) (sym m) d)
 counted-whole kind n i b cells m Two One c s d f = d (subst (λ k. HasHeader (layout kind Two) k b) m c)

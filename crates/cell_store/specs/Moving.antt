@@ -18,14 +18,14 @@ use Rattle.cell_store.specs.Reading.{ReadOnly}
 
 -- Of the stores of this kind and n cells in the bytes x the one of this version counts: that of version 2 where its
 -- header stands, and that of version 1 otherwise.
-abbrev pub Counts : Kind → ℕ → List ℕ → Version → Type 0
-Counts kind n x Two = HasHeader (layout kind Two) n x
-Counts kind n x One = HasHeader (layout kind Two) n x → ⊥
+abbrev pub CountsAs : Kind → ℕ → List ℕ → Version → Type 0
+CountsAs kind n x Two = HasHeader (layout kind Two) n x
+CountsAs kind n x One = HasHeader (layout kind Two) n x → ⊥
 
 -- the bytes x stand for these cells in the version that counts
 pub record StandsAsCounted (kind : Kind) (cells : List (List ℕ)) (x : List ℕ) : Type 0 where
   pub version : Version
-  pub counting : Counts kind (length cells) x version
+  pub counting : CountsAs kind (length cells) x version
   pub stands : Stands (layout kind version) x cells
 
 -- how many bytes of a store of n cells stand behind its header
@@ -83,7 +83,7 @@ LeavesBelow kind n old new = (b : List ℕ) → old ≡ Some (firm b) → EachIm
 -- the version that counts is damaged, first where this number says
 pub record DamagedAsCounted (kind : Kind) (n i : ℕ) (x : List ℕ) : Type 0 where
   pub version : Version
-  pub counting : Counts kind n x version
+  pub counting : CountsAs kind n x version
   pub head : HasHeader (layout kind version) n x
   pub damaged : FirstDamaged (layout kind version) x n i
 

@@ -1,8 +1,9 @@
 //! The words of the command line.
-ghost use Rattle.std.specs.Prelude.{◌≡◌, drop, map, string_bytes};
+ghost use Rattle.std.specs.Prelude.{◌≡◌, [], ◌∷◌, drop, map, string_bytes, IfOk, IsErr};
+ghost use Rattle.std.specs.declared.io.ErrorKind.TheVariants.{OutOfMemory};
 
-use std::alloc::AllocError;
-use std::io;
+use std::alloc::{AllocError, Global};
+use std::io::ErrorKind;
 use std::rt::Env;
 
 /// The words of the command line, the program's name first. Where a word isn't text these are two empty words, which ask
@@ -11,14 +12,22 @@ pub fn words_of<R: Env + AllocGlobal>(rt: &R) -> Result<Vec<String>, AllocError>
     let alloc = rt.alloc();
     match std::env::args(rt) {
         Ok(words) => words.collect(alloc),
-        Err(error) if error.kind() == io::ErrorKind::OutOfMemory => Err(AllocError),
-        Err(_) => {
-            let mut words = Vec::new(alloc);
-            words.push(String::new(alloc))?;
-            words.push(String::new(alloc))?;
-            Ok(words)
-        }
+        Err(error) => words_at_fault(alloc, error.kind()),
     }
+}
+
+/// Two empty words in the place of words of which one isn't text, or want of memory where that was the fault.
+fn words_at_fault(alloc: Global, fault: ErrorKind) -> Result<Vec<String>, AllocError>
+    ensures memory { fault ≡ OutOfMemory → IsErr result }
+    ensures empty { IfOk result (λ words. map string_bytes words.items ≡ [] ∷ [] ∷ []) }
+{
+    if fault == ErrorKind::OutOfMemory {
+        return Err(AllocError);
+    }
+    let mut words = Vec::new(alloc);
+    words.push(String::new(alloc))?;
+    words.push(String::new(alloc))?;
+    Ok(words)
 }
 
 /// The words behind the program's name.

@@ -2,7 +2,7 @@
 use Rattle.std.proofs.Common.{◌≡◌, ◌⊎◌, ℕ, List, [], ◌∷◌, ◌++◌, length, take, drop, refl, sym, ap, ◌∙◌, subst, ⊎_elim}
 use Rattle.std.specs.Prelude.{Option, None, Some, IsNone, IfSome}
 use Rattle.pdu_collection.specs.Collection.{Place}
-use Rattle.pdu_collection.specs.Joining.{Kind, authentic, cryptographic, other_kind, Arrival, link_in, link, arrival_at, partner_at, IsLatest, IsSingle, Joining}
+use Rattle.pdu_collection.specs.Joining.{Kind, authentic, cryptographic, other_kind, Arrival, link_in, link, arrival_at, partner_at, IsLatestOfKind, IsSingle, Joining}
 use Rattle.pdu_collection.specs.Joined.{IsPduAt, NextJoins, JoinerState, waiting, Waits, Given, IsToldOf, Arrives}
 use Rattle.pdu_collection.proofs.NextJoined.{kinds, one_latest, partner_new, joins, joins_none, waits_new, waits_old}
 
@@ -50,7 +50,7 @@ module _ (state : JoinerState) (kind : Kind) (pdu : List ℕ) where
   -- nothing that waits is a partner, so it joins none
   no_partner : (arrivals : List Arrival) (partners : List (Option ℕ)) (w : Option (List ℕ)) → Waits arrivals partners (other_kind kind) w
       → ((x : List ℕ) → w ≡ Some x → link_in state.place (other_kind kind) x ≡ link_in state.place kind pdu → ⊥)
-      → (j : ℕ) → IsLatest arrivals (other_kind kind) (length arrivals) j → IsSingle partners (length arrivals) j
+      → (j : ℕ) → IsLatestOfKind arrivals (other_kind kind) (length arrivals) j → IsSingle partners (length arrivals) j
       → link state.place (arrival_at arrivals j) ≡ link state.place next → ⊥
   no_partner arrivals partners None waits differ j latest single same = waits j latest single
   no_partner arrivals partners (Some x) (i, latest_i, single_i, is) differ j latest single same =

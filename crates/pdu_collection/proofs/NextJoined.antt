@@ -5,7 +5,7 @@ use Rattle.std.proofs.lemmas.Bool.{cases_lt}
 use Rattle.std.proofs.lemmas.Option.{same_Some}
 use Rattle.std.proofs.lemmas.List.{get_or_append_left, get_or_push, length_push}
 use Rattle.pdu_collection.specs.Collection.{Place}
-use Rattle.pdu_collection.specs.Joining.{Kind, authentic, cryptographic, other_kind, Arrival, link, arrival_at, partner_at, IsLatest, IsSingle, Joins, Joining}
+use Rattle.pdu_collection.specs.Joining.{Kind, authentic, cryptographic, other_kind, Arrival, link, arrival_at, partner_at, IsLatestOfKind, IsSingle, Joins, Joining}
 use Rattle.pdu_collection.specs.Joined.{Waits}
 
 -- ---- kinds
@@ -69,7 +69,7 @@ Joins-same place xs ys ps qs i j same same_p h =
     }
 
 -- at most one arrival is the latest of its kind
-pub one_latest : (xs : List Arrival) (kind : Kind) (n i j : ℕ) → IsLatest xs kind n i → IsLatest xs kind n j → i ≡ j
+pub one_latest : (xs : List Arrival) (kind : Kind) (n i j : ℕ) → IsLatestOfKind xs kind n i → IsLatestOfKind xs kind n j → i ≡ j
 one_latest xs kind n i j a b =
     ⊎_elim (λ (lt : i < j). absurd (a.latest j lt b.earlier b.kind_is))
     (λ (le : j ≤ i). ⊎_elim (λ (lt : j < i). absurd (b.latest i lt a.earlier a.kind_is)) (λ (ge : i ≤ j). omega (arith, le, ge)) (cases_lt j i))
@@ -83,14 +83,14 @@ module _ (xs : List Arrival) (x : Arrival) (ps : List (Option ℕ)) (p : Option 
   more = ps ++ p ∷ []
 
   -- what was the latest, or single, before the new arrival, seen in the longer lists, and back
-  latest_in : (kind : Kind) (j : ℕ) → IsLatest xs kind (length xs) j → IsLatest longer kind (length xs) j
+  latest_in : (kind : Kind) (j : ℕ) → IsLatestOfKind xs kind (length xs) j → IsLatestOfKind longer kind (length xs) j
   latest_in kind j h = record {
     earlier = h.earlier;
     kind_is = ap (λ (a : Arrival). a.kind) (at_old xs x j h.earlier) ∙ h.kind_is;
     latest = λ k a b e. h.latest k a b (ap (λ (a : Arrival). a.kind) (sym (at_old xs x k b)) ∙ e);
   }
 
-  latest_out : (kind : Kind) (j : ℕ) → IsLatest longer kind (length xs) j → IsLatest xs kind (length xs) j
+  latest_out : (kind : Kind) (j : ℕ) → IsLatestOfKind longer kind (length xs) j → IsLatestOfKind xs kind (length xs) j
   latest_out kind j h = record {
     earlier = h.earlier;
     kind_is = ap (λ (a : Arrival). a.kind) (sym (at_old xs x j h.earlier)) ∙ h.kind_is;
@@ -131,28 +131,28 @@ module _ (xs : List Arrival) (x : Arrival) (ps : List (Option ℕ)) (p : Option 
       }
 
   -- what the new arrival joins, in the longer lists
-  joins_in : (place : Place) (j : ℕ) → IsLatest xs (other_kind x.kind) (length xs) j → IsSingle ps (length xs) j
+  joins_in : (place : Place) (j : ℕ) → IsLatestOfKind xs (other_kind x.kind) (length xs) j → IsSingle ps (length xs) j
       → link place (arrival_at xs j) ≡ link place x → Joins place longer more (length xs) j
   joins_in place j latest single same = record {
-    latest = subst (λ (a : Arrival). IsLatest longer (other_kind a.kind) (length xs) j) (sym (at_new xs x)) (latest_in (other_kind x.kind) j latest);
+    latest = subst (λ (a : Arrival). IsLatestOfKind longer (other_kind a.kind) (length xs) j) (sym (at_new xs x)) (latest_in (other_kind x.kind) j latest);
     same_link = ap (link place) (at_old xs x j latest.earlier) ∙ same ∙ ap (link place) (sym (at_new xs x));
     single = single_in j latest.earlier single;
   }
 
-  latest_of_joined : (place : Place) (j : ℕ) → Joins place longer more (length xs) j → IsLatest xs (other_kind x.kind) (length xs) j
-  latest_of_joined place j h = latest_out (other_kind x.kind) j (subst (λ (a : Arrival). IsLatest longer (other_kind a.kind) (length xs) j) (at_new xs x) h.latest)
+  latest_of_joined : (place : Place) (j : ℕ) → Joins place longer more (length xs) j → IsLatestOfKind xs (other_kind x.kind) (length xs) j
+  latest_of_joined place j h = latest_out (other_kind x.kind) j (subst (λ (a : Arrival). IsLatestOfKind longer (other_kind a.kind) (length xs) j) (at_new xs x) h.latest)
 
   link_of_joined : (place : Place) (j : ℕ) → Joins place longer more (length xs) j → link place (arrival_at xs j) ≡ link place x
   link_of_joined place j h =
       ap (link place) (sym (at_old xs x j h.latest.earlier)) ∙ h.same_link ∙ ap (link place) (at_new xs x)
 
   -- of the new arrival's kind the latest is the new one, and of the other kind it is the latest of before
-  latest_is_new : (n j : ℕ) → n ≡ length xs + 1 → IsLatest longer x.kind n j → j ≡ length xs
+  latest_is_new : (n j : ℕ) → n ≡ length xs + 1 → IsLatestOfKind longer x.kind n j → j ≡ length xs
   latest_is_new n j e h =
       ⊎_elim (λ (lt : j < length xs). absurd (h.latest (length xs) lt (omega (arith, e)) (ap (λ (a : Arrival). a.kind) (at_new xs x))))
       (λ (le : length xs ≤ j). omega (arith, le, h.earlier, e)) (cases_lt j (length xs))
 
-  latest_is_old : (n j : ℕ) → n ≡ length xs + 1 → IsLatest longer (other_kind x.kind) n j → IsLatest xs (other_kind x.kind) (length xs) j
+  latest_is_old : (n j : ℕ) → n ≡ length xs + 1 → IsLatestOfKind longer (other_kind x.kind) n j → IsLatestOfKind xs (other_kind x.kind) (length xs) j
   latest_is_old n j e h =
       ⊎_elim (λ (lt : j < length xs). latest_out (other_kind x.kind) j
       (record { earlier = lt; kind_is = h.kind_is; latest = λ k a b. h.latest k a (omega (arith, b, e)) }))
@@ -164,18 +164,18 @@ module _ (xs : List Arrival) (x : Arrival) (ps : List (Option ℕ)) (p : Option 
 -- ---- the new arrival joins one
 
 pub joins : (place : Place) (xs : List Arrival) (x : Arrival) (ps : List (Option ℕ)) (j : ℕ) → Joining place xs ps
-    → IsLatest xs (other_kind x.kind) (length xs) j → IsSingle ps (length xs) j → link place (arrival_at xs j) ≡ link place x
+    → IsLatestOfKind xs (other_kind x.kind) (length xs) j → IsSingle ps (length xs) j → link place (arrival_at xs j) ≡ link place x
     → Joining place (xs ++ x ∷ []) (ps ++ Some j ∷ []) × ((kind : Kind) → Waits (xs ++ x ∷ []) (ps ++ Some j ∷ []) kind None)
 joins place xs x ps j old latest single same =
     let p : Option ℕ = Some j in
     let n : length (xs ++ x ∷ []) ≡ length xs + 1 = length_push xs x in
-    let of_mine : (k : ℕ) → IsLatest (xs ++ x ∷ []) x.kind (length (xs ++ x ∷ [])) k → IsSingle (ps ++ p ∷ []) (length (xs ++ x ∷ [])) k → ⊥ =
+    let of_mine : (k : ℕ) → IsLatestOfKind (xs ++ x ∷ []) x.kind (length (xs ++ x ∷ [])) k → IsSingle (ps ++ p ∷ []) (length (xs ++ x ∷ [])) k → ⊥ =
     λ k h s.
     let here : k ≡ length xs = latest_is_new xs x ps p old.as_many _ k n h in
     None≢Some j (sym s.joins_none ∙ ap (partner_at (ps ++ p ∷ [])) here ∙ partner_new ps p (length xs) old.as_many) in
-    let of_other : (k : ℕ) → IsLatest (xs ++ x ∷ []) (other_kind x.kind) (length (xs ++ x ∷ [])) k → IsSingle (ps ++ p ∷ []) (length (xs ++ x ∷ [])) k → ⊥ =
+    let of_other : (k : ℕ) → IsLatestOfKind (xs ++ x ∷ []) (other_kind x.kind) (length (xs ++ x ∷ [])) k → IsSingle (ps ++ p ∷ []) (length (xs ++ x ∷ [])) k → ⊥ =
     λ k h s.
-    let was : IsLatest xs (other_kind x.kind) (length xs) k = latest_is_old xs x ps p old.as_many _ k n h in
+    let was : IsLatestOfKind xs (other_kind x.kind) (length xs) k = latest_is_old xs x ps p old.as_many _ k n h in
     let is : j ≡ k = one_latest xs (other_kind x.kind) (length xs) j k latest was in
     s.joined_by_none (length xs) was.earlier (omega (arith, n)) (partner_new ps p (length xs) old.as_many ∙ ap (λ i. Some i) is) in (
       Joining-more xs x ps p old.as_many place old (λ k. (
@@ -183,15 +183,15 @@ joins place xs x ps j old latest single same =
         λ h. ap (λ i. Some i) (one_latest xs (other_kind x.kind) (length xs) j k latest (latest_of_joined xs x ps p old.as_many place k h)),
       )),
       λ kind k. ⊎_elim
-          (λ (e : kind ≡ x.kind). subst (λ a. IsLatest (xs ++ x ∷ []) a (length (xs ++ x ∷ [])) k → IsSingle (ps ++ p ∷ []) (length (xs ++ x ∷ [])) k → ⊥) (sym e) (of_mine k))
-          (λ (e : kind ≡ other_kind x.kind). subst (λ a. IsLatest (xs ++ x ∷ []) a (length (xs ++ x ∷ [])) k → IsSingle (ps ++ p ∷ []) (length (xs ++ x ∷ [])) k → ⊥) (sym e) (of_other k))
+          (λ (e : kind ≡ x.kind). subst (λ a. IsLatestOfKind (xs ++ x ∷ []) a (length (xs ++ x ∷ [])) k → IsSingle (ps ++ p ∷ []) (length (xs ++ x ∷ [])) k → ⊥) (sym e) (of_mine k))
+          (λ (e : kind ≡ other_kind x.kind). subst (λ a. IsLatestOfKind (xs ++ x ∷ []) a (length (xs ++ x ∷ [])) k → IsSingle (ps ++ p ∷ []) (length (xs ++ x ∷ [])) k → ⊥) (sym e) (of_other k))
           (kinds kind x.kind),
     )
 
 -- ---- the new arrival joins none
 
 module _ (place : Place) (xs : List Arrival) (x : Arrival) (ps : List (Option ℕ)) (old : Joining place xs ps) where
-  pub joins_none : ((j : ℕ) → IsLatest xs (other_kind x.kind) (length xs) j → IsSingle ps (length xs) j → link place (arrival_at xs j) ≡ link place x → ⊥)
+  pub joins_none : ((j : ℕ) → IsLatestOfKind xs (other_kind x.kind) (length xs) j → IsSingle ps (length xs) j → link place (arrival_at xs j) ≡ link place x → ⊥)
       → Joining place (xs ++ x ∷ []) (ps ++ None ∷ [])
   joins_none none = Joining-more xs x ps None old.as_many place old
       (λ j. (
@@ -217,7 +217,7 @@ module _ (place : Place) (xs : List Arrival) (x : Arrival) (ps : List (Option �
 
   pub waits_old : (waiting : Option (List ℕ)) → Waits xs ps (other_kind x.kind) waiting → Waits (xs ++ x ∷ []) (ps ++ None ∷ []) (other_kind x.kind) waiting
   waits_old None was = λ j h s.
-      let before : IsLatest xs (other_kind x.kind) (length xs) j = latest_is_old xs x ps None old.as_many _ j (length_push xs x) h in
+      let before : IsLatestOfKind xs (other_kind x.kind) (length xs) j = latest_is_old xs x ps None old.as_many _ j (length_push xs x) h in
       was j before (single_out xs x ps None old.as_many _ j (omega (arith, length_push xs x)) before.earlier s)
   waits_old (Some pdu) (j, latest, single, is) =
       let n : length (xs ++ x ∷ []) ≡ length xs + 1 = length_push xs x in

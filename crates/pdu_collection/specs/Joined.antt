@@ -1,7 +1,7 @@
 -- What the next arrival joins, and what a joiner knows between two arrivals
 use Rattle.std.specs.Prelude.{◌≡◌, ℕ, ◌<◌, List, [], ◌∷◌, ◌++◌, length, take, drop, Option, None, Some, IfSome}
 use Rattle.pdu_collection.specs.Collection.{Place, IsPlace, IsAuthentic, IsCryptographic, joined_pdu}
-use Rattle.pdu_collection.specs.Joining.{Kind, authentic, cryptographic, Arrival, arrival_at, partner_at, IsLatest, IsSingle, Joining}
+use Rattle.pdu_collection.specs.Joining.{Kind, authentic, cryptographic, Arrival, arrival_at, partner_at, IsLatestOfKind, IsSingle, Joining}
 
 -- the PDU of the arrival with this number, if there is a number
 abbrev pub IsPduAt : List Arrival → Option ℕ → Option (List ℕ) → Type 0
@@ -31,9 +31,9 @@ waiting state cryptographic = state.pdu
 -- the latest arrival of this kind has this PDU and is single; or it isn't single, or there is none
 abbrev pub Waits : List Arrival → List (Option ℕ) → Kind → Option (List ℕ) → Type 0
 Waits arrivals partners kind (Some pdu) =
-    (j : ℕ) × IsLatest arrivals kind (length arrivals) j × IsSingle partners (length arrivals) j × (pdu ≡ (arrival_at arrivals j).pdu)
+    (j : ℕ) × IsLatestOfKind arrivals kind (length arrivals) j × IsSingle partners (length arrivals) j × (pdu ≡ (arrival_at arrivals j).pdu)
 Waits arrivals partners kind None =
-    (j : ℕ) → IsLatest arrivals kind (length arrivals) j → ¬ IsSingle partners (length arrivals) j
+    (j : ℕ) → IsLatestOfKind arrivals kind (length arrivals) j → ¬ IsSingle partners (length arrivals) j
 
 -- these are the arrivals that were given to the joiner
 pub record Given (state : JoinerState) (arrivals : List Arrival) : Type 0 where

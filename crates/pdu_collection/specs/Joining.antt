@@ -32,7 +32,7 @@ abbrev pub partner_at : List (Option ℕ) → ℕ → Option ℕ
 partner_at partners i = slice_index_or partners i None
 
 -- arrival j is the latest of its kind before i
-pub record IsLatest (arrivals : List Arrival) (kind : Kind) (i j : ℕ) : Type 0 where
+pub record IsLatestOfKind (arrivals : List Arrival) (kind : Kind) (i j : ℕ) : Type 0 where
   pub earlier : j < i
   pub kind_is : (arrival_at arrivals j).kind ≡ kind
   pub latest : (k : ℕ) → j < k → k < i → ¬ ((arrival_at arrivals k).kind ≡ kind)
@@ -44,7 +44,7 @@ pub record IsSingle (partners : List (Option ℕ)) (i j : ℕ) : Type 0 where
 
 -- arrival i joins j: the latest earlier one of the other kind, where their links are equal and j is single
 pub record Joins (place : Place) (arrivals : List Arrival) (partners : List (Option ℕ)) (i j : ℕ) : Type 0 where
-  pub latest : IsLatest arrivals (other_kind (arrival_at arrivals i).kind) i j
+  pub latest : IsLatestOfKind arrivals (other_kind (arrival_at arrivals i).kind) i j
   pub same_link : link place (arrival_at arrivals j) ≡ link place (arrival_at arrivals i)
   pub single : IsSingle partners i j
 
