@@ -1,37 +1,32 @@
 -- What the calls of a node leave, over plain variables
-use Rattle.std.proofs.Common.{◌≡◌, ℕ, ◌+◌, true, false, true≢false, List, [], length, set, length-set, refl, sym, ap, subst, ◌∙◌, arith, inl, inr}
-use Rattle.std.specs.Prelude.{Option, None, Some, Result, Ok, Err}
-use Rattle.cut_disk.specs.State.{Told}
+use Rattle.std.proofs.Common.{◌≡◌, ℕ, true, false, true≢false, List, [], length, set, length-set, refl, sym, ap, subst, ◌∙◌, arith}
+use Rattle.std.specs.Prelude.{Some, Result, Ok, Err}
 use Rattle.cut_disk.specs.Calls.{Runs}
 use Rattle.cut_disk.specs.CallLaws.{runs_none, runs_more}
-use Rattle.cell_store.specs.Cells.{CellsState, Puts, FailsPut}
+use Rattle.cell_store.specs.Cells.{CellsState}
 use Rattle.slot_disk.specs.Cell.{slot_cell, HoldSlots}
-use Rattle.key_slots.specs.Slots.{slot_at}
 use Rattle.secure_boot.specs.Booting.{is_good}
-use Rattle.memory_update.specs.declared.messages.Head.{Head}
 use Rattle.memory_update.specs.declared.messages.Reply.{Reply}
 use Rattle.memory_update.specs.declared.messages.Request.{Request}
 use Rattle.memory_update.specs.declared.messages.Update.{Update}
-use Rattle.memory_update.specs.Messages.{IsUpdate, Builds, Carries, CarriesPadded, Confirms, HeadOf, id_of}
+use Rattle.memory_update.specs.Messages.{Builds, CarriesPadded, Confirms, id_of}
 use Rattle.memory_update.specs.MessageLaws.{id_of-head}
 use Rattle.memory_update.specs.Loading.{Allows, slot_of}
-use Rattle.freshness_routes.specs.Config.{Config, IsConfig}
 use Rattle.she_engine.specs.declared.engine.Engine.{Engine}
 use Rattle.she_engine.specs.Loads.{Loaded as LoadedKey, FaultedLoad}
 use Rattle.bus_machine.specs.declared.lines.Line.{Line}
 use Rattle.bus_machine.specs.declared.lines.Line.TheVariants.{Loaded, Refused}
 use Rattle.bus_machine.specs.declared.lines.Refusal.TheVariants.{MemoryFailure}
-use Rattle.bus_machine.specs.Node.{Node, Change, slot_to, with_slot, failed}
-use Rattle.bus_machine.specs.Sound.{Sound, MovesForward}
+use Rattle.bus_machine.specs.Node.{Node, slot_to}
 use Rattle.bus_machine.specs.Steps.{Act, loads, keys, TakesUpdate, NodeStep}
 use Rattle.bus_laws.proofs.SoundSteps.{Sound-step, takes_forward}
 use Rattle.secoc_node.specs.declared.faults.NodeFault.{NodeFault}
 use Rattle.secoc_node.specs.declared.faults.NodeFault.TheVariants as fault
 use Rattle.secoc_node.specs.declared.known.Known.{Known}
-use Rattle.secoc_node.specs.Cells.{CellsOf}
 use Rattle.secoc_node.specs.Lines.{loaded_line, keyed_line}
-use Rattle.secoc_node.specs.State.{NodeState, FitsNow, Served}
+use Rattle.secoc_node.specs.State.{NodeState, FitsNow}
 use Rattle.secoc_node.specs.Keeping.{node_in, state_in, kept_in, IsNode, KeepsNode}
+use Rattle.secoc_node.proofs.Serving.{Served}
 use Rattle.secoc_node.proofs.CellsLaws.{CellsOf-slot, hold_slots}
 use Rattle.secoc_node.proofs.KeptLaws.{kept_of_sound}
 use Rattle.secoc_node.proofs.FitsLaws.{fits_put, fits_failed_put}

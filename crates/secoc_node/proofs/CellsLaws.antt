@@ -1,14 +1,12 @@
 -- The list of a node's cells: its length, its parts, what a change makes of it, and what it tells
-use Rattle.std.proofs.Common.{◌≡◌, ℕ, zero, suc, ◌+◌, ◌^◌, ◌<◌, ◌≤◌, List, [], ◌∷◌, ◌++◌, length, take, set, map, get_or, All, refl, sym, ap, subst, ◌∙◌, arith, inl, inr}
-use Rattle.std.proofs.lemmas.List.{length-append, length-map, length-set, take_at, get_or_append_left, get_or-append-add, set-append_left, map-set, get_or-map, ext_get_or, get_or_default}
+use Rattle.std.proofs.Common.{◌≡◌, ℕ, zero, suc, ◌+◌, ◌<◌, List, [], ◌∷◌, ◌++◌, length, set, map, get_or, refl, sym, ap, subst, ◌∙◌, arith}
+use Rattle.std.proofs.lemmas.List.{length-append, length-map, take_at, get_or_append_left, get_or-append-add, set-append_left, map-set, get_or_default}
 use Rattle.key_slots.specs.declared.memory.Slot.{Slot}
-use Rattle.key_slots.specs.declared.memory.Slot.TheVariants.{Empty}
-use Rattle.key_slots.specs.Slots.{IsSlots}
-use Rattle.slot_disk.specs.Cell.{slot_cell, HoldsSlot, HoldSlots}
+use Rattle.slot_disk.specs.Cell.{slot_cell, HoldSlots}
 use Rattle.freshness_routes.specs.declared.routes.Route.{Route}
 use Rattle.freshness_routes.specs.Config.{Config}
 use Rattle.freshness_store.specs.Bound.{bound_cell, HoldsBound, HoldsNoBound}
-use Rattle.bus_machine.specs.Node.{Kept, Change, slot_to, bound_to, changed, no_route}
+use Rattle.bus_machine.specs.Node.{Kept, slot_to, bound_to, changed, no_route}
 use Rattle.secoc_node.specs.Cells.{bound_cells, CellsOf, IsKept, cell_in, route_in, HoldsSomeBound, HoldsBounds}
 
 -- the cell of this route's bound

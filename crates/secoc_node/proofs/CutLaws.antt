@@ -1,17 +1,14 @@
 -- What a power cut of a node leaves
-use Rattle.std.proofs.Common.{◌≡◌, ℕ, ◌+◌, true, false, true≢false, List, [], length, refl, sym, ap, subst, ◌∙◌, arith, inl, inr}
-use Rattle.std.specs.Prelude.{Option, None, Some, is_some, Result, Ok, Err, OnOk, OnErr, IfErr}
+use Rattle.std.proofs.Common.{◌≡◌, ◌+◌, false, true≢false, length, refl, sym, subst, ◌∙◌, inl, inr}
+use Rattle.std.specs.Prelude.{Some, is_some, Result, Ok, Err, OnOk, OnErr, IfErr}
 use Rattle.cut_disk.specs.Images.{CutsTo}
 use Rattle.cell_store.specs.declared.faults.Reread.{Reread}
 use Rattle.cell_store.specs.declared.faults.Reread.TheVariants as reread
-use Rattle.cell_store.specs.declared.kinds.Layout.{Layout}
 use Rattle.cell_store.specs.Cells.{CellsState, StandsNow, EachImageStands}
 use Rattle.slot_disk.specs.Cell.{FirstBadSlot}
-use Rattle.freshness_routes.specs.Config.{Config}
-use Rattle.bus_machine.specs.declared.lines.Line.TheVariants.{Up, Refused}
+use Rattle.bus_machine.specs.declared.lines.Line.TheVariants.{Refused}
 use Rattle.bus_machine.specs.declared.lines.Refusal.TheVariants.{MemoryFailure}
 use Rattle.bus_machine.specs.Node.{Node, Kept, Change, changed, powered, refused_up}
-use Rattle.bus_machine.specs.Sound.{Sound}
 use Rattle.bus_machine.specs.Steps.{cuts, NodeStep}
 use Rattle.bus_laws.proofs.SoundSteps.{Sound-step, pending_forward}
 use Rattle.secoc_node.specs.declared.faults.CutFault.{CutFault}
@@ -21,7 +18,7 @@ use Rattle.secoc_node.specs.Cells.{CellsOf, IsKept, SlotsButNoBound}
 use Rattle.secoc_node.specs.Causes.{LifeCause}
 use Rattle.secoc_node.specs.Lines.{cut_line}
 use Rattle.secoc_node.specs.State.{NodeState, FitsNow, TellsFitting}
-use Rattle.secoc_node.specs.Keeping.{node_in, state_in, kept_in, IsNode, KeepsNode, BeginsLife}
+use Rattle.secoc_node.specs.Keeping.{node_in, state_in, IsNode, BeginsLife}
 use Rattle.secoc_node.proofs.CellsLaws.{length-CellsOf}
 use Rattle.secoc_node.proofs.KeptLaws.{kept_of_sound, kept_changed, no_bad_slot, no_bad_bound}
 use Rattle.secoc_node.proofs.FitsLaws.{FoundCells, found_cells, each_stands, fits_refused, fits_up}

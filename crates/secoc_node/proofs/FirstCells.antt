@@ -1,10 +1,10 @@
 -- The cells of a new node, written one after another
-use Rattle.std.proofs.Common.{◌≡◌, ◌≢◌, ℕ, ◌+◌, ◌-◌, ◌^◌, ◌<◌, ◌≤◌, List, [], ◌++◌, length, take, drop, set, map, replicate, get_or, All, refl, sym, ap, subst, ◌∙◌, arith, get_or-set_same, get_or-set_other, inl, inr}
-use Rattle.std.proofs.lemmas.List.{length-map, length-set, length-drop, length-take-le, get_or-take, get_or-drop, get_or-map, get_or_append_left, get_or-append_right, get_or_default, ext_get_or}
+use Rattle.std.proofs.Common.{◌≡◌, ℕ, ◌+◌, ◌-◌, ◌^◌, ◌<◌, ◌≤◌, List, [], ◌++◌, length, take, drop, set, replicate, get_or, refl, sym, ap, subst, ◌∙◌, arith, get_or-set_same, get_or-set_other, inl, inr}
+use Rattle.std.proofs.lemmas.List.{length-map, length-drop, length-take-le, get_or-take, get_or-drop, get_or-map, get_or_append_left, get_or-append_right, get_or_default, ext_get_or}
 use Rattle.std.proofs.lemmas.List.Elements.{All-replicate, All-map}
 use Rattle.std.proofs.lemmas.Bool.Decides.{eqb_tells}
 use Rattle.key_slots.specs.declared.memory.Slot.TheVariants.{Empty}
-use Rattle.key_slots.specs.Slots.{IsSlot, IsSlots}
+use Rattle.key_slots.specs.Slots.{IsSlot}
 use Rattle.slot_disk.specs.Cell.{slot_cell}
 use Rattle.freshness_routes.specs.declared.routes.Route.{Route}
 use Rattle.freshness_routes.specs.Config.{Config, IsConfig}

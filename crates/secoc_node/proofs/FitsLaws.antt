@@ -1,14 +1,13 @@
 -- When a disk fits a node, and what puts and power cuts leave of it
-use Rattle.std.proofs.Common.{◌≡◌, ℕ, ◌+◌, true, false, List, length, set, refl, sym, ap, subst, ◌∙◌, inl, inr, true≢false}
+use Rattle.std.proofs.Common.{◌≡◌, ℕ, true, false, List, length, set, refl, sym, ap, subst, ◌∙◌, inl, inr, true≢false}
 use Rattle.std.specs.Prelude.{Option, None, Some, is_some, ◌⊎◌}
 use Rattle.std.proofs.lemmas.Option.{same_Some}
-use Rattle.cut_disk.specs.State.{Told, DiskState}
+use Rattle.cut_disk.specs.State.{Told}
 use Rattle.cut_disk.specs.Images.{Image, firm, CutsTo}
 use Rattle.cut_disk.specs.ImageLaws.{image_is_read, image_of_firm}
-use Rattle.cut_disk.specs.CallLaws.{runs_none, runs_more}
 use Rattle.cell_store.specs.declared.kinds.Layout.{Layout}
 use Rattle.cell_store.specs.Store.{Stands}
-use Rattle.cell_store.specs.Cells.{CellsState, Settled, TellsCells, Puts, FailsPut, StandsForEither, StandsNow, StandsForSome, EachImageStands}
+use Rattle.cell_store.specs.Cells.{CellsState, Settled, Puts, FailsPut, StandsNow, EachImageStands}
 use Rattle.cell_store.proofs.StoreLaws.{stands_once}
 use Rattle.cell_store.proofs.CellsLaws.{settled_tells}
 use Rattle.bus_machine.specs.Node.{Node, Change, changed, failed, refused_up}

@@ -1,22 +1,18 @@
 -- What a sound node keeps, and how its cells tell it
-use Rattle.std.proofs.Common.{◌≡◌, ℕ, ◌+◌, ◌^◌, ◌<◌, ◌≤◌, List, [], ◌++◌, length, take, drop, set, map, get_or, All, refl, sym, ap, subst, ◌∙◌, arith, inl, inr}
-use Rattle.std.specs.Prelude.{Some, IfSome}
-use Rattle.std.proofs.lemmas.List.{length-map, length-set, length-drop, take-append-drop, get_or-drop, get_or-map, get_or_default, ext_get_or}
-use Rattle.std.proofs.lemmas.List.Elements.{All-set, All-get_or}
-use Rattle.key_slots.specs.declared.memory.Slot.{Slot}
+use Rattle.std.proofs.Common.{◌≡◌, ℕ, ◌+◌, ◌^◌, ◌<◌, List, [], ◌++◌, length, drop, map, get_or, sym, ap, subst, ◌∙◌, arith}
+use Rattle.std.proofs.lemmas.List.{length-set, length-drop, take-append-drop, get_or-drop, get_or-map, get_or_default, ext_get_or}
+use Rattle.std.proofs.lemmas.List.Elements.{All-set}
 use Rattle.key_slots.specs.declared.memory.Slot.TheVariants.{Empty}
-use Rattle.key_slots.specs.Slots.{IsSlot, IsSlots}
-use Rattle.slot_disk.specs.Cell.{slot_cell, HoldsSlot, HoldSlots, FirstBadSlot}
+use Rattle.slot_disk.specs.Cell.{slot_cell, HoldSlots, FirstBadSlot}
 use Rattle.slot_disk.proofs.CellLaws.{one_list}
-use Rattle.freshness_routes.specs.declared.routes.Route.{Route}
 use Rattle.freshness_routes.specs.Config.{Config, IsConfig}
-use Rattle.freshness_store.specs.Bound.{bound_cell, HoldsBound}
+use Rattle.freshness_store.specs.Bound.{HoldsBound}
 use Rattle.freshness_store.proofs.CellLaws.{one_bound}
-use Rattle.bus_machine.specs.Node.{Node, Kept, Change, slot_to, bound_to, changed, no_route, route_at, bound_at}
+use Rattle.bus_machine.specs.Node.{Node, Kept, Change, slot_to, bound_to, changed, no_route}
 use Rattle.bus_machine.specs.Sound.{Sound, MovesForward}
 use Rattle.bus_laws.proofs.SoundSteps.{IsSlots-set}
-use Rattle.secoc_node.specs.Cells.{bound_cells, CellsOf, IsKept, cell_in, route_in, FirstBadBound, SlotsButNoBound}
-use Rattle.secoc_node.proofs.CellsLaws.{cell_of_route, length-bound_cells, get_or-bound_cells, hold_slots, cell_of_kept_slot, cell_of_kept_bound, length-CellsOf}
+use Rattle.secoc_node.specs.Cells.{bound_cells, CellsOf, IsKept, cell_in, route_in, SlotsButNoBound}
+use Rattle.secoc_node.proofs.CellsLaws.{cell_of_route, length-bound_cells, get_or-bound_cells, hold_slots, cell_of_kept_slot, cell_of_kept_bound}
 
 -- a sound node keeps what the code's nodes keep
 pub kept_of_sound : (node : Node) → Sound node → IsKept node.config node.kept

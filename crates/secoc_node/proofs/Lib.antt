@@ -2,6 +2,7 @@ pub mod CellsLaws
 pub mod FirstCells
 pub mod KeptLaws
 pub mod FitsLaws
+pub mod Serving
 pub mod LifeLaws
 pub mod MovedLaws
 pub mod CallLaws

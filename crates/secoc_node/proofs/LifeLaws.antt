@@ -1,35 +1,27 @@
 -- What a life begins with
-use Rattle.std.proofs.Common.{◌≡◌, ℕ, ◌+◌, ◌^◌, ◌<◌, true, false, List, [], length, set, map, get_or, refl, sym, ap, subst, ◌∙◌, arith, inl, inr}
-use Rattle.std.specs.Prelude.{None, Some, ◌⊎◌}
+use Rattle.std.proofs.Common.{◌≡◌, ℕ, ◌+◌, ◌^◌, ◌<◌, false, List, length, map, get_or, refl, sym, ap, subst, ◌∙◌, arith, inl, inr}
 use Rattle.std.proofs.lemmas.List.{length-map, get_or-map, ext_get_or, get_or_default}
-use Rattle.key_slots.specs.declared.memory.Slot.{Slot}
-use Rattle.secure_boot.specs.declared.state.BootState.{BootState}
-use Rattle.secure_boot.specs.declared.state.BootState.TheVariants.{Undecided}
 use Rattle.freshness_routes.specs.declared.routes.Direction.{Direction}
 use Rattle.freshness_routes.specs.declared.routes.Direction.TheVariants.{Sends, Receives}
 use Rattle.freshness_routes.specs.declared.routes.Route.{Route}
 use Rattle.freshness_routes.specs.Config.{Config, IsConfig}
-use Rattle.freshness_store.specs.Bound.{bound_cell}
-use Rattle.cell_store.specs.Cells.{CellsState, StandsNow}
-use Rattle.cut_disk.specs.Images.{CutsTo}
-use Rattle.bus_machine.specs.Node.{Node, Kept, Change, changed, powered}
+use Rattle.cell_store.specs.Cells.{CellsState}
+use Rattle.bus_machine.specs.Node.{Node, Kept, changed, powered}
 use Rattle.bus_machine.specs.Sound.{Sound}
 use Rattle.bus_machine.specs.Steps.{PowersUp}
 use Rattle.bus_laws.proofs.SoundSteps.{Sound-powered, pending_forward}
 use Rattle.secoc_node.specs.declared.counters.RouteCounter.{RouteCounter}
-use Rattle.secoc_node.specs.declared.counters.RouteCounter.TheVariants as of_route
 use Rattle.secoc_node.specs.declared.known.Known.{Known}
 use Rattle.slot_disk.specs.Cell.{FirstBadSlot}
 use Rattle.secoc_node.specs.declared.faults.AttachFault.{AttachFault}
 use Rattle.secoc_node.specs.declared.faults.AttachFault.TheVariants as attach
-use Rattle.secoc_node.specs.Cells.{CellsOf, IsKept, cell_in, route_in, SlotsButNoBound}
+use Rattle.secoc_node.specs.Cells.{CellsOf, IsKept, route_in, SlotsButNoBound}
 use Rattle.secoc_node.specs.Causes.{AttachCause}
 use Rattle.secoc_node.specs.Counters.{freshness_in, bound_in, counter_towards, counter_of_route, no_counter, counter_in, CountRoutes, BeginsAt, BeginRoutes}
-use Rattle.secoc_node.specs.State.{NodeState, TellsFitting}
 use Rattle.secoc_node.specs.Keeping.{node_in, kept_in, IsNode, KeepsNode, BeginsLife}
 use Rattle.secoc_node.proofs.CellsLaws.{cell_of_route}
 use Rattle.secoc_node.proofs.KeptLaws.{kept_of_sound, kept_changed, cells_found, kept_once, no_bad_slot, no_bad_bound}
-use Rattle.secoc_node.proofs.FitsLaws.{found_cells, FoundCells}
+use Rattle.secoc_node.proofs.FitsLaws.{FoundCells}
 
 -- ---- what the counter of a route is made of
 

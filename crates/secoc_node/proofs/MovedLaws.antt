@@ -1,25 +1,25 @@
 -- A counter that moved, with the bound that was put before if one was due
-use Rattle.std.proofs.Common.{◌≡◌, ◌≢◌, ℕ, ◌+◌, ◌<◌, true, false, List, [], length, set, map, get_or, refl, sym, ap, subst, ◌∙◌, arith, get_or-set_same, get_or-set_other, inl, inr}
+use Rattle.std.proofs.Common.{◌≡◌, ℕ, ◌+◌, ◌<◌, true, List, [], length, set, map, get_or, refl, sym, ap, subst, ◌∙◌, arith, get_or-set_same, get_or-set_other, inl, inr}
 use Rattle.std.specs.Prelude.{Option, None, Some, option_map, unwrap_or}
 use Rattle.std.proofs.lemmas.List.{length-set, map-set, get_or-map, set-get_or}
 use Rattle.std.proofs.lemmas.Bool.Decides.{eqb_tells}
 use Rattle.freshness_routes.specs.declared.routes.Direction.{Direction}
 use Rattle.freshness_routes.specs.declared.routes.Route.{Route}
-use Rattle.freshness_routes.specs.Config.{Config}
 use Rattle.freshness_store.specs.Bound.{bound_cell}
 use Rattle.freshness_manager.specs.Changing.{MakesChange, FailsChange}
-use Rattle.cell_store.specs.Cells.{CellsState, Puts, FailsPut}
+use Rattle.cell_store.specs.Cells.{CellsState}
 use Rattle.cut_disk.specs.Calls.{Runs}
 use Rattle.cut_disk.specs.CallLaws.{runs_none, runs_more}
 use Rattle.she_engine.specs.declared.engine.Engine.{Engine}
-use Rattle.bus_machine.specs.Node.{Node, Kept, Change, slot_to, bound_to, changed, changed_by, with_counter, failed}
+use Rattle.bus_machine.specs.Node.{bound_to, changed, changed_by, with_counter, failed}
 use Rattle.secoc_node.specs.declared.counters.RouteCounter.{RouteCounter}
 use Rattle.secoc_node.specs.Cells.{CellsOf, IsKept, route_in}
 use Rattle.secoc_node.specs.Counters.{freshness_in, bound_in, no_counter, counter_in, CountsRoute, CountRoutes}
-use Rattle.secoc_node.specs.State.{NodeState, FitsNow, Served}
+use Rattle.secoc_node.specs.State.{NodeState, FitsNow}
 use Rattle.secoc_node.specs.Keeping.{kept_in, KeepsNode}
+use Rattle.secoc_node.proofs.Serving.{Served}
 use Rattle.secoc_node.proofs.CellsLaws.{CellsOf-bound}
-use Rattle.secoc_node.proofs.FitsLaws.{fits_put, fits_failed_put, never_some}
+use Rattle.secoc_node.proofs.FitsLaws.{fits_put, fits_failed_put}
 
 pub same_store : (old new : NodeState) → new.store ≡ old.store → (FitsNow old → FitsNow new) → Served old new
 same_store old new same fits = record {

@@ -1,6 +1,6 @@
 -- A PDU that an up node receives under a Data ID for which it has a route
-use Rattle.std.proofs.Common.{◌≡◌, ℕ, ◌+◌, ◌^◌, ◌<◌, ◌≤◌, true, false, List, [], length, get_or, take, refl, sym, ap, subst, ◌∙◌}
-use Rattle.std.specs.Prelude.{Option, None, Some, Result, Ok, Err, option_map, unwrap_or}
+use Rattle.std.proofs.Common.{◌≡◌, ℕ, ◌+◌, ◌^◌, ◌<◌, ◌≤◌, true, false, List, length, get_or, take, refl, sym, ap, subst, ◌∙◌}
+use Rattle.std.specs.Prelude.{Option, Some, Ok, option_map, unwrap_or}
 use Rattle.cell_store.specs.Cells.{CellsState}
 use Rattle.freshness_routes.specs.declared.routes.Direction.TheVariants.{Receives}
 use Rattle.freshness_routes.specs.declared.routes.Route.{Route}
@@ -19,16 +19,15 @@ use Rattle.secoc_node.specs.declared.counters.RouteCounter.{RouteCounter}
 use Rattle.secoc_node.specs.declared.counters.RouteCounter.TheVariants as of_route
 use Rattle.secoc_node.specs.declared.known.Known.{Known}
 use Rattle.secoc_node.specs.Counters.{freshness_in, bound_in, counter_in}
-use Rattle.secoc_node.specs.State.{NodeState, FitsNow, IsCovered}
+use Rattle.secoc_node.specs.State.{IsCovered}
 use Rattle.secoc_node.specs.Lines.{received_line, IfAcceptedWith}
-use Rattle.secoc_node.specs.declared.faults.NodeFault.{NodeFault}
 use Rattle.secoc_node.specs.Keeping.{node_in, state_in, IsNode, FindsRoute}
 use Rattle.bus_machine.specs.Sound.{Sound}
 use Rattle.bus_machine.specs.Bus.{SentLine}
 use Rattle.bus_machine.specs.Honest.{IsInTime, IsHeard}
 use Rattle.bus_laws.proofs.Hearing.{facts, heard_line}
 use Rattle.secoc_node.proofs.CallLaws.{Done}
-use Rattle.secoc_node.proofs.RouteLaws.{with_counter_at, inside, place_at, route_id, has_route, got_here, made_of, keeps_its_bound, counter_is, bound_is, moved_done, same_done, failed_done}
+use Rattle.secoc_node.proofs.RouteLaws.{with_counter_at, place_at, route_id, got_here, made_of, keeps_its_bound, counter_is, bound_is, moved_done, same_done, failed_done}
 
 -- the receiver in a counter
 abbrev receiver_in : ReceiverCounter → RouteCounter → ReceiverCounter

@@ -1,30 +1,28 @@
 -- A call on one route of an up node: its counter moved, or it didn't, or the disk failed as its bound was put
-use Rattle.std.proofs.Common.{◌≡◌, ℕ, ◌+◌, ◌<◌, ◌≤◌, true, false, true≢false, List, [], length, set, get_or, map, refl, sym, ap, subst, ◌∙◌, arith, inl, inr}
+use Rattle.std.proofs.Common.{◌≡◌, ℕ, ◌+◌, ◌<◌, true, false, true≢false, List, length, set, get_or, map, refl, sym, ap, subst, ◌∙◌, arith}
 use Rattle.std.specs.Prelude.{Option, None, Some, option_map, unwrap_or}
 use Rattle.std.specs.Vec.{with_item}
 use Rattle.std.proofs.lemmas.List.{get_or_default, set-get_or, length-set}
 use Rattle.cell_store.specs.Cells.{CellsState}
 use Rattle.freshness_routes.specs.declared.routes.Direction.{Direction}
-use Rattle.freshness_routes.specs.declared.routes.Direction.TheVariants.{Sends, Receives}
 use Rattle.freshness_routes.specs.declared.routes.Route.{Route}
-use Rattle.freshness_routes.specs.Changes.{sender_change, receiver_change}
 use Rattle.freshness_store.specs.Bound.{HoldsBound}
-use Rattle.freshness_manager.specs.Counters.{SenderCounter, ReceiverCounter, KeepsBound}
+use Rattle.freshness_manager.specs.Counters.{KeepsBound}
 use Rattle.freshness_manager.specs.Changing.{MakesChange, FailsChange}
 use Rattle.she_engine.specs.declared.engine.PendingSlot.{PendingSlot}
 use Rattle.bus_machine.specs.declared.lines.Line.{Line}
-use Rattle.bus_machine.specs.Node.{Node, Change, bound_to, place_in, place_of, no_route, route_at, bound_at, counter_at, HasRoute, with_counter, failed}
+use Rattle.bus_machine.specs.Node.{Node, Change, bound_to, place_of, bound_at, counter_at, HasRoute, with_counter, failed}
 use Rattle.bus_machine.specs.Sound.{Sound}
-use Rattle.bus_machine.specs.Steps.{Act, NodeStep, send_change, receive_change}
+use Rattle.bus_machine.specs.Steps.{Act, NodeStep}
 use Rattle.bus_laws.proofs.SoundSteps.{Sound-step, place_is}
 use Rattle.secoc_node.specs.declared.counters.RouteCounter.{RouteCounter}
-use Rattle.secoc_node.specs.declared.counters.RouteCounter.TheVariants as of_route
 use Rattle.secoc_node.specs.declared.known.Known.{Known}
 use Rattle.secoc_node.specs.declared.known.PendingBound.{PendingBound}
 use Rattle.secoc_node.specs.Cells.{CellsOf, IsKept, cell_in, route_in}
 use Rattle.secoc_node.specs.Counters.{freshness_in, bound_in, counter_towards, counter_of_route, no_counter, counter_in, CountsRoute, CountRoutes}
-use Rattle.secoc_node.specs.State.{NodeState, FitsNow, Served, IsCovered}
+use Rattle.secoc_node.specs.State.{FitsNow}
 use Rattle.secoc_node.specs.Keeping.{node_in, state_in, kept_in, pending_in, IsNode, KeepsNode, FindsRoute}
+use Rattle.secoc_node.proofs.Serving.{Served}
 use Rattle.secoc_node.proofs.KeptLaws.{kept_of_sound, holds_kept}
 use Rattle.secoc_node.proofs.CallLaws.{Done}
 use Rattle.secoc_node.proofs.MovedLaws.{freshness_at, bound_at_counter, kept_moved, counters_moved, counts_moved, keeps_moved, served_same, served_moved, served_failed}

@@ -1,6 +1,6 @@
 -- A send of an up node under a Data ID for which it has a route
-use Rattle.std.proofs.Common.{◌≡◌, ℕ, ◌+◌, ◌<◌, ◌≤◌, true, false, List, [], length, get_or, take, refl, sym, ap, subst, ◌∙◌}
-use Rattle.std.specs.Prelude.{Option, None, Some, Result, Ok, Err, option_map, unwrap_or}
+use Rattle.std.proofs.Common.{◌≡◌, ℕ, ◌+◌, ◌<◌, ◌≤◌, true, false, List, length, get_or, take, refl, sym, ap, subst, ◌∙◌}
+use Rattle.std.specs.Prelude.{Option, Some, option_map, unwrap_or}
 use Rattle.cell_store.specs.Cells.{CellsState}
 use Rattle.freshness_routes.specs.declared.routes.Direction.TheVariants.{Sends}
 use Rattle.freshness_routes.specs.declared.routes.Route.{Route}
@@ -9,19 +9,18 @@ use Rattle.freshness_manager.specs.Counters.{SenderCounter, KeepsBound}
 use Rattle.freshness_manager.specs.Changing.{MakesChange, FailsChange}
 use Rattle.secoc_sender.specs.declared.sender.Sent.{Sent as Sending}
 use Rattle.secoc_sender.specs.Sending.{HasSender}
-use Rattle.bus_machine.specs.declared.lines.Line.{Line}
 use Rattle.bus_machine.specs.declared.lines.Line.TheVariants.{Sent, Refused}
 use Rattle.bus_machine.specs.declared.lines.Refusal.TheVariants.{MemoryFailure}
-use Rattle.bus_machine.specs.Node.{Node, bound_to, place_of, with_counter, failed}
+use Rattle.bus_machine.specs.Node.{bound_to, place_of, with_counter, failed}
 use Rattle.bus_machine.specs.Steps.{sends, NodeStep, send_change}
 use Rattle.secoc_node.specs.declared.counters.RouteCounter.{RouteCounter}
 use Rattle.secoc_node.specs.declared.counters.RouteCounter.TheVariants as of_route
 use Rattle.secoc_node.specs.declared.known.Known.{Known}
 use Rattle.secoc_node.specs.Counters.{freshness_in, bound_in, counter_in}
-use Rattle.secoc_node.specs.State.{NodeState, FitsNow, IsCovered}
+use Rattle.secoc_node.specs.State.{IsCovered}
 use Rattle.secoc_node.specs.Keeping.{node_in, state_in, IsNode, FindsRoute}
 use Rattle.secoc_node.proofs.CallLaws.{Done}
-use Rattle.secoc_node.proofs.RouteLaws.{with_counter_at, inside, place_at, route_id, has_route, got_here, made_of, keeps_its_bound, counter_is, bound_is, moved_done, failed_done}
+use Rattle.secoc_node.proofs.RouteLaws.{with_counter_at, place_at, route_id, got_here, made_of, keeps_its_bound, counter_is, bound_is, moved_done, failed_done}
 
 -- the sender in a counter
 abbrev sender_in : SenderCounter → RouteCounter → SenderCounter

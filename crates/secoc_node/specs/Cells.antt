@@ -1,8 +1,8 @@
 -- The cells in which a store keeps what outlasts a power cut of a node (own)
-use Rattle.std.specs.Prelude.{◌≡◌, ℕ, ◌+◌, ◌-◌, ◌^◌, ◌<◌, ◌≤◌, List, [], ◌∷◌, ◌++◌, length, map, All, slice_index_or}
+use Rattle.std.specs.Prelude.{◌≡◌, ℕ, ◌+◌, ◌^◌, ◌<◌, List, [], ◌∷◌, ◌++◌, length, map, All, slice_index_or}
 use Rattle.key_slots.specs.declared.memory.Slot.{Slot}
 use Rattle.key_slots.specs.Slots.{IsSlots}
-use Rattle.slot_disk.specs.Cell.{slot_cell, HoldSlots, FirstBadSlot}
+use Rattle.slot_disk.specs.Cell.{slot_cell, HoldSlots}
 use Rattle.freshness_routes.specs.declared.routes.Route.{Route}
 use Rattle.freshness_routes.specs.Config.{Config}
 use Rattle.freshness_store.specs.Bound.{bound_cell, HoldsBound, HoldsNoBound}
@@ -41,6 +41,12 @@ HoldsSomeBound routes cells k = (bound : ℕ) × HoldsBound (cell_in cells (14 +
 -- the cell of each route's bound holds one
 abbrev pub HoldsBounds : List Route → List (List ℕ) → Type 0
 HoldsBounds routes cells = (k : ℕ) → k < length routes → HoldsSomeBound routes cells k
+
+-- the fourteen slots are there, and a bound of each route
+pub record SlotsAndBounds (routes : List Route) (cells : List (List ℕ)) : Type 0 where
+  pub slots : List Slot
+  pub held : HoldSlots cells slots
+  pub bounds : HoldsBounds routes cells
 
 -- the cell of the bound of this route holds none of it, and each before it holds one
 pub record FirstBadBound (routes : List Route) (cells : List (List ℕ)) (bad : ℕ) : Type 0 where

@@ -1,5 +1,5 @@
 -- What the parts of a node in memory mean, and what is true of them and of its store
-use Rattle.std.specs.Prelude.{◌≡◌, ℕ, ◌+◌, ◌<◌, Bool, true, false, Option, None, Some, List, length, map}
+use Rattle.std.specs.Prelude.{◌≡◌, ℕ, ◌+◌, ◌<◌, true, false, Option, None, Some, List, length, map}
 use Rattle.cell_store.specs.Cells.{CellsState}
 use Rattle.she_engine.specs.declared.engine.Engine.{Engine}
 use Rattle.she_engine.specs.declared.engine.PendingSlot.{PendingSlot}

@@ -1,7 +1,6 @@
 -- What a node means to a proof: the node of the machine, and the store in which it keeps what outlasts a power cut
-use Rattle.std.specs.Prelude.{◌≡◌, ℕ, ◌+◌, ◌≤◌, [], Some}
+use Rattle.std.specs.Prelude.{◌≡◌, ℕ, ◌+◌, ◌≤◌, Some}
 use Rattle.cut_disk.specs.State.{Told}
-use Rattle.cut_disk.specs.Calls.{Runs}
 use Rattle.cell_store.specs.Cells.{CellsState}
 use Rattle.freshness_routes.specs.declared.routes.Direction.{Direction}
 use Rattle.freshness_manager.specs.Counters.{KeepsBound}
@@ -27,9 +26,3 @@ pub record IsCovered (s : NodeState) (id : ℕ) (direction : Direction) (freshne
   pub bound : ℕ
   pub kept : KeepsBound s.store.cells (14 + place_of s.node id direction) id direction bound
   pub covers : freshness ≤ bound
-
--- what every call that is no cut and arms nothing leaves of the disk: at most six calls of it, none of them marked, and what fitted fits
-pub record Served (old new : NodeState) : Type 0 where
-  pub layout : new.store.layout ≡ old.store.layout
-  pub runs : Runs [] 6 old.store.disk new.store.disk
-  pub fits : FitsNow old → FitsNow new

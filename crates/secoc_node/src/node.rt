@@ -1,11 +1,11 @@
 //! A node in all its lives.
-ghost use Rattle.std.specs.Prelude.{◌≡◌, ◌≢◌, ◌<◌, ◌≤◌, ◌+◌, ◌^◌, ◌∷◌, ◌↔◌, ℕ, [], List, length, not, true, false, None, Option, IfOk, IfErr, OnOk, OnErr, IsErrOf, MatchOption, MatchResult};
+ghost use Rattle.std.specs.Prelude.{◌≡◌, ◌≢◌, ◌<◌, ◌≤◌, ◌+◌, ◌^◌, ◌∷◌, ◌↔◌, ℕ, [], List, length, drop, not, true, false, Some, None, Option, IfOk, IfErr, OnOk, OnErr, IsErrOf, MatchOption, MatchResult};
 ghost use Rattle.cut_disk.specs.State.{Told, Cut, Stop, Fail};
 ghost use Rattle.cut_disk.specs.Arming.{with_stop, with_fail};
 ghost use Rattle.cut_disk.specs.Calls.{Rose, Runs, Grows};
 ghost use Rattle.cut_disk.specs.Images.{CutsTo};
 ghost use Rattle.cell_store.specs.Reading.{NoStop};
-ghost use Rattle.cell_store.specs.Cells.{Settled};
+ghost use Rattle.cell_store.specs.Cells.{Settled, StandsNow};
 ghost use Rattle.secure_boot.specs.Booting.{IsImage};
 ghost use Rattle.memory_update.specs.declared.messages.Update.{Update};
 ghost use Rattle.memory_update.specs.Messages.{Builds};
@@ -77,13 +77,14 @@ impl<C: Cells> Node<C> {
         }
     }
 
-    /// Sends a payload of 1 to 60 bytes under a Data ID: its Secured I-PDU (AUTOSAR SecOC, profile 1) stands at the front of `out`.
-    /// Errors, in their order: `Down`, `NoRoute`, `BadLength`, `Key`, `Exhausted`, `Faulted`. After each of them `out` is as before,
-    /// and but for `Faulted` so is all else, and no call of the disk was made.
+    /// Sends a payload of 1 to 60 bytes under a Data ID: its Secured I-PDU (AUTOSAR SecOC, profile 1) stands at the front of `out`,
+    /// whose rest is as before. Errors, in their order: `Down`, `NoRoute`, `BadLength`, `Key`, `Exhausted`, `Faulted`. After each of them
+    /// `out` is as before, and but for `Faulted` so is all else, and no call of the disk was made.
     pub fn send(&mut self, id: u16, payload: &[u8], out: &mut [u8; 64]) -> Result<Sent, NodeFault>
         ensures step { NodeStep self.old.node (sends id payload.now) (sent_line id out.new result) self.new.node }
         ensures length { IfOk result (λ sent. sent.len ≡ length payload.now + 4) }
         ensures within { IfOk result (λ sent. sent.len ≤ 64) }
+        ensures rest { IfOk result (λ sent. drop sent.len out.new ≡ drop sent.len out.old) }
         ensures covered { IfOk result (λ sent. IsCovered self.new id Sends sent.freshness) }
         ensures untouched { IfErr result (λ fault. fault ≢ NodeFault.Faulted → self.new ≡ self.old) }
         ensures unwritten { OnErr result (out.new ≡ out.old) }
@@ -214,9 +215,11 @@ impl<C: Cells> Node<C> {
         Some(self.known.counters[place].freshness())
     }
 
-    /// Whether the node serves no call until its power is cut: a call of its disk failed since it was last powered up.
+    /// Whether the node serves no call until its power is cut: a call of its disk failed, or a power cut was refused, since it was last
+    /// powered up. Whatever was called before and answered, the node is sound.
     pub fn is_down(&self) -> bool
-        ensures { result ≡ not self.now.node.up }
+        ensures down { result ≡ not self.now.node.up }
+        ensures sound { Sound self.now.node }
     {
         !self.known.up
     }
@@ -230,13 +233,16 @@ impl<C: Cells> Node<C> {
 }
 
 impl<C: CutCells> Node<C> {
-    /// Cuts the power and powers up again, from a node that is up as from one that is down: the cells are read anew, each counter is its
-    /// bound, and no boot was made. Errors: `Store` where the store isn't read, then `BadSlot`, then `BadBound`. The node is then down,
-    /// and what it knows is as before. Over a disk that tells its bytes, and fits the node, only the disk itself can fail.
+    /// Cuts the power and powers up again, from a node that is up as from one that is down: the cells are read anew, so that the bytes of
+    /// the disk stand for them, each counter is its bound, and no boot was made. Errors: `Store` where the store isn't read, then
+    /// `BadSlot`, then `BadBound`. The node is then down, and what it knows is as before. Over a disk that tells its bytes, and fits the
+    /// node, only the disk itself can fail.
     pub fn power_cut(&mut self, torn: Torn) -> Result<(), CutFault>
         ensures step { TellsFitting self.old → NodeStep self.old.node cuts (cut_line result) self.new.node }
         ensures up { OnOk result (self.new.node ≡ powered self.old.node.config self.new.node.kept) }
         ensures kept { OnOk result (self.new.store.cells ≡ CellsOf self.old.node.config self.new.node.kept) }
+        ensures stands { OnOk result (StandsNow self.new.store) }
+        ensures settled { OnOk result ((t : Told) → self.old.store.disk.told ≡ Some t → Settled self.new.store) }
         ensures refused { OnErr result (self.new.node ≡ refused_up self.old.node) }
         ensures cause { IfErr result (CutCause self.old.node.config.routes self.old.store self.new.store) }
         ensures only { TellsFitting self.old → IfErr result (λ fault. fault ≡ CutFault.Store Reread.DiskFailed) }
@@ -265,6 +271,7 @@ impl<C: CutCells> Node<C> {
         ensures told { self.new.store.disk.told ≡ self.old.store.disk.told }
         ensures faults { self.new.store.disk.faults ≡ self.old.store.disk.faults }
         ensures arms { self.new.store.disk.arms ≡ with_stop calls self.old.store.disk.arms }
+        ensures loud { self.new.store.disk.quiet ≡ false }
         ensures layout { self.new.store.layout ≡ self.old.store.layout }
         ensures runs { Runs (Stop calls ∷ []) 1 self.old.store.disk self.new.store.disk }
         ensures fits { FitsNow self.old → FitsNow self.new }
@@ -281,6 +288,7 @@ impl<C: CutCells> Node<C> {
         ensures told { self.new.store.disk.told ≡ self.old.store.disk.told }
         ensures faults { self.new.store.disk.faults ≡ self.old.store.disk.faults }
         ensures arms { self.new.store.disk.arms ≡ with_fail calls self.old.store.disk.arms }
+        ensures loud { self.new.store.disk.quiet ≡ false }
         ensures layout { self.new.store.layout ≡ self.old.store.layout }
         ensures runs { Runs (Fail calls ∷ []) 1 self.old.store.disk self.new.store.disk }
         ensures fits { FitsNow self.old → FitsNow self.new }

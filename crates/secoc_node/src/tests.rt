@@ -1,8 +1,13 @@
-//! Two nodes of a bus over either store in memory, in both versions: keys that gate sends, frames that are accepted once, power cuts, a disk
-//! that stops within any call, and the last freshness. The tags are those of OpenSSL's CMAC.
-ghost use Rattle.std.specs.Prelude.{◌≤◌};
+//! Two nodes of a bus over either store in memory, in both versions: keys that gate sends, frames that are accepted once, power cuts, and
+//! the last freshness. The tags are those of OpenSSL's CMAC.
+ghost use Rattle.std.specs.Prelude.{◌≡◌, ◌+◌, length, false, IfOk};
+ghost use Rattle.cell_store.specs.Store.{FewCells};
 
-use crate::{AttachFault, Node, NodeFault, first_cells};
+mod attaching;
+mod routes;
+mod stops;
+
+use crate::{Node, NodeFault, first_cells};
 use cell_store::{Cells, CutCells, LogCells, TwinCells, Version};
 use cut_disk::{MemDisk, Torn};
 use freshness_manager::{Direction, NodeConfig, Route};
@@ -22,6 +27,14 @@ const PAYLOAD: [u8; 6] = [0xbe, 0xe2, 0x2e, 0x40, 0x9f, 0x96];
 
 /// The payload with the freshness above the start.
 const FIRST: [u8; 10] = [0xbe, 0xe2, 0x2e, 0x40, 0x9f, 0x96, 0x2a, 0x07, 0x0a, 0x16];
+
+/// The first PDU with another payload.
+const ALTERED: [u8; 10] = [0xbe, 0xe2, 0x2e, 0x40, 0x9f, 0x97, 0x2a, 0x07, 0x0a, 0x16];
+
+/// The payload with the freshness 16 and 17 above the start.
+const AHEAD_16: [u8; 10] = [0xbe, 0xe2, 0x2e, 0x40, 0x9f, 0x96, 0x39, 0x5c, 0x4c, 0xd9];
+
+const AHEAD_17: [u8; 10] = [0xbe, 0xe2, 0x2e, 0x40, 0x9f, 0x96, 0x3a, 0xd9, 0x46, 0x9b];
 
 /// The same with the freshness that follows a power cut.
 const AFTER_CUT: [u8; 10] = [0xbe, 0xe2, 0x2e, 0x40, 0x9f, 0x96, 0x2e, 0x56, 0x7e, 0x86];
@@ -43,14 +56,6 @@ const BOOT_MAC: u128 = 0x9338c4e062a714ace2849c32772de6c6;
 const MAC: u8 = 2;
 
 const MAC_AFTER_BOOT: u8 = 10;
-
-const KINDS_OF_CUTS: [Torn; 5] = [
-    Torn::Keep,
-    Torn::Old,
-    Torn::Half,
-    Torn::Fill(0xa7),
-    Torn::Fill(0),
-];
 
 fn uid(number: u8) -> Uid {
     Uid::of([0, 0, 0, 0, 0, 0, 0, 0, 0, 0, 0, 0, 0, 0, number])
@@ -75,35 +80,61 @@ fn config(
     Ok(config)
 }
 
+fn twin_store(
+    alloc: Global,
+    version: Version,
+    cells: &[[u8; 32]],
+) -> Result<TwinCells<MemDisk>, Fail>
+    requires { FewCells (length cells.now) }
+    ensures count { IfOk result (λ store. length store.cells ≡ length cells.now) }
+    ensures whole { IfOk result (λ store. store.broken ≡ false) }
+{
+    let disk = MemDisk::new(alloc, 56_000)?;
+    let disk = match TwinCells::format_as(disk, version, cells) {
+        Ok(disk) => disk,
+        Err(refused) => return Err(Fail::from(refused.fault)),
+    };
+    match TwinCells::attach_as(alloc, disk, version, cells.len() as u16) {
+        Ok(store) => Ok(store),
+        Err(refused) => Err(Fail::from(refused.fault)),
+    }
+}
+
+fn log_store(alloc: Global, version: Version, cells: &[[u8; 32]]) -> Result<LogCells<MemDisk>, Fail>
+    requires { FewCells (length cells.now) }
+    ensures count { IfOk result (λ store. length store.cells ≡ length cells.now) }
+    ensures whole { IfOk result (λ store. store.broken ≡ false) }
+{
+    let disk = MemDisk::new(alloc, 56_000)?;
+    let disk = match LogCells::format_as(disk, version, cells) {
+        Ok(disk) => disk,
+        Err(refused) => return Err(Fail::from(refused.fault)),
+    };
+    match LogCells::attach_as(alloc, disk, version, cells.len() as u16) {
+        Ok(store) => Ok(store),
+        Err(refused) => Err(Fail::from(refused.fault)),
+    }
+}
+
+fn attached<C: Cells + Drop>(alloc: Global, config: NodeConfig, store: C) -> Result<Node<C>, Fail>
+    requires count { length (C.state store).cells ≡ 14 + length config.routes }
+    requires whole { (C.state store).broken ≡ false }
+{
+    match Node::attach(alloc, config, store) {
+        Ok(node) => Ok(node),
+        Err(refused) => Err(Fail::from(refused.fault)),
+    }
+}
+
 fn twin_node(
     alloc: Global,
     version: Version,
     config: NodeConfig,
 ) -> Result<Node<TwinCells<MemDisk>>, Fail> {
     let mut cells = [[0; 32]; 270];
-    twin_over(alloc, version, config, &mut cells)
-}
-
-fn twin_over(
-    alloc: Global,
-    version: Version,
-    config: NodeConfig,
-    cells: &mut [[u8; 32]; 270],
-) -> Result<Node<TwinCells<MemDisk>>, Fail> {
-    let count = first_cells(&config, cells);
-    let disk = MemDisk::new(alloc, 40_000)?;
-    let disk = match TwinCells::format_as(disk, version, &cells[..count]) {
-        Ok(disk) => disk,
-        Err(refused) => return Err(Fail::from(refused.fault)),
-    };
-    let store = match TwinCells::attach_as(alloc, disk, version, count as u16) {
-        Ok(store) => store,
-        Err(refused) => return Err(Fail::from(refused.fault)),
-    };
-    match Node::attach(alloc, config, store) {
-        Ok(node) => Ok(node),
-        Err(refused) => Err(Fail::from(refused.fault)),
-    }
+    let count = first_cells(&config, &mut cells);
+    let store = twin_store(alloc, version, &cells[..count])?;
+    attached(alloc, config, store)
 }
 
 fn log_node(
@@ -112,29 +143,9 @@ fn log_node(
     config: NodeConfig,
 ) -> Result<Node<LogCells<MemDisk>>, Fail> {
     let mut cells = [[0; 32]; 270];
-    log_over(alloc, version, config, &mut cells)
-}
-
-fn log_over(
-    alloc: Global,
-    version: Version,
-    config: NodeConfig,
-    cells: &mut [[u8; 32]; 270],
-) -> Result<Node<LogCells<MemDisk>>, Fail> {
-    let count = first_cells(&config, cells);
-    let disk = MemDisk::new(alloc, 40_000)?;
-    let disk = match LogCells::format_as(disk, version, &cells[..count]) {
-        Ok(disk) => disk,
-        Err(refused) => return Err(Fail::from(refused.fault)),
-    };
-    let store = match LogCells::attach_as(alloc, disk, version, count as u16) {
-        Ok(store) => store,
-        Err(refused) => return Err(Fail::from(refused.fault)),
-    };
-    match Node::attach(alloc, config, store) {
-        Ok(node) => Ok(node),
-        Err(refused) => Err(Fail::from(refused.fault)),
-    }
+    let count = first_cells(&config, &mut cells);
+    let store = log_store(alloc, version, &cells[..count])?;
+    attached(alloc, config, store)
 }
 
 /// An update of a slot: target, authorising slot and key, counter, flags, and the new key.
@@ -291,7 +302,7 @@ fn keys_and_boots_gate_sends(rt: HostRuntime) -> Result<(), Fail> {
     Ok(())
 }
 
-/// A PDU is accepted once, and another tag is refused, by a node whose key is loaded under its master key; the failure is of the freshness
+/// A PDU is accepted once, and another payload or tag is refused, by a node whose key is loaded under its master key; the failure is of the freshness
 /// where the window is narrow.
 fn accepts_once<C: CutCells>(
     rt: &impl Abort,
@@ -322,10 +333,10 @@ fn accepts_once<C: CutCells>(
     sends(rt, left, START + 1, &FIRST)?;
     accepts(rt, right, START + 1, &FIRST)?;
     assert_eq!(rt; right.receive(ID, &FIRST), Ok(failure));
-    let mut other = FIRST;
-    other[6] = 0x2a;
-    other[9] = 0x17;
-    assert_eq!(rt; right.receive(ID, &other), Ok(failure));
+    assert_eq!(rt; right.receive(ID, &ALTERED), Ok(failure));
+    let mut forged = FIRST;
+    forged[9] = 0x17;
+    assert_eq!(rt; right.receive(ID, &forged), Ok(failure));
     assert_eq!(rt; right.receive(ID, &[1, 2, 3, 4]), Err(NodeFault::BadLength));
     assert_eq!(rt; right.receive(7, &FIRST), Err(NodeFault::NoRoute));
     refuses_send(rt, right, NodeFault::NoRoute);
@@ -366,18 +377,24 @@ fn a_frame_is_accepted_once(rt: HostRuntime) -> Result<(), Fail> {
     Ok(())
 }
 
+/// An authentic PDU that is too far ahead, and one at the window's end.
+fn hears_within_16<C: CutCells>(rt: &impl Abort, node: &mut Node<C>) -> Result<(), Fail> {
+    load_key(node, 2)?;
+    assert_eq!(rt;
+        node.receive(ID, &AHEAD_17),
+        Ok(Reception::FreshnessFailure)
+    );
+    accepts(rt, node, START + 16, &AHEAD_16)
+}
+
 #[test]
 fn a_window_of_16_has_no_freshness_17_ahead(rt: HostRuntime) -> Result<(), Fail> {
-    let right = config(rt.alloc(), 2, Direction::Receives, 16, START)?;
-    let mut node = twin_node(rt.alloc(), Version::One, right)?;
-    load_key(&mut node, 2)?;
-    let mut ahead = FIRST;
-    for (low, said) in [
-        (0x39, Reception::VerificationFailure),
-        (0x3a, Reception::FreshnessFailure),
-    ] {
-        ahead[6] = low;
-        assert_eq!(rt; node.receive(ID, &ahead), Ok(said));
+    let alloc = rt.alloc();
+    for version in [Version::One, Version::Two] {
+        let right = config(alloc, 2, Direction::Receives, 16, START)?;
+        hears_within_16(&rt, &mut twin_node(alloc, version, right)?)?;
+        let right = config(alloc, 2, Direction::Receives, 16, START)?;
+        hears_within_16(&rt, &mut log_node(alloc, version, right)?)?;
     }
     Ok(())
 }
@@ -433,97 +450,4 @@ fn a_sender_goes_on_at_its_bound_and_ends_at_the_last_freshness(
         ends(&rt, &mut log_node(alloc, version, last)?)?;
     }
     Ok(())
-}
-
-/// The disk stops at this call of the put of a bound. The node then serves nothing until its power is cut, and what it says of the same PDU
-/// tells whether the new bound was kept.
-fn stops<C: CutCells>(
-    rt: &impl Abort,
-    node: &mut Node<C>,
-    calls: u64,
-    torn: Torn,
-    is_new: bool,
-) -> Result<(), Fail>
-    requires { 1 ≤ calls }
-{
-    load_key(node, 2)?;
-    node.stop_at(calls);
-    assert_eq!(rt; node.receive(ID, &FIRST), Err(NodeFault::Faulted));
-    assert!(rt; node.is_down());
-    assert_eq!(rt; node.receive(ID, &FIRST), Err(NodeFault::Down));
-    refuses_send(rt, node, NodeFault::Down);
-    assert_eq!(rt; node.boot(&[0]), Err(NodeFault::Down));
-    assert_eq!(rt; node.load(&request(2, &first_key())?), Err(NodeFault::Down));
-    node.power_cut(torn)?;
-    assert!(rt; !node.is_down());
-    if is_new {
-        assert_eq!(rt;
-            node.receive(ID, &FIRST),
-            Ok(Reception::VerificationFailure)
-        );
-        Ok(())
-    } else {
-        accepts(rt, node, START + 1, &FIRST)
-    }
-}
-
-#[test]
-fn a_stop_at_any_call_leaves_the_old_bound_or_the_new(rt: HostRuntime) -> Result<(), Fail> {
-    let alloc = rt.alloc();
-    for version in [Version::One, Version::Two] {
-        for (kind, torn) in KINDS_OF_CUTS.iter().enumerate() {
-            for calls in 1..7 {
-                let is_new = calls > 4 && kind != 1 && kind != 4;
-                let right = config(alloc, 2, Direction::Receives, 256, START)?;
-                let mut node = twin_node(alloc, version, right)?;
-                stops(&rt, &mut node, calls, *torn, is_new)?;
-            }
-            for calls in 1..5 {
-                let is_new = calls > 2 && (kind == 0 || kind == 3);
-                let right = config(alloc, 2, Direction::Receives, 256, START)?;
-                let mut node = log_node(alloc, version, right)?;
-                stops(&rt, &mut node, calls, *torn, is_new)?;
-            }
-        }
-    }
-    Ok(())
-}
-
-#[test]
-fn a_power_cut_may_be_refused_and_made_again(rt: HostRuntime) -> Result<(), Fail> {
-    let right = config(rt.alloc(), 2, Direction::Receives, 256, START)?;
-    let mut node = twin_node(rt.alloc(), Version::One, right)?;
-    load_key(&mut node, 2)?;
-    node.fail_at(1);
-    assert!(rt; node.power_cut(Torn::Keep).is_err());
-    assert_eq!(rt; node.receive(ID, &FIRST), Err(NodeFault::Down));
-    node.power_cut(Torn::Keep)?;
-    accepts(&rt, &mut node, START + 1, &FIRST)?;
-    assert_eq!(rt; node.release().count(), 15);
-    Ok(())
-}
-
-#[test]
-fn a_cell_that_is_no_bound_is_named(rt: HostRuntime) -> Result<(), Fail> {
-    let right = config(rt.alloc(), 2, Direction::Receives, 256, START)?;
-    if right.routes.as_slice().len() != 1 {
-        return Err(Fail::from("one route"));
-    }
-    let disk = MemDisk::new(rt.alloc(), 1_052)?;
-    let disk = match TwinCells::format(disk, &[[0; 32]; 15]) {
-        Ok(disk) => disk,
-        Err(refused) => return Err(Fail::from(refused.fault)),
-    };
-    let store = match TwinCells::attach(rt.alloc(), disk, 15) {
-        Ok(store) => store,
-        Err(refused) => return Err(Fail::from(refused.fault)),
-    };
-    match Node::attach(rt.alloc(), right, store) {
-        Ok(_) => Err(Fail::from("a node")),
-        Err(refused) => {
-            assert_eq!(rt; refused.fault, AttachFault::BadBound(14));
-            assert_eq!(rt; refused.cells.count(), 15);
-            Ok(())
-        }
-    }
 }

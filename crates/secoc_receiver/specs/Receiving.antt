@@ -52,7 +52,7 @@ outcome_in pdu (Accepted freshness len) = verdict.Accepted (take len pdu) freshn
 outcome_in pdu FreshnessFailure = verdict.FreshnessFailure
 outcome_in pdu VerificationFailure = verdict.VerificationFailure
 
--- what holds where the PDU is accepted with a freshness and a payload of this length, where it isn't, and where neither a bound was put nor was one to be
+-- what holds where the PDU is accepted with a freshness and a payload of this length, where it isn't, and where it isn't and no bound was to be put
 abbrev pub IfAccepted : Result Reception ReceiveFault → (ℕ → ℕ → Type 0) → Type 0
 IfAccepted (Ok (Accepted freshness len)) P = P freshness len
 IfAccepted _ P = Unit {0}

@@ -1,4 +1,4 @@
-use Rattle.std.proofs.Common.{◌≡◌, length, refl, sym, subst, ap, ◌∙◌, rules, arith}
+use Rattle.std.proofs.Common.{length, subst, ap, rules, arith}
 use Rattle.freshness_routes.specs.Config.{IsConfig}
 use Rattle.secoc_node.proofs.FirstCells.{front_so_far, front_rest, one_cell_more, rest_as_before, all_cells, same_behind}
 use Rattle.secoc_node.proofs.cells.first_cells.Goals as goal

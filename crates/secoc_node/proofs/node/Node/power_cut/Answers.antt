@@ -8,7 +8,7 @@ use Rattle.secoc_node.specs.Lines.{cut_line}
 use Rattle.secoc_node.specs.State.{NodeState, FitsNow, TellsFitting}
 use Rattle.secoc_node.specs.Keeping.{node_in, state_in}
 use Rattle.secoc_node.proofs.FitsLaws.{fits_refused}
-use Rattle.secoc_node.proofs.CutLaws.{ReadAnew, fallen, each_image, node_after, step_after, up_after, kept_after, only_after, fits_after, step_unread}
+use Rattle.secoc_node.proofs.CutLaws.{fallen, each_image, node_after, step_after, up_after, kept_after, only_after, fits_after, step_unread}
 use Rattle.secoc_node.proofs.node.Node.power_cut.Goals as goal
 
 -- ---- the store isn't read anew

@@ -1,11 +1,10 @@
-use Rattle.std.proofs.Common.{◌≡◌, get_or, ap, sym, subst, ◌∙◌, Ok, Err}
+use Rattle.std.proofs.Common.{◌≡◌, ap, sym, subst, Ok, Err}
 use Rattle.std.specs.Prelude.{None}
 use Rattle.bus_machine.specs.declared.lines.Line.TheVariants.{Refused}
 use Rattle.bus_machine.specs.declared.lines.Refusal.TheVariants.{BadLength, MemoryFailure}
 use Rattle.bus_machine.specs.Honest.{IsInTime}
 use Rattle.bus_machine.specs.Node.{place_of}
 use Rattle.bus_machine.specs.Steps.{receives, NodeStep}
-use Rattle.freshness_manager.specs.Counters.{ReceiverCounter}
 use Rattle.freshness_routes.specs.declared.routes.Direction.TheVariants.{Receives}
 use Rattle.secoc_receiver.specs.Receiving.{IfUnmoved, line_of_receive, after_receive}
 use Rattle.secoc_receiver.specs.declared.receiver.ReceiveFault.{ReceiveFault}
