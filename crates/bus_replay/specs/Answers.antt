@@ -1,5 +1,5 @@
 -- The table of answers: what each row prints, its status, and when it comes.
-use Rattle.std.specs.Prelude.{◌≡◌, ℕ, ◌≤◌, List, [], length, Option, Some, Ok, Err}
+use Rattle.std.specs.Prelude.{◌≡◌, ◌⊎◌, ℕ, ◌<◌, ◌≤◌, List, [], length, drop, get_or, Option, None, Some, Ok, Err}
 use Rattle.bus_port.specs.Source.{SourceState}
 use Rattle.bus_port.specs.Sink.{SinkState}
 use Rattle.bus_port.specs.Whole.{ReadsAll, AppendedPart}
@@ -7,14 +7,29 @@ use Rattle.text_lines.specs.Readings.{Fault}
 use Rattle.text_lines.specs.Texts.{fault_text_of}
 use Rattle.command_edge.specs.Input.{input_limit, input_fault_text, NoInput}
 use Rattle.command_edge.specs.declared.input.InputFault.TheVariants as input
-use Rattle.command_edge.specs.Told.{EndingTold}
+use Rattle.command_edge.specs.Told.{EndingTold, AppendedWell}
 use Rattle.bus_config.specs.declared.fault.ConfigFault.{ConfigFault}
 use Rattle.bus_config.specs.BusFile.{bus_of}
 use Rattle.bus_config.specs.FaultTexts.{config_fault_text}
+use Rattle.cut_disk.specs.State.{DiskState, Told}
+use Rattle.cut_disk.specs.Calls.{IsQuiet}
+use Rattle.fault_count.specs.FaultCount.{Rose as DiskRose}
+use Rattle.bus_machine.specs.declared.events.Event.{Event}
+use Rattle.bus_nodes.specs.declared.nodes.NodeLine.{NodeLine}
+use Rattle.bus_nodes.specs.Buses.{NamedBus}
+use Rattle.bus_script.specs.EventForms.{events_of}
+use Rattle.numbered_run.specs.declared.printing.Unwritten.{Unwritten}
+use Rattle.numbered_run.specs.declared.printing.Unwritten.TheVariants.{SinkFailed, Memory as NoRoom}
+use Rattle.cell_store.specs.declared.faults.Reread.TheVariants.{DiskFailed}
+use Rattle.bus_world.specs.Starts.{NotStarted, HasRoom, FindsRoom, OfNumber, LeftOver}
+use Rattle.bus_world.specs.declared.start.StartFault.{StartFault}
+use Rattle.bus_world.specs.declared.start.StartFault.TheVariants.{Store, BadSlot, BadBound}
+use Rattle.bus_replay.specs.Replays.{EndsReplay, Ran, start_fault_text, written_status}
+use Rattle.bus_replay.specs.Headline.{TellEach, Replayed}
 use Rattle.bus_replay.specs.declared.words.Command.{Command}
 use Rattle.bus_replay.specs.declared.words.Command.TheVariants as command
 use Rattle.bus_replay.specs.declared.task.Task.{Task}
-use Rattle.bus_replay.specs.declared.task.Task.TheVariants.{Frame, Judge, Check}
+use Rattle.bus_replay.specs.declared.task.Task.TheVariants.{Frame, Judge, Check, Replay}
 use Rattle.bus_replay.specs.Words.{Asks, AsksNothing, AsksSomething}
 use Rattle.bus_replay.specs.Texts.{usage, Prints, fault_of}
 
@@ -38,7 +53,8 @@ pub data Answer : Type 0 where
   script_read_fault : Answer
   script_too_long : Answer
   script_refused : Fault → Answer
-  no_memory : Answer
+  config_no_memory : Answer
+  script_no_memory : Answer
   done : List ℕ → Answer
 
 -- the status of a row
@@ -50,7 +66,8 @@ answer_status (config_refused fault text) = 3
 answer_status script_read_fault = 5
 answer_status script_too_long = 8
 answer_status (script_refused fault) = 4
-answer_status no_memory = 7
+answer_status config_no_memory = 7
+answer_status script_no_memory = 7
 answer_status (done text) = 0
 
 -- the text of a row
@@ -62,7 +79,8 @@ answer_text (config_refused fault text) = text
 answer_text script_read_fault = input_fault_text input.ReadFault
 answer_text script_too_long = input_fault_text input.TooLong
 answer_text (script_refused fault) = fault_text_of fault
-answer_text no_memory = []
+answer_text config_no_memory = []
+answer_text script_no_memory = []
 answer_text (done text) = text
 
 -- the command reads a bus file
@@ -70,6 +88,7 @@ abbrev pub ReadsBus : Command → Type 0
 ReadsBus command.Frame = ⊥
 ReadsBus command.Judge = ⊥
 ReadsBus command.Check = Unit {0}
+ReadsBus command.Replay = Unit {0}
 
 -- the words ask for a command that reads a bus file
 abbrev pub AsksOverBus : List (List ℕ) → Type 0
@@ -86,12 +105,22 @@ SetsTask words before after Frame = Asks words command.Frame × (after ≡ befor
 SetsTask words before after Judge = Asks words command.Judge × (after ≡ before)
 SetsTask words before after (Check bus) =
     Asks words command.Check × (file : List ℕ) × ReadsAll before after input_limit file × (bus_of file ≡ Ok bus)
+SetsTask words before after (Replay bus) =
+    Asks words command.Replay × (file : List ℕ) × ReadsAll before after input_limit file × (bus_of file ≡ Ok bus)
 
 -- a task is given, whose lines were read to their end with at most 1,048,576 bytes and no fault; this holds of both
 abbrev pub Over : List (List ℕ) → Inputs → (Task → List ℕ → Type 0) → Type 0
 Over words i P =
     (task : Task) × SetsTask words i.config i.config_after task
     × (input : List ℕ) × ReadsAll i.script i.script_after input_limit input × P task input
+
+-- there was no memory before a byte of the lines was asked for: while the bus file was read, or for it, or for the text of its fault
+abbrev pub ConfigFindsNoMemory : List (List ℕ) → Inputs → Type 0
+ConfigFindsNoMemory words i = AsksOverBus words × NoInput i.config i.config_after input.Memory × (i.script_after ≡ i.script)
+
+-- there was none after the task was given: while the lines were read, or for them, or for what is to be printed or started
+abbrev pub ScriptFindsNoMemory : List (List ℕ) → Inputs → Type 0
+ScriptFindsNoMemory words i = (task : Task) × SetsTask words i.config i.config_after task × NoInput i.script i.script_after input.Memory
 
 -- when a row comes, by the words and by what was known of the sources before and after
 abbrev pub Comes : List (List ℕ) → Inputs → Answer → Type 0
@@ -108,14 +137,31 @@ Comes words i script_read_fault =
 Comes words i script_too_long =
     (task : Task) × SetsTask words i.config i.config_after task × NoInput i.script i.script_after input.TooLong
 Comes words i (script_refused fault) = Over words i (λ task input. fault_of task input ≡ Some fault)
-Comes words i no_memory =
-    AsksSomething words × NoInput i.config i.config_after input.Memory × NoInput i.script i.script_after input.Memory
+Comes words i config_no_memory = ConfigFindsNoMemory words i
+Comes words i script_no_memory = ScriptFindsNoMemory words i
 Comes words i (done text) = Over words i (λ task input. Prints task input text)
 
--- how a run ends: a row comes, and its text and status are told; where the sink fails, 6 and a proper front of that text
-abbrev pub Ends : List (List ℕ) → Inputs → SinkState → SinkState → ℕ → Type 0
-Ends words i sink_before sink_after status =
+-- a replay is asked for, over this bus, and its script was read to its end with at most 1,048,576 bytes and has these events
+abbrev pub OverReplay : List (List ℕ) → Inputs → (NamedBus → List Event → Type 0) → Type 0
+OverReplay words i P =
+    (bus : NamedBus) × SetsTask words i.config i.config_after (Replay bus)
+    × (input : List ℕ) × ReadsAll i.script i.script_after input_limit input
+    × (events : List Event) × (events_of bus.nodes input ≡ Ok events) × P bus events
+
+-- a row comes, and its text and status are told; where the sink fails, 6 and a proper front of that text
+abbrev pub EndsTold : List (List ℕ) → Inputs → SinkState → SinkState → ℕ → Type 0
+EndsTold words i sink_before sink_after status =
     (answer : Answer) × Comes words i answer × EndingTold sink_before sink_after (answer_text answer) (answer_status answer) status
+
+-- a row is told, and the disks are the same; or it is a replay of valid inputs, of which this holds
+abbrev pub EndsWith : Type 0 → List (List ℕ) → Inputs → SinkState → SinkState → ℕ → (NamedBus → List Event → Type 0) → Type 0
+EndsWith same words i sink_before sink_after status P =
+    (same × EndsTold words i sink_before sink_after status) ⊎ OverReplay words i P
+
+-- how a run ends, over disks of any kind
+abbrev pub Ends : Type 0 → List (List ℕ) → Inputs → List DiskState → List DiskState → SinkState → SinkState → ℕ → Type 0
+Ends same words i before after sink_before sink_after status =
+    EndsWith same words i sink_before sink_after status (λ bus events. EndsReplay bus events before after sink_before sink_after status)
 
 -- a front was written of the text of a row that comes
 abbrev pub FrontOfRow : List (List ℕ) → Inputs → SinkState → SinkState → Type 0
@@ -130,3 +176,83 @@ ToldTask words told Frame = Asks words command.Frame
 ToldTask words told Judge = Asks words command.Judge
 ToldTask words told (Check bus) =
     Asks words command.Check × (file : List ℕ) × (told ≡ Some file) × (length file ≤ input_limit) × (bus_of file ≡ Ok bus)
+ToldTask words told (Replay bus) =
+    Asks words command.Replay × (file : List ℕ) × (told ≡ Some file) × (length file ≤ input_limit) × (bus_of file ≡ Ok bus)
+
+-- ---- replays
+
+-- the words ask for a replay
+abbrev pub AsksReplay : List (List ℕ) → Type 0
+AsksReplay words = Asks words command.Replay
+
+-- the disks are fewer than the nodes, or that of a node is too small, of which the first is named; every disk is as before
+abbrev pub DisksRefused : List (List ℕ) → Inputs → List DiskState → List DiskState → SinkState → SinkState → Type 0
+DisksRefused words i before after sink_before sink_after =
+    OverReplay words i (λ bus events. (after ≡ before) × (fault : StartFault) × FindsRoom bus before fault
+    × (text : List ℕ) × (start_fault_text fault ≡ Some text) × AppendedWell sink_before sink_after text)
+
+-- the disk of the named node failed in the call: its count rose, and it wasn't quiet; or it doesn't tell its bytes
+abbrev pub StoreCause : NamedBus → List DiskState → List DiskState → StartFault → Type 0
+StoreCause bus before after (Store number DiskFailed) = OfNumber bus before after number (λ old new. DiskRose old.faults new.faults × ¬ IsQuiet old)
+StoreCause bus before after (Store number cause) = OfNumber bus before after number (λ old new. old.told ≡ None)
+StoreCause bus before after (BadSlot number slot) = OfNumber bus before after number (λ old new. old.told ≡ None)
+StoreCause bus before after (BadBound number cell) = OfNumber bus before after number (λ old new. old.told ≡ None)
+StoreCause bus before after fault = ⊥
+
+-- each disk of a node is as it was, or whatever a power cut leaves of it stands for a new node's cells, or its count rose; the others are as before
+pub record LeavesEach (bus : NamedBus) (before after : List DiskState) : Type 0 where
+  pub count : length after ≡ length before
+  pub each : (i : ℕ) (l : NodeLine) (d : DiskState) → i < length bus.nodes
+      → LeftOver bus.kind bus.version (get_or bus.nodes i l).config (get_or before i d) (get_or after i d)
+  pub rest : drop (length bus.nodes) after ≡ drop (length bus.nodes) before
+
+-- the store of a node isn't written, or what was written isn't read again
+abbrev pub StoreRefused : List (List ℕ) → Inputs → List DiskState → List DiskState → SinkState → SinkState → Type 0
+StoreRefused words i before after sink_before sink_after =
+    OverReplay words i (λ bus events. LeavesEach bus before after × (fault : StartFault) × StoreCause bus before after fault
+    × (text : List ℕ) × (start_fault_text fault ≡ Some text) × AppendedWell sink_before sink_after text)
+
+-- a replay whose sink failed: at the text of a line, or at the text of a start that is refused
+abbrev pub BreaksOff : List (List ℕ) → Inputs → List DiskState → List DiskState → SinkState → SinkState → Type 0
+BreaksOff words i before after sink_before sink_after =
+    OverReplay words i (λ bus events. Ran bus before after events sink_before sink_after (Err SinkFailed)
+    ⊎ ((fault : StartFault) × NotStarted bus before after fault
+    × (text : List ℕ) × (start_fault_text fault ≡ Some text) × AppendedPart sink_before sink_after text))
+
+-- a replay that found no memory for the text of a line
+abbrev pub RunsShort : List (List ℕ) → Inputs → List DiskState → List DiskState → SinkState → SinkState → Type 0
+RunsShort words i before after sink_before sink_after =
+    OverReplay words i (λ bus events. Ran bus before after events sink_before sink_after (Err NoRoom))
+
+-- where the task is a replay, there are disks enough, of enough size, and each that the bus takes tells its bytes, and was quiet, or its count didn't rise
+abbrev pub HasDisks : Task → List DiskState → List DiskState → Type 0
+HasDisks (Replay bus) before after =
+    HasRoom bus before
+    × ((i : ℕ) (d : DiskState) → i < length bus.nodes
+    → ((told : Told) × ((get_or before i d).told ≡ Some told))
+    × (IsQuiet (get_or before i d) ⊎ ¬ DiskRose (get_or before i d).faults (get_or after i d).faults))
+HasDisks task before after = Unit {0}
+
+-- ---- early ends
+
+-- a replay ended before its first event: within the text of a start that is refused, with 6; or with nothing written, with 7
+pub record EndsUnstarted (bus : NamedBus) (before after : List DiskState) (sink_before sink_after : SinkState) (status : ℕ) : Type 0 where
+  pub left : LeavesEach bus before after
+  pub fault : StartFault
+  pub refused : NotStarted bus before after fault
+  pub written : ((status ≡ 6) × (text : List ℕ) × (start_fault_text fault ≡ Some text) × AppendedPart sink_before sink_after text)
+      ⊎ ((status ≡ 7) × AppendedWell sink_before sink_after [])
+
+-- it ended in a run of its first events, at least one, of which all holds that holds of a whole run: the texts of the lines before the
+-- last are written, and of the last a proper front, with 6, or nothing, with 7
+abbrev pub EndsInRun : NamedBus → List DiskState → List DiskState → List Event → SinkState → SinkState → ℕ → Type 0
+EndsInRun bus before after events sink_before sink_after status =
+    (cause : Unwritten) × Replayed bus before after events sink_before sink_after (Err cause) × (status ≡ written_status (Err cause))
+
+-- how a run ends early: every disk is as before, and of a row a proper front was written, or nothing; or it is a replay of valid inputs
+-- that ended before its first event, or in a run
+abbrev pub EndsEarly : Type 0 → List (List ℕ) → Inputs → List DiskState → List DiskState → SinkState → SinkState → ℕ → Type 0
+EndsEarly same words i before after sink_before sink_after status =
+    (same × (FrontOfRow words i sink_before sink_after ⊎ AppendedWell sink_before sink_after []))
+    ⊎ OverReplay words i (λ bus events. EndsUnstarted bus before after sink_before sink_after status
+    ⊎ (TellEach bus before → EndsInRun bus before after events sink_before sink_after status))

@@ -1,14 +1,16 @@
 -- What the steps of the work say to one another.
-use Rattle.std.specs.Prelude.{◌≡◌, ◌⊎◌, ℕ, Some, List, ◌++◌, All, Result, Ok, Err, Vec, string_bytes}
+use Rattle.std.specs.Prelude.{◌≡◌, ◌⊎◌, ℕ, ◌≤◌, Some, List, ◌++◌, length, All, Result, Ok, Err, Vec, string_bytes}
 use Rattle.std.specs.List.{flat_map}
 use Rattle.std.specs.declared.alloc.Global.{Global}
 use Rattle.bus_port.specs.Source.{SourceState}
 use Rattle.bus_port.specs.Sink.{SinkState}
+use Rattle.bus_port.specs.Whole.{ReadsAll}
+use Rattle.command_edge.specs.Input.{input_limit}
 use Rattle.command_edge.specs.Told.{EndingTold}
 use Rattle.secured_pdu.specs.Frame.{IsPayload}
 use Rattle.text_lines.specs.declared.frames.FrameLine.{FrameLine}
 use Rattle.text_lines.specs.declared.judges.JudgeLine.{JudgeLine}
-use Rattle.text_lines.specs.Frames.{frames_of, judges_of}
+use Rattle.text_lines.specs.Frames.{frames_of, judges_of, most_lines}
 use Rattle.text_lines.specs.Readings.{Fault}
 use Rattle.text_lines.specs.Texts.{fault_text_of}
 use Rattle.bus_nodes.specs.Buses.{NamedBus}
@@ -19,14 +21,16 @@ use Rattle.bus_script.specs.EventForms.{events_of}
 use Rattle.bus_script.specs.ScriptEvents.{IsScriptEvent}
 use Rattle.bus_script.specs.Canon.{canon}
 use Rattle.bus_replay.specs.declared.job.Job.{Job}
-use Rattle.bus_replay.specs.declared.job.Job.TheVariants.{Frames, Judgements, Events}
+use Rattle.bus_replay.specs.declared.job.Job.TheVariants.{Frames, Judgements, Events, Replay as ReplayEvents}
 use Rattle.bus_replay.specs.declared.task.Task.{Task}
-use Rattle.bus_replay.specs.declared.task.Task.TheVariants.{Frame, Judge, Check}
+use Rattle.bus_replay.specs.declared.task.Task.TheVariants.{Frame, Judge, Check, Replay}
 use Rattle.bus_replay.specs.declared.refusal.Refusal.{Refusal}
 use Rattle.bus_replay.specs.declared.refusal.Refusal.TheVariants.{Usage, ReadFault, TooLong, Config, Script, Memory}
 use Rattle.bus_replay.specs.Texts.{TellsEach, TellsFrame, TellsJudgement, fault_of}
 use Rattle.bus_replay.specs.Refusals.{refusal_status, refusal_text}
-use Rattle.bus_replay.specs.Answers.{Answer, answer_status, answer_text, Inputs, inputs, Comes, Over, SetsTask}
+use Rattle.bus_replay.specs.Answers.{Answer, answer_status, answer_text, Inputs, inputs, Comes, Over, SetsTask, ReadsBus}
+use Rattle.bus_replay.specs.declared.words.Command.{Command}
+use Rattle.bus_replay.specs.Words.{Asks}
 
 -- the line's payload has 1 to 60 bytes
 abbrev pub HasPayload : FrameLine → Type 0
@@ -70,24 +74,40 @@ abbrev pub IsWholeJob : Job → Type 0
 IsWholeJob (Frames lines) = All HasPayload lines.items
 IsWholeJob (Judgements lines) = All IsAny lines.items
 IsWholeJob (Events bus events) = All (IsScriptEvent bus.nodes) events.items
+IsWholeJob (ReplayEvents bus events) = All (IsScriptEvent bus.nodes) events.items × (length events.items ≤ most_lines)
+
+-- the job has a text of its own
+abbrev pub HasText : Job → Type 0
+HasText (Frames lines) = Unit {0}
+HasText (Judgements lines) = Unit {0}
+HasText (Events bus events) = Unit {0}
+HasText (ReplayEvents bus events) = ⊥
 
 -- the job is what the task is to do with the input
 abbrev pub IsJobOf : Task → List ℕ → Job → Type 0
 IsJobOf Frame input (Frames lines) = frames_of input ≡ Ok lines.items
 IsJobOf Frame input (Judgements lines) = ⊥
 IsJobOf Frame input (Events bus events) = ⊥
+IsJobOf Frame input (ReplayEvents bus events) = ⊥
 IsJobOf Judge input (Frames lines) = ⊥
 IsJobOf Judge input (Judgements lines) = judges_of input ≡ Ok lines.items
 IsJobOf Judge input (Events bus events) = ⊥
+IsJobOf Judge input (ReplayEvents bus events) = ⊥
 IsJobOf (Check bus) input (Frames lines) = ⊥
 IsJobOf (Check bus) input (Judgements lines) = ⊥
 IsJobOf (Check bus) input (Events over events) = (over ≡ bus) × (events_of bus.nodes input ≡ Ok events.items)
+IsJobOf (Check bus) input (ReplayEvents over events) = ⊥
+IsJobOf (Replay bus) input (Frames lines) = ⊥
+IsJobOf (Replay bus) input (Judgements lines) = ⊥
+IsJobOf (Replay bus) input (Events over events) = ⊥
+IsJobOf (Replay bus) input (ReplayEvents over events) = (over ≡ bus) × (events_of bus.nodes input ≡ Ok events.items)
 
 -- the text is what the job prints
 abbrev pub TellsJob : Job → List ℕ → Type 0
 TellsJob (Frames lines) text = TellsEach TellsFrame lines.items text
 TellsJob (Judgements lines) text = TellsEach TellsJudgement lines.items text
 TellsJob (Events bus events) text = text ≡ flat_map (canon bus.nodes) events.items
+TellsJob (ReplayEvents bus events) text = ⊥
 
 -- the job of a task over an input, or the refusal of a line
 abbrev pub JobOf : Task → List ℕ → Result Job Refusal → Type 0
@@ -108,6 +128,13 @@ Refuses words i refusal =
 abbrev pub SetsOrRefuses : List (List ℕ) → SourceState → SourceState → Result Task Refusal → Type 0
 SetsOrRefuses words before after (Ok task) = SetsTask words before after task
 SetsOrRefuses words before after (Err refusal) = (script : SourceState) → Refuses words (inputs before after script script) refusal
+
+-- the bus of a bus file that was read to its end, or a refusal, whatever the command is that asks for it
+abbrev pub FindsBus : SourceState → SourceState → Result NamedBus Refusal → Type 0
+FindsBus before after (Ok bus) = (file : List ℕ) × ReadsAll before after input_limit file × (bus_of file ≡ Ok bus)
+FindsBus before after (Err refusal) =
+    (words : List (List ℕ)) (command : Command) (script : SourceState) → Asks words command → ReadsBus command
+    → Refuses words (inputs before after script script) refusal
 
 -- how the first phase ends: in a job over the whole input, or in a refusal
 abbrev pub Prepares : List (List ℕ) → Inputs → Result Job Refusal → Type 0

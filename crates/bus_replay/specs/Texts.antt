@@ -14,7 +14,7 @@ use Rattle.bus_machine.specs.declared.events.Event.{Event}
 use Rattle.bus_script.specs.EventForms.{events_of}
 use Rattle.bus_script.specs.Canon.{canon}
 use Rattle.bus_replay.specs.declared.task.Task.{Task}
-use Rattle.bus_replay.specs.declared.task.Task.TheVariants.{Frame, Judge, Check}
+use Rattle.bus_replay.specs.declared.task.Task.TheVariants.{Frame, Judge, Check, Replay}
 
 -- the line of words that is printed where the words are of no form
 abbrev pub usage : List ℕ
@@ -36,15 +36,17 @@ TellsEach Tells [] text = text ≡ []
 TellsEach Tells (l ∷ lines) text =
     (first rest : List ℕ) × Tells l first × TellsEach Tells lines rest × (text ≡ first ++ rest)
 
--- the text is what a task prints of an input
+-- the text is what a task prints of an input; of a replay see the text that its run prints
 abbrev pub Prints : Task → List ℕ → List ℕ → Type 0
 Prints Frame input text = (lines : List FrameLine) × (frames_of input ≡ Ok lines) × TellsEach TellsFrame lines text
 Prints Judge input text = (lines : List JudgeLine) × (judges_of input ≡ Ok lines) × TellsEach TellsJudgement lines text
 Prints (Check bus) input text =
     (events : List Event) × (events_of bus.nodes input ≡ Ok events) × (text ≡ flat_map (canon bus.nodes) events)
+Prints (Replay bus) input text = ⊥
 
 -- the first fault of an input, if it has one
 abbrev pub fault_of : Task → List ℕ → Option Fault
 fault_of Frame input = result_err (frames_of input)
 fault_of Judge input = result_err (judges_of input)
 fault_of (Check bus) input = result_err (events_of bus.nodes input)
+fault_of (Replay bus) input = result_err (events_of bus.nodes input)

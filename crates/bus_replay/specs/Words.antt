@@ -1,25 +1,28 @@
 -- The words of the command line, and what they ask for.
 use Rattle.std.specs.Prelude.{◌≡◌, ℕ, List, [], ◌∷◌, codes}
 use Rattle.bus_replay.specs.declared.words.Command.{Command}
-use Rattle.bus_replay.specs.declared.words.Command.TheVariants.{Frame, Judge, Check}
+use Rattle.bus_replay.specs.declared.words.Command.TheVariants.{Frame, Judge, Check, Replay}
 
 -- the first of two words, of which the second names a file of lines, asks for this command
 abbrev pub NamesCommand : List ℕ → Command → Type 0
 NamesCommand word Frame = word ≡ codes "frame"
 NamesCommand word Judge = word ≡ codes "judge"
 NamesCommand word Check = ⊥
+NamesCommand word Replay = ⊥
 
 -- the first of three words, of which the others name a bus file and a script, asks for this command
 abbrev pub NamesBusCommand : List ℕ → Command → Type 0
 NamesBusCommand word Frame = ⊥
 NamesBusCommand word Judge = ⊥
 NamesBusCommand word Check = word ≡ codes "check"
+NamesBusCommand word Replay = word ≡ codes "replay"
 
 -- with no words it is `frame` over standard input
 abbrev pub IsDefault : Command → Type 0
 IsDefault Frame = Unit {0}
 IsDefault Judge = ⊥
 IsDefault Check = ⊥
+IsDefault Replay = ⊥
 
 -- the words ask for this command; words of another form ask for none
 abbrev pub Asks : List (List ℕ) → Command → Type 0

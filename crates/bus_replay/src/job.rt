@@ -19,6 +19,8 @@ pub enum Job {
     Judgements(Vec<JudgeLine>),
     /// Print the events, which are of this bus, in canonical form.
     Events(BusConfig, Vec<Event>),
+    /// Print the lines of the events, which are of this bus.
+    Replay(BusConfig, Vec<Event>),
 }
 
 /// The job of a task over its whole input, or the refusal of a line.
@@ -39,21 +41,27 @@ pub fn job_of(alloc: Global, task: Task, input: &[u8]) -> Result<Job, Refusal>
             Ok(events) => Ok(Job::Events(bus, events)),
             Err(fault) => Err(Refusal::of_line(alloc, fault)),
         },
+        Task::Replay(bus) => match read_script(alloc, input, &bus) {
+            Ok(events) => Ok(Job::Replay(bus, events)),
+            Err(fault) => Err(Refusal::of_line(alloc, fault)),
+        },
     }
 }
 
 impl Job {
-    ghost use Rattle.bus_replay.specs.Steps.{IsWholeJob, TellsJob};
+    ghost use Rattle.bus_replay.specs.Steps.{IsWholeJob, HasText, TellsJob};
 
-    /// The text that the job prints.
+    /// The text that the job prints. A replay has no text before its events are done.
     pub fn text(&self, alloc: Global) -> Result<Vec<u8>, AllocError>
-        requires { IsWholeJob self.now }
+        requires whole { IsWholeJob self.now }
+        requires has_text { HasText self.now }
         ensures { IfOk result (λ text. TellsJob self.now text.items) }
     {
         match self {
             Job::Frames(lines) => answers(alloc, lines.as_slice()),
             Job::Judgements(lines) => answers(alloc, lines.as_slice()),
             Job::Events(bus, events) => canonical(alloc, bus, events.as_slice()),
+            Job::Replay(_, _) => unreachable!(),
         }
     }
 }

@@ -6,26 +6,30 @@
 
 mod events;
 mod job;
+mod laws;
 mod lines;
 mod questions;
 mod refusal;
+mod replay;
+#[cfg(test)]
+mod replay_tests;
 mod run;
 mod task;
 #[cfg(test)]
 mod tests;
 mod words;
 
-ghost use Rattle.std.specs.Prelude.{◌≡◌, ◌⊎◌, drop, map, string_bytes, codes, IfSome, IfNone, None};
+ghost use Rattle.std.specs.Prelude.{◌≡◌, ◌⊎◌, drop, map, string_bytes, codes, IfSome, IfNone, IsOk, None};
 ghost use Rattle.command_edge.specs.Named.{IsFreshFile, IsFreshInput};
 ghost use Rattle.command_edge.specs.declared.opening.NamedSource.TheVariants as named;
 ghost use Rattle.bus_replay.specs.Words.{AsksNothing};
 
 use crate::run::run;
-use crate::words::{config_word, script_word};
+use crate::words::{Command, command_of, config_word, script_word};
 use bus_port::{StdSink, StdSource};
 use command_edge::{NO_MEMORY, NamedSource, behind_name, open_named, words_of};
 use cut_disk::MemDisk;
-use std::alloc::AllocError;
+use std::alloc::{AllocError, Global};
 use std::io::Read;
 use std::process::ExitCode;
 use std::rt::Files;
@@ -48,7 +52,9 @@ fn start(rt: &HostRuntime, words: &[String]) -> u8
     let mut config = open(rt, rt.stdin(), config_word(words));
     let mut script = open(rt, rt.stdin(), script_word(words));
     let mut sink = StdSink::new(rt.stdout());
-    let mut disks: Vec<MemDisk> = Vec::new(rt.alloc());
+    let Ok(mut disks) = disks_of(rt, words) else {
+        return NO_MEMORY;
+    };
     run(
         rt.alloc(),
         words,
@@ -69,4 +75,26 @@ fn open<R: Files, I: Read + Drop>(rt: &R, stdin: I, word: Option<&str>) -> Named
         Some(word) => open_named(rt, stdin, word),
         None => NamedSource::File(StdSource::missing()),
     }
+}
+
+/// Eight blank disks of 65,536 bytes for `replay`, and none, without taking memory, for other words.
+fn disks_of(rt: &HostRuntime, words: &[String]) -> Result<Vec<MemDisk>, AllocError>
+    ensures { AsksNothing (map string_bytes words.now) → IsOk result }
+{
+    match command_of(words) {
+        Some(Command::Replay) => blank_disks(rt.alloc()),
+        _ => Ok(Vec::new(rt.alloc())),
+    }
+}
+
+/// Eight blank disks of 65,536 bytes.
+fn blank_disks(alloc: Global) -> Result<Vec<MemDisk>, AllocError> {
+    let mut disks = Vec::with_capacity(alloc, 8)?;
+    for _ in 0..8 {
+        match MemDisk::new(alloc, 65_536) {
+            Ok(disk) => disks.push(disk)?,
+            Err(_) => return Err(AllocError),
+        }
+    }
+    Ok(disks)
 }

@@ -1,5 +1,6 @@
 //! The commands of the program.
 ghost use Rattle.std.specs.Prelude.{◌≡◌, ◌⊎◌, ℕ, ◌+◌, ◌<◌, ◌≤◌, List, [], length, map, string_bytes, codes, Some, None, Ok, Err};
+ghost use Rattle.bus_world.specs.Starts.{HasRoom};
 ghost use Rattle.bus_port.specs.Fault.{Rose, last_count};
 ghost use Rattle.bus_port.specs.Whole.{CameBeyond};
 ghost use Rattle.command_edge.specs.Input.{input_limit};
@@ -8,15 +9,21 @@ ghost use Rattle.text_lines.specs.Readings.{Fault};
 ghost use Rattle.text_lines.specs.Texts.{fault_text_of};
 ghost use Rattle.bus_config.specs.declared.fault.ConfigFault.{ConfigFault};
 ghost use Rattle.bus_config.specs.BusFile.{bus_of};
+ghost use Rattle.bus_nodes.specs.Buses.{NamedBus};
 ghost use Rattle.bus_config.specs.FaultTexts.{config_fault_text};
 ghost use Rattle.bus_replay.specs.declared.task.Task.{Task};
 ghost use Rattle.bus_replay.specs.Words.{AsksNothing, AsksSomething};
 ghost use Rattle.bus_replay.specs.Texts.{usage, Prints, fault_of};
-ghost use Rattle.bus_replay.specs.Answers.{inputs, AsksOverBus, IsConfigFault, ToldTask, Over, Ends, FrontOfRow};
-ghost use Rattle.bus_replay.specs.Steps.{Prepares, DoesJob, IsWholeJob};
+ghost use Rattle.bus_replay.specs.Answers.{inputs, AsksOverBus, AsksReplay, IsConfigFault, ToldTask, Over, OverReplay, EndsWith, Ends, FrontOfRow, ConfigFindsNoMemory, ScriptFindsNoMemory, DisksRefused, StoreRefused, BreaksOff, RunsShort, EndsEarly, HasDisks};
+ghost use Rattle.bus_replay.specs.declared.task.Task.TheVariants.{Replay as ReplayTask};
+ghost use Rattle.bus_replay.specs.Replays.{Ran};
+ghost use Rattle.bus_replay.specs.Headline.{TellEach, EndsReplayed};
+ghost use Rattle.bus_replay.specs.Steps.{Prepares, DoesJob, IsWholeJob, HasText};
 
 use crate::job::{Job, job_of};
+use crate::laws::replays_are_runs;
 use crate::refusal::Refusal;
+use crate::replay::replay;
 use crate::task::task_of;
 use crate::words::command_of;
 use bus_port::{Sink, Source};
@@ -25,11 +32,17 @@ use cut_disk::CutDisk;
 use std::alloc::{AllocError, Global};
 
 /// Runs the command that the words ask for, the program's name left out, and gives the status that the program ends
-/// with. `config` gives the bus file, of which only `check` reads, and `script` the lines. All reading comes before all
-/// printing, and every text that is printed ends with a line feed. No command uses a disk.
+/// with. `config` gives the bus file, which only `check` and `replay` read, and `script` the lines. All reading comes before all
+/// printing, and every text that is printed ends with a line feed. A replay formats one disk a node, and writes each line as
+/// soon as its event is done.
 ///
-/// The statuses are looked for in the order 2, then 5, 8 and 3 of the bus file, then 5, 8 and 4 of the lines. Want of
-/// memory, 7, prints nothing. A sink that fails makes the status 6, whatever was to be printed.
+/// The statuses are looked for in the order 2, then 5, 8 and 3 of the bus file, then 5, 8 and 4 of the lines, then 9 and 10 of the
+/// disks. A sink that fails makes the status 6, whatever was to be printed, and no further event is done. Want of memory, 7, prints
+/// nothing more.
+///
+/// What holds of a replay over disks that tell their bytes stands in one record, `Replayed` of specs/Headline.antt, since all of it is
+/// said of one run: `is_a_run`, `rising`, `authentic`, `single`, `keys_kept`, `cuts_skip_little`, `disks`, `failures` and `honest`. The
+/// clause `replayed` gives it for every replay that was started, and `early_ends` for one that ends at 6 or 7.
 pub fn run<S: Source, T: Source, K: Sink, D: CutDisk>(
     alloc: Global,
     words: &[String],
@@ -39,15 +52,24 @@ pub fn run<S: Source, T: Source, K: Sink, D: CutDisk>(
     disks: &mut Vec<D>,
 ) -> u8
     // How it ends: a row of the table of answers comes, and its text and status are told.
-    ensures ends { Ends (map string_bytes words.now) (inputs (S.state config.old) (S.state config.new) (T.state script.old) (T.state script.new))
-        (K.state sink.old) (K.state sink.new) result }
+    ensures ends { Ends (disks.new ≡ disks.old) (map string_bytes words.now) (inputs (S.state config.old) (S.state config.new) (T.state script.old) (T.state script.new))
+        (map D.state disks.old.items) (map D.state disks.new.items) (K.state sink.old) (K.state sink.new) result }
 
-    // Every disk is as before, at every status.
-    ensures disks { disks.new ≡ disks.old }
+    // Every disk is as before, but where a replay of valid inputs is asked for.
+    ensures disks { (¬ AsksReplay (map string_bytes words.now) → disks.new ≡ disks.old)
+        × ((result ≡ 2) ⊎ (result ≡ 3) ⊎ (result ≡ 4) ⊎ (result ≡ 5) ⊎ (result ≡ 8) → disks.new ≡ disks.old) }
+
+    // A replay of valid inputs over disks that tell their bytes: one run of the machine, with all that holds of it, or a start that was refused.
+    ensures replayed { EndsWith (disks.new ≡ disks.old) (map string_bytes words.now) (inputs (S.state config.old) (S.state config.new) (T.state script.old) (T.state script.new))
+        (K.state sink.old) (K.state sink.new) result
+        (λ bus events. TellEach bus (map D.state disks.old.items) → EndsReplayed bus events (map D.state disks.old.items) (map D.state disks.new.items)
+        (K.state sink.old) (K.state sink.new) result) }
 
     // 0: the whole inputs were read, and the sink has exactly what the command prints of them.
     ensures done { result ≡ 0 → Over (map string_bytes words.now) (inputs (S.state config.old) (S.state config.new) (T.state script.old) (T.state script.new))
-        (λ task input. (text : List ℕ) × Prints task input text × AppendedWell (K.state sink.old) (K.state sink.new) text) }
+        (λ task input. (text : List ℕ) × Prints task input text × AppendedWell (K.state sink.old) (K.state sink.new) text)
+        ⊎ OverReplay (map string_bytes words.now) (inputs (S.state config.old) (S.state config.new) (T.state script.old) (T.state script.new))
+        (λ bus events. Ran bus (map D.state disks.old.items) (map D.state disks.new.items) events (K.state sink.old) (K.state sink.new) (Ok tt)) }
 
     // 2: exactly where the words are of no form, with the usage line; nothing was read.
     ensures usage { result ≡ 2 → AsksNothing (map string_bytes words.now)
@@ -79,15 +101,19 @@ pub fn run<S: Source, T: Source, K: Sink, D: CutDisk>(
     ensures read_fault_only { (S.state config.old).faults < (S.state config.new).faults ⊎ (T.state script.old).faults < (T.state script.new).faults
         → (result ≡ 5) ⊎ (result ≡ 6) }
 
-    // 6: exactly where the sink's count of faults rose; a proper front was written of the text of another row that comes.
+    // 6: exactly where the sink's count of faults rose; a proper front was written of the text of another row that comes, or of
+    // a replay the texts of the lines before one, and of this a proper front.
     ensures write_fault { result ≡ 6 → Rose (K.state sink.old).faults (K.state sink.new).faults
-        × FrontOfRow (map string_bytes words.now) (inputs (S.state config.old) (S.state config.new) (T.state script.old) (T.state script.new))
-        (K.state sink.old) (K.state sink.new) }
+        × (FrontOfRow (map string_bytes words.now) (inputs (S.state config.old) (S.state config.new) (T.state script.old) (T.state script.new)) (K.state sink.old) (K.state sink.new)
+        ⊎ BreaksOff (map string_bytes words.now) (inputs (S.state config.old) (S.state config.new) (T.state script.old) (T.state script.new)) (map D.state disks.old.items) (map D.state disks.new.items) (K.state sink.old) (K.state sink.new)) }
     ensures write_fault_only { (K.state sink.old).faults < (K.state sink.new).faults → result ≡ 6 }
 
-    // 7: only where the words ask for a command; nothing was written.
-    ensures no_memory { result ≡ 7 → AsksSomething (map string_bytes words.now)
-        × AppendedWell (K.state sink.old) (K.state sink.new) [] }
+    // 7: only where the words ask for a command. Nothing was written, and there was no memory before a byte of the lines was
+    // asked for, or after the task was given; or of a replay the texts of the lines before one were written.
+    ensures no_memory { result ≡ 7 → (AppendedWell (K.state sink.old) (K.state sink.new) []
+        × (ConfigFindsNoMemory (map string_bytes words.now) (inputs (S.state config.old) (S.state config.new) (T.state script.old) (T.state script.new))
+        ⊎ ScriptFindsNoMemory (map string_bytes words.now) (inputs (S.state config.old) (S.state config.new) (T.state script.old) (T.state script.new))))
+        ⊎ RunsShort (map string_bytes words.now) (inputs (S.state config.old) (S.state config.new) (T.state script.old) (T.state script.new)) (map D.state disks.old.items) (map D.state disks.new.items) (K.state sink.old) (K.state sink.new) }
 
     // 8: exactly where one byte more than an input may have came from a source.
     ensures too_long { result ≡ 8 → AsksSomething (map string_bytes words.now)
@@ -98,29 +124,48 @@ pub fn run<S: Source, T: Source, K: Sink, D: CutDisk>(
     ensures too_long_only { (T.state script.old).taken + input_limit < last_count
         → (T.state script.old).taken + input_limit < (T.state script.new).taken → (result ≡ 8) ⊎ (result ≡ 6) }
 
+    // 9: exactly where there are fewer disks than nodes, or the disk of a node is too small; the first such node is named, and every disk is as before.
+    ensures disks_refused { result ≡ 9 → DisksRefused (map string_bytes words.now) (inputs (S.state config.old) (S.state config.new) (T.state script.old) (T.state script.new)) (map D.state disks.old.items) (map D.state disks.new.items) (K.state sink.old) (K.state sink.new) }
+    ensures disks_refused_only { (bus : NamedBus) (input : List ℕ) → ToldTask (map string_bytes words.now) (S.state config.old).told (ReplayTask bus)
+        → (T.state script.old).told ≡ Some input → length input ≤ input_limit → fault_of (ReplayTask bus) input ≡ None
+        → ¬ HasRoom bus (map D.state disks.old.items)
+        → ¬ Rose (S.state config.old).faults (S.state config.new).faults
+        → ¬ Rose (T.state script.old).faults (T.state script.new).faults → (result ≡ 9) ⊎ (result ≡ 6) ⊎ (result ≡ 7) }
+
+    // 10: the disk of the named node failed, and its count rose, so it wasn't quiet; over a disk that doesn't tell its bytes also what was
+    // read again. Each disk is as before, or whatever a power cut leaves of it stands for a new node's cells, or its count rose.
+    ensures store_refused { result ≡ 10 → StoreRefused (map string_bytes words.now) (inputs (S.state config.old) (S.state config.new) (T.state script.old) (T.state script.new)) (map D.state disks.old.items) (map D.state disks.new.items) (K.state sink.old) (K.state sink.new) }
+
+    // How a run ends early, with 6 or 7: what it leaves of the disks, and that what was done of a replay is a run with all that holds of one.
+    ensures early_ends { (result ≡ 6) ⊎ (result ≡ 7) → EndsEarly (disks.new ≡ disks.old) (map string_bytes words.now) (inputs (S.state config.old) (S.state config.new) (T.state script.old) (T.state script.new))
+        (map D.state disks.old.items) (map D.state disks.new.items) (K.state sink.old) (K.state sink.new) result }
+
     // Completeness: what is valid is done, where no count rose and there was memory.
     ensures complete { (task : Task) (input : List ℕ) → ToldTask (map string_bytes words.now) (S.state config.old).told task
         → (T.state script.old).told ≡ Some input → length input ≤ input_limit → fault_of task input ≡ None
         → ¬ Rose (S.state config.old).faults (S.state config.new).faults
         → ¬ Rose (T.state script.old).faults (T.state script.new).faults
-        → ¬ Rose (K.state sink.old).faults (K.state sink.new).faults → (result ≡ 0) ⊎ (result ≡ 7) }
+        → ¬ Rose (K.state sink.old).faults (K.state sink.new).faults
+        → HasDisks task (map D.state disks.old.items) (map D.state disks.new.items) → (result ≡ 0) ⊎ (result ≡ 7) }
 {
-    let _ = disks;
-    in_two_phases(alloc, words, config, script, sink)
+    replays_are_runs();
+    in_two_phases(alloc, words, config, script, sink, disks)
 }
 
-/// Prepares, and then does the job or tells the refusal.
-fn in_two_phases<S: Source, T: Source, K: Sink>(
+/// Prepares, and then does the job or tells the refusal. Only a replay uses the disks.
+fn in_two_phases<S: Source, T: Source, K: Sink, D: CutDisk>(
     alloc: Global,
     words: &[String],
     config: &mut S,
     script: &mut T,
     sink: &mut K,
+    disks: &mut Vec<D>,
 ) -> u8
-    ensures { Ends (map string_bytes words.now) (inputs (S.state config.old) (S.state config.new) (T.state script.old) (T.state script.new))
-        (K.state sink.old) (K.state sink.new) result }
+    ensures { Ends (disks.new ≡ disks.old) (map string_bytes words.now) (inputs (S.state config.old) (S.state config.new) (T.state script.old) (T.state script.new))
+        (map D.state disks.old.items) (map D.state disks.new.items) (K.state sink.old) (K.state sink.new) result }
 {
     match prepare(alloc, words, config, script) {
+        Ok(Job::Replay(bus, events)) => replay(alloc, &bus, events.as_slice(), sink, disks),
         Ok(job) => do_job(alloc, &job, sink),
         Err(refusal) => tell(sink, refusal.text().as_bytes(), refusal.status()),
     }
@@ -151,7 +196,8 @@ fn prepare<S: Source, T: Source>(
 
 /// The second phase: the job is done, and what it prints is told.
 fn do_job<K: Sink>(alloc: Global, job: &Job, sink: &mut K) -> u8
-    requires { IsWholeJob job.now }
+    requires whole { IsWholeJob job.now }
+    requires has_text { HasText job.now }
     ensures { DoesJob job.now (K.state sink.old) (K.state sink.new) result }
 {
     match job.text(alloc) {

@@ -1,7 +1,7 @@
 //! What a command is to do with its lines, once the bus file is read.
 ghost use Rattle.std.specs.Prelude.{map, string_bytes};
 ghost use Rattle.bus_replay.specs.Words.{Asks};
-ghost use Rattle.bus_replay.specs.Steps.{SetsOrRefuses, ReadsBusFile};
+ghost use Rattle.bus_replay.specs.Steps.{SetsOrRefuses, FindsBus, ReadsBusFile};
 
 use crate::refusal::Refusal;
 use crate::words::Command;
@@ -20,6 +20,8 @@ pub enum Task {
     Judge,
     /// Print the events of a script over this bus in canonical form.
     Check(BusConfig),
+    /// Print the lines of the events of a script over this bus.
+    Replay(BusConfig),
 }
 
 /// The task that a command and the bus file give. A command that reads no bus file leaves the source alone.
@@ -35,17 +37,26 @@ pub fn task_of<S: Source>(
     match command {
         Command::Frame => Ok(Task::Frame),
         Command::Judge => Ok(Task::Judge),
-        Command::Check => {
-            let input = match read_input(alloc, config) {
-                Ok(input) => input,
-                Err(fault) => return Err(Refusal::from(fault)),
-            };
-            match bus_in(alloc, input.as_slice()) {
-                Ok(bus) => Ok(Task::Check(bus)),
-                Err(refusal) => Err(refusal),
-            }
-        }
+        Command::Check => match bus_from(alloc, config) {
+            Ok(bus) => Ok(Task::Check(bus)),
+            Err(refusal) => Err(refusal),
+        },
+        Command::Replay => match bus_from(alloc, config) {
+            Ok(bus) => Ok(Task::Replay(bus)),
+            Err(refusal) => Err(refusal),
+        },
     }
+}
+
+/// The bus of the bus file that a source gives, or its refusal.
+fn bus_from<S: Source>(alloc: Global, config: &mut S) -> Result<BusConfig, Refusal>
+    ensures { FindsBus (S.state config.old) (S.state config.new) result }
+{
+    let input = match read_input(alloc, config) {
+        Ok(input) => input,
+        Err(fault) => return Err(Refusal::from(fault)),
+    };
+    bus_in(alloc, input.as_slice())
 }
 
 /// The bus of a bus file, or its refusal.

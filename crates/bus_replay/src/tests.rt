@@ -162,7 +162,7 @@ fn refused_words_and_lines_are_named(rt: HostRuntime) -> Result<(), Fail> {
         "2b7e151628aed2a6abf7158809cf4f3c 6bc1 e93d7e117393172a bee22e409f96\n2b7e151628aed2a6abf7158809cf4f3c 6bc1 e93d7e117393172a 000102030405060708090a0b0c0d0e0f101112131415161718191a1b1c1d1e1f202122232425262728292a2b2c2d2e2f303132333435363738393a3b3c";
     for (line, input, status, output) in [
         ("replay", LINE, 2, USAGE),
-        ("replay B F", LINE, 2, USAGE),
+        ("replay B", LINE, 2, USAGE),
         ("frame", LINE, 2, USAGE),
         ("frame F G", LINE, 2, USAGE),
         ("Frame F", LINE, 2, USAGE),

@@ -12,6 +12,8 @@ pub enum Command {
     Judge,
     /// `check B F`: the events of a script in canonical form.
     Check,
+    /// `replay B F`: the lines of a script's events, over formatted disks.
+    Replay,
 }
 
 /// The command that the words ask for, the program's name left out. `B` and `F` may be any text.
@@ -46,6 +48,7 @@ fn over_a_bus(name: &str) -> Option<Command>
 {
     match name {
         "check" => Some(Command::Check),
+        "replay" => Some(Command::Replay),
         _ => None,
     }
 }

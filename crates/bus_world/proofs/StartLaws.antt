@@ -54,17 +54,26 @@ untouched : (bus : NamedBus) (before after : List DiskState) (i : ℕ) (l : Node
 untouched bus before after i l d same =
     (subst (λ s. Runs [] (start_calls bus.kind (get_or bus.nodes i l).config) (get_or before i d) s) (sym same) (runs_more _ (omega arith) (runs_none (get_or before i d))), inl same)
 
-at_number : (before after : List DiskState) (place : ℕ) (P : DiskState → DiskState → Type 0) → ((d : DiskState) → P (get_or before place d) (get_or after place d)) → OfNumber before after (place + 1) P
-at_number before after place P holds = λ d.
-    (omega arith, subst (λ k. P (get_or before k d) (get_or after k d)) {y = place + 1 - 1} (omega arith) (holds d))
+-- the node at a place is refused, the ones before it didn't fail, and those behind it weren't touched
+module _ (bus : NamedBus) (before after : List DiskState) (place : ℕ) (inside : place < length bus.nodes)
+    (earlier : (i : ℕ) (d : DiskState) → i < place → (get_or after i d).faults ≡ (get_or before i d).faults)
+    (later : (i : ℕ) (d : DiskState) → place < i → get_or after i d ≡ get_or before i d) where
+  at_number : (P : DiskState → DiskState → Type 0) → ((d : DiskState) → P (get_or before place d) (get_or after place d)) → OfNumber bus before after (place + 1) P
+  at_number P holds = record {
+    least = omega arith;
+    most = omega (arith, inside);
+    disk = λ d. subst (λ k. P (get_or before k d) (get_or after k d)) {y = place + 1 - 1} (omega arith) (holds d);
+    earlier = λ i d less. earlier i d (omega (arith, less));
+    later = λ i d from. later i d (omega (arith, from));
+  }
 
-start_cause : (before after : List DiskState) (place : ℕ) (cause : OpenFault) → ((d : DiskState) → OpenCause (get_or before place d) (get_or after place d) cause) → StartCause before after (fault_of_node (place + 1) cause)
-start_cause before after place (open_fault.Store reread.DiskFailed) h = at_number before after place (λ old new. Rose old.faults new.faults) h
-start_cause before after place (open_fault.Store reread.NotFormatted) h = at_number before after place (λ old new. old.told ≡ None) h
-start_cause before after place (open_fault.Store (reread.Damaged i)) h = at_number before after place (λ old new. old.told ≡ None) h
-start_cause before after place (open_fault.BadSlot slot) h = at_number before after place (λ old new. old.told ≡ None) h
-start_cause before after place (open_fault.BadBound cell) h = at_number before after place (λ old new. old.told ≡ None) h
-start_cause before after place open_fault.Memory h = tt
+  start_cause : (cause : OpenFault) → ((d : DiskState) → OpenCause (get_or before place d) (get_or after place d) cause) → StartCause bus before after (fault_of_node (place + 1) cause)
+  start_cause (open_fault.Store reread.DiskFailed) h = at_number (λ old new. Rose old.faults new.faults) h
+  start_cause (open_fault.Store reread.NotFormatted) h = at_number (λ old new. old.told ≡ None) h
+  start_cause (open_fault.Store (reread.Damaged i)) h = at_number (λ old new. old.told ≡ None) h
+  start_cause (open_fault.BadSlot slot) h = at_number (λ old new. old.told ≡ None) h
+  start_cause (open_fault.BadBound cell) h = at_number (λ old new. old.told ≡ None) h
+  start_cause open_fault.Memory h = tt
 
 as_broken : (bus : NamedBus) (before after : List DiskState) (n : ℕ) (cause : OpenFault) → Broken bus before after (fault_of_node n cause) → NotStarted bus before after (fault_of_node n cause)
 as_broken bus before after n (open_fault.Store fault) b = b
@@ -129,8 +138,11 @@ module _ (bus : NamedBus) (before mid after : List DiskState) (nodes : List Node
   open_cause : (d : DiskState) → OpenCause (get_or before o.place d) (get_or after o.place d) o.cause
   open_cause d = subst (λ s. OpenCause (get_or before o.place d) s o.cause) (sym (here d)) (o.refused no_line d).cause
 
+  unfailed : (i : ℕ) (d : DiskState) → i < o.place → (get_or after i d).faults ≡ (get_or before i d).faults
+  unfailed i d less = ap (λ (s : DiskState). s.faults) (earlier i d (no_node bus d) less) ∙ (o.opened.opened i no_line d (no_node bus d) less).faults
+
   pub broken : Broken bus before after (fault_of_node (o.place + 1) o.cause)
-  broken = record { room = room; count = count; left = left; rest = rest; cause = start_cause before after o.place o.cause open_cause }
+  broken = record { room = room; count = count; left = left; rest = rest; cause = start_cause bus before after o.place o.inside unfailed later o.cause open_cause }
 
 pub start_refused : (bus : NamedBus) (before mid after : List DiskState) (nodes : List NodeState) (fault : StartFault) → HasRoom bus before → OpensTo bus before mid nodes fault → after ≡ disks_of nodes ++ mid
     → NotStarted bus before after fault

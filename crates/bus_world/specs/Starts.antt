@@ -131,16 +131,20 @@ pub record Started (bus : NamedBus) (most : ℕ) (before : List DiskState) (worl
   pub most_is : world.most ≡ most
   pub nothing_sent : world.sent ≡ []
 
--- the disk of the node with this number, from 1, before and after
-abbrev pub OfNumber : List DiskState → List DiskState → ℕ → (DiskState → DiskState → Type 0) → Type 0
-OfNumber before after number P = (d : DiskState) → (1 ≤ number) × P (get_or before (number - 1) d) (get_or after (number - 1) d)
+-- the number, from 1, is that of the node of the bus whose start was refused, and this holds of its disk before and after; no disk before it failed, and those behind it are as before
+pub record OfNumber (bus : NamedBus) (before after : List DiskState) (number : ℕ) (P : DiskState → DiskState → Type 0) : Type 0 where
+  pub least : 1 ≤ number
+  pub most : number ≤ length bus.nodes
+  pub disk : (d : DiskState) → P (get_or before (number - 1) d) (get_or after (number - 1) d)
+  pub earlier : (i : ℕ) (d : DiskState) → i < number - 1 → (get_or after i d).faults ≡ (get_or before i d).faults
+  pub later : (i : ℕ) (d : DiskState) → number ≤ i → get_or after i d ≡ get_or before i d
 
-abbrev pub StartCause : List DiskState → List DiskState → StartFault → Type 0
-StartCause before after (start_fault.Store number reread.DiskFailed) = OfNumber before after number (λ old new. Rose old.faults new.faults)
-StartCause before after (start_fault.Store number fault) = OfNumber before after number (λ old new. old.told ≡ None)
-StartCause before after (start_fault.BadSlot number slot) = OfNumber before after number (λ old new. old.told ≡ None)
-StartCause before after (start_fault.BadBound number cell) = OfNumber before after number (λ old new. old.told ≡ None)
-StartCause before after fault = Unit {0}
+abbrev pub StartCause : NamedBus → List DiskState → List DiskState → StartFault → Type 0
+StartCause bus before after (start_fault.Store number reread.DiskFailed) = OfNumber bus before after number (λ old new. Rose old.faults new.faults)
+StartCause bus before after (start_fault.Store number fault) = OfNumber bus before after number (λ old new. old.told ≡ None)
+StartCause bus before after (start_fault.BadSlot number slot) = OfNumber bus before after number (λ old new. old.told ≡ None)
+StartCause bus before after (start_fault.BadBound number cell) = OfNumber bus before after number (λ old new. old.told ≡ None)
+StartCause bus before after fault = Unit {0}
 
 -- a start that began, and was refused
 pub record Broken (bus : NamedBus) (before after : List DiskState) (fault : StartFault) : Type 0 where
@@ -150,7 +154,7 @@ pub record Broken (bus : NamedBus) (before after : List DiskState) (fault : Star
       → Runs [] (start_calls bus.kind (get_or bus.nodes i l).config) (get_or before i d) (get_or after i d)
       × LeftOver bus.kind bus.version (get_or bus.nodes i l).config (get_or before i d) (get_or after i d)
   pub rest : drop (length bus.nodes) after ≡ drop (length bus.nodes) before
-  pub cause : StartCause before after fault
+  pub cause : StartCause bus before after fault
 
 -- the disk of this node is the first that is too small
 pub record IsTooSmall (bus : NamedBus) (disks : List DiskState) (number : ℕ) : Type 0 where

@@ -1,0 +1,45 @@
+-- A world that is started, given the events of a script, and finished
+use Rattle.std.specs.Prelude.{◌≡◌, ℕ, ◌+◌, ◌<◌, ◌≤◌, Some, List, [], ◌∷◌, length, map, get_or, All}
+use Rattle.std.proofs.Common.{refl, sym, ap, ◌∙◌, subst, arith}
+use Rattle.std.proofs.lemmas.List.{length-map}
+use Rattle.machine_runs.specs.Run.{Moment, Run}
+use Rattle.machine_runs.specs.MemberLaws.{MemberSteps-length}
+use Rattle.bus_machine.specs.declared.events.Event.{Event}
+use Rattle.bus_machine.specs.declared.events.Event.TheVariants as event
+use Rattle.bus_machine.specs.declared.lines.Line.{Line}
+use Rattle.bus_nodes.specs.declared.nodes.NodeLine.{NodeLine}
+use Rattle.bus_nodes.specs.Buses.{NamedBus}
+use Rattle.bus_script.specs.ScriptEvents.{HasFields, IsScriptEvent}
+use Rattle.cut_disk.specs.State.{DiskState}
+use Rattle.secoc_node.specs.State.{NodeState}
+use Rattle.bus_world.specs.Turns.{CanBeDone}
+use Rattle.bus_world.specs.Worlds.{BusState, IsEventOf, IsReady, BusTurn}
+use Rattle.bus_world.specs.Starts.{Started}
+
+can_be_done : (e : Event) → HasFields e → CanBeDone e
+can_be_done (event.Send node id payload) has = tt
+can_be_done (event.Deliver node number) has = tt
+can_be_done (event.Inject node id pdu) has = tt
+can_be_done (event.Load node request) has = tt
+can_be_done (event.Key node update authkey) has = tt
+can_be_done (event.Boot node image) has = (has.0, has.1)
+can_be_done (event.Cut node torn) has = tt
+can_be_done (event.Stop node calls) has = has.0
+can_be_done (event.Fail node calls) has = has.0
+
+-- an event of a script over the nodes of a bus is one of them
+pub event_of_nodes : (nodes : List NodeLine) (e : Event) → IsScriptEvent nodes e → IsEventOf (length nodes) e
+event_of_nodes nodes e is = record { of_bus = is.node; fields = can_be_done e is.fields }
+
+-- a world that was started may be given the events of a script
+pub ready_for : (bus : NamedBus) (events : List Event) (most : ℕ) (before : List DiskState) (world : BusState) → Started bus most before world → length events ≤ most
+    → All (IsScriptEvent bus.nodes) events → IsReady world events
+ready_for bus events most before world started few are = record {
+  of_bus = λ k d inside. subst (λ n. IsEventOf n (get_or events k d)) (sym started.nodes.count) (event_of_nodes bus.nodes (get_or events k d) (are k d inside));
+  room = omega (arith, started.no_event, started.most_is, few);
+}
+
+-- turns leave as many nodes
+pub as_many_nodes : (start now : BusState) (moments : List (Moment Event Line BusState)) → Run BusTurn start moments now → length now.nodes ≡ length start.nodes
+as_many_nodes start now [] run = ap (λ (s : BusState). length s.nodes) run
+as_many_nodes start now (m ∷ ms) run = as_many_nodes m.after now ms run.1 ∙ MemberSteps-length run.0.one
