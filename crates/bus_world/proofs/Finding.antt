@@ -1,6 +1,8 @@
 -- The first element of a list that passes a test
 use Rattle.std.specs.Prelude.{◌≡◌, ℕ, suc, ◌<◌, Bool, true, false, cond, None, Some, List, [], ◌∷◌, length, get_or, map, find}
-use Rattle.std.proofs.Common.{refl, sym, ap, ◌∙◌, arith, zero}
+use Rattle.std.proofs.Common.{refl, sym, ap, ◌∙◌, arith, subst, inl, inr, zero}
+use Rattle.std.proofs.lemmas.Bool.{cases_Bool}
+use Rattle.std.proofs.lemmas.Option.{same_Some}
 use Rattle.bus_machine.specs.Bus.{SentLine}
 use Rattle.bus_world.specs.declared.records.Record.{Record}
 use Rattle.bus_world.specs.History.{line_of}
@@ -36,3 +38,16 @@ find_line q (y ∷ ys) zero r fits at passes before =
 find_line q (y ∷ ys) (suc i) r fits at passes before =
     ap (λ b. cond b (Some (line_of y)) (find q (map line_of ys))) (before 0 y (omega arith))
     ∙ find_line q ys i r (omega arith) at passes (λ k d h. before (suc k) d (omega arith))
+
+-- what holds of each line holds of the one that is found
+pub found_line : (q : SentLine → Bool) (P : SentLine → Type 0) (records : List Record) (s : SentLine) → ((k : ℕ) (d : Record) → k < length records → P (line_of (get_or records k d)))
+    → find q (map line_of records) ≡ Some s → P s
+found_line q P [] s each is = cc
+found_line q P (r ∷ rs) s each is =
+    elim (cases_Bool (q (line_of r))) [
+      | inl passes ↦ subst P (same_Some (line_of r) s (sym (ap (λ b. cond b (Some (line_of r)) (find q (map line_of rs))) passes) ∙ is)) (each 0 r (omega arith))
+      | inr not ↦ found_line q P rs s (λ k d h. each (suc k) d (omega arith)) (sym (ap (λ b. cond b (Some (line_of r)) (find q (map line_of rs))) not) ∙ is)
+    ]
+
+pub not_both : {X : Type 0} (x : X) → None ≡ Some x → ⊥
+not_both x is = cc

@@ -131,15 +131,16 @@ well_kept_new most room records latest fits reserved none blank =
       ids = ap length blank ∙ length_blank 65536 None;
       heads = λ id d small. subst (λ o. IsLatest records id (length records) o) (sym (ap (λ xs. get_or xs id d) blank ∙ get_or-replicate 65536 id None d small)) (λ k e least inside same. omega (arith, empty, inside));
       linked = λ i d inside. absurd (omega (arith, empty, inside));
+      bounded = λ i d inside. absurd (omega (arith, empty, inside));
       rises = λ _ i j d less inside same. omega (arith, empty, inside);
     }
 
 pub well_kept_more : (events most room room' : ℕ) (records : List Record) (latest : List (Option ℕ)) (rising rising' : Bool) (o : Option ℕ) (r : Record)
-    → WellKept events most room records latest rising → events < most → most ≤ room' → r.number ≡ events + 1 → r.id < 65536
+    → WellKept events most room records latest rising → events < most → most ≤ room' → r.number ≡ events + 1 → r.id < 65536 → r.freshness < 2 ^ 64
     → IsLatest records r.id (length records) o → LinkedAt records (length records) r.id r.links
     → (rising' ≡ true → (rising ≡ true) × IsAbove records r.freshness o)
     → WellKept (events + 1) most room' (records ++ r ∷ []) (set latest r.id (Some (length records))) rising'
-well_kept_more events most room room' records latest rising rising' o r kept less reserved number small last links rises =
+well_kept_more events most room room' records latest rising rising' o r kept less reserved number small fits last links rises =
     let longer = length-append records (r ∷ []) in
     record {
       within = omega arith;
@@ -154,5 +155,9 @@ well_kept_more events most room room' records latest rising rising' o r kept les
       ids = length-set latest r.id (Some (length records)) ∙ kept.ids;
       heads = heads_more records r latest kept.ids kept.heads;
       linked = linked_more records r kept.linked links;
+      bounded = λ i d inside. elim (cases_lt i (length records)) [
+        | inl earlier ↦ subst (λ y. y.freshness < 2 ^ 64) (sym (get_or_append_left records (r ∷ []) d i earlier)) (kept.bounded i d earlier)
+        | inr past ↦ subst (λ y. y.freshness < 2 ^ 64) (sym (get_or_push records r d i (omega (arith, longer, inside)))) fits
+      ];
       rises = λ h. rises_more records r o (kept.rises (rises h).0) last (rises h).1;
     }

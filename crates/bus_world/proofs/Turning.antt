@@ -1,21 +1,31 @@
 -- Turns of a node, from what its calls ensure
-use Rattle.std.specs.Prelude.{◌≡◌, ◌≢◌, ℕ, ◌+◌, ◌≤◌, None, Some, Option, Err, List, [], ◌∷◌, ◌++◌, length}
+use Rattle.std.specs.Prelude.{◌≡◌, ◌≢◌, ℕ, ◌+◌, ◌≤◌, None, Some, Option, Result, Ok, Err, List, [], ◌∷◌, ◌++◌, length}
 use Rattle.std.proofs.Common.{refl, sym, ap, ◌∙◌, inl, inr, arith}
 use Rattle.bus_machine.specs.declared.lines.Line.{Line}
 use Rattle.bus_machine.specs.declared.lines.Line.TheVariants.{Sent, Accepted, FreshnessFailure, VerificationFailure, Keyed, Loaded, Boot, Up, Armed, NoFrame, Refused}
 use Rattle.bus_machine.specs.declared.lines.Refusal.TheVariants.{MemoryFailure}
+use Rattle.cut_disk.specs.declared.Torn.{Torn}
+use Rattle.cut_disk.specs.declared.Mark.TheVariants as mark
 use Rattle.cut_disk.specs.Calls.{Rose, Runs}
+use Rattle.cell_store.specs.declared.faults.Reread.TheVariants as reread
+use Rattle.cell_store.specs.Cells.{CellsState}
 use Rattle.cut_disk.specs.CallLaws.{runs_none, runs_more}
 use Rattle.secured_pdu.specs.FrameLaws.{payload_of_secured}
 use Rattle.secured_pdu.specs.Verdict.{payload_of}
-use Rattle.bus_machine.specs.Node.{Node}
+use Rattle.bus_machine.specs.Node.{Node, powered, refused_up}
+use Rattle.bus_machine.specs.Past.{cell_count}
+use Rattle.freshness_routes.specs.declared.routes.Route.{Route}
 use Rattle.bus_machine.specs.declared.events.Event.{Event}
 use Rattle.bus_machine.specs.declared.events.Event.TheVariants as event
 use Rattle.bus_machine.specs.Bus.{World, SentLine, hearing, sent_after}
 use Rattle.secoc_node.specs.declared.faults.NodeFault.{NodeFault}
 use Rattle.secoc_node.specs.declared.faults.NodeFault.TheVariants as fault
-use Rattle.secoc_node.specs.Lines.{refusal_of_fault, IfLeftAlone}
-use Rattle.secoc_node.specs.State.{NodeState, FitsNow}
+use Rattle.secoc_node.specs.declared.faults.CutFault.{CutFault}
+use Rattle.secoc_node.specs.declared.faults.CutFault.TheVariants as cut_fault
+use Rattle.secoc_node.specs.Causes.{CutCause}
+use Rattle.secoc_node.specs.Cells.{CellsOf}
+use Rattle.secoc_node.specs.Lines.{refusal_of_fault, refusal_of_cut, cut_line, IfLeftAlone}
+use Rattle.secoc_node.specs.State.{NodeState, FitsNow, TellsFitting}
 use Rattle.bus_world.specs.History.{HistoryState, with_line}
 use Rattle.bus_world.specs.Turns.{duty, duty_of, TellsFaults, NodeTurn}
 use Rattle.bus_machine.specs.Steps.{Act, sends, receives, loads, keys, boots, cuts, arms, hears_nothing, Faults, PowersUp, NodeStep}
@@ -106,6 +116,45 @@ accepted_short node id pdu payload v source after step =
 pub hears_nothing_turn : (s : NodeState) → NodeTurn s (duty hears_nothing None) NoFrame s
 hears_nothing_turn s = calm_turn s s hears_nothing NoFrame refl hears_no_cut refl (runs_more 6 (omega arith) (runs_none s.store.disk)) (λ f. f) refl
 
+-- ---- cuts
+
+told_by_cut : (routes : List Route) (fault : CutFault) (old new : CellsState) → CutCause routes old new fault → TellsFaults (Refused (refusal_of_cut fault)) old.disk.faults new.disk.faults
+told_by_cut routes (cut_fault.Store reread.DiskFailed) old new cause = cause
+told_by_cut routes (cut_fault.Store reread.NotFormatted) old new cause = cause.faults
+told_by_cut routes (cut_fault.Store (reread.Damaged place)) old new cause = cause.faults
+told_by_cut routes (cut_fault.BadSlot slot) old new cause = tt
+told_by_cut routes (cut_fault.BadBound place) old new cause = tt
+
+-- a cut that brings the node up
+pub up_turn : (before after : NodeState) (torn : Torn) → (TellsFitting before → NodeStep before.node cuts Up after.node)
+    → after.node ≡ powered before.node.config after.node.kept → after.store.cells ≡ CellsOf before.node.config after.node.kept
+    → after.store.layout ≡ before.store.layout → Runs (mark.Cut torn ∷ []) (68 + cell_count before.node) before.store.disk after.store.disk → (FitsNow before → FitsNow after)
+    → after.store.disk.faults ≡ before.store.disk.faults → NodeTurn before (duty cuts (Some (mark.Cut torn))) Up after
+up_turn before after torn step up kept layout runs fits faults = record {
+  step = step;
+  of_cut = λ _. record { result = Ok tt; line_is = refl; up = up; kept = kept; down = tt; cause = tt };
+  config = ap (λ (n : Node). n.config) up;
+  layout = layout;
+  runs = runs;
+  fits = fits;
+  faults = faults;
+}
+
+-- one that leaves it down
+pub down_turn : (before after : NodeState) (torn : Torn) (f : CutFault) → (TellsFitting before → NodeStep before.node cuts (Refused (refusal_of_cut f)) after.node)
+    → after.node ≡ refused_up before.node → CutCause before.node.config.routes before.store after.store f
+    → after.store.layout ≡ before.store.layout → Runs (mark.Cut torn ∷ []) (68 + cell_count before.node) before.store.disk after.store.disk → (FitsNow before → FitsNow after)
+    → NodeTurn before (duty cuts (Some (mark.Cut torn))) (Refused (refusal_of_cut f)) after
+down_turn before after torn f step down cause layout runs fits = record {
+  step = step;
+  of_cut = λ _. record { result = Err f; line_is = refl; up = tt; kept = tt; down = down; cause = cause };
+  config = ap (λ (n : Node). n.config) down;
+  layout = layout;
+  runs = runs;
+  fits = fits;
+  faults = told_by_cut before.node.config.routes f before.store after.store cause;
+}
+
 -- ---- what is put down of a line
 
 -- a sent line is that of a send, whose payload its PDU has
@@ -118,6 +167,10 @@ sends_none : (o : Option SentLine) (node : Node) (told v : ℕ) (pdu : List ℕ)
 sends_none None node told v pdu after step = step
 sends_none (Some s) node told v pdu after step = step
 
+cut_sends_nothing : (told v : ℕ) (pdu : List ℕ) (result : Result (Unit {0}) CutFault) → Sent told v pdu ≡ cut_line result → ⊥
+cut_sends_nothing told v pdu (Ok u) is = cc
+cut_sends_nothing told v pdu (Err fault) is = cc
+
 pub turn_is_send : (w : World) (e : Event) (line : Line) (before after : NodeState) → NodeTurn before (duty_of w e) line after → IsSendOf e line
 turn_is_send w (event.Send node id payload) (Sent told v pdu) before after turn =
     let sent = turn.step tt in
@@ -127,7 +180,7 @@ turn_is_send w (event.Inject node id bytes) (Sent told v pdu) before after turn 
 turn_is_send w (event.Load node request) (Sent told v pdu) before after turn = turn.step tt
 turn_is_send w (event.Key node update authkey) (Sent told v pdu) before after turn = turn.step tt
 turn_is_send w (event.Boot node image) (Sent told v pdu) before after turn = turn.step tt
-turn_is_send w (event.Cut node torn) (Sent told v pdu) before after turn = turn.of_cut refl
+turn_is_send w (event.Cut node torn) (Sent told v pdu) before after turn = let cut = turn.of_cut refl in cut_sends_nothing told v pdu cut.result cut.line_is
 turn_is_send w (event.Stop node calls) (Sent told v pdu) before after turn = turn.step tt
 turn_is_send w (event.Fail node calls) (Sent told v pdu) before after turn = turn.step tt
 turn_is_send w _ _ before after turn = tt

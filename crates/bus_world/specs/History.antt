@@ -49,4 +49,5 @@ pub record WellKept (events most room : ℕ) (records : List Record) (latest : L
   pub ids : length latest ≡ 65536
   pub heads : (id : ℕ) (d : Option ℕ) → id < 65536 → IsLatest records id (length records) (get_or latest id d)
   pub linked : Linked records
+  pub bounded : (i : ℕ) (d : Record) → i < length records → (get_or records i d).freshness < 2 ^ 64
   pub rises : rising ≡ true → RisesByID records

@@ -1,19 +1,26 @@
 -- What one event does to its node and the node's disk
-use Rattle.std.specs.Prelude.{◌≡◌, ℕ, ◌+◌, ◌≤◌, Option, Some, List, find, option_map}
+use Rattle.std.specs.Prelude.{◌≡◌, ℕ, ◌+◌, ◌^◌, ◌<◌, ◌≤◌, ◌==◌, Option, Some, Result, OnOk, OnErr, IfErr, List, find, option_map}
 use Rattle.std.specs.Option.{option_to_list}
 use Rattle.cut_disk.specs.declared.Mark.{Mark}
 use Rattle.cut_disk.specs.declared.Mark.TheVariants as mark
 use Rattle.cut_disk.specs.Calls.{Rose, Runs}
 use Rattle.bus_machine.specs.declared.events.Event.{Event}
-use Rattle.bus_machine.specs.declared.events.Event.TheVariants.{Boot, Stop, Fail}
+use Rattle.bus_machine.specs.declared.events.Event.TheVariants.{Deliver, Inject, Boot, Stop, Fail}
 use Rattle.bus_machine.specs.declared.lines.Line.{Line}
-use Rattle.bus_machine.specs.declared.lines.Line.TheVariants.{Accepted, Up, Refused}
-use Rattle.bus_machine.specs.declared.lines.Refusal.TheVariants.{MemoryFailure, NotFormatted, Damaged, BadSlot, BadBound}
+use Rattle.bus_machine.specs.declared.lines.Line.TheVariants.{Accepted, Refused}
+use Rattle.bus_machine.specs.declared.lines.Refusal.TheVariants.{MemoryFailure, BadSlot, BadBound}
 use Rattle.bus_machine.specs.Steps.{Act, cuts, NodeStep}
 use Rattle.bus_machine.specs.Bus.{World, SentLine, act_of}
 use Rattle.bus_machine.specs.Past.{mark_of, cell_count}
+use Rattle.bus_machine.specs.Node.{Node, place_of, powered, refused_up}
+use Rattle.bus_machine.specs.Honest.{IsInTime, IsHeard}
+use Rattle.freshness_routes.specs.declared.routes.Direction.TheVariants.{Receives}
 use Rattle.secure_boot.specs.Booting.{IsImage}
 use Rattle.bus_world.specs.History.{has_values}
+use Rattle.secoc_node.specs.declared.faults.CutFault.{CutFault}
+use Rattle.secoc_node.specs.Causes.{CutCause}
+use Rattle.secoc_node.specs.Cells.{CellsOf}
+use Rattle.secoc_node.specs.Lines.{cut_line}
 use Rattle.secoc_node.specs.State.{NodeState, FitsNow, TellsFitting}
 
 -- what an event tells its node to do, and the mark that it leaves in the past of the node's disk
@@ -37,17 +44,18 @@ abbrev pub IsCertain : Option Mark → NodeState → Type 0
 IsCertain (Some (mark.Cut torn)) s = TellsFitting s
 IsCertain _ s = Unit {0}
 
--- a cut brings the node up, or is refused
-abbrev pub AnswersCut : Line → Type 0
-AnswersCut Up = Unit {0}
-AnswersCut (Refused refusal) = Unit {0}
-AnswersCut _ = ⊥
+-- what a cut leads to over a disk of any kind: the node is up, and its store has the cells of what it keeps; or it is down, for a cause that the disk's bytes show where they are told
+pub record AnswersCut (before : NodeState) (line : Line) (after : NodeState) : Type 0 where
+  pub result : Result (Unit {0}) CutFault
+  pub line_is : line ≡ cut_line result
+  pub up : OnOk result (after.node ≡ powered before.node.config after.node.kept)
+  pub kept : OnOk result (after.store.cells ≡ CellsOf before.node.config after.node.kept)
+  pub down : OnErr result (after.node ≡ refused_up before.node)
+  pub cause : IfErr result (CutCause before.node.config.routes before.store after.store)
 
--- a count of faults rose where the line tells that the disk failed; it is as it was, except where a cut finds no store on a disk that doesn't tell its bytes
+-- a count of faults rose where the line tells that the disk failed; it is as it was, except where a cut finds cells that are no node's on a disk that doesn't tell its bytes
 abbrev pub TellsFaults : Line → ℕ → ℕ → Type 0
 TellsFaults (Refused MemoryFailure) before after = Rose before after
-TellsFaults (Refused NotFormatted) before after = Unit {0}
-TellsFaults (Refused (Damaged place)) before after = Unit {0}
 TellsFaults (Refused (BadSlot slot)) before after = Unit {0}
 TellsFaults (Refused (BadBound cell)) before after = Unit {0}
 TellsFaults _ before after = after ≡ before
@@ -66,9 +74,26 @@ NamesSourceIn lines _ = Unit {0}
 
 pub record NodeTurn (before : NodeState) (duty : Duty) (line : Line) (after : NodeState) : Type 0 where
   pub step : IsCertain duty.mark before → NodeStep before.node duty.act line after.node
-  pub of_cut : duty.act ≡ cuts → AnswersCut line
+  pub of_cut : duty.act ≡ cuts → AnswersCut before line after
   pub config : after.node.config ≡ before.node.config
   pub layout : after.store.layout ≡ before.store.layout
   pub runs : Runs (option_to_list duty.mark) (most_calls (cell_count before.node) duty.mark) before.store.disk after.store.disk
   pub fits : FitsNow before → FitsNow after
   pub faults : TellsFaults line before.store.disk.faults after.store.disk.faults
+
+-- ---- honest PDUs
+
+-- a PDU of this Data ID that comes in time is accepted with its payload and freshness, or the line tells that the disk failed
+abbrev pub HearsPdu : Node → ℕ → List ℕ → Line → Type 0
+HearsPdu node id pdu line =
+    (s : SentLine) → s.id ≡ id → s.pdu ≡ pdu → IsInTime node s (place_of node id Receives) → s.freshness < 2 ^ 64 → IsHeard s line
+
+-- what an event brings its node: the line that was sent, or one that may have been, as its bytes are injected
+abbrev pub Brings : World → Event → SentLine → Type 0
+Brings world (Deliver node number) s = find (λ s. s.number == number) world.sent ≡ Some s
+Brings world (Inject node id pdu) s = (s.id ≡ id) × (s.pdu ≡ pdu) × (s.freshness < 2 ^ 64)
+Brings world _ s = ⊥
+
+-- what an event brings its node in time is accepted with its payload and freshness, or the line tells that the disk failed
+abbrev pub HearsBrought : World → Event → Node → Line → Type 0
+HearsBrought world event node line = (s : SentLine) → Brings world event s → IsInTime node s (place_of node s.id Receives) → IsHeard s line

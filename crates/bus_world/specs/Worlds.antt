@@ -6,8 +6,11 @@ use Rattle.bus_machine.specs.declared.events.Event.{Event}
 use Rattle.bus_machine.specs.declared.lines.Line.{Line}
 use Rattle.bus_machine.specs.Bus.{World, SentLine, node_of, NamesSource, sent_after, Step}
 use Rattle.bus_machine.specs.Past.{mark_of}
+use Rattle.bus_machine.specs.Node.{place_of}
+use Rattle.bus_machine.specs.Honest.{IsInTime, IsHeard}
+use Rattle.freshness_routes.specs.declared.routes.Direction.TheVariants.{Receives}
 use Rattle.secoc_node.specs.State.{NodeState, TellsFitting}
-use Rattle.bus_world.specs.Turns.{CanBeDone, IsCertain, duty_of, NodeTurn}
+use Rattle.bus_world.specs.Turns.{CanBeDone, IsCertain, duty_of, NodeTurn, TellsFaults, Brings, HearsBrought}
 
 -- the nodes in their order, how many events there were and may be, and the lines that were sent
 pub record BusState : Type 0 where
@@ -38,6 +41,14 @@ pub record BusTurn (before : BusState) (event : Event) (line : Line) (after : Bu
   pub most : after.most ≡ before.most
   pub sent : after.sent ≡ sent_after (world_of before) event line
 
+-- what the event brings its node in time is accepted with its payload and freshness; or the disk failed: the line tells so, and the count of faults of this node's disk rose
+abbrev pub HearsInTime : BusState → Event → Line → BusState → Type 0
+HearsInTime before event line after = (s : SentLine) (old new : NodeState)
+    → Brings (world_of before) event s
+    → slice_get before.nodes (node_of event) ≡ Some old → slice_get after.nodes (node_of event) ≡ Some new
+    → IsInTime old.node s (place_of old.node s.id Receives)
+    → IsHeard s line × TellsFaults line old.store.disk.faults new.store.disk.faults
+
 -- what the turn changes before the event is put down
 pub record Turned (before : BusState) (event : Event) (line : Line) (after : BusState) : Type 0 where
   pub one : MemberSteps NodeTurn before.nodes (node_of event) (duty_of (world_of before) event) line after.nodes
@@ -45,6 +56,11 @@ pub record Turned (before : BusState) (event : Event) (line : Line) (after : Bus
   pub events : after.events ≡ before.events
   pub most : after.most ≡ before.most
   pub sent : after.sent ≡ before.sent
+
+-- the node at the event's place hears what the event brings it in time
+abbrev pub NodeHears : BusState → Event → Line → Type 0
+NodeHears before event line =
+    (old : NodeState) → slice_get before.nodes (node_of event) ≡ Some old → HearsBrought (world_of before) event old.node line
 
 -- ---- worlds as those of the machine
 

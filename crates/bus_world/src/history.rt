@@ -59,7 +59,8 @@ fn no_places(alloc: Global) -> Result<Vec<Option<u32>>, AllocError>
 }
 
 impl History {
-    ghost use Rattle.std.specs.Prelude.{◌≡◌, ◌<◌, IfOk, [], find, option_map};
+    ghost use Rattle.std.specs.Prelude.{◌≡◌, ◌<◌, ◌^◌, ◌==◌, IfOk, [], Some, find, option_map};
+    ghost use Rattle.bus_machine.specs.Bus.{SentLine};
     ghost use Rattle.bus_world.specs.History.{with_line, with_sent, frame_in, has_values};
 
     /// No event yet, and room for the lines of so many.
@@ -79,7 +80,8 @@ impl History {
 
     /// What the event of this number sent, if it did.
     pub(crate) fn frame(&self, number: u32) -> Option<Frame>
-        ensures { result ≡ frame_in number self.now.lines }
+        ensures value { result ≡ frame_in number self.now.lines }
+        ensures bounded { (s : SentLine) → find (λ s. s.number == number) self.now.lines ≡ Some s → s.freshness < 2 ^ 64 }
     {
         let records = self.records.as_slice();
         match place_numbered(records, number) {

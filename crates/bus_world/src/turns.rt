@@ -1,11 +1,14 @@
 //! What an event is for its node: a call, and the line that tells its answer.
 ghost use Rattle.std.specs.Prelude.{◌≡◌, ◌≤◌, ◌==◌, None, Some, length, take, find};
-ghost use Rattle.bus_machine.specs.Bus.{World, node_of as place_of_node, hearing, NamesSource};
+ghost use Rattle.freshness_routes.specs.declared.routes.Direction.TheVariants.{Receives};
+ghost use Rattle.bus_machine.specs.Node.{place_of};
+ghost use Rattle.bus_machine.specs.Bus.{World, SentLine, node_of as place_of_node, hearing, NamesSource};
+ghost use Rattle.bus_machine.specs.Honest.{IsInTime, IsHeard};
 ghost use Rattle.cut_disk.specs.State.{Cut, Stop, Fail};
 ghost use Rattle.secure_boot.specs.Booting.{IsImage};
 ghost use Rattle.bus_machine.specs.Steps.{sends, receives, loads, keys, boots, cuts, arms};
 ghost use Rattle.secoc_node.specs.Lines.{refusal_of_fault, refusal_of_cut};
-ghost use Rattle.bus_world.specs.Turns.{NodeTurn, duty, duty_of, CanBeDone, NamesSourceIn};
+ghost use Rattle.bus_world.specs.Turns.{NodeTurn, duty, duty_of, CanBeDone, NamesSourceIn, HearsPdu, HearsBrought};
 
 use crate::history::History;
 use bus_machine::{Event, Line, Refusal};
@@ -40,6 +43,7 @@ pub(crate) fn take_turn<C: CutCells>(node: &mut Node<C>, event: &Event, history:
     ensures turn { (world : World) → world.sent ≡ history.now.lines
         → NodeTurn node.old (duty_of world event.now) result node.new }
     ensures source { (world : World) → world.sent ≡ history.now.lines → NamesSource world result }
+    ensures honest { (world : World) → world.sent ≡ history.now.lines → HearsBrought world event.now node.old.node result }
 {
     match event {
         Event::Send { id, payload, .. } => send(node, *id, payload.bytes()),
@@ -77,6 +81,8 @@ fn send<C: Cells>(node: &mut Node<C>, id: u16, payload: &[u8]) -> Line
 fn deliver<C: Cells>(node: &mut Node<C>, event: u32, history: &History) -> Line
     ensures turn { NodeTurn node.old (duty (hearing (find (λ s. s.number == event) history.now.lines)) None) result node.new }
     ensures source { NamesSourceIn history.now.lines result }
+    ensures honest { (s : SentLine) → find (λ s. s.number == event) history.now.lines ≡ Some s
+        → IsInTime node.old.node s (place_of node.old.node s.id Receives) → IsHeard s result }
 {
     match history.frame(event) {
         Some(frame) => receive(node, frame.id, frame.pdu.bytes(), history),
@@ -88,6 +94,7 @@ fn deliver<C: Cells>(node: &mut Node<C>, event: u32, history: &History) -> Line
 fn receive<C: Cells>(node: &mut Node<C>, id: u16, pdu: &[u8], history: &History) -> Line
     ensures turn { NodeTurn node.old (duty (receives id pdu.now) None) result node.new }
     ensures source { NamesSourceIn history.now.lines result }
+    ensures honest { HearsPdu node.old.node id pdu.now result }
 {
     match node.receive(id, pdu) {
         Ok(Reception::Accepted { freshness, len }) => {

@@ -31,13 +31,14 @@ impl<D: CutDisk> Model for World<D> {
 
 impl<D: CutDisk> World<D> {
     ghost use Rattle.std.specs.Prelude.{◌≡◌, ◌<◌, length};
-    ghost use Rattle.bus_world.specs.Worlds.{IsEventOf, BusTurn, Turned};
+    ghost use Rattle.bus_world.specs.Worlds.{IsEventOf, BusTurn, HearsInTime, Turned, NodeHears};
 
     /// Does an event, and gives its line. It takes no memory.
     pub fn step(&mut self, event: &Event) -> Line
         requires of_bus { IsEventOf (length self.old.nodes) event.now }
         requires room { self.old.events < self.old.most }
-        ensures { BusTurn self.old event.now result self.new }
+        ensures turn { BusTurn self.old event.now result self.new }
+        ensures honest { HearsInTime self.old event.now result self.new }
     {
         let line = self.turn(event);
         self.history.note(&line);
@@ -47,7 +48,8 @@ impl<D: CutDisk> World<D> {
     /// Lets the event's node take its turn.
     fn turn(&mut self, event: &Event) -> Line
         requires of_bus { IsEventOf (length self.old.nodes) event.now }
-        ensures { Turned self.old event.now result self.new }
+        ensures turned { Turned self.old event.now result self.new }
+        ensures honest { NodeHears self.old event.now result }
     {
         let place = node_of(event) as usize;
         take_turn(&mut self.nodes[place], event, &self.history)

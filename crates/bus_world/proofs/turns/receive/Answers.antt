@@ -34,3 +34,19 @@ returns-in-Err-clause-turn g c =
     (c.in-Err.ensures.step None)
     (receives_no_cut c.args.id c.args.pdu.now) c.receive.ensures.layout c.receive.ensures.runs c.receive.ensures.fits
     (faults_told c.in-Err.fault c.args.node.now c.receive.new.self (λ e. c.in-Err.ensures.faulted (ap Err e)) (unmoved_by c.in-Err.fault _ c.in-Err.ensures.untouched)))
+
+pub returns-in-Ok-Accepted-clause-honest : goal.returns-in-Ok-Accepted-clause-honest
+returns-in-Ok-Accepted-clause-honest g c s id_is pdu_is in_time fits =
+    rw c.front-payload.ensures (rw c.in-Ok-Accepted.field-0-is at (c.in-Ok-Accepted.ensures.honest s c.source.result id_is pdu_is in_time fits))
+
+pub returns-in-Ok-FreshnessFailure-clause-honest : goal.returns-in-Ok-FreshnessFailure-clause-honest
+returns-in-Ok-FreshnessFailure-clause-honest g c s id_is pdu_is in_time fits =
+    rw c.in-Ok-FreshnessFailure.field-0-is at (c.in-Ok-FreshnessFailure.ensures.honest s None id_is pdu_is in_time fits)
+
+pub returns-in-Ok-VerificationFailure-clause-honest : goal.returns-in-Ok-VerificationFailure-clause-honest
+returns-in-Ok-VerificationFailure-clause-honest g c s id_is pdu_is in_time fits =
+    rw c.in-Ok-VerificationFailure.field-0-is at (c.in-Ok-VerificationFailure.ensures.honest s None id_is pdu_is in_time fits)
+
+pub returns-in-Err-clause-honest : goal.returns-in-Err-clause-honest
+returns-in-Err-clause-honest g c s id_is pdu_is in_time fits =
+    rw c.refusal_of.ensures (c.in-Err.ensures.honest s None id_is pdu_is in_time fits)

@@ -1,14 +1,16 @@
-use Rattle.std.specs.Prelude.{◌<◌, length, set}
-use Rattle.std.proofs.Common.{refl, sym, subst, arith}
+use Rattle.std.specs.Prelude.{◌≡◌, ◌<◌, Some, length, set, slice_get}
+use Rattle.std.proofs.Common.{refl, sym, subst, arith, ◌∙◌}
+use Rattle.std.proofs.lemmas.Option.{get_or_from_slice_get}
 use Rattle.machine_runs.specs.Members.{MemberSteps}
 use Rattle.bus_machine.specs.Bus.{node_of}
-use Rattle.bus_world.specs.Turns.{duty_of, NodeTurn}
-use Rattle.bus_world.specs.Worlds.{BusState, world_of, Turned}
+use Rattle.secoc_node.specs.State.{NodeState}
+use Rattle.bus_world.specs.Turns.{duty_of, NodeTurn, HearsBrought}
+use Rattle.bus_world.specs.Worlds.{BusState, world_of, Turned, NodeHears}
 use Rattle.bus_world.proofs.Stepping.{MemberSteps_at}
 use Rattle.bus_world.proofs.world.World.turn.Goals as goal
 
-pub returns : goal.returns
-returns g c =
+pub returns-clause-turned : goal.returns-clause-turned
+returns-clause-turned g c =
     let nodes = c.self.inside.nodes.items in
     let history = c.self.inside.history in
     let before : BusState = record { nodes = nodes; events = history.events; most = history.most; sent = history.lines } in
@@ -26,3 +28,15 @@ returns g c =
       most = refl;
       sent = refl;
     })
+
+pub returns-clause-honest : goal.returns-clause-honest
+returns-clause-honest g c =
+    let nodes = c.self.inside.nodes.items in
+    let history = c.self.inside.history in
+    let before : BusState = record { nodes = nodes; events = history.events; most = history.most; sent = history.lines } in
+    let place = c.node_of-place.result in
+    let event = c.args.event.now in
+    subst (λ s. NodeHears s event c.take_turn.result) c.self.view_is
+    (λ old was.
+    let same = c.index_mut.ensures.value ∙ get_or_from_slice_get nodes place old c.index_mut.result.now (subst (λ p. slice_get nodes p ≡ Some old) (sym c.node_of-place.ensures) was) in
+    subst (λ (n : NodeState). HearsBrought (world_of before) event n.node c.take_turn.result) same (c.take_turn.ensures.honest (world_of before) refl))

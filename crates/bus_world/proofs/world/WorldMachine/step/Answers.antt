@@ -6,6 +6,6 @@ use Rattle.bus_world.proofs.world.WorldMachine.step.Goals as goal
 
 pub returns-clause-ready : goal.returns-clause-ready
 returns-clause-ready g c = λ rest ready. record {
-  of_bus = subst (λ n. All (IsEventOf n) rest) (sym (MemberSteps-length c.step.ensures.one)) (λ k d h. ready.of_bus (suc k) d (omega arith));
-  room = omega (arith, ready.room, c.step.ensures.events, c.step.ensures.most);
+  of_bus = subst (λ n. All (IsEventOf n) rest) (sym (MemberSteps-length c.step.ensures.turn.one)) (λ k d h. ready.of_bus (suc k) d (omega arith));
+  room = omega (arith, ready.room, c.step.ensures.turn.events, c.step.ensures.turn.most);
 }
