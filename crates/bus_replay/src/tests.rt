@@ -15,7 +15,7 @@ const LINE: &str = "2b7e151628aed2a6abf7158809cf4f3c 6bc1 e93d7e117393172a bee22
 const PDU: &str = "bee22e409f962a070a16\n";
 
 /// The words of a command line.
-fn words_of(alloc: Global, line: &str) -> Result<Vec<String>, AllocError> {
+pub(crate) fn words_of(alloc: Global, line: &str) -> Result<Vec<String>, AllocError> {
     let mut words = Vec::new(alloc);
     for word in line.split_whitespace() {
         words.push(String::from_str(alloc, word)?)?;
@@ -230,7 +230,7 @@ fn faults_of_the_ports_and_a_long_input_are_told(rt: HostRuntime) -> Result<(), 
 }
 
 /// A bus of two nodes: `left` sends 6bc1, and `right` receives it.
-const BUS: &str =
+pub(crate) const BUS: &str =
     "[[node]]\nname = \"left\"\nuid = \"000000000000000000000000000001\"\n[[node.route]]\nid = \"6bc1\"\ndirection = \"send\"\nslot = 4\nreserve = 4\nstart = \"e93d7e1173931729\"\n[[node]]\nname = \"right\"\nuid = \"000000000000000000000000000002\"\n[[node.route]]\nid = \"6bc1\"\ndirection = \"receive\"\nslot = 4\nstart = \"e93d7e1173931729\"\n";
 
 /// What is to be read from each source, and whether its first read fails.
@@ -251,20 +251,40 @@ fn first_fails(alloc: Global, fails: bool) -> Result<Vec<u64>, AllocError> {
     Ok(calls)
 }
 
-/// Runs `check B F` over these inputs, and compares the status and the output.
-fn check_script(
+/// A sink that takes a byte in a call, and fails once so many bytes are written.
+pub(crate) fn sink_of(alloc: Global, fails_behind: Option<usize>) -> Result<MemSink, Fail> {
+    let mut failing = Vec::new(alloc);
+    if let Some(written) = fails_behind {
+        failing.push((written as u64).saturating_add(1))?;
+    }
+    Ok(MemSink::new(alloc, 4096, failing, 1)?)
+}
+
+/// The status and the output where these are told over a sink that fails once so many bytes are written.
+pub(crate) fn ending(fails_behind: Option<usize>, status: u8, output: &str) -> (u8, &[u8]) {
+    let output = output.as_bytes();
+    match fails_behind {
+        None => (status, output),
+        Some(written) => (6, output.get(..written).unwrap_or(output)),
+    }
+}
+
+/// Runs words over these inputs, no disks, and a sink that fails once so many bytes are written, if at all, and compares the status and the output.
+fn over_bus(
     rt: &impl Abort,
     alloc: Global,
+    line: &str,
     given: &Given<'_>,
+    fails_behind: Option<usize>,
     status: u8,
     output: &str,
 ) -> Result<(), Fail> {
-    let words = words_of(alloc, "check B F")?;
+    let words = words_of(alloc, line)?;
     let config = Vec::from_slice(alloc, given.config.as_bytes())?;
     let script = Vec::from_slice(alloc, given.script.as_bytes())?;
     let mut config = MemSource::new(config, first_fails(alloc, given.config_fails)?, 64);
     let mut script = MemSource::new(script, first_fails(alloc, given.script_fails)?, 64);
-    let mut sink = MemSink::new(alloc, 1024, Vec::new(alloc), 1024)?;
+    let mut sink = sink_of(alloc, fails_behind)?;
     let mut disks: Vec<MemDisk> = Vec::new(alloc);
     let answer = run(
         alloc,
@@ -274,8 +294,9 @@ fn check_script(
         &mut sink,
         &mut disks,
     );
-    assert_eq!(rt; answer, status, "{}", given.script);
-    assert_eq!(rt; sink.bytes(), output.as_bytes(), "{}", given.script);
+    let (status, output) = ending(fails_behind, status, output);
+    assert_eq!(rt; answer, status, "{line}: {}", given.script);
+    assert_eq!(rt; sink.bytes(), output, "{line}: {}", given.script);
     Ok(())
 }
 
@@ -298,7 +319,7 @@ fn check_prints_the_canonical_lines(rt: HostRuntime) -> Result<(), Fail> {
             script,
             script_fails: false,
         };
-        check_script(&rt, rt.alloc(), &given, 0, output)?;
+        over_bus(&rt, rt.alloc(), "check B F", &given, None, 0, output)?;
     }
     Ok(())
 }
@@ -351,7 +372,12 @@ fn the_bus_file_is_refused_before_the_script(rt: HostRuntime) -> Result<(), Fail
             script,
             script_fails,
         };
-        check_script(&rt, rt.alloc(), &given, status, output)?;
+        for line in ["check B F", "replay B F"] {
+            over_bus(&rt, rt.alloc(), line, &given, None, status, output)?;
+            for written in 0..output.len() {
+                over_bus(&rt, rt.alloc(), line, &given, Some(written), status, output)?;
+            }
+        }
     }
     Ok(())
 }
