@@ -1,11 +1,10 @@
 -- How a run ends gives each clause of it
 use Rattle.std.specs.Prelude.{◌≡◌, ◌⊎◌, ℕ, ◌+◌, ◌<◌, ◌≤◌, List, [], length, None, Some, Result, Ok, Err, codes}
-use Rattle.std.proofs.Common.{refl, sym, ap, ◌∙◌, subst, arith, inl, inr}
+use Rattle.std.proofs.Common.{sym, ap, subst, arith, inl, inr}
 use Rattle.std.specs.Result.{result_err}
 use Rattle.bus_port.specs.Fault.{Rose, last_count}
-use Rattle.bus_port.specs.Source.{SourceState}
 use Rattle.bus_port.specs.Sink.{SinkState}
-use Rattle.bus_port.specs.Whole.{ReadsAll, CameBeyond}
+use Rattle.bus_port.specs.Whole.{CameBeyond}
 use Rattle.command_edge.specs.Input.{input_limit}
 use Rattle.command_edge.specs.Told.{AppendedWell}
 use Rattle.text_lines.specs.Readings.{Fault}
@@ -16,20 +15,16 @@ use Rattle.bus_config.specs.FaultTexts.{config_fault_text}
 use Rattle.cut_disk.specs.State.{DiskState}
 use Rattle.bus_machine.specs.declared.events.Event.{Event}
 use Rattle.bus_nodes.specs.Buses.{NamedBus}
-use Rattle.bus_script.specs.EventForms.{events_of}
-use Rattle.numbered_run.specs.declared.printing.Unwritten.{Unwritten}
-use Rattle.numbered_run.specs.declared.printing.Unwritten.TheVariants.{SinkFailed, Memory as NoRoom}
 use Rattle.bus_world.specs.Starts.{HasRoom}
-use Rattle.bus_replay.specs.declared.words.Command.{Command}
 use Rattle.bus_replay.specs.declared.words.Command.TheVariants as command
 use Rattle.bus_replay.specs.declared.task.Task.{Task}
-use Rattle.bus_replay.specs.declared.task.Task.TheVariants.{Frame, Judge, Check, Replay}
-use Rattle.bus_replay.specs.Words.{Asks, AsksNothing, AsksSomething}
+use Rattle.bus_replay.specs.declared.task.Task.TheVariants.{Replay}
+use Rattle.bus_replay.specs.Words.{AsksNothing, AsksSomething}
 use Rattle.bus_replay.specs.Texts.{usage, Prints, fault_of}
-use Rattle.bus_replay.specs.Replays.{written_status, Ran, EndsReplay, start_fault_text}
-use Rattle.bus_replay.specs.Headline.{TellEach, Replayed, EndsReplayed, ReplaysAreRuns}
+use Rattle.bus_replay.specs.Replays.{Ran, EndsReplay}
+use Rattle.bus_replay.specs.Headline.{TellEach, EndsReplayed, ReplaysAreRuns}
 use Rattle.bus_replay.specs.Answers.{Inputs, AsksOverBus, AsksReplay, IsConfigFault, ToldTask, Over, OverReplay, EndsWith, Ends, FrontOfRow, ConfigFindsNoMemory, ScriptFindsNoMemory, DisksRefused, StoreRefused, BreaksOff, RunsShort, EndsEarly, EndsUnstarted, EndsInRun, HasDisks}
-use Rattle.bus_replay.proofs.Rows.{set_no_fault, set_within, within_all, read_told, same_task, beyond_told, set_has_bus, None_not_Some, row_done, row_usage, row_config_refused, row_refused, row_read_fault, row_no_memory, row_too_long, row_write_fault, row_below, row_writes, row_usage_only, row_read_fault_only, row_too_long_only, row_config_refused_only, row_refused_only, row_complete, row_replay_only}
+use Rattle.bus_replay.proofs.Rows.{set_no_fault, set_within, within_all, read_told, same_task, set_has_bus, None_not_Some, row_done, row_usage, row_config_refused, row_refused, row_read_fault, row_no_memory, row_too_long, row_write_fault, row_below, row_writes, row_usage_only, row_read_fault_only, row_too_long_only, row_config_refused_only, row_refused_only, row_complete, row_replay_only}
 use Rattle.bus_replay.proofs.Ending.{ReplayStatus, ends_status, ends_at_0, ends_at_6, ends_at_7, ends_unstarted, early_unstarted, ends_writes, ends_complete, ends_without_room, start_text, refused_at_9, refused_at_10, leaves, DisksDo}
 
 -- a replay of valid inputs, whatever holds of it

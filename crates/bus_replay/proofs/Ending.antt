@@ -1,8 +1,8 @@
 -- How a replay of valid inputs ends, by its status
-use Rattle.std.specs.Prelude.{◌≡◌, ◌≢◌, ◌⊎◌, ℕ, ◌+◌, ◌-◌, ◌<◌, ◌≤◌, true, List, [], length, get_or, Option, None, Some, Result, Ok, Err}
+use Rattle.std.specs.Prelude.{◌≡◌, ◌≢◌, ◌⊎◌, ℕ, ◌-◌, ◌<◌, ◌≤◌, List, [], length, get_or, Option, None, Some, Ok, Err}
 use Rattle.std.proofs.Common.{refl, sym, ap, ◌∙◌, subst, arith, inl, inr}
 use Rattle.bus_port.specs.Fault.{Rose}
-use Rattle.bus_port.specs.Sink.{SinkState, Appended}
+use Rattle.bus_port.specs.Sink.{SinkState}
 use Rattle.bus_port.specs.SinkLaws.{Appended-nothing}
 use Rattle.bus_port.specs.Whole.{AppendedPart}
 use Rattle.command_edge.specs.Told.{AppendedWell}
@@ -11,14 +11,12 @@ use Rattle.cut_disk.specs.State.{DiskState, Told}
 use Rattle.cut_disk.specs.Calls.{IsQuiet, Runs}
 use Rattle.cell_store.specs.declared.faults.Reread.TheVariants.{DiskFailed, NotFormatted, Damaged}
 use Rattle.bus_machine.specs.declared.events.Event.{Event}
-use Rattle.bus_nodes.specs.declared.nodes.NodeLine.{NodeLine}
 use Rattle.bus_nodes.specs.Buses.{NamedBus}
-use Rattle.numbered_run.specs.declared.printing.Unwritten.{Unwritten}
 use Rattle.numbered_run.specs.declared.printing.Unwritten.TheVariants.{SinkFailed, Memory as NoRoom}
-use Rattle.bus_world.specs.Starts.{NotStarted, Broken, HasRoom, FindsRoom, OfNumber, start_calls}
+use Rattle.bus_world.specs.Starts.{NotStarted, Broken, HasRoom, FindsRoom, OfNumber}
 use Rattle.bus_world.specs.declared.start.StartFault.{StartFault}
 use Rattle.bus_world.specs.declared.start.StartFault.TheVariants.{TooFew, TooSmall, Store, BadSlot, BadBound, Memory}
-use Rattle.bus_replay.specs.Replays.{start_fault_text, start_fault_status, TellsStart, NotReplayed, written_status, Ran, EndsReplay}
+use Rattle.bus_replay.specs.Replays.{start_fault_text, start_fault_status, TellsStart, NotReplayed, Ran, EndsReplay}
 use Rattle.bus_replay.specs.Answers.{StoreCause, LeavesEach, EndsUnstarted}
 use Rattle.bus_replay.proofs.Starting.{no_disk, no_line}
 

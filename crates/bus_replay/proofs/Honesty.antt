@@ -1,5 +1,5 @@
 -- Delivered PDUs are heard, and over quiet disks without cuts the events determine the lines
-use Rattle.std.specs.Prelude.{◌≡◌, ℕ, zero, suc, ◌+◌, ◌<◌, ◌&&◌, ◌==◌, Bool, true, false, List, [], ◌∷◌, ◌++◌, cond, count_by, length, map, take, get_or, All}
+use Rattle.std.specs.Prelude.{◌≡◌, ℕ, zero, suc, ◌+◌, ◌<◌, ◌&&◌, ◌==◌, Bool, true, false, List, [], ◌∷◌, ◌++◌, cond, count_by, length, take, get_or, All}
 use Rattle.std.proofs.Common.{refl, sym, ap, ◌∙◌, subst, arith}
 use Rattle.std.proofs.lemmas.List.{length-map, get_or-map}
 use Rattle.std.proofs.lemmas.List.Elements.{All-tail}
@@ -8,19 +8,18 @@ use Rattle.machine_runs.specs.Run.{Run, commands_in, lines_in}
 use Rattle.machine_runs.specs.RunLaws.{Run-split}
 use Rattle.machine_runs.specs.MemberLaws.{MemberSteps-length}
 use Rattle.cut_disk.specs.State.{DiskState}
-use Rattle.freshness_routes.specs.Config.{Config}
 use Rattle.bus_machine.specs.declared.events.Event.{Event}
 use Rattle.bus_machine.specs.declared.events.Event.TheVariants as event
 use Rattle.bus_machine.specs.declared.lines.Line.{Line}
 use Rattle.bus_machine.specs.declared.lines.Line.TheVariants.{Refused}
 use Rattle.bus_machine.specs.declared.lines.Refusal.TheVariants.{MemoryFailure}
 use Rattle.bus_machine.specs.Node.{first_node}
-use Rattle.bus_machine.specs.Bus.{World, SentLine, Instant, Moments, BusRun, Step, state_after, node_of, node_at}
-use Rattle.bus_machine.specs.Honest.{HonestDelivery, IsHeard}
+use Rattle.bus_machine.specs.Bus.{World, Instant, Moments, BusRun, Step, state_after, node_of, node_at}
+use Rattle.bus_machine.specs.Honest.{HonestDelivery}
 use Rattle.bus_nodes.specs.declared.nodes.NodeLine.{NodeLine}
 use Rattle.bus_nodes.specs.Buses.{NamedBus, IsNamedBus, configs_of}
 use Rattle.bus_laws.specs.Laws.{NoFailure, NoCut, IsCalm}
-use Rattle.bus_replay.specs.Headline.{arms_fault, tells_failure, FailuresCounted, EachIsHeard, KeepsPower, AreQuiet, UnfailedRun, OneListOfLines, Honest}
+use Rattle.bus_replay.specs.Headline.{arms_fault, tells_failure, FailuresCounted, EachIsHeard, KeepsPower, AreQuiet, OneListOfLines, Honest}
 use Rattle.bus_replay.proofs.OneRun.{Laws, first_of_bus, first_is_first, state_at}
 use Rattle.bus_replay.proofs.Failing.{count_cons}
 use Rattle.bus_replay.proofs.QuietRuns.{armed_at}

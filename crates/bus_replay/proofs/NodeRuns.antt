@@ -1,5 +1,5 @@
 -- What a run does to the disk of one of its nodes
-use Rattle.std.specs.Prelude.{◌≡◌, ℕ, ◌+◌, ◌<◌, ◌≤◌, Bool, true, false, List, [], ◌∷◌, length, get_or, not}
+use Rattle.std.specs.Prelude.{◌≡◌, ℕ, ◌<◌, Bool, true, false, List, [], ◌∷◌, length, get_or, not}
 use Rattle.std.specs.Option.{option_to_list}
 use Rattle.std.proofs.Common.{refl, sym, ap, ◌∙◌, subst, arith, inl, inr}
 use Rattle.machine_runs.specs.Run.{Moment, Run}
@@ -8,7 +8,6 @@ use Rattle.machine_runs.specs.MemberLaws.{Run-of_member}
 use Rattle.machine_runs.specs.Faults.{Counts, FailsWithin, QuietUntilArmed}
 use Rattle.machine_runs.specs.FaultLaws.{Run-fails_within, Run-quiet_until_armed}
 use Rattle.fault_count.specs.FaultCount.{Rose, last_count}
-use Rattle.cut_disk.specs.State.{DiskState}
 use Rattle.cut_disk.specs.Calls.{IsQuiet, arms_nothing}
 use Rattle.bus_machine.specs.declared.events.Event.{Event}
 use Rattle.bus_machine.specs.declared.lines.Line.{Line}

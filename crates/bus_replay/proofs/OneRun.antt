@@ -9,7 +9,7 @@ use Rattle.numbered_run.specs.Printed.{Written}
 use Rattle.cut_disk.specs.State.{DiskState}
 use Rattle.bus_machine.specs.declared.events.Event.{Event}
 use Rattle.bus_machine.specs.declared.lines.Line.{Line}
-use Rattle.bus_machine.specs.Bus.{World, First, Instant, Moments, BusRun, Step, state_after}
+use Rattle.bus_machine.specs.Bus.{World, First, Moments, BusRun, Step, state_after}
 use Rattle.bus_machine.specs.Freshness.{Rising, Single}
 use Rattle.bus_machine.specs.Authentic.{Authentic}
 use Rattle.bus_machine.specs.KeysKept.{KeysKept}

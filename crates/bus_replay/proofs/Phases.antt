@@ -1,5 +1,5 @@
 -- The two phases of a run, put together.
-use Rattle.std.proofs.Common.{◌≡◌, ℕ, List, [], Some, refl, inl, inr, ap, subst, sym, arith}
+use Rattle.std.proofs.Common.{◌≡◌, ℕ, List, [], Some, refl, inl, inr, ap, subst, sym}
 use Rattle.std.specs.Prelude.{Result, Ok, Err, Vec}
 use Rattle.std.specs.declared.alloc.Global.{Global}
 use Rattle.bus_machine.specs.declared.events.Event.{Event}
@@ -28,7 +28,6 @@ use Rattle.bus_replay.specs.declared.job.Job.TheVariants.{Frames, Judgements, Ev
 use Rattle.bus_replay.specs.declared.task.Task.{Task}
 use Rattle.bus_replay.specs.declared.task.Task.TheVariants.{Frame, Judge, Check, Replay}
 use Rattle.bus_replay.specs.declared.words.Command.{Command}
-use Rattle.bus_replay.specs.declared.words.Command.TheVariants as command
 use Rattle.bus_replay.specs.declared.refusal.Refusal.{Refusal}
 use Rattle.bus_replay.specs.declared.refusal.Refusal.TheVariants.{Usage, ReadFault, TooLong, Config, Script, Memory}
 use Rattle.bus_replay.specs.Words.{Asks}

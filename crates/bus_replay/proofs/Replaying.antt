@@ -1,7 +1,6 @@
 -- A world that is started, given the events of a script, and finished
-use Rattle.std.specs.Prelude.{◌≡◌, ℕ, ◌+◌, ◌<◌, ◌≤◌, Some, List, [], ◌∷◌, length, map, get_or, All}
-use Rattle.std.proofs.Common.{refl, sym, ap, ◌∙◌, subst, arith}
-use Rattle.std.proofs.lemmas.List.{length-map}
+use Rattle.std.specs.Prelude.{◌≡◌, ℕ, ◌≤◌, List, [], ◌∷◌, length, get_or, All}
+use Rattle.std.proofs.Common.{sym, ap, ◌∙◌, subst, arith}
 use Rattle.machine_runs.specs.Run.{Moment, Run}
 use Rattle.machine_runs.specs.MemberLaws.{MemberSteps-length}
 use Rattle.bus_machine.specs.declared.events.Event.{Event}
@@ -11,7 +10,6 @@ use Rattle.bus_nodes.specs.declared.nodes.NodeLine.{NodeLine}
 use Rattle.bus_nodes.specs.Buses.{NamedBus}
 use Rattle.bus_script.specs.ScriptEvents.{HasFields, IsScriptEvent}
 use Rattle.cut_disk.specs.State.{DiskState}
-use Rattle.secoc_node.specs.State.{NodeState}
 use Rattle.bus_world.specs.Turns.{CanBeDone}
 use Rattle.bus_world.specs.Worlds.{BusState, IsEventOf, IsReady, BusTurn}
 use Rattle.bus_world.specs.Starts.{Started}

@@ -1,10 +1,10 @@
 -- What the rows of the table of answers say of each status
-use Rattle.std.specs.Prelude.{◌≡◌, ◌≢◌, ◌⊎◌, ℕ, ◌+◌, ◌<◌, ◌≤◌, List, [], ◌∷◌, ◌++◌, length, get_or, Option, None, Some, Result, Ok, Err, codes}
+use Rattle.std.specs.Prelude.{◌≡◌, ◌≢◌, ◌⊎◌, ℕ, ◌+◌, ◌<◌, ◌≤◌, List, [], ◌∷◌, length, get_or, Option, None, Some, Result, Ok, Err, codes}
 use Rattle.std.specs.Result.{result_err}
 use Rattle.std.proofs.Common.{refl, sym, ap, ◌∙◌, subst, arith, inl, inr}
 use Rattle.std.proofs.lemmas.List.{length-append}
 use Rattle.bus_port.specs.Fault.{Rose, last_count}
-use Rattle.bus_port.specs.Source.{SourceState, Came}
+use Rattle.bus_port.specs.Source.{SourceState}
 use Rattle.bus_port.specs.Sink.{SinkState}
 use Rattle.bus_port.specs.Whole.{ReadsAll, CameWithin, CameBeyond}
 use Rattle.command_edge.specs.Input.{input_limit}

@@ -1,21 +1,18 @@
 -- The first world over formatted disks that tell their bytes is the first world of the bus
-use Rattle.std.specs.Prelude.{◌≡◌, ℕ, ◌<◌, false, None, Some, List, [], length, map, get_or, slice_get}
-use Rattle.std.proofs.Common.{refl, sym, ap, ◌∙◌, subst, arith}
+use Rattle.std.specs.Prelude.{◌≡◌, ℕ, ◌<◌, false, None, Some, List, [], length, map, get_or}
+use Rattle.std.proofs.Common.{sym, ap, ◌∙◌, subst, arith}
 use Rattle.std.proofs.lemmas.List.{length-map, get_or-map, ext_get_or}
 use Rattle.std.proofs.lemmas.Option.{get_or_from_slice_get, slice_get_within}
-use Rattle.machine_runs.specs.Run.{Moment, Run, seen_as}
 use Rattle.cut_disk.specs.State.{DiskState, Told}
 use Rattle.cut_disk.specs.Arming.{no_arms}
-use Rattle.bus_machine.specs.declared.events.Event.{Event}
-use Rattle.bus_machine.specs.declared.lines.Line.{Line}
 use Rattle.bus_machine.specs.Node.{Node, first_node}
-use Rattle.bus_machine.specs.Bus.{World, SentLine, First, Step, no_config}
+use Rattle.bus_machine.specs.Bus.{World, SentLine, First, no_config}
 use Rattle.bus_nodes.specs.declared.nodes.NodeLine.{NodeLine}
 use Rattle.bus_nodes.specs.Buses.{NamedBus, configs_of}
 use Rattle.any_cells.specs.Either.{layout}
 use Rattle.secoc_node.specs.State.{NodeState, TellsFitting}
 use Rattle.secoc_node.proofs.FitsLaws.{told_before}
-use Rattle.bus_world.specs.Worlds.{BusState, world_of, BusTurn, EachFits}
+use Rattle.bus_world.specs.Worlds.{BusState, world_of, EachFits}
 use Rattle.bus_world.specs.Starts.{Started, Opened}
 use Rattle.bus_replay.specs.Headline.{TellEach}
 

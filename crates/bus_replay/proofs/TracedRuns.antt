@@ -1,14 +1,14 @@
 -- The past that a run adds on the disk of one of its nodes is traced
-use Rattle.std.specs.Prelude.{◌≡◌, ◌≢◌, ◌⊎◌, ℕ, suc, ◌+◌, ◌<◌, ◌≤◌, IfSome, Option, None, Some, List, [], ◌∷◌, ◌++◌, length, drop, get_or, map}
+use Rattle.std.specs.Prelude.{◌≡◌, ◌≢◌, ℕ, ◌+◌, ◌<◌, ◌≤◌, IfSome, Option, None, Some, List, [], ◌∷◌, ◌++◌, length, drop, get_or}
 use Rattle.std.specs.Option.{option_to_list}
 use Rattle.std.proofs.Common.{refl, sym, ap, ◌∙◌, subst, arith, inl, inr, append_assoc, append-nil}
-use Rattle.std.proofs.lemmas.List.{length-append, length-map, get_or-map}
+use Rattle.std.proofs.lemmas.List.{length-append, get_or-map}
 use Rattle.std.proofs.lemmas.Option.{same_Some}
 use Rattle.machine_runs.specs.Run.{Moment, Run}
-use Rattle.machine_runs.specs.Past.{AddsTo, Traced}
+use Rattle.machine_runs.specs.Past.{AddsTo}
 use Rattle.machine_runs.specs.MemberLaws.{MemberSteps-length}
 use Rattle.cut_disk.specs.State.{DiskState, Told, Entry}
-use Rattle.cut_disk.specs.Calls.{AddsEntries, marks_of, newest, Grown}
+use Rattle.cut_disk.specs.Calls.{marks_of, newest}
 use Rattle.cut_disk.specs.CallLaws.{newest-append}
 use Rattle.cell_store.specs.declared.kinds.Layout.{Layout}
 use Rattle.any_cells.specs.Either.{layout}
@@ -17,9 +17,9 @@ use Rattle.bus_machine.specs.declared.events.Event.{Event}
 use Rattle.bus_machine.specs.declared.events.Event.TheVariants as event
 use Rattle.bus_machine.specs.declared.lines.Line.{Line}
 use Rattle.bus_machine.specs.Node.{Node, first_node}
-use Rattle.bus_machine.specs.Bus.{World, First, Instant, Moments, node_of, no_config, node_at}
-use Rattle.bus_machine.specs.Past.{mark_of, most_entries, cell_count, EndsFitting, Begins, AddsEntriesOf, TracedDisk}
-use Rattle.bus_nodes.specs.Buses.{NamedBus, configs_of}
+use Rattle.bus_machine.specs.Bus.{World, Instant, no_config, node_at}
+use Rattle.bus_machine.specs.Past.{mark_of, most_entries, cell_count, EndsFitting, AddsEntriesOf}
+use Rattle.bus_nodes.specs.Buses.{NamedBus}
 use Rattle.secoc_node.specs.Fits.{Fits}
 use Rattle.secoc_node.specs.State.{NodeState, FitsNow, TellsFitting}
 use Rattle.secoc_node.proofs.FitsLaws.{told_before}

@@ -1,5 +1,5 @@
 -- All that holds of the run of a replay over disks that tell their bytes, put together
-use Rattle.std.specs.Prelude.{◌≡◌, ℕ, ◌<◌, Result, List, length, get_or}
+use Rattle.std.specs.Prelude.{ℕ, Result, List, length}
 use Rattle.bus_port.specs.Sink.{SinkState}
 use Rattle.cut_disk.specs.State.{DiskState}
 use Rattle.machine_runs.specs.Run.{Moment, Run}

@@ -30,7 +30,7 @@ use Rattle.bus_replay.specs.declared.words.Command.{Command}
 use Rattle.bus_replay.specs.declared.words.Command.TheVariants as command
 use Rattle.bus_replay.specs.declared.task.Task.{Task}
 use Rattle.bus_replay.specs.declared.task.Task.TheVariants.{Frame, Judge, Check, Replay}
-use Rattle.bus_replay.specs.Words.{Asks, AsksNothing, AsksSomething}
+use Rattle.bus_replay.specs.Words.{Asks, AsksNothing}
 use Rattle.bus_replay.specs.Texts.{usage, Prints, fault_of}
 
 -- what was known of the two sources, of the bus file and of the lines, before and after

@@ -207,8 +207,9 @@ fn a_disk_that_fails_at_the_start_is_named(rt: HostRuntime) -> Result<(), Fail> 
             (37, None, 0, ""),
         ] {
             let mut disks = disks_of(rt.alloc(), &[2_048, 2_048])?;
-            if let Some(disk) = disks.as_mut_slice().get_mut(node) {
-                disk.fail_at(call);
+            match disks.as_mut_slice().get_mut(node) {
+                Some(disk) if call >= 1 => disk.fail_at(call),
+                _ => return Err(Fail::from("no disk")),
             }
             let texts = [BUS, ""];
             replays(

@@ -51,11 +51,13 @@ pub fn run<S: Source, T: Source, K: Sink, D: CutDisk>(
     sink: &mut K,
     disks: &mut Vec<D>,
 ) -> u8
-    // How it ends: a row of the table of answers comes, and its text and status are told.
+    // How it ends: a row of the table of answers comes, its text and status are told, and the disks are the same; or it is a replay of
+    // valid inputs, which was started, or not.
     ensures ends { Ends (disks.new ≡ disks.old) (map string_bytes words.now) (inputs (S.state config.old) (S.state config.new) (T.state script.old) (T.state script.new))
         (map D.state disks.old.items) (map D.state disks.new.items) (K.state sink.old) (K.state sink.new) result }
 
-    // Every disk is as before, but where a replay of valid inputs is asked for.
+    // Every disk is as before, but where a replay of valid inputs is asked for: of its disks see `replayed` and, by the status,
+    // `early_ends`, `disks_refused` and `store_refused`.
     ensures disks { (¬ AsksReplay (map string_bytes words.now) → disks.new ≡ disks.old)
         × ((result ≡ 2) ⊎ (result ≡ 3) ⊎ (result ≡ 4) ⊎ (result ≡ 5) ⊎ (result ≡ 8) → disks.new ≡ disks.old) }
 
@@ -101,8 +103,8 @@ pub fn run<S: Source, T: Source, K: Sink, D: CutDisk>(
     ensures read_fault_only { (S.state config.old).faults < (S.state config.new).faults ⊎ (T.state script.old).faults < (T.state script.new).faults
         → (result ≡ 5) ⊎ (result ≡ 6) }
 
-    // 6: exactly where the sink's count of faults rose; a proper front was written of the text of another row that comes, or of
-    // a replay the texts of the lines before one, and of this a proper front.
+    // 6: exactly where the sink's count of faults rose. A proper front was written of the text of another row that comes, or of a start
+    // that is refused; or of a replay the texts of the lines before one, and of this a proper front.
     ensures write_fault { result ≡ 6 → Rose (K.state sink.old).faults (K.state sink.new).faults
         × (FrontOfRow (map string_bytes words.now) (inputs (S.state config.old) (S.state config.new) (T.state script.old) (T.state script.new)) (K.state sink.old) (K.state sink.new)
         ⊎ BreaksOff (map string_bytes words.now) (inputs (S.state config.old) (S.state config.new) (T.state script.old) (T.state script.new)) (map D.state disks.old.items) (map D.state disks.new.items) (K.state sink.old) (K.state sink.new)) }
