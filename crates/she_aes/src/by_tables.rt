@@ -160,15 +160,26 @@ fn column<const C: usize>(state: &State) -> [u8; 4]
     (top ^ bottom).to_be_bytes()
 }
 
+// The bytes of these columns of the state after SubBytes, ShiftRows and MixColumns, one column behind the other, by these names.
+macro_rules! columns {
+    ($state:expr, $($number:literal as [$($byte:ident),+]),+) => {{
+        $(let [$($byte),+] = column::<$number>($state);)+
+        [$($($byte),+),+]
+    }};
+}
+
 // A round of the cipher but the last.
 pub(crate) fn round(key: &State, state: &State) -> State
     ensures { result ≡ add_round_key key.now (mix_columns (shift_rows (sub_bytes state.now))) }
 {
-    let [a, b, c, d] = column::<0>(state);
-    let [e, f, g, h] = column::<1>(state);
-    let [i, j, k, l] = column::<2>(state);
-    let [m, n, o, p] = column::<3>(state);
-    xor(&[a, b, c, d, e, f, g, h, i, j, k, l, m, n, o, p], key)
+    let mixed = columns!(
+        state,
+        0 as [a, b, c, d],
+        1 as [e, f, g, h],
+        2 as [i, j, k, l],
+        3 as [m, n, o, p]
+    );
+    xor(&mixed, key)
 }
 
 // The byte that the S-box gives, which stands in the third row of each column of the first table.

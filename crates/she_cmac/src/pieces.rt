@@ -95,12 +95,26 @@ impl<'a> Mac<'a> {
         self.filled = 0;
     }
 
-    // Keeps, behind the bytes that are kept, as many of these as fit, and says how many.
+    // Keeps the block at the front of these bytes, where nothing is kept.
+    fn keep_block(&mut self, bytes: &[u8])
+        requires { 16 ≤ length bytes.now }
+        ensures { (key : List ℕ) (blocks : List (List ℕ)) → Holds key blocks [] self.old
+            → Holds key blocks (take 16 bytes.now) self.new }
+    {
+        self.block.copy_from_slice(&bytes[..16]);
+        self.filled = 16;
+    }
+
+    // Keeps, behind the bytes that are kept, as many of these as fit, and says how many. A whole block is taken as one.
     fn keep(&mut self, bytes: &[u8]) -> usize
         ensures count { result ≡ min (length bytes.now) (16 - self.old.filled) }
         ensures kept { (key piece : List ℕ) (blocks : List (List ℕ)) → Holds key blocks piece self.old
             → Holds key blocks (piece ++ take result bytes.now) self.new }
     {
+        if self.filled == 0 && bytes.len() >= 16 {
+            self.keep_block(bytes);
+            return 16;
+        }
         let count = bytes.len().min(16 - self.filled);
         let end = self.filled + count;
         self.block[self.filled..end].copy_from_slice(&bytes[..count]);

@@ -13,8 +13,8 @@ pub use crate::disk_forms::torn;
 use crate::fault::Memory;
 pub use crate::key_forms::{counter, engine_uid, flags, slot, uid};
 pub use crate::span::{Cut, Span, Spans};
-use byte_lists::Bytes;
-use hex::{FromHex, FromHexError};
+use byte_lists::{Bytes, Pdu};
+use hex::{FromHex, FromHexError, decode_to_slice};
 use she_aes::Block;
 use std::alloc::Global;
 
@@ -112,6 +112,21 @@ pub fn hex_bytes(
         return Ok(None);
     }
     digits(alloc, word)
+}
+
+/// A PDU of a number of bytes from `least` to `most`, which is at most 64: two hexadecimal digits a byte. No memory is asked for.
+#[tactic(auto, unfolding(crate::specs::Forms::hex_bytes_form))]
+pub fn pdu(word: &[u8], least: usize, most: usize) -> Option<Pdu>
+    requires { most ≤ 64 }
+    ensures { result ≡ hex_bytes_form least most word.now }
+{
+    let count = word.len() / 2;
+    if count < least || count > most {
+        return None;
+    }
+    let mut bytes = [0; 64];
+    decode_to_slice(word, &mut bytes[..count]).ok()?;
+    Pdu::of(&bytes[..count])
 }
 
 // The bytes of hexadecimal digits, two a byte.

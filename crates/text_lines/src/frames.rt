@@ -8,7 +8,7 @@ use crate::fault::{LineFault, ScriptFault};
 use crate::forms;
 use crate::reader::{LineReader, MOST_LINES, expect_count, read_lines, value_at};
 use crate::words::Words;
-use byte_lists::Bytes;
+use byte_lists::Pdu;
 use she_aes::Block;
 use std::alloc::Global;
 
@@ -19,7 +19,7 @@ pub struct FrameLine {
     pub key: Block,
     pub id: u16,
     pub freshness: u64,
-    pub payload: Bytes,
+    pub payload: Pdu,
 }
 
 /// Reads a line of `frame`.
@@ -35,7 +35,7 @@ impl LineReader for FrameReader {
     #[tactic(auto, unfolding(crate::specs::Frames::frame_of))]
     fn read(
         &self,
-        alloc: Global,
+        _alloc: Global,
         words: &Words<'_>,
         _before: &[FrameLine],
     ) -> Result<FrameLine, LineFault> {
@@ -43,7 +43,7 @@ impl LineReader for FrameReader {
         let key = value_at(1, forms::key(words.word(1)))?;
         let id = value_at(2, forms::data_id(words.word(2)))?;
         let freshness = value_at(3, forms::fresh(words.word(3)))?;
-        let payload = value_at(4, forms::hex_bytes(alloc, words.word(4), 1, 60)?)?;
+        let payload = value_at(4, forms::pdu(words.word(4), 1, 60))?;
         Ok(FrameLine {
             key,
             id,

@@ -408,6 +408,9 @@ fn bytes_are_of_a_least_and_a_most_number(rt: HostRuntime) -> Result<(), Fail> {
     for (word, least, most, len) in words {
         let found: Option<Bytes> = forms::hex_bytes(rt.alloc(), word, least, most)?;
         assert_eq!(rt; found.map(|bytes| bytes.bytes().len()), len, "{word:?}");
+        assert!(rt; most <= 64);
+        let pdu = forms::pdu(word, least, most);
+        assert_eq!(rt; pdu.map(|bytes| bytes.bytes().len()), len, "{word:?}");
     }
     Ok(())
 }
