@@ -59,6 +59,9 @@ fn refuses<C: Cells + Drop>(
         Err(refused) => refused,
     };
     assert_eq!(rt; refused.fault, fault);
+    if usize::from(refused.cells.count()) != cells.len() {
+        return Err(Fail::from("another number of cells"));
+    }
     for place in 0..refused.cells.count() {
         let mut out = [1; 32];
         refused.cells.get(place, &mut out);
