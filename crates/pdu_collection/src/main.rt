@@ -11,7 +11,6 @@ mod joiner;
 pub mod laws;
 mod linker;
 mod pair_lines;
-mod refusal;
 mod run;
 #[cfg(test)]
 mod tests;

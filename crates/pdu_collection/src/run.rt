@@ -9,17 +9,18 @@ ghost use Rattle.text_lines.specs.Texts.{fault_text_of};
 ghost use Rattle.pdu_collection.specs.declared.pair_lines.PairLine.{PairLine};
 ghost use Rattle.pdu_collection.specs.PairLines.{pairs_of};
 ghost use Rattle.pdu_collection.specs.Receiving.{IsPairScript};
-ghost use Rattle.pdu_collection.specs.Rows.{usage, NamesInput, Over, PrintsPairs, Ends, FrontOfRow};
-ghost use Rattle.pdu_collection.specs.Steps.{Prepares, ReadsPairs, DoesPairs};
+ghost use Rattle.answer_rows.specs.AnswerRows.{EndsInRow, WritesRowFront};
+ghost use Rattle.pdu_collection.specs.Rows.{pairing_usage, NamesInput, OverPairs, PrintsPairs, ComesInPairing};
+ghost use Rattle.pdu_collection.specs.Steps.{PreparesPairs, ReadsPairs, DoesPairs};
 
 use crate::answering::answers;
 use crate::pair_lines::{PairLine, read_pairs};
-use crate::refusal::Refusal;
+use answer_rows::{LinesRefusal, tell_refusal};
 use bus_port::{Sink, Source};
 use command_edge::{DONE, NO_MEMORY, read_input, tell};
 use std::alloc::{AllocError, Global};
 
-/// IsToldOf what is said of each line of a script of pairs, and gives the status that the program ends with. One word, which names the
+/// Tells what is said of each line of a script of pairs, and gives the status that the program ends with. One word, which names the
 /// script and may be any text, is the form of the words, the program's name left out. All reading comes before all printing, and every
 /// text that is printed ends with a line feed.
 ///
@@ -32,19 +33,19 @@ pub fn run_pairs<T: Source, K: Sink>(
     sink: &mut K,
 ) -> u8
     // How it ends: a row of the table of answers comes, and its text and status are told.
-    ensures ends { Ends (map string_bytes words.now) (T.state script.old) (T.state script.new) (K.state sink.old) (K.state sink.new) result }
+    ensures ends { EndsInRow pairing_usage (ComesInPairing (map string_bytes words.now) (T.state script.old) (T.state script.new)) (K.state sink.old) (K.state sink.new) result }
 
     // 0: the whole input was read, and the sink has exactly what is said of its lines.
-    ensures done { result ≡ 0 → Over (map string_bytes words.now) (T.state script.old) (T.state script.new)
+    ensures done { result ≡ 0 → OverPairs (map string_bytes words.now) (T.state script.old) (T.state script.new)
         (λ read. (text : List ℕ) × PrintsPairs read text × AppendedWell (K.state sink.old) (K.state sink.new) text) }
 
     // 2: exactly where the words are of no form, with the usage line; nothing was read.
     ensures usage { result ≡ 2 → (¬ NamesInput (map string_bytes words.now)) × ((T.state script.new) ≡ (T.state script.old))
-        × AppendedWell (K.state sink.old) (K.state sink.new) usage }
+        × AppendedWell (K.state sink.old) (K.state sink.new) pairing_usage }
     ensures usage_only { ¬ NamesInput (map string_bytes words.now) → (result ≡ 2) ⊎ (result ≡ 6) }
 
     // 4: the whole input was read, and its first fault is printed, with the line and the cause.
-    ensures refused { result ≡ 4 → Over (map string_bytes words.now) (T.state script.old) (T.state script.new)
+    ensures refused { result ≡ 4 → OverPairs (map string_bytes words.now) (T.state script.old) (T.state script.new)
         (λ read. (fault : Fault) × (pairs_of read ≡ Err fault)
         × AppendedWell (K.state sink.old) (K.state sink.new) (fault_text_of fault)) }
     ensures refused_only { (read : List ℕ) (fault : Fault) → NamesInput (map string_bytes words.now)
@@ -59,7 +60,7 @@ pub fn run_pairs<T: Source, K: Sink>(
 
     // 6: exactly where the sink's count of faults rose; a proper front was written of the text of another row that comes.
     ensures write_fault { result ≡ 6 → Rose (K.state sink.old).faults (K.state sink.new).faults
-        × FrontOfRow (map string_bytes words.now) (T.state script.old) (T.state script.new) (K.state sink.old) (K.state sink.new) }
+        × WritesRowFront pairing_usage (ComesInPairing (map string_bytes words.now) (T.state script.old) (T.state script.new)) (K.state sink.old) (K.state sink.new) }
     ensures write_fault_only { (K.state sink.old).faults < (K.state sink.new).faults → result ≡ 6 }
 
     // 7: only where the words are of the form; nothing was written.
@@ -82,6 +83,8 @@ pub fn run_pairs<T: Source, K: Sink>(
     in_two_phases(alloc, words, script, sink)
 }
 
+const USAGE: &str = "usage: pairing F\n";
+
 /// Prepares, and then tells the pairs or the refusal.
 fn in_two_phases<T: Source, K: Sink>(
     alloc: Global,
@@ -89,11 +92,11 @@ fn in_two_phases<T: Source, K: Sink>(
     script: &mut T,
     sink: &mut K,
 ) -> u8
-    ensures { Ends (map string_bytes words.now) (T.state script.old) (T.state script.new) (K.state sink.old) (K.state sink.new) result }
+    ensures { EndsInRow pairing_usage (ComesInPairing (map string_bytes words.now) (T.state script.old) (T.state script.new)) (K.state sink.old) (K.state sink.new) result }
 {
     match prepare(alloc, words, script) {
         Ok(lines) => tell_pairs(alloc, lines.as_slice(), sink),
-        Err(refusal) => tell(sink, refusal.text().as_bytes(), refusal.status()),
+        Err(refusal) => tell_refusal(sink, USAGE, &refusal),
     }
 }
 
@@ -102,15 +105,15 @@ fn prepare<T: Source>(
     alloc: Global,
     words: &[String],
     script: &mut T,
-) -> Result<Vec<PairLine>, Refusal>
-    ensures { Prepares (map string_bytes words.now) (T.state script.old) (T.state script.new) result }
+) -> Result<Vec<PairLine>, LinesRefusal>
+    ensures { PreparesPairs (map string_bytes words.now) (T.state script.old) (T.state script.new) result }
 {
     if !names_input(words) {
-        return Err(Refusal::Usage);
+        return Err(LinesRefusal::Usage);
     }
     let input = match read_input(alloc, script) {
         Ok(input) => input,
-        Err(fault) => return Err(Refusal::from(fault)),
+        Err(fault) => return Err(LinesRefusal::from(fault)),
     };
     lines_of(alloc, input.as_slice())
 }
@@ -123,13 +126,13 @@ fn names_input(words: &[String]) -> bool
 }
 
 /// The lines of an input, or the refusal of the first that isn't one.
-fn lines_of(alloc: Global, input: &[u8]) -> Result<Vec<PairLine>, Refusal>
+fn lines_of(alloc: Global, input: &[u8]) -> Result<Vec<PairLine>, LinesRefusal>
     requires { length input.now < 2 ^ 32 }
     ensures { ReadsPairs input.now result }
 {
     match read_pairs(alloc, input) {
         Ok(lines) => Ok(lines),
-        Err(fault) => Err(Refusal::of_line(alloc, fault)),
+        Err(fault) => Err(LinesRefusal::of_line(alloc, fault)),
     }
 }
 

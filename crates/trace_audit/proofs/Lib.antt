@@ -1,0 +1,5 @@
+pub mod Phases
+pub mod Rising
+pub mod Audited
+pub mod Noting
+pub mod Endings

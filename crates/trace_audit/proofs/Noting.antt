@@ -1,0 +1,74 @@
+-- What is noted of one line, put together.
+use Rattle.std.proofs.Common.{◌≡◌, ℕ, arith, ◌<◌, ◌≤◌, ◌+◌, ◌==◌, Bool, true, false, List, [], ◌∷◌, ◌++◌, length, refl, sym, ap, ◌∙◌, subst, inl, inr, append-nil, append_assoc, set, length-set, get_or-set_same, get_or-set_other}
+use Rattle.std.specs.Prelude.{slice_index, if◌then◌else◌, Option, None, Some}
+use Rattle.std.specs.List.{slice_get}
+use Rattle.std.proofs.lemmas.Bool.Decides.{nat_tests}
+use Rattle.secured_pdu.specs.Verdict.{Outcome}
+use Rattle.text_lines.specs.Lines.{TextLine}
+use Rattle.text_lines.specs.Texts.{outcome_text, bad_length_text}
+use Rattle.trace_audit.specs.declared.map_lines.MapLine.{MapLine}
+use Rattle.trace_audit.specs.declared.frames.LogFrame.{LogFrame}
+use Rattle.trace_audit.specs.MapLines.{place_of_can}
+use Rattle.trace_audit.specs.Frames.{log_frame_of}
+use Rattle.trace_audit.specs.Auditing.{Finding, other, too_short, verdict, front_text, finding_text, counter_behind, counter_found, Mapped, IsMapped, IsUnmapped, AuditsLine}
+use Rattle.trace_audit.specs.Findings.{AddsDataVerdict, AddsFinding}
+
+put_counter : (counters : List ℕ) (place p v : ℕ) (b : Bool) → (place == p) ≡ b → place < length counters
+    → slice_index (set counters place v) p ≡ (if b then v else slice_index counters p)
+put_counter counters place p v true e inside =
+    let same : place ≡ p = grind (arith, nat_tests, e) in
+    subst (λ k. slice_index (set counters place v) k ≡ v) same (get_or-set_same counters place v 0 inside)
+put_counter counters place p v false e inside =
+    get_or-set_other counters place p v 0 (λ (same : p ≡ place). absurd (grind (arith, nat_tests, e, same)))
+
+pick : (counters : List ℕ) (place p v : ℕ) (outcome : Outcome) (b : Bool) → (place == p) ≡ b → v ≡ counter_behind (slice_index counters place) outcome
+    → (if b then v else slice_index counters p) ≡ (if b then counter_behind (slice_index counters p) outcome else slice_index counters p)
+pick counters place p v outcome true e h =
+    let same : place ≡ p = grind (arith, nat_tests, e) in
+    h ∙ ap (λ k. counter_behind (slice_index counters k) outcome) same
+pick counters place p v outcome false e h = refl
+
+keep : (counters : List ℕ) (place p v : ℕ) (b : Bool) → (place == p) ≡ b → v ≡ slice_index counters place
+    → (if b then v else slice_index counters p) ≡ slice_index counters p
+keep counters place p v true e h =
+    let same : place ≡ p = grind (arith, nat_tests, e) in
+    h ∙ ap (λ k. slice_index counters k) same
+keep counters place p v false e h = refl
+
+-- nothing is said of a line that the map has no line for
+pub AddsFinding-other : (mapping : List MapLine) (counters : List ℕ) (l : TextLine) (text : List ℕ) → IsUnmapped mapping l.words
+    → AddsFinding mapping counters counters l text text false
+AddsFinding-other mapping counters l text unmapped = (other, unmapped, sym (append-nil text), refl, refl, λ p inside. refl)
+
+pub Unmapped-none : (mapping : List MapLine) (words : List (List ℕ)) → log_frame_of words ≡ None → IsUnmapped mapping words
+Unmapped-none mapping words none = λ frame some. cc
+
+pub Unmapped-place : (mapping : List MapLine) (words : List (List ℕ)) (frame : LogFrame) → log_frame_of words ≡ Some frame
+    → place_of_can mapping frame.can ≡ None → IsUnmapped mapping words
+Unmapped-place mapping words frame is none = λ frame' some.
+    let same : frame ≡ frame' = cc in
+    subst (λ (f : LogFrame). place_of_can mapping f.can ≡ None) same none
+
+-- a mapped line
+pub AddsFinding-mapped : (mapping : List MapLine) (counters : List ℕ) (l : TextLine) (frame : LogFrame) (place : ℕ) (entry : MapLine) (v : ℕ) (before front after : List ℕ)
+    → log_frame_of l.words ≡ Some frame → place_of_can mapping frame.can ≡ Some place → slice_get mapping place ≡ Some entry → place < length counters
+    → front ≡ before ++ front_text l.number entry.can → AddsDataVerdict entry (slice_index counters place) v frame.bytes front after
+    → AddsFinding mapping counters (set counters place v) l before after true
+AddsFinding-mapped mapping counters l frame place entry v before front after frame_is place_is entry_is inside front_is (inl (short, same, after_is)) =
+    let m : Mapped = record { place = place; entry = entry; bytes = frame.bytes } in (
+      too_short l.number place entry.can,
+      (m, (frame, frame_is, place_is, entry_is, refl), refl, refl, refl, short),
+      after_is ∙ ap (λ t. t ++ bad_length_text) front_is ∙ append_assoc before (front_text l.number entry.can) bad_length_text,
+      refl,
+      length-set counters place v,
+      λ p within. put_counter counters place p v (place == p) refl inside ∙ keep counters place p v (place == p) refl same,
+    )
+AddsFinding-mapped mapping counters l frame place entry v before front after frame_is place_is entry_is inside front_is (inr (long, (outcome, judged, after_is, new_is))) =
+    let m : Mapped = record { place = place; entry = entry; bytes = frame.bytes } in (
+      verdict l.number place entry.can outcome,
+      (m, (frame, frame_is, place_is, entry_is, refl), refl, refl, refl, long, judged),
+      after_is ∙ ap (λ t. t ++ outcome_text outcome) front_is ∙ append_assoc before (front_text l.number entry.can) (outcome_text outcome),
+      refl,
+      length-set counters place v,
+      λ p within. put_counter counters place p v (place == p) refl inside ∙ pick counters place p v outcome (place == p) refl new_is,
+    )

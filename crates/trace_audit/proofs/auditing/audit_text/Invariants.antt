@@ -1,0 +1,11 @@
+-- the lines so far were audited
+use Rattle.std.proofs.Common.{◌≡◌, ◌≤◌, take, map}
+use Rattle.text_lines.specs.Places.{placed_lines_of}
+use Rattle.text_lines.specs.Spans.{line_at}
+use Rattle.trace_audit.specs.Findings.{Audited}
+use Rattle.trace_audit.proofs.Audited.{line_of}
+use Rattle.trace_audit.proofs.auditing.audit_text.Given as goal
+
+abbrev pub invariant-loop-line : goal.invariant-loop-line
+invariant-loop-line l =
+    Audited l.map (map (line_of l.log) (take l.line-index l.line-items)) l.counters.items l.text.items l.others × (l.others ≤ l.line-index)

@@ -1,0 +1,6 @@
+pub mod MapLines
+pub mod Frames
+pub mod Auditing
+pub mod Findings
+pub mod Rows
+pub mod Steps

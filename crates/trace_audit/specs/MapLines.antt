@@ -1,0 +1,43 @@
+-- The lines of a map: what stands behind the CAN identifiers of a bus.
+use Rattle.std.specs.Prelude.{ℕ, ◌==◌, ◌&&◌, ◌||◌, Bool, if◌then◌else◌, List, length, map, Option, None, Some, option_and_then, is_some, Result, Ok}
+use Rattle.std.specs.List.{list_all, position}
+use Rattle.std.specs.Char.{is_ascii_hexdigit, to_ascii_lowercase}
+use Rattle.std.specs.Str.{bytes_eq}
+use Rattle.text_lines.specs.declared.fault.Cause.{Cause}
+use Rattle.text_lines.specs.Forms.{key_form, data_id_form, fresh_form, number_form}
+use Rattle.text_lines.specs.Readings.{Fault, ◌>>=◌, nth_word, field, with_count, read_all}
+use Rattle.trace_audit.specs.declared.map_lines.MapLine.{MapLine}
+
+-- three or eight hexadecimal digits of either case
+abbrev pub is_can : List ℕ → Bool
+is_can word = list_all is_ascii_hexdigit word && (length word == 3 || length word == 8)
+
+-- CANID: its digits in lower case, which are the same for two of them exactly where their lengths and values are
+unfoldable pub can_form : List ℕ → Option (List ℕ)
+can_form word = if is_can word then Some (map to_ascii_lowercase word) else None
+
+-- the place of the line for a CAN identifier, counted from 0
+abbrev pub place_of_can : List MapLine → List ℕ → Option ℕ
+place_of_can mapping can = position (λ l. bytes_eq l.can can) mapping
+
+-- a CAN identifier that no line before has
+unfoldable pub new_can_form : List MapLine → List ℕ → Option (List ℕ)
+new_can_form before word = option_and_then (λ can. if is_some (place_of_can before can) then None else Some can) (can_form word)
+
+-- `CANID ID KEY FRESH LEN`, where FRESH is the receiver's counter
+unfoldable pub map_line_of : List MapLine → List (List ℕ) → Result MapLine Cause
+map_line_of before words = with_count 5 words (do
+  can ← field 1 (new_can_form before (nth_word words 1))
+  id ← field 2 (data_id_form (nth_word words 2))
+  key ← field 3 (key_form (nth_word words 3))
+  counter ← field 4 (fresh_form (nth_word words 4))
+  size ← field 5 (number_form 1 60 (nth_word words 5))
+  Ok (record { can = can; id = id; key = key; counter = counter; size = size }))
+
+-- the most lines that a map has
+abbrev pub most_map_lines : ℕ
+most_map_lines = 256
+
+-- the lines of a map, or its first fault
+unfoldable pub map_of : List ℕ → Result (List MapLine) Fault
+map_of text = read_all map_line_of most_map_lines text
