@@ -5,6 +5,7 @@ use Rattle.std.specs.Result.{result_err}
 use Rattle.bus_port.specs.Fault.{Rose, last_count}
 use Rattle.bus_port.specs.Sink.{SinkState}
 use Rattle.bus_port.specs.Whole.{CameBeyond}
+use Rattle.command_edge.specs.declared.input.InputFault.TheVariants as input
 use Rattle.command_edge.specs.Input.{input_limit}
 use Rattle.command_edge.specs.Told.{AppendedWell}
 use Rattle.text_lines.specs.Readings.{Fault}
@@ -23,7 +24,7 @@ use Rattle.bus_replay.specs.Words.{AsksNothing, AsksSomething}
 use Rattle.bus_replay.specs.Texts.{usage, Prints, fault_of}
 use Rattle.bus_replay.specs.Replays.{Ran, EndsReplay}
 use Rattle.bus_replay.specs.Headline.{TellEach, EndsReplayed, ReplaysAreRuns}
-use Rattle.bus_replay.specs.Answers.{Inputs, AsksOverBus, AsksReplay, IsConfigFault, ToldTask, Over, OverReplay, EndsWith, Ends, FrontOfRow, ConfigFindsNoMemory, ScriptFindsNoMemory, DisksRefused, StoreRefused, BreaksOff, RunsShort, EndsEarly, EndsUnstarted, EndsInRun, HasDisks}
+use Rattle.bus_replay.specs.Answers.{Inputs, AsksOverBus, AsksReplay, IsConfigFault, ToldTask, Over, OverReplay, EndsWith, Ends, FrontOfRow, NoConfig, NoScript, DisksRefused, StoreRefused, BreaksOff, RunsShort, EndsEarly, EndsUnstarted, EndsInRun, HasDisks}
 use Rattle.bus_replay.proofs.Rows.{set_no_fault, set_within, within_all, read_told, same_task, set_has_bus, None_not_Some, row_done, row_usage, row_config_refused, row_refused, row_read_fault, row_no_memory, row_too_long, row_write_fault, row_below, row_writes, row_usage_only, row_read_fault_only, row_too_long_only, row_config_refused_only, row_refused_only, row_complete, row_replay_only}
 use Rattle.bus_replay.proofs.Ending.{ReplayStatus, ends_status, ends_at_0, ends_at_6, ends_at_7, ends_unstarted, early_unstarted, ends_writes, ends_complete, ends_without_room, start_text, refused_at_9, refused_at_10, leaves, DisksDo}
 
@@ -59,17 +60,17 @@ clause_disks same words i before after sink_before sink_after status (inr over) 
 -- ---- a replay over disks that tell their bytes
 
 replayed_end : (laws : ReplaysAreRuns) (bus : NamedBus) (events : List Event) (before after : List DiskState) (sink_before sink_after : SinkState) (status : ℕ)
-    → EndsReplay bus events before after sink_before sink_after status → TellEach bus before → EndsReplayed bus events before after sink_before sink_after status
-replayed_end laws bus events before after sink_before sink_after status (inl (result, ran, is)) tell =
-    inl (result, laws bus before after events sink_before sink_after result ran tell, is)
-replayed_end laws bus events before after sink_before sink_after status (inr not) tell = inr not
+    → EndsReplay bus events before after sink_before sink_after status → EndsReplayed bus events before after sink_before sink_after status
+replayed_end laws bus events before after sink_before sink_after status (inl (result, ran, is)) =
+    inl (result, ran, is, laws bus before after events sink_before sink_after result ran)
+replayed_end laws bus events before after sink_before sink_after status (inr not) = inr not
 
 pub clause_replayed : (laws : ReplaysAreRuns) (same : Type 0) (words : List (List ℕ)) (i : Inputs) (before after : List DiskState) (sink_before sink_after : SinkState) (status : ℕ)
     → Ends same words i before after sink_before sink_after status
-    → EndsWith same words i sink_before sink_after status (λ bus events. TellEach bus before → EndsReplayed bus events before after sink_before sink_after status)
+    → EndsWith same words i sink_before sink_after status (λ bus events. EndsReplayed bus events before after sink_before sink_after status)
 clause_replayed laws same words i before after sink_before sink_after status (inl told) = inl told
 clause_replayed laws same words i before after sink_before sink_after status (inr over) =
-    inr (over.0, over.1, over.2, over.3, over.4, over.5, λ tell. replayed_end laws over.0 over.4 before after sink_before sink_after status over.6 tell)
+    inr (over.0, over.1, over.2, over.3, over.4, over.5, replayed_end laws over.0 over.4 before after sink_before sink_after status over.6)
 
 -- ---- the rows
 
@@ -137,7 +138,7 @@ clause_refused_only same words i before after sink_before sink_after status task
 
 pub clause_read_fault : (same : Type 0) (words : List (List ℕ)) (i : Inputs) (before after : List DiskState) (sink_before sink_after : SinkState) (status : ℕ)
     → Ends same words i before after sink_before sink_after status → status ≡ 5
-    → AsksSomething words × (Rose i.config.faults i.config_after.faults ⊎ Rose i.script.faults i.script_after.faults) × AppendedWell sink_before sink_after (codes "read fault\n")
+    → (NoConfig words i input.ReadFault ⊎ NoScript words i input.ReadFault) × AppendedWell sink_before sink_after (codes "read fault\n")
 clause_read_fault same words i before after sink_before sink_after status (inl told) is = row_read_fault words i sink_before sink_after status told.1.0 told.1.1 told.1.2 is
 clause_read_fault same words i before after sink_before sink_after status (inr over) is =
     absurd (not_low status 5 (status_of words i before after sink_before sink_after status over) is (omega arith) (omega arith))
@@ -172,16 +173,16 @@ clause_write_fault_only same words i before after sink_before sink_after status 
 
 pub clause_no_memory : (same : Type 0) (words : List (List ℕ)) (i : Inputs) (before after : List DiskState) (sink_before sink_after : SinkState) (status : ℕ)
     → Ends same words i before after sink_before sink_after status → status ≡ 7
-    → (AppendedWell sink_before sink_after [] × (ConfigFindsNoMemory words i ⊎ ScriptFindsNoMemory words i)) ⊎ RunsShort words i before after sink_before sink_after
+    → ((NoConfig words i input.Memory ⊎ NoScript words i input.Memory) × AppendedWell sink_before sink_after []) ⊎ RunsShort words i before after sink_before sink_after
 clause_no_memory same words i before after sink_before sink_after status (inl told) is = inl (row_no_memory words i sink_before sink_after status told.1.0 told.1.1 told.1.2 is)
 clause_no_memory same words i before after sink_before sink_after status (inr over) is = elim (ends_at_7 over.0 over.4 before after sink_before sink_after status over.6 is) [
-  | inl nothing ↦ inl (nothing, inr (Replay over.0, over.1, (over.3.no_fault, (over.2, over.3.within, over.3.came))))
+  | inl nothing ↦ inl (inr (Replay over.0, over.1, (over.3.no_fault, (over.2, over.3.within, over.3.came))), nothing)
   | inr ran ↦ inr (over.0, over.1, over.2, over.3, over.4, over.5, ran)
 ]
 
 pub clause_too_long : (same : Type 0) (words : List (List ℕ)) (i : Inputs) (before after : List DiskState) (sink_before sink_after : SinkState) (status : ℕ)
     → Ends same words i before after sink_before sink_after status → status ≡ 8
-    → AsksSomething words × (CameBeyond i.config i.config_after input_limit ⊎ CameBeyond i.script i.script_after input_limit) × AppendedWell sink_before sink_after (codes "input too long\n")
+    → (NoConfig words i input.TooLong ⊎ NoScript words i input.TooLong) × AppendedWell sink_before sink_after (codes "input too long\n")
 clause_too_long same words i before after sink_before sink_after status (inl told) is = row_too_long words i sink_before sink_after status told.1.0 told.1.1 told.1.2 is
 clause_too_long same words i before after sink_before sink_after status (inr over) is = absurd ((status_of words i before after sink_before sink_after status over).1 is)
 
@@ -230,19 +231,19 @@ clause_store_refused same words i before after sink_before sink_after status (in
 
 replay_early : (laws : ReplaysAreRuns) (bus : NamedBus) (events : List Event) (before after : List DiskState) (sink_before sink_after : SinkState) (status : ℕ)
     → EndsReplay bus events before after sink_before sink_after status → (status ≡ 6) ⊎ (status ≡ 7)
-    → EndsUnstarted bus before after sink_before sink_after status ⊎ (TellEach bus before → EndsInRun bus before after events sink_before sink_after status)
+    → EndsUnstarted bus before after sink_before sink_after status ⊎ EndsInRun bus before after events sink_before sink_after status
 replay_early laws bus events before after sink_before sink_after status (inl (Ok done, ran, is)) (inl six) = absurd (let no : ⊥ = omega (arith, is, six) in no)
 replay_early laws bus events before after sink_before sink_after status (inl (Ok done, ran, is)) (inr seven) = absurd (let no : ⊥ = omega (arith, is, seven) in no)
 replay_early laws bus events before after sink_before sink_after status (inl (Err cause, ran, is)) early =
-    inr (λ tell. (cause, laws bus before after events sink_before sink_after (Err cause) ran tell, is))
+    inr (cause, ran, is, laws bus before after events sink_before sink_after (Err cause) ran)
 replay_early laws bus events before after sink_before sink_after status (inr not) early = inl (early_unstarted bus before after sink_before sink_after status not early)
 
 pub clause_early_ends : (laws : ReplaysAreRuns) (same : Type 0) (words : List (List ℕ)) (i : Inputs) (before after : List DiskState) (sink_before sink_after : SinkState) (status : ℕ)
     → Ends same words i before after sink_before sink_after status → (status ≡ 6) ⊎ (status ≡ 7) → EndsEarly same words i before after sink_before sink_after status
 clause_early_ends laws same words i before after sink_before sink_after status (inl told) (inl six) =
-    inl (told.0, inl (row_write_fault words i sink_before sink_after status told.1.0 told.1.1 told.1.2 six).1)
+    inl (told.0, inl (six, (row_write_fault words i sink_before sink_after status told.1.0 told.1.1 told.1.2 six).1))
 clause_early_ends laws same words i before after sink_before sink_after status (inl told) (inr seven) =
-    inl (told.0, inr (row_no_memory words i sink_before sink_after status told.1.0 told.1.1 told.1.2 seven).0)
+    inl (told.0, inr (seven, (row_no_memory words i sink_before sink_after status told.1.0 told.1.1 told.1.2 seven).1))
 clause_early_ends laws same words i before after sink_before sink_after status (inr over) early =
     inr (over.0, over.1, over.2, over.3, over.4, over.5, replay_early laws over.0 over.4 before after sink_before sink_after status over.6 early)
 

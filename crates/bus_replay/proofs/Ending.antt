@@ -4,20 +4,20 @@ use Rattle.std.proofs.Common.{refl, sym, ap, ◌∙◌, subst, arith, inl, inr}
 use Rattle.bus_port.specs.Fault.{Rose}
 use Rattle.bus_port.specs.Sink.{SinkState}
 use Rattle.bus_port.specs.SinkLaws.{Appended-nothing}
-use Rattle.bus_port.specs.Whole.{AppendedPart}
 use Rattle.command_edge.specs.Told.{AppendedWell}
 use Rattle.fault_count.specs.FaultCount.{last_count}
 use Rattle.cut_disk.specs.State.{DiskState, Told}
+use Rattle.cut_disk.specs.CallLaws.{runs_none, runs_more}
 use Rattle.cut_disk.specs.Calls.{IsQuiet, Runs}
 use Rattle.cell_store.specs.declared.faults.Reread.TheVariants.{DiskFailed, NotFormatted, Damaged}
 use Rattle.bus_machine.specs.declared.events.Event.{Event}
 use Rattle.bus_nodes.specs.Buses.{NamedBus}
 use Rattle.numbered_run.specs.declared.printing.Unwritten.TheVariants.{SinkFailed, Memory as NoRoom}
-use Rattle.bus_world.specs.Starts.{NotStarted, Broken, HasRoom, FindsRoom, OfNumber}
+use Rattle.bus_world.specs.Starts.{NotStarted, Broken, HasRoom, FindsRoom, OfNumber, start_calls}
 use Rattle.bus_world.specs.declared.start.StartFault.{StartFault}
 use Rattle.bus_world.specs.declared.start.StartFault.TheVariants.{TooFew, TooSmall, Store, BadSlot, BadBound, Memory}
 use Rattle.bus_replay.specs.Replays.{start_fault_text, start_fault_status, TellsStart, NotReplayed, Ran, EndsReplay}
-use Rattle.bus_replay.specs.Answers.{StoreCause, LeavesEach, EndsUnstarted}
+use Rattle.bus_replay.specs.Answers.{StoreCause, LeavesEach, RefusesStart, FrontOfStart, EndsUnstarted}
 use Rattle.bus_replay.proofs.Starting.{no_disk, no_line}
 
 -- ---- a start that is refused
@@ -61,12 +61,12 @@ loud_at bus before after fault number broken of = record {
 }
 
 pub left_of : (bus : NamedBus) (before after : List DiskState) (fault : StartFault) → Broken bus before after fault → LeavesEach bus before after
-left_of bus before after fault broken = record { count = broken.count; each = λ i l d inside. (broken.left i l d inside).1; rest = broken.rest }
+left_of bus before after fault broken = record { count = broken.count; each = broken.left; rest = broken.rest }
 
 left_same : (bus : NamedBus) (before after : List DiskState) → after ≡ before → LeavesEach bus before after
 left_same bus before after same = subst (λ (disks : List DiskState). LeavesEach bus before disks) (sym same) (record {
   count = refl;
-  each = λ i l d inside. inl refl;
+  each = λ i l d inside. (runs_more (start_calls bus.kind (get_or bus.nodes i l).config) (omega arith) (runs_none (get_or before i d)), inl refl);
   rest = refl;
 })
 
@@ -134,23 +134,27 @@ ends_at_0 bus events before after sink_before sink_after status (inr not) zero =
       start_not_0 before after status fault (inl (text, is, inr front)) zero = omega (arith, front.0, zero)
       start_not_0 before after status fault (inr seven) zero = omega (arith, seven.0, zero)
 
--- a front of the text of a start that is refused
-abbrev pub StartFront : NamedBus → List DiskState → List DiskState → SinkState → SinkState → Type 0
-StartFront bus before after sink_before sink_after =
-    (fault : StartFault) × NotStarted bus before after fault × (text : List ℕ) × (start_fault_text fault ≡ Some text) × AppendedPart sink_before sink_after text
+-- a start that has a text is refused with 9 or with 10, for a cause of it
+refuses_start : (bus : NamedBus) (before after : List DiskState) (fault : StartFault) (text : List ℕ) → NotStarted bus before after fault → start_fault_text fault ≡ Some text
+    → RefusesStart bus before after fault
+refuses_start bus before after fault text refused is = elim (text_status fault text is) [
+  | inl nine ↦ let at = refused_at_9 bus before after fault refused nine in inl (at.1, at.0)
+  | inr ten ↦ inr (refused_at_10 bus before after fault refused ten, leaves bus before after fault refused)
+]
 
 start_at_6 : (bus : NamedBus) (before after : List DiskState) (sink_before sink_after : SinkState) (status : ℕ) (fault : StartFault) → NotStarted bus before after fault
-    → TellsStart fault sink_before sink_after status → status ≡ 6 → Rose sink_before.faults sink_after.faults × StartFront bus before after sink_before sink_after
+    → TellsStart fault sink_before sink_after status → status ≡ 6 → Rose sink_before.faults sink_after.faults × FrontOfStart bus before after sink_before sink_after
 start_at_6 bus before after sink_before sink_after status fault refused (inl (text, is, inl whole)) six = absurd (elim (text_status fault text is) as (λ e. ⊥) [
   | inl nine ↦ omega (arith, whole.0, nine, six)
   | inr ten ↦ omega (arith, whole.0, ten, six)
 ])
-start_at_6 bus before after sink_before sink_after status fault refused (inl (text, is, inr front)) six = (front.1, (fault, refused, text, is, front.2))
+start_at_6 bus before after sink_before sink_after status fault refused (inl (text, is, inr front)) six =
+    (front.1, (fault, refuses_start bus before after fault text refused is, text, is, front.2))
 start_at_6 bus before after sink_before sink_after status fault refused (inr seven) six = absurd (let no : ⊥ = omega (arith, seven.0, six) in no)
 
 pub ends_at_6 : (bus : NamedBus) (events : List Event) (before after : List DiskState) (sink_before sink_after : SinkState) (status : ℕ)
     → EndsReplay bus events before after sink_before sink_after status → status ≡ 6
-    → Rose sink_before.faults sink_after.faults × (Ran bus before after events sink_before sink_after (Err SinkFailed) ⊎ StartFront bus before after sink_before sink_after)
+    → Rose sink_before.faults sink_after.faults × (Ran bus before after events sink_before sink_after (Err SinkFailed) ⊎ FrontOfStart bus before after sink_before sink_after)
 ends_at_6 bus events before after sink_before sink_after status (inl (Ok done, ran, is)) six = absurd (let no : ⊥ = omega (arith, is, six) in no)
 ends_at_6 bus events before after sink_before sink_after status (inl (Err SinkFailed, ran, is)) six = (ran.printed.holds.written.0, inl ran)
 ends_at_6 bus events before after sink_before sink_after status (inl (Err NoRoom, ran, is)) six = absurd (let no : ⊥ = omega (arith, is, six) in no)
@@ -192,18 +196,12 @@ ends_unstarted bus events before after sink_before sink_after status (inr not) m
 -- a replay that ends early, and was not started
 pub early_unstarted : (bus : NamedBus) (before after : List DiskState) (sink_before sink_after : SinkState) (status : ℕ) → NotReplayed bus before after sink_before sink_after status
     → (status ≡ 6) ⊎ (status ≡ 7) → EndsUnstarted bus before after sink_before sink_after status
-early_unstarted bus before after sink_before sink_after status not (inl six) =
-    let front = start_at_6 bus before after sink_before sink_after status not.fault not.refused not.told six in
-    record {
-      left = leaves bus before after front.1.0 front.1.1;
-      fault = front.1.0;
-      refused = front.1.1;
-      written = inl (six, front.1.2, front.1.3, front.1.4);
-    }
+early_unstarted bus before after sink_before sink_after status not (inl six) = record {
+  left = leaves bus before after not.fault not.refused;
+  written = inl (six, (start_at_6 bus before after sink_before sink_after status not.fault not.refused not.told six).1);
+}
 early_unstarted bus before after sink_before sink_after status not (inr seven) = record {
   left = leaves bus before after not.fault not.refused;
-  fault = not.fault;
-  refused = not.refused;
   written = inr (seven, start_at_7 sink_before sink_after status not.fault not.told seven);
 }
 

@@ -7,6 +7,7 @@ use Rattle.bus_port.specs.Fault.{Rose, last_count}
 use Rattle.bus_port.specs.Source.{SourceState}
 use Rattle.bus_port.specs.Sink.{SinkState}
 use Rattle.bus_port.specs.Whole.{ReadsAll, CameWithin, CameBeyond}
+use Rattle.command_edge.specs.declared.input.InputFault.TheVariants as input
 use Rattle.command_edge.specs.Input.{input_limit}
 use Rattle.command_edge.specs.Told.{AppendedWell, EndingTold}
 use Rattle.text_lines.specs.Readings.{Fault}
@@ -21,7 +22,7 @@ use Rattle.bus_replay.specs.declared.task.Task.{Task}
 use Rattle.bus_replay.specs.declared.task.Task.TheVariants.{Frame, Judge, Check, Replay}
 use Rattle.bus_replay.specs.Words.{Asks, AsksNothing, AsksSomething}
 use Rattle.bus_replay.specs.Texts.{usage, Prints, fault_of}
-use Rattle.bus_replay.specs.Answers.{Inputs, Answer, answer_status, answer_text, no_form, config_read_fault, config_too_long, config_refused, script_read_fault, script_too_long, script_refused, config_no_memory, script_no_memory, done, AsksOverBus, ReadsBus, IsConfigFault, SetsTask, Over, Comes, ConfigFindsNoMemory, ScriptFindsNoMemory, FrontOfRow, ToldTask}
+use Rattle.bus_replay.specs.Answers.{Inputs, Answer, answer_status, answer_text, no_form, config_read_fault, config_too_long, config_refused, script_read_fault, script_too_long, script_refused, config_no_memory, script_no_memory, done, AsksOverBus, ReadsBus, IsConfigFault, SetsTask, Over, Comes, NoConfig, NoScript, FrontOfRow, ToldTask}
 
 -- ---- the words
 
@@ -166,23 +167,23 @@ row_refused words i before after status answer comes (inl told) is = absurd (let
 row_refused words i before after status answer comes (inr front) is = absurd (let no : ⊥ = omega (arith, front.0, is) in no)
 
 pub row_read_fault : (words : List (List ℕ)) (i : Inputs) (before after : SinkState) (status : ℕ) (answer : Answer) → Comes words i answer → RowTold before after status answer → status ≡ 5
-    → AsksSomething words × (Rose i.config.faults i.config_after.faults ⊎ Rose i.script.faults i.script_after.faults) × AppendedWell before after (codes "read fault\n")
-row_read_fault words i before after status config_read_fault comes (inl told) is = ((comes.0.0, comes.0.1), inl comes.1.0, told.1)
-row_read_fault words i before after status script_read_fault comes (inl told) is = ((command_for comes.0, set_asks words i.config i.config_after comes.0 comes.1), inr comes.2.0, told.1)
+    → (NoConfig words i input.ReadFault ⊎ NoScript words i input.ReadFault) × AppendedWell before after (codes "read fault\n")
+row_read_fault words i before after status config_read_fault comes (inl told) is = (inl comes, told.1)
+row_read_fault words i before after status script_read_fault comes (inl told) is = (inr comes, told.1)
 row_read_fault words i before after status answer comes (inl told) is = absurd (let no : ⊥ = omega (arith, told.0, is) in no)
 row_read_fault words i before after status answer comes (inr front) is = absurd (let no : ⊥ = omega (arith, front.0, is) in no)
 
 pub row_no_memory : (words : List (List ℕ)) (i : Inputs) (before after : SinkState) (status : ℕ) (answer : Answer) → Comes words i answer → RowTold before after status answer → status ≡ 7
-    → AppendedWell before after [] × (ConfigFindsNoMemory words i ⊎ ScriptFindsNoMemory words i)
-row_no_memory words i before after status config_no_memory comes (inl told) is = (told.1, inl comes)
-row_no_memory words i before after status script_no_memory comes (inl told) is = (told.1, inr comes)
+    → (NoConfig words i input.Memory ⊎ NoScript words i input.Memory) × AppendedWell before after []
+row_no_memory words i before after status config_no_memory comes (inl told) is = (inl comes, told.1)
+row_no_memory words i before after status script_no_memory comes (inl told) is = (inr comes, told.1)
 row_no_memory words i before after status answer comes (inl told) is = absurd (let no : ⊥ = omega (arith, told.0, is) in no)
 row_no_memory words i before after status answer comes (inr front) is = absurd (let no : ⊥ = omega (arith, front.0, is) in no)
 
 pub row_too_long : (words : List (List ℕ)) (i : Inputs) (before after : SinkState) (status : ℕ) (answer : Answer) → Comes words i answer → RowTold before after status answer → status ≡ 8
-    → AsksSomething words × (CameBeyond i.config i.config_after input_limit ⊎ CameBeyond i.script i.script_after input_limit) × AppendedWell before after (codes "input too long\n")
-row_too_long words i before after status config_too_long comes (inl told) is = ((comes.0.0, comes.0.1), inl comes.1.1, told.1)
-row_too_long words i before after status script_too_long comes (inl told) is = ((command_for comes.0, set_asks words i.config i.config_after comes.0 comes.1), inr comes.2.1, told.1)
+    → (NoConfig words i input.TooLong ⊎ NoScript words i input.TooLong) × AppendedWell before after (codes "input too long\n")
+row_too_long words i before after status config_too_long comes (inl told) is = (inl comes, told.1)
+row_too_long words i before after status script_too_long comes (inl told) is = (inr comes, told.1)
 row_too_long words i before after status answer comes (inl told) is = absurd (let no : ⊥ = omega (arith, told.0, is) in no)
 row_too_long words i before after status answer comes (inr front) is = absurd (let no : ⊥ = omega (arith, front.0, is) in no)
 

@@ -6,13 +6,14 @@ use Rattle.bus_port.specs.Whole.{ReadsAll, AppendedPart}
 use Rattle.text_lines.specs.Readings.{Fault}
 use Rattle.text_lines.specs.Texts.{fault_text_of}
 use Rattle.command_edge.specs.Input.{input_limit, input_fault_text, NoInput}
+use Rattle.command_edge.specs.declared.input.InputFault.{InputFault}
 use Rattle.command_edge.specs.declared.input.InputFault.TheVariants as input
 use Rattle.command_edge.specs.Told.{EndingTold, AppendedWell}
 use Rattle.bus_config.specs.declared.fault.ConfigFault.{ConfigFault}
 use Rattle.bus_config.specs.BusFile.{bus_of}
 use Rattle.bus_config.specs.FaultTexts.{config_fault_text}
 use Rattle.cut_disk.specs.State.{DiskState, Told}
-use Rattle.cut_disk.specs.Calls.{IsQuiet}
+use Rattle.cut_disk.specs.Calls.{IsQuiet, Runs}
 use Rattle.fault_count.specs.FaultCount.{Rose as DiskRose}
 use Rattle.bus_machine.specs.declared.events.Event.{Event}
 use Rattle.bus_nodes.specs.declared.nodes.NodeLine.{NodeLine}
@@ -21,7 +22,7 @@ use Rattle.bus_script.specs.EventForms.{events_of}
 use Rattle.numbered_run.specs.declared.printing.Unwritten.{Unwritten}
 use Rattle.numbered_run.specs.declared.printing.Unwritten.TheVariants.{SinkFailed, Memory as NoRoom}
 use Rattle.cell_store.specs.declared.faults.Reread.TheVariants.{DiskFailed}
-use Rattle.bus_world.specs.Starts.{NotStarted, HasRoom, FindsRoom, OfNumber, LeftOver}
+use Rattle.bus_world.specs.Starts.{HasRoom, FindsRoom, OfNumber, LeftOver, start_calls}
 use Rattle.bus_world.specs.declared.start.StartFault.{StartFault}
 use Rattle.bus_world.specs.declared.start.StartFault.TheVariants.{Store, BadSlot, BadBound}
 use Rattle.bus_replay.specs.Replays.{EndsReplay, Ran, start_fault_text, written_status}
@@ -114,31 +115,27 @@ Over words i P =
     (task : Task) × SetsTask words i.config i.config_after task
     × (input : List ℕ) × ReadsAll i.script i.script_after input_limit input × P task input
 
--- there was no memory before a byte of the lines was asked for: while the bus file was read, or for it, or for the text of its fault
-abbrev pub ConfigFindsNoMemory : List (List ℕ) → Inputs → Type 0
-ConfigFindsNoMemory words i = AsksOverBus words × NoInput i.config i.config_after input.Memory × (i.script_after ≡ i.script)
+-- a command asked for a bus file, and there is none, for this cause; of the lines nothing was read. Want of memory is that for its text, too
+abbrev pub NoConfig : List (List ℕ) → Inputs → InputFault → Type 0
+NoConfig words i fault = AsksOverBus words × NoInput i.config i.config_after fault × (i.script_after ≡ i.script)
 
--- there was none after the task was given: while the lines were read, or for them, or for what is to be printed or started
-abbrev pub ScriptFindsNoMemory : List (List ℕ) → Inputs → Type 0
-ScriptFindsNoMemory words i = (task : Task) × SetsTask words i.config i.config_after task × NoInput i.script i.script_after input.Memory
+-- a task was given, and there are no lines, for this cause. Want of memory is that for what is to be printed or started, too
+abbrev pub NoScript : List (List ℕ) → Inputs → InputFault → Type 0
+NoScript words i fault = (task : Task) × SetsTask words i.config i.config_after task × NoInput i.script i.script_after fault
 
 -- when a row comes, by the words and by what was known of the sources before and after
 abbrev pub Comes : List (List ℕ) → Inputs → Answer → Type 0
 Comes words i no_form = AsksNothing words × (i.config_after ≡ i.config) × (i.script_after ≡ i.script)
-Comes words i config_read_fault =
-    AsksOverBus words × NoInput i.config i.config_after input.ReadFault × (i.script_after ≡ i.script)
-Comes words i config_too_long =
-    AsksOverBus words × NoInput i.config i.config_after input.TooLong × (i.script_after ≡ i.script)
+Comes words i config_read_fault = NoConfig words i input.ReadFault
+Comes words i config_too_long = NoConfig words i input.TooLong
 Comes words i (config_refused fault text) =
     AsksOverBus words × IsConfigFault i.config i.config_after fault × (config_fault_text fault ≡ Some text)
     × (i.script_after ≡ i.script)
-Comes words i script_read_fault =
-    (task : Task) × SetsTask words i.config i.config_after task × NoInput i.script i.script_after input.ReadFault
-Comes words i script_too_long =
-    (task : Task) × SetsTask words i.config i.config_after task × NoInput i.script i.script_after input.TooLong
+Comes words i script_read_fault = NoScript words i input.ReadFault
+Comes words i script_too_long = NoScript words i input.TooLong
 Comes words i (script_refused fault) = Over words i (λ task input. fault_of task input ≡ Some fault)
-Comes words i config_no_memory = ConfigFindsNoMemory words i
-Comes words i script_no_memory = ScriptFindsNoMemory words i
+Comes words i config_no_memory = NoConfig words i input.Memory
+Comes words i script_no_memory = NoScript words i input.Memory
 Comes words i (done text) = Over words i (λ task input. Prints task input text)
 
 -- a replay is asked for, over this bus, and its script was read to its end with at most 1,048,576 bytes and has these events
@@ -199,11 +196,13 @@ StoreCause bus before after (BadSlot number slot) = OfNumber bus before after nu
 StoreCause bus before after (BadBound number cell) = OfNumber bus before after number (λ old new. old.told ≡ None)
 StoreCause bus before after fault = ⊥
 
--- each disk of a node is as it was, or whatever a power cut leaves of it stands for a new node's cells, or its count rose; the others are as before
+-- no disk of a node was armed, each told what it told, and each is as it was, or whatever a power cut leaves of it stands for a new node's
+-- cells, or its count rose; the others are as before
 pub record LeavesEach (bus : NamedBus) (before after : List DiskState) : Type 0 where
   pub count : length after ≡ length before
   pub each : (i : ℕ) (l : NodeLine) (d : DiskState) → i < length bus.nodes
-      → LeftOver bus.kind bus.version (get_or bus.nodes i l).config (get_or before i d) (get_or after i d)
+      → Runs [] (start_calls bus.kind (get_or bus.nodes i l).config) (get_or before i d) (get_or after i d)
+      × LeftOver bus.kind bus.version (get_or bus.nodes i l).config (get_or before i d) (get_or after i d)
   pub rest : drop (length bus.nodes) after ≡ drop (length bus.nodes) before
 
 -- the store of a node isn't written, or what was written isn't read again
@@ -212,12 +211,22 @@ StoreRefused words i before after sink_before sink_after =
     OverReplay words i (λ bus events. LeavesEach bus before after × (fault : StartFault) × StoreCause bus before after fault
     × (text : List ℕ) × (start_fault_text fault ≡ Some text) × AppendedWell sink_before sink_after text)
 
+-- why a start is refused with 9 or with 10, and what it leaves of the disks
+abbrev pub RefusesStart : NamedBus → List DiskState → List DiskState → StartFault → Type 0
+RefusesStart bus before after fault =
+    (FindsRoom bus before fault × (after ≡ before)) ⊎ (StoreCause bus before after fault × LeavesEach bus before after)
+
+-- a proper front was written of the text of a start that is refused with 9 or with 10
+abbrev pub FrontOfStart : NamedBus → List DiskState → List DiskState → SinkState → SinkState → Type 0
+FrontOfStart bus before after sink_before sink_after =
+    (fault : StartFault) × RefusesStart bus before after fault
+    × (text : List ℕ) × (start_fault_text fault ≡ Some text) × AppendedPart sink_before sink_after text
+
 -- a replay whose sink failed: at the text of a line, or at the text of a start that is refused
 abbrev pub BreaksOff : List (List ℕ) → Inputs → List DiskState → List DiskState → SinkState → SinkState → Type 0
 BreaksOff words i before after sink_before sink_after =
     OverReplay words i (λ bus events. Ran bus before after events sink_before sink_after (Err SinkFailed)
-    ⊎ ((fault : StartFault) × NotStarted bus before after fault
-    × (text : List ℕ) × (start_fault_text fault ≡ Some text) × AppendedPart sink_before sink_after text))
+    ⊎ FrontOfStart bus before after sink_before sink_after)
 
 -- a replay that found no memory for the text of a line
 abbrev pub RunsShort : List (List ℕ) → Inputs → List DiskState → List DiskState → SinkState → SinkState → Type 0
@@ -238,21 +247,19 @@ HasDisks task before after = Unit {0}
 -- a replay ended before its first event: within the text of a start that is refused, with 6; or with nothing written, with 7
 pub record EndsUnstarted (bus : NamedBus) (before after : List DiskState) (sink_before sink_after : SinkState) (status : ℕ) : Type 0 where
   pub left : LeavesEach bus before after
-  pub fault : StartFault
-  pub refused : NotStarted bus before after fault
-  pub written : ((status ≡ 6) × (text : List ℕ) × (start_fault_text fault ≡ Some text) × AppendedPart sink_before sink_after text)
-      ⊎ ((status ≡ 7) × AppendedWell sink_before sink_after [])
+  pub written : ((status ≡ 6) × FrontOfStart bus before after sink_before sink_after) ⊎ ((status ≡ 7) × AppendedWell sink_before sink_after [])
 
--- it ended in a run of its first events, at least one, of which all holds that holds of a whole run: the texts of the lines before the
--- last are written, and of the last a proper front, with 6, or nothing, with 7
+-- it ended in the turns of its first events, at least one: the texts of the lines before the last are written, and of the last a proper
+-- front, with 6, or nothing, with 7. Over disks that tell their bytes all holds of them that holds of a whole run
 abbrev pub EndsInRun : NamedBus → List DiskState → List DiskState → List Event → SinkState → SinkState → ℕ → Type 0
 EndsInRun bus before after events sink_before sink_after status =
-    (cause : Unwritten) × Replayed bus before after events sink_before sink_after (Err cause) × (status ≡ written_status (Err cause))
+    (cause : Unwritten) × Ran bus before after events sink_before sink_after (Err cause) × (status ≡ written_status (Err cause))
+    × (TellEach bus before → Replayed bus before after events sink_before sink_after (Err cause))
 
--- how a run ends early: every disk is as before, and of a row a proper front was written, or nothing; or it is a replay of valid inputs
--- that ended before its first event, or in a run
+-- how a run ends early: every disk is as before, and a proper front of a row was written, with 6, or nothing, with 7; or it is a replay
+-- of valid inputs that ended before its first event, or in its turns
 abbrev pub EndsEarly : Type 0 → List (List ℕ) → Inputs → List DiskState → List DiskState → SinkState → SinkState → ℕ → Type 0
 EndsEarly same words i before after sink_before sink_after status =
-    (same × (FrontOfRow words i sink_before sink_after ⊎ AppendedWell sink_before sink_after []))
+    (same × (((status ≡ 6) × FrontOfRow words i sink_before sink_after) ⊎ ((status ≡ 7) × AppendedWell sink_before sink_after [])))
     ⊎ OverReplay words i (λ bus events. EndsUnstarted bus before after sink_before sink_after status
-    ⊎ (TellEach bus before → EndsInRun bus before after events sink_before sink_after status))
+    ⊎ EndsInRun bus before after events sink_before sink_after status)

@@ -130,10 +130,11 @@ pub record Replayed (bus : NamedBus) (before after : List DiskState) (events : L
   pub failures : (i : ℕ) (d : DiskState) → i < length bus.nodes → FailuresCounted i (get_or before i d) (get_or after i d) moments
   pub honest : Honest bus before events moments
 
--- how a replay over disks that tell their bytes ends: with all of this of one run, or not started
+-- how a replay ends: with turns of its first events, of which over disks that tell their bytes all of this holds, or not started
 abbrev pub EndsReplayed : NamedBus → List Event → List DiskState → List DiskState → SinkState → SinkState → ℕ → Type 0
 EndsReplayed bus events before after sink_before sink_after status =
-    ((result : Result (Unit {0}) Unwritten) × Replayed bus before after events sink_before sink_after result × (status ≡ written_status result))
+    ((result : Result (Unit {0}) Unwritten) × Ran bus before after events sink_before sink_after result × (status ≡ written_status result)
+    × (TellEach bus before → Replayed bus before after events sink_before sink_after result))
     ⊎ NotReplayed bus before after sink_before sink_after status
 
 -- what was done of a replay over disks that tell their bytes has all of this

@@ -2,8 +2,8 @@
 ghost use Rattle.std.specs.Prelude.{◌≡◌, ◌⊎◌, ℕ, ◌+◌, ◌<◌, ◌≤◌, List, [], length, map, string_bytes, codes, Some, None, Ok, Err};
 ghost use Rattle.bus_world.specs.Starts.{HasRoom};
 ghost use Rattle.bus_port.specs.Fault.{Rose, last_count};
-ghost use Rattle.bus_port.specs.Whole.{CameBeyond};
 ghost use Rattle.command_edge.specs.Input.{input_limit};
+ghost use Rattle.command_edge.specs.declared.input.InputFault.TheVariants.{ReadFault, TooLong, Memory as NoMemory};
 ghost use Rattle.command_edge.specs.Told.{AppendedWell};
 ghost use Rattle.text_lines.specs.Readings.{Fault};
 ghost use Rattle.text_lines.specs.Texts.{fault_text_of};
@@ -12,12 +12,12 @@ ghost use Rattle.bus_config.specs.BusFile.{bus_of};
 ghost use Rattle.bus_nodes.specs.Buses.{NamedBus};
 ghost use Rattle.bus_config.specs.FaultTexts.{config_fault_text};
 ghost use Rattle.bus_replay.specs.declared.task.Task.{Task};
-ghost use Rattle.bus_replay.specs.Words.{AsksNothing, AsksSomething};
+ghost use Rattle.bus_replay.specs.Words.{AsksNothing};
 ghost use Rattle.bus_replay.specs.Texts.{usage, Prints, fault_of};
-ghost use Rattle.bus_replay.specs.Answers.{inputs, AsksOverBus, AsksReplay, IsConfigFault, ToldTask, Over, OverReplay, EndsWith, Ends, FrontOfRow, ConfigFindsNoMemory, ScriptFindsNoMemory, DisksRefused, StoreRefused, BreaksOff, RunsShort, EndsEarly, HasDisks};
+ghost use Rattle.bus_replay.specs.Answers.{inputs, AsksOverBus, AsksReplay, IsConfigFault, ToldTask, Over, OverReplay, EndsWith, Ends, FrontOfRow, NoConfig, NoScript, DisksRefused, StoreRefused, BreaksOff, RunsShort, EndsEarly, HasDisks};
 ghost use Rattle.bus_replay.specs.declared.task.Task.TheVariants.{Replay as ReplayTask};
 ghost use Rattle.bus_replay.specs.Replays.{Ran};
-ghost use Rattle.bus_replay.specs.Headline.{TellEach, EndsReplayed};
+ghost use Rattle.bus_replay.specs.Headline.{EndsReplayed};
 ghost use Rattle.bus_replay.specs.Steps.{Prepares, DoesJob, IsWholeJob, HasText};
 
 use crate::job::{Job, job_of};
@@ -61,11 +61,11 @@ pub fn run<S: Source, T: Source, K: Sink, D: CutDisk>(
     ensures disks { (¬ AsksReplay (map string_bytes words.now) → disks.new ≡ disks.old)
         × ((result ≡ 2) ⊎ (result ≡ 3) ⊎ (result ≡ 4) ⊎ (result ≡ 5) ⊎ (result ≡ 8) → disks.new ≡ disks.old) }
 
-    // A replay of valid inputs over disks that tell their bytes: one run of the machine, with all that holds of it, or a start that was refused.
+    // A replay of valid inputs: turns of its first events, which over disks that tell their bytes are one run of the machine, with all
+    // that holds of it; or a start that was refused.
     ensures replayed { EndsWith (disks.new ≡ disks.old) (map string_bytes words.now) (inputs (S.state config.old) (S.state config.new) (T.state script.old) (T.state script.new))
         (K.state sink.old) (K.state sink.new) result
-        (λ bus events. TellEach bus (map D.state disks.old.items) → EndsReplayed bus events (map D.state disks.old.items) (map D.state disks.new.items)
-        (K.state sink.old) (K.state sink.new) result) }
+        (λ bus events. EndsReplayed bus events (map D.state disks.old.items) (map D.state disks.new.items) (K.state sink.old) (K.state sink.new) result) }
 
     // 0: the whole inputs were read, and the sink has exactly what the command prints of them.
     ensures done { result ≡ 0 → Over (map string_bytes words.now) (inputs (S.state config.old) (S.state config.new) (T.state script.old) (T.state script.new))
@@ -96,9 +96,9 @@ pub fn run<S: Source, T: Source, K: Sink, D: CutDisk>(
         → ¬ Rose (S.state config.old).faults (S.state config.new).faults
         → ¬ Rose (T.state script.old).faults (T.state script.new).faults → (result ≡ 4) ⊎ (result ≡ 6) ⊎ (result ≡ 7) }
 
-    // 5: exactly where a source's count of faults rose.
-    ensures read_fault { result ≡ 5 → AsksSomething (map string_bytes words.now)
-        × (Rose (S.state config.old).faults (S.state config.new).faults ⊎ Rose (T.state script.old).faults (T.state script.new).faults)
+    // 5: exactly where the count of faults rose of the source that was read: of the bus file, and then of the lines nothing was read; or of the lines.
+    ensures read_fault { result ≡ 5 → (NoConfig (map string_bytes words.now) (inputs (S.state config.old) (S.state config.new) (T.state script.old) (T.state script.new)) ReadFault
+        ⊎ NoScript (map string_bytes words.now) (inputs (S.state config.old) (S.state config.new) (T.state script.old) (T.state script.new)) ReadFault)
         × AppendedWell (K.state sink.old) (K.state sink.new) (codes "read fault\n") }
     ensures read_fault_only { (S.state config.old).faults < (S.state config.new).faults ⊎ (T.state script.old).faults < (T.state script.new).faults
         → (result ≡ 5) ⊎ (result ≡ 6) }
@@ -110,16 +110,16 @@ pub fn run<S: Source, T: Source, K: Sink, D: CutDisk>(
         ⊎ BreaksOff (map string_bytes words.now) (inputs (S.state config.old) (S.state config.new) (T.state script.old) (T.state script.new)) (map D.state disks.old.items) (map D.state disks.new.items) (K.state sink.old) (K.state sink.new)) }
     ensures write_fault_only { (K.state sink.old).faults < (K.state sink.new).faults → result ≡ 6 }
 
-    // 7: only where the words ask for a command. Nothing was written, and there was no memory before a byte of the lines was
-    // asked for, or after the task was given; or of a replay the texts of the lines before one were written.
-    ensures no_memory { result ≡ 7 → (AppendedWell (K.state sink.old) (K.state sink.new) []
-        × (ConfigFindsNoMemory (map string_bytes words.now) (inputs (S.state config.old) (S.state config.new) (T.state script.old) (T.state script.new))
-        ⊎ ScriptFindsNoMemory (map string_bytes words.now) (inputs (S.state config.old) (S.state config.new) (T.state script.old) (T.state script.new))))
+    // 7: only where the words ask for a command. There was no memory before a byte of the lines was asked for, or after the task was
+    // given, and nothing was written; or of a replay the texts of the lines before one were written.
+    ensures no_memory { result ≡ 7 → ((NoConfig (map string_bytes words.now) (inputs (S.state config.old) (S.state config.new) (T.state script.old) (T.state script.new)) NoMemory
+        ⊎ NoScript (map string_bytes words.now) (inputs (S.state config.old) (S.state config.new) (T.state script.old) (T.state script.new)) NoMemory)
+        × AppendedWell (K.state sink.old) (K.state sink.new) [])
         ⊎ RunsShort (map string_bytes words.now) (inputs (S.state config.old) (S.state config.new) (T.state script.old) (T.state script.new)) (map D.state disks.old.items) (map D.state disks.new.items) (K.state sink.old) (K.state sink.new) }
 
-    // 8: exactly where one byte more than an input may have came from a source.
-    ensures too_long { result ≡ 8 → AsksSomething (map string_bytes words.now)
-        × (CameBeyond (S.state config.old) (S.state config.new) input_limit ⊎ CameBeyond (T.state script.old) (T.state script.new) input_limit)
+    // 8: exactly where one byte more than an input may have came from a source: of the bus file, and then of the lines nothing was read; or of the lines.
+    ensures too_long { result ≡ 8 → (NoConfig (map string_bytes words.now) (inputs (S.state config.old) (S.state config.new) (T.state script.old) (T.state script.new)) TooLong
+        ⊎ NoScript (map string_bytes words.now) (inputs (S.state config.old) (S.state config.new) (T.state script.old) (T.state script.new)) TooLong)
         × AppendedWell (K.state sink.old) (K.state sink.new) (codes "input too long\n") }
     ensures config_too_long_only { (S.state config.old).taken + input_limit < last_count
         → (S.state config.old).taken + input_limit < (S.state config.new).taken → (result ≡ 8) ⊎ (result ≡ 6) }
