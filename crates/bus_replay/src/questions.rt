@@ -5,9 +5,10 @@ ghost use Rattle.text_lines.specs.Frames.{frames_of, judges_of};
 ghost use Rattle.bus_replay.specs.Texts.{TellsEach, TellsFrame, TellsJudgement};
 ghost use Rattle.bus_replay.specs.Steps.{HasPayload, IsAny, Adds, ReadsLines};
 
-use crate::lines::{push_frame, push_judgement};
+use crate::lines::{KeptSchedule, push_frame, push_judgement};
 use crate::refusal::Refusal;
 use bus_script::{FrameLine, JudgeLine, ScriptFault, read_frames, read_judges};
+use she_aes::Block;
 use std::alloc::{AllocError, Global};
 
 /// A kind of line that a command reads, each of which has an answer.
@@ -27,8 +28,8 @@ pub trait Question: Sized + Drop {
         ensures exact { Gives (questions_of input.now) result }
         ensures whole { IfOk result (λ lines. All is_whole lines.items) };
 
-    /// Adds the answer of the line, with its line feed.
-    fn push_answer(&self, text: &mut Vec<u8>) -> Result<(), AllocError>
+    /// Adds the answer of the line, with its line feed. The round keys that are kept serve a line of the same key.
+    fn push_answer(&self, text: &mut Vec<u8>, kept: &mut KeptSchedule) -> Result<(), AllocError>
         requires { is_whole self.now }
         ensures { OnOk result (Adds text.old.items text.new.items (Answers self.now)) };
 }
@@ -44,8 +45,8 @@ impl Question for FrameLine {
         read_frames(alloc, input)
     }
 
-    fn push_answer(&self, text: &mut Vec<u8>) -> Result<(), AllocError> {
-        push_frame(text, self)
+    fn push_answer(&self, text: &mut Vec<u8>, kept: &mut KeptSchedule) -> Result<(), AllocError> {
+        push_frame(text, self, kept)
     }
 }
 
@@ -60,8 +61,8 @@ impl Question for JudgeLine {
         read_judges(alloc, input)
     }
 
-    fn push_answer(&self, text: &mut Vec<u8>) -> Result<(), AllocError> {
-        push_judgement(text, self)
+    fn push_answer(&self, text: &mut Vec<u8>, kept: &mut KeptSchedule) -> Result<(), AllocError> {
+        push_judgement(text, self, kept)
     }
 }
 
@@ -82,8 +83,9 @@ pub fn answers<Q: Question>(alloc: Global, lines: &[Q]) -> Result<Vec<u8>, Alloc
     ensures { IfOk result (λ text. TellsEach Q.Answers lines.now text.items) }
 {
     let mut text = Vec::new(alloc);
+    let mut kept = KeptSchedule::of(&Block::zero());
     for line in lines {
-        line.push_answer(&mut text)?;
+        line.push_answer(&mut text, &mut kept)?;
     }
     Ok(text)
 }
