@@ -4,7 +4,6 @@ use Rattle.std.proofs.Common.{sym, ap, subst, arith, inl, inr}
 use Rattle.std.specs.Result.{result_err}
 use Rattle.bus_port.specs.Fault.{Rose, last_count}
 use Rattle.bus_port.specs.Sink.{SinkState}
-use Rattle.bus_port.specs.Whole.{CameBeyond}
 use Rattle.command_edge.specs.declared.input.InputFault.TheVariants as input
 use Rattle.command_edge.specs.Input.{input_limit}
 use Rattle.command_edge.specs.Told.{AppendedWell}
@@ -20,10 +19,10 @@ use Rattle.bus_world.specs.Starts.{HasRoom}
 use Rattle.bus_replay.specs.declared.words.Command.TheVariants as command
 use Rattle.bus_replay.specs.declared.task.Task.{Task}
 use Rattle.bus_replay.specs.declared.task.Task.TheVariants.{Replay}
-use Rattle.bus_replay.specs.Words.{AsksNothing, AsksSomething}
+use Rattle.bus_replay.specs.Words.{AsksNothing}
 use Rattle.bus_replay.specs.Texts.{usage, Prints, fault_of}
 use Rattle.bus_replay.specs.Replays.{Ran, EndsReplay}
-use Rattle.bus_replay.specs.Headline.{TellEach, EndsReplayed, ReplaysAreRuns}
+use Rattle.bus_replay.specs.Headline.{EndsReplayed, ReplaysAreRuns}
 use Rattle.bus_replay.specs.Answers.{Inputs, AsksOverBus, AsksReplay, IsConfigFault, ToldTask, Over, OverReplay, EndsWith, Ends, FrontOfRow, NoConfig, NoScript, DisksRefused, StoreRefused, BreaksOff, RunsShort, EndsEarly, EndsUnstarted, EndsInRun, HasDisks}
 use Rattle.bus_replay.proofs.Rows.{set_no_fault, set_within, within_all, read_told, same_task, set_has_bus, None_not_Some, row_done, row_usage, row_config_refused, row_refused, row_read_fault, row_no_memory, row_too_long, row_write_fault, row_below, row_writes, row_usage_only, row_read_fault_only, row_too_long_only, row_config_refused_only, row_refused_only, row_complete, row_replay_only}
 use Rattle.bus_replay.proofs.Ending.{ReplayStatus, ends_status, ends_at_0, ends_at_6, ends_at_7, ends_unstarted, early_unstarted, ends_writes, ends_complete, ends_without_room, start_text, refused_at_9, refused_at_10, leaves, DisksDo}
@@ -209,7 +208,7 @@ clause_disks_refused same words i before after sink_before sink_after status (in
     let not = ends_unstarted over.0 over.4 before after sink_before sink_after status over.6 (omega (arith, is)) in
     let text = start_text sink_before sink_after status 9 not.fault not.told is (omega arith) in
     let at = refused_at_9 over.0 before after not.fault not.refused text.0 in
-    (over.0, over.1, over.2, over.3, over.4, over.5, (at.0, not.fault, at.1, text.1.0, text.1.1, text.1.2))
+    (over.0, over.1, over.2, over.3, over.4, over.5, (not.is_bus, at.0, not.fault, at.1, text.1.0, text.1.1, text.1.2))
 
 pub clause_store_refused : (same : Type 0) (words : List (List ℕ)) (i : Inputs) (before after : List DiskState) (sink_before sink_after : SinkState) (status : ℕ)
     → Ends same words i before after sink_before sink_after status → status ≡ 10 → StoreRefused words i before after sink_before sink_after

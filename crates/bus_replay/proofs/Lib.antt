@@ -17,3 +17,4 @@ pub mod WholeRun
 pub mod Rows
 pub mod Ending
 pub mod Clauses
+pub mod Blanks

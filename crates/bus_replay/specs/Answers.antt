@@ -17,7 +17,7 @@ use Rattle.cut_disk.specs.Calls.{IsQuiet, Runs}
 use Rattle.fault_count.specs.FaultCount.{Rose as DiskRose}
 use Rattle.bus_machine.specs.declared.events.Event.{Event}
 use Rattle.bus_nodes.specs.declared.nodes.NodeLine.{NodeLine}
-use Rattle.bus_nodes.specs.Buses.{NamedBus}
+use Rattle.bus_nodes.specs.Buses.{NamedBus, IsNamedBus}
 use Rattle.bus_script.specs.EventForms.{events_of}
 use Rattle.numbered_run.specs.declared.printing.Unwritten.{Unwritten}
 use Rattle.numbered_run.specs.declared.printing.Unwritten.TheVariants.{SinkFailed, Memory as NoRoom}
@@ -182,10 +182,10 @@ ToldTask words told (Replay bus) =
 abbrev pub AsksReplay : List (List ℕ) → Type 0
 AsksReplay words = Asks words command.Replay
 
--- the disks are fewer than the nodes, or that of a node is too small, of which the first is named; every disk is as before
+-- the disks are fewer than the nodes of the bus, or that of a node is too small, of which the first is named; every disk is as before
 abbrev pub DisksRefused : List (List ℕ) → Inputs → List DiskState → List DiskState → SinkState → SinkState → Type 0
 DisksRefused words i before after sink_before sink_after =
-    OverReplay words i (λ bus events. (after ≡ before) × (fault : StartFault) × FindsRoom bus before fault
+    OverReplay words i (λ bus events. IsNamedBus bus × (after ≡ before) × (fault : StartFault) × FindsRoom bus before fault
     × (text : List ℕ) × (start_fault_text fault ≡ Some text) × AppendedWell sink_before sink_after text)
 
 -- the disk of the named node failed in the call: its count rose, and it wasn't quiet; or it doesn't tell its bytes
@@ -196,8 +196,8 @@ StoreCause bus before after (BadSlot number slot) = OfNumber bus before after nu
 StoreCause bus before after (BadBound number cell) = OfNumber bus before after number (λ old new. old.told ≡ None)
 StoreCause bus before after fault = ⊥
 
--- no disk of a node was armed, each told what it told, and each is as it was, or whatever a power cut leaves of it stands for a new node's
--- cells, or its count rose; the others are as before
+-- only calls without a mark were made of the disk of each node, so it tells its bytes where it told them, and it is as it was, or whatever a
+-- power cut leaves of it stands for a new node's cells, or its count rose; the others are as before
 pub record LeavesEach (bus : NamedBus) (before after : List DiskState) : Type 0 where
   pub count : length after ≡ length before
   pub each : (i : ℕ) (l : NodeLine) (d : DiskState) → i < length bus.nodes

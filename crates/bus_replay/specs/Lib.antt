@@ -5,3 +5,4 @@ pub mod Replays
 pub mod Headline
 pub mod Answers
 pub mod Steps
+pub mod Blank

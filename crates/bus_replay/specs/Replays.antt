@@ -52,6 +52,7 @@ TellsStart fault before after status =
 
 -- the bus wasn't started, for this cause
 pub record NotReplayed (bus : NamedBus) (before after : List DiskState) (sink_before sink_after : SinkState) (status : ℕ) : Type 0 where
+  pub is_bus : IsNamedBus bus
   pub fault : StartFault
   pub refused : NotStarted bus before after fault
   pub told : TellsStart fault sink_before sink_after status

@@ -13,7 +13,7 @@ use Rattle.text_lines.specs.declared.judges.JudgeLine.{JudgeLine}
 use Rattle.text_lines.specs.Frames.{frames_of, judges_of, most_lines}
 use Rattle.text_lines.specs.Readings.{Fault}
 use Rattle.text_lines.specs.Texts.{fault_text_of}
-use Rattle.bus_nodes.specs.Buses.{NamedBus}
+use Rattle.bus_nodes.specs.Buses.{NamedBus, IsNamedBus}
 use Rattle.bus_config.specs.declared.fault.ConfigFault.{ConfigFault}
 use Rattle.bus_config.specs.BusFile.{bus_of}
 use Rattle.bus_config.specs.FaultTexts.{config_fault_text}
@@ -74,7 +74,7 @@ abbrev pub IsWholeJob : Job → Type 0
 IsWholeJob (Frames lines) = All HasPayload lines.items
 IsWholeJob (Judgements lines) = All IsAny lines.items
 IsWholeJob (Events bus events) = All (IsScriptEvent bus.nodes) events.items
-IsWholeJob (ReplayEvents bus events) = All (IsScriptEvent bus.nodes) events.items × (length events.items ≤ most_lines)
+IsWholeJob (ReplayEvents bus events) = IsNamedBus bus × All (IsScriptEvent bus.nodes) events.items × (length events.items ≤ most_lines)
 
 -- the job has a text of its own
 abbrev pub HasText : Job → Type 0

@@ -19,10 +19,11 @@ mod task;
 mod tests;
 mod words;
 
-ghost use Rattle.std.specs.Prelude.{◌≡◌, ◌⊎◌, drop, map, string_bytes, codes, IfSome, IfNone, IsOk, None};
+ghost use Rattle.std.specs.Prelude.{◌≡◌, ◌≢◌, ◌⊎◌, ◌^◌, ◌≤◌, drop, map, string_bytes, codes, IfSome, IfNone, IfOk, IsOk, None};
 ghost use Rattle.command_edge.specs.Named.{IsFreshFile, IsFreshInput};
 ghost use Rattle.command_edge.specs.declared.opening.NamedSource.TheVariants as named;
 ghost use Rattle.bus_replay.specs.Words.{AsksNothing};
+ghost use Rattle.bus_replay.specs.Blank.{AreBlank, AreGiven};
 
 use crate::run::run;
 use crate::words::{Command, command_of, config_word, script_word};
@@ -47,6 +48,9 @@ fn main(rt: HostRuntime) -> ExitCode {
 fn start(rt: &HostRuntime, words: &[String]) -> u8
     ensures usage { result ≡ 2 → AsksNothing (drop 1 (map string_bytes words.now)) }
     ensures usage_only { AsksNothing (drop 1 (map string_bytes words.now)) → (result ≡ 2) ⊎ (result ≡ 6) }
+
+    // The disks that it makes for a replay are enough, and don't fail as the bus starts.
+    ensures starts { (result ≢ 9) × (result ≢ 10) }
 {
     let words = behind_name(words);
     let mut config = open(rt, rt.stdin(), config_word(words));
@@ -79,19 +83,23 @@ fn open<R: Files, I: Read + Drop>(rt: &R, stdin: I, word: Option<&str>) -> Named
 
 /// Eight blank disks of 65,536 bytes for `replay`, and none, without taking memory, for other words.
 fn disks_of(rt: &HostRuntime, words: &[String]) -> Result<Vec<MemDisk>, AllocError>
-    ensures { AsksNothing (map string_bytes words.now) → IsOk result }
+    ensures given { IfOk result (λ disks. AreGiven (map string_bytes words.now) disks.items) }
+    ensures usage { AsksNothing (map string_bytes words.now) → IsOk result }
 {
     match command_of(words) {
-        Some(Command::Replay) => blank_disks(rt.alloc()),
+        Some(Command::Replay) => blank_disks(rt.alloc(), 8, 65_536),
         _ => Ok(Vec::new(rt.alloc())),
     }
 }
 
-/// Eight blank disks of 65,536 bytes.
-fn blank_disks(alloc: Global) -> Result<Vec<MemDisk>, AllocError> {
-    let mut disks = Vec::with_capacity(alloc, 8)?;
-    for _ in 0..8 {
-        match MemDisk::new(alloc, 65_536) {
+/// So many blank disks of so many bytes each.
+fn blank_disks(alloc: Global, count: usize, size: usize) -> Result<Vec<MemDisk>, AllocError>
+    requires { size ≤ 2 ^ 24 }
+    ensures { IfOk result (λ disks. AreBlank count size disks.items) }
+{
+    let mut disks = Vec::new(alloc);
+    for index in 0..count {
+        match MemDisk::new(alloc, size) {
             Ok(disk) => disks.push(disk)?,
             Err(_) => return Err(AllocError),
         }

@@ -3,6 +3,7 @@ ghost use Rattle.std.specs.Prelude.{◌≡◌, ◌≤◌, ◌++◌, Some, All, I
 ghost use Rattle.std.specs.Fmt.{decimal};
 ghost use Rattle.text_lines.specs.Texts.{line};
 ghost use Rattle.text_lines.specs.Frames.{most_lines};
+ghost use Rattle.bus_nodes.specs.Buses.{IsNamedBus};
 ghost use Rattle.bus_script.specs.ScriptEvents.{IsScriptEvent};
 ghost use Rattle.bus_replay.specs.Replays.{reread_text, start_fault_text, start_fault_status as fault_status, TellsStart, written_status, EndsReplay};
 
@@ -42,11 +43,11 @@ pub fn replay<K: Sink, D: CutDisk>(
     sink: &mut K,
     disks: &mut Vec<D>,
 ) -> u8
+    requires is_bus { IsNamedBus bus.now }
     requires are_events { All (IsScriptEvent bus.now.nodes) events.now }
     requires few { length events.now ≤ most_lines }
     ensures { EndsReplay bus.now events.now (map D.state disks.old.items) (map D.state disks.new.items) (K.state sink.old) (K.state sink.new) result }
 {
-    let _nodes = bus.nodes();
     let started = World::start(alloc, bus, disks, events.len() as u32, Start::Format);
     let mut world = match started {
         Ok(world) => world,
