@@ -6,6 +6,8 @@ mod laws;
 mod opening;
 mod records;
 mod start;
+#[cfg(test)]
+mod tests;
 mod turns;
 mod world;
 
