@@ -41,7 +41,7 @@ fn main(rt: HostRuntime) -> ExitCode {
 }
 
 /// Runs the words of the command line, the program's name first, over standard output and the script that they name; without a word over
-/// the example.
+/// the example. No file is opened before the words are known to be one.
 fn start(rt: &HostRuntime, words: &[String]) -> u8
     ensures usage { result ≡ 2 → 1 < length (drop 1 (map string_bytes words.now)) }
     ensures usage_only { 1 < length (drop 1 (map string_bytes words.now)) → (result ≡ 2) ⊎ (result ≡ 6) }
@@ -50,8 +50,12 @@ fn start(rt: &HostRuntime, words: &[String]) -> u8
     let mut sink = StdSink::new(rt.stdout());
     match words {
         [] => run_example(rt.alloc(), &mut sink),
-        [file, ..] => {
+        [file] => {
             let mut script = open_named(rt, rt.stdin(), file.as_str());
+            run_pairs(rt.alloc(), words, &mut script, &mut sink)
+        }
+        _ => {
+            let mut script = CleanSource::new(Vec::new(rt.alloc()));
             run_pairs(rt.alloc(), words, &mut script, &mut sink)
         }
     }

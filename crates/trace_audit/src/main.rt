@@ -13,14 +13,18 @@ mod run;
 #[cfg(test)]
 mod tests;
 
-ghost use Rattle.std.specs.Prelude.{◌≡◌, ◌≢◌, ◌⊎◌, drop, length, map, string_bytes, IfOk};
+ghost use Rattle.std.specs.Prelude.{◌≡◌, ◌≢◌, ◌⊎◌, drop, length, map, string_bytes, codes, None, IfOk};
+ghost use Rattle.command_edge.specs.Named.{IsFreshFile, IsFreshInput};
+ghost use Rattle.command_edge.specs.declared.opening.NamedSource.TheVariants as named;
 ghost use Rattle.trace_audit.specs.Rows.{NamesInputs};
 
 use crate::run::run_audit;
-use bus_port::{CleanSource, Sink, StdSink};
-use command_edge::{NO_MEMORY, behind_name, open_named, words_of};
+use bus_port::{CleanSource, Sink, StdSink, StdSource};
+use command_edge::{NO_MEMORY, NamedSource, behind_name, open_named, words_of};
 use std::alloc::{AllocError, Global};
+use std::io::Read;
 use std::process::ExitCode;
+use std::rt::Files;
 
 /// One Data ID, behind the CAN identifier 123.
 const EXAMPLE_MAP: &[u8] = b"123 6bc1 2b7e151628aed2a6abf7158809cf4f3c e93d7e1173931729 6\n";
@@ -40,7 +44,8 @@ fn main(rt: HostRuntime) -> ExitCode {
 }
 
 /// Runs the words of the command line, the program's name first, over standard output and the files that they name; without words over
-/// the example. No file is opened before the words are known to be two.
+/// the example. No file is opened before the words are known to be two. Where both are `-`, the map comes from standard input, and the
+/// log is missing.
 fn start(rt: &HostRuntime, words: &[String]) -> u8
     ensures usage { result ≡ 2 → ¬ NamesInputs (drop 1 (map string_bytes words.now)) }
     ensures usage_only { ¬ NamesInputs (drop 1 (map string_bytes words.now)) → length (drop 1 (map string_bytes words.now)) ≢ 0
@@ -51,8 +56,8 @@ fn start(rt: &HostRuntime, words: &[String]) -> u8
     match words {
         [] => run_example(rt.alloc(), &mut sink),
         [map, log] => {
+            let mut log = open_log(rt, rt.stdin(), map.as_str(), log.as_str());
             let mut map = open_named(rt, rt.stdin(), map.as_str());
-            let mut log = open_named(rt, rt.stdin(), log.as_str());
             run_audit(rt.alloc(), words, &mut map, &mut log, &mut sink)
         }
         _ => {
@@ -61,6 +66,23 @@ fn start(rt: &HostRuntime, words: &[String]) -> u8
             run_audit(rt.alloc(), words, &mut map, &mut log, &mut sink)
         }
     }
+}
+
+/// What the log's word names, from which nothing came yet: a missing source where it is `-` and so is the map's, which has standard input.
+fn open_log<R: Files, I: Read + Drop>(
+    rt: &R,
+    stdin: I,
+    map: &str,
+    log: &str,
+) -> NamedSource<R::File, I>
+    ensures input { ¬ (map.now ≡ codes "-") → log.now ≡ codes "-" → IsFreshInput stdin result }
+    ensures file { ¬ (log.now ≡ codes "-") → IsFreshFile result }
+    ensures missing { map.now ≡ codes "-" → log.now ≡ codes "-" → result ≡ named.File (record { reader = None; taken = 0; faults = 0 }) }
+{
+    if map == "-" && log == "-" {
+        return NamedSource::File(StdSource::missing());
+    }
+    open_named(rt, stdin, log)
 }
 
 /// Runs the example.
