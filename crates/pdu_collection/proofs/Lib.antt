@@ -6,3 +6,4 @@ pub mod Phases
 pub mod Scripts
 pub mod Rising
 pub mod OneJoining
+pub mod Endings

@@ -1,5 +1,5 @@
 -- What is said of each line of a script of pairs, and printed
-use Rattle.std.specs.Prelude.{◌≡◌, ◌⊎◌, ◌<◌, ℕ, nat_le, ◌&&◌, ◌+◌, ◌==◌, if◌then◌else◌, List, [], ◌∷◌, ◌++◌, length, codes, None, Some, Bool}
+use Rattle.std.specs.Prelude.{◌≡◌, ◌⊎◌, ◌<◌, ℕ, nat_le, ◌&&◌, ◌+◌, ◌==◌, if◌then◌else◌, List, [], ◌∷◌, ◌++◌, length, codes, None, Some, Bool, AllPairs}
 use Rattle.std.specs.List.{flat_map}
 use Rattle.hex.specs.Hex.{encode_lower}
 use Rattle.secured_pdu.specs.Verdict.{Outcome, Accepted, Verdict}
@@ -106,3 +106,10 @@ TellsPairs lines text =
 abbrev pub AcceptedRise : Said → Said → Type 0
 AcceptedRise (judged (Accepted payload v)) (judged (Accepted payload' v')) = v < v'
 AcceptedRise _ _ = Unit {0}
+
+-- what is said of each line, of which the later of two that were accepted has the greater freshness; the text is that of it
+abbrev pub TellsRising : List PairLine → List ℕ → Type 0
+TellsRising lines text =
+    ((lines ≡ []) × (text ≡ []))
+    ⊎ ((head : Head) × (entries : List Entry) × (said : List Said)
+    × IsScript lines head entries × SaysEach head entries said × AllPairs AcceptedRise said × (text ≡ flat_map said_text said))

@@ -9,6 +9,7 @@ ghost use Rattle.text_lines.specs.Texts.{fault_text_of};
 ghost use Rattle.pdu_collection.specs.declared.pair_lines.PairLine.{PairLine};
 ghost use Rattle.pdu_collection.specs.PairLines.{pairs_of};
 ghost use Rattle.pdu_collection.specs.Receiving.{IsPairScript};
+ghost use Rattle.pdu_collection.specs.Answering.{TellsRising};
 ghost use Rattle.answer_rows.specs.AnswerRows.{EndsInRow, WritesRowFront};
 ghost use Rattle.pdu_collection.specs.Rows.{pairing_usage, NamesInput, OverPairs, PrintsPairs, ComesInPairing};
 ghost use Rattle.pdu_collection.specs.Steps.{PreparesPairs, ReadsPairs, DoesPairs};
@@ -38,6 +39,11 @@ pub fn run_pairs<T: Source, K: Sink>(
     // 0: the whole input was read, and the sink has exactly what is said of its lines.
     ensures done { result ≡ 0 → OverPairs (map string_bytes words.now) (T.state script.old) (T.state script.new)
         (λ read. (text : List ℕ) × PrintsPairs read text × AppendedWell (K.state sink.old) (K.state sink.new) text) }
+
+    // 0: of two lines that were accepted, the later has the greater freshness.
+    ensures rising { result ≡ 0 → OverPairs (map string_bytes words.now) (T.state script.old) (T.state script.new)
+        (λ read. (lines : List PairLine) × (pairs_of read ≡ Ok lines)
+        × (text : List ℕ) × TellsRising lines text × AppendedWell (K.state sink.old) (K.state sink.new) text) }
 
     // 2: exactly where the words are of no form, with the usage line; nothing was read.
     ensures usage { result ≡ 2 → (¬ NamesInput (map string_bytes words.now)) × ((T.state script.new) ≡ (T.state script.old))
