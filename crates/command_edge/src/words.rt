@@ -6,8 +6,8 @@ use std::alloc::{AllocError, Global};
 use std::io::ErrorKind;
 use std::rt::Env;
 
-/// The words of the command line, the program's name first. Where a word isn't text these are two empty words, which ask
-/// no program for anything.
+/// The words of the command line, the program's name first. Where a word isn't text these are four empty words, which are
+/// of no program's form.
 pub fn words_of<R: Env + AllocGlobal>(rt: &R) -> Result<Vec<String>, AllocError> {
     let alloc = rt.alloc();
     match std::env::args(rt) {
@@ -16,15 +16,18 @@ pub fn words_of<R: Env + AllocGlobal>(rt: &R) -> Result<Vec<String>, AllocError>
     }
 }
 
-/// Two empty words in the place of words of which one isn't text, or want of memory where that was the fault.
+/// Four empty words in the place of words of which one isn't text, or want of memory where that was the fault. Behind the
+/// name these are three: no command has an empty name, and a program without commands takes two words at most.
 fn words_at_fault(alloc: Global, fault: ErrorKind) -> Result<Vec<String>, AllocError>
     ensures memory { fault ≡ OutOfMemory → IsErr result }
-    ensures empty { IfOk result (λ words. map string_bytes words.items ≡ [] ∷ [] ∷ []) }
+    ensures empty { IfOk result (λ words. map string_bytes words.items ≡ [] ∷ [] ∷ [] ∷ [] ∷ []) }
 {
     if fault == ErrorKind::OutOfMemory {
         return Err(AllocError);
     }
     let mut words = Vec::new(alloc);
+    words.push(String::new(alloc))?;
+    words.push(String::new(alloc))?;
     words.push(String::new(alloc))?;
     words.push(String::new(alloc))?;
     Ok(words)
