@@ -8,7 +8,7 @@ use Rattle.cut_disk.specs.declared.Torn.{Torn}
 use Rattle.cut_disk.specs.declared.Mark.TheVariants as mark
 use Rattle.cut_disk.specs.Calls.{Rose, Runs}
 use Rattle.cell_store.specs.declared.faults.Reread.TheVariants as reread
-use Rattle.cell_store.specs.Cells.{CellsState}
+use Rattle.cell_store.specs.Cells.{CellsState, StandsNow}
 use Rattle.cut_disk.specs.CallLaws.{runs_none, runs_more}
 use Rattle.secured_pdu.specs.FrameLaws.{payload_of_secured}
 use Rattle.secured_pdu.specs.Verdict.{payload_of}
@@ -122,17 +122,17 @@ told_by_cut : (routes : List Route) (fault : CutFault) (old new : CellsState) �
 told_by_cut routes (cut_fault.Store reread.DiskFailed) old new cause = cause
 told_by_cut routes (cut_fault.Store reread.NotFormatted) old new cause = cause.faults
 told_by_cut routes (cut_fault.Store (reread.Damaged place)) old new cause = cause.faults
-told_by_cut routes (cut_fault.BadSlot slot) old new cause = tt
-told_by_cut routes (cut_fault.BadBound place) old new cause = tt
+told_by_cut routes (cut_fault.BadSlot slot) old new cause = cause.0.faults
+told_by_cut routes (cut_fault.BadBound place) old new cause = cause.0.faults
 
 -- a cut that brings the node up
 pub up_turn : (before after : NodeState) (torn : Torn) → (TellsFitting before → NodeStep before.node cuts Up after.node)
-    → after.node ≡ powered before.node.config after.node.kept → after.store.cells ≡ CellsOf before.node.config after.node.kept
+    → after.node ≡ powered before.node.config after.node.kept → after.store.cells ≡ CellsOf before.node.config after.node.kept → StandsNow after.store
     → after.store.layout ≡ before.store.layout → Runs (mark.Cut torn ∷ []) (68 + cell_count before.node) before.store.disk after.store.disk → (FitsNow before → FitsNow after)
     → after.store.disk.faults ≡ before.store.disk.faults → NodeTurn before (duty cuts (Some (mark.Cut torn))) Up after
-up_turn before after torn step up kept layout runs fits faults = record {
+up_turn before after torn step up kept stands layout runs fits faults = record {
   step = step;
-  of_cut = λ _. record { result = Ok tt; line_is = refl; up = up; kept = kept; down = tt; cause = tt };
+  of_cut = λ _. record { result = Ok tt; line_is = refl; up = up; kept = kept; stands = stands; down = tt; cause = tt };
   config = ap (λ (n : Node). n.config) up;
   layout = layout;
   runs = runs;
@@ -147,7 +147,7 @@ pub down_turn : (before after : NodeState) (torn : Torn) (f : CutFault) → (Tel
     → NodeTurn before (duty cuts (Some (mark.Cut torn))) (Refused (refusal_of_cut f)) after
 down_turn before after torn f step down cause layout runs fits = record {
   step = step;
-  of_cut = λ _. record { result = Err f; line_is = refl; up = tt; kept = tt; down = down; cause = cause };
+  of_cut = λ _. record { result = Err f; line_is = refl; up = tt; kept = tt; stands = tt; down = down; cause = cause };
   config = ap (λ (n : Node). n.config) down;
   layout = layout;
   runs = runs;

@@ -4,11 +4,12 @@ use Rattle.std.specs.Option.{option_to_list}
 use Rattle.cut_disk.specs.declared.Mark.{Mark}
 use Rattle.cut_disk.specs.declared.Mark.TheVariants as mark
 use Rattle.cut_disk.specs.Calls.{Rose, Runs}
+use Rattle.cell_store.specs.Cells.{StandsNow}
 use Rattle.bus_machine.specs.declared.events.Event.{Event}
 use Rattle.bus_machine.specs.declared.events.Event.TheVariants.{Deliver, Inject, Boot, Stop, Fail}
 use Rattle.bus_machine.specs.declared.lines.Line.{Line}
 use Rattle.bus_machine.specs.declared.lines.Line.TheVariants.{Accepted, Refused}
-use Rattle.bus_machine.specs.declared.lines.Refusal.TheVariants.{MemoryFailure, BadSlot, BadBound}
+use Rattle.bus_machine.specs.declared.lines.Refusal.TheVariants.{MemoryFailure}
 use Rattle.bus_machine.specs.Steps.{Act, cuts, NodeStep}
 use Rattle.bus_machine.specs.Bus.{World, SentLine, act_of}
 use Rattle.bus_machine.specs.Past.{mark_of, cell_count}
@@ -44,20 +45,19 @@ abbrev pub IsCertain : Option Mark → NodeState → Type 0
 IsCertain (Some (mark.Cut torn)) s = TellsFitting s
 IsCertain _ s = Unit {0}
 
--- what a cut leads to over a disk of any kind: the node is up, and its store has the cells of what it keeps; or it is down, for a cause that the disk's bytes show where they are told
+-- what a cut leads to over a disk of any kind: the node is up with what its store's cells keep, and bytes that are told stand for these; or it is down, for a cause that such bytes show
 pub record AnswersCut (before : NodeState) (line : Line) (after : NodeState) : Type 0 where
   pub result : Result (Unit {0}) CutFault
   pub line_is : line ≡ cut_line result
   pub up : OnOk result (after.node ≡ powered before.node.config after.node.kept)
   pub kept : OnOk result (after.store.cells ≡ CellsOf before.node.config after.node.kept)
+  pub stands : OnOk result (StandsNow after.store)
   pub down : OnErr result (after.node ≡ refused_up before.node)
   pub cause : IfErr result (CutCause before.node.config.routes before.store after.store)
 
--- a count of faults rose where the line tells that the disk failed; it is as it was, except where a cut finds cells that are no node's on a disk that doesn't tell its bytes
+-- a count of faults rose where the line tells that the disk failed; else it is as it was
 abbrev pub TellsFaults : Line → ℕ → ℕ → Type 0
 TellsFaults (Refused MemoryFailure) before after = Rose before after
-TellsFaults (Refused (BadSlot slot)) before after = Unit {0}
-TellsFaults (Refused (BadBound cell)) before after = Unit {0}
 TellsFaults _ before after = after ≡ before
 
 -- a boot image has 1 to 65,536 bytes, and the calls of a stop or a failure are counted from 1

@@ -3,7 +3,7 @@ use Rattle.bus_world.proofs.turns.cut.Goals as goal
 
 pub returns-in-Ok : goal.returns-in-Ok
 returns-in-Ok g c =
-    up_turn c.args.node.now c.power_cut.new.self c.args.torn c.in-Ok.ensures.step c.in-Ok.ensures.up c.in-Ok.ensures.kept
+    up_turn c.args.node.now c.power_cut.new.self c.args.torn c.in-Ok.ensures.step c.in-Ok.ensures.up c.in-Ok.ensures.kept c.in-Ok.ensures.stands
     c.power_cut.ensures.layout c.power_cut.ensures.runs c.power_cut.ensures.fits c.in-Ok.ensures.faults
 
 pub returns-in-Err : goal.returns-in-Err
