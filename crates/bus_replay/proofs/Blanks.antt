@@ -1,6 +1,6 @@
--- A replay over the disks that the program makes is started, or wants memory
+-- A replay or a trial over the disks that the program makes is started, or wants memory
 use Rattle.std.specs.Prelude.{◌≡◌, ℕ, zero, suc, ◌+◌, ◌-◌, ◌≤◌, List, [], ◌∷◌, length, map, get_or, replicate, All}
-use Rattle.std.proofs.Common.{refl, ap, subst, arith}
+use Rattle.std.proofs.Common.{refl, ap, subst, arith, inl, inr}
 use Rattle.std.proofs.lemmas.List.{length-map, length-replicate}
 use Rattle.bus_port.specs.Sink.{SinkState}
 use Rattle.cut_disk.specs.declared.mem_disk.MemDisk.{MemDisk}
@@ -92,10 +92,14 @@ finds_room count size disks bus Memory enough large are is room = room
 
 pub never_9 : (words : List (List ℕ)) (i : Inputs) (disks : List MemDisk) (after : List DiskState) (sink_before sink_after : SinkState) → AreGiven words disks
     → DisksRefused words i (states disks) after sink_before sink_after → ⊥
-never_9 words i disks after sink_before sink_after given refused =
-    finds_room 8 65536 disks refused.0 refused.6.2 (omega arith) (omega arith) (given.0 refused.1.0) refused.6.0 refused.6.3
+never_9 words i disks after sink_before sink_after given (inl over) =
+    finds_room 8 65536 disks over.0 over.6.2 (omega arith) (omega arith) (given.0 (inl over.1.0)) over.6.0 over.6.3
+never_9 words i disks after sink_before sink_after given (inr over) =
+    finds_room 8 65536 disks over.4 over.7.2 (omega arith) (omega arith) (given.0 (inr (over.0, over.1))) over.7.0 over.7.3
 
 pub never_10 : (words : List (List ℕ)) (i : Inputs) (disks : List MemDisk) (after : List DiskState) (sink_before sink_after : SinkState) → AreGiven words disks
     → StoreRefused words i (states disks) after sink_before sink_after → ⊥
-never_10 words i disks after sink_before sink_after given refused =
-    no_store_cause 65536 disks refused.0 after refused.6.1 (given.0 refused.1.0).blank refused.6.2
+never_10 words i disks after sink_before sink_after given (inl over) =
+    no_store_cause 65536 disks over.0 after over.6.1 (given.0 (inl over.1.0)).blank over.6.2
+never_10 words i disks after sink_before sink_after given (inr over) =
+    no_store_cause 65536 disks over.4 after over.7.1 (given.0 (inr (over.0, over.1))).blank over.7.2

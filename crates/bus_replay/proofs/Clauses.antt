@@ -37,12 +37,12 @@ status_of : (words : List (List ℕ)) (i : Inputs) (before after : List DiskStat
 status_of words i before after sink_before sink_after status over = ends_status over.0 over.4 before after sink_before sink_after status over.6
 
 -- a replay has none of these statuses
-not_low : (status n : ℕ) → ReplayStatus status → status ≡ n → 0 < n → n < 6 → ⊥
+pub not_low : (status n : ℕ) → ReplayStatus status → status ≡ n → 0 < n → n < 6 → ⊥
 not_low status n of is more low = omega (arith, of.0 (omega (arith, is, low)), is, more)
 
 -- ---- the disks
 
-none_of : (status : ℕ) → ReplayStatus status → (status ≡ 2) ⊎ ((status ≡ 3) ⊎ ((status ≡ 4) ⊎ ((status ≡ 5) ⊎ (status ≡ 8)))) → ⊥
+pub none_of : (status : ℕ) → ReplayStatus status → (status ≡ 2) ⊎ ((status ≡ 3) ⊎ ((status ≡ 4) ⊎ ((status ≡ 5) ⊎ (status ≡ 8)))) → ⊥
 none_of status of (inl two) = not_low status 2 of two (omega arith) (omega arith)
 none_of status of (inr (inl three)) = not_low status 3 of three (omega arith) (omega arith)
 none_of status of (inr (inr (inl four))) = not_low status 4 of four (omega arith) (omega arith)
@@ -208,7 +208,7 @@ clause_disks_refused same words i before after sink_before sink_after status (in
     let not = ends_unstarted over.0 over.4 before after sink_before sink_after status over.6 (omega (arith, is)) in
     let text = start_text sink_before sink_after status 9 not.fault not.told is (omega arith) in
     let at = refused_at_9 over.0 before after not.fault not.refused text.0 in
-    (over.0, over.1, over.2, over.3, over.4, over.5, (not.is_bus, at.0, not.fault, at.1, text.1.0, text.1.1, text.1.2))
+    inl (over.0, over.1, over.2, over.3, over.4, over.5, (not.is_bus, at.0, not.fault, at.1, text.1.0, text.1.1, text.1.2))
 
 pub clause_store_refused : (same : Type 0) (words : List (List ℕ)) (i : Inputs) (before after : List DiskState) (sink_before sink_after : SinkState) (status : ℕ)
     → Ends same words i before after sink_before sink_after status → status ≡ 10 → StoreRefused words i before after sink_before sink_after
@@ -216,7 +216,7 @@ clause_store_refused same words i before after sink_before sink_after status (in
     absurd (let no : ⊥ = omega (arith, row_below sink_before sink_after status told.1.0 told.1.2, is) in no)
 clause_store_refused same words i before after sink_before sink_after status (inr over) is =
     let not = ends_unstarted over.0 over.4 before after sink_before sink_after status over.6 (omega (arith, is)) in
-    let text = start_text sink_before sink_after status 10 not.fault not.told is (omega arith) in (
+    let text = start_text sink_before sink_after status 10 not.fault not.told is (omega arith) in inl (
       over.0,
       over.1,
       over.2,

@@ -115,24 +115,24 @@ ends_status bus events before after sink_before sink_after status (inr not) = st
 
 -- ---- one status after another
 
-nothing_more : (before after : SinkState) → after ≡ before → AppendedWell before after []
+pub nothing_more : (before after : SinkState) → after ≡ before → AppendedWell before after []
 nothing_more before after same =
     subst (λ (s : SinkState). AppendedWell before s []) (sym same) (refl, Appended-nothing before)
+
+pub start_not_0 : (before after : SinkState) (status : ℕ) (fault : StartFault) → TellsStart fault before after status → status ≡ 0 → ⊥
+start_not_0 before after status fault (inl (text, is, inl whole)) zero = elim (text_status fault text is) [
+  | inl nine ↦ omega (arith, whole.0, nine, zero)
+  | inr ten ↦ omega (arith, whole.0, ten, zero)
+]
+start_not_0 before after status fault (inl (text, is, inr front)) zero = omega (arith, front.0, zero)
+start_not_0 before after status fault (inr seven) zero = omega (arith, seven.0, zero)
 
 pub ends_at_0 : (bus : NamedBus) (events : List Event) (before after : List DiskState) (sink_before sink_after : SinkState) (status : ℕ)
     → EndsReplay bus events before after sink_before sink_after status → status ≡ 0 → Ran bus before after events sink_before sink_after (Ok tt)
 ends_at_0 bus events before after sink_before sink_after status (inl (Ok done, ran, is)) zero = ran
 ends_at_0 bus events before after sink_before sink_after status (inl (Err SinkFailed, ran, is)) zero = absurd (let no : ⊥ = omega (arith, is, zero) in no)
 ends_at_0 bus events before after sink_before sink_after status (inl (Err NoRoom, ran, is)) zero = absurd (let no : ⊥ = omega (arith, is, zero) in no)
-ends_at_0 bus events before after sink_before sink_after status (inr not) zero =
-    absurd (start_not_0 sink_before sink_after status not.fault not.told zero) where
-      start_not_0 : (before after : SinkState) (status : ℕ) (fault : StartFault) → TellsStart fault before after status → status ≡ 0 → ⊥
-      start_not_0 before after status fault (inl (text, is, inl whole)) zero = elim (text_status fault text is) [
-        | inl nine ↦ omega (arith, whole.0, nine, zero)
-        | inr ten ↦ omega (arith, whole.0, ten, zero)
-      ]
-      start_not_0 before after status fault (inl (text, is, inr front)) zero = omega (arith, front.0, zero)
-      start_not_0 before after status fault (inr seven) zero = omega (arith, seven.0, zero)
+ends_at_0 bus events before after sink_before sink_after status (inr not) zero = absurd (start_not_0 sink_before sink_after status not.fault not.told zero)
 
 -- a start that has a text is refused with 9 or with 10, for a cause of it
 refuses_start : (bus : NamedBus) (before after : List DiskState) (fault : StartFault) (text : List ℕ) → NotStarted bus before after fault → start_fault_text fault ≡ Some text
@@ -142,7 +142,7 @@ refuses_start bus before after fault text refused is = elim (text_status fault t
   | inr ten ↦ inr (refused_at_10 bus before after fault refused ten, leaves bus before after fault refused)
 ]
 
-start_at_6 : (bus : NamedBus) (before after : List DiskState) (sink_before sink_after : SinkState) (status : ℕ) (fault : StartFault) → NotStarted bus before after fault
+pub start_at_6 : (bus : NamedBus) (before after : List DiskState) (sink_before sink_after : SinkState) (status : ℕ) (fault : StartFault) → NotStarted bus before after fault
     → TellsStart fault sink_before sink_after status → status ≡ 6 → Rose sink_before.faults sink_after.faults × FrontOfStart bus before after sink_before sink_after
 start_at_6 bus before after sink_before sink_after status fault refused (inl (text, is, inl whole)) six = absurd (elim (text_status fault text is) as (λ e. ⊥) [
   | inl nine ↦ omega (arith, whole.0, nine, six)
@@ -162,7 +162,7 @@ ends_at_6 bus events before after sink_before sink_after status (inr not) six =
     let front = start_at_6 bus before after sink_before sink_after status not.fault not.refused not.told six in
     (front.0, inr front.1)
 
-start_at_7 : (before after : SinkState) (status : ℕ) (fault : StartFault) → TellsStart fault before after status → status ≡ 7 → AppendedWell before after []
+pub start_at_7 : (before after : SinkState) (status : ℕ) (fault : StartFault) → TellsStart fault before after status → status ≡ 7 → AppendedWell before after []
 start_at_7 before after status fault (inl (text, is, inl whole)) seven = absurd (elim (text_status fault text is) as (λ e. ⊥) [
   | inl nine ↦ omega (arith, whole.0, nine, seven)
   | inr ten ↦ omega (arith, whole.0, ten, seven)

@@ -2,6 +2,7 @@ pub mod Canonical
 pub mod Each
 pub mod Judged
 pub mod Phases
+pub mod Summing
 pub mod Replaying
 pub mod Starting
 pub mod OneRun
@@ -18,3 +19,8 @@ pub mod Rows
 pub mod Ending
 pub mod Clauses
 pub mod Blanks
+pub mod WholeTrial
+pub mod WordTexts
+pub mod TrialPhases
+pub mod TrialEnding
+pub mod TrialClauses

@@ -24,7 +24,7 @@ use Rattle.bus_config.specs.Answers.{IsFaultOf}
 use Rattle.bus_script.specs.EventForms.{events_of}
 use Rattle.bus_script.specs.Canon.{canon}
 use Rattle.bus_replay.specs.declared.job.Job.{Job}
-use Rattle.bus_replay.specs.declared.job.Job.TheVariants.{Frames, Judgements, Events, Replay as ReplayEvents}
+use Rattle.bus_replay.specs.declared.job.Job.TheVariants.{Frames, Judgements, Events, Replay as ReplayEvents, Trial as TrialEvents}
 use Rattle.bus_replay.specs.declared.task.Task.{Task}
 use Rattle.bus_replay.specs.declared.task.Task.TheVariants.{Frame, Judge, Check, Replay}
 use Rattle.bus_replay.specs.declared.words.Command.{Command}
@@ -37,7 +37,7 @@ use Rattle.bus_replay.specs.Answers.{Inputs, inputs, SetsTask, ReadsBus, EndsTol
 use Rattle.bus_replay.specs.Steps.{DoesJob, FindsBus, IsJobOf, JobOf, Prepares, Refuses, ReadsBusFile, TellsJob}
 
 -- a whole input that came without a fault came within the limit
-NoInput-memory : {before after : SourceState} (read : List ℕ) → ReadsAll before after input_limit read → NoInput before after input.Memory
+pub NoInput-memory : {before after : SourceState} (read : List ℕ) → ReadsAll before after input_limit read → NoInput before after input.Memory
 NoInput-memory read whole = (whole.no_fault, (read, whole.within, whole.came))
 
 -- ---- the bus file
@@ -123,7 +123,7 @@ JobOf-replay_refused bus read script.Memory (Config text) is tells = absurd tell
 -- the job of a task over the input that was read, or the refusal of one of its lines
 pub Prepares-over : (words : List (List ℕ)) (i : Inputs) (task : Task) (read : List ℕ) (result : Result Job Refusal)
     → SetsTask words i.config i.config_after task → ReadsAll i.script i.script_after input_limit read → JobOf task read result → Prepares words i result
-Prepares-over words i task read (Ok job) given whole of = (of.0, (task, given, read, whole, of.1))
+Prepares-over words i task read (Ok job) given whole of = (of.0, inl (task, given, read, whole, of.1))
 Prepares-over words i task read (Err (Script text)) given whole of =
     (script_refused of.0, (task, given, read, whole, of.1), of.2, refl)
 Prepares-over words i task read (Err Memory) given whole of = (script_no_memory, (task, given, NoInput-memory read whole), refl, refl)
@@ -140,6 +140,7 @@ no_text bus read (Frames lines) text is tells = is
 no_text bus read (Judgements lines) text is tells = is
 no_text bus read (Events over events) text is tells = is
 no_text bus read (ReplayEvents over events) text is tells = tells
+no_text bus read (TrialEvents over events) text is tells = is
 
 -- what the job of a task prints is what the task prints
 Prints-job : (task : Task) (read : List ℕ) (job : Job) (text : List ℕ) → IsJobOf task read job → TellsJob job text → Prints task read text
@@ -147,13 +148,16 @@ Prints-job Frame read (Frames lines) text is tells = (lines.items, is, tells)
 Prints-job Frame read (Judgements lines) text is tells = absurd is
 Prints-job Frame read (Events bus events) text is tells = absurd is
 Prints-job Frame read (ReplayEvents bus events) text is tells = absurd is
+Prints-job Frame read (TrialEvents bus events) text is tells = absurd is
 Prints-job Judge read (Frames lines) text is tells = absurd is
 Prints-job Judge read (Judgements lines) text is tells = (lines.items, is, tells)
 Prints-job Judge read (Events bus events) text is tells = absurd is
 Prints-job Judge read (ReplayEvents bus events) text is tells = absurd is
+Prints-job Judge read (TrialEvents bus events) text is tells = absurd is
 Prints-job (Check bus) read (Frames lines) text is tells = absurd is
 Prints-job (Check bus) read (Judgements lines) text is tells = absurd is
 Prints-job (Check bus) read (ReplayEvents over events) text is tells = absurd is
+Prints-job (Check bus) read (TrialEvents over events) text is tells = absurd is
 Prints-job (Replay bus) read job text is tells = absurd (no_text bus read job text is tells)
 Prints-job (Check bus) read (Events over events) text is tells =
     (events.items, is.1, subst (λ (b : NamedBus). text ≡ flat_map (canon b.nodes) events.items) is.0 tells)

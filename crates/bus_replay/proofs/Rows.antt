@@ -16,6 +16,9 @@ use Rattle.bus_config.specs.declared.fault.ConfigFault.{ConfigFault}
 use Rattle.bus_config.specs.BusFile.{bus_of}
 use Rattle.bus_config.specs.FaultTexts.{config_fault_text}
 use Rattle.bus_nodes.specs.Buses.{NamedBus}
+use Rattle.text_lines.specs.Forms.{number_form}
+use Rattle.bus_replay.specs.declared.trial_words.TrialWords.{TrialWords}
+use Rattle.bus_replay.specs.TrialWords.{NamesTrial}
 use Rattle.bus_replay.specs.declared.words.Command.{Command}
 use Rattle.bus_replay.specs.declared.words.Command.TheVariants as command
 use Rattle.bus_replay.specs.declared.task.Task.{Task}
@@ -26,28 +29,43 @@ use Rattle.bus_replay.specs.Answers.{Inputs, Answer, answer_status, answer_text,
 
 -- ---- the words
 
+same_number : (o : Option ℕ) (m n : ℕ) → o ≡ Some m → o ≡ Some n → m ≡ n
+same_number o m n one other = cc
+
+-- words name one trial
+one_trial : (word count seed : List ℕ) (trial again : TrialWords) → NamesTrial word count seed trial → NamesTrial word count seed again → trial ≡ again
+one_trial word count seed trial again one other =
+    let counts : trial.count ≡ again.count = same_number (number_form 1 60000 count) trial.count again.count one.is_counted other.is_counted in
+    let seeds : trial.seed ≡ again.seed = same_number (number_form 0 18446744073709551615 seed) trial.seed again.seed one.is_seeded other.is_seeded in
+    λ i. record { count = counts i; seed = seeds i }
+
 -- words ask for one command
 pub asks_one : (words : List (List ℕ)) (c d : Command) → Asks words c → Asks words d → c ≡ d
 asks_one [] command.Frame command.Frame one other = refl
 asks_one [] command.Frame command.Judge one other = absurd other
 asks_one [] command.Frame command.Check one other = absurd other
 asks_one [] command.Frame command.Replay one other = absurd other
+asks_one [] command.Frame (command.Trial trial) one other = absurd other
 asks_one [] command.Judge d one other = absurd one
 asks_one [] command.Check d one other = absurd one
 asks_one [] command.Replay d one other = absurd one
+asks_one [] (command.Trial trial) d one other = absurd one
 asks_one (word ∷ []) c d one other = absurd one
 asks_one (word ∷ file ∷ []) command.Frame command.Frame one other = refl
 asks_one (word ∷ file ∷ []) command.Frame command.Judge one other =
     absurd (let no : 102 ≡ 106 = ap (λ (l : List ℕ). get_or l 0 0) (sym one ∙ other) in omega (arith, no))
 asks_one (word ∷ file ∷ []) command.Frame command.Check one other = absurd other
 asks_one (word ∷ file ∷ []) command.Frame command.Replay one other = absurd other
+asks_one (word ∷ file ∷ []) command.Frame (command.Trial trial) one other = absurd other
 asks_one (word ∷ file ∷ []) command.Judge command.Frame one other =
     absurd (let no : 106 ≡ 102 = ap (λ (l : List ℕ). get_or l 0 0) (sym one ∙ other) in omega (arith, no))
 asks_one (word ∷ file ∷ []) command.Judge command.Judge one other = refl
 asks_one (word ∷ file ∷ []) command.Judge command.Check one other = absurd other
 asks_one (word ∷ file ∷ []) command.Judge command.Replay one other = absurd other
+asks_one (word ∷ file ∷ []) command.Judge (command.Trial trial) one other = absurd other
 asks_one (word ∷ file ∷ []) command.Check d one other = absurd one
 asks_one (word ∷ file ∷ []) command.Replay d one other = absurd one
+asks_one (word ∷ file ∷ []) (command.Trial trial) d one other = absurd one
 asks_one (word ∷ bus ∷ file ∷ []) command.Frame d one other = absurd one
 asks_one (word ∷ bus ∷ file ∷ []) command.Judge d one other = absurd one
 asks_one (word ∷ bus ∷ file ∷ []) command.Check command.Frame one other = absurd other
@@ -60,7 +78,19 @@ asks_one (word ∷ bus ∷ file ∷ []) command.Replay command.Judge one other =
 asks_one (word ∷ bus ∷ file ∷ []) command.Replay command.Check one other =
     absurd (let no : 114 ≡ 99 = ap (λ (l : List ℕ). get_or l 0 0) (sym one ∙ other) in omega (arith, no))
 asks_one (word ∷ bus ∷ file ∷ []) command.Replay command.Replay one other = refl
-asks_one (word ∷ bus ∷ file ∷ more ∷ words) c d one other = absurd one
+asks_one (word ∷ bus ∷ file ∷ []) command.Check (command.Trial trial) one other = absurd other
+asks_one (word ∷ bus ∷ file ∷ []) command.Replay (command.Trial trial) one other = absurd other
+asks_one (word ∷ bus ∷ file ∷ []) (command.Trial trial) d one other = absurd one
+asks_one (word ∷ bus ∷ count ∷ seed ∷ []) command.Frame d one other = absurd one
+asks_one (word ∷ bus ∷ count ∷ seed ∷ []) command.Judge d one other = absurd one
+asks_one (word ∷ bus ∷ count ∷ seed ∷ []) command.Check d one other = absurd one
+asks_one (word ∷ bus ∷ count ∷ seed ∷ []) command.Replay d one other = absurd one
+asks_one (word ∷ bus ∷ count ∷ seed ∷ []) (command.Trial trial) command.Frame one other = absurd other
+asks_one (word ∷ bus ∷ count ∷ seed ∷ []) (command.Trial trial) command.Judge one other = absurd other
+asks_one (word ∷ bus ∷ count ∷ seed ∷ []) (command.Trial trial) command.Check one other = absurd other
+asks_one (word ∷ bus ∷ count ∷ seed ∷ []) (command.Trial trial) command.Replay one other = absurd other
+asks_one (word ∷ bus ∷ count ∷ seed ∷ []) (command.Trial trial) (command.Trial again) one other = ap command.Trial (one_trial word count seed trial again one other)
+asks_one (word ∷ bus ∷ count ∷ seed ∷ more ∷ words) c d one other = absurd one
 
 -- the command of a task
 abbrev pub command_for : Task → Command
@@ -275,13 +305,13 @@ row_too_long_only words i before after status answer comes (inl told) more = eli
 pub read_told : (before after : SourceState) (file read : List ℕ) → before.told ≡ Some file → ReadsAll before after input_limit read → read ≡ file
 read_told before after file read told whole = (whole.whole file told).0
 
-Ok_not_Err : (r : Result NamedBus ConfigFault) (bus : NamedBus) (fault : ConfigFault) → r ≡ Ok bus → r ≡ Err fault → ⊥
+pub Ok_not_Err : (r : Result NamedBus ConfigFault) (bus : NamedBus) (fault : ConfigFault) → r ≡ Ok bus → r ≡ Err fault → ⊥
 Ok_not_Err r bus fault ok err = cc
 
 same_Ok : (r : Result NamedBus ConfigFault) (one other : NamedBus) → r ≡ Ok one → r ≡ Ok other → one ≡ other
 same_Ok r one other is also = cc
 
-no_fault_of_told : (before after : SourceState) (file read : List ℕ) (bus : NamedBus) (fault : ConfigFault) → before.told ≡ Some file → ReadsAll before after input_limit read
+pub no_fault_of_told : (before after : SourceState) (file read : List ℕ) (bus : NamedBus) (fault : ConfigFault) → before.told ≡ Some file → ReadsAll before after input_limit read
     → bus_of read ≡ Ok bus → bus_of file ≡ Err fault → ⊥
 no_fault_of_told before after file read bus fault told whole ok err =
     Ok_not_Err (bus_of file) bus fault (sym (ap bus_of (read_told before after file read told whole)) ∙ ok) err
@@ -315,12 +345,12 @@ row_config_refused_only words i before after status answer file fault comes (inr
 
 -- ---- what the bytes that were told give
 
-same_bus : (before after : SourceState) (file read : List ℕ) (one other : NamedBus) → before.told ≡ Some file → ReadsAll before after input_limit read
+pub same_bus : (before after : SourceState) (file read : List ℕ) (one other : NamedBus) → before.told ≡ Some file → ReadsAll before after input_limit read
     → bus_of read ≡ Ok one → bus_of file ≡ Ok other → one ≡ other
 same_bus before after file read one other told whole ok is =
     same_Ok (bus_of file) one other (sym (ap bus_of (read_told before after file read told whole)) ∙ ok) is
 
-apart : {A : Type 0} (words : List (List ℕ)) (c d : Command) → Asks words c → Asks words d → (c ≡ d → ⊥) → A
+pub apart : {A : Type 0} (words : List (List ℕ)) (c d : Command) → Asks words c → Asks words d → (c ≡ d → ⊥) → A
 apart words c d one other differ = absurd (differ (asks_one words c d one other))
 
 -- the task that is set is the one that was told

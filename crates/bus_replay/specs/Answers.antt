@@ -19,14 +19,19 @@ use Rattle.bus_machine.specs.declared.events.Event.{Event}
 use Rattle.bus_nodes.specs.declared.nodes.NodeLine.{NodeLine}
 use Rattle.bus_nodes.specs.Buses.{NamedBus, IsNamedBus}
 use Rattle.bus_script.specs.EventForms.{events_of}
+use Rattle.bus_script.specs.Trials.{trial_events}
 use Rattle.numbered_run.specs.declared.printing.Unwritten.{Unwritten}
 use Rattle.numbered_run.specs.declared.printing.Unwritten.TheVariants.{SinkFailed, Memory as NoRoom}
 use Rattle.cell_store.specs.declared.faults.Reread.TheVariants.{DiskFailed}
-use Rattle.bus_world.specs.Starts.{HasRoom, FindsRoom, OfNumber, LeftOver, start_calls}
+use Rattle.bus_world.specs.Starts.{NotStarted, HasRoom, FindsRoom, OfNumber, LeftOver, start_calls}
 use Rattle.bus_world.specs.declared.start.StartFault.{StartFault}
 use Rattle.bus_world.specs.declared.start.StartFault.TheVariants.{Store, BadSlot, BadBound}
 use Rattle.bus_replay.specs.Replays.{EndsReplay, Ran, start_fault_text, written_status}
 use Rattle.bus_replay.specs.Headline.{TellEach, Replayed}
+use Rattle.bus_replay.specs.declared.summary.Summary.{Summary}
+use Rattle.bus_replay.specs.Summaries.{summary_text}
+use Rattle.bus_replay.specs.TrialRuns.{RanThrough, EndsTrial, Tried}
+use Rattle.bus_replay.specs.declared.trial_words.TrialWords.{TrialWords}
 use Rattle.bus_replay.specs.declared.words.Command.{Command}
 use Rattle.bus_replay.specs.declared.words.Command.TheVariants as command
 use Rattle.bus_replay.specs.declared.task.Task.{Task}
@@ -90,6 +95,7 @@ ReadsBus command.Frame = ⊥
 ReadsBus command.Judge = ⊥
 ReadsBus command.Check = Unit {0}
 ReadsBus command.Replay = Unit {0}
+ReadsBus (command.Trial trial) = Unit {0}
 
 -- the words ask for a command that reads a bus file
 abbrev pub AsksOverBus : List (List ℕ) → Type 0
@@ -145,6 +151,14 @@ OverReplay words i P =
     × (input : List ℕ) × ReadsAll i.script i.script_after input_limit input
     × (events : List Event) × (events_of bus.nodes input ≡ Ok events) × P bus events
 
+-- a trial is asked for; the bus file was read to its end with at most 1,048,576 bytes and has this bus, and no byte of a script was asked
+-- for; these are the events that the seed gives
+abbrev pub OverTrial : List (List ℕ) → Inputs → (NamedBus → List Event → Type 0) → Type 0
+OverTrial words i P =
+    (trial : TrialWords) × Asks words (command.Trial trial)
+    × (file : List ℕ) × ReadsAll i.config i.config_after input_limit file × (bus : NamedBus) × (bus_of file ≡ Ok bus)
+    × (i.script_after ≡ i.script) × P bus (trial_events bus.nodes trial.count trial.seed)
+
 -- a row comes, and its text and status are told; where the sink fails, 6 and a proper front of that text
 abbrev pub EndsTold : List (List ℕ) → Inputs → SinkState → SinkState → ℕ → Type 0
 EndsTold words i sink_before sink_after status =
@@ -159,6 +173,16 @@ EndsWith same words i sink_before sink_after status P =
 abbrev pub Ends : Type 0 → List (List ℕ) → Inputs → List DiskState → List DiskState → SinkState → SinkState → ℕ → Type 0
 Ends same words i before after sink_before sink_after status =
     EndsWith same words i sink_before sink_after status (λ bus events. EndsReplay bus events before after sink_before sink_after status)
+
+-- how a run ends, trials too
+abbrev pub EndsInAll : Type 0 → List (List ℕ) → Inputs → List DiskState → List DiskState → SinkState → SinkState → ℕ → Type 0
+EndsInAll same words i before after sink_before sink_after status =
+    Ends same words i before after sink_before sink_after status
+    ⊎ OverTrial words i (λ bus events. EndsTrial bus events before after sink_before sink_after status)
+
+-- a replay of valid inputs, or a trial
+abbrev pub OverWorld : List (List ℕ) → Inputs → (NamedBus → List Event → Type 0) → Type 0
+OverWorld words i P = OverReplay words i P ⊎ OverTrial words i P
 
 -- a front was written of the text of a row that comes
 abbrev pub FrontOfRow : List (List ℕ) → Inputs → SinkState → SinkState → Type 0
@@ -182,10 +206,14 @@ ToldTask words told (Replay bus) =
 abbrev pub AsksReplay : List (List ℕ) → Type 0
 AsksReplay words = Asks words command.Replay
 
+-- the words ask for a replay or a trial, which alone use disks
+abbrev pub AsksWorld : List (List ℕ) → Type 0
+AsksWorld words = AsksReplay words ⊎ ((trial : TrialWords) × Asks words (command.Trial trial))
+
 -- the disks are fewer than the nodes of the bus, or that of a node is too small, of which the first is named; every disk is as before
 abbrev pub DisksRefused : List (List ℕ) → Inputs → List DiskState → List DiskState → SinkState → SinkState → Type 0
 DisksRefused words i before after sink_before sink_after =
-    OverReplay words i (λ bus events. IsNamedBus bus × (after ≡ before) × (fault : StartFault) × FindsRoom bus before fault
+    OverWorld words i (λ bus events. IsNamedBus bus × (after ≡ before) × (fault : StartFault) × FindsRoom bus before fault
     × (text : List ℕ) × (start_fault_text fault ≡ Some text) × AppendedWell sink_before sink_after text)
 
 -- the disk of the named node failed in the call: its count rose, and it wasn't quiet; or it doesn't tell its bytes
@@ -208,7 +236,7 @@ pub record LeavesEach (bus : NamedBus) (before after : List DiskState) : Type 0 
 -- the store of a node isn't written, or what was written isn't read again
 abbrev pub StoreRefused : List (List ℕ) → Inputs → List DiskState → List DiskState → SinkState → SinkState → Type 0
 StoreRefused words i before after sink_before sink_after =
-    OverReplay words i (λ bus events. LeavesEach bus before after × (fault : StartFault) × StoreCause bus before after fault
+    OverWorld words i (λ bus events. LeavesEach bus before after × (fault : StartFault) × StoreCause bus before after fault
     × (text : List ℕ) × (start_fault_text fault ≡ Some text) × AppendedWell sink_before sink_after text)
 
 -- why a start is refused with 9 or with 10, and what it leaves of the disks
@@ -233,13 +261,17 @@ abbrev pub RunsShort : List (List ℕ) → Inputs → List DiskState → List Di
 RunsShort words i before after sink_before sink_after =
     OverReplay words i (λ bus events. Ran bus before after events sink_before sink_after (Err NoRoom))
 
--- where the task is a replay, there are disks enough, of enough size, and each that the bus takes tells its bytes, and was quiet, or its count didn't rise
-abbrev pub HasDisks : Task → List DiskState → List DiskState → Type 0
-HasDisks (Replay bus) before after =
+-- there are disks enough for the bus, of enough size, and each that it takes tells its bytes, and was quiet, or its count didn't rise
+abbrev pub BusHasDisks : NamedBus → List DiskState → List DiskState → Type 0
+BusHasDisks bus before after =
     HasRoom bus before
     × ((i : ℕ) (d : DiskState) → i < length bus.nodes
     → ((told : Told) × ((get_or before i d).told ≡ Some told))
     × (IsQuiet (get_or before i d) ⊎ ¬ DiskRose (get_or before i d).faults (get_or after i d).faults))
+
+-- where the task is a replay, its bus has disks
+abbrev pub HasDisks : Task → List DiskState → List DiskState → Type 0
+HasDisks (Replay bus) before after = BusHasDisks bus before after
 HasDisks task before after = Unit {0}
 
 -- ---- early ends
@@ -263,3 +295,36 @@ EndsEarly same words i before after sink_before sink_after status =
     (same × (((status ≡ 6) × FrontOfRow words i sink_before sink_after) ⊎ ((status ≡ 7) × AppendedWell sink_before sink_after [])))
     ⊎ OverReplay words i (λ bus events. EndsUnstarted bus before after sink_before sink_after status
     ⊎ EndsInRun bus before after events sink_before sink_after status)
+
+-- ---- trials
+
+-- all events of a trial were done, and its seven lines were written
+abbrev pub TrialDone : List (List ℕ) → Inputs → List DiskState → List DiskState → SinkState → SinkState → Type 0
+TrialDone words i before after sink_before sink_after =
+    OverTrial words i (λ bus events. (summary : Summary) × RanThrough bus before after events summary × AppendedWell sink_before sink_after (summary_text summary))
+
+-- a trial whose sink failed: within its seven lines, after all events, or within the text of a start that is refused
+abbrev pub TrialBreaksOff : List (List ℕ) → Inputs → List DiskState → List DiskState → SinkState → SinkState → Type 0
+TrialBreaksOff words i before after sink_before sink_after =
+    OverTrial words i (λ bus events. ((summary : Summary) × RanThrough bus before after events summary × AppendedPart sink_before sink_after (summary_text summary))
+    ⊎ FrontOfStart bus before after sink_before sink_after)
+
+-- a trial that found no memory, and wrote nothing: for its start or for the text of a refused one, or for its seven lines, after all events
+abbrev pub TrialFindsNoMemory : List (List ℕ) → Inputs → List DiskState → List DiskState → SinkState → SinkState → Type 0
+TrialFindsNoMemory words i before after sink_before sink_after =
+    OverTrial words i (λ bus events. AppendedWell sink_before sink_after []
+    × (((fault : StartFault) × NotStarted bus before after fault) ⊎ ((summary : Summary) × RanThrough bus before after events summary)))
+
+-- how a trial ends early: before its first event; or after its last, and of the seven lines a proper front was written, with 6, or nothing,
+-- with 7. Over disks that tell their bytes all holds of its run that holds of a whole one
+abbrev pub TrialEndsEarly : List (List ℕ) → Inputs → List DiskState → List DiskState → SinkState → SinkState → ℕ → Type 0
+TrialEndsEarly words i before after sink_before sink_after status =
+    OverTrial words i (λ bus events. EndsUnstarted bus before after sink_before sink_after status
+    ⊎ ((summary : Summary) × RanThrough bus before after events summary
+    × (((status ≡ 6) × AppendedPart sink_before sink_after (summary_text summary)) ⊎ ((status ≡ 7) × AppendedWell sink_before sink_after []))
+    × (TellEach bus before → Tried bus before after events summary)))
+
+-- the words ask for a trial over the bus that the bus file's source told
+abbrev pub ToldTrial : List (List ℕ) → Option (List ℕ) → NamedBus → Type 0
+ToldTrial words told bus =
+    (trial : TrialWords) × Asks words (command.Trial trial) × (file : List ℕ) × (told ≡ Some file) × (length file ≤ input_limit) × (bus_of file ≡ Ok bus)

@@ -6,3 +6,7 @@ pub mod Headline
 pub mod Answers
 pub mod Steps
 pub mod Blank
+pub mod Summaries
+pub mod SummarySteps
+pub mod TrialWords
+pub mod TrialRuns

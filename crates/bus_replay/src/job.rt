@@ -1,13 +1,14 @@
 //! What a command is to do, once all is read.
-ghost use Rattle.std.specs.Prelude.{◌<◌, ◌^◌, length, IfOk};
-ghost use Rattle.bus_replay.specs.Steps.{JobOf};
+ghost use Rattle.std.specs.Prelude.{◌<◌, ◌≤◌, ◌^◌, length, IfOk};
+ghost use Rattle.bus_replay.specs.Steps.{JobOf, TrialJobOf};
 
 use crate::events::canonical;
 use crate::questions::{answers, questions};
 use crate::refusal::Refusal;
 use crate::task::Task;
+use crate::trial_words::TrialWords;
 use bus_nodes::BusConfig;
-use bus_script::{Event, FrameLine, JudgeLine, read_script};
+use bus_script::{Event, FrameLine, JudgeLine, Memory, make_trial, read_script};
 use std::alloc::{AllocError, Global};
 
 /// What is to be done.
@@ -21,6 +22,8 @@ pub enum Job {
     Events(BusConfig, Vec<Event>),
     /// Print the lines of the events, which are of this bus.
     Replay(BusConfig, Vec<Event>),
+    /// Print the summary of a run of the events, which are of this bus.
+    Trial(BusConfig, Vec<Event>),
 }
 
 /// The job of a task over its whole input, or the refusal of a line.
@@ -48,10 +51,21 @@ pub fn job_of(alloc: Global, task: Task, input: &[u8]) -> Result<Job, Refusal>
     }
 }
 
+/// The job of a trial: the events that the seed gives.
+pub fn trial_job(alloc: Global, bus: BusConfig, trial: TrialWords) -> Result<Job, Refusal>
+    requires { (1 ≤ trial.count) × (trial.count ≤ 60000) }
+    ensures { TrialJobOf bus trial result }
+{
+    match make_trial(alloc, &bus, trial.count, trial.seed) {
+        Ok(events) => Ok(Job::Trial(bus, events)),
+        Err(Memory) => Err(Refusal::Memory),
+    }
+}
+
 impl Job {
     ghost use Rattle.bus_replay.specs.Steps.{IsWholeJob, HasText, TellsJob};
 
-    /// The text that the job prints. A replay has no text before its events are done.
+    /// The text that the job prints. A replay and a trial have no text before their events are done.
     pub fn text(&self, alloc: Global) -> Result<Vec<u8>, AllocError>
         requires whole { IsWholeJob self.now }
         requires has_text { HasText self.now }
@@ -61,7 +75,7 @@ impl Job {
             Job::Frames(lines) => answers(alloc, lines.as_slice()),
             Job::Judgements(lines) => answers(alloc, lines.as_slice()),
             Job::Events(bus, events) => canonical(alloc, bus, events.as_slice()),
-            Job::Replay(_, _) => unreachable!(),
+            Job::Replay(_, _) | Job::Trial(_, _) => unreachable!(),
         }
     }
 }

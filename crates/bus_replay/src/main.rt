@@ -14,9 +14,16 @@ mod replay;
 #[cfg(test)]
 mod replay_tests;
 mod run;
+mod summary;
 mod task;
 #[cfg(test)]
 mod tests;
+mod trial;
+#[cfg(test)]
+mod trial_run_tests;
+#[cfg(test)]
+mod trial_tests;
+mod trial_words;
 mod words;
 
 ghost use Rattle.std.specs.Prelude.{◌≡◌, ◌≢◌, ◌⊎◌, ◌^◌, ◌≤◌, drop, map, string_bytes, codes, IfSome, IfNone, IfOk, IsOk, None};
@@ -81,13 +88,13 @@ fn open<R: Files, I: Read + Drop>(rt: &R, stdin: I, word: Option<&str>) -> Named
     }
 }
 
-/// Eight blank disks of 65,536 bytes for `replay`, and none, without taking memory, for other words.
+/// Eight blank disks of 65,536 bytes for `replay` and `trial`, and none, without taking memory, for other words.
 fn disks_of(rt: &HostRuntime, words: &[String]) -> Result<Vec<MemDisk>, AllocError>
     ensures given { IfOk result (λ disks. AreGiven (map string_bytes words.now) disks.items) }
     ensures usage { AsksNothing (map string_bytes words.now) → IsOk result }
 {
     match command_of(words) {
-        Some(Command::Replay) => blank_disks(rt.alloc(), 8, 65_536),
+        Some(Command::Replay | Command::Trial(_)) => blank_disks(rt.alloc(), 8, 65_536),
         _ => Ok(Vec::new(rt.alloc())),
     }
 }

@@ -70,7 +70,7 @@ fn status_of_run(printed: Result<(), Unwritten>) -> u8
 }
 
 /// Tells why the bus doesn't start.
-fn refuse<K: Sink>(alloc: Global, fault: &StartFault, sink: &mut K) -> u8
+pub fn refuse<K: Sink>(alloc: Global, fault: &StartFault, sink: &mut K) -> u8
     ensures { TellsStart fault.now (K.state sink.old) (K.state sink.new) result }
 {
     match fault_text(alloc, fault) {

@@ -44,7 +44,7 @@ const POWER_CUTS: [(&str, &str); 4] = [
 ];
 
 /// Disks in memory of these sizes.
-fn disks_of(alloc: Global, sizes: &[usize]) -> Result<Vec<MemDisk>, AllocError> {
+pub(crate) fn disks_of(alloc: Global, sizes: &[usize]) -> Result<Vec<MemDisk>, AllocError> {
     let mut disks = Vec::new(alloc);
     for size in sizes {
         if *size > 65_536 {

@@ -1,6 +1,6 @@
 //! What a command is to do with its lines, once the bus file is read.
 ghost use Rattle.std.specs.Prelude.{map, string_bytes};
-ghost use Rattle.bus_replay.specs.Words.{Asks};
+ghost use Rattle.bus_replay.specs.Words.{Asks, ReadsLinesCommand};
 ghost use Rattle.bus_replay.specs.Steps.{SetsOrRefuses, FindsBus, ReadsBusFile};
 
 use crate::refusal::Refusal;
@@ -24,14 +24,15 @@ pub enum Task {
     Replay(BusConfig),
 }
 
-/// The task that a command and the bus file give. A command that reads no bus file leaves the source alone.
+/// The task that a command of lines and the bus file give. A command that reads no bus file leaves the source alone.
 pub fn task_of<S: Source>(
     alloc: Global,
     words: &[String],
     command: Command,
     config: &mut S,
 ) -> Result<Task, Refusal>
-    requires { Asks (map string_bytes words.now) command }
+    requires asks { Asks (map string_bytes words.now) command }
+    requires reads { ReadsLinesCommand command }
     ensures { SetsOrRefuses (map string_bytes words.now) (S.state config.old) (S.state config.new) result }
 {
     match command {
@@ -45,11 +46,12 @@ pub fn task_of<S: Source>(
             Ok(bus) => Ok(Task::Replay(bus)),
             Err(refusal) => Err(refusal),
         },
+        Command::Trial(_) => unreachable!(),
     }
 }
 
 /// The bus of the bus file that a source gives, or its refusal.
-fn bus_from<S: Source>(alloc: Global, config: &mut S) -> Result<BusConfig, Refusal>
+pub fn bus_from<S: Source>(alloc: Global, config: &mut S) -> Result<BusConfig, Refusal>
     ensures { FindsBus (S.state config.old) (S.state config.new) result }
 {
     let input = match read_input(alloc, config) {

@@ -1,7 +1,9 @@
 //! The words of the command line.
 ghost use Rattle.std.specs.Prelude.{◌≡◌, ℕ, List, map, string_bytes, IfSome, IfNone};
-ghost use Rattle.bus_replay.specs.Words.{Asks, NamesCommand, NamesBusCommand, AsksNothing, NamesConfig, NamesScript, AreInput};
+ghost use Rattle.bus_replay.specs.Words.{Asks, NamesCommand, NamesBusCommand, NamesTrialCommand, AsksNothing, NamesConfig, NamesScript, AreInput};
 ghost use Rattle.bus_replay.specs.declared.words.Command.{Command};
+
+use crate::trial_words::{TrialWords, trial_of};
 
 /// What the words ask for.
 #[derive(Clone, Copy, Debug, PartialEq, Eq)]
@@ -14,6 +16,8 @@ pub enum Command {
     Check,
     /// `replay B F`: the lines of a script's events, over formatted disks.
     Replay,
+    /// `trial B N SEED`: the summary of a run of the events that a seed gives, over formatted disks.
+    Trial(TrialWords),
 }
 
 /// The command that the words ask for, the program's name left out. `B` and `F` may be any text.
@@ -25,6 +29,7 @@ pub fn command_of(words: &[String]) -> Option<Command>
         [] => Some(Command::Frame),
         [name, _file] => over_lines(name.as_str()),
         [name, _bus, _file] => over_a_bus(name.as_str()),
+        [name, _bus, count, seed] => over_a_seed(name.as_str(), count.as_str(), seed.as_str()),
         _ => None,
     }
 }
@@ -53,6 +58,17 @@ fn over_a_bus(name: &str) -> Option<Command>
     }
 }
 
+/// The command of this name that draws so many events from a seed.
+fn over_a_seed(name: &str, count: &str, seed: &str) -> Option<Command>
+    ensures found { IfSome result (NamesTrialCommand name.now count.now seed.now) }
+    ensures none { IfNone result ((command : Command) → ¬ NamesTrialCommand name.now count.now seed.now command) }
+{
+    match trial_of(name, count, seed) {
+        Some(trial) => Some(Command::Trial(trial)),
+        None => None,
+    }
+}
+
 /// The word that names the bus file. None where the command reads none, or the words are of no form.
 pub fn config_word(words: &[String]) -> Option<&str>
     ensures some { IfSome result (λ word. NamesConfig (map string_bytes words.now) word.now) }
@@ -60,6 +76,10 @@ pub fn config_word(words: &[String]) -> Option<&str>
 {
     match words {
         [name, bus, _file] if over_a_bus(name.as_str()).is_some() => Some(bus.as_str()),
+        [name, bus, count, seed]
+            if over_a_seed(name.as_str(), count.as_str(), seed.as_str()).is_some() => {
+            Some(bus.as_str())
+        }
         _ => None,
     }
 }

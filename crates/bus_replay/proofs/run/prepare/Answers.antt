@@ -1,20 +1,20 @@
-use Rattle.std.proofs.Common.{map, refl}
-use Rattle.std.specs.Prelude.{string_bytes}
+use Rattle.std.proofs.Common.{map, refl, subst}
+use Rattle.std.specs.Prelude.{string_bytes, IfSome}
+use Rattle.bus_replay.specs.Words.{Asks}
+use Rattle.bus_replay.specs.declared.words.Command.TheVariants as command
 use Rattle.bus_replay.specs.Answers.{no_form}
-use Rattle.bus_replay.specs.Steps.{JobOf}
-use Rattle.bus_replay.proofs.Phases.{Refuses-no_script, Prepares-over}
+use Rattle.bus_replay.proofs.TrialPhases.{trial_size}
 use Rattle.bus_replay.proofs.run.prepare.Goals as goal
 
-pub returns-in_default : goal.returns-in_default
-returns-in_default g c = (no_form, (c.in_default.ensures.none, refl, refl), refl, refl)
+pub returns-in-None : goal.returns-in-None
+returns-in-None g c = (no_form, (c.in-None.ensures.none, refl, refl), refl, refl)
 
-pub returns-in-Err-read_input : goal.returns-in-Err-read_input
-returns-in-Err-read_input g c =
-    rw c.from.ensures (Refuses-no_script (map string_bytes c.args.words.now) _ c.in-Ok.task c.in-Err-read_input.fault
-    c.in-Ok.ensures c.in-Err-read_input.ensures.refused)
+pub prepare_trial-requires : goal.prepare_trial-requires
+prepare_trial-requires g c =
+    let asks : Asks (map string_bytes c.args.words.now) (command.Trial c.in-Some-Trial.trial) = rw c.in-Some-Trial.field-0-is at c.in-Some-Trial.ensures.found in
+    trial_size (map string_bytes c.args.words.now) c.in-Some-Trial.trial asks
 
-pub returns : goal.returns
-returns g c =
-    let of : JobOf c.in-Ok.task c.in-Ok-read_input.input.items c.job_of.result = rw (← c.as_slice.ensures.value) c.job_of.ensures in
-    Prepares-over (map string_bytes c.args.words.now) _ c.in-Ok.task c.in-Ok-read_input.input.items c.job_of.result
-    c.in-Ok.ensures c.in-Ok-read_input.ensures.ok of
+pub returns-in-Some-Trial : goal.returns-in-Some-Trial
+returns-in-Some-Trial g c =
+    let asks : Asks (map string_bytes c.args.words.now) (command.Trial c.in-Some-Trial.trial) = rw c.in-Some-Trial.field-0-is at c.in-Some-Trial.ensures.found in
+    c.prepare_trial.ensures (map string_bytes c.args.words.now) _ asks

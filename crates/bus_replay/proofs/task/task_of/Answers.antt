@@ -6,8 +6,8 @@ use Rattle.bus_replay.proofs.task.task_of.Goals as goal
 
 pub returns-in-Err : goal.returns-in-Err
 returns-in-Err g c = λ script.
-    c.in-Err.ensures (map string_bytes c.args.words.now) command.Check script (subst (Asks (map string_bytes c.args.words.now)) c.in-Check.is c.requires) tt
+    c.in-Err.ensures (map string_bytes c.args.words.now) command.Check script (subst (Asks (map string_bytes c.args.words.now)) c.in-Check.is c.requires.asks) tt
 
 pub returns-in-Err-bus_from : goal.returns-in-Err-bus_from
 returns-in-Err-bus_from g c = λ script.
-    c.in-Err-bus_from.ensures (map string_bytes c.args.words.now) command.Replay script (subst (Asks (map string_bytes c.args.words.now)) c.in-Replay.is c.requires) tt
+    c.in-Err-bus_from.ensures (map string_bytes c.args.words.now) command.Replay script (subst (Asks (map string_bytes c.args.words.now)) c.in-Replay.is c.requires.asks) tt
