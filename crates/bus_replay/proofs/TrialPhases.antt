@@ -1,5 +1,5 @@
 -- The two phases of a trial, put together
-use Rattle.std.proofs.Common.{◌≡◌, ◌⊎◌, ℕ, ◌≤◌, List, [], ◌∷◌, Bool, cond, Option, None, Some, refl, inl, inr, subst, arith}
+use Rattle.std.proofs.Common.{◌≡◌, ◌⊎◌, ℕ, ◌≤◌, List, [], ◌∷◌, Bool, cond, None, Some, refl, inl, inr, subst, arith}
 use Rattle.std.specs.Prelude.{◌&&◌, nat_le, Result, Ok, Err, Vec}
 use Rattle.std.specs.Str.Parse.{digits_value}
 use Rattle.std.specs.declared.alloc.Global.{Global}
@@ -10,7 +10,6 @@ use Rattle.text_lines.specs.Forms.{is_number, number_form}
 use Rattle.bus_machine.specs.declared.events.Event.{Event}
 use Rattle.bus_nodes.specs.Buses.{NamedBus}
 use Rattle.bus_config.specs.BusFile.{bus_of}
-use Rattle.bus_script.specs.Trials.{trial_events}
 use Rattle.bus_replay.specs.declared.job.Job.{Job}
 use Rattle.bus_replay.specs.declared.job.Job.TheVariants.{Frames, Judgements, Events, Replay as ReplayEvents, Trial as TrialEvents}
 use Rattle.bus_replay.specs.declared.task.Task.{Task}

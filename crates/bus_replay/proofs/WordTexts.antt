@@ -1,5 +1,5 @@
 -- The texts of three and of four words, and what a look-up by their first says of them
-use Rattle.std.proofs.Common.{◌≡◌, ℕ, ◌<◌, Bool, true, false, List, [], ◌∷◌, Option, None, Some, length, map, get_or, String, Global, arith}
+use Rattle.std.proofs.Common.{◌≡◌, ℕ, ◌<◌, true, false, List, [], ◌∷◌, Option, None, Some, length, map, get_or, String, Global, arith}
 use Rattle.std.specs.Prelude.{string_bytes, IfSome, IfNone}
 use Rattle.std.specs.Option.{is_some}
 use Rattle.bus_replay.specs.declared.words.Command.{Command}

@@ -56,7 +56,7 @@ fn start(rt: &HostRuntime, words: &[String]) -> u8
     ensures usage { result ≡ 2 → AsksNothing (drop 1 (map string_bytes words.now)) }
     ensures usage_only { AsksNothing (drop 1 (map string_bytes words.now)) → (result ≡ 2) ⊎ (result ≡ 6) }
 
-    // The disks that it makes for a replay are enough, and don't fail as the bus starts.
+    // The disks that it makes for a replay or a trial are enough, and don't fail as the bus starts.
     ensures starts { (result ≢ 9) × (result ≢ 10) }
 {
     let words = behind_name(words);

@@ -1,5 +1,5 @@
-use Rattle.std.proofs.Common.{map, refl, subst}
-use Rattle.std.specs.Prelude.{string_bytes, IfSome}
+use Rattle.std.proofs.Common.{map, refl}
+use Rattle.std.specs.Prelude.{string_bytes}
 use Rattle.bus_replay.specs.Words.{Asks}
 use Rattle.bus_replay.specs.declared.words.Command.TheVariants as command
 use Rattle.bus_replay.specs.Answers.{no_form}
