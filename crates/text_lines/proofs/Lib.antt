@@ -9,6 +9,7 @@ pub mod Pieces
 pub mod Results
 pub mod Rows
 pub mod Sizes
+pub mod Stops
 pub mod Unplaced
 pub mod Values
 pub mod WrittenKinds

@@ -1,32 +1,17 @@
 -- The first piece of a text that is cut at separators, and what is behind it.
-use Rattle.std.proofs.Common.{◌≡◌, ℕ, ◌+◌, ◌<◌, ◌≤◌, Bool, true, false, List, [], ◌∷◌, length, slice_index, take, drop, Option, Some, None, unwrap_or, refl, sym, ◌∙◌, ap, inl, inr, arith}
+use Rattle.std.proofs.Common.{◌≡◌, ℕ, ◌+◌, ◌<◌, ◌≤◌, Bool, false, List, [], ◌∷◌, length, take, drop, refl, sym, ◌∙◌, ap, inl, inr, arith}
 use Rattle.std.specs.Prelude.{filter}
 use Rattle.std.specs.List.{position_or_len, slice_split, All}
 use Rattle.std.proofs.lemmas.Bool.{cases_lt}
 use Rattle.std.proofs.lemmas.List.{take_all, drop_all, length-take-le}
-use Rattle.std.proofs.lemmas.List.Sums.{prefix_len-le-length, fails_before_first, position_or_len_is}
+use Rattle.std.proofs.lemmas.List.Sums.{prefix_len-le-length, fails_before_first}
 use Rattle.std.proofs.lemmas.List.Splits.{slice_split_first, slice_split_none}
-use Rattle.memchr.specs.Find.{IsFirstByte}
 use Rattle.text_lines.specs.Lines.{is_blank}
 use Rattle.text_lines.specs.Places.{Piece, placed, is_word_piece, words_from}
 
 -- the first place that passes is within the list, or its length
 pub position_or_len_within : (p : ℕ → Bool) (s : List ℕ) → position_or_len p s ≤ length s
 position_or_len_within p s = prefix_len-le-length _ s
-
--- a test that isn't true
-fails : (b : Bool) → (b ≡ true → ⊥) → b ≡ false
-fails true wrong = absurd (wrong refl)
-fails false wrong = refl
-
--- the first place that passes, or the length
-pub first_or_length : (p : ℕ → Bool) (s : List ℕ) (r : Option ℕ) → IsFirstByte p s r → unwrap_or r (length s) ≡ position_or_len p s
-first_or_length p s None h =
-    sym (position_or_len_is p s (length s) 0 (omega arith) (λ k lt. fails (p (slice_index s k)) (h k (omega arith) lt)) (λ lt. absurd (omega arith)))
-first_or_length p s (Some k) h =
-    let here = h.0 in
-    let most = here.high in
-    sym (position_or_len_is p s k 0 (omega arith) (λ j lt. fails (p (slice_index s j)) (here.before j (omega arith) lt)) (λ lt. h.1))
 
 -- where no separator is left, the list is one piece
 pub placed-last : (p : ℕ → Bool) (at : ℕ) (s : List ℕ) → position_or_len p s ≡ length s

@@ -10,6 +10,10 @@ is_line_feed c = c == 10
 abbrev pub is_blank : ℕ → Bool
 is_blank c = (c == 32) || (c == 9)
 
+-- a blank or a line feed stands behind a word, where the text goes on
+abbrev pub ends_word : ℕ → Bool
+ends_word c = is_blank c || is_line_feed c
+
 -- the last byte of a line, and 0 where it has none
 abbrev pub last_byte : List ℕ → ℕ
 last_byte bytes = slice_index bytes (length bytes - 1)

@@ -12,6 +12,7 @@ pub use crate::cutting::cut;
 pub use crate::disk_forms::torn;
 use crate::fault::Memory;
 pub use crate::key_forms::{counter, engine_uid, flags, slot, uid};
+use crate::received::ReceivedBytes;
 pub use crate::span::{Cut, Span, Spans};
 use byte_lists::{Bytes, Pdu};
 use hex::{FromHex, FromHexError, decode_to_slice};
@@ -93,6 +94,20 @@ pub fn bytes(alloc: Global, word: &[u8]) -> Result<Option<Bytes>, Memory>
         [] => Ok(None),
         [b'-'] => Ok(Some(Bytes::of(Vec::new(alloc)))),
         _ => digits(alloc, word),
+    }
+}
+
+/// Bytes that arrive, of any number: two hexadecimal digits a byte, or `-` for no bytes. Up to 64 bytes ask for no memory.
+#[tactic(auto, unfolding(crate::specs::Forms::bytes_form, crate::specs::Forms::hex_bytes_form))]
+pub fn received(alloc: Global, word: &[u8]) -> Result<Option<ReceivedBytes>, Memory>
+    ensures { IfOk result (λ found. found ≡ bytes_form word.now) }
+{
+    if word.len() < 2 || word.len() > 129 {
+        return Ok(bytes(alloc, word)?.map(ReceivedBytes::of));
+    }
+    match pdu(word, 0, 64) {
+        Some(pdu) => Ok(Some(ReceivedBytes::of_pdu(alloc, pdu))),
+        None => Ok(None),
     }
 }
 

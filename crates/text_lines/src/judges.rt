@@ -7,8 +7,8 @@ ghost use Rattle.text_lines.specs.Readings.{Gives};
 use crate::fault::{LineFault, ScriptFault};
 use crate::forms;
 use crate::reader::{LineReader, MOST_LINES, expect_count, read_lines, value_at};
+use crate::received::ReceivedBytes;
 use crate::words::Words;
-use byte_lists::Bytes;
 use she_aes::Block;
 use std::alloc::Global;
 
@@ -19,7 +19,7 @@ pub struct JudgeLine {
     pub key: Block,
     pub id: u16,
     pub counter: u64,
-    pub pdu: Bytes,
+    pub pdu: ReceivedBytes,
 }
 
 /// Reads a line of `judge`.
@@ -43,7 +43,7 @@ impl LineReader for JudgeReader {
         let key = value_at(1, forms::key(words.word(1)))?;
         let id = value_at(2, forms::data_id(words.word(2)))?;
         let counter = value_at(3, forms::fresh(words.word(3)))?;
-        let pdu = value_at(4, forms::bytes(alloc, words.word(4))?)?;
+        let pdu = value_at(4, forms::received(alloc, words.word(4))?)?;
         Ok(JudgeLine {
             key,
             id,

@@ -13,6 +13,7 @@ pub mod laws;
 mod lines;
 pub mod loads;
 pub mod reader;
+pub mod received;
 pub mod span;
 #[cfg(test)]
 mod tests;

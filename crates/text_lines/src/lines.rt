@@ -1,40 +1,51 @@
 //! Where lines and words of a text begin and end. Places count its bytes from 0.
 
-ghost use Rattle.std.specs.Prelude.{◌≡◌, ◌+◌, ◌-◌, ◌<◌, ◌≤◌, ◌^◌, length, take, drop, map, OnOk};
+ghost use Rattle.std.specs.Prelude.{◌≡◌, ◌⊎◌, ◌+◌, ◌-◌, ◌<◌, ◌≤◌, ◌^◌, ◌++◌, ◌∷◌, [], true, false, length, take, drop, map, slice_index, IfOk, OnOk};
 ghost use Rattle.std.specs.List.{position_or_len};
-ghost use Rattle.text_lines.specs.Lines.{is_blank, is_line_feed, without_return, is_skipped as skipped};
-ghost use Rattle.text_lines.specs.Places.{words_from, placed_words_of};
+ghost use Rattle.text_lines.specs.Lines.{is_line_feed, ends_word, without_return, is_skipped as skipped};
+ghost use Rattle.text_lines.specs.Places.{placed_words_of};
 ghost use Rattle.text_lines.specs.Spans.{word_at, piece_at, EndWithin};
 
 use crate::fault::Memory;
 use crate::span::Span;
-use memchr::{memchr, memchr2};
+use memchr::memchr3_iter;
 
-// How many bytes stand before the first line feed, or all where there is none.
-#[tactic(auto, using(crate::proofs::Pieces::first_or_length))]
-fn until_line_feed(bytes: &[u8]) -> usize
-    ensures { result ≡ position_or_len is_line_feed bytes.now }
+// How many bytes stand before the first blank or line feed, or all where there is none.
+#[tactic(auto, using(crate::proofs::Stops::first_item_or_length, crate::proofs::Pieces::position_or_len_within))]
+fn until_stop(bytes: &[u8]) -> usize
+    ensures exact { result ≡ position_or_len ends_word bytes.now }
+    ensures within { result ≤ length bytes.now }
 {
-    memchr(b'\n', bytes).unwrap_or(bytes.len())
+    let mut stops = memchr3_iter(b' ', b'\t', b'\n', bytes);
+    stops.next().unwrap_or(bytes.len())
 }
 
-// How many bytes stand before the first blank, or all where there is none.
-#[tactic(auto, using(crate::proofs::Pieces::first_or_length))]
-fn until_blank(bytes: &[u8]) -> usize
-    ensures { result ≡ position_or_len is_blank bytes.now }
-{
-    memchr2(b' ', b'\t', bytes).unwrap_or(bytes.len())
-}
-
-/// The end of the line that begins at `at`: the next line feed, or the end of the text.
-#[tactic(auto, using(crate::proofs::Pieces::position_or_len_within))]
-pub fn line_end(text: &[u8], at: usize) -> usize
-    requires { at ≤ length text.now }
-    ensures exact { result ≡ at + position_or_len is_line_feed (drop at text.now) }
-    ensures behind { at ≤ result }
+// The end of the word that begins at `start`: the next blank or line feed, or the end of the text. Words are short: the iterator over 32
+// bytes compares them once, where a search of a longer text begins with wider runs.
+fn word_end(text: &[u8], start: usize) -> usize
+    requires { start ≤ length text.now }
+    ensures exact { result ≡ start + position_or_len ends_word (drop start text.now) }
+    ensures behind { start ≤ result }
     ensures inside { result ≤ length text.now }
 {
-    at + until_line_feed(&text[at..])
+    let mut at = start;
+    while at < text.len() {
+        let end = text.len().min(at + 32);
+        let stop = at + until_stop(&text[at..end]);
+        if stop < end {
+            return stop;
+        }
+        at = end;
+    }
+    at
+}
+
+// Whether a line ends at this place: by a line feed, or with the text.
+fn is_line_end(text: &[u8], at: usize) -> bool
+    ensures yes { result ≡ true → (length text.now ≤ at) ⊎ (is_line_feed (slice_index text.now at) ≡ true) }
+    ensures no { result ≡ false → (at < length text.now) × (is_line_feed (slice_index text.now at) ≡ false) }
+{
+    at >= text.len() || text[at] == b'\n'
 }
 
 // The end of a line without the carriage return right before it.
@@ -52,50 +63,42 @@ fn content_end(text: &[u8], at: usize, end: usize) -> usize
     }
 }
 
-// The end of the word that begins at `at`: the next blank, or the end of the line.
-#[tactic(auto, using(crate::proofs::Pieces::position_or_len_within))]
-fn word_end(text: &[u8], at: usize, end: usize) -> usize
-    requires ordered { at ≤ end }
-    requires within { end ≤ length text.now }
-    ensures exact { result ≡ at + position_or_len is_blank (take (end - at) (drop at text.now)) }
-    ensures behind { at ≤ result }
-    ensures inside { result ≤ end }
+// Adds the word between two places, if any byte stands there.
+fn put_word(spans: &mut Vec<Span>, at: usize, stop: usize) -> Result<(), Memory>
+    requires { stop < 2 ^ 32 }
+    ensures word { OnOk result (at < stop → spans.new.items ≡ spans.old.items ++ record { at = at; len = stop - at } ∷ []) }
+    ensures none { OnOk result (stop ≤ at → spans.new.items ≡ spans.old.items) }
 {
-    at + until_blank(&text[at..end])
-}
-
-// The words between two places, in place of what was in `spans`.
-fn put_words(spans: &mut Vec<Span>, text: &[u8], start: usize, end: usize) -> Result<(), Memory>
-    requires ordered { start ≤ end }
-    requires within { end ≤ length text.now }
-    requires short { length text.now < 2 ^ 32 }
-    ensures exact { OnOk result (map (piece_at text.now) spans.new.items ≡ words_from start (take (end - start) (drop start text.now))) }
-    ensures inside { OnOk result (EndWithin (length text.now) spans.new.items) }
-{
-    spans.clear();
-    let mut at = start;
-    while at < end {
-        let stop = word_end(text, at, end);
-        if at < stop {
-            spans.push(Span {
-                at: at as u32,
-                len: (stop - at) as u32,
-            })?;
-        }
-        at = stop + 1;
+    if at < stop {
+        spans.push(Span {
+            at: at as u32,
+            len: (stop - at) as u32,
+        })?;
     }
     Ok(())
 }
 
-/// The words of the line between two places, in place of what was in `spans`. Without memory nothing is said of `spans`.
-pub fn put_line(spans: &mut Vec<Span>, text: &[u8], at: usize, end: usize) -> Result<(), Memory>
-    requires ordered { at ≤ end }
-    requires within { end ≤ length text.now }
+/// The words of the line that begins at `start`, in place of what was in `spans`; the end of the line is given, which is the next line feed
+/// or the end of the text. Without memory nothing is said of `spans`.
+pub fn put_line(spans: &mut Vec<Span>, text: &[u8], start: usize) -> Result<usize, Memory>
+    requires within { start ≤ length text.now }
     requires short { length text.now < 2 ^ 32 }
-    ensures exact { OnOk result (map (piece_at text.now) spans.new.items ≡ placed_words_of (record { at = at; bytes = take (end - at) (drop at text.now) })) }
+    ensures end { IfOk result (λ end. end ≡ start + position_or_len is_line_feed (drop start text.now)) }
+    ensures behind { IfOk result (λ end. start ≤ end) }
+    ensures within { IfOk result (λ end. end ≤ length text.now) }
+    ensures exact { IfOk result (λ end. map (piece_at text.now) spans.new.items ≡ placed_words_of (record { at = start; bytes = take (end - start) (drop start text.now) })) }
     ensures inside { OnOk result (EndWithin (length text.now) spans.new.items) }
 {
-    put_words(spans, text, at, content_end(text, at, end))
+    spans.clear();
+    let mut at = start;
+    let mut stop = word_end(text, at);
+    'words: while !is_line_end(text, stop) {
+        put_word(spans, at, stop)?;
+        at = stop + 1;
+        stop = word_end(text, at);
+    }
+    put_word(spans, at, content_end(text, start, stop))?;
+    Ok(stop)
 }
 
 /// Whether a line with these words is skipped.

@@ -65,8 +65,7 @@ pub fn read_lines<R: LineReader>(
     let mut number = 1usize;
     let mut at = 0;
     while at < text.len() {
-        let end = lines::line_end(text, at);
-        lines::put_line(&mut spans, text, at, end)?;
+        let end = lines::put_line(&mut spans, text, at)?;
         if !lines::is_skipped(text, &spans) {
             read_line(
                 alloc,

@@ -12,27 +12,17 @@ use secured_pdu::Judgement;
 use std::alloc::AllocError;
 
 /// Adds the digits of bytes, two a byte.
+#[tactic(auto, using(crate::proofs::Digits::written_behind))]
 pub fn push_digits(text: &mut Vec<u8>, bytes: &[u8]) -> Result<(), AllocError>
     ensures { OnOk result (text.new.items ≡ text.old.items ++ encode_lower bytes.now) }
 {
-    let mut at = 0;
-    while at < bytes.len() {
-        let end = bytes.len().min(at + 64);
-        push_few_digits(text, &bytes[at..end])?;
-        at = end;
-    }
+    let before = text.len();
+    let Some(after) = before.checked_add(2 * bytes.len()) else {
+        return Err(AllocError);
+    };
+    text.resize(after, 0)?;
+    encode_to_slice(bytes, &mut text[before..]).unwrap();
     Ok(())
-}
-
-// Adds the digits of at most 64 bytes.
-fn push_few_digits(text: &mut Vec<u8>, bytes: &[u8]) -> Result<(), AllocError>
-    requires { length bytes.now ≤ 64 }
-    ensures { OnOk result (text.new.items ≡ text.old.items ++ encode_lower bytes.now) }
-{
-    let mut room = [0; 128];
-    let digits = &mut room[..2 * bytes.len()];
-    encode_to_slice(bytes, digits).unwrap();
-    text.extend_from_slice(digits)
 }
 
 /// Adds a line of these bytes, with the line feed behind it.

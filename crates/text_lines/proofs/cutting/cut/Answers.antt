@@ -19,31 +19,30 @@ loop-at-init c = record {
 pub loop-at-preserved : goal.loop-at-preserved
 loop-at-preserved c =
     let text = c.args.text.now in
-    let end = c.line_end-end.result in
+    let end = c.in_ok-found.end in
     let so_far = c.loop-at.invariant in
-    let found = c.in_ok-cut.ensures in
-    let room = c.line_end-end.ensures in
-    elim c.match-branch-2.branch [
+    let found = c.in_ok-found.ensures in
+    elim c.match-found.branch [
       | in-Some+in_ok-push w ↦
-          let one : option_to_list c.in_ok-cut.field-0 ≡ w.in-Some.cut ∷ [] = ap option_to_list w.in-Some.is in
-          let items : c.match-branch-2.cuts.items ≡ c.loop-at.cuts.items ++ w.in-Some.cut ∷ [] = cc w.in_ok-push.ensures.items in
-          let pushed : c.match-branch-2.cuts.items ≡ c.loop-at.cuts.items ++ option_to_list c.in_ok-cut.field-0 = items ∙ ap (λ (l : List Cut). c.loop-at.cuts.items ++ l) (sym one) in
+          let one : option_to_list c.in_ok-found.found ≡ w.in-Some.cut ∷ [] = ap option_to_list w.in-Some.is in
+          let items : c.match-found.cuts.items ≡ c.loop-at.cuts.items ++ w.in-Some.cut ∷ [] = cc w.in_ok-push.ensures.items in
+          let pushed : c.match-found.cuts.items ≡ c.loop-at.cuts.items ++ option_to_list c.in_ok-found.found = items ∙ ap (λ (l : List Cut). c.loop-at.cuts.items ++ l) (sym one) in
           record {
-            whole = cut_step text c.loop-at.number c.loop-at.at end _ _ _ _ room.exact found.exact pushed so_far.whole;
+            whole = cut_step text c.loop-at.number c.loop-at.at end _ _ _ _ found.end found.exact pushed so_far.whole;
             within = rw items (All-push (λ (cut : Cut). EndWithin (length text) cut.words) _ _ so_far.within (rw w.in-Some.is at found.inside));
-            numbered = omega arith;
-            inside = omega arith;
+            numbered = omega (arith, found.behind);
+            inside = omega (arith, found.within);
             short = so_far.short;
           }
       | in_default w ↦
-          let none : option_to_list c.in_ok-cut.field-0 ≡ [] = ap option_to_list w.in_default.is in
-          let items : c.match-branch-2.cuts.items ≡ c.loop-at.cuts.items = cc in
-          let pushed : c.match-branch-2.cuts.items ≡ c.loop-at.cuts.items ++ option_to_list c.in_ok-cut.field-0 = items ∙ sym (append-nil c.loop-at.cuts.items) ∙ ap (λ (l : List Cut). c.loop-at.cuts.items ++ l) (sym none) in
+          let none : option_to_list c.in_ok-found.found ≡ [] = ap option_to_list w.in_default.is in
+          let items : c.match-found.cuts.items ≡ c.loop-at.cuts.items = cc in
+          let pushed : c.match-found.cuts.items ≡ c.loop-at.cuts.items ++ option_to_list c.in_ok-found.found = items ∙ sym (append-nil c.loop-at.cuts.items) ∙ ap (λ (l : List Cut). c.loop-at.cuts.items ++ l) (sym none) in
           record {
-            whole = cut_step text c.loop-at.number c.loop-at.at end _ _ _ _ room.exact found.exact pushed so_far.whole;
+            whole = cut_step text c.loop-at.number c.loop-at.at end _ _ _ _ found.end found.exact pushed so_far.whole;
             within = rw items so_far.within;
-            numbered = omega arith;
-            inside = omega arith;
+            numbered = omega (arith, found.behind);
+            inside = omega (arith, found.within);
             short = so_far.short;
           }
     ]
