@@ -4,7 +4,6 @@ use Rattle.std.proofs.Common.{refl, sym, ap, ◌∙◌, subst, arith, inl, inr}
 use Rattle.bus_port.specs.Fault.{Rose, last_count}
 use Rattle.bus_port.specs.Source.{SourceState}
 use Rattle.bus_port.specs.Sink.{SinkState}
-use Rattle.bus_port.specs.Whole.{ReadsAll, CameBeyond}
 use Rattle.command_edge.specs.Input.{input_limit}
 use Rattle.command_edge.specs.declared.input.InputFault.TheVariants as input
 use Rattle.command_edge.specs.Told.{AppendedWell}
@@ -22,12 +21,12 @@ use Rattle.bus_replay.specs.declared.words.Command.TheVariants as command
 use Rattle.bus_replay.specs.declared.task.Task.{Task}
 use Rattle.bus_replay.specs.declared.task.Task.TheVariants.{Frame, Judge, Check, Replay}
 use Rattle.bus_replay.specs.declared.trial_words.TrialWords.{TrialWords}
-use Rattle.bus_replay.specs.Words.{Asks, AsksNothing, AsksSomething}
+use Rattle.bus_replay.specs.Words.{Asks, AsksNothing}
 use Rattle.bus_replay.specs.Texts.{usage, Prints, fault_of}
-use Rattle.bus_replay.specs.Replays.{Ran, EndsReplay}
-use Rattle.bus_replay.specs.Headline.{TellEach, EndsReplayed, ReplaysAreRuns}
+use Rattle.bus_replay.specs.Replays.{Ran}
+use Rattle.bus_replay.specs.Headline.{EndsReplayed, ReplaysAreRuns}
 use Rattle.bus_replay.specs.TrialRuns.{EndsTrial, EndsTried, TrialsAreRuns}
-use Rattle.bus_replay.specs.Answers.{Inputs, Answer, answer_status, no_form, config_read_fault, config_too_long, config_refused, script_read_fault, script_too_long, script_refused, config_no_memory, script_no_memory, done, SetsTask, Comes, AsksOverBus, AsksReplay, AsksWorld, IsConfigFault, ToldTask, Over, OverReplay, OverTrial, EndsWith, Ends, EndsInAll, FrontOfRow, NoConfig, NoScript, DisksRefused, StoreRefused, BreaksOff, RunsShort, EndsEarly, HasDisks, BusHasDisks, TrialDone, TrialBreaksOff, TrialFindsNoMemory, TrialEndsEarly, ToldTrial}
+use Rattle.bus_replay.specs.Answers.{Inputs, Answer, answer_status, no_form, config_read_fault, config_too_long, config_refused, script_read_fault, script_too_long, script_refused, config_no_memory, script_no_memory, done, Comes, AsksOverBus, AsksWorld, IsConfigFault, ToldTask, Over, OverReplay, OverTrial, EndsWith, EndsInAll, FrontOfRow, NoConfig, NoScript, DisksRefused, StoreRefused, BreaksOff, RunsShort, EndsEarly, HasDisks, BusHasDisks, TrialDone, TrialBreaksOff, TrialFindsNoMemory, TrialEndsEarly, ToldTrial}
 use Rattle.bus_replay.proofs.Rows.{command_for, set_asks, told_asks, apart, same_bus, read_told, Ok_not_Err, no_fault_of_told, beyond_told, within_all}
 use Rattle.bus_replay.proofs.Ending.{ReplayStatus, start_text, refused_at_9, refused_at_10, leaves}
 use Rattle.bus_replay.proofs.Clauses.{not_low, none_of, clause_disks, clause_replayed, clause_done, clause_usage, clause_usage_only, clause_config_refused, clause_config_refused_only, clause_refused, clause_refused_only, clause_read_fault, clause_read_fault_only, clause_write_fault, clause_write_fault_only, clause_no_memory, clause_too_long, clause_too_long_only, clause_disks_refused, clause_disks_refused_only, clause_store_refused, clause_early_ends, clause_complete}

@@ -1,6 +1,6 @@
 -- How a trial ends, by its status
-use Rattle.std.specs.Prelude.{◌≡◌, ◌⊎◌, ℕ, ◌<◌, ◌≤◌, List, [], Some, Ok}
-use Rattle.std.proofs.Common.{refl, sym, ap, ◌∙◌, subst, arith, inl, inr}
+use Rattle.std.specs.Prelude.{◌≡◌, ◌⊎◌, ℕ, ◌<◌, List, []}
+use Rattle.std.proofs.Common.{refl, sym, ap, subst, arith, inl, inr}
 use Rattle.bus_port.specs.Fault.{Rose}
 use Rattle.bus_port.specs.Sink.{SinkState}
 use Rattle.bus_port.specs.Whole.{AppendedPart}
@@ -14,7 +14,7 @@ use Rattle.bus_replay.specs.Replays.{NotReplayed}
 use Rattle.bus_replay.specs.Headline.{TellEach}
 use Rattle.bus_replay.specs.declared.summary.Summary.{Summary}
 use Rattle.bus_replay.specs.Summaries.{summary_text}
-use Rattle.bus_replay.specs.TrialRuns.{RanThrough, TellsSummary, EndsTrial, Tried, EndsTried, TrialsAreRuns}
+use Rattle.bus_replay.specs.TrialRuns.{RanThrough, EndsTrial, Tried, EndsTried, TrialsAreRuns}
 use Rattle.bus_replay.specs.Answers.{EndsUnstarted, FrontOfStart}
 use Rattle.bus_replay.proofs.Ending.{ReplayStatus, ends_status, nothing_more, start_at_6, start_at_7, start_not_0, ends_writes, early_unstarted, DisksDo, ends_complete, ends_without_room}
 

@@ -1,9 +1,9 @@
 -- All that holds of the run of a trial over disks that tell their bytes, put together
-use Rattle.std.specs.Prelude.{◌≡◌, ℕ, List, length}
+use Rattle.std.specs.Prelude.{ℕ, List, length}
 use Rattle.std.proofs.Common.{sym, ap, ◌∙◌, arith}
 use Rattle.std.proofs.lemmas.List.{take_all}
 use Rattle.cut_disk.specs.State.{DiskState}
-use Rattle.machine_runs.specs.Run.{Moment, Run, commands_in, lines_in}
+use Rattle.machine_runs.specs.Run.{Moment, Run}
 use Rattle.bus_machine.specs.declared.events.Event.{Event}
 use Rattle.bus_machine.specs.declared.lines.Line.{Line}
 use Rattle.bus_machine.specs.Bus.{BusRun}
