@@ -24,22 +24,24 @@ last_more counter (x ∷ said) s = last_more (counter_after counter x) said s
 pub Answered-more : (head : Head) (entries : List Entry) (old new : Receiver) (entry : Entry) (before after : List ℕ)
     → Answered head entries old before → Answers head old new entry before after → Answered head (entries ++ entry ∷ []) new after
 Answered-more head entries old new entry before after done (s, after_is, place_is, counter_is, given) =
-    let both = given (flat_map (arrival_of head.place) entries) done.given in
-    let says : Says head (flat_map (arrival_of head.place) entries) (last_accepted head.counter done.said) entry s =
-    subst (λ c. Says head (flat_map (arrival_of head.place) entries) c entry s) done.counter_is both.0 in
+    let both = given done.arrivals done.given in
+    let says : Says head done.arrivals (last_accepted head.counter done.said) entry s =
+    subst (λ c. Says head done.arrivals c entry s) done.counter_is both.0 in
     record {
+      arrivals = done.arrivals ++ arrival_of entry s;
       said = done.said ++ s ∷ [];
-      says = more entries done.said entry s done.says says;
+      says = more entries done.arrivals done.said entry s done.says says;
       text_is = after_is ∙ ap (λ t. t ++ said_text s) done.text_is ∙ sym (flat_more said_text done.said s);
       place_is = place_is ∙ done.place_is;
       counter_is = counter_is ∙ ap (λ c. counter_after c s) done.counter_is ∙ sym (last_more head.counter done.said s);
-      given = subst (Given new.joiner) (sym (flat_more (arrival_of head.place) entries entry)) both.1;
+      given = both.1;
     }
 
 -- before the first line
 pub Answered-none : (head : Head) (receiver : Receiver) → receiver.joiner.place ≡ head.place → receiver.counter ≡ head.counter
     → Given receiver.joiner [] → Answered head [] receiver []
 Answered-none head receiver place_is counter_is given = record {
+  arrivals = [];
   said = [];
   says = none;
   text_is = refl;

@@ -11,6 +11,9 @@ link_of_known : (place : Place) (a : Arrival) (kind : Kind) (pdu : List ℕ) →
 link_of_known place a kind pdu k p = ap (λ x. link_in place x a.pdu) k ∙ ap (link_in place kind) (sym p)
 
 -- nothing waits behind a join
+abbrev pub ended : JoinerState → JoinerState
+ended state = record { place = state.place; payload = None; pdu = None }
+
 none_waits : (place : Place) (kind : Kind) → waiting (record { place = place; payload = None; pdu = None }) kind ≡ None
 none_waits place authentic = refl
 none_waits place cryptographic = refl

@@ -13,7 +13,8 @@ use Rattle.pdu_collection.proofs.Rising.{all_rise}
 
 tells_rising : (lines : List PairLine) (text : List ℕ) → TellsPairs lines text → TellsRising lines text
 tells_rising lines text (inl none) = inl none
-tells_rising lines text (inr (head, entries, said, script, says, text_is)) = inr (head, entries, said, script, says, all_rise head entries said says, text_is)
+tells_rising lines text (inr (head, entries, arrivals, said, script, says, text_is)) =
+    inr (head, entries, arrivals, said, script, says, all_rise head entries arrivals said says, text_is)
 
 module _ (words : List (List ℕ)) (old new : SourceState) (before after : SinkState) (status : ℕ) where
   rising_done : (text : List ℕ) → ComesInPairing words old new (done text) → AppendedWell before after text

@@ -6,4 +6,5 @@ pub mod Phases
 pub mod Scripts
 pub mod Rising
 pub mod OneJoining
+pub mod MadePdus
 pub mod Endings

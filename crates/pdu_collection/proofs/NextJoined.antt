@@ -38,7 +38,7 @@ kinds cryptographic cryptographic = inl refl
 at_old : (xs : List Arrival) (x : Arrival) (i : ℕ) → i < length xs → arrival_at (xs ++ x ∷ []) i ≡ arrival_at xs i
 at_old xs x i lt = get_or_append_left xs (x ∷ []) (record { kind = authentic; pdu = [] }) i lt
 
-at_new : (xs : List Arrival) (x : Arrival) → arrival_at (xs ++ x ∷ []) (length xs) ≡ x
+pub at_new : (xs : List Arrival) (x : Arrival) → arrival_at (xs ++ x ∷ []) (length xs) ≡ x
 at_new xs x = get_or_push xs x (record { kind = authentic; pdu = [] }) (length xs) refl
 
 partner_old : (ps : List (Option ℕ)) (p : Option ℕ) (i : ℕ) → i < length ps → partner_at (ps ++ p ∷ []) i ≡ partner_at ps i

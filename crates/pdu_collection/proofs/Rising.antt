@@ -91,21 +91,21 @@ rise c waits t h k = tt
 rise c (made q part) t h k = tt
 
 -- all that was accepted so far is at most the counter
-all_at_most : (head : Head) (entries : List Entry) (said : List Said) → SaysEach head entries said
+all_at_most : (head : Head) (entries : List Entry) (arrivals : List Arrival) (said : List Said) → SaysEach head entries arrivals said
     → (k : ℕ) (d : Said) → k < length said → AtMost (last_accepted head.counter said) (get_or said k d)
-all_at_most head entries said none k d within = absurd (omega (arith, within))
-all_at_most head entries said (more before so_far entry s each says) k d within =
+all_at_most head entries arrivals said none k d within = absurd (omega (arith, within))
+all_at_most head entries arrivals said (more before came so_far entry s each says) k d within =
     let c = last_accepted head.counter so_far in
     let up : c ≤ counter_after c s = grows c s (above head _ c entry s says) in
     subst (λ n. AtMost n (get_or (so_far ++ s ∷ []) k d)) (sym (last_more head.counter so_far s))
     (⊎_elim (λ (lt : k < length so_far). subst (AtMost (counter_after c s)) (sym (get_or_append_left so_far (s ∷ []) d k lt))
-    (at_most_more c (counter_after c s) (get_or so_far k d) up (all_at_most head before so_far each k d lt)))
+    (at_most_more c (counter_after c s) (get_or so_far k d) up (all_at_most head before came so_far each k d lt)))
     (λ (le : length so_far ≤ k). subst (AtMost (counter_after c s)) (sym (get_or_push so_far s d k (omega (arith, le, within, length_push so_far s)))) (at_most_itself c s))
     (cases_lt k (length so_far)))
 
-pub all_rise : (head : Head) (entries : List Entry) (said : List Said) → SaysEach head entries said → AllPairs AcceptedRise said
-all_rise head entries said none = λ i j d lt within. absurd (omega (arith, within))
-all_rise head entries said (more before so_far entry s each says) =
+pub all_rise : (head : Head) (entries : List Entry) (arrivals : List Arrival) (said : List Said) → SaysEach head entries arrivals said → AllPairs AcceptedRise said
+all_rise head entries arrivals said none = λ i j d lt within. absurd (omega (arith, within))
+all_rise head entries arrivals said (more before came so_far entry s each says) =
     let c = last_accepted head.counter so_far in
-    all_pairs_push AcceptedRise so_far s (all_rise head before so_far each)
-    (λ k d within. rise c (get_or so_far k d) s (all_at_most head before so_far each k d within) (above head _ c entry s says))
+    all_pairs_push AcceptedRise so_far s (all_rise head before came so_far each)
+    (λ k d within. rise c (get_or so_far k d) s (all_at_most head before came so_far each k d within) (above head _ c entry s says))

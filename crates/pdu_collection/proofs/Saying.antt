@@ -1,6 +1,5 @@
 -- What is said of arrivals, put together.
 use Rattle.std.proofs.Common.{◌≡◌, ℕ, ◌<◌, ◌≤◌, ◌+◌, Bool, true, false, List, [], ◌∷◌, ◌++◌, length, take, refl, sym, ap, ◌∙◌, subst, arith, append-nil, append_assoc}
-use Rattle.std.proofs.lemmas.Bool.Decides.{nat_tests}
 use Rattle.std.specs.Prelude.{Option, None, Some, Result, Ok, Err, IfOk, IfErr}
 use Rattle.secured_pdu.specs.Verdict.{Outcome, Verdict}
 use Rattle.text_lines.specs.Texts.{outcome_text}
@@ -10,24 +9,8 @@ use Rattle.pdu_collection.specs.declared.pair_lines.Head.{Head}
 use Rattle.pdu_collection.specs.Collection.{Place}
 use Rattle.pdu_collection.specs.Joining.{Kind, authentic, cryptographic, Arrival}
 use Rattle.pdu_collection.specs.Joined.{JoinerState, NextJoins, Given, IsToldOf, Arrives, joined_with}
-use Rattle.pdu_collection.specs.Answering.{HasLength, has_length_of, arrives, Said, bad_length, waits, judged, said_text, counter_after, SaysOf}
+use Rattle.pdu_collection.specs.Answering.{HasLength, Said, bad_length, waits, judged, said_text, counter_after, SaysOf}
 use Rattle.pdu_collection.specs.Receiving.{Judges, Arrived, AnswersArrival}
-
--- the test of a length says what it should
-right_length : (place : Place) (kind : Kind) (pdu : List ℕ) → HasLength place kind pdu → has_length_of place kind pdu ≡ true
-right_length place authentic pdu h = grind (arith, nat_tests, h.0.0, h.0.1, h.1)
-right_length place cryptographic pdu h = grind (arith, nat_tests, h)
-
-wrong_length : (place : Place) (kind : Kind) (pdu : List ℕ) (b : Bool) → has_length_of place kind pdu ≡ b → (HasLength place kind pdu → ⊥) → b ≡ false
-wrong_length place kind pdu false e wrong = refl
-wrong_length place authentic pdu true e wrong = absurd (wrong (grind (arith, nat_tests, e)))
-wrong_length place cryptographic pdu true e wrong = absurd (wrong (grind (arith, nat_tests, e)))
-
-arrives_right : (place : Place) (kind : Kind) (pdu : List ℕ) → HasLength place kind pdu → arrives place kind pdu ≡ record { kind = kind; pdu = pdu } ∷ []
-arrives_right place kind pdu h = rw (right_length place kind pdu h) refl
-
-arrives_wrong : (place : Place) (kind : Kind) (pdu : List ℕ) → (HasLength place kind pdu → ⊥) → arrives place kind pdu ≡ []
-arrives_wrong place kind pdu h = rw (wrong_length place kind pdu (has_length_of place kind pdu) refl h) refl
 
 -- what a joiner told of an arrival
 pub Arrived_of : (old new : JoinerState) (kind : Kind) (pdu room joined : List ℕ) (told : Result (Option ℕ) BadLength)
@@ -63,13 +46,10 @@ module _ (head : Head) (before : JoinerState) (counter : ℕ) (kind : Kind) (pdu
 
   -- the arrival is given to the joiner
   given_next : (new : JoinerState) (room joined : List ℕ) (size : Option ℕ) (a : Arrives before new next room joined size) (arrivals : List Arrival)
-      → HasLength head.place kind pdu → Given before arrivals
-      → NextJoins head.place arrivals next a.joined × Given new (arrivals ++ arrives head.place kind pdu)
-  given_next new room joined size a arrivals right g =
-      let both = a.given arrivals g in (
-        subst (λ p. NextJoins p arrivals next a.joined) place_is both.0,
-        subst (λ l. Given new (arrivals ++ l)) (sym (arrives_right head.place kind pdu right)) both.1,
-      )
+      → Given before arrivals → NextJoins head.place arrivals next a.joined × Given new (arrivals ++ next ∷ [])
+  given_next new room joined size a arrivals g =
+      let both = a.given arrivals g in
+      (subst (λ p. NextJoins p arrivals next a.joined) place_is both.0, both.1)
 
   -- a PDU of a wrong length
   pub said_bad_length : (new : JoinerState) (after : List ℕ) → (HasLength before.place kind pdu → ⊥) → new ≡ before
@@ -82,8 +62,7 @@ module _ (head : Head) (before : JoinerState) (counter : ℕ) (kind : Kind) (pdu
         refl,
         λ arrivals g. (
           wrong_here,
-          subst (Given new) (sym (append-nil arrivals) ∙ ap (λ l. arrivals ++ l) (sym (arrives_wrong head.place kind pdu wrong_here)))
-              (subst (λ s. Given s arrivals) (sym same) g),
+          subst (Given new) (sym (append-nil arrivals)) (subst (λ s. Given s arrivals) (sym same) g),
         ),
       )
 
@@ -97,7 +76,7 @@ module _ (head : Head) (before : JoinerState) (counter : ℕ) (kind : Kind) (pdu
         a.place_is,
         refl,
         λ arrivals g.
-            let both = given_next new room joined None a arrivals right_here g in
+            let both = given_next new room joined None a arrivals g in
             ((right_here, subst (NextJoins head.place arrivals next) (joins_none next a.joined room joined a.tells) both.0), both.1),
       )
 
@@ -114,7 +93,7 @@ module _ (head : Head) (before : JoinerState) (counter : ℕ) (kind : Kind) (pdu
         ap (λ (r : Receiver). r.joiner.place) end_is ∙ a.place_is,
         ap (λ (r : Receiver). r.counter) end_is,
         λ arrivals g.
-            let both = given_next new room joined (Some size) a arrivals right_here g in (
+            let both = given_next new room joined (Some size) a arrivals g in (
               (
                 right_here,
                 (
@@ -123,6 +102,6 @@ module _ (head : Head) (before : JoinerState) (counter : ℕ) (kind : Kind) (pdu
                   subst (λ f. Verdict head.key head.id counter 256 f outcome) text_is verdict,
                 ),
               ),
-              subst (λ s. Given s (arrivals ++ arrives head.place kind pdu)) (sym (ap (λ (r : Receiver). r.joiner) end_is)) both.1,
+              subst (λ s. Given s (arrivals ++ next ∷ [])) (sym (ap (λ (r : Receiver). r.joiner) end_is)) both.1,
             ),
       )

@@ -1,5 +1,5 @@
 -- What is said of each line of a script of pairs, and printed
-use Rattle.std.specs.Prelude.{◌≡◌, ◌⊎◌, ◌<◌, ℕ, nat_le, ◌&&◌, ◌+◌, ◌==◌, if◌then◌else◌, List, [], ◌∷◌, ◌++◌, length, codes, None, Some, Bool, AllPairs}
+use Rattle.std.specs.Prelude.{◌≡◌, ◌⊎◌, ◌<◌, ℕ, List, [], ◌∷◌, ◌++◌, codes, None, Some, AllPairs}
 use Rattle.std.specs.List.{flat_map}
 use Rattle.hex.specs.Hex.{encode_lower}
 use Rattle.secured_pdu.specs.Verdict.{Outcome, Accepted, Verdict}
@@ -34,18 +34,16 @@ abbrev pub HasLength : Place → Kind → List ℕ → Type 0
 HasLength place authentic pdu = IsAuthentic place pdu
 HasLength place cryptographic pdu = IsCryptographic place pdu
 
-abbrev pub has_length_of : Place → Kind → List ℕ → Bool
-has_length_of place authentic pdu = nat_le 1 (length pdu) && nat_le (length pdu) 60 && nat_le (place.at + place.size) (length pdu)
-has_length_of place cryptographic pdu = length pdu == 4 + place.size
+-- the arrival of a PDU of which this is said: none where its length is bad
+abbrev pub arrives : Kind → List ℕ → Said → List Arrival
+arrives kind pdu bad_length = []
+arrives kind pdu said = record { kind = kind; pdu = pdu } ∷ []
 
-abbrev pub arrives : Place → Kind → List ℕ → List Arrival
-arrives place kind pdu = if has_length_of place kind pdu then record { kind = kind; pdu = pdu } ∷ [] else []
-
--- the arrival of an entry, if it is one and has the length of its kind
-abbrev pub arrival_of : Place → Entry → List Arrival
-arrival_of place (Authentic pdu) = arrives place authentic pdu
-arrival_of place (Cryptographic pdu) = arrives place cryptographic pdu
-arrival_of place (Secured freshness payload) = []
+-- the arrival of an entry, if it is one
+abbrev pub arrival_of : Entry → Said → List Arrival
+arrival_of (Authentic pdu) said = arrives authentic pdu said
+arrival_of (Cryptographic pdu) said = arrives cryptographic pdu said
+arrival_of (Secured freshness payload) said = []
 
 -- ---- the counter
 
@@ -87,19 +85,19 @@ Says head before counter (Secured freshness payload) said = SaysMade head freshn
 
 -- ---- the whole script
 
--- what is said of the entries so far; of one more it is said behind the arrivals among them, with the freshness that was accepted last
-pub data SaysEach (head : Head) : List Entry → List Said → Type 0 where
-  none : SaysEach head [] []
-  more : (entries : List Entry) (said : List Said) (entry : Entry) (s : Said) → SaysEach head entries said
-      → Says head (flat_map (arrival_of head.place) entries) (last_accepted head.counter said) entry s
-      → SaysEach head (entries ++ entry ∷ []) (said ++ s ∷ [])
+-- what is said of the entries so far, and the arrivals among them; of one more it is said behind these, with the freshness that was accepted last
+pub data SaysEach (head : Head) : List Entry → List Arrival → List Said → Type 0 where
+  none : SaysEach head [] [] []
+  more : (entries : List Entry) (arrivals : List Arrival) (said : List Said) (entry : Entry) (s : Said) → SaysEach head entries arrivals said
+      → Says head arrivals (last_accepted head.counter said) entry s
+      → SaysEach head (entries ++ entry ∷ []) (arrivals ++ arrival_of entry s) (said ++ s ∷ [])
 
 -- the text is what is said of each line behind the head; without a head there is none
 abbrev pub TellsPairs : List PairLine → List ℕ → Type 0
 TellsPairs lines text =
     ((lines ≡ []) × (text ≡ []))
-    ⊎ ((head : Head) × (entries : List Entry) × (said : List Said)
-    × IsScript lines head entries × SaysEach head entries said × (text ≡ flat_map said_text said))
+    ⊎ ((head : Head) × (entries : List Entry) × (arrivals : List Arrival) × (said : List Said)
+    × IsScript lines head entries × SaysEach head entries arrivals said × (text ≡ flat_map said_text said))
 
 -- ---- what holds of it
 
@@ -111,5 +109,5 @@ AcceptedRise _ _ = Unit {0}
 abbrev pub TellsRising : List PairLine → List ℕ → Type 0
 TellsRising lines text =
     ((lines ≡ []) × (text ≡ []))
-    ⊎ ((head : Head) × (entries : List Entry) × (said : List Said)
-    × IsScript lines head entries × SaysEach head entries said × AllPairs AcceptedRise said × (text ≡ flat_map said_text said))
+    ⊎ ((head : Head) × (entries : List Entry) × (arrivals : List Arrival) × (said : List Said)
+    × IsScript lines head entries × SaysEach head entries arrivals said × AllPairs AcceptedRise said × (text ≡ flat_map said_text said))

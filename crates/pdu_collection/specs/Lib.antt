@@ -3,6 +3,7 @@ pub mod Joining
 pub mod Joined
 pub mod PairLines
 pub mod Answering
+pub mod Made
 pub mod Receiving
 pub mod Rows
 pub mod Steps

@@ -27,8 +27,8 @@ AreEntries lines = (entries : List Entry) × (lines ≡ map line.Entry entries)
 -- the text is what is said of each of the lines, which are entries
 abbrev pub TellsEntries : Head → List PairLine → List ℕ → Type 0
 TellsEntries head lines text =
-    (entries : List Entry) × (said : List Said)
-    × (lines ≡ map line.Entry entries) × SaysEach head entries said × (text ≡ flat_map said_text said)
+    (entries : List Entry) × (arrivals : List Arrival) × (said : List Said)
+    × (lines ≡ map line.Entry entries) × SaysEach head entries arrivals said × (text ≡ flat_map said_text said)
 
 -- the verdict on a Secured I-PDU was added, and the counter is the one behind it
 abbrev pub Judges : Head → Receiver → Receiver → List ℕ → List ℕ → List ℕ → Type 0
@@ -42,7 +42,7 @@ Answers head old new entry before after =
     (said : Said) × (after ≡ before ++ said_text said) × (new.joiner.place ≡ old.joiner.place)
     × (new.counter ≡ counter_after old.counter said)
     × ((arrivals : List Arrival) → Given old.joiner arrivals
-    → Says head arrivals old.counter entry said × Given new.joiner (arrivals ++ arrival_of head.place entry))
+    → Says head arrivals old.counter entry said × Given new.joiner (arrivals ++ arrival_of entry said))
 
 -- the same of a PDU of this kind
 abbrev pub AnswersArrival : Head → Receiver → Receiver → Kind → List ℕ → List ℕ → List ℕ → Type 0
@@ -50,7 +50,7 @@ AnswersArrival head old new kind pdu before after =
     (said : Said) × (after ≡ before ++ said_text said) × (new.joiner.place ≡ old.joiner.place)
     × (new.counter ≡ counter_after old.counter said)
     × ((arrivals : List Arrival) → Given old.joiner arrivals
-    → SaysOf head arrivals old.counter kind pdu said × Given new.joiner (arrivals ++ arrives head.place kind pdu))
+    → SaysOf head arrivals old.counter kind pdu said × Given new.joiner (arrivals ++ arrives kind pdu said))
 
 -- the PDUs that are asked for were added
 abbrev pub AddsMade : Head → ℕ → List ℕ → List ℕ → List ℕ → Type 0
@@ -65,9 +65,10 @@ Arrived old new kind pdu joined (Err refused) = ¬ HasLength old.place kind pdu 
 
 -- the entries so far were answered
 pub record Answered (head : Head) (entries : List Entry) (receiver : Receiver) (text : List ℕ) : Type 0 where
+  pub arrivals : List Arrival
   pub said : List Said
-  pub says : SaysEach head entries said
+  pub says : SaysEach head entries arrivals said
   pub text_is : text ≡ flat_map said_text said
   pub place_is : receiver.joiner.place ≡ head.place
   pub counter_is : receiver.counter ≡ last_accepted head.counter said
-  pub given : Given receiver.joiner (flat_map (arrival_of head.place) entries)
+  pub given : Given receiver.joiner arrivals

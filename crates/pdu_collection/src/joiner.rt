@@ -15,7 +15,7 @@ pub struct BadLength;
 /// Joins the PDUs of one Secured PDU collection as they arrive. An arrival joins the latest earlier one of the other kind, where
 /// their links are equal, and that one joins none and no arrival between them joined it.
 ///
-/// It keeps of each kind the latest arrival where that is single, which is all that a later one may join.
+/// It keeps of each kind the latest arrival where that is single, which is all that a later one may join: where two are joined, none.
 #[derive(Drop)]
 pub struct Joiner {
     linker: Linker,
@@ -61,7 +61,8 @@ impl Joiner {
         }
         match self.pdu_for(pdu) {
             Some(waiting) => {
-                self.end_waiting();
+                self.payload = None;
+                self.pdu = None;
                 Ok(Some(join(pdu, waiting.bytes(), out)))
             }
             None => {
@@ -88,7 +89,8 @@ impl Joiner {
         }
         match self.payload_for(pdu) {
             Some(waiting) => {
-                self.end_waiting();
+                self.payload = None;
+                self.pdu = None;
                 Ok(Some(join(waiting.bytes(), pdu, out)))
             }
             None => {
@@ -131,13 +133,5 @@ impl Joiner {
         ensures { IsTrue result ↔ (link_of self.now.place payload.now ≡ drop 4 pdu.now) }
     {
         self.linker.link_of(payload) == &pdu[4..]
-    }
-
-    // Nothing waits any more: the latest of both kinds are joined.
-    fn end_waiting(&mut self)
-        ensures { self.new ≡ record { place = self.old.place; payload = None; pdu = None } }
-    {
-        self.payload = None;
-        self.pdu = None;
     }
 }

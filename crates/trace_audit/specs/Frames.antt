@@ -1,5 +1,5 @@
 -- The frames of a log, as `candump` of can-utils writes them.
-use Rattle.std.specs.Prelude.{ℕ, ◌+◌, ◌==◌, ◌&&◌, nat_le, Bool, if◌then◌else◌, List, length, take, drop, slice_index, Option, None, Some, option_map, option_and_then}
+use Rattle.std.specs.Prelude.{ℕ, ◌+◌, ◌==◌, ◌&&◌, nat_le, Bool, if◌then◌else◌, List, length, take, drop, slice_index, position, Option, None, Some, option_map, option_and_then}
 use Rattle.std.specs.Char.{is_ascii_hexdigit}
 use Rattle.text_lines.specs.Lines.{last_byte}
 use Rattle.text_lines.specs.Forms.{hex_bytes_form}
@@ -23,12 +23,9 @@ data_form rest = if slice_index rest 0 == 35 then fd_form (drop 1 rest) else hex
 unfoldable pub frame_parts : List ℕ → List ℕ → Option LogFrame
 frame_parts can rest = option_and_then (λ can. option_map (λ bytes. record { can = can; bytes = bytes }) (data_form rest)) (can_form can)
 
--- a frame: a CAN identifier of three or eight digits, `#`, and the data
+-- a frame: a CAN identifier, the first `#`, and what stands behind it
 unfoldable pub frame_form : List ℕ → Option LogFrame
-frame_form word =
-    if slice_index word 3 == 35 then frame_parts (take 3 word) (drop 4 word)
-    else if slice_index word 8 == 35 then frame_parts (take 8 word) (drop 9 word)
-    else None
+frame_form word = option_and_then (λ at. frame_parts (take at word) (drop (at + 1) word)) (position (λ byte. byte == 35) word)
 
 -- the data frame of a line of a log: a time, a word for the interface, and the frame; words behind them are ignored
 unfoldable pub log_frame_of : List (List ℕ) → Option LogFrame

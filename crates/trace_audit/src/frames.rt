@@ -1,5 +1,5 @@
 //! The frames of a log, as `candump` of can-utils writes them.
-ghost use Rattle.std.specs.Prelude.{◌≡◌, IfOk};
+ghost use Rattle.std.specs.Prelude.{◌≡◌, ◌<◌, ◌==◌, length, position, IfOk, IfSome};
 ghost use Rattle.trace_audit.specs.Frames.{is_time as is_time_word, data_form, frame_parts, frame_form, log_frame_of};
 
 use crate::map_lines::can_id;
@@ -36,18 +36,23 @@ fn is_time(word: &[u8]) -> bool
     !word.is_empty() && word[0] == b'(' && word[word.len() - 1] == b')'
 }
 
-/// The frame of a word: the CAN identifier, `#`, and the data.
+/// The frame of a word: the CAN identifier, the first `#`, and what stands behind it.
 #[tactic(auto, unfolding(crate::specs::Frames::frame_form))]
 fn frame(alloc: Global, word: &[u8]) -> Result<Option<LogFrame>, Memory>
     ensures { IfOk result (λ found. found ≡ frame_form word.now) }
 {
-    if word.len() > 3 && word[3] == b'#' {
-        return frame_of_parts(alloc, &word[..3], &word[4..]);
-    }
-    if word.len() > 8 && word[8] == b'#' {
-        return frame_of_parts(alloc, &word[..8], &word[9..]);
-    }
-    Ok(None)
+    let Some(at) = place_of_hash(word) else {
+        return Ok(None);
+    };
+    frame_of_parts(alloc, &word[..at], &word[at + 1..])
+}
+
+/// The place of the first `#`, counted from 0; `None` where there is none.
+fn place_of_hash(word: &[u8]) -> Option<usize>
+    ensures exact { result ≡ position (λ byte. byte == 35) word.now }
+    ensures within { IfSome result (λ at. at < length word.now) }
+{
+    word.iter().position(|byte| *byte == b'#')
 }
 
 /// The frame of a CAN identifier and what stands behind `#`.

@@ -2,12 +2,12 @@ use Rattle.std.proofs.Common.{refl, sym, ap, ◌∙◌, arith}
 use Rattle.pdu_collection.specs.Collection.{joined_pdu}
 use Rattle.pdu_collection.specs.Joining.{cryptographic}
 use Rattle.pdu_collection.specs.Joined.{JoinerState}
-use Rattle.pdu_collection.proofs.Arriving.{Arrives-joins, Arrives-waits, kept}
+use Rattle.pdu_collection.proofs.Arriving.{ended, Arrives-joins, Arrives-waits, kept}
 use Rattle.pdu_collection.proofs.joiner.Joiner.cryptographic.Goals as goal
 
 pub returns-in-Some-clause-arrives : goal.returns-in-Some-clause-arrives
 returns-in-Some-clause-arrives c =
-    Arrives-joins c.args.self.now cryptographic c.args.pdu.now c.end_waiting.new.self c.in-Some.waiting _ _ c.join.result c.end_waiting.ensures
+    Arrives-joins c.args.self.now cryptographic c.args.pdu.now _ c.in-Some.waiting _ _ c.join.result (ap ended c.self.view_is)
     c.in-Some.ensures.partner.0 c.in-Some.ensures.partner.1
     (c.join.ensures.joined ∙ ap (λ p. joined_pdu p c.args.pdu.now) c.bytes.ensures.value, c.join.ensures.rest)
 
