@@ -1,6 +1,7 @@
 // A PDU: at most 64 bytes.
 
-ghost use Rattle.std.specs.Prelude.{◌≡◌, ◌↔◌, ◌<◌, ◌≤◌, IsNone, IfSome, length};
+ghost use Rattle.std.specs.Prelude.{◌≡◌, ◌↔◌, ◌<◌, ◌≤◌, ◌⊎◌, ℕ, List, true, false, IsNone, IfSome, length, replicate};
+ghost use Rattle.std.specs.Fn.{FnOnceReturnsAtMut};
 ghost use Rattle.byte_lists.specs.Bytes.{IsBytes};
 
 use crate::bytes::told;
@@ -42,6 +43,24 @@ impl Pdu {
             bytes: padded,
             len: bytes.len(),
         })
+    }
+
+    /// The PDU of the `len` bytes that `fill` leaves: it gets as many zeros, and writes over them in their place. `None` where `len` is more
+    /// than 64, or where `fill` answers false.
+    pub fn filled_by<F: FnOnce(&mut [u8]) -> bool>(len: usize, fill: F) -> Option<Pdu>
+        requires { F.IsAlwaysCallable fill }
+        ensures too_long { 64 < len → IsNone result }
+        ensures refused { IsNone result → (64 < len) ⊎ ((bytes : List ℕ) × FnOnceReturnsAtMut F.FnOnce fill (replicate len 0) false bytes) }
+        ensures value { IfSome result (λ p. FnOnceReturnsAtMut F.FnOnce fill (replicate len 0) true p) }
+    {
+        if len > 64 {
+            return None;
+        }
+        let mut bytes = [0; 64];
+        if !fill(&mut bytes[..len]) {
+            return None;
+        }
+        Some(Pdu { bytes, len })
     }
 
     /// The bytes in their order.

@@ -16,6 +16,25 @@ fn a_pdu_has_the_bytes_that_it_was_made_of(rt: HostRuntime) {
 }
 
 #[test]
+fn a_pdu_has_the_bytes_that_are_written_into_it(rt: HostRuntime) {
+    let word = b"\x5a\xff\x01";
+    let write = |bytes: &mut [u8]| {
+        if bytes.len() != word.len() {
+            return false;
+        }
+        bytes.copy_from_slice(word);
+        true
+    };
+    assert_eq!(rt; Pdu::filled_by(3, write), Pdu::of(word));
+    assert!(rt; Pdu::filled_by(4, write).is_none());
+    assert!(rt; Pdu::filled_by(65, |_bytes: &mut [u8]| true).is_none());
+    assert_eq!(rt;
+        Pdu::filled_by(64, |_bytes: &mut [u8]| true),
+        Pdu::of(&[0; 64])
+    );
+}
+
+#[test]
 fn pdus_are_the_same_where_their_bytes_are(rt: HostRuntime) {
     assert_eq!(rt; Pdu::of(b"\x01\x00"), Pdu::of(b"\x01\x00"));
     assert_ne!(rt; Pdu::of(b"\x01\x00"), Pdu::of(b"\x01"));

@@ -58,12 +58,12 @@ pub record FirstFrom (p : ℕ → Bool) (text : List ℕ) (at stop : ℕ) : Type
   pub passes : stop < length text → p (slice_index text stop) ≡ true
 
 -- the end of the line that begins at a place
-abbrev pub line_of : List ℕ → ℕ → ℕ
-line_of text start = start + position_or_len is_line_feed (drop start text)
+abbrev pub line_end_of : List ℕ → ℕ → ℕ
+line_end_of text start = start + position_or_len is_line_feed (drop start text)
 
 -- the end of its content
 abbrev pub content_of : List ℕ → ℕ → ℕ
-content_of text start = start + length (without_return (take (line_of text start - start) (drop start text)))
+content_of text start = start + length (without_return (take (line_end_of text start - start) (drop start text)))
 
 -- it is where the rest of the text has its first such byte
 pub first_from : (p : ℕ → Bool) (text : List ℕ) (at stop : ℕ) → at ≤ length text → stop ≡ at + position_or_len p (drop at text) → FirstFrom p text at stop

@@ -139,9 +139,7 @@ pub fn pdu(word: &[u8], least: usize, most: usize) -> Option<Pdu>
     if count < least || count > most {
         return None;
     }
-    let mut bytes = [0; 64];
-    decode_to_slice(word, &mut bytes[..count]).ok()?;
-    Pdu::of(&bytes[..count])
+    Pdu::filled_by(count, |bytes| decode_to_slice(word, bytes).is_ok())
 }
 
 // The bytes of hexadecimal digits, two a byte.

@@ -22,6 +22,7 @@ fn until_stop(bytes: &[u8]) -> usize
 
 // The end of the word that begins at `start`: the next blank or line feed, or the end of the text. Words are short: the iterator over 32
 // bytes compares them once, where a search of a longer text begins with wider runs.
+#[inline(always)]
 fn word_end(text: &[u8], start: usize) -> usize
     requires { start ≤ length text.now }
     ensures exact { result ≡ start + position_or_len ends_word (drop start text.now) }
@@ -92,7 +93,7 @@ pub fn put_line(spans: &mut Vec<Span>, text: &[u8], start: usize) -> Result<usiz
     spans.clear();
     let mut at = start;
     let mut stop = word_end(text, at);
-    'words: while !is_line_end(text, stop) {
+    while !is_line_end(text, stop) {
         put_word(spans, at, stop)?;
         at = stop + 1;
         stop = word_end(text, at);
