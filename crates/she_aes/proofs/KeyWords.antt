@@ -4,7 +4,6 @@ use Rattle.std.proofs.lemmas.List.{length_push, get_or_append_left}
 use Rattle.std.proofs.lemmas.List.FromFn.{get_or-map-range_with_len}
 use Rattle.she_aes.specs.CipherFacts.{block_of_self}
 use Rattle.she_aes.specs.Cipher.{block_of, word_of, word, xor_words, sub_word, rot_word, power_of_x, rcon, added_word, next_word, words_up_to, key_words, round_key, round_keys}
-use Rattle.she_aes.specs.Field.{product, cancelled, remainder, mul}
 use Rattle.she_aes.specs.KeySteps.{next_round_key}
 use Rattle.std.proofs.lemmas.Bool.{cases_lt, ne_eqb}
 use Rattle.std.proofs.Math.Seq.{get_or-append_seam}
@@ -119,63 +118,3 @@ module _ (key : List ℕ) (r : ℕ) (h : r < 10) where
   pub next_is : next_round_key (power_of_x r) (round_key (key_words key) r) ≡ round_key (key_words key) (r + 1)
   unfolding next_round_key round_key xor_words sub_word rot_word chained
   next_is = chained_is
-
-next_step : (key last next : List ℕ) (r p : ℕ) → r < 10 → p ≡ power_of_x r → last ≡ round_key (key_words key) r → next ≡ next_round_key p last → next ≡ round_key (key_words key) (r + 1)
-next_step key last next r p high power so_far e =
-    e ∙ ap (λ x. next_round_key x last) power ∙ ap (next_round_key (power_of_x r)) so_far ∙ next_is key r high
-
-power_0 : 1 ≡ power_of_x 0
-unfolding product cancelled remainder mul power_of_x
-power_0 = refl
-
-power_1 : 2 ≡ power_of_x 1
-unfolding product cancelled remainder mul power_of_x
-power_1 = refl
-
-power_2 : 4 ≡ power_of_x 2
-unfolding product cancelled remainder mul power_of_x
-power_2 = refl
-
-power_3 : 8 ≡ power_of_x 3
-unfolding product cancelled remainder mul power_of_x
-power_3 = refl
-
-power_4 : 16 ≡ power_of_x 4
-unfolding product cancelled remainder mul power_of_x
-power_4 = refl
-
-power_5 : 32 ≡ power_of_x 5
-unfolding product cancelled remainder mul power_of_x
-power_5 = refl
-
-power_6 : 64 ≡ power_of_x 6
-unfolding product cancelled remainder mul power_of_x
-power_6 = refl
-
-power_7 : 128 ≡ power_of_x 7
-unfolding product cancelled remainder mul power_of_x
-power_7 = refl
-
-power_8 : 27 ≡ power_of_x 8
-unfolding product cancelled remainder mul power_of_x
-power_8 = refl
-
-power_9 : 54 ≡ power_of_x 9
-unfolding product cancelled remainder mul power_of_x
-power_9 = refl
-
-pub round_keys_in_turn : (key : List ℕ) → length key ≡ 16 → {k1 k2 k3 k4 k5 k6 k7 k8 k9 k10 : List ℕ} → k1 ≡ next_round_key 1 key → k2 ≡ next_round_key 2 k1 → k3 ≡ next_round_key 4 k2 → k4 ≡ next_round_key 8 k3 → k5 ≡ next_round_key 16 k4 → k6 ≡ next_round_key 32 k5 → k7 ≡ next_round_key 64 k6 → k8 ≡ next_round_key 128 k7 → k9 ≡ next_round_key 27 k8 → k10 ≡ next_round_key 54 k9 → key ∷ k1 ∷ k2 ∷ k3 ∷ k4 ∷ k5 ∷ k6 ∷ k7 ∷ k8 ∷ k9 ∷ k10 ∷ [] ≡ round_keys key
-unfolding round_keys
-round_keys_in_turn key long e1 e2 e3 e4 e5 e6 e7 e8 e9 e10 =
-    let h0 = sym (round_key-zero key long) in
-    let h1 = next_step key _ _ 0 1 (lit< tt) power_0 h0 e1 in
-    let h2 = next_step key _ _ 1 2 (lit< tt) power_1 h1 e2 in
-    let h3 = next_step key _ _ 2 4 (lit< tt) power_2 h2 e3 in
-    let h4 = next_step key _ _ 3 8 (lit< tt) power_3 h3 e4 in
-    let h5 = next_step key _ _ 4 16 (lit< tt) power_4 h4 e5 in
-    let h6 = next_step key _ _ 5 32 (lit< tt) power_5 h5 e6 in
-    let h7 = next_step key _ _ 6 64 (lit< tt) power_6 h6 e7 in
-    let h8 = next_step key _ _ 7 128 (lit< tt) power_7 h7 e8 in
-    let h9 = next_step key _ _ 8 27 (lit< tt) power_8 h8 e9 in
-    let h10 = next_step key _ _ 9 54 (lit< tt) power_9 h9 e10 in
-    cc

@@ -5,10 +5,14 @@ pub mod ModesUndone
 pub mod Tables
 pub mod Lanes
 pub mod Substituting
+pub mod Pairing
 pub mod MixingLanes
+pub mod PairLanes
 pub mod KeyLanes
 pub mod KeyWords
+pub mod KeyPairs
 pub mod RoundSteps
 pub mod Chains
 pub mod Inverses
 pub mod RoundTables
+pub mod ByteTable

@@ -42,7 +42,7 @@ pub four_more : {a b c d e f g h : ℕ} {v w : List ℕ} → a ≡ e → b ≡ f
 four_more p q r s t = cc
 
 -- the byte below, in each column
-abbrev below : List ℕ → List ℕ
+abbrev pub below : List ℕ → List ℕ
 below v = pick_l 0 (v ++ v) (1 ∷ 2 ∷ 3 ∷ 0 ∷ 5 ∷ 6 ∷ 7 ∷ 4 ∷ 9 ∷ 10 ∷ 11 ∷ 8 ∷ 13 ∷ 14 ∷ 15 ∷ 12 ∷ [])
 
 -- the byte two below

@@ -7,12 +7,12 @@ use Rattle.std.proofs.lemmas.Bool.{agree_below, agree_below_at}
 use Rattle.std.proofs.lemmas.Float.{T_from_true}
 use Rattle.std.proofs.lemmas.List.{get_or-map, length-map, ext_get_or}
 use Rattle.std.proofs.lemmas.Simd.{Each1-from_get_or, zip2_of_maps, splat_is_map, map-map, swz_l, SwzOk, SwzOk-from_Each1, length-swz_l, get_or-swz_l}
-use Rattle.she_aes.specs.Field.{product, cancelled, remainder, mul, inv, affine, sub_byte, inv_affine, inv_sub_byte}
+use Rattle.she_aes.specs.Field.{product, cancelled, remainder, mul, inv, inv_affine, inv_sub_byte}
 use Rattle.she_aes.proofs.SBoxFacts.{same_at_bytes}
-use Rattle.she_aes.specs.Cipher.{sub_bytes, inv_sub_bytes}
+use Rattle.she_aes.specs.Cipher.{inv_sub_bytes}
 use Rattle.she_aes.specs.Lookups.{is_place, entry, GivesPlaces}
-use Rattle.she_aes.specs.Substitution.{low_nibble, high_nibble, pair, upper, lower, total, from_upper, from_total, first, second, substitute, PlacesFit}
-use Rattle.she_aes.specs.declared.substitution.TheConstants.{LOW, HIGH, LEFT, RIGHT, LOW_OF_INVERSE, HIGH_OF_INVERSE, LEFT_OF_INVERSE, RIGHT_OF_INVERSE}
+use Rattle.she_aes.specs.Substitution.{low_nibble, high_nibble, pair, total, from_upper, from_total, first, second, inverse_by}
+use Rattle.she_aes.specs.declared.substitution.TheConstants.{LOW_OF_INVERSE, HIGH_OF_INVERSE, LEFT_OF_INVERSE, RIGHT_OF_INVERSE}
 use Rattle.she_aes.proofs.Lanes.{IsVector, byte_of_vector, map_is_block}
 
 -- ---- a look-up
@@ -42,42 +42,25 @@ low_nibble_fits = fits_at low_nibble refl
 pub high_nibble_fits : GivesPlaces high_nibble
 high_nibble_fits = fits_at high_nibble refl
 
-pub places_fit : PlacesFit LOW HIGH
-places_fit = record {
-  upper_fits = fits_at (upper LOW HIGH) refl;
-  lower_fits = fits_at (lower LOW HIGH) refl;
-  total_fits = fits_at (total LOW HIGH) refl;
-  from_upper_fits = fits_at (from_upper LOW HIGH) refl;
-  from_total_fits = fits_at (from_total LOW HIGH) refl;
-  first_fits = fits_at (first LOW HIGH) refl;
-  second_fits = fits_at (second LOW HIGH) refl;
-}
+pub total_fits : GivesPlaces total
+total_fits = fits_at total refl
 
-pub places_of_inverse_fit : PlacesFit LOW_OF_INVERSE HIGH_OF_INVERSE
-places_of_inverse_fit = record {
-  upper_fits = fits_at (upper LOW_OF_INVERSE HIGH_OF_INVERSE) refl;
-  lower_fits = fits_at (lower LOW_OF_INVERSE HIGH_OF_INVERSE) refl;
-  total_fits = fits_at (total LOW_OF_INVERSE HIGH_OF_INVERSE) refl;
-  from_upper_fits = fits_at (from_upper LOW_OF_INVERSE HIGH_OF_INVERSE) refl;
-  from_total_fits = fits_at (from_total LOW_OF_INVERSE HIGH_OF_INVERSE) refl;
-  first_fits = fits_at (first LOW_OF_INVERSE HIGH_OF_INVERSE) refl;
-  second_fits = fits_at (second LOW_OF_INVERSE HIGH_OF_INVERSE) refl;
-}
+pub from_upper_fits : GivesPlaces from_upper
+from_upper_fits = fits_at from_upper refl
 
--- ---- the S-box and its inverse, for all 256 bytes
+pub from_total_fits : GivesPlaces from_total
+from_total_fits = fits_at from_total refl
 
-abbrev by_tables : ℕ → ℕ
-by_tables b = bit_xor (substitute LOW HIGH LEFT RIGHT b) 0x63
+pub first_fits : GivesPlaces first
+first_fits = fits_at first refl
 
-s_box_ok : agree_below (λ b. by_tables b == sub_byte b) (λ _. true) 256 ≡ true
-unfolding product cancelled remainder mul inv affine sub_byte
-s_box_ok = refl
+pub second_fits : GivesPlaces second
+second_fits = fits_at second refl
 
-s_box_rule : (b : ℕ) → b < 256 → by_tables b ≡ sub_byte b
-s_box_rule = same_at_bytes by_tables sub_byte s_box_ok
+-- ---- the inverse S-box, for all 256 bytes
 
 abbrev by_tables_of_inverse : ℕ → ℕ
-by_tables_of_inverse = substitute LOW_OF_INVERSE HIGH_OF_INVERSE LEFT_OF_INVERSE RIGHT_OF_INVERSE
+by_tables_of_inverse b = inverse_by LEFT_OF_INVERSE RIGHT_OF_INVERSE (pair LOW_OF_INVERSE HIGH_OF_INVERSE b)
 
 inverse_s_box_ok : agree_below (λ b. by_tables_of_inverse b == inv_sub_byte b) (λ _. true) 256 ≡ true
 unfolding product cancelled remainder mul inv inv_affine inv_sub_byte
@@ -116,28 +99,16 @@ module _ (v : List ℕ) (is : IsVector v) where
   pub high_is : zip2 (λ a b. a / 2 ^ b) v (replicate 16 4) ≡ map high_nibble v
   high_is = highs (λ b. b) (map_self v)
 
-  -- with the first two tables
-  module _ (lo hi : List ℕ) where
-    pub pair_is : {r s : List ℕ} → r ≡ map (entry lo) (zip2 bit_and v (replicate 16 15)) → s ≡ map (entry hi) (zip2 (λ a b. a / 2 ^ b) v (replicate 16 4)) → zip2 bit_xor r s ≡ map (pair lo hi) v
-    pair_is e h =
-        summed (λ b. entry lo (low_nibble b)) (λ b. entry hi (high_nibble b)) (looked lo low_nibble e low_is) (looked hi high_nibble h high_is)
+  -- what two tables take the bytes for
+  pub pair_is : (lo hi : List ℕ) → {r s : List ℕ} → r ≡ map (entry lo) (zip2 bit_and v (replicate 16 15)) → s ≡ map (entry hi) (zip2 (λ a b. a / 2 ^ b) v (replicate 16 4)) → zip2 bit_xor r s ≡ map (pair lo hi) v
+  pair_is lo hi e h =
+      summed (λ b. entry lo (low_nibble b)) (λ b. entry hi (high_nibble b)) (looked lo low_nibble e low_is) (looked hi high_nibble h high_is)
 
-    pub upper_is : {p : List ℕ} → p ≡ map (pair lo hi) v → zip2 (λ a b. a / 2 ^ b) p (replicate 16 4) ≡ map (upper lo hi) v
-    upper_is = highs (pair lo hi)
+  -- the two elements of each pair together
+  pub total_is : zip2 bit_xor (zip2 (λ a b. a / 2 ^ b) v (replicate 16 4)) (zip2 bit_and v (replicate 16 15)) ≡ map total v
+  total_is = summed high_nibble low_nibble high_is low_is
 
-    pub lower_is : {p : List ℕ} → p ≡ map (pair lo hi) v → zip2 bit_and p (replicate 16 15) ≡ map (lower lo hi) v
-    lower_is = lows (pair lo hi)
-
-    pub total_is : {p : List ℕ} → p ≡ map (pair lo hi) v → zip2 bit_xor (zip2 (λ a b. a / 2 ^ b) p (replicate 16 4)) (zip2 bit_and p (replicate 16 15)) ≡ map (total lo hi) v
-    total_is e = summed (upper lo hi) (lower lo hi) (upper_is e) (lower_is e)
-
-  -- ---- the two substitutions
-
-  pub sub_bytes_is : {r : List ℕ} → r ≡ map (substitute LOW HIGH LEFT RIGHT) v → zip2 bit_xor r (replicate 16 0x63) ≡ sub_bytes v
-  unfolding sub_bytes
-  sub_bytes_is e =
-      zip2_of_maps bit_xor (substitute LOW HIGH LEFT RIGHT) (λ _. 0x63) v e (splat_is_map v 16 0x63 is.0) ∙ map_is_block by_tables sub_byte v is s_box_rule
-
-  pub inv_sub_bytes_is : {r : List ℕ} → r ≡ map (substitute LOW_OF_INVERSE HIGH_OF_INVERSE LEFT_OF_INVERSE RIGHT_OF_INVERSE) v → r ≡ inv_sub_bytes v
+  pub inv_sub_bytes_is : {p r : List ℕ} → p ≡ map (pair LOW_OF_INVERSE HIGH_OF_INVERSE) v → r ≡ map (inverse_by LEFT_OF_INVERSE RIGHT_OF_INVERSE) p → r ≡ inv_sub_bytes v
   unfolding inv_sub_bytes
-  inv_sub_bytes_is e = e ∙ map_is_block by_tables_of_inverse inv_sub_byte v is inverse_s_box_rule
+  inv_sub_bytes_is e h =
+      h ∙ ap (map (inverse_by LEFT_OF_INVERSE RIGHT_OF_INVERSE)) e ∙ map-map (inverse_by LEFT_OF_INVERSE RIGHT_OF_INVERSE) (pair LOW_OF_INVERSE HIGH_OF_INVERSE) v ∙ map_is_block by_tables_of_inverse inv_sub_byte v is inverse_s_box_rule

@@ -111,7 +111,7 @@ sub_word-bytes : (w : List ℕ) → ReadsBytes (sub_word w)
 unfolding sub_word
 sub_word-bytes w = made_bytes 4 (λ i. sub_byte (slice_index w i)) (λ i. sub_byte-lt (slice_index w i))
 
-power_of_x-lt : (n : ℕ) → power_of_x n < 256
+pub power_of_x-lt : (n : ℕ) → power_of_x n < 256
 unfolding power_of_x
 power_of_x-lt zero = lit< tt
 power_of_x-lt (suc n) = mul-lt 2 (power_of_x n) (power_of_x-lt n)

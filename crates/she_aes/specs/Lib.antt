@@ -2,6 +2,7 @@ pub mod Field
 pub mod FieldFacts
 pub mod Lookups
 pub mod Substitution
+pub mod Pairs
 pub mod Cipher
 pub mod KeySteps
 pub mod RoundTables

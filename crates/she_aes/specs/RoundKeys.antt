@@ -1,8 +1,22 @@
--- The round keys that a schedule holds.
-use Rattle.std.specs.Prelude.{◌≡◌, List, [], ℕ, slice_index_or}
-use Rattle.she_aes.specs.Cipher.{IsBlock, round_keys}
+-- What a schedule holds beside its key: what the rounds add.
+use Rattle.std.specs.Prelude.{◌≡◌, ℕ, List, [], ◌∷◌, ◌++◌, map}
+use Rattle.std.specs.List.{range_with_len}
+use Rattle.she_aes.specs.Cipher.{IsBlock, key_words, round_key}
+use Rattle.she_aes.specs.Pairs.{in_pairs, without_constant}
 
--- these are the round keys of the first of them, which is the key itself
-pub record AreRoundKeys (keys : List (List ℕ)) : Type 0 where
-  pub of_key : keys ≡ round_keys (slice_index_or keys 0 [])
-  pub key_is_block : IsBlock (slice_index_or keys 0 [])
+-- what the round with this number adds: its key in pairs, less the constant of the S-box
+abbrev pub added_key : List ℕ → ℕ → List ℕ
+added_key key round = in_pairs (without_constant (round_key (key_words key) round))
+
+-- what the last round adds, which gives bytes
+abbrev pub last_added_key : List ℕ → List ℕ
+last_added_key key = without_constant (round_key (key_words key) 10)
+
+-- what the ten rounds add
+unfoldable pub added_keys : List ℕ → List (List ℕ)
+added_keys key = map (added_key key) (range_with_len 1 9) ++ last_added_key key ∷ []
+
+-- that is added under this key
+pub record AreRoundKeys (key : List ℕ) (added : List (List ℕ)) : Type 0 where
+  pub of_key : added ≡ added_keys key
+  pub key_is_block : IsBlock key

@@ -97,24 +97,26 @@ impl fmt::Debug for Block {
     }
 }
 
-/// The eleven round keys of a key (FIPS 197, section 5.2). A contract sees the key itself.
+/// The round keys of a key (FIPS 197, section 5.2). A contract sees the key itself.
 #[derive(Clone, Copy)]
 pub struct Schedule {
-    keys: [State; 11],
+    // the key, which is the first round key
+    key: State,
+    // what the ten rounds add: nine round keys in pairs and the last one in bytes, all less the constant of the S-box
+    added: [State; 10],
 }
 
 impl Model for Schedule {
-    ghost use Rattle.std.specs.Prelude.{List, [], ℕ, slice_index_or};
-    ghost use Rattle.she_aes.specs.Cipher.{round_keys};
-    ghost use Rattle.she_aes.specs.RoundKeys.{AreRoundKeys};
+    ghost use Rattle.std.specs.Prelude.{List, ℕ};
+    ghost use Rattle.she_aes.specs.RoundKeys.{added_keys, AreRoundKeys};
 
     ghost Value = { List ℕ };
 
-    ghost view = { λ s. slice_index_or s.keys 0 [] };
+    ghost view = { λ s. s.key };
 
-    ghost invariant = { λ s. AreRoundKeys s.keys };
+    ghost invariant = { λ s. AreRoundKeys s.key s.added };
 
-    ghost inverse = { λ key. record { keys = round_keys key } };
+    ghost inverse = { λ key. record { key = key; added = added_keys key } };
 }
 
 /// The round keys of a key, by the key expansion of FIPS 197, section 5.2.
@@ -123,7 +125,8 @@ pub fn expand(key: &Block) -> Schedule
     ensures is_block { IsBlock result }
 {
     Schedule {
-        keys: expansion::round_keys(&key.bytes),
+        key: key.bytes,
+        added: expansion::added_keys(&key.bytes),
     }
 }
 
@@ -133,18 +136,18 @@ pub fn encrypt(schedule: &Schedule, block: &Block) -> Block
     ensures is_block { IsBlock result }
     ensures of_blocks { IsBlock schedule.now × IsBlock block.now }
 {
-    let keys = &schedule.keys;
-    let s0 = rounds::add_round_key(&keys[0], u8x16::from_array(block.bytes));
-    let s1 = rounds::round(&keys[1], s0);
-    let s2 = rounds::round(&keys[2], s1);
-    let s3 = rounds::round(&keys[3], s2);
-    let s4 = rounds::round(&keys[4], s3);
-    let s5 = rounds::round(&keys[5], s4);
-    let s6 = rounds::round(&keys[6], s5);
-    let s7 = rounds::round(&keys[7], s6);
-    let s8 = rounds::round(&keys[8], s7);
-    let s9 = rounds::round(&keys[9], s8);
-    Block::of(rounds::last_round(&keys[10], s9).to_array())
+    let added = &schedule.added;
+    let s0 = rounds::begin(&schedule.key, &block.bytes);
+    let s1 = rounds::round(&added[0], s0);
+    let s2 = rounds::round(&added[1], s1);
+    let s3 = rounds::round(&added[2], s2);
+    let s4 = rounds::round(&added[3], s3);
+    let s5 = rounds::round(&added[4], s4);
+    let s6 = rounds::round(&added[5], s5);
+    let s7 = rounds::round(&added[6], s6);
+    let s8 = rounds::round(&added[7], s7);
+    let s9 = rounds::round(&added[8], s8);
+    Block::of(rounds::last_round(&added[9], s9).to_array())
 }
 
 /// What [`encrypt`] gives, by tables of words, for processors that shuffle no bytes. It reads them at places that depend on the key and
@@ -154,12 +157,12 @@ pub fn encrypt_by_tables(schedule: &Schedule, block: &Block) -> Block
     ensures is_block { IsBlock result }
     ensures of_blocks { IsBlock schedule.now × IsBlock block.now }
 {
-    let keys = &schedule.keys;
-    let mut state = rounds::xor(&block.bytes, &keys[0]);
-    for number in 1..10 {
-        state = by_tables::round(&keys[number], &state);
+    let added = &schedule.added;
+    let mut state = rounds::xor(&block.bytes, &schedule.key);
+    for done in 0..9 {
+        state = by_tables::round(&by_tables::key_of(&added[done]), &state);
     }
-    Block::of(by_tables::last_round(&keys[10], &state))
+    Block::of(by_tables::last_round(&rounds::last_key_of(&added[9]), &state))
 }
 
 /// The block decrypted under the key of the schedule (FIPS 197, section 5.3): the block that `encrypt`
@@ -169,18 +172,19 @@ pub fn decrypt(schedule: &Schedule, block: &Block) -> Block
     ensures is_block { IsBlock result }
     ensures of_blocks { IsBlock schedule.now × IsBlock block.now }
 {
-    let keys = &schedule.keys;
-    let s9 = inverse::undo_last_round(&keys[10], u8x16::from_array(block.bytes));
-    let s8 = inverse::undo_round(&keys[9], s9);
-    let s7 = inverse::undo_round(&keys[8], s8);
-    let s6 = inverse::undo_round(&keys[7], s7);
-    let s5 = inverse::undo_round(&keys[6], s6);
-    let s4 = inverse::undo_round(&keys[5], s5);
-    let s3 = inverse::undo_round(&keys[4], s4);
-    let s2 = inverse::undo_round(&keys[3], s3);
-    let s1 = inverse::undo_round(&keys[2], s2);
-    let s0 = inverse::undo_round(&keys[1], s1);
-    Block::of(rounds::add_round_key(&keys[0], s0).to_array())
+    let added = &schedule.added;
+    let k10 = rounds::last_key_of(&added[9]);
+    let s9 = inverse::undo_last_round(&k10, u8x16::from_array(block.bytes));
+    let s8 = inverse::undo_round(&rounds::key_of(&added[8]), s9);
+    let s7 = inverse::undo_round(&rounds::key_of(&added[7]), s8);
+    let s6 = inverse::undo_round(&rounds::key_of(&added[6]), s7);
+    let s5 = inverse::undo_round(&rounds::key_of(&added[5]), s6);
+    let s4 = inverse::undo_round(&rounds::key_of(&added[4]), s5);
+    let s3 = inverse::undo_round(&rounds::key_of(&added[3]), s4);
+    let s2 = inverse::undo_round(&rounds::key_of(&added[2]), s3);
+    let s1 = inverse::undo_round(&rounds::key_of(&added[1]), s2);
+    let s0 = inverse::undo_round(&rounds::key_of(&added[0]), s1);
+    Block::of(rounds::add_round_key(&schedule.key, s0).to_array())
 }
 
 #[cfg(test)]

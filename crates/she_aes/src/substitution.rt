@@ -4,15 +4,18 @@
 // its inverse is found by look-ups in tables of 16 bytes, each of which is one shuffle of all 16 bytes of the state. The quotient of
 // 0 is no element of the field: it is a place from 128 on, and what is looked up there is 0. (M. Hamburg, Accelerating AES with vector
 // permute instructions, 2009.)
-ghost use Rattle.std.specs.Prelude.{◌≡◌, All, IsTrue, map};
+//
+// The sum of two bytes is taken for the sum of their pairs, so between two rounds the state stays in pairs.
+ghost use Rattle.std.specs.Prelude.{◌≡◌, List, ℕ, All, IsTrue, map};
 ghost use Rattle.she_aes.specs.Lookups.{is_place, entry};
-ghost use Rattle.she_aes.specs.Substitution.{PlacesFit, substitute};
-ghost use Rattle.she_aes.specs.Cipher.{sub_bytes, inv_sub_bytes};
+ghost use Rattle.she_aes.specs.Substitution.{pair, inverse_by};
+ghost use Rattle.she_aes.specs.Pairs.{in_pairs, without_constant};
+ghost use Rattle.she_aes.specs.Cipher.{IsBlock, inv_sub_bytes};
 
 use std::simd::prelude::*;
 
 // A table of 16 bytes, one for each nibble.
-type Table = [u8; 16];
+pub(crate) type Table = [u8; 16];
 
 // The inverse of each element of the field of 16, whose modulus is x^4 + x + 1. That of 0 is a place from 128 on.
 const INVERSES: Table = [
@@ -34,12 +37,39 @@ const HIGH: Table = [
 ];
 
 // The byte that the S-box gives for the inverse, but for the constant 63: what the two quotients add to it.
-const LEFT: Table = [
+pub(crate) const LEFT: Table = [
     0x00, 0x9f, 0x61, 0x16, 0xc2, 0x2a, 0x77, 0xe8, 0x89, 0x4b, 0x5d, 0x3c, 0xb5, 0xa3, 0xd4, 0xfe,
 ];
 
-const RIGHT: Table = [
+pub(crate) const RIGHT: Table = [
     0x00, 0xcb, 0xd7, 0xb0, 0x21, 0x8d, 0x67, 0xac, 0x7b, 0x5a, 0xea, 0x3d, 0x46, 0xf6, 0x91, 0x1c,
+];
+
+// The pair of that byte.
+pub(crate) const LEFT_PAIR: Table = [
+    0x00, 0x86, 0x52, 0xc7, 0xb5, 0xa6, 0x95, 0x13, 0x41, 0xf4, 0x33, 0x61, 0x20, 0xe7, 0x72, 0xd4,
+];
+
+pub(crate) const RIGHT_PAIR: Table = [
+    0x00, 0xf3, 0xbf, 0xcc, 0x3c, 0xbc, 0x73, 0x80, 0x3f, 0x03, 0xcf, 0x70, 0x4f, 0x83, 0xf0, 0x4c,
+];
+
+// The pair of that byte times x, the element 02.
+pub(crate) const LEFT_PAIR_DOUBLED: Table = [
+    0x00, 0xc1, 0xb5, 0x87, 0x86, 0x75, 0x32, 0xf3, 0x46, 0xc0, 0x47, 0xf2, 0xb4, 0x33, 0x01, 0x74,
+];
+
+pub(crate) const RIGHT_PAIR_DOUBLED: Table = [
+    0x00, 0xbc, 0x20, 0x3f, 0xb2, 0x11, 0x1f, 0xa3, 0x83, 0x31, 0x0e, 0x2e, 0xad, 0x92, 0x8d, 0x9c,
+];
+
+// The byte of a pair, plus the constant 63, which stands in the first of these tables.
+const BYTE_OF_LOWER: Table = [
+    0x63, 0xd0, 0x8a, 0x39, 0xb9, 0x0a, 0x50, 0xe3, 0x9f, 0x2c, 0x76, 0xc5, 0x45, 0xf6, 0xac, 0x1f,
+];
+
+const BYTE_OF_UPPER: Table = [
+    0x00, 0xb2, 0xb5, 0x07, 0x3a, 0x88, 0x8f, 0x3d, 0xac, 0x1e, 0x19, 0xab, 0x96, 0x24, 0x23, 0x91,
 ];
 
 // The same for the inverse S-box, which begins with the inverse of the affine map: its constant stands in the first of these tables.
@@ -59,12 +89,25 @@ const RIGHT_OF_INVERSE: Table = [
     0x00, 0x3b, 0xe4, 0xc8, 0x03, 0x14, 0x2c, 0x17, 0xf3, 0xf0, 0x38, 0xdc, 0x2f, 0xe7, 0xcb, 0xdf,
 ];
 
-// SubBytes.
+// The constant of the S-box, which the tables `LEFT` and `RIGHT` and those of their pairs leave out, and its pair.
+pub(crate) const CONSTANT: u8 = 0x63;
+
+pub(crate) const PAIR_OF_CONSTANT: u8 = 0x8e;
+
+// Each byte as its pair.
 #[inline(always)]
-pub(crate) fn sub_bytes(state: u8x16) -> u8x16
-    ensures { result ≡ sub_bytes state }
+pub(crate) fn pairs(bytes: u8x16) -> u8x16
+    ensures { result ≡ in_pairs bytes }
 {
-    substituted(LOW, HIGH, LEFT, RIGHT, state) ^ u8x16::splat(0x63)
+    paired(LOW, HIGH, bytes)
+}
+
+// The byte of each pair, plus the constant of the S-box.
+#[inline(always)]
+pub(crate) fn bytes_without_constant(pairs: u8x16) -> u8x16
+    ensures { (bytes : List ℕ) → IsBlock bytes → pairs ≡ in_pairs bytes → result ≡ without_constant bytes }
+{
+    paired(BYTE_OF_LOWER, BYTE_OF_UPPER, pairs)
 }
 
 // InvSubBytes.
@@ -72,24 +115,25 @@ pub(crate) fn sub_bytes(state: u8x16) -> u8x16
 pub(crate) fn inv_sub_bytes(state: u8x16) -> u8x16
     ensures { result ≡ inv_sub_bytes state }
 {
-    substituted(
-        LOW_OF_INVERSE,
-        HIGH_OF_INVERSE,
-        LEFT_OF_INVERSE,
-        RIGHT_OF_INVERSE,
-        state,
-    )
+    let pairs = paired(LOW_OF_INVERSE, HIGH_OF_INVERSE, state);
+    inverted(LEFT_OF_INVERSE, RIGHT_OF_INVERSE, pairs)
 }
 
-// Each byte substituted by way of the pair that the first two tables take it for.
+// What the two tables take each byte for: the sum of what they have for its low four bits and for its high four bits.
 #[inline(always)]
-fn substituted(low: Table, high: Table, left: Table, right: Table, bytes: u8x16) -> u8x16
-    requires { PlacesFit low high }
-    ensures { result ≡ map (substitute low high left right) bytes }
+fn paired(low: Table, high: Table, bytes: u8x16) -> u8x16
+    ensures { result ≡ map (pair low high) bytes }
 {
-    let pair = look_up(low, bytes & u8x16::splat(15)) ^ look_up(high, bytes >> u8x16::splat(4));
-    let upper = pair >> u8x16::splat(4);
-    let lower = pair & u8x16::splat(15);
+    look_up(low, bytes & u8x16::splat(15)) ^ look_up(high, bytes >> u8x16::splat(4))
+}
+
+// The inverse of each pair, as the two tables give it from two quotients. Called twice for the same pairs it finds these once.
+#[inline(always)]
+pub(crate) fn inverted(left: Table, right: Table, pairs: u8x16) -> u8x16
+    ensures { result ≡ map (inverse_by left right) pairs }
+{
+    let upper = pairs >> u8x16::splat(4);
+    let lower = pairs & u8x16::splat(15);
     let total = upper ^ lower;
     let quotient = look_up(QUOTIENTS, lower);
     let from_upper = look_up(INVERSES, upper) ^ quotient;

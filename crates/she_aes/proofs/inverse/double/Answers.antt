@@ -3,7 +3,7 @@ use Rattle.std.specs.Int.Bits.{bit_xor}
 use Rattle.std.specs.Simd.Lanes.{zip2, sel_l, top}
 use Rattle.she_aes.specs.Field.{mul}
 use Rattle.she_aes.proofs.MixingLanes.{doubled}
-use Rattle.she_aes.proofs.rounds.double.Goals as goal
+use Rattle.she_aes.proofs.inverse.double.Goals as goal
 
 pub returns : goal.returns
 returns c =
