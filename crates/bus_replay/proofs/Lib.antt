@@ -1,5 +1,6 @@
 pub mod Canonical
 pub mod Each
+pub mod AnswerSizes
 pub mod Judged
 pub mod Phases
 pub mod Summing

@@ -1,5 +1,5 @@
 //! The answers of single lines, in lower-case digits.
-ghost use Rattle.std.specs.Prelude.{◌≡◌, OnOk};
+ghost use Rattle.std.specs.Prelude.{◌≡◌, ◌≤◌, ℕ, List, length, OnOk};
 ghost use Rattle.bus_replay.specs.Texts.{TellsFrame, TellsJudgement};
 ghost use Rattle.bus_replay.specs.Steps.{HasPayload, Adds};
 
@@ -75,6 +75,14 @@ pub fn push_frame(
     Ok(())
 }
 
+/// The most bytes that the answer of a line of `frame` has: two digits for each byte of the payload and of the four behind it, and the line feed.
+pub fn most_frame_bytes(line: &FrameLine) -> usize
+    requires { HasPayload line.now }
+    ensures { (text : List ℕ) → TellsFrame line.now text → length text ≤ result }
+{
+    2 * (line.payload.bytes().len() + 4) + 1
+}
+
 /// The window of the receiver that `judge` asks, the widest one.
 const WINDOW: u16 = 256;
 
@@ -92,4 +100,15 @@ pub fn push_judgement(
     let schedule = kept.schedule(&line.key);
     let judgement = judge(schedule, line.id, line.counter, WINDOW, &parts);
     push_outcome(text, parts.payload, &judgement)
+}
+
+/// The bytes of the answer to an accepted PDU beside the digits of its payload: the word, the freshness in 16 digits, two blanks and the line feed. No
+/// other answer of `judge` is so long.
+const SUCCESS_BYTES: usize = 38;
+
+/// The most bytes that the answer of a line of `judge` has: those of an acceptance, with two digits for each byte but the last four of up to 64.
+pub fn most_judgement_bytes(line: &JudgeLine) -> usize
+    ensures { (text : List ℕ) → TellsJudgement line.now text → length text ≤ result }
+{
+    SUCCESS_BYTES + 2 * line.pdu.bytes().len().min(64).saturating_sub(4)
 }
