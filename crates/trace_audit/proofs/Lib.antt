@@ -3,3 +3,4 @@ pub mod Rising
 pub mod Audited
 pub mod Noting
 pub mod Endings
+pub mod Naming

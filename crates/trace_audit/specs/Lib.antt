@@ -4,3 +4,4 @@ pub mod Auditing
 pub mod Findings
 pub mod Rows
 pub mod Steps
+pub mod Named

@@ -13,10 +13,12 @@ mod run;
 #[cfg(test)]
 mod tests;
 
-ghost use Rattle.std.specs.Prelude.{◌≡◌, ◌≢◌, ◌⊎◌, drop, length, map, string_bytes, codes, None, IfOk};
+ghost use Rattle.std.specs.Prelude.{◌≡◌, ◌≢◌, ◌⊎◌, drop, length, map as each, string_bytes, codes, None, IfOk};
+ghost use Rattle.answer_rows.specs.AnswerRows.{EndsInRow};
 ghost use Rattle.command_edge.specs.Named.{IsFreshFile, IsFreshInput};
 ghost use Rattle.command_edge.specs.declared.opening.NamedSource.TheVariants as named;
-ghost use Rattle.trace_audit.specs.Rows.{NamesInputs};
+ghost use Rattle.trace_audit.specs.Rows.{audit_usage, NamesInputs, AuditInputs, ComesInAudit};
+ghost use Rattle.trace_audit.specs.Named.{AreNamed};
 
 use crate::run::run_audit;
 use bus_port::{CleanSource, Sink, StdSink, StdSource};
@@ -44,26 +46,47 @@ fn main(rt: HostRuntime) -> ExitCode {
 }
 
 /// Runs the words of the command line, the program's name first, over standard output and the files that they name; without words over
-/// the example. No file is opened before the words are known to be two. Where both are `-`, the map comes from standard input, and the
-/// log is missing.
+/// the example. No file is opened before the words are known to be two.
 fn start(rt: &HostRuntime, words: &[String]) -> u8
-    ensures usage { result ≡ 2 → ¬ NamesInputs (drop 1 (map string_bytes words.now)) }
-    ensures usage_only { ¬ NamesInputs (drop 1 (map string_bytes words.now)) → length (drop 1 (map string_bytes words.now)) ≢ 0
+    ensures usage { result ≡ 2 → ¬ NamesInputs (drop 1 (each string_bytes words.now)) }
+    ensures usage_only { ¬ NamesInputs (drop 1 (each string_bytes words.now)) → length (drop 1 (each string_bytes words.now)) ≢ 0
         → (result ≡ 2) ⊎ (result ≡ 6) }
 {
     let words = behind_name(words);
     let mut sink = StdSink::new(rt.stdout());
     match words {
         [] => run_example(rt.alloc(), &mut sink),
+        _ => audit_named(rt, rt.stdin(), rt.stdin(), rt.alloc(), words, &mut sink),
+    }
+}
+
+/// Audits what two words name, the map's word first, and gives the status. `-` is standard input, which is handed in once for each word; where
+/// both are `-`, the map has it, and the log is missing. Words that aren't two name no source, and nothing is opened.
+fn audit_named<R: Files, I: Read + Drop, K: Sink>(
+    rt: &R,
+    map_input: I,
+    log_input: I,
+    alloc: Global,
+    words: &[String],
+    sink: &mut K,
+) -> u8
+    // A row of the table of answers comes, over sources from which nothing came before: the map's is the first word's, and the log's the second's, as far
+    // as standard input tells them.
+    ensures named { (i : AuditInputs) × AreNamed (I.remaining map_input) (I.remaining log_input) (each string_bytes words.now) i
+        × EndsInRow audit_usage (ComesInAudit (each string_bytes words.now) i) (K.state sink.old) (K.state sink.new) result }
+    ensures usage { result ≡ 2 → ¬ NamesInputs (each string_bytes words.now) }
+    ensures usage_only { ¬ NamesInputs (each string_bytes words.now) → (result ≡ 2) ⊎ (result ≡ 6) }
+{
+    match words {
         [map, log] => {
-            let mut log = open_log(rt, rt.stdin(), map.as_str(), log.as_str());
-            let mut map = open_named(rt, rt.stdin(), map.as_str());
-            run_audit(rt.alloc(), words, &mut map, &mut log, &mut sink)
+            let mut log = open_log(rt, log_input, map.as_str(), log.as_str());
+            let mut map = open_named(rt, map_input, map.as_str());
+            run_audit(alloc, words, &mut map, &mut log, sink)
         }
         _ => {
-            let mut map = CleanSource::new(Vec::new(rt.alloc()));
-            let mut log = CleanSource::new(Vec::new(rt.alloc()));
-            run_audit(rt.alloc(), words, &mut map, &mut log, &mut sink)
+            let mut map = CleanSource::new(Vec::new(alloc));
+            let mut log = CleanSource::new(Vec::new(alloc));
+            run_audit(alloc, words, &mut map, &mut log, sink)
         }
     }
 }
