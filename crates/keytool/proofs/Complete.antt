@@ -15,7 +15,7 @@ use Rattle.keytool.proofs.Named.{asks_one, names_one}
 use Rattle.keytool.proofs.Plain.{plain_values}
 
 -- want of memory is free, whatever the values ask for
-free : (asked : Result Task BadValue) → PlainRow asked no_memory
+pub free : (asked : Result Task BadValue) → PlainRow asked no_memory
 free (Ok task) = tt
 free (Err bad) = tt
 

@@ -8,3 +8,5 @@ pub mod Rising
 pub mod OneJoining
 pub mod MadePdus
 pub mod Endings
+pub mod TextRows
+pub mod Opened

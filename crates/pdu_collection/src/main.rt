@@ -15,7 +15,9 @@ mod run;
 #[cfg(test)]
 mod tests;
 
-ghost use Rattle.std.specs.Prelude.{◌≡◌, ◌≢◌, ◌⊎◌, ◌<◌, drop, length, map, string_bytes, IfOk};
+ghost use Rattle.std.specs.Prelude.{◌≡◌, ◌⊎◌, ◌<◌, drop, length, map, string_bytes, IfOk};
+ghost use Rattle.answer_rows.specs.AnswerRows.{EndsInRow};
+ghost use Rattle.pdu_collection.specs.Rows.{pairing_usage, ComesOfText, EndsOverSource};
 
 use crate::run::run_pairs;
 use bus_port::{CleanSource, Sink, StdSink};
@@ -33,37 +35,45 @@ c 2a070a16bee2
 ";
 
 fn main(rt: HostRuntime) -> ExitCode {
+    let mut sink = StdSink::new(rt.stdout());
     let status = match words_of(&rt) {
-        Ok(words) => start(&rt, words.as_slice()),
+        Ok(words) => start(&rt, words.as_slice(), &mut sink),
         Err(AllocError) => NO_MEMORY,
     };
     ExitCode::from(status)
 }
 
-/// Runs the words of the command line, the program's name first, over standard output and the script that they name; without a word over
-/// the example. No file is opened before the words are known to be one.
-fn start(rt: &HostRuntime, words: &[String]) -> u8
+/// Runs the words of the command line, the program's name first, over the script that they name; without a word behind the name over the
+/// example. No file is opened before the words are known to be one.
+fn start<K: Sink>(rt: &HostRuntime, words: &[String], sink: &mut K) -> u8
     ensures usage { result ≡ 2 → 1 < length (drop 1 (map string_bytes words.now)) }
     ensures usage_only { 1 < length (drop 1 (map string_bytes words.now)) → (result ≡ 2) ⊎ (result ≡ 6) }
+
+    // The words are those that are run, where there is one.
+    ensures words { 0 < length (drop 1 (map string_bytes words.now))
+        → EndsOverSource (drop 1 (map string_bytes words.now)) (K.state sink.old) (K.state sink.new) result }
+
+    // Without one it ends as the example's text does.
+    ensures example { length (drop 1 (map string_bytes words.now)) ≡ 0
+        → EndsInRow pairing_usage (ComesOfText EXAMPLE.now) (K.state sink.old) (K.state sink.new) result }
 {
     let words = behind_name(words);
-    let mut sink = StdSink::new(rt.stdout());
     match words {
-        [] => run_example(rt.alloc(), &mut sink),
+        [] => run_example(rt.alloc(), sink),
         [file] => {
             let mut script = open_named(rt, rt.stdin(), file.as_str());
-            run_pairs(rt.alloc(), words, &mut script, &mut sink)
+            run_pairs(rt.alloc(), words, &mut script, sink)
         }
         _ => {
             let mut script = CleanSource::new(Vec::new(rt.alloc()));
-            run_pairs(rt.alloc(), words, &mut script, &mut sink)
+            run_pairs(rt.alloc(), words, &mut script, sink)
         }
     }
 }
 
 /// Runs the example.
 fn run_example<K: Sink>(alloc: Global, sink: &mut K) -> u8
-    ensures { result ≢ 2 }
+    ensures { EndsInRow pairing_usage (ComesOfText EXAMPLE.now) (K.state sink.old) (K.state sink.new) result }
 {
     match example(alloc) {
         Ok((words, bytes)) => {
@@ -76,7 +86,8 @@ fn run_example<K: Sink>(alloc: Global, sink: &mut K) -> u8
 
 /// The one word of the example, and its script.
 fn example(alloc: Global) -> Result<(Vec<String>, Vec<u8>), AllocError>
-    ensures { IfOk result (λ made. length (made.0.items) ≡ 1) }
+    ensures word { IfOk result (λ made. length (made.0.items) ≡ 1) }
+    ensures script { IfOk result (λ made. made.1.items ≡ EXAMPLE.now) }
 {
     let mut words = Vec::new(alloc);
     words.push(String::from_str(alloc, "-")?)?;

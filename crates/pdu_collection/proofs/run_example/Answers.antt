@@ -1,0 +1,18 @@
+use Rattle.std.proofs.Common.{◌≡◌, ◌∙◌, ◌≤◌, length, map, ap, refl, arith}
+use Rattle.std.proofs.lemmas.List.{length-map}
+use Rattle.std.specs.Prelude.{string_bytes, Some}
+use Rattle.bus_port.specs.MemSource.{CleanSourceState}
+use Rattle.command_edge.specs.Input.{input_limit}
+use Rattle.pdu_collection.specs.Rows.{NamesInput}
+use Rattle.pdu_collection.specs.declared.TheConstants.{EXAMPLE}
+use Rattle.pdu_collection.proofs.TextRows.{EndsInRow-of_text}
+use Rattle.pdu_collection.proofs.run_example.Goals as goal
+
+pub returns-in-Ok : goal.returns-in-Ok
+returns-in-Ok g c =
+    let one : NamesInput (map string_bytes c.as_slice.result.now) =
+    length-map c.as_slice.result.now string_bytes ∙ ap length c.as_slice.ensures.value ∙ c.in-Ok.ensures.word in
+    let size : length EXAMPLE.now ≡ 109 = refl in
+    let short : length EXAMPLE.now ≤ input_limit = omega (arith, size) in
+    let told = ap (λ (s : CleanSourceState). Some s.left) c.new-script.ensures ∙ ap Some c.in-Ok.ensures.script in
+    EndsInRow-of_text (map string_bytes c.as_slice.result.now) EXAMPLE.now _ _ one short told refl _ _ _ c.run_pairs.ensures.ends
