@@ -1,3 +1,5 @@
-pub mod AnswerRows
-pub mod Refusals
-pub mod RowLaws
+pub mod Rows
+pub mod Inputs
+pub mod InputLaws
+pub mod Endings
+pub mod EndingLaws

@@ -1,11 +1,11 @@
-//! The rows of answers of a program that reads plain lines and prints a text.
+//! The rows of answers of a program: a status and a text each, and how a run ends in one of them.
 //!
-//! Such a program ends in one of seven ways, whatever its lines are: the words are of no form, a source failed, an input is too long, a line is
-//! refused, there was no memory, it is done, or the sink failed. The first six are the rows, and each has a text and a status; the seventh is
-//! a front of the text of one of them, and the status 6. [`LinesRefusal`] says why it isn't done, and [`tell_refusal`] tells it. When a row
-//! comes is for the program to say.
+//! Which rows a program has, and when each comes, is for the program to say. Whatever they are, a run ends in
+//! a row that comes, whose text and status are told; or, where the sink failed, in a front of that text, and
+//! the status 6. [`Refusal`] is a row in place of what a program was asked to do, and [`tell_refusal`] tells
+//! it. The rows for want of an input, 5, 8 and 7, are those of every program that reads.
 #![tactic(auto)]
 
 mod refusal;
 
-pub use refusal::{LinesRefusal, tell_refusal};
+pub use refusal::{Refusal, tell_refusal};

@@ -1,89 +1,96 @@
-//! Why the lines of an input aren't answered, and how it is told.
-ghost use Rattle.std.specs.Prelude.{◌≡◌};
+//! Why a program doesn't do what it is asked, and how it is told.
+ghost use Rattle.std.specs.Prelude.{◌≡◌, string_bytes};
 ghost use Rattle.command_edge.specs.Told.{EndingTold};
-ghost use Rattle.answer_rows.specs.Refusals.{refused_status, refused_text, NamesFault};
+ghost use Rattle.answer_rows.specs.Rows.{memory_row};
 
 use bus_port::Sink;
 use command_edge::{InputFault, NO_MEMORY, tell};
-use std::alloc::Global;
-use text_lines::texts::fault_text;
-use text_lines::{Memory, ScriptFault};
+use std::marker::Model;
 
-/// Why the lines aren't answered: the first cause that applies, in the order in which the program looks for them.
+/// A row of a program's answers in place of its deed: a status, and a text with its line feed. Clauses see
+/// it as that row.
 #[derive(Debug, Drop)]
-pub enum LinesRefusal {
-    /// The words are of no form.
-    Usage,
-    /// A source failed.
-    ReadFault,
-    /// An input has more bytes than an input may have.
-    TooLong,
-    /// A line is refused, with this text.
-    Line(String),
-    /// There was no memory.
-    Memory,
+pub struct Refusal {
+    status: u8,
+    text: Text,
 }
 
-impl LinesRefusal {
-    /// The status that the program ends with, where all of the text was printed: 2, 5, 8, 4 or 7.
+/// A text that a program has, or one that was made, as it names a line or a value.
+#[derive(Debug, Drop)]
+enum Text {
+    Fixed(&'static str),
+    Made(String),
+}
+
+impl Model for Refusal {
+    ghost use Rattle.answer_rows.specs.Rows.{Row, shown};
+
+    ghost Value = { Row };
+
+    ghost view = { λ r. record { status = r.status; text = shown r.text } };
+}
+
+impl Refusal {
+    /// The row with this status and a fixed text.
+    pub fn fixed(status: u8, text: &'static str) -> Refusal
+        ensures { result ≡ record { status = status; text = text.now } }
+    {
+        Refusal {
+            status,
+            text: Text::Fixed(text),
+        }
+    }
+
+    /// The row with this status and a text that was made.
+    pub fn made(status: u8, text: String) -> Refusal
+        ensures { result ≡ record { status = status; text = string_bytes text } }
+    {
+        Refusal {
+            status,
+            text: Text::Made(text),
+        }
+    }
+
+    /// Want of memory: 7, and nothing is printed.
+    pub fn no_memory() -> Refusal
+        ensures { result ≡ memory_row }
+    {
+        Refusal::fixed(NO_MEMORY, "")
+    }
+
+    /// The status that the program ends with, where all of the text was printed.
     pub fn status(&self) -> u8
-        ensures { result ≡ refused_status self.now }
+        ensures { result ≡ self.now.status }
     {
-        match self {
-            LinesRefusal::Usage => 2,
-            LinesRefusal::ReadFault => InputFault::ReadFault.status(),
-            LinesRefusal::TooLong => InputFault::TooLong.status(),
-            LinesRefusal::Line(_) => 4,
-            LinesRefusal::Memory => NO_MEMORY,
-        }
+        self.status
     }
 
-    /// The text that is printed: a line with its line feed, or nothing for want of memory. `usage` is the line that says the form of the
-    /// words, with its line feed.
-    pub fn text<'a>(&'a self, usage: &'a str) -> &'a str
-        ensures { result.now ≡ refused_text usage.now self.now }
+    /// The text that is printed: a line with its line feed, or nothing.
+    pub fn text(&self) -> &str
+        ensures { result.now ≡ self.now.text }
     {
-        match self {
-            LinesRefusal::Usage => usage,
-            LinesRefusal::ReadFault => InputFault::ReadFault.text(),
-            LinesRefusal::TooLong => InputFault::TooLong.text(),
-            LinesRefusal::Line(text) => text.as_str(),
-            LinesRefusal::Memory => "",
-        }
-    }
-
-    /// The refusal of a line, with the text that names it, or want of memory for the text.
-    pub fn of_line(alloc: Global, fault: ScriptFault) -> LinesRefusal
-        ensures { NamesFault fault result }
-    {
-        match fault {
-            ScriptFault::At { line, cause } => match fault_text(alloc, line, &cause) {
-                Ok(text) => LinesRefusal::Line(text),
-                Err(Memory) => LinesRefusal::Memory,
-            },
-            ScriptFault::Memory => LinesRefusal::Memory,
+        match &self.text {
+            Text::Fixed(text) => text,
+            Text::Made(text) => text.as_str(),
         }
     }
 }
 
-impl From<InputFault> for LinesRefusal {
-    ghost use Rattle.answer_rows.specs.Refusals.{refused_input};
+impl From<InputFault> for Refusal {
+    ghost use Rattle.answer_rows.specs.Rows.{input_row};
 
-    ghost from_gives = { λ fault refusal. refusal ≡ refused_input fault };
+    ghost from_gives = { λ fault refusal. refusal ≡ input_row fault };
 
-    fn from(fault: InputFault) -> LinesRefusal {
-        match fault {
-            InputFault::ReadFault => LinesRefusal::ReadFault,
-            InputFault::TooLong => LinesRefusal::TooLong,
-            InputFault::Memory => LinesRefusal::Memory,
-        }
+    fn from(fault: InputFault) -> Refusal {
+        Refusal::fixed(fault.status(), fault.text())
     }
 }
 
-/// Writes the text of a refusal, and gives the status that the program ends with: the refusal's, or 6 where the sink failed, which then has a
-/// proper front of the text. `usage` is the line that says the form of the words, with its line feed.
-pub fn tell_refusal<K: Sink>(sink: &mut K, usage: &str, refusal: &LinesRefusal) -> u8
-    ensures { EndingTold (K.state sink.old) (K.state sink.new) (refused_text usage.now refusal.now) (refused_status refusal.now) result }
+/// Writes the text of a refusal, and gives the status that the program ends with: the refusal's, or 6 where
+/// the sink failed, which then has a proper front of the text.
+pub fn tell_refusal<K: Sink>(sink: &mut K, refusal: &Refusal) -> u8
+    ensures { EndingTold (K.state sink.old) (K.state sink.new) refusal.now.text refusal.now.status
+        result }
 {
-    tell(sink, refusal.text(usage).as_bytes(), refusal.status())
+    tell(sink, refusal.text().as_bytes(), refusal.status())
 }

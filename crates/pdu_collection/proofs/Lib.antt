@@ -7,6 +7,6 @@ pub mod Scripts
 pub mod Rising
 pub mod OneJoining
 pub mod MadePdus
-pub mod Endings
+pub mod Promises
 pub mod TextRows
 pub mod Opened

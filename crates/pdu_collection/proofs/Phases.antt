@@ -1,35 +1,26 @@
 -- The two phases of a run, put together.
-use Rattle.std.proofs.Common.{◌≡◌, ℕ, List, refl, inl, inr}
+use Rattle.std.proofs.Common.{◌≡◌, ℕ, List, subst, sym, inl, inr}
 use Rattle.std.specs.Prelude.{Result, Ok, Err, Vec}
 use Rattle.std.specs.declared.alloc.Global.{Global}
-use Rattle.bus_port.specs.Source.{SourceState}
-use Rattle.bus_port.specs.Sink.{SinkState}
-use Rattle.bus_port.specs.Whole.{ReadsAll}
-use Rattle.command_edge.specs.Input.{input_limit}
-use Rattle.answer_rows.specs.AnswerRows.{EndsInRow, line_fault, no_memory, done}
-use Rattle.answer_rows.specs.declared.refusal.LinesRefusal.{LinesRefusal}
-use Rattle.answer_rows.specs.declared.refusal.LinesRefusal.TheVariants.{Usage, ReadFault, TooLong, Line, Memory}
-use Rattle.answer_rows.specs.RowLaws.{NoInput-whole, EndingTold-nothing}
+use Rattle.command_edge.specs.declared.input.InputFault.TheVariants as input
+use Rattle.answer_rows.specs.Rows.{Row}
+use Rattle.answer_rows.specs.Inputs.{ReadsWhole}
+use Rattle.answer_rows.specs.InputLaws.{Lacks-whole}
 use Rattle.pdu_collection.specs.declared.pair_lines.PairLine.{PairLine}
 use Rattle.pdu_collection.specs.PairLines.{pairs_of}
-use Rattle.pdu_collection.specs.Rows.{pairing_usage, NamesInput, OverPairs, ComesInPairing}
-use Rattle.pdu_collection.specs.Steps.{DoesPairs, PreparesPairs, ReadsPairs}
+use Rattle.pdu_collection.specs.Rows.{PairingInputs, NamesInput, OverPairs, ComesInPairing, no_input, line_fault, done}
+use Rattle.pdu_collection.specs.Steps.{DoesPairs, said, no_text, PreparesPairs, ReadsPairs}
 
--- the lines of the input that was read, or the refusal of one of them
-pub Prepares-over : (words : List (List ℕ)) (before after : SourceState) (read : List ℕ) (result : Result (Vec PairLine Global) LinesRefusal)
-    → NamesInput words → ReadsAll before after input_limit read → ReadsPairs read result → PreparesPairs words before after result
-Prepares-over words before after read (Ok lines) asks whole of = (of.1, (asks, (read, whole, of.0)))
-Prepares-over words before after read (Err (Line text)) asks whole of = (line_fault of.0, (asks, (read, whole, of.1)), of.2, refl)
-Prepares-over words before after read (Err Memory) asks whole of = (no_memory, (asks, NoInput-whole read whole), refl, refl)
-Prepares-over words before after read (Err Usage) asks whole of = absurd of
-Prepares-over words before after read (Err ReadFault) asks whole of = absurd of
-Prepares-over words before after read (Err TooLong) asks whole of = absurd of
+-- the lines of the script that was read, or the row of one of them
+pub Prepares-over : (i : PairingInputs) (read : List ℕ) (result : Result (Vec PairLine Global) Row) → NamesInput i.words
+    → ReadsWhole i.script read → ReadsPairs read result → PreparesPairs i result
+Prepares-over i read (Ok lines) asks whole (are, script) = (script, (asks, (read, whole, are)))
+Prepares-over i read (Err row) asks whole (inl (fault, is, row_is)) = subst (ComesInPairing i) (sym row_is) (line_fault fault (asks, (read, whole, is)))
+Prepares-over i read (Err row) asks whole (inr memory) =
+    subst (ComesInPairing i) (sym memory) (no_input input.Memory asks (Lacks-whole i.script read whole))
 
 -- lines that were prepared, and then told
-pub Ends-pairs : (words : List (List ℕ)) (before after : SourceState) (lines : List PairLine) (sink_before sink_after : SinkState) (status : ℕ)
-    → OverPairs words before after (λ read. pairs_of read ≡ Ok lines) → DoesPairs lines sink_before sink_after status
-    → EndsInRow pairing_usage (ComesInPairing words before after) sink_before sink_after status
-Ends-pairs words before after lines sink_before sink_after status (asks, (read, whole, is)) (inl (text, tells, told)) =
-    (done text, (asks, (read, whole, (lines, is, tells))), told)
-Ends-pairs words before after lines sink_before sink_after status (asks, (read, whole, is)) (inr (seven, same)) =
-    (no_memory, (asks, NoInput-whole read whole), EndingTold-nothing sink_before sink_after status seven same)
+pub Comes-does : (i : PairingInputs) (lines : List PairLine) → OverPairs i (λ read. pairs_of read ≡ Ok lines)
+    → (row : Row) → DoesPairs lines row → ComesInPairing i row
+Comes-does i lines (asks, (read, whole, are)) row (said text tells) = done text (asks, (read, whole, (lines, are, tells)))
+Comes-does i lines (asks, (read, whole, are)) row no_text = no_input input.Memory asks (Lacks-whole i.script read whole)

@@ -6,4 +6,5 @@ pub mod Answering
 pub mod Made
 pub mod Receiving
 pub mod Rows
+pub mod Pairs
 pub mod Steps

@@ -1,51 +1,45 @@
--- The table of answers of `pairing`: when each row comes
+-- The table of answers of `pairing`: its rows, and when each comes
 use Rattle.std.specs.Prelude.{◌≡◌, ℕ, List, length, Ok, Err, codes}
-use Rattle.bus_port.specs.Source.{SourceState}
-use Rattle.bus_port.specs.Sink.{SinkState}
-use Rattle.bus_port.specs.Whole.{ReadsAll}
+use Rattle.text_lines.specs.Readings.{Fault}
 use Rattle.text_lines.specs.Texts.{line}
-use Rattle.command_edge.specs.Input.{input_limit, NoInput}
-use Rattle.command_edge.specs.declared.input.InputFault.TheVariants as input
-use Rattle.answer_rows.specs.AnswerRows.{AnswerRow, no_form, read_fault, too_long, line_fault, no_memory, done, EndsInRow}
+use Rattle.command_edge.specs.declared.input.InputFault.{InputFault}
+use Rattle.answer_rows.specs.Rows.{Row, row_of, input_row, memory_row}
+use Rattle.answer_rows.specs.Inputs.{Reading, IsUnread, ReadsWhole, Lacks}
+use Rattle.line_rows.specs.LineRows.{line_row}
 use Rattle.pdu_collection.specs.declared.pair_lines.PairLine.{PairLine}
 use Rattle.pdu_collection.specs.PairLines.{pairs_of}
 use Rattle.pdu_collection.specs.Answering.{TellsPairs}
 
--- the line of words that is printed where the words are of no form
-abbrev pub pairing_usage : List ℕ
-pairing_usage = line (codes "usage: pairing F")
+-- what goes into a run: its words, and what was known of the source of the script
+pub record PairingInputs : Type 0 where
+  pub words : List (List ℕ)
+  pub script : Reading
 
--- one word asks for the pairs of the input that it names
+-- one word asks for the pairs of the script that it names
 abbrev pub NamesInput : List (List ℕ) → Type 0
 NamesInput words = length words ≡ 1
 
--- the text is what is printed of an input
+-- the line that is printed where they are of no form
+abbrev pub pairing_usage : List ℕ
+pairing_usage = line (codes "usage: pairing F")
+
+-- the text is what is printed of a script
 abbrev pub PrintsPairs : List ℕ → List ℕ → Type 0
 PrintsPairs read text = (lines : List PairLine) × (pairs_of read ≡ Ok lines) × TellsPairs lines text
 
--- the words are of the form, and the input was read to its end with at most 1,048,576 bytes and no fault; this holds of it
-abbrev pub OverPairs : List (List ℕ) → SourceState → SourceState → (List ℕ → Type 0) → Type 0
-OverPairs words before after P = NamesInput words × ((read : List ℕ) × ReadsAll before after input_limit read × P read)
+-- the words are of the form, and the script was read whole; this holds of it
+abbrev pub OverPairs : PairingInputs → (List ℕ → Type 0) → Type 0
+OverPairs i P = NamesInput i.words × ((read : List ℕ) × ReadsWhole i.script read × P read)
 
--- when a row comes, by the words and by what was known of the source before and after
-abbrev pub ComesInPairing : List (List ℕ) → SourceState → SourceState → AnswerRow → Type 0
-ComesInPairing words before after no_form = (¬ NamesInput words) × (after ≡ before)
-ComesInPairing words before after read_fault = NamesInput words × NoInput before after input.ReadFault
-ComesInPairing words before after too_long = NamesInput words × NoInput before after input.TooLong
-ComesInPairing words before after (line_fault fault) = OverPairs words before after (λ read. pairs_of read ≡ Err fault)
-ComesInPairing words before after no_memory = NamesInput words × NoInput before after input.Memory
-ComesInPairing words before after (done text) = OverPairs words before after (λ read. PrintsPairs read text)
+-- the table: when each row comes, with its status and text
+pub data ComesInPairing (i : PairingInputs) : Row → Type 0 where
+  no_form : ¬ NamesInput i.words → IsUnread i.script → ComesInPairing i (row_of 2 pairing_usage)
+  no_input : (fault : InputFault) → NamesInput i.words → Lacks i.script fault → ComesInPairing i (input_row fault)
+  line_fault : (fault : Fault) → OverPairs i (λ read. pairs_of read ≡ Err fault) → ComesInPairing i (line_row fault)
+  done : (text : List ℕ) → OverPairs i (λ read. PrintsPairs read text) → ComesInPairing i (row_of 0 text)
 
--- when a row comes over a text in memory, which is read to its end without a fault
-abbrev pub ComesOfText : List ℕ → AnswerRow → Type 0
-ComesOfText text no_form = ⊥
-ComesOfText text read_fault = ⊥
-ComesOfText text too_long = ⊥
-ComesOfText text (line_fault fault) = pairs_of text ≡ Err fault
-ComesOfText text no_memory = Unit {0}
-ComesOfText text (done printed) = PrintsPairs text printed
-
--- how a run ends over some source from which nothing came yet, and that counted no fault
-abbrev pub EndsOverSource : List (List ℕ) → SinkState → SinkState → ℕ → Type 0
-EndsOverSource words before after status =
-    (old new : SourceState) × (old.taken ≡ 0) × (old.faults ≡ 0) × EndsInRow pairing_usage (ComesInPairing words old new) before after status
+-- the rows that come over a text in memory, which is read to its end without a fault
+pub data ComesOfText (text : List ℕ) : Row → Type 0 where
+  line_fault_of : (fault : Fault) → pairs_of text ≡ Err fault → ComesOfText text (line_row fault)
+  memory_of : ComesOfText text memory_row
+  done_of : (printed : List ℕ) → PrintsPairs text printed → ComesOfText text (row_of 0 printed)

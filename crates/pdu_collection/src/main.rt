@@ -16,8 +16,9 @@ mod run;
 mod tests;
 
 ghost use Rattle.std.specs.Prelude.{◌≡◌, ◌⊎◌, ◌<◌, drop, length, map, string_bytes, IfOk};
-ghost use Rattle.answer_rows.specs.AnswerRows.{EndsInRow};
-ghost use Rattle.pdu_collection.specs.Rows.{pairing_usage, ComesOfText, EndsOverSource};
+ghost use Rattle.answer_rows.specs.Endings.{EndsInRow};
+ghost use Rattle.pdu_collection.specs.Rows.{ComesOfText};
+ghost use Rattle.pdu_collection.specs.Pairs.{RunsOverSource};
 
 use crate::run::run_pairs;
 use bus_port::{CleanSource, Sink, StdSink};
@@ -51,11 +52,12 @@ fn start<K: Sink>(rt: &HostRuntime, words: &[String], sink: &mut K) -> u8
 
     // The words are those that are run, where there is one.
     ensures words { 0 < length (drop 1 (map string_bytes words.now))
-        → EndsOverSource (drop 1 (map string_bytes words.now)) (K.state sink.old) (K.state sink.new) result }
+        → RunsOverSource (drop 1 (map string_bytes words.now))
+        (record { before = K.state sink.old; after = K.state sink.new; status = result }) }
 
     // Without one it ends as the example's text does.
     ensures example { length (drop 1 (map string_bytes words.now)) ≡ 0
-        → EndsInRow pairing_usage (ComesOfText EXAMPLE.now) (K.state sink.old) (K.state sink.new) result }
+        → EndsInRow (ComesOfText EXAMPLE.now) (record { before = K.state sink.old; after = K.state sink.new; status = result }) }
 {
     let words = behind_name(words);
     match words {
@@ -73,7 +75,8 @@ fn start<K: Sink>(rt: &HostRuntime, words: &[String], sink: &mut K) -> u8
 
 /// Runs the example.
 fn run_example<K: Sink>(alloc: Global, sink: &mut K) -> u8
-    ensures { EndsInRow pairing_usage (ComesOfText EXAMPLE.now) (K.state sink.old) (K.state sink.new) result }
+    ensures { EndsInRow (ComesOfText EXAMPLE.now)
+        (record { before = K.state sink.old; after = K.state sink.new; status = result }) }
 {
     match example(alloc) {
         Ok((words, bytes)) => {

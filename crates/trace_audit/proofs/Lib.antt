@@ -1,6 +1,6 @@
-pub mod Phases
 pub mod Rising
 pub mod Audited
 pub mod Noting
-pub mod Endings
 pub mod Naming
+pub mod Phases
+pub mod Promises

@@ -9,7 +9,6 @@ use Rattle.bus_port.specs.StdPort.{StdSourceState}
 use Rattle.command_edge.specs.declared.opening.NamedSource.{NamedSource}
 use Rattle.command_edge.specs.declared.opening.NamedSource.TheVariants.{File, Input}
 use Rattle.command_edge.specs.Named.{named_source, IsFreshFile, IsFreshInput}
-use Rattle.trace_audit.specs.Rows.{audit_inputs}
 use Rattle.trace_audit.specs.Named.{IsUntouched, AreNamed}
 
 is_dash : (word : List ℕ) → (word ≡ codes "-") ⊎ (¬ (word ≡ codes "-"))
@@ -78,9 +77,13 @@ module _ {F I : Type 0} (file_left : F → Option (List ℕ)) (input_left : I �
       → (map_word ≡ codes "-" → IsFreshInput map_input m) → (¬ (map_word ≡ codes "-") → IsFreshFile m)
       → (¬ (map_word ≡ codes "-") → log_word ≡ codes "-" → IsFreshInput log_input l) → (¬ (log_word ≡ codes "-") → IsFreshFile l)
       → (map_word ≡ codes "-" → log_word ≡ codes "-" → l ≡ missing)
-      → AreNamed (input_left map_input) (input_left log_input) words
-      (audit_inputs (named_source file_left input_left m) map_after (named_source file_left input_left l) log_after)
+      → AreNamed (input_left map_input) (input_left log_input) words (record {
+        words = words;
+        map = record { before = named_source file_left input_left m; after = map_after };
+        log = record { before = named_source file_left input_left l; after = log_after };
+      })
   are_named map_input log_input words map_word log_word m l map_after log_after are input_m file_m input_l file_l none = record {
+    words_are = refl;
     map_untouched = map_fresh map_input map_word m input_m file_m;
     log_untouched = log_fresh log_input map_word log_word l input_l file_l none;
     map_input = λ file log e is. (fresh_input map_input m (input_m (first_same words map_word log_word file log are e ∙ is))).1;
@@ -92,10 +95,12 @@ module _ {F I : Type 0} (file_left : F → Option (List ℕ)) (input_left : I �
 
 -- words that aren't two name nothing
 pub none_named : {A : Type 0} (f : A → List ℕ) (ws : List A) (map_told log_told : Option (List ℕ)) (m map_after l log_after : SourceState)
-    → ¬ (length ws ≡ 2) → IsUntouched m → IsUntouched l → AreNamed map_told log_told (map f ws) (audit_inputs m map_after l log_after)
+    → ¬ (length ws ≡ 2) → IsUntouched m → IsUntouched l → AreNamed map_told log_told (map f ws)
+    (record { words = map f ws; map = record { before = m; after = map_after }; log = record { before = l; after = log_after } })
 none_named f ws map_told log_told m map_after l log_after other untouched_m untouched_l =
     let none : (file log : List ℕ) → map f ws ≡ file ∷ log ∷ [] → ⊥ = λ file log e. other (sym (length-map ws f) ∙ ap length e) in
     record {
+      words_are = refl;
       map_untouched = untouched_m;
       log_untouched = untouched_l;
       map_input = λ file log e is. absurd (none file log e);

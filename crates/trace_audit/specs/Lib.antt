@@ -3,5 +3,6 @@ pub mod Frames
 pub mod Auditing
 pub mod Findings
 pub mod Rows
+pub mod Audits
 pub mod Steps
 pub mod Named

@@ -1,37 +1,36 @@
 -- What the two phases of `audit` say to one another
-use Rattle.std.specs.Prelude.{◌≡◌, ◌⊎◌, ℕ, ◌≤◌, List, length, Result, Ok, Err, Vec, string_bytes}
+use Rattle.std.specs.Prelude.{◌≡◌, ℕ, ◌≤◌, List, length, Result, Ok, Err, Vec}
 use Rattle.std.specs.declared.alloc.Global.{Global}
-use Rattle.bus_port.specs.Source.{SourceState}
-use Rattle.bus_port.specs.Sink.{SinkState}
-use Rattle.command_edge.specs.Told.{EndingTold}
-use Rattle.command_edge.specs.Input.{input_limit, NoInput}
-use Rattle.command_edge.specs.declared.input.InputFault.TheVariants as input
+use Rattle.command_edge.specs.Input.{input_limit}
+use Rattle.command_edge.specs.declared.input.InputFault.{InputFault}
 use Rattle.text_lines.specs.Readings.{Fault}
-use Rattle.text_lines.specs.Texts.{fault_text_of}
-use Rattle.answer_rows.specs.declared.refusal.LinesRefusal.{LinesRefusal}
-use Rattle.answer_rows.specs.declared.refusal.LinesRefusal.TheVariants.{Usage, ReadFault, TooLong, Line, Memory}
-use Rattle.answer_rows.specs.Refusals.{RefusesByRow}
+use Rattle.answer_rows.specs.Rows.{Row, row_of, input_row, memory_row}
+use Rattle.answer_rows.specs.Inputs.{Reading, Lacks}
+use Rattle.line_rows.specs.LineRows.{line_row}
 use Rattle.trace_audit.specs.declared.map_lines.MapLine.{MapLine}
 use Rattle.trace_audit.specs.declared.run.Audit.{Audit}
 use Rattle.trace_audit.specs.Auditing.{TellsAudit}
-use Rattle.trace_audit.specs.Rows.{audit_usage, AuditInputs, ReadsMap, IsMapFault, OverAudit, ComesInAudit}
+use Rattle.trace_audit.specs.Rows.{AuditInputs, ReadsMap, IsMapFault, OverAudit, ComesInAudit}
+
+-- why the source of a map gives no lines
+pub data LacksMap (map : Reading) : Row → Type 0 where
+  no_map : (fault : InputFault) → Lacks map fault → LacksMap map (input_row fault)
+  refused : (fault : Fault) → IsMapFault map fault → LacksMap map (line_row fault)
 
 -- the lines of the whole map, or why there are none
-abbrev pub ReadsMapSource : SourceState → SourceState → Result (Vec MapLine Global) LinesRefusal → Type 0
-ReadsMapSource before after (Ok lines) = ReadsMap before after lines.items
-ReadsMapSource before after (Err (Line text)) = (fault : Fault) × IsMapFault before after fault × (string_bytes text ≡ fault_text_of fault)
-ReadsMapSource before after (Err ReadFault) = NoInput before after input.ReadFault
-ReadsMapSource before after (Err TooLong) = NoInput before after input.TooLong
-ReadsMapSource before after (Err Memory) = NoInput before after input.Memory
-ReadsMapSource before after (Err Usage) = ⊥
+abbrev pub ReadsMapSource : Reading → Result (Vec MapLine Global) Row → Type 0
+ReadsMapSource map (Ok lines) = ReadsMap map lines.items
+ReadsMapSource map (Err row) = LacksMap map row
 
--- how the first phase ends: in the lines of the map and the whole log, or in a refusal
-abbrev pub PreparesAudit : List (List ℕ) → AuditInputs → Result Audit LinesRefusal → Type 0
-PreparesAudit words i (Ok audit) =
-    (length audit.log.items ≤ input_limit) × OverAudit words i (λ mapping log. (mapping ≡ audit.map.items) × (log ≡ audit.log.items))
-PreparesAudit words i (Err refusal) = RefusesByRow audit_usage (ComesInAudit words i) refusal
+-- how the first phase ends: in the lines of the map and the whole log, or in a row that comes
+abbrev pub PreparesAudit : AuditInputs → Result Audit Row → Type 0
+PreparesAudit i (Ok audit) =
+    (length audit.log.items ≤ input_limit)
+    × OverAudit i (λ mapping log. (mapping ≡ audit.map.items) × (log ≡ audit.log.items))
+PreparesAudit i (Err row) = ComesInAudit i row
 
--- how the second phase ends: the whole text is told, or there was no memory for it
-abbrev pub DoesAudit : Audit → SinkState → SinkState → ℕ → Type 0
-DoesAudit audit before after status =
-    ((text : List ℕ) × TellsAudit audit.map.items audit.log.items text × EndingTold before after text 0 status) ⊎ ((status ≡ 7) × (after ≡ before))
+-- what the second phase ends in: exactly what is found is printed, or there was no memory for it
+pub data DoesAudit (audit : Audit) : Row → Type 0 where
+  found : (text : List ℕ) → TellsAudit audit.map.items audit.log.items text
+      → DoesAudit audit (row_of 0 text)
+  no_text : DoesAudit audit memory_row

@@ -14,10 +14,10 @@ mod run;
 mod tests;
 
 ghost use Rattle.std.specs.Prelude.{◌≡◌, ◌≢◌, ◌⊎◌, drop, length, map as each, string_bytes, codes, None, IfOk};
-ghost use Rattle.answer_rows.specs.AnswerRows.{EndsInRow};
 ghost use Rattle.command_edge.specs.Named.{IsFreshFile, IsFreshInput};
 ghost use Rattle.command_edge.specs.declared.opening.NamedSource.TheVariants as named;
-ghost use Rattle.trace_audit.specs.Rows.{audit_usage, NamesInputs, AuditInputs, ComesInAudit};
+ghost use Rattle.trace_audit.specs.Rows.{NamesInputs, AuditInputs};
+ghost use Rattle.trace_audit.specs.Audits.{Audits};
 ghost use Rattle.trace_audit.specs.Named.{AreNamed};
 
 use crate::run::run_audit;
@@ -70,12 +70,11 @@ fn audit_named<R: Files, I: Read + Drop, K: Sink>(
     words: &[String],
     sink: &mut K,
 ) -> u8
-    // A row of the table of answers comes, over sources from which nothing came before: the map's is the first word's, and the log's the second's, as far
-    // as standard input tells them.
-    ensures named { (i : AuditInputs) × AreNamed (I.remaining map_input) (I.remaining log_input) (each string_bytes words.now) i
-        × EndsInRow audit_usage (ComesInAudit (each string_bytes words.now) i) (K.state sink.old) (K.state sink.new) result }
-    ensures usage { result ≡ 2 → ¬ NamesInputs (each string_bytes words.now) }
-    ensures usage_only { ¬ NamesInputs (each string_bytes words.now) → (result ≡ 2) ⊎ (result ≡ 6) }
+    // All that an audit promises, over sources from which nothing came before: the map's is the first word's, and the log's the
+    // second's, as far as standard input tells them.
+    ensures { (i : AuditInputs)
+        × AreNamed (I.remaining map_input) (I.remaining log_input) (each string_bytes words.now) i
+        × Audits i (record { before = K.state sink.old; after = K.state sink.new; status = result }) }
 {
     match words {
         [map, log] => {

@@ -1,12 +1,15 @@
-use Rattle.answer_rows.specs.Refusals.{GivesLines}
-use Rattle.trace_audit.specs.MapLines.{map_of}
-use Rattle.trace_audit.proofs.Phases.{MapSource-absent, MapSource-read}
+use Rattle.std.proofs.lemmas.Result.{err_from_is_err_and}
+use Rattle.trace_audit.specs.Steps.{no_map}
+use Rattle.trace_audit.proofs.Phases.{ReadsMapSource-read}
 use Rattle.trace_audit.proofs.run.map_in.Goals as goal
 
-pub returns-in-Err : goal.returns-in-Err
-returns-in-Err g c = rw c.from.ensures (MapSource-absent _ _ c.in-Err.fault c.in-Err.ensures.refused)
+pub returns-in_err-input : goal.returns-in_err-input
+returns-in_err-input g c =
+    let p = err_from_is_err_and c.from_residual.result c.from_residual.ensures.1 in
+    rw (p.1, p.2) (no_map c.in_err-input.field-0.0 c.in_err-input.ensures.refused)
 
 pub returns : goal.returns
 returns g c =
-    let of : GivesLines (map_of c.in-Ok.input.items) c.lines_of_map.result = rw (← c.as_slice.ensures.value) c.lines_of_map.ensures in
-    MapSource-read _ _ c.in-Ok.input.items c.lines_of_map.result c.in-Ok.ensures.ok of
+    let lines = c.lines_of_map.ensures in
+    ReadsMapSource-read _ c.in_ok-input.input.items c.lines_of_map.result c.in_ok-input.ensures.ok
+    (rw (← c.as_slice.ensures.value) lines.ok) (rw (← c.as_slice.ensures.value) lines.err)

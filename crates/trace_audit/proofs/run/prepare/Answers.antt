@@ -1,7 +1,22 @@
-use Rattle.std.proofs.Common.{map, refl}
+use Rattle.std.proofs.Common.{subst, sym, refl, inr, map, rules}
+use Rattle.std.proofs.lemmas.Result.{err_from_is_err_and}
 use Rattle.std.specs.Prelude.{string_bytes}
-use Rattle.trace_audit.proofs.Phases.{Refuses-map, Refuses-log}
+use Rattle.trace_audit.specs.Rows.{NamesInputs, ComesInAudit, no_form, no_input}
+use Rattle.trace_audit.proofs.Phases.{Comes-no_map}
 use Rattle.trace_audit.proofs.run.prepare.Goals as goal
 
-pub returns-in-Err : goal.returns-in-Err
-returns-in-Err g c = Refuses-map (map string_bytes c.args.words.now) _ _ _ c.in-Err.refusal (c.names_inputs.ensures.0 c.if-not-names_inputs.false) c.in-Err.ensures
+pub returns-then-not-names_inputs : goal.returns-then-not-names_inputs
+returns-then-not-names_inputs g c =
+    let other : ¬ NamesInputs (map string_bytes c.args.words.now) = search rules in
+    subst (ComesInAudit _) (sym c.fixed.ensures) (no_form other refl refl)
+
+pub returns-in_err-map : goal.returns-in_err-map
+returns-in_err-map g c =
+    let p = err_from_is_err_and c.from_residual.result c.from_residual.ensures.1 in
+    rw (p.1, p.2) (Comes-no_map _ _ (c.names_inputs.ensures.0 c.if-not-names_inputs.false) c.in_err-map.ensures refl)
+
+pub returns-in_err-log : goal.returns-in_err-log
+returns-in_err-log g c =
+    let p = err_from_is_err_and c.from_residual-in_err-log.result c.from_residual-in_err-log.ensures.1 in
+    rw (p.1, p.2) (no_input c.in_err-log.field-0.0 (c.names_inputs.ensures.0 c.if-not-names_inputs.false)
+    (inr (c.in_ok-map.map.items, c.in_ok-map.ensures, c.in_err-log.ensures.refused)))

@@ -1,10 +1,10 @@
-use Rattle.std.proofs.Common.{map}
-use Rattle.std.specs.Prelude.{string_bytes}
-use Rattle.trace_audit.proofs.Endings.{Ends-rising, Ends-refused}
+use Rattle.answer_rows.specs.EndingLaws.{EndsInRow-more}
+use Rattle.trace_audit.proofs.Phases.{Comes-does}
+use Rattle.trace_audit.proofs.Promises.{Audits-row}
 use Rattle.trace_audit.proofs.run.run_audit.Goals as goal
 
-pub returns-clause-rising : goal.returns-clause-rising
-returns-clause-rising g c = Ends-rising (map string_bytes c.args.words.now) _ _ _ c.in_two_phases.result c.in_two_phases.ensures
+pub returns-in-Ok : goal.returns-in-Ok
+returns-in-Ok g c = Audits-row _ _ (EndsInRow-more (Comes-does _ c.in-Ok.audit c.in-Ok.ensures) c.do_audit.ensures)
 
-pub returns-clause-refused : goal.returns-clause-refused
-returns-clause-refused g c = Ends-refused (map string_bytes c.args.words.now) _ _ _ c.in_two_phases.result c.in_two_phases.ensures
+pub returns-in-Err : goal.returns-in-Err
+returns-in-Err g c = Audits-row _ _ (record { row = c.in-Err.refusal; comes = c.in-Err.ensures; told = c.tell_refusal.ensures })

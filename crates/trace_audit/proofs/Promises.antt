@@ -1,0 +1,36 @@
+-- What a run that ends in a row of the table promises
+use Rattle.std.proofs.Common.{◌≡◌, refl, arith, rules}
+use Rattle.std.proofs.lemmas.Grind.{common_steps}
+use Rattle.text_lines.specs.Readings.{Fault}
+use Rattle.text_lines.specs.Texts.{fault_text_of}
+use Rattle.answer_rows.specs.Rows.{Row}
+use Rattle.answer_rows.specs.Inputs.{IsUnread}
+use Rattle.answer_rows.specs.Endings.{Ending, PrintsWhole, EndsInRow}
+use Rattle.answer_rows.specs.EndingLaws.{EndsInRow-at}
+use Rattle.trace_audit.specs.Rows.{AuditInputs, NamesInputs, IsMapFault, ComesInAudit, map_fault}
+use Rattle.trace_audit.specs.Audits.{Audits}
+use Rattle.trace_audit.proofs.Rising.{all_rise}
+
+at_4 : (i : AuditInputs) (e : Ending) (row : Row) → ComesInAudit i row → row.status ≡ 4 → PrintsWhole e row.text
+    → NamesInputs i.words × IsUnread i.log × ((fault : Fault) × IsMapFault i.map fault × PrintsWhole e (fault_text_of fault))
+at_4 i e row (map_fault fault names is unread) four prints = (names, unread, (fault, is, prints))
+at_4 i e row _ four prints = search rules
+
+pub Audits-row : (i : AuditInputs) (e : Ending) → EndsInRow (ComesInAudit i) e → Audits i e
+Audits-row i e ends = record {
+  ends = ends;
+  done = search rules;
+  rising = search (rules, all_rise);
+  usage = search rules;
+  usage_only = search rules;
+  refused = EndsInRow-at ends 4 refl (at_4 i e);
+  refused_only = grind (arith, common_steps);
+  read_fault = search rules;
+  read_fault_only = search rules;
+  write_fault = search rules;
+  write_fault_only = search rules;
+  no_memory = search rules;
+  too_long = search rules;
+  too_long_only = search rules;
+  complete = grind (arith, common_steps);
+}
