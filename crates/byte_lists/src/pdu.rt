@@ -51,6 +51,7 @@ impl Pdu {
         requires { F.IsAlwaysCallable fill }
         ensures too_long { 64 < len → IsNone result }
         ensures refused { IsNone result → (64 < len) ⊎ ((bytes : List ℕ) × FnOnceReturnsAtMut F.FnOnce fill (replicate len 0) false bytes) }
+        ensures size { IfSome result (λ p. length p ≡ len) }
         ensures value { IfSome result (λ p. FnOnceReturnsAtMut F.FnOnce fill (replicate len 0) true p) }
     {
         if len > 64 {

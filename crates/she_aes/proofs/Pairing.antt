@@ -15,19 +15,19 @@ use Rattle.she_aes.proofs.SBoxFacts.{same_at_bytes}
 -- ---- the pair of a sum
 
 -- a table that takes the sum of two nibbles to the sum of what it takes them to
-abbrev Adds : List ℕ → Type 0
-Adds table =
+abbrev IsAdditive : List ℕ → Type 0
+IsAdditive table =
     agree_below (λ i. agree_below (λ j. entry table (bit_xor i j) == bit_xor (entry table i) (entry table j)) (λ _. true) 16) (λ _. true) 16 ≡ true
 
-added_at : (table : List ℕ) → Adds table → (i j : ℕ) → i < 16 → j < 16 → entry table (bit_xor i j) ≡ bit_xor (entry table i) (entry table j)
-added_at table all i j hi hj =
+additive_at : (table : List ℕ) → IsAdditive table → (i j : ℕ) → i < 16 → j < 16 → entry table (bit_xor i j) ≡ bit_xor (entry table i) (entry table j)
+additive_at table all i j hi hj =
     let row = agree_below_at (λ i. agree_below (λ j. entry table (bit_xor i j) == bit_xor (entry table i) (entry table j)) (λ _. true) 16) (λ _. true) 16 i all hi in
     eqb-true (entry table (bit_xor i j)) (bit_xor (entry table i) (entry table j)) (agree_below_at (λ j. entry table (bit_xor i j) == bit_xor (entry table i) (entry table j)) (λ _. true) 16 j row hj)
 
-low_adds : Adds LOW
+low_adds : IsAdditive LOW
 low_adds = refl
 
-high_adds : Adds HIGH
+high_adds : IsAdditive HIGH
 high_adds = refl
 
 low_is_rest : (b : ℕ) → low_nibble b ≡ b % 2 ^ 4
@@ -46,9 +46,9 @@ pub pair_of-xor : (a b : ℕ) → a < 256 → b < 256 → pair_of (bit_xor a b) 
 unfolding pair_of
 pair_of-xor a b ha hb =
     let low : entry LOW (low_nibble (bit_xor a b)) ≡ bit_xor (entry LOW (low_nibble a)) (entry LOW (low_nibble b)) =
-    ap (entry LOW) (low_nibble-xor a b) ∙ added_at LOW low_adds (low_nibble a) (low_nibble b) (low_nibble-lt a) (low_nibble-lt b) in
+    ap (entry LOW) (low_nibble-xor a b) ∙ additive_at LOW low_adds (low_nibble a) (low_nibble b) (low_nibble-lt a) (low_nibble-lt b) in
     let high : entry HIGH (high_nibble (bit_xor a b)) ≡ bit_xor (entry HIGH (high_nibble a)) (entry HIGH (high_nibble b)) =
-    ap (entry HIGH) (xor_shr a b 4) ∙ added_at HIGH high_adds (high_nibble a) (high_nibble b) (high_nibble-lt a ha) (high_nibble-lt b hb) in
+    ap (entry HIGH) (xor_shr a b 4) ∙ additive_at HIGH high_adds (high_nibble a) (high_nibble b) (high_nibble-lt a ha) (high_nibble-lt b hb) in
     ap (λ t. bit_xor t (entry HIGH (high_nibble (bit_xor a b)))) low ∙ ap (λ t. bit_xor (bit_xor (entry LOW (low_nibble a)) (entry LOW (low_nibble b))) t) high ∙ xor_swap (entry LOW (low_nibble a)) (entry LOW (low_nibble b)) (entry HIGH (high_nibble a)) (entry HIGH (high_nibble b))
 
 -- ---- the constant of the S-box

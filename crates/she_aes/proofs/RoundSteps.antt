@@ -3,7 +3,7 @@ use Rattle.std.proofs.Common.{◌≡◌, ℕ, zero, suc, ◌+◌, ◌-◌, ◌<�
 use Rattle.she_aes.specs.Cipher.{IsBlock, xor_blocks, add_round_key, sub_bytes, shift_rows, mix_columns, key_words, round_key, round_keys, after_rounds, cipher, enc, inv_sub_bytes, inv_shift_rows, inv_mix_columns, undone_rounds, inverse_cipher, dec}
 use Rattle.she_aes.specs.CipherFacts.{IsBlock-bytes, IsBlock-from, after_rounds-bytes}
 use Rattle.she_aes.specs.Pairs.{in_pairs, without_constant}
-use Rattle.she_aes.specs.RoundKeys.{AreRoundKeys}
+use Rattle.she_aes.specs.RoundKeys.{IsAddedUnder}
 use Rattle.she_aes.proofs.KeyWords.{round_key-zero, get_or-round_keys}
 use Rattle.she_aes.proofs.KeyPairs.{IsBlock-round_key, added_at, last_added}
 
@@ -23,7 +23,7 @@ length-after_rounds words block (suc n) = refl
 
 -- ---- with the key and the block of a schedule
 
-module _ (key block : List ℕ) (added : List (List ℕ)) (are : AreRoundKeys key added) where
+module _ (key block : List ℕ) (added : List (List ℕ)) (are : IsAddedUnder key added) where
   pub first_state : add_round_key key block ≡ after_rounds (key_words key) block 0
   unfolding after_rounds
   first_state = ap (λ k. add_round_key k block) (sym (round_key-zero key are.key_is_block.size))

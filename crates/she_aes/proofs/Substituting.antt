@@ -10,7 +10,7 @@ use Rattle.std.proofs.lemmas.Simd.{Each1-from_get_or, zip2_of_maps, splat_is_map
 use Rattle.she_aes.specs.Field.{product, cancelled, remainder, mul, inv, inv_affine, inv_sub_byte}
 use Rattle.she_aes.proofs.SBoxFacts.{same_at_bytes}
 use Rattle.she_aes.specs.Cipher.{inv_sub_bytes}
-use Rattle.she_aes.specs.Lookups.{is_place, entry, GivesPlaces}
+use Rattle.she_aes.specs.Lookups.{is_place, entry}
 use Rattle.she_aes.specs.Substitution.{low_nibble, high_nibble, pair, total, from_upper, from_total, first, second, inverse_by}
 use Rattle.she_aes.specs.declared.substitution.TheConstants.{LOW_OF_INVERSE, HIGH_OF_INVERSE, LEFT_OF_INVERSE, RIGHT_OF_INVERSE}
 use Rattle.she_aes.proofs.Lanes.{IsVector, byte_of_vector, map_is_block}
@@ -29,6 +29,10 @@ look_up_is table places long =
     get_or-swz_l w8 16 table 0 places i (omega (arith, long)) ∙ ap (λ k. cond (leb 128 (get_or places i 0)) 0 (get_or table k 0)) row ∙ sym (get_or-map (entry table) places i 0 0 (omega (arith, long))))
 
 -- ---- places, for all 256 bytes
+
+-- a map of bytes that gives places
+abbrev pub GivesPlaces : (ℕ → ℕ) → Type 0
+GivesPlaces f = (b : ℕ) → b < 256 → IsTrue (is_place (f b))
 
 abbrev all_places : (ℕ → ℕ) → Type 0
 all_places f = agree_below (λ b. is_place (f b)) (λ _. true) 256 ≡ true
@@ -70,6 +74,10 @@ inverse_s_box_rule : (b : ℕ) → b < 256 → by_tables_of_inverse b ≡ inv_su
 inverse_s_box_rule = same_at_bytes by_tables_of_inverse inv_sub_byte inverse_s_box_ok
 
 -- ---- each vector, as a map of the bytes
+
+pub inverse_of : (left right v : List ℕ) {f s : List ℕ} → f ≡ map first v → s ≡ map second v → zip2 bit_xor (map (entry left) f) (map (entry right) s) ≡ map (inverse_by left right) v
+inverse_of left right v e h =
+    zip2_of_maps bit_xor (λ p. entry left (first p)) (λ p. entry right (second p)) v (ap (map (entry left)) e ∙ map-map (entry left) first v) (ap (map (entry right)) h ∙ map-map (entry right) second v)
 
 module _ (v : List ℕ) (is : IsVector v) where
   pub places : (f : ℕ → ℕ) → GivesPlaces f → {js : List ℕ} → js ≡ map f v → All (λ place. IsTrue (is_place place)) js

@@ -1,5 +1,5 @@
 -- Look-ups in tables of 16 bytes.
-use Rattle.std.specs.Prelude.{ℕ, ◌<◌, List, Bool, IsTrue, ◌||◌, slice_index, nat_lt, nat_le, if◌then◌else◌}
+use Rattle.std.specs.Prelude.{ℕ, List, Bool, ◌||◌, slice_index, nat_lt, nat_le, if◌then◌else◌}
 
 -- a place that can be looked up: one of the 16, or one from 128 on
 abbrev pub is_place : ℕ → Bool
@@ -8,7 +8,3 @@ is_place place = nat_le 128 place || nat_lt place 16
 -- the byte at a place of the table: from 128 on it is 0
 abbrev pub entry : List ℕ → ℕ → ℕ
 entry table place = if nat_le 128 place then 0 else slice_index table place
-
--- a map of bytes that gives places
-abbrev pub GivesPlaces : (ℕ → ℕ) → Type 0
-GivesPlaces f = (b : ℕ) → b < 256 → IsTrue (is_place (f b))

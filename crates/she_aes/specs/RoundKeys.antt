@@ -16,7 +16,7 @@ last_added_key key = without_constant (round_key (key_words key) 10)
 unfoldable pub added_keys : List ℕ → List (List ℕ)
 added_keys key = map (added_key key) (range_with_len 1 9) ++ last_added_key key ∷ []
 
--- that is added under this key
-pub record AreRoundKeys (key : List ℕ) (added : List (List ℕ)) : Type 0 where
+-- what is added is what the ten rounds add under this key
+pub record IsAddedUnder (key : List ℕ) (added : List (List ℕ)) : Type 0 where
   pub of_key : added ≡ added_keys key
   pub key_is_block : IsBlock key

@@ -23,21 +23,20 @@ fn next_round_key(power: u8, key: u8x16) -> u8x16
         13, 14, 15, 12, 13, 14, 15, 12, 13, 14, 15, 12, 13, 14, 15, 12,
     ]);
     // each word and the one before it, and then each word and all before it
-    let pairs = key
+    let neighbours = key
         ^ zeros.shuffle(
             key,
             [0, 0, 0, 0, 16, 17, 18, 19, 20, 21, 22, 23, 24, 25, 26, 27],
         );
-    let sums = pairs
+    let sums = neighbours
         ^ zeros.shuffle(
-            pairs,
+            neighbours,
             [0, 0, 0, 0, 0, 0, 0, 0, 16, 17, 18, 19, 20, 21, 22, 23],
         );
     let powers = u8x16::from_array([
         power, 0, 0, 0, power, 0, 0, 0, power, 0, 0, 0, power, 0, 0, 0,
     ]);
-    let added = turned ^ (powers ^ u8x16::splat(PAIR_OF_CONSTANT));
-    sums ^ added
+    sums ^ (turned ^ (powers ^ u8x16::splat(PAIR_OF_CONSTANT)))
 }
 
 // What a round adds, from its key in pairs.

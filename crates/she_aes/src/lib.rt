@@ -5,8 +5,8 @@
 //! with any number of blocks. [`laws`] says of the definitions that each direction undoes the other.
 //! No call refuses, and none takes memory.
 //!
-//! All of them work on the 16 bytes of a block at once and read no table at a place that depends on a key or a text, but for
-//! [`encrypt_by_tables`], which stands beside for processors that shuffle no bytes.
+//! All of them work on the 16 bytes of a block at once. Where the processor shuffles bytes, none but [`encrypt_by_tables`], which stands beside
+//! for those that don't, reads a table at a place that depends on a key or a text.
 #![tactic(auto)]
 
 mod by_tables;
@@ -102,19 +102,19 @@ impl fmt::Debug for Block {
 pub struct Schedule {
     // the key, which is the first round key
     key: State,
-    // what the ten rounds add: nine round keys in pairs and the last one in bytes, all less the constant of the S-box
+    // what the ten rounds add: nine round keys in pairs and the last one in bytes, each together with the constant of the S-box
     added: [State; 10],
 }
 
 impl Model for Schedule {
     ghost use Rattle.std.specs.Prelude.{List, ℕ};
-    ghost use Rattle.she_aes.specs.RoundKeys.{added_keys, AreRoundKeys};
+    ghost use Rattle.she_aes.specs.RoundKeys.{added_keys, IsAddedUnder};
 
     ghost Value = { List ℕ };
 
     ghost view = { λ s. s.key };
 
-    ghost invariant = { λ s. AreRoundKeys s.key s.added };
+    ghost invariant = { λ s. IsAddedUnder s.key s.added };
 
     ghost inverse = { λ key. record { key = key; added = added_keys key } };
 }
@@ -150,8 +150,8 @@ pub fn encrypt(schedule: &Schedule, block: &Block) -> Block
     Block::of(rounds::last_round(&added[9], s9).to_array())
 }
 
-/// What [`encrypt`] gives, by tables of words, for processors that shuffle no bytes. It reads them at places that depend on the key and
-/// the block.
+/// What [`encrypt`] gives, by tables of words and one of bytes, for processors that shuffle no bytes. It reads them at places that depend on
+/// the key and the block.
 pub fn encrypt_by_tables(schedule: &Schedule, block: &Block) -> Block
     ensures value { result ≡ enc schedule.now block.now }
     ensures is_block { IsBlock result }

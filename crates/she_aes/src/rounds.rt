@@ -1,7 +1,7 @@
 // The rounds of the cipher (FIPS 197, section 5.1), on the 16 bytes of the state at once.
 //
-// Between two rounds each byte of the state is its pair, and a round key comes as the round adds it: in pairs, and with the constant of the
-// S-box, which the substitution before it leaves out.
+// Between two rounds each byte of the state is its pair. A round key comes as the round adds it: with the constant of the S-box, which the
+// substitution before it leaves out, and in pairs, but for the last one, which comes in bytes.
 ghost use Rattle.std.specs.Prelude.{◌≡◌, List, ℕ, map};
 ghost use Rattle.she_aes.specs.Field.{mul};
 ghost use Rattle.she_aes.specs.Cipher.{IsBlock, xor_blocks, add_round_key, sub_bytes, shift_rows, mix_columns};
@@ -9,7 +9,7 @@ ghost use Rattle.she_aes.specs.Pairs.{in_pairs, without_constant};
 
 use crate::substitution::{
     CONSTANT, LEFT, LEFT_PAIR, LEFT_PAIR_DOUBLED, RIGHT, RIGHT_PAIR, RIGHT_PAIR_DOUBLED,
-    bytes_without_constant, inverted, pairs,
+    bytes_without_constant, inverted, joined, pairs, quotients,
 };
 use std::simd::prelude::*;
 
@@ -67,8 +67,9 @@ pub(crate) fn round(key: &State, state: u8x16) -> u8x16
         → result ≡ in_pairs (add_round_key k (mix_columns (shift_rows (sub_bytes s)))) }
 {
     let shifted = shift_rows(state);
-    let once = inverted(LEFT_PAIR, RIGHT_PAIR, shifted);
-    let doubled = inverted(LEFT_PAIR_DOUBLED, RIGHT_PAIR_DOUBLED, shifted);
+    let (first, second) = quotients(shifted);
+    let once = joined(LEFT_PAIR, RIGHT_PAIR, first, second);
+    let doubled = joined(LEFT_PAIR_DOUBLED, RIGHT_PAIR_DOUBLED, first, second);
     add_round_key(key, mix_columns(once, doubled))
 }
 

@@ -1,14 +1,15 @@
 // SubBytes and its inverse (FIPS 197, sections 5.1.1 and 5.3.2) by byte shuffles: no table is read at a secret index.
 //
 // A byte is taken for a pair of elements of the field of 16, an upper and a lower one, since the field of 256 is an extension of it. There
-// its inverse is found by look-ups in tables of 16 bytes, each of which is one shuffle of all 16 bytes of the state. The quotient of
+// its inverse is found by look-ups in tables of 16 bytes, each of which is one shuffle of all 16 bytes of the state. The quotient by
 // 0 is no element of the field: it is a place from 128 on, and what is looked up there is 0. (M. Hamburg, Accelerating AES with vector
 // permute instructions, 2009.)
 //
 // The sum of two bytes is taken for the sum of their pairs, so between two rounds the state stays in pairs.
-ghost use Rattle.std.specs.Prelude.{◌≡◌, List, ℕ, All, IsTrue, map};
+ghost use Rattle.std.specs.Prelude.{◌≡◌, List, ℕ, All, IsTrue, map, bit_xor};
+ghost use Rattle.std.specs.Simd.Lanes.{zip2};
 ghost use Rattle.she_aes.specs.Lookups.{is_place, entry};
-ghost use Rattle.she_aes.specs.Substitution.{pair, inverse_by};
+ghost use Rattle.she_aes.specs.Substitution.{pair, first, second, inverse_by};
 ghost use Rattle.she_aes.specs.Pairs.{in_pairs, without_constant};
 ghost use Rattle.she_aes.specs.Cipher.{IsBlock, inv_sub_bytes};
 
@@ -127,10 +128,22 @@ fn paired(low: Table, high: Table, bytes: u8x16) -> u8x16
     look_up(low, bytes & u8x16::splat(15)) ^ look_up(high, bytes >> u8x16::splat(4))
 }
 
-// The inverse of each pair, as the two tables give it from two quotients. Called twice for the same pairs it finds these once.
+// What the two tables give for the inverse of each pair.
 #[inline(always)]
 pub(crate) fn inverted(left: Table, right: Table, pairs: u8x16) -> u8x16
     ensures { result ≡ map (inverse_by left right) pairs }
+{
+    let (first, second) = quotients(pairs);
+    joined(left, right, first, second)
+}
+
+// The two quotients by which the inverse of each pair is found.
+#[inline(always)]
+pub(crate) fn quotients(pairs: u8x16) -> (u8x16, u8x16)
+    ensures first { result.0 ≡ map first pairs }
+    ensures first_fits { All (λ place. IsTrue (is_place place)) result.0 }
+    ensures second { result.1 ≡ map second pairs }
+    ensures second_fits { All (λ place. IsTrue (is_place place)) result.1 }
 {
     let upper = pairs >> u8x16::splat(4);
     let lower = pairs & u8x16::splat(15);
@@ -140,6 +153,16 @@ pub(crate) fn inverted(left: Table, right: Table, pairs: u8x16) -> u8x16
     let from_total = look_up(INVERSES, total) ^ quotient;
     let first = look_up(INVERSES, from_upper) ^ total;
     let second = look_up(INVERSES, from_total) ^ upper;
+    (first, second)
+}
+
+// What the two tables give for two quotients together.
+#[inline(always)]
+pub(crate) fn joined(left: Table, right: Table, first: u8x16, second: u8x16) -> u8x16
+    requires first_fits { All (λ place. IsTrue (is_place place)) first }
+    requires second_fits { All (λ place. IsTrue (is_place place)) second }
+    ensures { result ≡ zip2 bit_xor (map (entry left) first) (map (entry right) second) }
+{
     look_up(left, first) ^ look_up(right, second)
 }
 

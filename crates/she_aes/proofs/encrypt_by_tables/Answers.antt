@@ -1,12 +1,12 @@
 use Rattle.std.proofs.Common.{◌≡◌, ◌∙◌, arith}
 use Rattle.she_aes.specs.Cipher.{add_round_key}
-use Rattle.she_aes.specs.RoundKeys.{AreRoundKeys}
+use Rattle.she_aes.specs.RoundKeys.{IsAddedUnder}
 use Rattle.she_aes.proofs.RoundSteps.{first_state, middle_key, last_key, round_more, round_last}
 use Rattle.she_aes.proofs.encrypt_by_tables.Goals as goal
 use Rattle.she_aes.proofs.encrypt_by_tables.Goals.{After-schedule}
 
 -- what the schedule holds is added under its key
-made : (c : After-schedule) → AreRoundKeys c.args.schedule.now c.schedule.inside.added
+made : (c : After-schedule) → IsAddedUnder c.args.schedule.now c.schedule.inside.added
 made c = rw c.schedule.view_is at c.schedule.invariant
 
 pub loop-done-init : goal.loop-done-init

@@ -14,6 +14,11 @@ invariant_of-result g c =
     let size : length c.fill.new.arg2 ≡ c.args.len = c.fill.auto.arg2 ∙ ap length (first_zeros c.args.len c.if-len-gt64.false) ∙ length-replicate {A = ℕ} c.args.len 0 in
     written_over c.fill.new.arg2 c.args.len size
 
+pub returns-clause-size : goal.returns-clause-size
+returns-clause-size g c =
+    let size : length c.fill.new.arg2 ≡ c.args.len = c.fill.auto.arg2 ∙ ap length (first_zeros c.args.len c.if-len-gt64.false) ∙ length-replicate {A = ℕ} c.args.len 0 in
+    ap length (written_front c.fill.new.arg2 c.args.len size) ∙ size
+
 pub returns-clause-value : goal.returns-clause-value
 returns-clause-value g c =
     let size : length c.fill.new.arg2 ≡ c.args.len = c.fill.auto.arg2 ∙ ap length (first_zeros c.args.len c.if-len-gt64.false) ∙ length-replicate {A = ℕ} c.args.len 0 in
