@@ -11,8 +11,6 @@ mod nodes;
 mod reader;
 mod routes;
 mod tables;
-#[cfg(test)]
-mod tests;
 mod texts;
 mod values;
 

@@ -7,8 +7,6 @@ mod buses;
 mod laws;
 mod names;
 mod nodes;
-#[cfg(test)]
-mod tests;
 
 pub use buses::{BusConfig, most_routes};
 pub use laws::{named_buses_are_buses, names_tell_nodes};

@@ -16,5 +16,3 @@ pub use port::{Memory, PortFailed, Sink, Source};
 pub use standard_ports::{StdSink, StdSource};
 pub use whole_streams::{ReadAll, read_all, write_all};
 
-#[cfg(test)]
-mod tests;

@@ -12,5 +12,3 @@ mod pdu;
 pub use bytes::Bytes;
 pub use pdu::Pdu;
 
-#[cfg(test)]
-mod tests;

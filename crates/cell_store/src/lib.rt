@@ -70,7 +70,3 @@ pub use moving::move_up;
 pub use probing::{probe, probe_as};
 pub use twin::TwinCells;
 
-#[cfg(test)]
-mod log_tests;
-#[cfg(test)]
-mod tests;

@@ -15,5 +15,3 @@ pub use opening::{NamedSource, open_named};
 pub use telling::{DONE, NO_MEMORY, WRITE_FAULT, tell};
 pub use words::{behind_name, words_of};
 
-#[cfg(test)]
-mod tests;

@@ -51,8 +51,6 @@ pub mod laws;
 mod mem_disk;
 mod tape;
 mod tape_disk;
-#[cfg(test)]
-mod tests;
 
 pub use arming::{Arms, count_call};
 pub use lasting::{write_and_cut, write_and_sync};

@@ -8,8 +8,6 @@
 ghost use Rattle.std.specs.Prelude.{◌≡◌, ◌⊎◌, ℕ, ◌<◌, ◌≤◌, ◌↔◌};
 ghost use Rattle.fault_count.specs.FaultCount.{last_count, counted, Rose};
 
-#[cfg(test)]
-mod tests;
 
 /// Counts one fault more.
 pub fn count_fault(faults: &mut u64)

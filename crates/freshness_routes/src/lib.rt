@@ -8,8 +8,6 @@ mod changes;
 mod config;
 mod laws;
 mod routes;
-#[cfg(test)]
-mod tests;
 
 pub use changes::{receiver_change, sender_change};
 pub use config::{Memory, NodeConfig};

@@ -7,8 +7,6 @@ pub mod laws;
 mod memory;
 mod numbers;
 mod refusals;
-#[cfg(test)]
-mod tests;
 mod usage;
 
 pub use authority::may_authorise;

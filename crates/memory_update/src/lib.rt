@@ -9,8 +9,6 @@ mod confirmation;
 pub mod laws;
 mod messages;
 mod requests;
-#[cfg(test)]
-mod tests;
 mod words;
 
 pub use confirmation::{confirm_for, is_confirmed};

@@ -22,5 +22,3 @@ pub use last_line::{EndingText, Stop, print_run_until_last};
 pub use machine::{Consumer, Machine, drive};
 pub use printing::{LineText, Unwritten, print_run};
 
-#[cfg(test)]
-mod tests;

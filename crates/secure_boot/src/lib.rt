@@ -5,8 +5,6 @@
 
 mod boot;
 mod state;
-#[cfg(test)]
-mod tests;
 
 pub use boot::{boot_mac, decide};
 pub use state::BootState;

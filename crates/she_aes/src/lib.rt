@@ -187,5 +187,3 @@ pub fn decrypt(schedule: &Schedule, block: &Block) -> Block
     Block::of(rounds::add_round_key(&schedule.key, s0).to_array())
 }
 
-#[cfg(test)]
-mod tests;

@@ -7,5 +7,3 @@ mod subkeys;
 
 pub use pieces::{Mac, cmac, cmac_of_parts};
 
-#[cfg(test)]
-mod tests;

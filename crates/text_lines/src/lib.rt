@@ -15,8 +15,6 @@ pub mod loads;
 pub mod reader;
 pub mod received;
 pub mod span;
-#[cfg(test)]
-mod tests;
 pub mod texts;
 pub mod verdicts;
 pub mod words;

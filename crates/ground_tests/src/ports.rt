@@ -1,5 +1,5 @@
 //! The table of answers of the whole-stream calls over memory, and the standard streams' adapters.
-use crate::{
+use bus_port::{
     CleanSource, MemSink, MemSource, ReadAll, Source, StdSink, StdSource, read_all, write_all,
 };
 use std::io;

@@ -1,5 +1,5 @@
 //! Names and buses one step within and one step past each of their bounds, and each call once.
-use crate::{BusConfig, Name, NodeLine, most_routes, place_named, sent_again};
+use bus_nodes::{BusConfig, Name, NodeLine, most_routes, place_named, sent_again};
 use cell_store::{Kind, Version};
 use freshness_routes::{Direction, NodeConfig, Route};
 use key_slots::SlotId;

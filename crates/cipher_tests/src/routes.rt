@@ -1,5 +1,5 @@
 //! A configuration one step within and one step past each of its bounds, and each call once.
-use crate::{Direction, NodeConfig, Route, Routes, receiver_change, sender_change};
+use freshness_routes::{Direction, NodeConfig, Route, Routes, receiver_change, sender_change};
 use key_slots::SlotId;
 use memory_update::Uid;
 use std::alloc::Global;

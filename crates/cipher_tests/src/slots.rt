@@ -1,5 +1,5 @@
 //! Vectors from the SHE specification, the printed names, and each call once.
-use crate::{Counter28, Erc, Flags, Purpose, Slot, SlotId, Slots, may_authorise, usable};
+use key_slots::{Counter28, Erc, Flags, Purpose, Slot, SlotId, Slots, may_authorise, usable};
 use she_aes::Block;
 use std::test::Fail;
 

@@ -1,5 +1,5 @@
 //! Bus files that are read, and each fault, by itself and beside those that are looked for behind it.
-use crate::{ConfigFault, config_fault_text, read_config};
+use bus_config::{ConfigFault, config_fault_text, read_config};
 use bus_nodes::BusConfig;
 use cell_store::{Kind, Version};
 use freshness_routes::{Direction, Route};

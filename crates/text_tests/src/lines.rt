@@ -1,17 +1,17 @@
-use crate::fault::{Cause, LineFault, Memory, ScriptFault};
-use crate::frames::{FrameReader, read_frames};
-use crate::judges::{JudgeReader, read_judges};
-use crate::loads::{LoadReader, read_loads};
-use crate::reader::{LineReader, MOST_LINES, read_lines};
-use crate::texts::fault_text;
-use crate::verdicts::{push_bad_length, push_digits, push_line, push_outcome};
-use crate::words::Words;
-use crate::{forms, laws};
 use byte_lists::Bytes;
 use cut_disk::Torn;
 use secured_pdu::Judgement;
 use std::alloc::{AllocError, Global};
 use std::test::Fail;
+use text_lines::fault::{Cause, LineFault, Memory, ScriptFault};
+use text_lines::frames::{FrameReader, read_frames};
+use text_lines::judges::{JudgeReader, read_judges};
+use text_lines::loads::{LoadReader, read_loads};
+use text_lines::reader::{LineReader, MOST_LINES, read_lines};
+use text_lines::texts::fault_text;
+use text_lines::verdicts::{push_bad_length, push_digits, push_line, push_outcome};
+use text_lines::words::Words;
+use text_lines::{forms, laws};
 
 const LINE: &str = "2b7e151628aed2a6abf7158809cf4f3c 6bc1 e93d7e117393172a bee22e409f96\n";
 

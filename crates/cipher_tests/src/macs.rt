@@ -1,6 +1,6 @@
 //! The examples of NIST for the CMAC over AES-128 (SP 800-38B, appendix D.1, and its example of 20 bytes), whole and in pieces.
-use crate::{Mac, cmac, cmac_of_parts};
 use she_aes::{Block, Schedule, expand};
+use she_cmac::{Mac, cmac, cmac_of_parts};
 
 const KEY: [u8; 16] = [
     0x2b, 0x7e, 0x15, 0x16, 0x28, 0xae, 0xd2, 0xa6, 0xab, 0xf7, 0x15, 0x88, 0x09, 0xcf, 0x4f, 0x3c,

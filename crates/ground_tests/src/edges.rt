@@ -1,6 +1,6 @@
 //! Inputs, endings and opened sources over memory.
-use crate::{DONE, InputFault, WRITE_FAULT, open_named, read_input, tell, words_of};
 use bus_port::{CleanSource, MemSink, MemSource, read_all};
+use command_edge::{DONE, InputFault, WRITE_FAULT, open_named, read_input, tell, words_of};
 use std::test::Fail;
 
 #[test]

@@ -1,7 +1,7 @@
 // Log stores over disks in memory.
 ghost use Rattle.std.specs.Prelude.{◌≡◌, ◌<◌, ◌≤◌, length, false, IfOk};
 
-use super::*;
+use cell_store::*;
 use cut_disk::{Disk, MemDisk, Torn};
 use std::alloc::Global;
 use std::test::Fail;

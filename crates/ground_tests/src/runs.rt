@@ -3,11 +3,11 @@ ghost use Rattle.std.specs.Prelude.{◌≡◌, ℕ, ◌+◌, ◌^◌, ◌<◌, �
 ghost use Rattle.std.specs.Option.{option_map_or};
 ghost use Rattle.std.specs.Fmt.{decimal};
 
-use crate::{
+use bus_port::{MemSink, Memory};
+use numbered_run::{
     EndingText, LineText, Machine, Stop, Tally, Unwritten, count_run, print_run,
     print_run_until_last,
 };
-use bus_port::{MemSink, Memory};
 use std::alloc::Global;
 use std::test::Fail;
 

@@ -1,6 +1,6 @@
 //! Frames and verdicts under the key of NIST's examples for the CMAC. The first three frames have the inputs of 16, 40 and 64
 //! bytes of these examples; the authenticators of the others were made by OpenSSL.
-use crate::{
+use secured_pdu::{
     Judgement, Parts, assemble, build, candidate_of, input_bytes, input_mac, judge, split,
 };
 use she_aes::{Block, expand};

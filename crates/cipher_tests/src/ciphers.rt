@@ -1,4 +1,4 @@
-use super::*;
+use she_aes::*;
 
 mod known_answers;
 

@@ -1,9 +1,9 @@
 //! The example of a memory update in the SHE specification, and each call once.
-use crate::{
+use key_slots::{Counter28, Flags, SlotId};
+use memory_update::{
     Reply, Request, Uid, Unseal, Update, build, confirm_for, head, is_confirmed, place, take,
     unseal,
 };
-use key_slots::{Counter28, Flags, SlotId};
 use she_aes::Block;
 use std::test::Fail;
 

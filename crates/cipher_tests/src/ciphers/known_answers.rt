@@ -1,6 +1,6 @@
 //! NIST's known-answer tests for AES-128 (AESAVS, appendices B to E), as the validation programme gives them: each block under each key is
 //! encrypted by both bodies, and decrypted.
-use crate::{Block, decrypt, encrypt, encrypt_by_tables, expand};
+use she_aes::{Block, decrypt, encrypt, encrypt_by_tables, expand};
 
 // Texts and their ciphertexts under the key of zeros (GFSbox).
 static S_BOX_BY_TEXT: [(u128, u128); 7] = [

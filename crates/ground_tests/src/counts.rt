@@ -1,4 +1,4 @@
-use super::*;
+use fault_count::*;
 
 #[test]
 fn a_count_rises_by_one_and_stands_at_its_last_value(rt: HostRuntime) {

@@ -1,7 +1,7 @@
 // Each table is tried over a disk in memory and over one that tells its past.
 ghost use Rattle.std.specs.Prelude.{◌≤◌};
 
-use super::*;
+use cut_disk::*;
 use std::test::Fail;
 
 /// What a disk of six zeros reads as after a write of 1, 2, 3 and 4 from this address on and a power cut.

@@ -1,4 +1,4 @@
-use super::*;
+use byte_lists::*;
 use std::test::Fail;
 
 // Lengths of PDUs that can be held: none, the most of CAN, and the most of CAN FD.

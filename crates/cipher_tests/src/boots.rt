@@ -1,6 +1,6 @@
 //! Boot MACs as OpenSSL's CMAC gives them, and the decision over filled and empty slots.
-use crate::{BootState, boot_mac, decide};
 use key_slots::{Counter28, Erc, Flags, Slot, SlotId, Slots};
+use secure_boot::{BootState, boot_mac, decide};
 use she_aes::{Block, expand};
 use std::test::Fail;
 

@@ -1,0 +1,16 @@
+//! Tests of the ground: counts of faults, lists of bytes, ports, edges, disks and the driver. There is nothing else here: a crate of tests
+//! over several libraries has none of them proved a second time.
+#![tactic(auto)]
+
+#[cfg(test)]
+mod counts;
+#[cfg(test)]
+mod disks;
+#[cfg(test)]
+mod edges;
+#[cfg(test)]
+mod lists;
+#[cfg(test)]
+mod ports;
+#[cfg(test)]
+mod runs;
