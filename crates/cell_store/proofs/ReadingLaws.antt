@@ -46,7 +46,7 @@ second-half : (at : ℕ) (x : List ℕ) → drop 34 (take 68 (drop at x)) ≡ pa
 second-half at x = drop-take 34 34 (drop at x) ∙ ap (take 34) (drop-drop 34 at x)
 
 -- what is held of two copies is kept by the bytes that have them
-kept-of : (x : List ℕ) (i : ℕ) (held : Held) → held_of (copy x i First) (copy x i Second) ≡ Some held → Keeps x i held
+pub kept-of : (x : List ℕ) (i : ℕ) (held : Held) → held_of (copy x i First) (copy x i Second) ≡ Some held → Keeps x i held
 kept-of x i held e = elim (cases_Bool (counts (copy x i First) (copy x i Second))) [
   | inl this ↦ subst (λ (h : Held). Keeps x i h) (same_Some _ _ (sym (cond-true _ _ _ this) ∙ e)) (record { counting = this; bytes = refl; marked = refl; spare = refl })
   | inr not ↦ elim (cases_Bool (counts (copy x i Second) (copy x i First))) [
@@ -55,7 +55,7 @@ kept-of x i held e = elim (cases_Bool (counts (copy x i First) (copy x i Second)
   ]
 ]
 
-damaged-of : (x : List ℕ) (i : ℕ) → held_of (copy x i First) (copy x i Second) ≡ None → cell_at x i ≡ None
+pub damaged-of : (x : List ℕ) (i : ℕ) → held_of (copy x i First) (copy x i Second) ≡ None → cell_at x i ≡ None
 unfolding cell_at cell_of
 damaged-of x i e = elim (cases_Bool (counts (copy x i First) (copy x i Second))) [
   | inl this ↦ absurd (none-some _ (sym e ∙ cond-true _ _ _ this))
@@ -113,7 +113,7 @@ read-part told address b at n bytes reads where-is size t h =
     ∙ ap (take n) (sym (drop-drop at b t.bytes))
 
 -- the 68 bytes that were read of cell i are its two copies
-halves : (x bytes : List ℕ) (i : ℕ) → bytes ≡ part (first_at i) 68 x → held_of (take 34 bytes) (drop 34 bytes) ≡ held_of (copy x i First) (copy x i Second)
+pub halves : (x bytes : List ℕ) (i : ℕ) → bytes ≡ part (first_at i) 68 x → held_of (take 34 bytes) (drop 34 bytes) ≡ held_of (copy x i First) (copy x i Second)
 halves x bytes i whole =
     let one : take 34 bytes ≡ part (first_at i) 34 x = ap (take 34) whole ∙ first-half (first_at i) x in
     let place : first_at i + 34 ≡ second_at i = omega arith in

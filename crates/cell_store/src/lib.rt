@@ -62,9 +62,10 @@ mod twin;
 mod writing;
 
 pub use cells::{Cells, CutCells};
+pub use copies::{Held, LIVE, Side, fresh_cell, held_in, marked, next};
 pub use faults::{PutFailed, Refused, Reread, StoreFault};
 pub use kinds::{Kind, Layout, Probe, Version};
-pub use layout::twin_size;
+pub use layout::{copy_place, header, is_header, pair_place, twin_size};
 pub use logs::{LogCells, log_size};
 pub use moving::move_up;
 pub use probing::{probe, probe_as};

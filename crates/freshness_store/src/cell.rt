@@ -26,7 +26,7 @@ pub fn bound_bytes(id: u16, direction: Direction, bound: u64) -> [u8; 32]
 }
 
 /// The bound that a cell holds for this Data ID and direction; none where it holds none.
-pub(crate) fn bound_in(cell: &[u8; 32], id: u16, direction: Direction) -> Option<u64>
+pub fn bound_in(cell: &[u8; 32], id: u16, direction: Direction) -> Option<u64>
     ensures { MatchOption result (HoldsNoBound cell.now id direction) (HoldsBound cell.now id direction) }
 {
     let [_, _, _, _, a, b, c, d, e, f, g, h, ..] = *cell;

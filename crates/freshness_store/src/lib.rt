@@ -16,6 +16,6 @@ mod laws;
 mod tests;
 
 pub use bounds::{BadBound, put_bound, read_bound};
-pub use cell::bound_bytes;
+pub use cell::{bound_bytes, bound_in};
 pub use freshness_routes::Direction;
 pub use laws::{a_bound_has_a_cell_of_32_bytes, a_cell_is_one_bound, no_slot_is_a_bound};

@@ -14,3 +14,4 @@ mod memory;
 mod tests;
 
 pub use engine::{Engine, LoadFault};
+pub use loading::{allowed, slot_of};
