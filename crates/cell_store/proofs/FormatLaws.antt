@@ -36,26 +36,26 @@ pairs_none version cells s = record {
   pairs = λ t is. record { loose = t.loose; told = is ∙ ap (λ bytes. Some (record { bytes = bytes; loose = t.loose })) (sym (splice-none (base version + 32) t.bytes)) };
 }
 
-sized_front : (cells : List (List ℕ)) (i : ℕ) → Sized cells → i ≤ length cells → Sized (take i cells)
+pub sized_front : (cells : List (List ℕ)) (i : ℕ) → Sized cells → i ≤ length cells → Sized (take i cells)
 sized_front cells i sized le j below =
     let front = length-take-le i cells le in
     ap length (get_or-take i cells j [] (omega arith)) ∙ sized j (omega arith)
 
-length_front_pairs : (cells : List (List ℕ)) (i : ℕ) → Sized cells → i ≤ length cells → length (flat_map fresh_cell (take i cells)) ≡ 68 * i
+pub length_front_pairs : (cells : List (List ℕ)) (i : ℕ) → Sized cells → i ≤ length cells → length (flat_map fresh_cell (take i cells)) ≡ 68 * i
 length_front_pairs cells i sized le =
     length-pairs (take i cells) (sized_front cells i sized le) ∙ ap (λ n. 68 * n) (length-take-le i cells le)
 
 pairs_of_one : (cell : List ℕ) → flat_map fresh_cell (cell ∷ []) ≡ fresh_cell cell
 pairs_of_one cell = append-nil (fresh_cell cell)
 
-front_more : (cells : List (List ℕ)) (i : ℕ) → i < length cells → flat_map fresh_cell (take i cells) ++ fresh_cell (get_or cells i []) ≡ flat_map fresh_cell (take (i + 1) cells)
+pub front_more : (cells : List (List ℕ)) (i : ℕ) → i < length cells → flat_map fresh_cell (take i cells) ++ fresh_cell (get_or cells i []) ≡ flat_map fresh_cell (take (i + 1) cells)
 front_more cells i below =
     ap (λ one. flat_map fresh_cell (take i cells) ++ one) (sym (pairs_of_one (get_or cells i [])))
     ∙ sym (flat_map-append fresh_cell (take i cells) (get_or cells i [] ∷ []))
     ∙ ap (flat_map fresh_cell) (sym (take_more cells i [] below))
 
 -- one more cell is written behind them
-splice_more : (b : ℕ) (cells : List (List ℕ)) (i : ℕ) (x : List ℕ) → Sized cells → i < length cells → b + 68 * length cells ≤ length x
+pub splice_more : (b : ℕ) (cells : List (List ℕ)) (i : ℕ) (x : List ℕ) → Sized cells → i < length cells → b + 68 * length cells ≤ length x
     → splice (b + 68 * i) (fresh_cell (get_or cells i [])) (splice b (flat_map fresh_cell (take i cells)) x) ≡ splice b (flat_map fresh_cell (take (i + 1) cells)) x
 splice_more b cells i x sized below room =
     let front = length_front_pairs cells i sized (omega arith) in
