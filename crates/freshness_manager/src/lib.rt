@@ -13,8 +13,6 @@ mod changing;
 mod laws;
 mod receiver;
 mod sender;
-#[cfg(test)]
-mod tests;
 
 pub use freshness_routes::{Direction, NodeConfig, Route, Routes};
 pub use laws::a_failed_change_keeps_either_bound;

@@ -12,8 +12,6 @@
 mod bounds;
 mod cell;
 mod laws;
-#[cfg(test)]
-mod tests;
 
 pub use bounds::{BadBound, put_bound, read_bound};
 pub use cell::{bound_bytes, bound_in};

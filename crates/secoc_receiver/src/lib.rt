@@ -7,7 +7,5 @@
 #![tactic(auto)]
 
 mod receiver;
-#[cfg(test)]
-mod tests;
 
 pub use receiver::{ReceiveFault, Reception, receive};

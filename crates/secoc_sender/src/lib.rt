@@ -7,7 +7,5 @@
 #![tactic(auto)]
 
 mod sender;
-#[cfg(test)]
-mod tests;
 
 pub use sender::{SendFault, Sent, send};

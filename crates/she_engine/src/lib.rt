@@ -10,8 +10,6 @@ mod ciphers;
 mod engine;
 mod loading;
 mod memory;
-#[cfg(test)]
-mod tests;
 
 pub use engine::{Engine, LoadFault};
 pub use loading::{allowed, slot_of};

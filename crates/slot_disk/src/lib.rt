@@ -10,8 +10,6 @@
 mod cell;
 mod laws;
 mod slots;
-#[cfg(test)]
-mod tests;
 
 pub use cell::{slot_bytes, slot_in};
 pub use laws::{a_cell_is_one_slot, a_slot_has_a_cell_of_32_bytes};

@@ -4,7 +4,6 @@ ghost use Rattle.std.specs.Prelude.{◌≡◌, false, length, IfOk, OnOk};
 ghost use Rattle.freshness_routes.specs.declared.routes.Direction.TheVariants.{Sends};
 ghost use Rattle.freshness_manager.specs.Counters.{KeepsBound};
 
-use super::*;
 use cell_store::{Cells, CutCells, TwinCells};
 use cut_disk::MemDisk;
 use freshness_manager::Tx;
@@ -12,6 +11,7 @@ use freshness_routes::{Direction, Route};
 use freshness_store::{bound_bytes, read_bound};
 use key_slots::{Counter28, Erc, Flags, Slot, SlotId};
 use memory_update::Uid;
+use secoc_sender::*;
 use she_aes::Block;
 use she_engine::Engine;
 use slot_disk::slot_bytes;

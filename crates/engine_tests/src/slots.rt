@@ -1,11 +1,11 @@
 // Cells as they are written down in the formats, and slots over a store in memory.
 ghost use Rattle.std.specs.Prelude.{◌≡◌, length, false, IfOk};
 
-use super::*;
 use cell_store::{Cells, TwinCells};
 use cut_disk::MemDisk;
 use key_slots::{Counter28, Flags, Slot, SlotId};
 use she_aes::Block;
+use slot_disk::*;
 use std::alloc::Global;
 use std::test::Fail;
 

@@ -4,9 +4,9 @@ ghost use Rattle.secured_pdu.specs.Frame.{IsWindow};
 ghost use Rattle.freshness_routes.specs.declared.routes.Direction.TheVariants.{Sends, Receives};
 ghost use Rattle.freshness_manager.specs.Counters.{KeepsBound};
 
-use super::*;
 use cell_store::{Cells, CutCells, LogCells, PutFailed, TwinCells, Version};
 use cut_disk::{MemDisk, Torn};
+use freshness_manager::*;
 use freshness_store::{bound_bytes, read_bound};
 use std::alloc::Global;
 use std::process::Abort;

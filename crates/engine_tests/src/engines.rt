@@ -3,12 +3,12 @@
 ghost use Rattle.std.specs.Prelude.{◌≡◌, ◌≤◌, false, length, IfOk, OnOk};
 ghost use Rattle.slot_disk.specs.Cell.{HoldSlots};
 
-use crate::{Engine, LoadFault};
 use cell_store::{Cells, CutCells, TwinCells};
 use cut_disk::MemDisk;
 use key_slots::{Counter28, Erc, Flags, SlotId};
 use memory_update::{Reply, Request, Uid, Update, build};
 use she_aes::Block;
+use she_engine::{Engine, LoadFault};
 use std::alloc::Global;
 use std::test::Fail;
 

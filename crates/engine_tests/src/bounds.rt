@@ -1,10 +1,9 @@
 // The cell of a bound as it is written down in the formats, and bounds over either store in memory.
 ghost use Rattle.std.specs.Prelude.{◌≡◌, ◌<◌, length, false, IfOk, OnOk};
 
-use super::*;
-use crate::cell::bound_in;
 use cell_store::{Cells, LogCells, TwinCells, Version};
 use cut_disk::MemDisk;
+use freshness_store::{bound_in, *};
 use std::alloc::Global;
 use std::process::Abort;
 use std::test::Fail;

@@ -1,0 +1,16 @@
+//! Tests of slots and bounds in cells, of counters, of the engine, and of one send and one verdict.
+//! There is nothing else here: a crate of tests over several libraries has none of them proved a second time.
+#![tactic(auto)]
+
+#[cfg(test)]
+mod bounds;
+#[cfg(test)]
+mod counters;
+#[cfg(test)]
+mod engines;
+#[cfg(test)]
+mod receptions;
+#[cfg(test)]
+mod sends;
+#[cfg(test)]
+mod slots;
