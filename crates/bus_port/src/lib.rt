@@ -15,4 +15,3 @@ pub use memory_ports::{CleanSource, MemSink, MemSource};
 pub use port::{Memory, PortFailed, Sink, Source};
 pub use standard_ports::{StdSink, StdSource};
 pub use whole_streams::{ReadAll, read_all, write_all};
-

@@ -11,4 +11,3 @@ mod pdu;
 
 pub use bytes::Bytes;
 pub use pdu::Pdu;
-

@@ -70,4 +70,3 @@ pub use logs::{LogCells, log_size};
 pub use moving::move_up;
 pub use probing::{probe, probe_as};
 pub use twin::TwinCells;
-

@@ -14,4 +14,3 @@ pub use input::{InputFault, read_input};
 pub use opening::{NamedSource, open_named};
 pub use telling::{DONE, NO_MEMORY, WRITE_FAULT, tell};
 pub use words::{behind_name, words_of};
-

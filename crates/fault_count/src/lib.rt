@@ -8,7 +8,6 @@
 ghost use Rattle.std.specs.Prelude.{◌≡◌, ◌⊎◌, ℕ, ◌<◌, ◌≤◌, ◌↔◌};
 ghost use Rattle.fault_count.specs.FaultCount.{last_count, counted, Rose};
 
-
 /// Counts one fault more.
 pub fn count_fault(faults: &mut u64)
     ensures count { faults.new ≡ counted faults.old }

@@ -21,4 +21,3 @@ pub use counting::{Tally, count_run};
 pub use last_line::{EndingText, Stop, print_run_until_last};
 pub use machine::{Consumer, Machine, drive};
 pub use printing::{LineText, Unwritten, print_run};
-

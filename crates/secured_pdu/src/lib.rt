@@ -9,4 +9,3 @@ mod verdict;
 
 pub use frame::{Parts, assemble, build, input_bytes, input_mac, split};
 pub use verdict::{Judgement, candidate_of, judge};
-

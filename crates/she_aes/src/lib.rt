@@ -186,4 +186,3 @@ pub fn decrypt(schedule: &Schedule, block: &Block) -> Block
     let s0 = inverse::undo_round(&rounds::key_of(&added[0]), s1);
     Block::of(rounds::add_round_key(&schedule.key, s0).to_array())
 }
-

@@ -6,4 +6,3 @@ mod pieces;
 mod subkeys;
 
 pub use pieces::{Mac, cmac, cmac_of_parts};
-
