@@ -1,0 +1,4 @@
+pub mod Entries
+pub mod Campaign
+pub mod Steps
+pub mod Claims
