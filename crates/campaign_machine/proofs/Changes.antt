@@ -1,7 +1,7 @@
 -- What the change of one place leaves of the entries
 use Rattle.std.specs.Prelude.{◌≡◌, ◌≢◌, ◌⊎◌, ℕ, ◌<◌, ◌≤◌, Bool, true, false, Option, None, Some, is_none, List, length, set}
 use Rattle.std.specs.List.{position_or_len}
-use Rattle.std.proofs.Common.{refl, sym, ap, subst, ◌∙◌, arith, true≢false}
+use Rattle.std.proofs.Common.{refl, sym, ap, subst, ◌∙◌, arith, inl, inr, true≢false}
 use Rattle.std.proofs.Math.ListN.{get_or}
 use Rattle.std.proofs.lemmas.Bool.{cases_Bool}
 use Rattle.std.proofs.lemmas.Bool.Decides.{eqb_tells}
@@ -11,7 +11,7 @@ use Rattle.std.proofs.lemmas.List.Sums.{position_or_len_is, fails_before_first, 
 use Rattle.std.proofs.lemmas.Option.{same_Some}
 use Rattle.campaign_machine.specs.declared.entries.LedgerEntry.{LedgerEntry}
 use Rattle.campaign_machine.specs.declared.entries.PendingEntry.{PendingEntry}
-use Rattle.campaign_machine.specs.Entries.{IsEntry, same_slot, is_of, place_of, empty_place, entry_at, entry_of, last_issued, counter_in, TakesPlace, AreEntries, with_change, Advances}
+use Rattle.campaign_machine.specs.Entries.{IsEntry, same_slot, is_of, place_for, empty_place, entry_at, entry_for, last_issued, entry_counter, TakesPlace, AreLedgerEntries, with_change, Advances}
 use Rattle.campaign_machine.proofs.Places.{same_slot_is, same_slot_self, none_is_of, Finds, is_of_same, at_place, inside_of}
 
 module _ (entries : List (Option LedgerEntry)) (k : ℕ) (e : LedgerEntry) (takes : TakesPlace e.uid e.id entries k) where
@@ -22,7 +22,7 @@ module _ (entries : List (Option LedgerEntry)) (k : ℕ) (e : LedgerEntry) (take
   stood_own : is_of e.uid e.id (Some e) ≡ true
   stood_own = same_slot_self e.uid e.id
 
-  pub own_place : place_of e.uid e.id after ≡ k
+  pub own_place : place_for e.uid e.id after ≡ k
   own_place = elim takes.1 [
     | inl first ↦
         let there = passes_at_first (is_of e.uid e.id) entries None (subst (λ p. p < length entries) first takes.0) in
@@ -34,7 +34,7 @@ module _ (entries : List (Option LedgerEntry)) (k : ℕ) (e : LedgerEntry) (take
         (λ inside. ap (is_of e.uid e.id) (get_or-set_same entries k (Some e) None takes.0) ∙ stood_own)
   ]
 
-  pub own_entry : entry_of e.uid e.id after ≡ Some e
+  pub own_entry : entry_for e.uid e.id after ≡ Some e
   own_entry = ap (entry_at after) own_place ∙ get_or-set_same entries k (Some e) None takes.0
 
   module _ (uid : List ℕ) (id : ℕ) (other : same_slot uid id e.uid e.id ≡ false) where
@@ -49,34 +49,34 @@ module _ (entries : List (Option LedgerEntry)) (k : ℕ) (e : LedgerEntry) (take
           (ap (λ p. is_none (get_or entries p None)) new.1 ∙ passes_at_first is_none entries None (subst (λ p. p < length entries) new.1 takes.0))
     ]
 
-    pub other_place : place_of uid id after ≡ place_of uid id entries
+    pub other_place : place_for uid id after ≡ place_for uid id entries
     other_place = position_or_len-set (is_of uid id) entries k (Some e) None (other ∙ sym stood_other)
 
-    elsewhere : place_of uid id entries ≢ k
+    elsewhere : place_for uid id entries ≢ k
     elsewhere same =
         let there = passes_at_first (is_of uid id) entries None (subst (λ p. p < length entries) (sym same) takes.0) in
         absurd (true≢false (sym there ∙ ap (λ p. is_of uid id (get_or entries p None)) same ∙ stood_other))
 
-    pub other_entry : entry_of uid id after ≡ entry_of uid id entries
-    other_entry = ap (entry_at after) other_place ∙ get_or-set_other entries k (place_of uid id entries) (Some e) None elsewhere
+    pub other_entry : entry_for uid id after ≡ entry_for uid id entries
+    other_entry = ap (entry_at after) other_place ∙ get_or-set_other entries k (place_for uid id entries) (Some e) None elsewhere
 
   -- the entry of any unit and slot after the change
   pub entry_after : (uid : List ℕ) (id : ℕ)
-      → ((e.uid ≡ uid) × (e.id ≡ id) × (entry_of uid id after ≡ Some e)) ⊎ (entry_of uid id after ≡ entry_of uid id entries)
+      → ((e.uid ≡ uid) × (e.id ≡ id) × (entry_for uid id after ≡ Some e)) ⊎ (entry_for uid id after ≡ entry_for uid id entries)
   entry_after uid id = elim (cases_Bool (same_slot uid id e.uid e.id)) [
     | inl same ↦
         let is = same_slot_is uid id e.uid e.id same in
-        inl (is.0, is.1, subst (λ u. entry_of u id after ≡ Some e) is.0 (subst (λ i. entry_of e.uid i after ≡ Some e) is.1 own_entry))
+        inl (is.0, is.1, subst (λ u. entry_for u id after ≡ Some e) is.0 (subst (λ i. entry_for e.uid i after ≡ Some e) is.1 own_entry))
     | inr other ↦ inr (other_entry uid id other)
   ]
 
   -- no two entries are of one unit and slot
-  once_after : ((p : ℕ) (f : LedgerEntry) → entry_at entries p ≡ Some f → place_of f.uid f.id entries ≡ p)
-      → (p : ℕ) (f : LedgerEntry) → entry_at after p ≡ Some f → place_of f.uid f.id after ≡ p
+  once_after : ((p : ℕ) (f : LedgerEntry) → entry_at entries p ≡ Some f → place_for f.uid f.id entries ≡ p)
+      → (p : ℕ) (f : LedgerEntry) → entry_at after p ≡ Some f → place_for f.uid f.id after ≡ p
   once_after once p f at = elim (eqb_tells p k) [
     | inl here ↦
         let same : e ≡ f = same_Some e f (sym (get_or-set_same entries k (Some e) None takes.0) ∙ ap (entry_at after) (sym here.1) ∙ at) in
-        subst (λ (x : LedgerEntry). place_of x.uid x.id after ≡ p) same (own_place ∙ sym here.1)
+        subst (λ (x : LedgerEntry). place_for x.uid x.id after ≡ p) same (own_place ∙ sym here.1)
     | inr there ↦
         let was : entry_at entries p ≡ Some f = sym (get_or-set_other entries k p (Some e) None there.1) ∙ at in
         let first = once p f was in
@@ -84,7 +84,7 @@ module _ (entries : List (Option LedgerEntry)) (k : ℕ) (e : LedgerEntry) (take
           | inr other ↦ other_place f.uid f.id other ∙ first
           | inl same ↦
               let is = same_slot_is f.uid f.id e.uid e.id same in
-              let mine : place_of e.uid e.id entries ≡ p = ap (λ u. place_of u e.id entries) is.0 ∙ ap (λ i. place_of f.uid i entries) is.1 ∙ first in
+              let mine : place_for e.uid e.id entries ≡ p = ap (λ u. place_for u e.id entries) is.0 ∙ ap (λ i. place_for f.uid i entries) is.1 ∙ first in
               let inside = inside_of entries p f was in
               absurd (elim takes.1 [
                 | inl own ↦ there.1 (sym mine ∙ sym own)
@@ -102,12 +102,12 @@ module _ (entries : List (Option LedgerEntry)) (k : ℕ) (e : LedgerEntry) (take
     | inr there ↦ are p f (sym (get_or-set_other entries k p (Some e) None there.1) ∙ at)
   ]
 
-  pub entries_after : IsEntry e → AreEntries entries → AreEntries after
+  pub entries_after : IsEntry e → AreLedgerEntries entries → AreLedgerEntries after
   entries_after is all = record { are = are_after is all.are; once = once_after all.once }
 
 -- after a change that advances, places hold entries as before
-pub AreEntries-change : (entries : List (Option LedgerEntry)) (change : PendingEntry) → Advances entries change → AreEntries entries → AreEntries (with_change change entries)
-AreEntries-change entries change advances = entries_after entries change.place change.entry advances.takes advances.is_entry
+pub AreLedgerEntries-change : (entries : List (Option LedgerEntry)) (change : PendingEntry) → Advances entries change → AreLedgerEntries entries → AreLedgerEntries (with_change change entries)
+AreLedgerEntries-change entries change advances = entries_after entries change.place change.entry advances.takes advances.is_entry
 
 -- no counter falls by it
 pub last_issued_change : (entries : List (Option LedgerEntry)) (change : PendingEntry) (uid : List ℕ) (id : ℕ) → Advances entries change
@@ -116,6 +116,6 @@ last_issued_change entries change uid id advances = elim (entry_after entries ch
   | inl own ↦
       let forward : last_issued uid id entries ≤ change.entry.counter =
       subst (λ u. last_issued u id entries ≤ change.entry.counter) own.0 (subst (λ i. last_issued change.entry.uid i entries ≤ change.entry.counter) own.1 advances.forward) in
-      omega (arith, forward, ap counter_in own.2)
-  | inr same ↦ omega (arith, ap counter_in same)
+      omega (arith, forward, ap entry_counter own.2)
+  | inr same ↦ omega (arith, ap entry_counter same)
 ]

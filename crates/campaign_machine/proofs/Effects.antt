@@ -8,12 +8,12 @@ use Rattle.campaign_machine.specs.declared.lines.LedgerLine.{LedgerLine}
 use Rattle.campaign_machine.specs.declared.lines.LedgerLine.TheVariants as line
 use Rattle.campaign_machine.specs.declared.lines.LedgerRefusal.{LedgerRefusal}
 use Rattle.campaign_machine.specs.declared.lines.LedgerRefusal.TheVariants as refusal
-use Rattle.campaign_machine.specs.Campaign.{Campaign, with_entry, failed_change, stays_off}
+use Rattle.campaign_machine.specs.Campaign.{Campaign, changed_ledger, failed_change, stays_off}
 use Rattle.campaign_machine.specs.Steps.{MakesEntry, PowersLedger, LedgerStep}
 
 pub data LedgerEffect (c : Campaign) (cmd : LedgerCommand) (after : Campaign) : Type 0 where
   stays : after ≡ c → LedgerEffect c cmd after
-  made : (change : PendingEntry) → MakesEntry c cmd change → after ≡ with_entry change c → LedgerEffect c cmd after
+  made : (change : PendingEntry) → MakesEntry c cmd change → after ≡ changed_ledger change c → LedgerEffect c cmd after
   failed : (change : PendingEntry) → MakesEntry c cmd change → after ≡ failed_change change c → LedgerEffect c cmd after
   powers : PowersLedger c after → LedgerEffect c cmd after
   off : after ≡ stays_off c → LedgerEffect c cmd after

@@ -1,5 +1,5 @@
 -- What an entry that is confirmed tells
-use Rattle.std.specs.Prelude.{◌≡◌, ◌⊎◌, ℕ, ◌+◌, ◌<◌, Bool, true, false, Option, None, Some, List, [], ◌∷◌, length, Any}
+use Rattle.std.specs.Prelude.{◌≡◌, ◌⊎◌, ℕ, suc, ◌+◌, ◌<◌, Bool, true, false, Option, None, Some, List, [], ◌∷◌, length, Any}
 use Rattle.std.proofs.Common.{refl, sym, ap, subst, ◌∙◌, arith, inl, inr, true≢false}
 use Rattle.std.proofs.lemmas.Option.{same_Some, none-some}
 use Rattle.machine_runs.specs.Run.{Run}
@@ -10,7 +10,7 @@ use Rattle.campaign_machine.specs.declared.commands.LedgerCommand.TheVariants as
 use Rattle.campaign_machine.specs.declared.entries.LedgerEntry.{LedgerEntry}
 use Rattle.campaign_machine.specs.declared.entries.PendingEntry.{PendingEntry}
 use Rattle.campaign_machine.specs.declared.lines.LedgerLine.{LedgerLine}
-use Rattle.campaign_machine.specs.Entries.{entry_of, counter_in, with_change, Advances}
+use Rattle.campaign_machine.specs.Entries.{entry_for, entry_counter, with_change, Advances}
 use Rattle.campaign_machine.specs.Campaign.{Campaign, SoundLedger}
 use Rattle.campaign_machine.specs.Steps.{ConfirmsWith, MakesConfirm, MakesEntry, LedgerStep}
 use Rattle.campaign_machine.specs.Claims.{LedgerMoment, CarriesReply, ConfirmedByReply}
@@ -27,7 +27,7 @@ here : (e : LedgerEntry) (m : LedgerMoment) (ms : List LedgerMoment) → Carries
 here e m ms carries = (0, m, omega arith, refl, carries)
 
 later : (e : LedgerEntry) (m : LedgerMoment) (ms : List LedgerMoment) → Any (CarriesFor e) ms → Any (CarriesFor e) (m ∷ ms)
-later e m ms any = (any.0 + 1, any.1, omega (arith, any.2), any.3, any.4)
+later e m ms any = (suc any.0, any.1, omega (arith, any.2), any.3, any.4)
 
 -- a command that makes an entry confirmed carries a reply for it
 carries_made : (c : Campaign) (cmd : LedgerCommand) (change : PendingEntry) → MakesEntry c cmd change → change.entry.confirmed ≡ true
@@ -56,14 +56,14 @@ abbrev pub IsPending : Campaign → LedgerEntry → Type 0
 IsPending c e = (change : PendingEntry) × (c.pending ≡ Some change) × (change.entry ≡ e)
 
 abbrev pub StandsIn : List ℕ → ℕ → Campaign → LedgerEntry → Type 0
-StandsIn uid id c e = (entry_of uid id c.entries ≡ Some e) ⊎ IsPending c e
+StandsIn uid id c e = (entry_for uid id c.entries ≡ Some e) ⊎ IsPending c e
 
 -- after a change an entry of a unit and slot is the change's, or was there
 changed_entry : (entries after : List (Option LedgerEntry)) (change : PendingEntry) (uid : List ℕ) (id : ℕ) (e : LedgerEntry) → Advances entries change
-    → after ≡ with_change change entries → entry_of uid id after ≡ Some e → (change.entry ≡ e) ⊎ (entry_of uid id entries ≡ Some e)
+    → after ≡ with_change change entries → entry_for uid id after ≡ Some e → (change.entry ≡ e) ⊎ (entry_for uid id entries ≡ Some e)
 changed_entry entries after change uid id e advances is at = elim (entry_after entries change.place change.entry advances.takes uid id) [
-  | inl own ↦ inl (same_Some change.entry e (sym own.2 ∙ sym (ap (entry_of uid id) is) ∙ at))
-  | inr same ↦ inr (sym same ∙ sym (ap (entry_of uid id) is) ∙ at)
+  | inl own ↦ inl (same_Some change.entry e (sym own.2 ∙ sym (ap (entry_for uid id) is) ∙ at))
+  | inr same ↦ inr (sym same ∙ sym (ap (entry_for uid id) is) ∙ at)
 ]
 
 entries_are : (c after : Campaign) → after ≡ c → after.entries ≡ c.entries
@@ -76,13 +76,13 @@ module _ (c : Campaign) (cmd : LedgerCommand) (told : LedgerLine) (after : Campa
   abbrev Before : Type 0
   Before = StandsIn uid id c e ⊎ CarriesReply e.uid e.id e.counter cmd
 
-  was_there : after.entries ≡ c.entries → entry_of uid id after.entries ≡ Some e → Before
-  was_there same at = inl (inl (sym (ap (entry_of uid id) same) ∙ at))
+  was_there : after.entries ≡ c.entries → entry_for uid id after.entries ≡ Some e → Before
+  was_there same at = inl (inl (sym (ap (entry_for uid id) same) ∙ at))
 
   was_pending : after.pending ≡ c.pending → IsPending after e → Before
   was_pending same at = inl (inr (at.0, sym same ∙ at.1, at.2))
 
-  entry_before : entry_of uid id after.entries ≡ Some e → Before
+  entry_before : entry_for uid id after.entries ≡ Some e → Before
   entry_before at = elim (effect_of c cmd told after step) [
     | stays same ↦ was_there (entries_are c after same) at
     | made change makes is ↦
@@ -121,8 +121,8 @@ module _ (c : Campaign) (cmd : LedgerCommand) (told : LedgerLine) (after : Campa
   before (inr at) = pending_before at
 
 confirmed_from : (start : Campaign) (ms : List LedgerMoment) (last : Campaign) (uid : List ℕ) (id : ℕ) (e : LedgerEntry) → SoundLedger start → Run LedgerStep start ms last
-    → entry_of uid id last.entries ≡ Some e → e.confirmed ≡ true → StandsIn uid id start e ⊎ Any (CarriesFor e) ms
-confirmed_from start [] last uid id e sound run at confirmed = inl (inl (sym (ap (λ (s : Campaign). entry_of uid id s.entries) run) ∙ at))
+    → entry_for uid id last.entries ≡ Some e → e.confirmed ≡ true → StandsIn uid id start e ⊎ Any (CarriesFor e) ms
+confirmed_from start [] last uid id e sound run at confirmed = inl (inl (sym (ap (λ (s : Campaign). entry_for uid id s.entries) run) ∙ at))
 confirmed_from start (m ∷ ms) last uid id e sound run at confirmed =
     elim (confirmed_from m.after ms last uid id e (Sound-step start m.command m.line m.after sound run.0) run.1 at confirmed) [
       | inr any ↦ inr (later e m ms any)

@@ -13,7 +13,7 @@ use Rattle.campaign_machine.specs.declared.entries.LedgerEntry.{LedgerEntry}
 use Rattle.campaign_machine.specs.declared.entries.PendingEntry.{PendingEntry}
 use Rattle.campaign_machine.specs.declared.lines.LedgerLine.{LedgerLine}
 use Rattle.campaign_machine.specs.declared.lines.LedgerLine.TheVariants as line
-use Rattle.campaign_machine.specs.Entries.{same_slot, entry_of, last_issued, counter_in, with_change, Advances}
+use Rattle.campaign_machine.specs.Entries.{same_slot, entry_for, last_issued, entry_counter, with_change, Advances}
 use Rattle.campaign_machine.specs.Campaign.{Campaign, SoundLedger}
 use Rattle.campaign_machine.specs.Steps.{IssuesRequest, MakesIssue, LedgerStep}
 use Rattle.campaign_machine.specs.Claims.{LedgerMoment, issued_for, CountersRise, StillKept, KeepsEntries}
@@ -55,7 +55,7 @@ issued_own : (c : Campaign) (i : Issue) (counter : ℕ) (after : Campaign) (chan
 issued_own c i counter after change makes next is =
     let e : LedgerEntry = record { uid = i.uid; id = i.id; counter = last_issued i.uid i.id c.entries + 1; confirmed = false } in
     let own : last_issued i.uid i.id (with_change (record { place = change.place; entry = e }) c.entries) ≡ last_issued i.uid i.id c.entries + 1 =
-    ap counter_in (own_entry c.entries change.place e makes.takes) in
+    ap entry_counter (own_entry c.entries change.place e makes.takes) in
     record {
       next = next;
       last = ap (last_issued i.uid i.id) is
@@ -113,22 +113,22 @@ CountersRise-run start (m ∷ ms) last sound run =
 -- ---- entries stay
 
 kept_change : (c : Campaign) (entries : List (Option LedgerEntry)) (change : PendingEntry) (uid : List ℕ) (id : ℕ) (e : LedgerEntry) → Advances c.entries change
-    → entries ≡ with_change change c.entries → entry_of uid id c.entries ≡ Some e → (f : LedgerEntry) × (entry_of uid id entries ≡ Some f) × (e.counter ≤ f.counter)
+    → entries ≡ with_change change c.entries → entry_for uid id c.entries ≡ Some e → (f : LedgerEntry) × (entry_for uid id entries ≡ Some f) × (e.counter ≤ f.counter)
 kept_change c entries change uid id e advances is at = elim (entry_after c.entries change.place change.entry advances.takes uid id) [
   | inl own ↦ (
     change.entry,
-    ap (entry_of uid id) is ∙ own.2,
+    ap (entry_for uid id) is ∙ own.2,
     let forward : last_issued uid id c.entries ≤ change.entry.counter =
         subst (λ u. last_issued u id c.entries ≤ change.entry.counter) own.0 (subst (λ i. last_issued change.entry.uid i c.entries ≤ change.entry.counter) own.1 advances.forward) in
-        omega (arith, forward, ap counter_in at),
+        omega (arith, forward, ap entry_counter at),
   )
-  | inr same ↦ (e, ap (entry_of uid id) is ∙ same ∙ at, omega arith)
+  | inr same ↦ (e, ap (entry_for uid id) is ∙ same ∙ at, omega arith)
 ]
 
 kept_step : (c : Campaign) (cmd : LedgerCommand) (told : LedgerLine) (after : Campaign) (uid : List ℕ) (id : ℕ) (e : LedgerEntry) → SoundLedger c → LedgerStep c cmd told after
-    → entry_of uid id c.entries ≡ Some e → (f : LedgerEntry) × (entry_of uid id after.entries ≡ Some f) × (e.counter ≤ f.counter)
+    → entry_for uid id c.entries ≡ Some e → (f : LedgerEntry) × (entry_for uid id after.entries ≡ Some f) × (e.counter ≤ f.counter)
 kept_step c cmd told after uid id e sound step at =
-    let same_entries : after.entries ≡ c.entries → (f : LedgerEntry) × (entry_of uid id after.entries ≡ Some f) × (e.counter ≤ f.counter) = λ same. (e, ap (entry_of uid id) same ∙ at, omega arith) in
+    let same_entries : after.entries ≡ c.entries → (f : LedgerEntry) × (entry_for uid id after.entries ≡ Some f) × (e.counter ≤ f.counter) = λ same. (e, ap (entry_for uid id) same ∙ at, omega arith) in
     elim (effect_of c cmd told after step) [
       | stays same ↦ same_entries (ap (λ (s : Campaign). s.entries) same)
       | made change makes is ↦ kept_change c after.entries change uid id e (advances_made c cmd change sound makes) (ap (λ (s : Campaign). s.entries) is) at
@@ -141,7 +141,7 @@ kept_step c cmd told after uid id e sound step at =
     ]
 
 pub KeepsEntries-run : (start : Campaign) (ms : List LedgerMoment) (last : Campaign) → SoundLedger start → Run LedgerStep start ms last → KeepsEntries start last
-KeepsEntries-run start [] last sound run uid id e at = record { now = e; there = ap (λ (s : Campaign). entry_of uid id s.entries) run ∙ at; no_lower = omega arith }
+KeepsEntries-run start [] last sound run uid id e at = record { now = e; there = ap (λ (s : Campaign). entry_for uid id s.entries) run ∙ at; no_lower = omega arith }
 KeepsEntries-run start (m ∷ ms) last sound run uid id e at =
     let next = kept_step start m.command m.line m.after uid id e sound run.0 at in
     let rest = KeepsEntries-run m.after ms last (Sound-step start m.command m.line m.after sound run.0) run.1 uid id next.0 next.1 in

@@ -14,8 +14,8 @@ use Rattle.campaign_machine.specs.declared.lines.LedgerLine.{LedgerLine}
 use Rattle.campaign_machine.specs.declared.lines.LedgerLine.TheVariants as line
 use Rattle.campaign_machine.specs.declared.lines.LedgerRefusal.{LedgerRefusal}
 use Rattle.campaign_machine.specs.declared.lines.LedgerRefusal.TheVariants as refusal
-use Rattle.campaign_machine.specs.Entries.{same_slot, entry_of, last_issued, counter_in, with_change, Advances}
-use Rattle.campaign_machine.specs.Campaign.{Campaign, with_entry, failed_change, SoundLedger}
+use Rattle.campaign_machine.specs.Entries.{same_slot, entry_for, last_issued, entry_counter, with_change, Advances}
+use Rattle.campaign_machine.specs.Campaign.{Campaign, changed_ledger, failed_change, SoundLedger}
 use Rattle.campaign_machine.specs.Steps.{MakesIssue, MakesConfirm, MakesEntry, PowersLedger, LedgerStep}
 use Rattle.campaign_machine.specs.Claims.{LedgerMoment, issued_for, failed_for, issued_before, failures_after, failed_since, FewAreSkipped}
 use Rattle.campaign_machine.proofs.Places.{same_slot_is, same_slot_self, found_of}
@@ -39,8 +39,8 @@ none_within uid id most pending none = λ change at u i. absurd (none-some chang
 change_within : (entries : List (Option LedgerEntry)) (change : PendingEntry) (uid : List ℕ) (id most : ℕ) → Advances entries change → last_issued uid id entries ≤ most
     → (change.entry.uid ≡ uid → change.entry.id ≡ id → change.entry.counter ≤ most) → last_issued uid id (with_change change entries) ≤ most
 change_within entries change uid id most advances now own = elim (entry_after entries change.place change.entry advances.takes uid id) [
-  | inl mine ↦ omega (arith, ap counter_in mine.2, own mine.0 mine.1)
-  | inr same ↦ omega (arith, ap counter_in same, now)
+  | inl mine ↦ omega (arith, ap entry_counter mine.2, own mine.0 mine.1)
+  | inr same ↦ omega (arith, ap entry_counter same, now)
 ]
 
 -- ---- the counter of a change that is made
@@ -52,7 +52,7 @@ confirm_counter c k change uid id makes u i =
     let found = found_of k.uid k.id c.entries e makes.found in
     let same_uid : k.uid ≡ uid = sym found.1 ∙ sym (ap (λ (x : LedgerEntry). x.uid) makes.entry_is) ∙ u in
     let same_id : k.id ≡ id = sym found.2 ∙ sym (ap (λ (x : LedgerEntry). x.id) makes.entry_is) ∙ i in
-    ap (λ (x : LedgerEntry). x.counter) makes.entry_is ∙ sym (ap counter_in makes.found)
+    ap (λ (x : LedgerEntry). x.counter) makes.entry_is ∙ sym (ap entry_counter makes.found)
     ∙ ap (λ v. last_issued v k.id c.entries) same_uid ∙ ap (λ j. last_issued uid j c.entries) same_id
 
 issue_counter : (c : Campaign) (i : Issue) (change : PendingEntry) (uid : List ℕ) (id : ℕ) → MakesIssue c i change → change.entry.uid ≡ uid → change.entry.id ≡ id
@@ -83,7 +83,7 @@ stays_within uid id most c after within same =
 
 -- a change was made that is of another unit or slot, or has the last counter
 made_within : (uid : List ℕ) (id most : ℕ) (c after : Campaign) (cmd : LedgerCommand) (change : PendingEntry) → SoundLedger c → MakesEntry c cmd change → WithinMost uid id most c
-    → after ≡ with_entry change c → (change.entry.uid ≡ uid → change.entry.id ≡ id → change.entry.counter ≤ most) → WithinMost uid id (0 + most) after
+    → after ≡ changed_ledger change c → (change.entry.uid ≡ uid → change.entry.id ≡ id → change.entry.counter ≤ most) → WithinMost uid id (0 + most) after
 made_within uid id most c after cmd change sound makes within is own =
     let now = change_within c.entries change uid id most (advances_made c cmd change sound makes) within.now own in
     record {
@@ -92,7 +92,7 @@ made_within uid id most c after cmd change sound makes within is own =
     }
 
 issued_within : (uid : List ℕ) (id most v : ℕ) (c after : Campaign) (i : Issue) (change : PendingEntry) → SoundLedger c → MakesIssue c i change → v ≡ last_issued i.uid i.id c.entries + 1
-    → WithinMost uid id most c → after ≡ with_entry change c → (b : Bool) → same_slot uid id i.uid i.id ≡ b
+    → WithinMost uid id most c → after ≡ changed_ledger change c → (b : Bool) → same_slot uid id i.uid i.id ≡ b
     → (b ≡ true → last_issued uid id after.entries ≡ v) → WithinMost uid id (most_after (cond b (Some v) None) false most) after
 issued_within uid id most v c after i change sound makes next within is true same own = record {
   now = omega (arith, own refl);

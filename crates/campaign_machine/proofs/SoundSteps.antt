@@ -14,12 +14,12 @@ use Rattle.campaign_machine.specs.declared.commands.LedgerCommand.TheVariants as
 use Rattle.campaign_machine.specs.declared.entries.LedgerEntry.{LedgerEntry}
 use Rattle.campaign_machine.specs.declared.entries.PendingEntry.{PendingEntry}
 use Rattle.campaign_machine.specs.declared.lines.LedgerLine.{LedgerLine}
-use Rattle.campaign_machine.specs.Entries.{greatest_counter, IsUnit, IsEntry, place_of, entry_of, counter_in, last_issued, TakesPlace, AreEntries, with_change, Advances}
-use Rattle.campaign_machine.specs.Campaign.{Campaign, powered_ledger, with_entry, failed_change, stays_off, SoundLedger}
+use Rattle.campaign_machine.specs.Entries.{greatest_counter, IsUnit, IsEntry, place_for, entry_for, entry_counter, last_issued, TakesPlace, AreLedgerEntries, with_change, Advances}
+use Rattle.campaign_machine.specs.Campaign.{Campaign, powered_ledger, changed_ledger, failed_change, stays_off, SoundLedger}
 use Rattle.campaign_machine.specs.Steps.{MakesIssue, MakesConfirm, MakesEntry, PowersLedger, LedgerStep}
 use Rattle.campaign_machine.specs.Claims.{LedgerMoment}
 use Rattle.campaign_machine.proofs.Places.{found_of}
-use Rattle.campaign_machine.proofs.Changes.{AreEntries-change}
+use Rattle.campaign_machine.proofs.Changes.{AreLedgerEntries-change}
 use Rattle.campaign_machine.proofs.Effects.{effect_of, stays, made, failed, powers, off}
 
 -- ---- the slots of a pair
@@ -52,13 +52,13 @@ advances_issue c i change makes =
     } in
     subst (λ (x : LedgerEntry). Advances c.entries (record { place = change.place; entry = x })) (sym makes.entry_is) all
 
-advances_confirm : (c : Campaign) (k : Confirm) (change : PendingEntry) → AreEntries c.entries → MakesConfirm c k change → Advances c.entries change
+advances_confirm : (c : Campaign) (k : Confirm) (change : PendingEntry) → AreLedgerEntries c.entries → MakesConfirm c k change → Advances c.entries change
 advances_confirm c k change all makes =
     let e : LedgerEntry = makes.entry in
     let found = found_of k.uid k.id c.entries e makes.found in
-    let is : IsEntry e = all.are (place_of k.uid k.id c.entries) e makes.found in
-    let first : place_of e.uid e.id c.entries ≡ place_of k.uid k.id c.entries = all.once (place_of k.uid k.id c.entries) e makes.found in
-    let old : entry_of e.uid e.id c.entries ≡ Some e = subst (λ u. entry_of u e.id c.entries ≡ Some e) (sym found.1) (subst (λ j. entry_of k.uid j c.entries ≡ Some e) (sym found.2) makes.found) in
+    let is : IsEntry e = all.are (place_for k.uid k.id c.entries) e makes.found in
+    let first : place_for e.uid e.id c.entries ≡ place_for k.uid k.id c.entries = all.once (place_for k.uid k.id c.entries) e makes.found in
+    let old : entry_for e.uid e.id c.entries ≡ Some e = subst (λ u. entry_for u e.id c.entries ≡ Some e) (sym found.1) (subst (λ j. entry_for k.uid j c.entries ≡ Some e) (sym found.2) makes.found) in
     let it : Advances c.entries (record { place = change.place; entry = record e { confirmed = true } }) = record {
       takes = (omega (arith, makes.place_is, found.0), inl (makes.place_is ∙ sym first));
       is_entry = record {
@@ -68,7 +68,7 @@ advances_confirm c k change all makes =
         counter_from_1 = is.counter_from_1;
         counter_fits = is.counter_fits;
       };
-      forward = omega (arith, ap counter_in old);
+      forward = omega (arith, ap entry_counter old);
     } in
     subst (λ (x : LedgerEntry). Advances c.entries (record { place = change.place; entry = x })) (sym makes.entry_is) it
 
@@ -95,10 +95,10 @@ pending_advances c change sound at = subst (λ o. IfSome o (Advances c.entries))
 -- ---- sound after a step
 
 module _ (c : Campaign) (sound : SoundLedger c) where
-  pub sound_made : (change : PendingEntry) → c.up ≡ true → Advances c.entries change → SoundLedger (with_entry change c)
+  pub sound_made : (change : PendingEntry) → c.up ≡ true → Advances c.entries change → SoundLedger (changed_ledger change c)
   sound_made change up advances = record {
     count = length-set c.entries change.place (Some change.entry) ∙ sound.count;
-    entries_are = AreEntries-change c.entries change advances sound.entries_are;
+    entries_are = AreLedgerEntries-change c.entries change advances sound.entries_are;
     settled = sound.settled;
     advances = subst (λ o. IfSome o (Advances (with_change change c.entries))) (sym (sound.settled up)) tt;
   }
@@ -117,7 +117,7 @@ module _ (c : Campaign) (sound : SoundLedger c) where
   pub sound_changed : (change : PendingEntry) → Advances c.entries change → SoundLedger (powered_ledger (with_change change c.entries))
   sound_changed change advances = record {
     count = length-set c.entries change.place (Some change.entry) ∙ sound.count;
-    entries_are = AreEntries-change c.entries change advances sound.entries_are;
+    entries_are = AreLedgerEntries-change c.entries change advances sound.entries_are;
     settled = λ up. refl;
     advances = tt;
   }

@@ -2,7 +2,7 @@
 use Rattle.std.specs.Prelude.{◌≡◌, Bool, true, false, Option, None, Some, IfSome, List, length}
 use Rattle.campaign_machine.specs.declared.entries.LedgerEntry.{LedgerEntry}
 use Rattle.campaign_machine.specs.declared.entries.PendingEntry.{PendingEntry}
-use Rattle.campaign_machine.specs.Entries.{place_count, AreEntries, with_change, Advances}
+use Rattle.campaign_machine.specs.Entries.{place_count, AreLedgerEntries, with_change, Advances}
 
 -- what stands in its places, whether it is up, and the change that a failed call left pending
 pub record Campaign : Type 0 where
@@ -15,8 +15,8 @@ abbrev pub powered_ledger : List (Option LedgerEntry) → Campaign
 powered_ledger entries = record { entries = entries; up = true; pending = None }
 
 -- a change was made
-abbrev pub with_entry : PendingEntry → Campaign → Campaign
-with_entry change c = record c { entries = with_change change c.entries }
+abbrev pub changed_ledger : PendingEntry → Campaign → Campaign
+changed_ledger change c = record c { entries = with_change change c.entries }
 
 -- this change was to be made, and the disk failed
 abbrev pub failed_change : PendingEntry → Campaign → Campaign
@@ -29,6 +29,6 @@ stays_off c = record c { up = false }
 -- what holds of a ledger, whether it is up or down
 pub record SoundLedger (c : Campaign) : Type 0 where
   pub count : length c.entries ≡ place_count
-  pub entries_are : AreEntries c.entries
+  pub entries_are : AreLedgerEntries c.entries
   pub settled : c.up ≡ true → c.pending ≡ None
   pub advances : IfSome c.pending (Advances c.entries)

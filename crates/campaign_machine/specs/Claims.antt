@@ -13,7 +13,7 @@ use Rattle.campaign_machine.specs.declared.entries.LedgerEntry.{LedgerEntry}
 use Rattle.campaign_machine.specs.declared.lines.LedgerLine.{LedgerLine}
 use Rattle.campaign_machine.specs.declared.lines.LedgerLine.TheVariants as line
 use Rattle.campaign_machine.specs.declared.lines.LedgerRefusal.TheVariants as refusal
-use Rattle.campaign_machine.specs.Entries.{same_slot, entry_of, last_issued}
+use Rattle.campaign_machine.specs.Entries.{same_slot, entry_for, last_issued}
 use Rattle.campaign_machine.specs.Campaign.{Campaign, SoundLedger}
 use Rattle.campaign_machine.specs.Steps.{update_for, ConfirmsWith, LedgerStep}
 
@@ -68,11 +68,11 @@ IsAllowedIn slots good _ _ = Unit {0}
 -- the entry of a unit and slot is still there, with no lower counter
 pub record StillKept (uid : List ℕ) (id : ℕ) (e : LedgerEntry) (last : Campaign) : Type 0 where
   pub now : LedgerEntry
-  pub there : entry_of uid id last.entries ≡ Some now
+  pub there : entry_for uid id last.entries ≡ Some now
   pub no_lower : e.counter ≤ now.counter
 
 abbrev pub KeepsEntries : Campaign → Campaign → Type 0
-KeepsEntries start last = (uid : List ℕ) (id : ℕ) (e : LedgerEntry) → entry_of uid id start.entries ≡ Some e → StillKept uid id e last
+KeepsEntries start last = (uid : List ℕ) (id : ℕ) (e : LedgerEntry) → entry_for uid id start.entries ≡ Some e → StillKept uid id e last
 
 -- the command confirms this unit and slot, with a reply that confirms an update with this counter
 abbrev pub CarriesReply : List ℕ → ℕ → ℕ → LedgerCommand → Type 0
@@ -81,8 +81,8 @@ CarriesReply uid id counter _ = ⊥
 
 -- an entry that is confirmed was so at first, or such a command came
 abbrev pub ConfirmedByReply : Campaign → List LedgerMoment → Campaign → Type 0
-ConfirmedByReply start ms last = (uid : List ℕ) (id : ℕ) (e : LedgerEntry) → entry_of uid id last.entries ≡ Some e → e.confirmed ≡ true
-    → (entry_of uid id start.entries ≡ Some e) ⊎ Any (λ m. CarriesReply uid id e.counter m.command) ms
+ConfirmedByReply start ms last = (uid : List ℕ) (id : ℕ) (e : LedgerEntry) → entry_for uid id last.entries ≡ Some e → e.confirmed ≡ true
+    → (entry_for uid id start.entries ≡ Some e) ⊎ Any (λ m. CarriesReply uid id e.counter m.command) ms
 
 -- the counter that was issued last for a unit and slot, or else the one at first
 abbrev pub issued_before : List ℕ → ℕ → ℕ → List LedgerMoment → ℕ

@@ -38,8 +38,8 @@ is_of uid id None = false
 is_of uid id (Some e) = same_slot uid id e.uid e.id
 
 -- the place at which the entry of a unit and slot stands first; the number of places where there is none
-abbrev pub place_of : List ℕ → ℕ → List (Option LedgerEntry) → ℕ
-place_of uid id entries = position_or_len (is_of uid id) entries
+abbrev pub place_for : List ℕ → ℕ → List (Option LedgerEntry) → ℕ
+place_for uid id entries = position_or_len (is_of uid id) entries
 
 -- the first empty place; the number of places where there is none
 abbrev pub empty_place : List (Option LedgerEntry) → ℕ
@@ -50,27 +50,27 @@ abbrev pub entry_at : List (Option LedgerEntry) → ℕ → Option LedgerEntry
 entry_at entries place = slice_index_or entries place None
 
 -- the entry of a unit and slot, if there is one
-abbrev pub entry_of : List ℕ → ℕ → List (Option LedgerEntry) → Option LedgerEntry
-entry_of uid id entries = entry_at entries (place_of uid id entries)
+abbrev pub entry_for : List ℕ → ℕ → List (Option LedgerEntry) → Option LedgerEntry
+entry_for uid id entries = entry_at entries (place_for uid id entries)
 
 -- the counter that was issued last; 0 where none was
-abbrev pub counter_in : Option LedgerEntry → ℕ
-counter_in None = 0
-counter_in (Some e) = e.counter
+abbrev pub entry_counter : Option LedgerEntry → ℕ
+entry_counter None = 0
+entry_counter (Some e) = e.counter
 
 abbrev pub last_issued : List ℕ → ℕ → List (Option LedgerEntry) → ℕ
-last_issued uid id entries = counter_in (entry_of uid id entries)
+last_issued uid id entries = entry_counter (entry_for uid id entries)
 
 -- the place of the entry of a unit and slot, or, where there is none, the first empty one, if there is one
 abbrev pub TakesPlace : List ℕ → ℕ → List (Option LedgerEntry) → ℕ → Type 0
 TakesPlace uid id entries place =
     (place < length entries)
-    × ((place ≡ place_of uid id entries) ⊎ ((place_of uid id entries ≡ length entries) × (place ≡ empty_place entries)))
+    × ((place ≡ place_for uid id entries) ⊎ ((place_for uid id entries ≡ length entries) × (place ≡ empty_place entries)))
 
 -- the places of a ledger: entries, of which no two are of one unit and slot
-pub record AreEntries (entries : List (Option LedgerEntry)) : Type 0 where
+pub record AreLedgerEntries (entries : List (Option LedgerEntry)) : Type 0 where
   pub are : (place : ℕ) (e : LedgerEntry) → entry_at entries place ≡ Some e → IsEntry e
-  pub once : (place : ℕ) (e : LedgerEntry) → entry_at entries place ≡ Some e → place_of e.uid e.id entries ≡ place
+  pub once : (place : ℕ) (e : LedgerEntry) → entry_at entries place ≡ Some e → place_for e.uid e.id entries ≡ place
 
 -- no entry
 unfoldable pub no_entries : List (Option LedgerEntry)

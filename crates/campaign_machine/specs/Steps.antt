@@ -16,8 +16,8 @@ use Rattle.campaign_machine.specs.declared.lines.LedgerLine.{LedgerLine}
 use Rattle.campaign_machine.specs.declared.lines.LedgerLine.TheVariants as line
 use Rattle.campaign_machine.specs.declared.lines.LedgerRefusal.{LedgerRefusal}
 use Rattle.campaign_machine.specs.declared.lines.LedgerRefusal.TheVariants as refusal
-use Rattle.campaign_machine.specs.Entries.{greatest_counter, IsUnit, place_of, empty_place, entry_of, last_issued, TakesPlace, with_change}
-use Rattle.campaign_machine.specs.Campaign.{Campaign, powered_ledger, with_entry, failed_change, stays_off}
+use Rattle.campaign_machine.specs.Entries.{greatest_counter, IsUnit, place_for, empty_place, entry_for, last_issued, TakesPlace, with_change}
+use Rattle.campaign_machine.specs.Campaign.{Campaign, powered_ledger, changed_ledger, failed_change, stays_off}
 
 -- ---- what is asked of a unit, and what its reply says
 
@@ -37,7 +37,7 @@ ConfirmsWith k counter = (flags : Flags) × Confirms k.reply (update_told k coun
 
 -- there is no entry of this unit and slot, and no empty place
 pub record HasNoPlace (entries : List (Option LedgerEntry)) (uid : List ℕ) (id : ℕ) : Type 0 where
-  pub unknown : entry_of uid id entries ≡ None
+  pub unknown : entry_for uid id entries ≡ None
   pub full : empty_place entries ≡ length entries
 
 -- the refusals of an issue, each where none before it applies
@@ -62,12 +62,12 @@ pub record MakesIssue (c : Campaign) (i : Issue) (change : PendingEntry) : Type 
 
 -- this is the entry of the unit and slot
 abbrev pub HasEntry : Campaign → Confirm → LedgerEntry → Type 0
-HasEntry c k e = entry_of k.uid k.id c.entries ≡ Some e
+HasEntry c k e = entry_for k.uid k.id c.entries ≡ Some e
 
 -- the refusals of a confirmation, each where none before it applies
 abbrev pub RefusesConfirm : Campaign → Confirm → LedgerRefusal → Type 0
 RefusesConfirm c k refusal.Down = c.up ≡ false
-RefusesConfirm c k refusal.Unknown = (c.up ≡ true) × (entry_of k.uid k.id c.entries ≡ None)
+RefusesConfirm c k refusal.Unknown = (c.up ≡ true) × (entry_for k.uid k.id c.entries ≡ None)
 RefusesConfirm c k refusal.AlreadyConfirmed =
     (c.up ≡ true) × ((e : LedgerEntry) × HasEntry c k e × (e.confirmed ≡ true))
 RefusesConfirm c k refusal.NotConfirmed =
@@ -81,7 +81,7 @@ pub record MakesConfirm (c : Campaign) (k : Confirm) (change : PendingEntry) : T
   pub found : HasEntry c k entry
   pub unconfirmed : entry.confirmed ≡ false
   pub confirms : ConfirmsWith k entry.counter
-  pub place_is : change.place ≡ place_of k.uid k.id c.entries
+  pub place_is : change.place ≡ place_for k.uid k.id c.entries
   pub entry_is : change.entry ≡ record entry { confirmed = true }
 
 -- ---- the rows: a command, the line that tells what came of it, and the ledger after it
@@ -102,14 +102,14 @@ pub record IssuesRequest (c : Campaign) (i : Issue) (counter : ℕ) (request : R
   pub makes : MakesIssue c i change
   pub counter_is : counter ≡ last_issued i.uid i.id c.entries + 1
   pub builds : Builds request i.authkey (update_for i counter)
-  pub after_is : after ≡ with_entry change c
+  pub after_is : after ≡ changed_ledger change c
 
 -- the change was made, of the entry with this counter
 pub record RecordsReply (c : Campaign) (k : Confirm) (counter : ℕ) (after : Campaign) : Type 0 where
   pub change : PendingEntry
   pub makes : MakesConfirm c k change
   pub counter_is : counter ≡ last_issued k.uid k.id c.entries
-  pub after_is : after ≡ with_entry change c
+  pub after_is : after ≡ changed_ledger change c
 
 -- what is told of an entry
 abbrev pub told_entry : LedgerEntry → ℕ × Bool
@@ -129,7 +129,7 @@ LedgerStep c (command.Confirm k) (line.Confirmed counter) after = RecordsReply c
 LedgerStep c (command.Confirm k) (line.Refused refusal.MemoryFailure) after = FaultsLedger c (command.Confirm k) after
 LedgerStep c (command.Confirm k) (line.Refused why) after = RefusesConfirm c k why × (after ≡ c)
 LedgerStep c (command.Show uid id) (line.Shown told) after =
-    (told ≡ option_map told_entry (entry_of uid id c.entries)) × (after ≡ c)
+    (told ≡ option_map told_entry (entry_for uid id c.entries)) × (after ≡ c)
 LedgerStep c (command.Cut torn) line.Up after = PowersLedger c after
 LedgerStep c (command.Cut torn) (line.Refused refusal.MemoryFailure) after = after ≡ stays_off c
 LedgerStep c (command.Stop calls) line.Armed after = after ≡ c
