@@ -206,10 +206,11 @@ impl<C: Cells> Node<C> {
     }
 
     /// The counter of the route with this Data ID and direction: the last freshness that was sent or accepted, or the bound at which it
-    /// began. `None` exactly where there is no such route.
+    /// began. `None` exactly where there is no such route. Whatever was called before and answered, the node is sound.
     pub fn counter(&self, id: u16, direction: Direction) -> Option<u64>
-        ensures { MatchOption result (¬ HasRoute self.now.node id direction)
+        ensures value { MatchOption result (¬ HasRoute self.now.node id direction)
             (λ v. HasRoute self.now.node id direction × (v ≡ counter_at self.now.node (place_of self.now.node id direction))) }
+        ensures sound { Sound self.now.node }
     {
         let (place, _route) = self.known.route(id, direction)?;
         Some(self.known.counters[place].freshness())

@@ -1,0 +1,4 @@
+pub mod Gateway
+pub mod Claims
+pub mod Laws
+pub mod StepLaws

@@ -1,0 +1,310 @@
+//! A gateway over either store in memory, and the player of tables.
+ghost use Rattle.std.specs.Prelude.{◌≡◌, ◌+◌, length, false, IfOk};
+ghost use Rattle.cell_store.specs.Store.{FewCells};
+
+use any_cells::AnyCells;
+use cell_store::{Kind, Reread, Version};
+use cut_disk::{MemDisk, Torn};
+use freshness_manager::{Direction, NodeConfig, Route};
+use key_slots::{Counter28, Flags, SlotId};
+use memory_update::{Request, Uid, Update, build};
+use secoc_gateway::{Arrival, Gateway};
+use secoc_node::{CutFault, Node, NodeFault, first_cells};
+use secoc_receiver::Reception;
+use she_aes::Block;
+use std::alloc::Global;
+use std::process::Abort;
+use std::test::Fail;
+
+/// What is done to a gateway.
+#[derive(Clone, Copy)]
+pub enum Act {
+    /// The key for slot 4, with this counter and these flags: the first is authorised by the empty slot, later ones by the key itself.
+    Key(u32, u8),
+    /// A key for a slot: target, authorising slot and its key, and the new key; its counter is 1, and it has no flags.
+    Load(u8, u8, u128, u128),
+    /// A boot with an image of one zero byte.
+    Boot,
+    Arrive(u16, &'static [u8]),
+    Receive(u16, &'static [u8]),
+    Second(u16),
+    Count(u16, Direction),
+    IsDown,
+    Cut(Torn),
+    Stop(u64),
+    Fail(u64),
+    /// A stop at the call, and a cut of the kind, that are given to all rows.
+    StopThen,
+    CutThen,
+}
+
+/// What the rows of a table take from outside: a number of calls, and a kind of cut.
+#[derive(Clone, Copy)]
+pub struct Given {
+    pub calls: u64,
+    pub torn: Torn,
+}
+
+pub const NOTHING_GIVEN: Given = Given {
+    calls: 0,
+    torn: Torn::Keep,
+};
+
+/// What a gateway answers.
+#[derive(Clone, Copy, Debug, PartialEq, Eq)]
+pub enum Answer {
+    Done,
+    Booted(bool),
+    /// The freshness of the arrival, and of the departure.
+    Forwarded(u64, u64),
+    Dropped(u64, NodeFault),
+    FreshnessFailure,
+    VerificationFailure,
+    Heard(Reception),
+    Id(Option<u16>),
+    Count(Option<u64>),
+    Down(bool),
+    Refused(NodeFault),
+    NotCut(Reread),
+    /// The table is wrong.
+    NoAct,
+}
+
+/// What is done, what the gateway answers, and the bytes that it sends; the rest of the buffer stays as it was.
+#[derive(Clone, Copy)]
+pub struct Row(pub Act, pub Answer, pub &'static [u8]);
+
+/// A route through slot 4 or another.
+#[derive(Clone, Copy)]
+pub struct Way {
+    pub id: u16,
+    pub direction: Direction,
+    pub slot: u8,
+    pub reserve: u16,
+    pub start: u64,
+}
+
+/// The kind and version of a store.
+pub type Shape = (Kind, Version);
+
+pub const SHAPES: [Shape; 4] = [
+    (Kind::Twin, Version::One),
+    (Kind::Twin, Version::Two),
+    (Kind::Log, Version::One),
+    (Kind::Log, Version::Two),
+];
+
+pub const KEY: u128 = 0x2b7e151628aed2a6abf7158809cf4f3c;
+
+/// What authorises an empty slot.
+pub const EMPTY: u128 = 0xffffffffffffffffffffffffffffffff;
+
+fn uid() -> Uid {
+    Uid::of([0, 0, 0, 0, 0, 0, 0, 0, 0, 0, 0, 0, 0, 0, 1])
+}
+
+fn config(alloc: Global, ways: &[Way]) -> Result<NodeConfig, Fail> {
+    let mut routes = Vec::new(alloc);
+    for way in ways {
+        routes.push(Route {
+            id: way.id,
+            direction: way.direction,
+            slot: SlotId::new(way.slot).ok_or("a slot")?,
+            reserve: way.reserve,
+            window: 256,
+            start: way.start,
+        })?;
+    }
+    let config = NodeConfig::new(uid(), routes).ok_or("a configuration")?;
+    Ok(config)
+}
+
+fn store(
+    alloc: Global,
+    kind: Kind,
+    version: Version,
+    cells: &[[u8; 32]],
+) -> Result<AnyCells<MemDisk>, Fail>
+    requires { FewCells (length cells.now) }
+    ensures count { IfOk result (λ store. length (AnyCells.state store).cells ≡ length cells.now) }
+    ensures whole { IfOk result (λ store. (AnyCells.state store).broken ≡ false) }
+{
+    let disk = MemDisk::new(alloc, 65_000)?;
+    let disk = match AnyCells::format_as(disk, kind, version, cells) {
+        Ok(disk) => disk,
+        Err(refused) => return Err(Fail::from(refused.fault)),
+    };
+    match AnyCells::attach_as(alloc, disk, kind, version, cells.len() as u16) {
+        Ok(store) => Ok(store),
+        Err(refused) => Err(Fail::from(refused.fault)),
+    }
+}
+
+/// A new node with these routes.
+pub fn node(alloc: Global, shape: Shape, ways: &[Way]) -> Result<Node<AnyCells<MemDisk>>, Fail> {
+    let config = config(alloc, ways)?;
+    let mut cells = [[0; 32]; 270];
+    let count = first_cells(&config, &mut cells);
+    let store = store(alloc, shape.0, shape.1, &cells[..count])?;
+    match Node::attach(alloc, config, store) {
+        Ok(node) => Ok(node),
+        Err(refused) => Err(Fail::from(refused.fault)),
+    }
+}
+
+fn gateway(
+    alloc: Global,
+    shape: Shape,
+    ways: &[Way],
+    pairs: &[(u16, u16)],
+) -> Result<Gateway<AnyCells<MemDisk>>, Fail> {
+    let node = node(alloc, shape, ways)?;
+    match Gateway::new(node, Vec::from_slice(alloc, pairs)?) {
+        Ok(gateway) => Ok(gateway),
+        Err(_) => Err(Fail::from("pairs that aren't taken")),
+    }
+}
+
+fn request(
+    target: u8,
+    auth: u8,
+    authkey: u128,
+    counter: u32,
+    flags: u8,
+    key: u128,
+) -> Option<Request> {
+    let update = Update {
+        uid: uid(),
+        id: SlotId::new(target)?,
+        auth: SlotId::new(auth)?,
+        counter: Counter28::new(counter)?,
+        flags: Flags::of(flags % 32),
+        key: Block::of(key.to_be_bytes()),
+    };
+    Some(build(&update, &Block::of(authkey.to_be_bytes())))
+}
+
+fn loads(gateway: &mut Gateway<AnyCells<MemDisk>>, request: Option<Request>) -> Answer {
+    let Some(request) = request else {
+        return Answer::NoAct;
+    };
+    match gateway.load(&request) {
+        Ok(_) => Answer::Done,
+        Err(fault) => Answer::Refused(fault),
+    }
+}
+
+fn boots(gateway: &mut Gateway<AnyCells<MemDisk>>) -> Answer {
+    match gateway.boot(&[0]) {
+        Ok(good) => Answer::Booted(good),
+        Err(fault) => Answer::Refused(fault),
+    }
+}
+
+fn arrives(
+    gateway: &mut Gateway<AnyCells<MemDisk>>,
+    id: u16,
+    pdu: &[u8],
+    out: &mut [u8; 64],
+) -> Answer {
+    if gateway.second(id).is_none() {
+        return Answer::NoAct;
+    }
+    match gateway.arrive(id, pdu, out) {
+        Ok(Arrival::Forwarded { freshness, sent }) => Answer::Forwarded(freshness, sent.freshness),
+        Ok(Arrival::Dropped { freshness, fault }) => Answer::Dropped(freshness, fault),
+        Ok(Arrival::FreshnessFailure) => Answer::FreshnessFailure,
+        Ok(Arrival::VerificationFailure) => Answer::VerificationFailure,
+        Err(fault) => Answer::Refused(fault),
+    }
+}
+
+fn hears(gateway: &mut Gateway<AnyCells<MemDisk>>, id: u16, pdu: &[u8]) -> Answer {
+    match gateway.receive(id, pdu) {
+        Ok(said) => Answer::Heard(said),
+        Err(fault) => Answer::Refused(fault),
+    }
+}
+
+fn cuts(gateway: &mut Gateway<AnyCells<MemDisk>>, torn: Torn) -> Answer {
+    match gateway.power_cut(torn) {
+        Ok(()) => Answer::Done,
+        Err(CutFault::Store(reread)) => Answer::NotCut(reread),
+        Err(_) => Answer::NoAct,
+    }
+}
+
+fn stops(gateway: &mut Gateway<AnyCells<MemDisk>>, calls: u64) -> Answer {
+    if calls == 0 {
+        return Answer::NoAct;
+    }
+    gateway.stop_at(calls);
+    Answer::Done
+}
+
+fn fails(gateway: &mut Gateway<AnyCells<MemDisk>>, calls: u64) -> Answer {
+    if calls == 0 {
+        return Answer::NoAct;
+    }
+    gateway.fail_at(calls);
+    Answer::Done
+}
+
+fn does(
+    gateway: &mut Gateway<AnyCells<MemDisk>>,
+    given: &Given,
+    act: &Act,
+    out: &mut [u8; 64],
+) -> Answer {
+    match *act {
+        Act::Key(counter, flags) => {
+            let authkey = if counter == 1 { EMPTY } else { KEY };
+            loads(gateway, request(4, 4, authkey, counter, flags, KEY))
+        }
+        Act::Load(target, auth, authkey, key) => {
+            loads(gateway, request(target, auth, authkey, 1, 0, key))
+        }
+        Act::Boot => boots(gateway),
+        Act::Arrive(id, pdu) => arrives(gateway, id, pdu, out),
+        Act::Receive(id, pdu) => hears(gateway, id, pdu),
+        Act::Second(id) => Answer::Id(gateway.second(id)),
+        Act::Count(id, direction) => Answer::Count(gateway.counter(id, direction)),
+        Act::IsDown => Answer::Down(gateway.is_down()),
+        Act::Cut(torn) => cuts(gateway, torn),
+        Act::Stop(calls) => stops(gateway, calls),
+        Act::Fail(calls) => fails(gateway, calls),
+        Act::StopThen => stops(gateway, given.calls),
+        Act::CutThen => cuts(gateway, given.torn),
+    }
+}
+
+/// A buffer of sevens with these bytes in front.
+fn buffer(front: &[u8]) -> [u8; 64] {
+    let mut bytes = [7; 64];
+    for (place, byte) in front.iter().enumerate() {
+        if let Some(at) = bytes.get_mut(place) {
+            *at = *byte;
+        }
+    }
+    bytes
+}
+
+/// Does each row, and compares what was answered and sent.
+pub fn plays(
+    rt: &impl Abort,
+    alloc: Global,
+    shape: Shape,
+    ways: &[Way],
+    pairs: &[(u16, u16)],
+    given: &Given,
+    rows: &[Row],
+) -> Result<(), Fail> {
+    let mut gateway = gateway(alloc, shape, ways, pairs)?;
+    for (place, row) in rows.iter().enumerate() {
+        let mut out = buffer(&[]);
+        let answer = does(&mut gateway, given, &row.0, &mut out);
+        assert_eq!(rt; answer, row.1, "row {place}");
+        assert!(rt; out == buffer(row.2), "row {place}");
+    }
+    Ok(())
+}

@@ -1,0 +1,261 @@
+//! A gateway over a node.
+ghost use Rattle.std.specs.Prelude.{◌≡◌, ◌≢◌, ◌<◌, ◌≤◌, ◌+◌, ◌^◌, ◌∷◌, ◌↔◌, ℕ, [], List, length, drop, not, false, Some, Option, IsSome, IfOk, IfErr, OnOk, OnErr, IsErrOf, MatchOption};
+ghost use Rattle.cut_disk.specs.State.{Told, Cut, Stop, Fail};
+ghost use Rattle.cut_disk.specs.Arming.{with_stop, with_fail};
+ghost use Rattle.cut_disk.specs.Calls.{Rose, Runs, Grows};
+ghost use Rattle.cut_disk.specs.Images.{CutsTo};
+ghost use Rattle.cell_store.specs.Reading.{NoStop};
+ghost use Rattle.cell_store.specs.Cells.{Settled, StandsNow};
+ghost use Rattle.secure_boot.specs.Booting.{IsImage};
+ghost use Rattle.memory_update.specs.declared.messages.Update.{Update};
+ghost use Rattle.memory_update.specs.Messages.{Builds};
+ghost use Rattle.freshness_routes.specs.declared.routes.Direction.TheVariants.{Sends, Receives};
+ghost use Rattle.bus_machine.specs.declared.events.Event.TheVariants.{Inject};
+ghost use Rattle.bus_machine.specs.Node.{HasRoute, place_of, counter_at, powered, refused_up};
+ghost use Rattle.bus_machine.specs.Sound.{Sound};
+ghost use Rattle.bus_machine.specs.Steps.{receives, loads, keys, boots, cuts, NodeStep};
+ghost use Rattle.bus_machine.specs.Bus.{SentLine};
+ghost use Rattle.bus_machine.specs.Honest.{IsInTime, IsHeard};
+ghost use Rattle.secoc_node.specs.Cells.{CellsOf};
+ghost use Rattle.secoc_node.specs.State.{FitsNow, TellsFitting, IsCovered};
+ghost use Rattle.secoc_node.specs.Causes.{CutCause};
+ghost use Rattle.secoc_node.specs.Lines.{received_line, loaded_line, keyed_line, boot_line, cut_line, IfAcceptedWith, IfLeftAlone};
+ghost use Rattle.gateway_machine.specs.Gateway.{second_of as second_in, EventStep, GatewayStep};
+ghost use Rattle.secoc_gateway.specs.State.{over};
+ghost use Rattle.secoc_gateway.specs.Pairs.{AreGood, IsLowestBad};
+ghost use Rattle.secoc_gateway.specs.Arrivals.{arrival_line, IfForwarded, IfNotForwarded, IsReason, IfDropped, IsFaulted, IfNothingDone, CanForward, IsForwardedWith};
+
+use crate::arrival::{Arrival, PairRefused};
+use crate::pairs::{lowest_bad, second_of};
+use crate::passing::pass_on;
+use cell_store::{CutCells, Reread};
+use cut_disk::Torn;
+use freshness_manager::Direction;
+use memory_update::{Reply, Request};
+use secoc_node::{CutFault, Node, NodeFault};
+use secoc_receiver::Reception;
+use std::marker::Model;
+
+/// A gateway: a node, and pairs of Data IDs of which it receives the first and sends the second. Contracts see the state of the node and
+/// the pairs. The pairs are always good: the node has their routes, and no two have one Data ID at one place.
+#[derive(Drop)]
+pub struct Gateway<C: CutCells> {
+    node: Node<C>,
+    pairs: Vec<(u16, u16)>,
+}
+
+impl<C: CutCells> Model for Gateway<C> {
+    ghost use Rattle.secoc_gateway.specs.State.{GatewayState};
+
+    ghost Value = { GatewayState };
+
+    ghost use Rattle.secoc_gateway.specs.Pairs.{AreGood};
+
+    ghost view = { λ g. record { node = g.node.node; store = g.node.store; pairs = g.pairs.items } };
+
+    ghost invariant = { λ g. AreGood g.node.node g.pairs.items };
+}
+
+impl<C: CutCells> Gateway<C> {
+    /// The gateway over this node with these pairs. Where one of them isn't good, the lowest that isn't is named, and the node is handed
+    /// back as it was.
+    pub fn new(node: Node<C>, pairs: Vec<(u16, u16)>) -> Result<Gateway<C>, PairRefused<C>>
+        ensures over { IfOk result (λ g. over g ≡ node) }
+        ensures pairs { IfOk result (λ g. g.pairs ≡ pairs.items) }
+        ensures good { OnOk result (AreGood node.node pairs.items) }
+        ensures lowest { IfErr result (λ r. (place : ℕ) × (r.pair ≡ place + 1)
+            × IsLowestBad node.node pairs.items place) }
+        ensures handed_back { IfErr result (λ r. r.node ≡ node) }
+    {
+        match lowest_bad(&node, pairs.as_slice()) {
+            None => Ok(Gateway { node, pairs }),
+            Some(place) => Err(PairRefused {
+                node,
+                pair: place + 1,
+            }),
+        }
+    }
+
+    /// The Data ID under which departs what arrives under this one; `None` where this is the first of no pair.
+    pub fn second(&self, id: u16) -> Option<u16>
+        ensures { result ≡ second_in self.now.pairs id }
+    {
+        second_of(self.pairs.as_slice(), id)
+    }
+
+    /// Receives a PDU of 5 to 64 bytes under the first Data ID of a pair, and where it is accepted sends its payload under the second: the
+    /// PDU that departs stands at the front of `out`, whose rest is as before. Where nothing is forwarded `out` is as before. Errors:
+    /// those of the reception, in their order `Down`, `BadLength`, `Key` and `Faulted`.
+    pub fn arrive(&mut self, id: u16, pdu: &[u8], out: &mut [u8; 64]) -> Result<Arrival, NodeFault>
+        requires paired { IsSome (second_in self.old.pairs id) }
+        ensures step { (place second : ℕ) → second_in self.old.pairs id ≡ Some second
+            → GatewayStep EventStep self.old.pairs self.old.node (Inject place id pdu.now)
+            (arrival_line id second out.new result) self.new.node }
+        ensures length { IfForwarded result (λ sent. sent.len ≡ length pdu.now) }
+        ensures within { IfForwarded result (λ sent. sent.len ≤ 64) }
+        ensures rest { IfForwarded result (λ sent. drop sent.len out.new ≡ drop sent.len out.old) }
+        ensures unwritten { IfNotForwarded result (out.new ≡ out.old) }
+        ensures reason { IfDropped result IsReason }
+        ensures untouched { IfNothingDone result (self.new ≡ self.old) }
+        ensures forwards { (second : ℕ) (payload : List ℕ) (v : ℕ) → second_in self.old.pairs id ≡ Some second
+            → CanForward (over self.old) id second pdu.now payload v
+            → IsForwardedWith result v (counter_at self.old.node (place_of self.old.node second Sends) + 1) }
+        ensures faulted { IsFaulted result → Rose self.old.store.disk.faults self.new.store.disk.faults }
+        ensures faults { (¬ IsFaulted result) → self.new.store.disk.faults ≡ self.old.store.disk.faults }
+        ensures layout { self.new.store.layout ≡ self.old.store.layout }
+        ensures runs { Runs [] 12 self.old.store.disk self.new.store.disk }
+        ensures fits { FitsNow (over self.old) → FitsNow (over self.new) }
+        ensures pairs { self.new.pairs ≡ self.old.pairs }
+    {
+        let Some(second) = self.second(id) else {
+            unreachable!();
+        };
+        pass_on(&mut self.node, id, second, pdu, out)
+    }
+
+    /// Receives a PDU of 5 to 64 bytes under a Data ID. An accepted payload is a front of the PDU. Errors, in their order: `Down`,
+    /// `NoRoute`, `BadLength`, `Key`, `Faulted`. After each of them but `Faulted`, and after the two failures, all is as before, and no
+    /// call of the disk was made.
+    pub fn receive(&mut self, id: u16, pdu: &[u8]) -> Result<Reception, NodeFault>
+        ensures step { (source : Option ℕ)
+            → NodeStep self.old.node (receives id pdu.now) (received_line id pdu.now source result) self.new.node }
+        ensures length { IfAcceptedWith result (λ freshness len. len + 4 ≡ length pdu.now) }
+        ensures covered { IfAcceptedWith result (λ freshness len. IsCovered (over self.new) id Receives freshness) }
+        ensures honest { (sent : SentLine) (source : Option ℕ) → sent.id ≡ id → sent.pdu ≡ pdu.now
+            → IsInTime self.old.node sent (place_of self.old.node id Receives) → sent.freshness < 2 ^ 64
+            → IsHeard sent (received_line id pdu.now source result) }
+        ensures untouched { IfLeftAlone result (self.new ≡ self.old) }
+        ensures down { IsErrOf result NodeFault.Down ↔ self.old.node.up ≡ false }
+        ensures no_route { IsErrOf result NodeFault.NoRoute
+            ↔ ((self.old.node.up ≡ true) × (¬ HasRoute self.old.node id Receives)) }
+        ensures faulted { IsErrOf result NodeFault.Faulted → Rose self.old.store.disk.faults self.new.store.disk.faults }
+        ensures faults { OnOk result (self.new.store.disk.faults ≡ self.old.store.disk.faults) }
+        ensures layout { self.new.store.layout ≡ self.old.store.layout }
+        ensures runs { Runs [] 6 self.old.store.disk self.new.store.disk }
+        ensures fits { FitsNow (over self.old) → FitsNow (over self.new) }
+        ensures pairs { self.new.pairs ≡ self.old.pairs }
+    {
+        self.node.receive(id, pdu)
+    }
+
+    /// Loads the key of a request into its slot, and confirms it (SHE specification, memory update protocol). Errors: `Down`, then
+    /// `Key` with the first refusal that applies, then `Faulted`. After the first two all is as before, and no call of the disk was
+    /// made.
+    pub fn load(&mut self, request: &Request) -> Result<Reply, NodeFault>
+        ensures step { NodeStep self.old.node (loads request.now) (loaded_line result) self.new.node }
+        // of the request that was built of an update: what the machine answers to that update
+        ensures keyed { (update : Update) (authkey : List ℕ) → Builds request.now authkey update
+            → NodeStep self.old.node (keys update authkey) (keyed_line update.id result) self.new.node }
+        ensures untouched { IfErr result (λ fault. fault ≢ NodeFault.Faulted → self.new ≡ self.old) }
+        ensures down { IsErrOf result NodeFault.Down ↔ self.old.node.up ≡ false }
+        ensures faulted { IsErrOf result NodeFault.Faulted → Rose self.old.store.disk.faults self.new.store.disk.faults }
+        ensures faults { OnOk result (self.new.store.disk.faults ≡ self.old.store.disk.faults) }
+        ensures layout { self.new.store.layout ≡ self.old.store.layout }
+        ensures runs { Runs [] 6 self.old.store.disk self.new.store.disk }
+        ensures fits { FitsNow (over self.old) → FitsNow (over self.new) }
+        ensures pairs { self.new.pairs ≡ self.old.pairs }
+    {
+        self.node.load(request)
+    }
+
+    /// Decides the secure boot of this life with an image of 1 to 65,536 bytes (SHE specification, secure booting). Errors: `Down`, then
+    /// `Key`, and then the node is as before. No call of the disk is made.
+    pub fn boot(&mut self, image: &[u8]) -> Result<bool, NodeFault>
+        requires { IsImage image.now }
+        ensures step { NodeStep self.old.node (boots image.now) (boot_line result) self.new.node }
+        ensures untouched { OnErr result (self.new ≡ self.old) }
+        ensures store { self.new.store ≡ self.old.store }
+        ensures down { IsErrOf result NodeFault.Down ↔ self.old.node.up ≡ false }
+        ensures fits { FitsNow (over self.old) → FitsNow (over self.new) }
+        ensures pairs { self.new.pairs ≡ self.old.pairs }
+    {
+        self.node.boot(image)
+    }
+
+    /// The counter of the route with this Data ID and direction: the last freshness that was sent or accepted, or the bound at which it
+    /// began. `None` exactly where there is no such route.
+    pub fn counter(&self, id: u16, direction: Direction) -> Option<u64>
+        ensures { MatchOption result (¬ HasRoute self.now.node id direction)
+            (λ v. HasRoute self.now.node id direction × (v ≡ counter_at self.now.node (place_of self.now.node id direction))) }
+    {
+        self.node.counter(id, direction)
+    }
+
+    /// Whether the node serves no call until its power is cut: a call of its disk failed, or a power cut was refused, since it was last
+    /// powered up. Whatever was called before and answered, the node is sound.
+    pub fn is_down(&self) -> bool
+        ensures down { result ≡ not self.now.node.up }
+        ensures sound { Sound self.now.node }
+    {
+        self.node.is_down()
+    }
+
+    /// Cuts the power and powers up again, from a node that is up as from one that is down: the cells are read anew, so that the bytes of
+    /// the disk stand for them, each counter is its bound, and no boot was made. Errors: `Store` where the store isn't read, then
+    /// `BadSlot`, then `BadBound`. The node is then down, and what it knows is as before. Over a disk that tells its bytes, and fits the
+    /// node, only the disk itself can fail.
+    pub fn power_cut(&mut self, torn: Torn) -> Result<(), CutFault>
+        ensures step { TellsFitting (over self.old) → NodeStep self.old.node cuts (cut_line result) self.new.node }
+        ensures up { OnOk result (self.new.node ≡ powered self.old.node.config self.new.node.kept) }
+        ensures kept { OnOk result (self.new.store.cells ≡ CellsOf self.old.node.config self.new.node.kept) }
+        ensures stands { OnOk result (StandsNow self.new.store) }
+        ensures settled { OnOk result ((t : Told) → self.old.store.disk.told ≡ Some t → Settled self.new.store) }
+        ensures refused { OnErr result (self.new.node ≡ refused_up self.old.node) }
+        ensures cause { IfErr result (CutCause self.old.node.config.routes self.old.store self.new.store) }
+        ensures only { TellsFitting (over self.old) → IfErr result (λ fault. fault ≡ CutFault.Store Reread.DiskFailed) }
+        ensures image { CutsTo self.old.store.disk.told self.new.store.disk.told }
+        ensures stops { NoStop self.new.store.disk }
+        ensures faults { OnOk result (self.new.store.disk.faults ≡ self.old.store.disk.faults) }
+        ensures layout { self.new.store.layout ≡ self.old.store.layout }
+        ensures runs { Runs (Cut torn ∷ []) (68 + (14 + length self.old.node.config.routes)) self.old.store.disk
+            self.new.store.disk }
+        ensures grows { OnOk result (Grows self.old.store.disk self.new.store.disk) }
+        ensures fits { FitsNow (over self.old) → FitsNow (over self.new) }
+        ensures pairs { self.new.pairs ≡ self.old.pairs }
+    {
+        self.node.power_cut(torn)
+    }
+
+    /// Passes on to the disk: from the call of this number on, 1 for the next, each call of the disk fails until the power is cut.
+    pub fn stop_at(&mut self, calls: u64)
+        requires { 1 ≤ calls }
+        ensures node { self.new.node ≡ self.old.node }
+        ensures cells { self.new.store.cells ≡ self.old.store.cells }
+        ensures broken { self.new.store.broken ≡ self.old.store.broken }
+        ensures told { self.new.store.disk.told ≡ self.old.store.disk.told }
+        ensures faults { self.new.store.disk.faults ≡ self.old.store.disk.faults }
+        ensures arms { self.new.store.disk.arms ≡ with_stop calls self.old.store.disk.arms }
+        ensures loud { self.new.store.disk.quiet ≡ false }
+        ensures layout { self.new.store.layout ≡ self.old.store.layout }
+        ensures runs { Runs (Stop calls ∷ []) 1 self.old.store.disk self.new.store.disk }
+        ensures fits { FitsNow (over self.old) → FitsNow (over self.new) }
+        ensures pairs { self.new.pairs ≡ self.old.pairs }
+    {
+        self.node.stop_at(calls);
+    }
+
+    /// Passes on to the disk: the call of this number, 1 for the next, fails.
+    pub fn fail_at(&mut self, calls: u64)
+        requires { 1 ≤ calls }
+        ensures node { self.new.node ≡ self.old.node }
+        ensures cells { self.new.store.cells ≡ self.old.store.cells }
+        ensures broken { self.new.store.broken ≡ self.old.store.broken }
+        ensures told { self.new.store.disk.told ≡ self.old.store.disk.told }
+        ensures faults { self.new.store.disk.faults ≡ self.old.store.disk.faults }
+        ensures arms { self.new.store.disk.arms ≡ with_fail calls self.old.store.disk.arms }
+        ensures loud { self.new.store.disk.quiet ≡ false }
+        ensures layout { self.new.store.layout ≡ self.old.store.layout }
+        ensures runs { Runs (Fail calls ∷ []) 1 self.old.store.disk self.new.store.disk }
+        ensures fits { FitsNow (over self.old) → FitsNow (over self.new) }
+        ensures pairs { self.new.pairs ≡ self.old.pairs }
+    {
+        self.node.fail_at(calls);
+    }
+
+    /// Gives the node back. Nothing is written.
+    pub fn release(self) -> Node<C>
+        ensures { result ≡ over self }
+    {
+        self.node
+    }
+}

@@ -1,0 +1,55 @@
+//! One arrival: what a node accepts under one Data ID, it sends under another.
+ghost use Rattle.std.specs.Prelude.{◌≡◌, ◌+◌, ◌<◌, ◌≤◌, ℕ, List, [], length, drop};
+ghost use Rattle.cut_disk.specs.Calls.{Rose, Runs};
+ghost use Rattle.freshness_routes.specs.declared.routes.Direction.TheVariants.{Sends, Receives};
+ghost use Rattle.bus_machine.specs.declared.events.Event.TheVariants.{Inject};
+ghost use Rattle.bus_machine.specs.Node.{HasRoute, place_of, counter_at};
+ghost use Rattle.secoc_node.specs.State.{FitsNow};
+ghost use Rattle.gateway_machine.specs.Gateway.{EventStep, PassesOn};
+ghost use Rattle.secoc_gateway.specs.Arrivals.{arrival_line, IfForwarded, IfNotForwarded, IsReason, IfDropped, IsFaulted, IfNothingDone, CanForward, IsForwardedWith};
+
+use crate::arrival::Arrival;
+use cell_store::Cells;
+use secoc_node::{Node, NodeFault};
+use secoc_receiver::Reception;
+
+/// Receives a PDU under a Data ID, and where it is accepted sends its payload under another: the PDU that departs stands at the front of
+/// `out`, whose rest is as before. Errors: those of the reception.
+pub fn pass_on<C: Cells>(
+    node: &mut Node<C>,
+    id: u16,
+    second: u16,
+    pdu: &[u8],
+    out: &mut [u8; 64],
+) -> Result<Arrival, NodeFault>
+    requires receives { HasRoute node.old.node id Receives }
+    requires sends { HasRoute node.old.node second Sends }
+    ensures step { (place : ℕ) → PassesOn EventStep second node.old.node (Inject place id pdu.now)
+        (arrival_line id second out.new result) node.new.node }
+    ensures length { IfForwarded result (λ sent. sent.len ≡ length pdu.now) }
+    ensures within { IfForwarded result (λ sent. sent.len ≤ 64) }
+    ensures rest { IfForwarded result (λ sent. drop sent.len out.new ≡ drop sent.len out.old) }
+    ensures unwritten { IfNotForwarded result (out.new ≡ out.old) }
+    ensures reason { IfDropped result IsReason }
+    ensures untouched { IfNothingDone result (node.new ≡ node.old) }
+    ensures forwards { (payload : List ℕ) (v : ℕ) → CanForward node.old id second pdu.now payload v
+        → IsForwardedWith result v (counter_at node.old.node (place_of node.old.node second Sends) + 1) }
+    ensures faulted { IsFaulted result → Rose node.old.store.disk.faults node.new.store.disk.faults }
+    ensures faults { (¬ IsFaulted result) → node.new.store.disk.faults ≡ node.old.store.disk.faults }
+    ensures layout { node.new.store.layout ≡ node.old.store.layout }
+    ensures runs { Runs [] 12 node.old.store.disk node.new.store.disk }
+    ensures fits { FitsNow node.old → FitsNow node.new }
+{
+    match node.receive(id, pdu) {
+        Ok(Reception::Accepted { freshness, len }) => {
+            let payload = &pdu[..usize::from(len)];
+            match node.send(second, payload, out) {
+                Ok(sent) => Ok(Arrival::Forwarded { freshness, sent }),
+                Err(fault) => Ok(Arrival::Dropped { freshness, fault }),
+            }
+        }
+        Ok(Reception::FreshnessFailure) => Ok(Arrival::FreshnessFailure),
+        Ok(Reception::VerificationFailure) => Ok(Arrival::VerificationFailure),
+        Err(fault) => Err(fault),
+    }
+}
