@@ -1,10 +1,14 @@
 -- The laws of all runs of a gateway's machine, as statements
 use Rattle.std.specs.Prelude.{ℕ, List}
+use Rattle.machine_runs.specs.Run.{Moment, Run}
+use Rattle.bus_machine.specs.declared.events.Event.{Event}
+use Rattle.bus_machine.specs.declared.lines.Line.{Line}
 use Rattle.freshness_routes.specs.declared.routes.Direction.TheVariants.{Sends, Receives}
 use Rattle.bus_machine.specs.Node.{Node}
 use Rattle.bus_machine.specs.Sound.{Sound}
-use Rattle.gateway_machine.specs.Gateway.{GatewayMoments, GatewayRun}
+use Rattle.gateway_machine.specs.Gateway.{EventStep, GatewayMoments, GatewayRun}
 use Rattle.gateway_machine.specs.Claims.{AllForwardRight, FreshnessRises}
+use Rattle.gateway_machine.specs.Parts.{AreAllParts}
 
 -- each run from a sound node has this, whatever its pairs
 abbrev pub EachGatewayRun : (List (ℕ × ℕ) → Node → GatewayMoments → Node → Type 0) → Type 0
@@ -23,3 +27,8 @@ DeparturesRise = EachGatewayRun (λ pairs start ms last. FreshnessRises Sends ms
 
 abbrev pub RunsStaySound : Type 0
 RunsStaySound = EachGatewayRun (λ pairs start ms last. Sound last)
+
+-- each run is a run of the node, part by part
+abbrev pub RunsAreOfTheNode : Type 0
+RunsAreOfTheNode = EachGatewayRun (λ pairs start ms last.
+    (parts : List (Moment Event Line Node)) × Run EventStep start parts last × AreAllParts ms parts)

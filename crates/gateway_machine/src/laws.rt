@@ -1,6 +1,6 @@
 //! Each function has an empty body, and its contract is the law. A run begins at any sound node, as the first node of a bus is, and may
 //! have power cuts and failures of the disk anywhere.
-ghost use Rattle.gateway_machine.specs.Laws.{RunsForwardWhatArrived, ArrivalsRise, DeparturesRise, RunsStaySound};
+ghost use Rattle.gateway_machine.specs.Laws.{RunsForwardWhatArrived, ArrivalsRise, DeparturesRise, RunsStaySound, RunsAreOfTheNode};
 
 /// Each PDU that was forwarded is secured under the key of the second Data ID's route just then, with the payload of this very event's
 /// arrival, and that arrival was secured under the key of the first Data ID's route.
@@ -22,4 +22,10 @@ pub fn departures_rise()
 /// The node of a gateway is sound after each of its runs.
 pub fn stays_sound()
     ensures { RunsStaySound }
+{}
+
+/// A run of a gateway is a run of its node, part by part: each event is one step of the node, or an arrival and the departure that
+/// follows.
+pub fn runs_are_of_the_node()
+    ensures { RunsAreOfTheNode }
 {}

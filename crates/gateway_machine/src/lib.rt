@@ -8,5 +8,7 @@
 mod laws;
 mod lines;
 
-pub use laws::{arrivals_rise, departures_rise, forwards_what_arrived, stays_sound};
+pub use laws::{
+    arrivals_rise, departures_rise, forwards_what_arrived, runs_are_of_the_node, stays_sound,
+};
 pub use lines::GatewayLine;
