@@ -1,0 +1,3 @@
+pub mod GatedLaws
+pub mod LeavesLaws
+pub mod CutLaws
