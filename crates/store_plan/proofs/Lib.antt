@@ -1,3 +1,4 @@
 pub mod GatedLaws
 pub mod LeavesLaws
 pub mod CutLaws
+pub mod MakingLaws

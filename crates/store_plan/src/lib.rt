@@ -8,9 +8,13 @@
 //! No call takes memory.
 #![tactic(auto)]
 
+mod images;
 pub mod laws;
 mod performing;
 mod planning;
 
+pub use images::{ImageFault, check, count_of, make, make_cell};
 pub use performing::perform;
-pub use planning::{Plan, PlanFault, Write, cell_held, cell_in, done, is_within, plan_put};
+pub use planning::{
+    Plan, PlanFault, Write, cell_held, cell_in, done, is_empty, is_within, plan_put,
+};

@@ -6,7 +6,7 @@ ghost use Rattle.cell_store.specs.Layout.{twin_layout};
 ghost use Rattle.cell_store.specs.Twin.{twin_size, cell_at};
 ghost use Rattle.cell_store.specs.Copies.{Keeps};
 ghost use Rattle.cell_store.specs.Store.{Stands, Put};
-ghost use Rattle.store_plan.specs.Plans.{WritesAt, WriteFits, PlanFits, PlansPut, bytes_written, applied, no_plan};
+ghost use Rattle.store_plan.specs.Plans.{WritesAt, WriteFits, PlanFits, PlansPut, IsEmptyPlan, bytes_written, applied, no_plan};
 
 use cell_store::{Held, LIVE, copy_place, held_in, marked, next, pair_place};
 
@@ -73,10 +73,12 @@ fn write_of(offset: u32, bytes: &[u8]) -> Write
 /// The copy of a cell that counts, and whether the other is live.
 pub fn cell_held(image: &[u8], cell: u16) -> Result<Held, PlanFault>
     ensures no_cell { IsErrOf result PlanFault.NoCell ↔ (length image.now < twin_size (cell + 1)) }
-    ensures damaged { IsErrOf result PlanFault.Damaged → cell_at image.now cell ≡ None }
+    ensures damaged { IsErrOf result PlanFault.Damaged ↔ ((twin_size (cell + 1) ≤ length image.now)
+        × (cell_at image.now cell ≡ None)) }
     ensures none { IsErr result → twin_size (cell + 1) ≤ length image.now → cell_at image.now cell ≡ None }
     ensures room { IfOk result (λ _. twin_size (cell + 1) ≤ length image.now) }
     ensures keeps { IfOk result (λ h. Keeps image.now cell h) }
+    ensures held { IfOk result (λ h. cell_at image.now cell ≡ Some h.payload) }
 {
     let at = pair_place(cell) as usize;
     if image.len() < at + 68 {
@@ -93,7 +95,8 @@ pub fn cell_held(image: &[u8], cell: u16) -> Result<Held, PlanFault>
 /// What the image holds as this cell.
 pub fn cell_in(image: &[u8], cell: u16) -> Result<[u8; 32], PlanFault>
     ensures no_cell { IsErrOf result PlanFault.NoCell ↔ (length image.now < twin_size (cell + 1)) }
-    ensures damaged { IsErrOf result PlanFault.Damaged → cell_at image.now cell ≡ None }
+    ensures damaged { IsErrOf result PlanFault.Damaged ↔ ((twin_size (cell + 1) ≤ length image.now)
+        × (cell_at image.now cell ≡ None)) }
     ensures none { IsErr result → twin_size (cell + 1) ≤ length image.now → cell_at image.now cell ≡ None }
     ensures held { IfOk result (λ bytes. cell_at image.now cell ≡ Some bytes) }
     ensures room { IfOk result (λ _. twin_size (cell + 1) ≤ length image.now) }
@@ -107,7 +110,8 @@ pub fn cell_in(image: &[u8], cell: u16) -> Result<[u8; 32], PlanFault>
 /// Plans to put these bytes into a cell.
 pub fn plan_put(image: &[u8], cell: u16, payload: &[u8; 32]) -> Result<Plan, PlanFault>
     ensures no_cell { IsErrOf result PlanFault.NoCell ↔ (length image.now < twin_size (cell + 1)) }
-    ensures damaged { IsErrOf result PlanFault.Damaged → cell_at image.now cell ≡ None }
+    ensures damaged { IsErrOf result PlanFault.Damaged ↔ ((twin_size (cell + 1) ≤ length image.now)
+        × (cell_at image.now cell ≡ None)) }
     ensures none { IsErr result → twin_size (cell + 1) ≤ length image.now → cell_at image.now cell ≡ None }
     ensures plans { IfOk result (λ plan. PlansPut plan image.now cell payload.now) }
     ensures fits { IfOk result (λ plan. PlanFits (length image.now) plan) }
@@ -145,6 +149,18 @@ fn closing(at: u32, live: bool) -> Write
     } else {
         Write::NONE
     }
+}
+
+/// Whether no write of the plan has a byte.
+pub fn is_empty(plan: &Plan) -> bool
+    ensures { IsTrue result ↔ IsEmptyPlan plan.now }
+{
+    let Plan {
+        first,
+        second,
+        third,
+    } = *plan;
+    first.size == 0 && second.size == 0 && third.size == 0
 }
 
 fn write_is_within(write: &Write, size: usize) -> bool

@@ -1,4 +1,6 @@
-use Rattle.std.proofs.Common.{◌≡◌, ℕ, ◌+◌, ◌-◌, List, sym, ap, ◌∙◌, take, drop, arith}
+use Rattle.std.proofs.Common.{◌≡◌, ℕ, ◌+◌, ◌-◌, List, sym, ap, ◌∙◌, take, drop, arith, rules, refl}
+use Rattle.std.proofs.lemmas.Option.{none-some}
+use Rattle.cell_store.proofs.CopiesLaws.{cell_at-kept}
 use Rattle.cell_store.specs.declared.copies.Side.TheVariants.{First, Second}
 use Rattle.cell_store.specs.Layout.{part}
 use Rattle.cell_store.specs.Twin.{first_at}
@@ -18,9 +20,20 @@ returns-in-Some-clause-keeps c =
     kept-of c.args.image.now c.args.cell c.in-Some.held (sym (of_pair c.args.image.now c.copy_from_slice.new.self c.args.cell c.pair_place-at.result c.pair_place-at.ensures c.copy_from_slice.ensures.after) ∙ (sym c.held_in.ensures ∙ c.in-Some.is))
 
 pub returns-in-None-clause-damaged : goal.returns-in-None-clause-damaged
-returns-in-None-clause-damaged c =
-    λ _. damaged-of c.args.image.now c.args.cell (sym (of_pair c.args.image.now c.copy_from_slice.new.self c.args.cell c.pair_place-at.result c.pair_place-at.ensures c.copy_from_slice.ensures.after) ∙ (sym c.held_in.ensures ∙ c.in-None.is))
+returns-in-None-clause-damaged c = (
+  λ _. (
+    search rules,
+    damaged-of c.args.image.now c.args.cell (sym (of_pair c.args.image.now c.copy_from_slice.new.self c.args.cell c.pair_place-at.result c.pair_place-at.ensures c.copy_from_slice.ensures.after) ∙ (sym c.held_in.ensures ∙ c.in-None.is)),
+  ),
+  λ _. refl,
+)
 
 pub returns-in-None-clause-none : goal.returns-in-None-clause-none
 returns-in-None-clause-none c =
     λ _ _. damaged-of c.args.image.now c.args.cell (sym (of_pair c.args.image.now c.copy_from_slice.new.self c.args.cell c.pair_place-at.result c.pair_place-at.ensures c.copy_from_slice.ensures.after) ∙ (sym c.held_in.ensures ∙ c.in-None.is))
+
+pub returns-in-Some-clause-held : goal.returns-in-Some-clause-held
+returns-in-Some-clause-held c = cell_at-kept c.args.image.now c.args.cell c.in-Some.held (returns-in-Some-clause-keeps c)
+
+pub returns-in-Some-clause-damaged : goal.returns-in-Some-clause-damaged
+returns-in-Some-clause-damaged c = (λ e. cc, λ (_, none). absurd (none-some c.in-Some.held.payload (sym none ∙ returns-in-Some-clause-held c)))
