@@ -17,8 +17,6 @@ mod known;
 mod laws;
 mod node;
 mod routes;
-#[cfg(test)]
-mod tests;
 
 pub use cells::first_cells;
 pub use faults::{AttachFault, CutFault, NodeFault, NodeRefused};

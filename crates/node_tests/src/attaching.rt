@@ -1,11 +1,12 @@
 //! Cells that are no node's: the lowest is named, slots before bounds, and the cells are handed back as they were.
 ghost use Rattle.std.specs.Prelude.{◌≡◌, ◌+◌, length, false};
 
-use super::{ID, START, log_store, twin_store, uid};
-use crate::{AttachFault, Node, first_cells};
+use crate::bench::{log_store, twin_store, uid};
+use crate::lives::{ID, START};
 use cell_store::{Cells, Version};
 use freshness_manager::{Direction, NodeConfig, Route};
 use key_slots::SlotId;
+use secoc_node::{AttachFault, Node, first_cells};
 use std::alloc::Global;
 use std::process::Abort;
 use std::test::Fail;

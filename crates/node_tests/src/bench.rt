@@ -1,0 +1,389 @@
+//! A node over each store in memory, and the player of tables.
+ghost use Rattle.std.specs.Prelude.{◌≡◌, ◌+◌, length, false, IfOk};
+ghost use Rattle.cell_store.specs.Store.{FewCells};
+
+use cell_store::{Cells, CutCells, Kind, LogCells, Reread, TwinCells, Version};
+use cut_disk::{MemDisk, Torn};
+use freshness_manager::{Direction, NodeConfig, Route};
+use key_slots::{Counter28, Flags, SlotId};
+use memory_update::{Request, Uid, Update, build};
+use secoc_node::{CutFault, Node, NodeFault, first_cells};
+use secoc_receiver::Reception;
+use she_aes::Block;
+use std::alloc::Global;
+use std::process::Abort;
+use std::test::Fail;
+
+/// What is done to a node.
+#[derive(Clone, Copy)]
+pub enum Act {
+    /// A key for a slot: target, authorising slot and its key, counter, flags, and the new key.
+    Load(u8, u8, u128, u32, u8, u128),
+    /// A boot with an image of one zero byte.
+    Boot,
+    Send(u16, &'static [u8]),
+    Receive(u16, &'static [u8]),
+    Count(u16, Direction),
+    Cut(Torn),
+    Stop(u64),
+    Fail(u64),
+    /// A send whose bytes aren't looked at.
+    SendAny(u16, &'static [u8]),
+    IsDown,
+    /// The same with the number of calls and the kind of cut that are given to all rows.
+    StopThen,
+    FailThen,
+    CutThen,
+}
+
+/// What the rows of a table take from outside: a number of calls, and a kind of cut.
+#[derive(Clone, Copy)]
+pub struct Given {
+    pub calls: u64,
+    pub torn: Torn,
+}
+
+pub const NOTHING_GIVEN: Given = Given {
+    calls: 0,
+    torn: Torn::Keep,
+};
+
+/// What a node answers.
+#[derive(Clone, Copy, Debug, PartialEq, Eq)]
+pub enum Answer {
+    Done,
+    Booted(bool),
+    /// The freshness of what was sent.
+    Sent(u64),
+    Heard(Reception),
+    Count(Option<u64>),
+    Refused(NodeFault),
+    NotCut(Reread),
+    Down(bool),
+    /// The table is wrong.
+    NoAct,
+}
+
+/// What is done, what the node answers, and the bytes that it sends; the rest of the buffer stays as it was.
+#[derive(Clone, Copy)]
+pub struct Row(pub Act, pub Answer, pub &'static [u8]);
+
+/// A route through slot 4 or another.
+#[derive(Clone, Copy)]
+pub struct Way {
+    pub id: u16,
+    pub direction: Direction,
+    pub slot: u8,
+    pub reserve: u16,
+    pub window: u16,
+    pub start: u64,
+}
+
+/// A node's number and its routes; what its slot 4 has from the start; and the call of its disk at which that stops, 0 for none.
+#[derive(Clone, Copy)]
+pub struct Plan<'a> {
+    pub number: u8,
+    pub ways: &'a [Way],
+    pub slot_4: [u8; 32],
+    pub stop: u64,
+}
+
+pub fn uid(number: u8) -> Uid {
+    Uid::of([0, 0, 0, 0, 0, 0, 0, 0, 0, 0, 0, 0, 0, 0, number])
+}
+
+pub fn config(alloc: Global, plan: &Plan<'_>) -> Result<NodeConfig, Fail> {
+    let mut routes = Vec::new(alloc);
+    for way in plan.ways {
+        routes.push(Route {
+            id: way.id,
+            direction: way.direction,
+            slot: SlotId::new(way.slot).ok_or("a slot")?,
+            reserve: way.reserve,
+            window: way.window,
+            start: way.start,
+        })?;
+    }
+    let config = NodeConfig::new(uid(plan.number), routes).ok_or("a configuration")?;
+    Ok(config)
+}
+
+pub fn twin_store(
+    alloc: Global,
+    version: Version,
+    cells: &[[u8; 32]],
+) -> Result<TwinCells<MemDisk>, Fail>
+    requires { FewCells (length cells.now) }
+    ensures count { IfOk result (λ store. length store.cells ≡ length cells.now) }
+    ensures whole { IfOk result (λ store. store.broken ≡ false) }
+{
+    let disk = MemDisk::new(alloc, 56_000)?;
+    let disk = match TwinCells::format_as(disk, version, cells) {
+        Ok(disk) => disk,
+        Err(refused) => return Err(Fail::from(refused.fault)),
+    };
+    match TwinCells::attach_as(alloc, disk, version, cells.len() as u16) {
+        Ok(store) => Ok(store),
+        Err(refused) => Err(Fail::from(refused.fault)),
+    }
+}
+
+pub fn log_store(
+    alloc: Global,
+    version: Version,
+    cells: &[[u8; 32]],
+) -> Result<LogCells<MemDisk>, Fail>
+    requires { FewCells (length cells.now) }
+    ensures count { IfOk result (λ store. length store.cells ≡ length cells.now) }
+    ensures whole { IfOk result (λ store. store.broken ≡ false) }
+{
+    let disk = MemDisk::new(alloc, 56_000)?;
+    let disk = match LogCells::format_as(disk, version, cells) {
+        Ok(disk) => disk,
+        Err(refused) => return Err(Fail::from(refused.fault)),
+    };
+    match LogCells::attach_as(alloc, disk, version, cells.len() as u16) {
+        Ok(store) => Ok(store),
+        Err(refused) => Err(Fail::from(refused.fault)),
+    }
+}
+
+fn attached<C: Cells + Drop>(alloc: Global, config: NodeConfig, store: C) -> Result<Node<C>, Fail>
+    requires count { length (C.state store).cells ≡ 14 + length config.routes }
+    requires whole { (C.state store).broken ≡ false }
+{
+    match Node::attach(alloc, config, store) {
+        Ok(node) => Ok(node),
+        Err(refused) => Err(Fail::from(refused.fault)),
+    }
+}
+
+fn arm<C: CutCells>(store: &mut C, stop: u64)
+    ensures cells { (C.state store.new).cells ≡ (C.state store.old).cells }
+    ensures broken { (C.state store.new).broken ≡ (C.state store.old).broken }
+{
+    if stop > 0 {
+        store.stop_at(stop);
+    }
+}
+
+fn twin_node(
+    alloc: Global,
+    version: Version,
+    plan: &Plan<'_>,
+) -> Result<Node<TwinCells<MemDisk>>, Fail> {
+    let config = config(alloc, plan)?;
+    let mut cells = [[0; 32]; 270];
+    let count = first_cells(&config, &mut cells);
+    cells[4] = plan.slot_4;
+    let mut store = twin_store(alloc, version, &cells[..count])?;
+    arm(&mut store, plan.stop);
+    attached(alloc, config, store)
+}
+
+fn log_node(
+    alloc: Global,
+    version: Version,
+    plan: &Plan<'_>,
+) -> Result<Node<LogCells<MemDisk>>, Fail> {
+    let config = config(alloc, plan)?;
+    let mut cells = [[0; 32]; 270];
+    let count = first_cells(&config, &mut cells);
+    cells[4] = plan.slot_4;
+    let mut store = log_store(alloc, version, &cells[..count])?;
+    arm(&mut store, plan.stop);
+    attached(alloc, config, store)
+}
+
+/// What an update is built of: target, authorising slot and its key, counter, flags, and the new key.
+#[derive(Clone, Copy)]
+struct Key(u8, u8, u128, u32, u8, u128);
+
+fn request(number: u8, key: &Key) -> Option<Request> {
+    let Key(target, auth, authkey, counter, flags, key) = *key;
+    let update = Update {
+        uid: uid(number),
+        id: SlotId::new(target)?,
+        auth: SlotId::new(auth)?,
+        counter: Counter28::new(counter)?,
+        flags: Flags::of(flags % 32),
+        key: Block::of(key.to_be_bytes()),
+    };
+    Some(build(&update, &Block::of(authkey.to_be_bytes())))
+}
+
+fn loads<C: CutCells>(node: &mut Node<C>, number: u8, key: &Key) -> Answer {
+    let Some(request) = request(number, key) else {
+        return Answer::NoAct;
+    };
+    match node.load(&request) {
+        Ok(_) => Answer::Done,
+        Err(fault) => Answer::Refused(fault),
+    }
+}
+
+fn boots<C: CutCells>(node: &mut Node<C>) -> Answer {
+    match node.boot(&[0]) {
+        Ok(good) => Answer::Booted(good),
+        Err(fault) => Answer::Refused(fault),
+    }
+}
+
+fn sends<C: CutCells>(node: &mut Node<C>, id: u16, payload: &[u8], out: &mut [u8; 64]) -> Answer {
+    match node.send(id, payload, out) {
+        Ok(sent) => Answer::Sent(sent.freshness),
+        Err(fault) => Answer::Refused(fault),
+    }
+}
+
+fn receives<C: CutCells>(node: &mut Node<C>, id: u16, pdu: &[u8]) -> Answer {
+    match node.receive(id, pdu) {
+        Ok(said) => Answer::Heard(said),
+        Err(fault) => Answer::Refused(fault),
+    }
+}
+
+fn is_cut<C: CutCells>(node: &mut Node<C>, torn: Torn) -> Answer {
+    match node.power_cut(torn) {
+        Ok(()) => Answer::Done,
+        Err(CutFault::Store(fault)) => Answer::NotCut(fault),
+        Err(_) => Answer::NoAct,
+    }
+}
+
+fn stops<C: CutCells>(node: &mut Node<C>, calls: u64) -> Answer {
+    if calls == 0 {
+        return Answer::NoAct;
+    }
+    node.stop_at(calls);
+    Answer::Done
+}
+
+fn fails<C: CutCells>(node: &mut Node<C>, calls: u64) -> Answer {
+    if calls == 0 {
+        return Answer::NoAct;
+    }
+    node.fail_at(calls);
+    Answer::Done
+}
+
+fn counts<C: CutCells>(node: &Node<C>, id: u16, direction: Direction) -> Answer {
+    Answer::Count(node.counter(id, direction))
+}
+
+/// Does this to the node of this number, and gives its answer.
+fn does<C: CutCells>(
+    node: &mut Node<C>,
+    number: u8,
+    given: &Given,
+    act: &Act,
+    out: &mut [u8; 64],
+) -> Answer {
+    match act {
+        Act::Load(target, auth, authkey, counter, flags, key) => {
+            let key = Key(*target, *auth, *authkey, *counter, *flags, *key);
+            loads(node, number, &key)
+        }
+        Act::Boot => boots(node),
+        Act::Send(id, payload) => sends(node, *id, payload, out),
+        Act::Receive(id, pdu) => receives(node, *id, pdu),
+        Act::Count(id, direction) => counts(node, *id, *direction),
+        Act::Cut(torn) => is_cut(node, *torn),
+        Act::Stop(calls) => stops(node, *calls),
+        Act::Fail(calls) => fails(node, *calls),
+        Act::SendAny(id, payload) => sends(node, *id, payload, &mut [0; 64]),
+        Act::StopThen => stops(node, given.calls),
+        Act::FailThen => fails(node, given.calls),
+        Act::CutThen => is_cut(node, given.torn),
+        Act::IsDown => Answer::Down(node.is_down()),
+    }
+}
+
+/// The buffer of a send with these bytes at its front.
+fn buffer(pdu: &[u8]) -> [u8; 64] {
+    let mut out = [7; 64];
+    for (to, from) in out.iter_mut().zip(pdu) {
+        *to = *from;
+    }
+    out
+}
+
+/// Plays these rows, and compares each answer.
+fn play<C: CutCells>(rt: &impl Abort, node: &mut Node<C>, number: u8, given: &Given, rows: &[Row]) {
+    for (place, row) in rows.iter().enumerate() {
+        let mut out = buffer(&[]);
+        let answer = does(node, number, given, &row.0, &mut out);
+        assert_eq!(rt; answer, row.1, "row {place}");
+        assert!(rt; out == buffer(row.2), "row {place}");
+    }
+}
+
+/// The cells behind the slots begin with these bytes, and end in zeros.
+pub fn have_bounds(rt: &impl Abort, cells: &[[u8; 32]], bounds: &[[u8; 12]]) {
+    assert_eq!(rt; cells.len(), bounds.len());
+    for (cell, bound) in cells.iter().zip(bounds) {
+        let mut wanted = [0; 32];
+        wanted[..12].copy_from_slice(bound);
+        assert!(rt; *cell == wanted);
+    }
+}
+
+/// The cell at this place, if there is one.
+fn cell_of<C: Cells>(store: &C, cell: u16) -> Option<[u8; 32]> {
+    let mut out = [1; 32];
+    if cell >= store.count() {
+        return None;
+    }
+    store.get(cell, &mut out);
+    Some(out)
+}
+
+/// The cells behind the slots begin with these bytes.
+fn keeps<C: Cells>(rt: &impl Abort, store: &C, bounds: &[[u8; 12]]) {
+    let mut place = 14;
+    for bound in bounds {
+        let cell = cell_of(store, place).unwrap_or([1; 32]);
+        have_bounds(rt, &[cell], &[*bound]);
+        place = if place < 300 { place + 1 } else { place };
+    }
+}
+
+/// Plays these rows to a new node of this plan over a store of this kind and version, whose first bounds are these at the end.
+pub fn plays_over(
+    rt: &impl Abort,
+    alloc: Global,
+    store: (Kind, Version),
+    plan: &Plan<'_>,
+    given: &Given,
+    rows: &[Row],
+    bounds: &[[u8; 12]],
+) -> Result<(), Fail> {
+    match store.0 {
+        Kind::Twin => {
+            let mut node = twin_node(alloc, store.1, plan)?;
+            play(rt, &mut node, plan.number, given, rows);
+            keeps(rt, &node.release(), bounds);
+        }
+        Kind::Log => {
+            let mut node = log_node(alloc, store.1, plan)?;
+            play(rt, &mut node, plan.number, given, rows);
+            keeps(rt, &node.release(), bounds);
+        }
+    }
+    Ok(())
+}
+
+pub const STORES: [(Kind, Version); 4] = [
+    (Kind::Twin, Version::One),
+    (Kind::Twin, Version::Two),
+    (Kind::Log, Version::One),
+    (Kind::Log, Version::Two),
+];
+
+/// Plays these rows to a new node of this plan over each store in both versions.
+pub fn plays(rt: &impl Abort, alloc: Global, plan: &Plan<'_>, rows: &[Row]) -> Result<(), Fail> {
+    for store in STORES {
+        plays_over(rt, alloc, store, plan, &NOTHING_GIVEN, rows, &[])?;
+    }
+    Ok(())
+}
