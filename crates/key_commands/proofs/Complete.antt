@@ -1,5 +1,5 @@
 -- Of plain values the run ends in a row of what they ask for
-use Rattle.std.proofs.Common.{◌≡◌, ◌⊎◌, ◌∙◌, ℕ, List, ◌∷◌, Ok, Err, ap, sym, refl, subst, inl, inr}
+use Rattle.std.proofs.Common.{◌≡◌, ◌⊎◌, ℕ, List, Ok, ap, sym, refl, subst, inl, inr}
 use Rattle.answer_rows.specs.Rows.{Row}
 use Rattle.key_commands.specs.declared.subcommands.Subcommand.{Subcommand}
 use Rattle.key_commands.specs.declared.tasks.Task.{Task}

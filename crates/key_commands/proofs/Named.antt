@@ -1,5 +1,5 @@
 -- The words name one subcommand at most, and ask it for one thing
-use Rattle.std.proofs.Common.{◌≡◌, ◌∙◌, ℕ, List, [], ◌∷◌, ap, sym, refl, get_or, arith}
+use Rattle.std.proofs.Common.{◌≡◌, ◌∙◌, ℕ, List, [], ◌∷◌, ap, sym, refl, get_or, inl, inr, arith}
 use Rattle.std.specs.Prelude.{Result}
 use Rattle.key_commands.specs.declared.subcommands.Subcommand.{Subcommand}
 use Rattle.key_commands.specs.declared.subcommands.Subcommand.TheVariants.{Make, Read, Confirm, Bootmac}
