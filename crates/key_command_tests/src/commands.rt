@@ -1,0 +1,110 @@
+//! Whole runs over ports in memory: the words, the status and the bytes that go out.
+use bus_port::{CleanSource, MemSink};
+use cut_disk::MemDisk;
+use key_commands::{run_example, run_key};
+use std::alloc::{AllocError, Global};
+use std::process::Abort;
+use std::test::Fail;
+
+/// The messages of the example of a memory update in the SHE specification.
+const REQUEST: &str =
+    "00000000000000000000000000000141\n2b111e2d93f486566bcbba1d7f7a9797c94643b050fc5d4d7de14cff682203c3\nb9d745e5ace7d41860bc63c2b9f5bb46\n";
+
+/// The words that make them.
+const MAKE: &str =
+    "keytool make 000000000000000000000000000001 4 1 1 00000 0f0e0d0c0b0a09080706050403020100 000102030405060708090a0b0c0d0e0f";
+
+/// The words that confirm its update.
+const CONFIRM: &str =
+    "keytool confirm 000000000000000000000000000001 4 1 1 0f0e0d0c0b0a09080706050403020100 00000000000000000000000000000141b472e8d8727d70d57295e74849a27917 820d8d95dc11b4668878160cb2a4e23e";
+
+/// The words of a command line.
+fn words_of(alloc: Global, line: &str) -> Result<Vec<String>, AllocError> {
+    let mut words = Vec::new(alloc);
+    for word in line.split(' ') {
+        words.push(String::from_str(alloc, word)?)?;
+    }
+    Ok(words)
+}
+
+/// The status of the words, or of the example where there are none, over a source, a sink and a disk in memory; neither the source nor the
+/// number of the disks changes.
+fn status_of(
+    rt: &impl Abort,
+    alloc: Global,
+    words: &[String],
+    sink: &mut MemSink,
+) -> Result<u8, Fail> {
+    let mut request = CleanSource::new(Vec::from_slice(alloc, b"unread\n")?);
+    let mut disks: Vec<MemDisk> = Vec::new(alloc);
+    disks.push(MemDisk::new(alloc, 16)?)?;
+    let status = match words {
+        [] => run_example(alloc, &mut request, sink, &mut disks),
+        _ => run_key(alloc, words, &mut request, sink, &mut disks),
+    };
+    assert_eq!(rt; disks.len(), 1);
+    Ok(status)
+}
+
+/// Runs the words over a sink with room for all, and compares the status and the output.
+fn check(
+    rt: &impl Abort,
+    alloc: Global,
+    words: &[String],
+    status: u8,
+    output: &str,
+) -> Result<(), Fail> {
+    let mut sink = MemSink::new(alloc, 1024, Vec::new(alloc), 1024)?;
+    let answer = status_of(rt, alloc, words, &mut sink)?;
+    assert_eq!(rt; answer, status);
+    assert_eq!(rt; sink.bytes(), output.as_bytes());
+    Ok(())
+}
+
+#[test]
+fn the_example_is_made_by_its_words_and_without_words(rt: HostRuntime) -> Result<(), Fail> {
+    let words = words_of(rt.alloc(), MAKE)?;
+    check(&rt, rt.alloc(), words.as_slice(), 0, REQUEST)?;
+    check(&rt, rt.alloc(), &[], 0, REQUEST)
+}
+
+/// No command line holds an image of 65,536 bytes, since Linux allows a word at most 131,071 bytes. The MAC is that of OpenSSL.
+#[test]
+fn the_largest_image_has_a_boot_mac(rt: HostRuntime) -> Result<(), Fail> {
+    let alloc = rt.alloc();
+    for (digits, status, output) in [
+        (131_072, 0, "31ed7e5e6a493ae8dbd126253c12cdcc\n"),
+        (131_074, 3, "value 2\n"),
+    ] {
+        let mut words = words_of(alloc, "keytool bootmac 2b7e151628aed2a6abf7158809cf4f3c")?;
+        let image = String::from_utf8(vec![in alloc; b'0'; digits]?);
+        words.push(image.ok().ok_or("no text")?)?;
+        check(&rt, alloc, words.as_slice(), status, output)?;
+    }
+    Ok(())
+}
+
+/// What is left in a sink that fails: the status and the bytes.
+fn check_failing(
+    rt: &impl Abort,
+    alloc: Global,
+    room: usize,
+    failing: u64,
+    piece: usize,
+    written: usize,
+) -> Result<(), Fail> {
+    let words = words_of(alloc, CONFIRM)?;
+    let mut sink = MemSink::new(alloc, room, vec![in alloc; failing]?, piece)?;
+    let status = status_of(rt, alloc, words.as_slice(), &mut sink)?;
+    assert_eq!(rt; status, 6);
+    assert_eq!(rt; sink.bytes(), &b"confirmed\n"[..written]);
+    Ok(())
+}
+
+#[test]
+fn a_failing_sink_is_told(rt: HostRuntime) -> Result<(), Fail> {
+    for (room, failing, piece, written) in [(64, 1, 64, 0), (64, 6, 1, 5), (8, 0, 5, 8)] {
+        check_failing(&rt, rt.alloc(), room, failing, piece, written)?;
+    }
+    Ok(())
+}

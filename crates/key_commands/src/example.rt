@@ -1,0 +1,54 @@
+//! The example of the key commands.
+ghost use Rattle.std.specs.Prelude.{◌≡◌, drop, map as each, string_bytes, IfOk};
+ghost use Rattle.key_commands.specs.Keys.{Keys};
+
+use crate::run::run_key;
+use bus_port::{Sink, Source};
+use command_edge::NO_MEMORY;
+use cut_disk::Disk;
+use std::alloc::{AllocError, Global};
+
+/// The words of the example of the SHE specification: the request that puts a key into slot 4 under the key of slot 1.
+pub const EXAMPLE: [&str; 9] = [
+    "keytool",
+    "make",
+    "000000000000000000000000000001",
+    "4",
+    "1",
+    "1",
+    "00000",
+    "0f0e0d0c0b0a09080706050403020100",
+    "000102030405060708090a0b0c0d0e0f",
+];
+
+/// Runs the words of the example, and gives the status that the program ends with: as [`run_key`] does, to whose words it adds none.
+pub fn run_example<S: Source, K: Sink, D: Disk>(
+    alloc: Global,
+    request: &mut S,
+    sink: &mut K,
+    disks: &mut Vec<D>,
+) -> u8
+    ensures { Keys
+        (record {
+          words = drop 1 (each (λ text. text.now) EXAMPLE);
+          request = record { before = request.old; after = request.new };
+          disks = record { before = disks.old.items; after = disks.new.items };
+        })
+        (record { before = K.state sink.old; after = K.state sink.new; status = result }) }
+{
+    match texts_of(alloc, &EXAMPLE) {
+        Ok(words) => run_key(alloc, words.as_slice(), request, sink, disks),
+        Err(AllocError) => NO_MEMORY,
+    }
+}
+
+/// These texts as words.
+fn texts_of(alloc: Global, texts: &[&str]) -> Result<Vec<String>, AllocError>
+    ensures { IfOk result (λ words. each string_bytes words.items ≡ each (λ text. text.now) texts.now) }
+{
+    let mut words = Vec::new(alloc);
+    for text in texts {
+        words.push(String::from_str(alloc, text)?)?;
+    }
+    Ok(words)
+}

@@ -1,0 +1,79 @@
+//! The key command.
+ghost use Rattle.std.specs.Prelude.{drop, map as each, string_bytes, Ok};
+ghost use Rattle.answer_rows.specs.Endings.{EndsInRow};
+ghost use Rattle.key_commands.specs.Rows.{AskedComes, KeyComes};
+ghost use Rattle.key_commands.specs.Keys.{Keys};
+ghost use Rattle.key_commands.specs.Steps.{PreparesTask};
+
+use crate::parsing::parse;
+use crate::refusals::{usage_refusal, value_refusal};
+use crate::subcommands::subcommand_of;
+use crate::tasks::{Task, task_of};
+use crate::work::do_task;
+use answer_rows::{Refusal, tell_refusal};
+use bus_port::{Sink, Source};
+use command_edge::{DONE, behind_name, tell};
+use cut_disk::Disk;
+use std::alloc::Global;
+use text_lines::Memory;
+
+/// Runs the subcommand that the words ask for, and gives the status that the program ends with. The first of the words is
+/// the program's name. Every text that is printed ends with a line feed.
+///
+/// The statuses are looked for in the order 2, 3. Want of memory, 7, prints nothing. A sink that fails makes the status 6,
+/// whatever was to be printed. No subcommand reads from the source of requests or touches a disk.
+pub fn run_key<S: Source, K: Sink, D: Disk>(
+    alloc: Global,
+    words: &[String],
+    request: &mut S,
+    sink: &mut K,
+    disks: &mut Vec<D>,
+) -> u8
+    // `Keys` of specs/Keys.antt has a member for each promise, in the order of the table of answers.
+    ensures { Keys
+        (record {
+          words = drop 1 (each string_bytes words.now);
+          request = record { before = request.old; after = request.new };
+          disks = record { before = disks.old.items; after = disks.new.items };
+        })
+        (record { before = K.state sink.old; after = K.state sink.new; status = result }) }
+{
+    in_two_phases(alloc, behind_name(words), sink)
+}
+
+/// Prepares, and then does the task or tells the refusal.
+fn in_two_phases<K: Sink>(alloc: Global, words: &[String], sink: &mut K) -> u8
+    ensures { EndsInRow (KeyComes (each string_bytes words.now))
+        (record { before = K.state sink.old; after = K.state sink.new; status = result }) }
+{
+    match prepare(alloc, words) {
+        Ok(task) => do_job(alloc, &task, sink),
+        Err(refusal) => tell_refusal(sink, &refusal),
+    }
+}
+
+/// The first phase: the words from the subcommand on. It ends in a task, or in the first refusal that applies.
+fn prepare(alloc: Global, words: &[String]) -> Result<Task, Refusal>
+    ensures { PreparesTask (each string_bytes words.now) result }
+{
+    let Some(subcommand) = subcommand_of(words) else {
+        return Err(usage_refusal());
+    };
+    let matches = parse(alloc, subcommand, words)?;
+    match task_of(alloc, subcommand, &matches) {
+        Ok(Ok(task)) => Ok(task),
+        Ok(Err(bad)) => Err(value_refusal(alloc, bad)),
+        Err(Memory) => Err(Refusal::no_memory()),
+    }
+}
+
+/// The second phase: the task is done, and what it comes to is told.
+fn do_job<K: Sink>(alloc: Global, task: &Task, sink: &mut K) -> u8
+    ensures { EndsInRow (AskedComes (Ok task.now))
+        (record { before = K.state sink.old; after = K.state sink.new; status = result }) }
+{
+    match do_task(alloc, task) {
+        Ok(text) => tell(sink, text.as_bytes(), DONE),
+        Err(refusal) => tell_refusal(sink, &refusal),
+    }
+}

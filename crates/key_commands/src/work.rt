@@ -1,0 +1,72 @@
+//! What a task comes to.
+ghost use Rattle.std.specs.Prelude.{◌≡◌, IfOk};
+ghost use Rattle.key_commands.specs.Steps.{Does};
+ghost use Rattle.key_commands.specs.declared.tasks.Task.TheVariants.{Make, Read, Confirm, Bootmac};
+
+use crate::image::Image;
+use crate::tasks::Task;
+use crate::texts::{mac_text, request_text, update_text};
+use answer_rows::Refusal;
+use memory_update::{Reply, Request, Unseal, Update, build, is_confirmed, unseal};
+use secure_boot::boot_mac;
+use she_aes::{Block, expand};
+use std::alloc::{AllocError, Global};
+
+/// Does a task: the text that is printed where it is done, or why its messages are refused.
+pub fn do_task(alloc: Global, task: &Task) -> Result<String, Refusal>
+    ensures { Does task.now result }
+{
+    match task {
+        Task::Make { update, authkey } => make(alloc, update, authkey),
+        Task::Read { request, authkey } => read(alloc, request, authkey),
+        Task::Confirm { reply, update } => confirm(alloc, reply, update),
+        Task::Bootmac { key, image } => boot(alloc, key, image),
+    }
+}
+
+/// Makes the request.
+fn make(alloc: Global, update: &Update, authkey: &Block) -> Result<String, Refusal>
+    ensures { Does (Make update.now authkey.now) result }
+{
+    match request_text(alloc, &build(update, authkey)) {
+        Ok(text) => Ok(text),
+        Err(AllocError) => Err(Refusal::no_memory()),
+    }
+}
+
+/// Reads the request.
+fn read(alloc: Global, request: &Request, authkey: &Block) -> Result<String, Refusal>
+    ensures { Does (Read request.now authkey.now) result }
+{
+    match unseal(request, authkey) {
+        Ok(update) => match update_text(alloc, &update) {
+            Ok(text) => Ok(text),
+            Err(AllocError) => Err(Refusal::no_memory()),
+        },
+        Err(Unseal::BadId) => Err(Refusal::fixed(1, "BadId\n")),
+        Err(Unseal::BadMac) => Err(Refusal::fixed(1, "BadMac\n")),
+    }
+}
+
+/// Checks the reply.
+fn confirm(alloc: Global, reply: &Reply, update: &Update) -> Result<String, Refusal>
+    ensures { Does (Confirm reply.now update.now) result }
+{
+    if !is_confirmed(reply, update, update.uid) {
+        return Err(Refusal::fixed(1, "not confirmed\n"));
+    }
+    match String::from_str(alloc, "confirmed\n") {
+        Ok(text) => Ok(text),
+        Err(AllocError) => Err(Refusal::no_memory()),
+    }
+}
+
+/// Makes the boot MAC.
+fn boot(alloc: Global, key: &Block, image: &Image) -> Result<String, Refusal>
+    ensures { Does (Bootmac key.now image.now) result }
+{
+    match mac_text(alloc, &boot_mac(&expand(key), image.bytes())) {
+        Ok(text) => Ok(text),
+        Err(AllocError) => Err(Refusal::no_memory()),
+    }
+}
