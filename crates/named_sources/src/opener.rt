@@ -19,6 +19,7 @@ pub trait Opener {
 }
 
 /// Opens the file whose path the word is. A file that doesn't open is a missing source, each of whose reads fails.
+#[derive(Drop)]
 pub struct Paths<'a, R: Files> {
     rt: &'a R,
 }

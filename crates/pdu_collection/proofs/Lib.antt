@@ -8,5 +8,3 @@ pub mod Rising
 pub mod OneJoining
 pub mod MadePdus
 pub mod Promises
-pub mod TextRows
-pub mod Opened

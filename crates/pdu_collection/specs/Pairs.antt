@@ -2,7 +2,7 @@
 use Rattle.std.specs.Prelude.{◌≡◌, ◌⊎◌, ℕ, List, [], Ok, Err, codes}
 use Rattle.text_lines.specs.Readings.{Fault}
 use Rattle.text_lines.specs.Texts.{fault_text_of}
-use Rattle.answer_rows.specs.Inputs.{Reading, IsUnread, SourceFailed, CountsFault, GivesTooMuch, CountsTooMuch, Offers}
+use Rattle.answer_rows.specs.Inputs.{IsUnread, SourceFailed, CountsFault, GivesTooMuch, CountsTooMuch, Offers}
 use Rattle.answer_rows.specs.Endings.{Ending, EndsInRow, EndsIn, MayEndIn, PrintsWhole, PrintsFront}
 use Rattle.answer_rows.specs.Endings.{SinkFailed, CountsWriteFault}
 use Rattle.pdu_collection.specs.declared.pair_lines.PairLine.{PairLine}
@@ -42,8 +42,3 @@ pub record RunsPairs (i : PairingInputs) (e : Ending) : Type 0 where
   -- Completeness: what is valid is done, where no port failed and there was memory.
   pub complete : (text : List ℕ) (lines : List PairLine) → NamesInput i.words → Offers i.script text
       → pairs_of text ≡ Ok lines → ¬ SinkFailed e → (e.status ≡ 0) ⊎ (e.status ≡ 7)
-
--- so ends a run of these words over some source from which nothing came yet, and that counted no fault
-abbrev pub RunsOverSource : List (List ℕ) → Ending → Type 0
-RunsOverSource words e = (script : Reading) × (script.before.taken ≡ 0) × (script.before.faults ≡ 0)
-    × RunsPairs (record { words = words; script = script }) e

@@ -1,5 +1,6 @@
 -- What a run of `audit` promises
-use Rattle.std.specs.Prelude.{◌≡◌, ◌⊎◌, ℕ, List, [], AllPairs, Ok, Err, codes}
+use Rattle.std.specs.Prelude.{◌≡◌, ◌⊎◌, ℕ, List, [], map, Ok, Err, codes}
+use Rattle.counting_receiver.specs.Counting.{AcceptedRise}
 use Rattle.text_lines.specs.Lines.{lines_of}
 use Rattle.text_lines.specs.Readings.{Fault}
 use Rattle.text_lines.specs.Texts.{fault_text_of}
@@ -9,7 +10,7 @@ use Rattle.answer_rows.specs.Endings.{Ending, EndsInRow, EndsIn, MayEndIn, Print
 use Rattle.answer_rows.specs.Endings.{SinkFailed, CountsWriteFault}
 use Rattle.trace_audit.specs.declared.map_lines.MapLine.{MapLine}
 use Rattle.trace_audit.specs.MapLines.{map_of}
-use Rattle.trace_audit.specs.Auditing.{Finding, AuditsEach, FoundRise, findings_text, TellsAudit}
+use Rattle.trace_audit.specs.Auditing.{Finding, AuditsEach, finding_accepts, findings_text, TellsAudit}
 use Rattle.trace_audit.specs.Rows.{AuditInputs, NamesInputs, audit_usage}
 use Rattle.trace_audit.specs.Rows.{IsMapFault, OverAudit, ComesInAudit}
 
@@ -24,7 +25,7 @@ pub record Audits (i : AuditInputs) (e : Ending) : Type 0 where
   pub rising : e.status ≡ 0 →
       OverAudit i (λ mapping log. (findings : List Finding)
       × AuditsEach mapping (lines_of log) findings
-      × AllPairs FoundRise findings × PrintsWhole e (findings_text findings))
+      × AcceptedRise (map finding_accepts findings) × PrintsWhole e (findings_text findings))
   -- 2: exactly where the words are of no form; nothing was read.
   pub usage : e.status ≡ 2 → (¬ NamesInputs i.words) × IsUnread i.map × IsUnread i.log
       × PrintsWhole e audit_usage
