@@ -37,10 +37,10 @@ module _ (first : ℕ → ℕ) where
   abbrev counter_of : List (Option Acceptance) → ℕ → ℕ
   counter_of answers r = last_accepted r (first r) answers
 
-  Above : List (Option Acceptance) → Option Acceptance → Type 0
+  abbrev Above : List (Option Acceptance) → Option Acceptance → Type 0
   Above answers x = IfSome x (λ a. counter_of answers a.receiver < a.freshness)
 
-  AtMost : (ℕ → ℕ) → Option Acceptance → Type 0
+  abbrev AtMost : (ℕ → ℕ) → Option Acceptance → Type 0
   AtMost counter x = IfSome x (λ a. a.freshness ≤ counter a.receiver)
 
   grow_at : (q r v : ℕ) (c : ℕ → ℕ) (b : Bool) → (q == r) ≡ b → c q < v → c r ≤ (if b then v else c r)
@@ -53,7 +53,6 @@ module _ (first : ℕ → ℕ) where
   -- no counter falls
   grows : (answers : List (Option Acceptance)) (x : Option Acceptance) → Above answers x → (r : ℕ)
       → counter_of answers r ≤ next_counter r (counter_of answers r) x
-  unfolding Above
   grows answers None above r = omega arith
   grows answers (Some a) above r = grow_at a.receiver r a.freshness (counter_of answers) (a.receiver == r) refl above
 
@@ -62,7 +61,6 @@ module _ (first : ℕ → ℕ) where
   grows_more answers x above r = omega (arith, grows answers x above r, last_accepted-more r (first r) answers x)
 
   at_most_itself : (answers : List (Option Acceptance)) (x : Option Acceptance) → AtMost (counter_of (answers ++ x ∷ [])) x
-  unfolding AtMost
   at_most_itself answers None = tt
   at_most_itself answers (Some a) =
       omega (
@@ -72,7 +70,6 @@ module _ (first : ℕ → ℕ) where
       )
 
   at_most_more : (c d : ℕ → ℕ) (x : Option Acceptance) → ((r : ℕ) → c r ≤ d r) → AtMost c x → AtMost d x
-  unfolding AtMost
   at_most_more c d None le h = tt
   at_most_more c d (Some a) le h = omega (arith, le a.receiver, h)
 
@@ -92,7 +89,6 @@ module _ (first : ℕ → ℕ) where
 
   below : (answers : List (Option Acceptance)) (x y : Option Acceptance) → AtMost (counter_of answers) x → Above answers y
       → IsBelow x y
-  unfolding AtMost Above
   below answers None y h k = tt
   below answers (Some a) None h k = tt
   below answers (Some a) (Some b) h k = λ same.

@@ -1,13 +1,15 @@
 -- What a run that ends in a row of the table promises
-use Rattle.std.proofs.Common.{◌≡◌, refl, arith, rules}
+use Rattle.std.proofs.Common.{◌≡◌, [], inl, inr, refl, arith, rules}
 use Rattle.std.proofs.lemmas.Grind.{common_steps}
 use Rattle.text_lines.specs.Readings.{Fault}
 use Rattle.text_lines.specs.Texts.{fault_text_of}
 use Rattle.answer_rows.specs.Rows.{Row}
-use Rattle.answer_rows.specs.Inputs.{IsUnread}
+use Rattle.command_edge.specs.declared.input.InputFault.TheVariants as input
+use Rattle.answer_rows.specs.Inputs.{IsUnread, Lacks}
+use Rattle.answer_rows.specs.InputLaws.{Lacks-unread, Lacks-whole}
 use Rattle.answer_rows.specs.Endings.{Ending, PrintsWhole, EndsInRow}
 use Rattle.answer_rows.specs.EndingLaws.{EndsInRow-at}
-use Rattle.trace_audit.specs.Rows.{AuditInputs, NamesInputs, IsMapFault, ComesInAudit, map_fault}
+use Rattle.trace_audit.specs.Rows.{AuditInputs, NamesInputs, IsMapFault, ComesInAudit, no_form, no_input, map_fault, no_memory, done}
 use Rattle.trace_audit.specs.Audits.{Audits}
 use Rattle.trace_audit.proofs.Rising.{all_rise}
 
@@ -15,6 +17,18 @@ at_4 : (i : AuditInputs) (e : Ending) (row : Row) → ComesInAudit i row → row
     → NamesInputs i.words × IsUnread i.log × ((fault : Fault) × IsMapFault i.map fault × PrintsWhole e (fault_text_of fault))
 at_4 i e row (map_fault fault names is unread) four prints = (names, unread, (fault, is, prints))
 at_4 i e row _ four prints = search rules
+
+at_7 : (i : AuditInputs) (e : Ending) (row : Row) → ComesInAudit i row → row.status ≡ 7 → PrintsWhole e row.text
+    → NamesInputs i.words × Lacks i.map input.Memory × Lacks i.log input.Memory × PrintsWhole e []
+at_7 i e row (no_input input.Memory names (inl (lacks, unread))) seven prints = (names, lacks, Lacks-unread i.log unread, prints)
+at_7 i e row (no_input input.Memory names (inr (mapping, (text, whole, is), lacks))) seven prints =
+    (names, Lacks-whole i.map text whole, lacks, prints)
+at_7 i e row (no_input input.ReadFault names lacks) seven prints = absurd (omega (arith, seven))
+at_7 i e row (no_input input.TooLong names lacks) seven prints = absurd (omega (arith, seven))
+at_7 i e row (no_memory names map log) seven prints = (names, map, log, prints)
+at_7 i e row (no_form other map log) seven prints = absurd (omega (arith, seven))
+at_7 i e row (map_fault fault names is unread) seven prints = absurd (omega (arith, seven))
+at_7 i e row (done text over) seven prints = absurd (omega (arith, seven))
 
 pub Audits-row : (i : AuditInputs) (e : Ending) → EndsInRow (ComesInAudit i) e → Audits i e
 Audits-row i e ends = record {
@@ -29,7 +43,7 @@ Audits-row i e ends = record {
   read_fault_only = search rules;
   write_fault = search rules;
   write_fault_only = search rules;
-  no_memory = search rules;
+  no_memory = EndsInRow-at ends 7 refl (at_7 i e);
   too_long = search rules;
   too_long_only = search rules;
   complete = grind (arith, common_steps);
