@@ -1,6 +1,6 @@
 -- Laws of inputs: what a cause says of a source
-use Rattle.std.specs.Prelude.{◌≡◌, ℕ, length, List, []}
-use Rattle.std.proofs.Common.{refl, arith, ap, subst, sym, length-append}
+use Rattle.std.specs.Prelude.{◌≡◌, ℕ, ◌≤◌, length, List, [], Some}
+use Rattle.std.proofs.Common.{inl, inr, refl, arith, ap, subst, sym, length-append}
 use Rattle.bus_port.specs.Source.{SourceState, Came}
 use Rattle.bus_port.specs.Whole.{CameWithin, CameBeyond}
 use Rattle.command_edge.specs.Input.{input_limit}
@@ -53,3 +53,12 @@ pub Offers-is : (r : Reading) (text : List ℕ) (fault : InputFault) → Offers 
 Offers-is r text input.ReadFault (told, within, well) (rose, came) = absurd (well rose)
 Offers-is r text input.TooLong offers (same, beyond) = absurd (not_beyond r text offers beyond)
 Offers-is r text input.Memory offers lacks = refl
+
+-- a source that tells a text within the limit, and counted no fault up to the end, offers it
+pub Offers-clean : (r : Reading) (text : List ℕ) → r.before.told ≡ Some text → length text ≤ input_limit
+    → r.after.faults ≡ 0 → Offers r text
+Offers-clean r text told short calm = (
+  told,
+  short,
+  λ rose. elim rose [ inl more ↦ absurd (omega (arith, more, calm)) | inr last ↦ absurd (omega (arith, last, calm)) ],
+)

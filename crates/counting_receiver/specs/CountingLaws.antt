@@ -1,5 +1,6 @@
 -- Laws of receivers that keep their counters
-use Rattle.std.proofs.Common.{◌≡◌, ℕ, ◌<◌, ◌≤◌, ◌==◌, Bool, true, false, List, [], ◌∷◌, ◌++◌, length, get_or, refl, sym, subst, arith, ⊎_elim}
+use Rattle.std.proofs.Common.{◌≡◌, ℕ, ◌<◌, ◌≤◌, ◌==◌, Bool, true, false, List, [], ◌∷◌, ◌++◌, length, get_or}
+use Rattle.std.proofs.Common.{refl, sym, subst, arith, ⊎_elim}
 use Rattle.std.specs.Prelude.{if◌then◌else◌, Option, None, Some, IfSome}
 use Rattle.std.proofs.lemmas.Bool.{cases_lt}
 use Rattle.std.proofs.lemmas.Bool.Decides.{nat_tests}
@@ -11,9 +12,11 @@ use Rattle.counting_receiver.specs.Counting.{KeepsCounters, none, more, IsBelow,
 
 -- the last answer is the last that a counter is taken from
 pub last_accepted-more : (receiver counter : ℕ) (answers : List (Option Acceptance)) (answer : Option Acceptance)
-    → last_accepted receiver counter (answers ++ answer ∷ []) ≡ next_counter receiver (last_accepted receiver counter answers) answer
+    → last_accepted receiver counter (answers ++ answer ∷ [])
+    ≡ next_counter receiver (last_accepted receiver counter answers) answer
 last_accepted-more receiver counter [] answer = refl
-last_accepted-more receiver counter (x ∷ answers) answer = last_accepted-more receiver (next_counter receiver counter x) answers answer
+last_accepted-more receiver counter (x ∷ answers) answer =
+    last_accepted-more receiver (next_counter receiver counter x) answers answer
 
 its_own : (r : ℕ) (b : Bool) (v c : ℕ) → (r == r) ≡ b → v ≡ (if b then v else c)
 its_own r true v c e = refl
@@ -60,7 +63,8 @@ module _ (first : ℕ → ℕ) where
       → counter_of answers r ≤ counter_of (answers ++ x ∷ []) r
   grows_more answers x above r = omega (arith, grows answers x above r, last_accepted-more r (first r) answers x)
 
-  at_most_itself : (answers : List (Option Acceptance)) (x : Option Acceptance) → AtMost (counter_of (answers ++ x ∷ [])) x
+  at_most_itself : (answers : List (Option Acceptance)) (x : Option Acceptance)
+      → AtMost (counter_of (answers ++ x ∷ [])) x
   at_most_itself answers None = tt
   at_most_itself answers (Some a) =
       omega (
@@ -81,18 +85,20 @@ module _ (first : ℕ → ℕ) where
       ⊎_elim
       (λ (lt : k < length answers). subst (AtMost (counter_of (answers ++ x ∷ [])))
       (sym (get_or_append_left answers (x ∷ []) d k lt))
-      (at_most_more (counter_of answers) (counter_of (answers ++ x ∷ [])) (get_or answers k d) (grows_more answers x above)
+      (at_most_more (counter_of answers) (counter_of (answers ++ x ∷ [])) (get_or answers k d)
+      (grows_more answers x above)
       (all_at_most answers keeps k d lt)))
       (λ (le : length answers ≤ k). subst (AtMost (counter_of (answers ++ x ∷ [])))
       (sym (get_or_push answers x d k (omega (arith, le, within, length_push answers x)))) (at_most_itself answers x))
       (cases_lt k (length answers))
 
-  below : (answers : List (Option Acceptance)) (x y : Option Acceptance) → AtMost (counter_of answers) x → Above answers y
-      → IsBelow x y
+  below : (answers : List (Option Acceptance)) (x y : Option Acceptance) → AtMost (counter_of answers) x
+      → Above answers y → IsBelow x y
   below answers None y h k = tt
   below answers (Some a) None h k = tt
   below answers (Some a) (Some b) h k = λ same.
-      let here : counter_of answers a.receiver < b.freshness = subst (λ r. counter_of answers r < b.freshness) (sym same) k in
+      let here : counter_of answers a.receiver < b.freshness =
+      subst (λ r. counter_of answers r < b.freshness) (sym same) k in
       omega (arith, h, here)
 
   -- accepted freshness rises

@@ -23,7 +23,8 @@ pub fn push_verdict(
 ) -> Result<(), AllocError>
     requires window { IsWindow window }
     requires frame { IsFrame pdu.now }
-    ensures { OnOk result (AddsVerdict schedule.now id window counter.old counter.new pdu.now text.old.items text.new.items) }
+    ensures { OnOk result (AddsVerdict schedule.now id window counter.old counter.new pdu.now
+        text.old.items text.new.items) }
 {
     let Some(parts) = split(pdu) else {
         return push_bad_length(text);

@@ -1,8 +1,8 @@
-//! `pairing`: Secured PDU collections (AUTOSAR SecOC, profile 1): authentic and cryptographic PDUs that arrive apart are
-//! joined and judged, and made from payloads.
+//! `pairing`: Secured PDU collections (AUTOSAR SecOC, profile 1): authentic and cryptographic PDUs that arrive apart
+//! are joined and judged, and made from payloads.
 //!
-//! [`pdu_collection::pair_words`] is the program; its clauses say what each status means and what is printed. Here it is
-//! handed the words, the files, standard input and standard output.
+//! [`pdu_collection::pair_words`] is the program; its clauses say what each status means and what is printed. Here it
+//! is handed the words, the files, standard input and standard output.
 #![tactic(auto)]
 
 use bus_port::{StdSink, StdSource};

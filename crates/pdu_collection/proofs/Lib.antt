@@ -8,3 +8,5 @@ pub mod Rising
 pub mod OneJoining
 pub mod MadePdus
 pub mod Promises
+pub mod Example
+pub mod Naming

@@ -61,8 +61,8 @@ counter_behind_lines head said = last_accepted 0 head.counter (map said_accepts 
 
 -- ---- what is said of one line
 
--- an arrival waits, or joins one before it, and both together are judged as one Secured I-PDU is, by a receiver with the
--- widest window
+-- an arrival waits, or joins one before it, and both together are judged as one Secured I-PDU is, by a receiver with
+-- the widest window
 abbrev pub SaysOf : Head → List Arrival → ℕ → Kind → List ℕ → Said → Type 0
 SaysOf head before counter kind pdu bad_length = ¬ HasLength head.place kind pdu
 SaysOf head before counter kind pdu waits =

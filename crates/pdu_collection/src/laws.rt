@@ -20,17 +20,17 @@ pub fn accepted_freshness_rises()
         → SaysEach head entries arrivals said → AcceptedRise (map said_accepts said) }
 {}
 
-/// The PDUs that are made of a payload and a freshness, given back as two arrivals, are judged as exactly their one Secured
-/// I-PDU: where the first of them waits, whatever arrived before, and the other comes next. Where the freshness is ahead of
-/// the counter, they are accepted.
+/// The PDUs that are made of a payload and a freshness, given back as two arrivals, are judged as exactly their one
+/// Secured I-PDU: where the first of them waits, whatever arrived before, and the other comes next. Where the freshness
+/// is ahead of the counter, they are accepted.
 pub fn made_pdus_are_judged_as_one()
-    ensures payload_first { (head : Head) (before : List Arrival) (earlier counter freshness : ℕ) (payload part : List ℕ) (said : Said)
-        → SaysMade head freshness payload (made payload part)
+    ensures payload_first { (head : Head) (before : List Arrival) (earlier counter freshness : ℕ)
+        (payload part : List ℕ) (said : Said) → SaysMade head freshness payload (made payload part)
         → SaysOf head before earlier authentic payload waits
         → SaysOf head (before ++ record { kind = authentic; pdu = payload } ∷ []) counter cryptographic part said
         → JudgedAsOne head counter payload freshness said }
-    ensures part_first { (head : Head) (before : List Arrival) (earlier counter freshness : ℕ) (payload part : List ℕ) (said : Said)
-        → SaysMade head freshness payload (made payload part)
+    ensures part_first { (head : Head) (before : List Arrival) (earlier counter freshness : ℕ)
+        (payload part : List ℕ) (said : Said) → SaysMade head freshness payload (made payload part)
         → SaysOf head before earlier cryptographic part waits
         → SaysOf head (before ++ record { kind = cryptographic; pdu = part } ∷ []) counter authentic payload said
         → JudgedAsOne head counter payload freshness said }

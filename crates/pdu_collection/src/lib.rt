@@ -1,5 +1,5 @@
-//! Secured PDU collections (AUTOSAR SecOC, profile 1): authentic and cryptographic PDUs that arrive apart are joined and
-//! judged, and made from payloads.
+//! Secured PDU collections (AUTOSAR SecOC, profile 1): authentic and cryptographic PDUs that arrive apart are joined
+//! and judged, and made from payloads.
 //!
 //! [`Linker`] makes the cryptographic PDU of a payload, and [`Joiner`] joins arrivals. [`run_pairs`] answers the script
 //! of a source; [`pair_words`] the one that the word of a command line names, or, without a word, an example in memory.

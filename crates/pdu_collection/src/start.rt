@@ -1,5 +1,5 @@
-//! The words of the command line, the program's name left out: the script that one names is answered, and without a word
-//! the example.
+//! The words of the command line, the program's name left out: the script that one names is answered, and without a
+//! word the example.
 ghost use Rattle.std.specs.Prelude.{◌≡◌, ◌<◌, length, map, string_bytes, IfOk};
 ghost use Rattle.pdu_collection.specs.Rows.{PairingInputs};
 ghost use Rattle.pdu_collection.specs.Pairs.{RunsPairs};

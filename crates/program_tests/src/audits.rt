@@ -18,7 +18,8 @@ const EXAMPLE: &str =
 
 const USAGE: &str = "usage: audit MAP LOG\n";
 
-/// How many words there are, the calls of the map, of the log and of the sink that fail, the status, and what is written.
+/// How many words there are, the calls of the map, of the log and of the sink that fail, the status, and what is
+/// written.
 struct Row(
     usize,
     &'static [u64],

@@ -76,8 +76,8 @@ IsMapped mapping words m =
 abbrev pub IsUnmapped : List MapLine → List (List ℕ) → Type 0
 IsUnmapped mapping words = (frame : LogFrame) → log_frame_of words ≡ Some frame → place_of_can mapping frame.can ≡ None
 
--- the first bytes of a mapped frame are judged as a Secured I-PDU with a payload of the map's length, by a receiver with
--- the widest window, where `counter` says the counter of each line of the map; the rest is padding
+-- the first bytes of a mapped frame are judged as a Secured I-PDU with a payload of the map's length, by a receiver
+-- with the widest window, where `counter` says the counter of each line of the map; the rest is padding
 abbrev pub AuditsLine : List MapLine → (ℕ → ℕ) → TextLine → Finding → Type 0
 AuditsLine mapping counter text_line other = IsUnmapped mapping text_line.words
 AuditsLine mapping counter text_line (too_short number place can) =

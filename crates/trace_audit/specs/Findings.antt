@@ -15,7 +15,8 @@ AddsDataVerdict entry old new bytes before after =
     ⊎ ((entry.size + 4 ≤ length bytes)
     × AddsVerdict entry.key entry.id 256 old new (take (entry.size + 4) bytes) before after)
 
--- what is found of a line was added, each counter is the one behind it, and it is told whether the map has a line for it
+-- what is found of a line was added, each counter is the one behind it, and it is told whether the map has a line for
+-- it
 abbrev pub AddsFinding : List MapLine → List ℕ → List ℕ → TextLine → List ℕ → List ℕ → Bool → Type 0
 AddsFinding mapping old new text_line before after mapped =
     (finding : Finding) × AuditsLine mapping (slice_index old) text_line finding

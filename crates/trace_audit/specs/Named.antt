@@ -6,8 +6,8 @@ use Rattle.answer_rows.specs.Inputs.{Offers}
 use Rattle.trace_audit.specs.Rows.{AuditInputs, NamesInputs}
 use Rattle.trace_audit.specs.declared.start.TheConstants.{EXAMPLE_MAP, EXAMPLE_LOG}
 
--- the sources of an audit are those that its two words name, the map's first. The input is handed in once for each word:
--- where both are `-`, the map has it, and the log is missing
+-- the sources of an audit are those that its two words name, the map's first. The input is handed in once for each
+-- word: where both are `-`, the map has it, and the log is missing
 pub record AreNamed (opens : List ℕ → SourceState → Type 0) (map_input log_input : SourceState)
     (words : List (List ℕ)) (i : AuditInputs) : Type 0 where
   pub words_are : i.words ≡ words
