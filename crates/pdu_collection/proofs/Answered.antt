@@ -2,13 +2,15 @@
 use Rattle.std.proofs.Common.{◌≡◌, ℕ, zero, suc, arith, ◌<◌, ◌+◌, List, [], ◌∷◌, ◌++◌, length, take, map, get_or, refl, sym, ap, ◌∙◌, subst, append-nil, append_assoc}
 use Rattle.std.proofs.lemmas.List.{take_more, map-append}
 use Rattle.std.specs.List.{flat_map}
+use Rattle.counting_receiver.specs.Counting.{next_counter, last_accepted}
+use Rattle.counting_receiver.specs.CountingLaws.{last_accepted-more}
 use Rattle.pdu_collection.specs.declared.answering.Receiver.{Receiver}
 use Rattle.pdu_collection.specs.declared.pair_lines.Head.{Head}
 use Rattle.pdu_collection.specs.declared.pair_lines.Entry.{Entry}
 use Rattle.pdu_collection.specs.declared.pair_lines.PairLine.{PairLine}
 use Rattle.pdu_collection.specs.declared.pair_lines.PairLine.TheVariants as line
 use Rattle.pdu_collection.specs.Joined.{Given}
-use Rattle.pdu_collection.specs.Answering.{Said, said_text, arrival_of, counter_after, last_accepted, Says, SaysEach, none, more}
+use Rattle.pdu_collection.specs.Answering.{Said, said_text, arrival_of, said_accepts, counter_behind_lines, Says, SaysEach, none, more}
 use Rattle.pdu_collection.specs.Receiving.{Answers, Answered}
 
 flat_more : {X A : Type 0} (f : X → List A) (xs : List X) (x : X) → flat_map f (xs ++ x ∷ []) ≡ flat_map f xs ++ f x
@@ -16,16 +18,18 @@ flat_more f [] x = append-nil (f x)
 flat_more f (y ∷ xs) x = ap (λ l. f y ++ l) (flat_more f xs x) ∙ sym (append_assoc (f y) (flat_map f xs) (f x))
 
 -- the last of what was said is the last that the counter is taken from
-pub last_more : (counter : ℕ) (said : List Said) (s : Said) → last_accepted counter (said ++ s ∷ []) ≡ counter_after (last_accepted counter said) s
-last_more counter [] s = refl
-last_more counter (x ∷ said) s = last_more (counter_after counter x) said s
+counter_more : (head : Head) (said : List Said) (s : Said)
+    → counter_behind_lines head (said ++ s ∷ []) ≡ next_counter 0 (counter_behind_lines head said) (said_accepts s)
+counter_more head said s =
+    ap (last_accepted 0 head.counter) (map-append said_accepts said (s ∷ []))
+    ∙ last_accepted-more 0 head.counter (map said_accepts said) (said_accepts s)
 
 -- one more entry is answered
 pub Answered-more : (head : Head) (entries : List Entry) (old new : Receiver) (entry : Entry) (before after : List ℕ)
     → Answered head entries old before → Answers head old new entry before after → Answered head (entries ++ entry ∷ []) new after
 Answered-more head entries old new entry before after done (s, after_is, place_is, counter_is, given) =
     let both = given done.arrivals done.given in
-    let says : Says head done.arrivals (last_accepted head.counter done.said) entry s =
+    let says : Says head done.arrivals (counter_behind_lines head done.said) entry s =
     subst (λ c. Says head done.arrivals c entry s) done.counter_is both.0 in
     record {
       arrivals = done.arrivals ++ arrival_of entry s;
@@ -33,7 +37,7 @@ Answered-more head entries old new entry before after done (s, after_is, place_i
       says = more entries done.arrivals done.said entry s done.says says;
       text_is = after_is ∙ ap (λ t. t ++ said_text s) done.text_is ∙ sym (flat_more said_text done.said s);
       place_is = place_is ∙ done.place_is;
-      counter_is = counter_is ∙ ap (λ c. counter_after c s) done.counter_is ∙ sym (last_more head.counter done.said s);
+      counter_is = counter_is ∙ ap (λ c. next_counter 0 c (said_accepts s)) done.counter_is ∙ sym (counter_more head done.said s);
       given = both.1;
     }
 

@@ -8,5 +8,5 @@ pub mod Rising
 pub mod OneJoining
 pub mod MadePdus
 pub mod Promises
-pub mod TextRows
-pub mod Opened
+pub mod Example
+pub mod Naming

@@ -1,14 +1,16 @@
 -- What a run that ends in a row of the table promises
-use Rattle.std.proofs.Common.{◌≡◌, ℕ, List, inl, inr, refl, arith, rules}
+use Rattle.std.proofs.Common.{◌≡◌, ℕ, List, [], inl, inr, refl, arith, rules}
 use Rattle.std.specs.Prelude.{Ok}
 use Rattle.std.proofs.lemmas.Grind.{common_steps}
+use Rattle.command_edge.specs.declared.input.InputFault.TheVariants as input
 use Rattle.answer_rows.specs.Rows.{Row}
+use Rattle.answer_rows.specs.Inputs.{Lacks}
 use Rattle.answer_rows.specs.Endings.{Ending, PrintsWhole, EndsInRow}
 use Rattle.answer_rows.specs.EndingLaws.{EndsInRow-at}
 use Rattle.pdu_collection.specs.declared.pair_lines.PairLine.{PairLine}
 use Rattle.pdu_collection.specs.PairLines.{pairs_of}
 use Rattle.pdu_collection.specs.Answering.{TellsPairs, TellsRising}
-use Rattle.pdu_collection.specs.Rows.{PairingInputs, OverPairs, ComesInPairing, done}
+use Rattle.pdu_collection.specs.Rows.{PairingInputs, NamesInput, OverPairs, ComesInPairing, no_form, no_input, line_fault, done}
 use Rattle.pdu_collection.specs.Pairs.{RunsPairs}
 use Rattle.pdu_collection.proofs.Rising.{all_rise}
 
@@ -23,6 +25,15 @@ rising_0 i e row (done text (names, (read, whole, (lines, are, tells)))) zero pr
     (names, (read, whole, (lines, are, text, tells_rising lines text tells, prints)))
 rising_0 i e row _ zero prints = search rules
 
+at_7 : (i : PairingInputs) (e : Ending) (row : Row) → ComesInPairing i row → row.status ≡ 7 → PrintsWhole e row.text
+    → NamesInput i.words × Lacks i.script input.Memory × PrintsWhole e []
+at_7 i e row (no_input input.Memory names lacks) seven prints = (names, lacks, prints)
+at_7 i e row (no_input input.ReadFault names lacks) seven prints = absurd (omega (arith, seven))
+at_7 i e row (no_input input.TooLong names lacks) seven prints = absurd (omega (arith, seven))
+at_7 i e row (no_form other unread) seven prints = absurd (omega (arith, seven))
+at_7 i e row (line_fault fault over) seven prints = absurd (omega (arith, seven))
+at_7 i e row (done text over) seven prints = absurd (omega (arith, seven))
+
 pub RunsPairs-row : (i : PairingInputs) (e : Ending) → EndsInRow (ComesInPairing i) e → RunsPairs i e
 RunsPairs-row i e ends = record {
   ends = ends;
@@ -36,7 +47,7 @@ RunsPairs-row i e ends = record {
   read_fault_only = search rules;
   write_fault = search rules;
   write_fault_only = search rules;
-  no_memory = search rules;
+  no_memory = EndsInRow-at ends 7 refl (at_7 i e);
   too_long = search rules;
   too_long_only = search rules;
   complete = grind (arith, common_steps);

@@ -2,15 +2,16 @@
 use Rattle.std.proofs.Common.{◌≡◌, ℕ, ◌<◌, ◌≤◌, ◌+◌, Bool, true, false, List, [], ◌∷◌, ◌++◌, length, take, refl, sym, ap, ◌∙◌, subst, arith, append-nil, append_assoc}
 use Rattle.std.specs.Prelude.{Option, None, Some, Result, Ok, Err, IfOk, IfErr}
 use Rattle.secured_pdu.specs.Verdict.{Outcome, Verdict}
-use Rattle.text_lines.specs.Texts.{outcome_text}
+use Rattle.counting_receiver.specs.Counting.{AddsVerdict}
+use Rattle.counting_receiver.specs.CountingLaws.{next_counter-verdict}
 use Rattle.pdu_collection.specs.declared.joiner.BadLength.{BadLength}
 use Rattle.pdu_collection.specs.declared.answering.Receiver.{Receiver}
 use Rattle.pdu_collection.specs.declared.pair_lines.Head.{Head}
 use Rattle.pdu_collection.specs.Collection.{Place}
 use Rattle.pdu_collection.specs.Joining.{Kind, authentic, cryptographic, Arrival}
 use Rattle.pdu_collection.specs.Joined.{JoinerState, NextJoins, Given, IsToldOf, Arrives, joined_with}
-use Rattle.pdu_collection.specs.Answering.{HasLength, Said, bad_length, waits, judged, said_text, counter_after, SaysOf}
-use Rattle.pdu_collection.specs.Receiving.{Judges, Arrived, AnswersArrival}
+use Rattle.pdu_collection.specs.Answering.{HasLength, Said, bad_length, waits, judged, said_text, SaysOf}
+use Rattle.pdu_collection.specs.Receiving.{Arrived, AnswersArrival}
 
 -- what a joiner told of an arrival
 pub Arrived_of : (old new : JoinerState) (kind : Kind) (pdu room joined : List ℕ) (told : Result (Option ℕ) BadLength)
@@ -81,17 +82,17 @@ module _ (head : Head) (before : JoinerState) (counter : ℕ) (kind : Kind) (pdu
       )
 
   -- a PDU that joins one, and what is judged of both
-  pub said_judged : (new : JoinerState) (end : Receiver) (after room joined : List ℕ) (size : ℕ) → HasLength before.place kind pdu
+  pub said_judged : (new : JoinerState) (behind : ℕ) (after room joined : List ℕ) (size : ℕ) → HasLength before.place kind pdu
       → Arrives before new next room joined (Some size)
-      → Judges head (record { joiner = new; counter = counter }) end (take size joined) text after
-      → AnswersArrival head old end kind pdu text after
-  said_judged new end after room joined size right a (outcome, verdict, after_is, end_is) =
+      → AddsVerdict head.key head.id 256 counter behind (take size joined) text after
+      → AnswersArrival head old (record { joiner = new; counter = behind }) kind pdu text after
+  said_judged new behind after room joined size right a (outcome, verdict, after_is, behind_is) =
       let right_here : HasLength head.place kind pdu = subst (λ p. HasLength p kind pdu) place_is right in
       let (partner, joined_is, text_is) = joins_some next a.joined room joined size a.tells in (
         judged outcome,
         after_is,
-        ap (λ (r : Receiver). r.joiner.place) end_is ∙ a.place_is,
-        ap (λ (r : Receiver). r.counter) end_is,
+        a.place_is,
+        behind_is ∙ next_counter-verdict 0 counter outcome,
         λ arrivals g.
             let both = given_next new room joined (Some size) a arrivals g in (
               (
@@ -102,6 +103,6 @@ module _ (head : Head) (before : JoinerState) (counter : ℕ) (kind : Kind) (pdu
                   subst (λ f. Verdict head.key head.id counter 256 f outcome) text_is verdict,
                 ),
               ),
-              subst (λ s. Given s (arrivals ++ next ∷ [])) (sym (ap (λ (r : Receiver). r.joiner) end_is)) both.1,
+              both.1,
             ),
       )

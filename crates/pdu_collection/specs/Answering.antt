@@ -1,8 +1,9 @@
 -- What is said of each line of a script of pairs, and printed
-use Rattle.std.specs.Prelude.{◌≡◌, ◌⊎◌, ◌<◌, ℕ, List, [], ◌∷◌, ◌++◌, codes, None, Some, AllPairs}
+use Rattle.std.specs.Prelude.{◌≡◌, ◌⊎◌, ℕ, List, [], ◌∷◌, ◌++◌, map, codes, Option, None, Some}
 use Rattle.std.specs.List.{flat_map}
 use Rattle.hex.specs.Hex.{encode_lower}
-use Rattle.secured_pdu.specs.Verdict.{Outcome, Accepted, Verdict}
+use Rattle.secured_pdu.specs.Verdict.{Outcome, Verdict}
+use Rattle.counting_receiver.specs.Counting.{Acceptance, accepted_by, last_accepted, AcceptedRise}
 use Rattle.text_lines.specs.Texts.{line, outcome_text, bad_length_text}
 use Rattle.pdu_collection.specs.declared.pair_lines.Head.{Head}
 use Rattle.pdu_collection.specs.declared.pair_lines.Entry.{Entry}
@@ -47,25 +48,28 @@ arrival_of (Secured freshness payload) said = []
 
 -- ---- the counter
 
--- the counter behind what was said of a line
-abbrev pub counter_after : ℕ → Said → ℕ
-counter_after counter (judged (Accepted payload freshness)) = freshness
-counter_after counter _ = counter
+-- what is accepted of a line, if it is; a script has one receiver, which has the number 0
+abbrev pub said_accepts : Said → Option Acceptance
+said_accepts bad_length = None
+said_accepts waits = None
+said_accepts (judged outcome) = accepted_by 0 outcome
+said_accepts (made payload pdu) = None
 
--- the freshness of the latest line that was accepted, or the counter of before
-abbrev pub last_accepted : ℕ → List Said → ℕ
-last_accepted counter [] = counter
-last_accepted counter (s ∷ said) = last_accepted (counter_after counter s) said
+-- the counter behind these lines: the freshness of the latest that was accepted, or the head's
+abbrev pub counter_behind_lines : Head → List Said → ℕ
+counter_behind_lines head said = last_accepted 0 head.counter (map said_accepts said)
 
 -- ---- what is said of one line
 
--- an arrival waits, or joins one before it, and both together are judged as one Secured I-PDU is, by a receiver with the widest window
+-- an arrival waits, or joins one before it, and both together are judged as one Secured I-PDU is, by a receiver with
+-- the widest window
 abbrev pub SaysOf : Head → List Arrival → ℕ → Kind → List ℕ → Said → Type 0
 SaysOf head before counter kind pdu bad_length = ¬ HasLength head.place kind pdu
 SaysOf head before counter kind pdu waits =
     HasLength head.place kind pdu × NextJoins head.place before (record { kind = kind; pdu = pdu }) None
 SaysOf head before counter kind pdu (judged outcome) =
-    HasLength head.place kind pdu × ((joined : List ℕ) × NextJoins head.place before (record { kind = kind; pdu = pdu }) (Some joined)
+    HasLength head.place kind pdu
+    × ((joined : List ℕ) × NextJoins head.place before (record { kind = kind; pdu = pdu }) (Some joined)
     × Verdict head.key head.id counter 256 (joined_with kind pdu joined) outcome)
 SaysOf head before counter kind pdu (made payload part) = ⊥
 
@@ -73,7 +77,8 @@ SaysOf head before counter kind pdu (made payload part) = ⊥
 abbrev pub SaysMade : Head → ℕ → List ℕ → Said → Type 0
 SaysMade head freshness payload bad_length = ¬ IsAuthentic head.place payload
 SaysMade head freshness payload (made authentic_pdu part) =
-    IsAuthentic head.place payload × (authentic_pdu ≡ payload) × IsPartOf head.key head.id head.place payload freshness part
+    IsAuthentic head.place payload × (authentic_pdu ≡ payload)
+    × IsPartOf head.key head.id head.place payload freshness part
 SaysMade head freshness payload waits = ⊥
 SaysMade head freshness payload (judged outcome) = ⊥
 
@@ -85,11 +90,13 @@ Says head before counter (Secured freshness payload) said = SaysMade head freshn
 
 -- ---- the whole script
 
--- what is said of the entries so far, and the arrivals among them; of one more it is said behind these, with the freshness that was accepted last
+-- what is said of the entries so far, and the arrivals among them; of one more it is said behind these, with the
+-- freshness that was accepted last
 pub data SaysEach (head : Head) : List Entry → List Arrival → List Said → Type 0 where
   none : SaysEach head [] [] []
-  more : (entries : List Entry) (arrivals : List Arrival) (said : List Said) (entry : Entry) (s : Said) → SaysEach head entries arrivals said
-      → Says head arrivals (last_accepted head.counter said) entry s
+  more : (entries : List Entry) (arrivals : List Arrival) (said : List Said) (entry : Entry) (s : Said)
+      → SaysEach head entries arrivals said
+      → Says head arrivals (counter_behind_lines head said) entry s
       → SaysEach head (entries ++ entry ∷ []) (arrivals ++ arrival_of entry s) (said ++ s ∷ [])
 
 -- the text is what is said of each line behind the head; without a head there is none
@@ -101,13 +108,11 @@ TellsPairs lines text =
 
 -- ---- what holds of it
 
-abbrev pub AcceptedRise : Said → Said → Type 0
-AcceptedRise (judged (Accepted payload v)) (judged (Accepted payload' v')) = v < v'
-AcceptedRise _ _ = Unit {0}
-
--- what is said of each line, of which the later of two that were accepted has the greater freshness; the text is that of it
+-- what is said of each line, of which the later of two that were accepted has the greater freshness; the text is that
+-- of it
 abbrev pub TellsRising : List PairLine → List ℕ → Type 0
 TellsRising lines text =
     ((lines ≡ []) × (text ≡ []))
     ⊎ ((head : Head) × (entries : List Entry) × (arrivals : List Arrival) × (said : List Said)
-    × IsScript lines head entries × SaysEach head entries arrivals said × AllPairs AcceptedRise said × (text ≡ flat_map said_text said))
+    × IsScript lines head entries × SaysEach head entries arrivals said
+    × AcceptedRise (map said_accepts said) × (text ≡ flat_map said_text said))

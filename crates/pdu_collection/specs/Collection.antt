@@ -1,4 +1,5 @@
--- A Secured PDU collection: a payload that travels alone, and a PDU with its authenticator, which repeats some of its bytes as a message link
+-- A Secured PDU collection: a payload that travels alone, and a PDU with its authenticator, which repeats some of its
+-- bytes as a message link
 use Rattle.std.specs.Prelude.{◌≡◌, ℕ, ◌+◌, ◌≤◌, List, ◌++◌, length, take, drop}
 use Rattle.secured_pdu.specs.Frame.{IsPayload, Secured}
 
@@ -30,4 +31,5 @@ joined_pdu payload pdu = payload ++ take 4 pdu
 -- the cryptographic PDU of this payload and freshness: what the Secured I-PDU has behind the payload, and the link
 abbrev pub IsPartOf : List ℕ → ℕ → Place → List ℕ → ℕ → List ℕ → Type 0
 IsPartOf key id place payload freshness pdu =
-    (frame : List ℕ) × Secured key id payload freshness frame × (pdu ≡ drop (length payload) frame ++ link_of place payload)
+    (frame : List ℕ) × Secured key id payload freshness frame
+    × (pdu ≡ drop (length payload) frame ++ link_of place payload)

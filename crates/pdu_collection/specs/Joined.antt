@@ -1,7 +1,8 @@
 -- What the next arrival joins, and what a joiner knows between two arrivals
 use Rattle.std.specs.Prelude.{◌≡◌, ℕ, ◌<◌, List, [], ◌∷◌, ◌++◌, length, take, drop, Option, None, Some, IfSome}
 use Rattle.pdu_collection.specs.Collection.{Place, IsPlace, IsAuthentic, IsCryptographic, joined_pdu}
-use Rattle.pdu_collection.specs.Joining.{Kind, authentic, cryptographic, Arrival, arrival_at, partner_at, IsLatestOfKind, IsSingle, Joining}
+use Rattle.pdu_collection.specs.Joining.{Kind, authentic, cryptographic, Arrival, arrival_at, partner_at}
+use Rattle.pdu_collection.specs.Joining.{IsLatestOfKind, IsSingle, Joining}
 
 -- the PDU of the arrival with this number, if there is a number
 abbrev pub IsPduAt : List Arrival → Option ℕ → Option (List ℕ) → Type 0
@@ -11,7 +12,8 @@ IsPduAt arrivals None (Some pdu) = ⊥
 IsPduAt arrivals (Some j) None = ⊥
 
 -- behind these arrivals, the next one joins one that has this PDU, or none
-pub record NextJoins (place : Place) (arrivals : List Arrival) (next : Arrival) (joined : Option (List ℕ)) : Type 0 where
+pub record NextJoins (place : Place) (arrivals : List Arrival) (next : Arrival) (joined : Option (List ℕ))
+    : Type 0 where
   pub partners : List (Option ℕ)
   pub joining : Joining place (arrivals ++ next ∷ []) partners
   pub pdu_is : IsPduAt arrivals (partner_at partners (length arrivals)) joined
@@ -31,7 +33,8 @@ waiting state cryptographic = state.pdu
 -- the latest arrival of this kind has this PDU and is single; or it isn't single, or there is none
 abbrev pub Waits : List Arrival → List (Option ℕ) → Kind → Option (List ℕ) → Type 0
 Waits arrivals partners kind (Some pdu) =
-    (j : ℕ) × IsLatestOfKind arrivals kind (length arrivals) j × IsSingle partners (length arrivals) j × (pdu ≡ (arrival_at arrivals j).pdu)
+    (j : ℕ) × IsLatestOfKind arrivals kind (length arrivals) j × IsSingle partners (length arrivals) j
+    × (pdu ≡ (arrival_at arrivals j).pdu)
 Waits arrivals partners kind None =
     (j : ℕ) → IsLatestOfKind arrivals kind (length arrivals) j → ¬ IsSingle partners (length arrivals) j
 
@@ -63,5 +66,6 @@ IsToldOf next None before after (Some size) = ⊥
 pub record Arrives (old new : JoinerState) (next : Arrival) (before after : List ℕ) (size : Option ℕ) : Type 0 where
   pub place_is : new.place ≡ old.place
   pub joined : Option (List ℕ)
-  pub given : (arrivals : List Arrival) → Given old arrivals → NextJoins old.place arrivals next joined × Given new (arrivals ++ next ∷ [])
+  pub given : (arrivals : List Arrival) → Given old arrivals
+      → NextJoins old.place arrivals next joined × Given new (arrivals ++ next ∷ [])
   pub tells : IsToldOf next joined before after size

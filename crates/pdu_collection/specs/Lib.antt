@@ -8,3 +8,4 @@ pub mod Receiving
 pub mod Rows
 pub mod Pairs
 pub mod Steps
+pub mod Named

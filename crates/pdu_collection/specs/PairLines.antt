@@ -1,5 +1,6 @@
 -- The lines of a script of pairs: its head, and then arrivals, or PDUs to be made.
-use Rattle.std.specs.Prelude.{◌≡◌, ℕ, ◌+◌, nat_le, if◌then◌else◌, List, [], ◌∷◌, map, codes, Option, None, Some, option_and_then, Result, Ok, Err}
+use Rattle.std.specs.Prelude.{◌≡◌, ℕ, ◌+◌, nat_le, if◌then◌else◌, List, [], ◌∷◌, map, codes}
+use Rattle.std.specs.Prelude.{Option, None, Some, option_and_then, Result, Ok, Err}
 use Rattle.std.specs.Str.{bytes_eq}
 use Rattle.text_lines.specs.declared.fault.Cause.{Cause}
 use Rattle.text_lines.specs.declared.fault.Cause.TheVariants as cause
@@ -20,7 +21,8 @@ at_form word = number_form 0 59 word
 -- LEN: how many bytes the link has, which end within a payload of 60 bytes; so the place of the link
 unfoldable pub place_form : ℕ → List ℕ → Option Place
 place_form at word =
-    option_and_then (λ size. if nat_le (at + size) 60 then Some (record { at = at; size = size }) else None) (number_form 1 4 word)
+    option_and_then (λ size. if nat_le (at + size) 60 then Some (record { at = at; size = size }) else None)
+    (number_form 1 4 word)
 
 -- `pair KEY ID FRESH AT LEN`, where FRESH is the receiver's counter
 unfoldable pub head_of : List (List ℕ) → Result Head Cause

@@ -2,7 +2,8 @@
 use Rattle.std.specs.Prelude.{◌≡◌, ◌⊎◌, ℕ, List, [], Ok, Err, codes}
 use Rattle.text_lines.specs.Readings.{Fault}
 use Rattle.text_lines.specs.Texts.{fault_text_of}
-use Rattle.answer_rows.specs.Inputs.{Reading, IsUnread, SourceFailed, CountsFault, GivesTooMuch, CountsTooMuch, Offers}
+use Rattle.command_edge.specs.declared.input.InputFault.TheVariants as input
+use Rattle.answer_rows.specs.Inputs.{IsUnread, Lacks, SourceFailed, CountsFault, GivesTooMuch, CountsTooMuch, Offers}
 use Rattle.answer_rows.specs.Endings.{Ending, EndsInRow, EndsIn, MayEndIn, PrintsWhole, PrintsFront}
 use Rattle.answer_rows.specs.Endings.{SinkFailed, CountsWriteFault}
 use Rattle.pdu_collection.specs.declared.pair_lines.PairLine.{PairLine}
@@ -34,16 +35,11 @@ pub record RunsPairs (i : PairingInputs) (e : Ending) : Type 0 where
   -- 6: exactly where the sink's count of faults rose; a proper front was written of the text of another row that comes.
   pub write_fault : e.status ≡ 6 → SinkFailed e × PrintsFront (ComesInPairing i) e
   pub write_fault_only : CountsWriteFault e → e.status ≡ 6
-  -- 7: only where the words are of the form; nothing was written.
-  pub no_memory : e.status ≡ 7 → NamesInput i.words × PrintsWhole e []
+  -- 7: only where the words are of the form, and the source didn't fail or give too much; nothing was written.
+  pub no_memory : e.status ≡ 7 → NamesInput i.words × Lacks i.script input.Memory × PrintsWhole e []
   -- 8: exactly where one byte more than an input may have came from the source.
   pub too_long : e.status ≡ 8 → NamesInput i.words × GivesTooMuch i.script × PrintsWhole e (codes "input too long\n")
   pub too_long_only : CountsTooMuch i.script → EndsIn 8 e
   -- Completeness: what is valid is done, where no port failed and there was memory.
   pub complete : (text : List ℕ) (lines : List PairLine) → NamesInput i.words → Offers i.script text
       → pairs_of text ≡ Ok lines → ¬ SinkFailed e → (e.status ≡ 0) ⊎ (e.status ≡ 7)
-
--- so ends a run of these words over some source from which nothing came yet, and that counted no fault
-abbrev pub RunsOverSource : List (List ℕ) → Ending → Type 0
-RunsOverSource words e = (script : Reading) × (script.before.taken ≡ 0) × (script.before.faults ≡ 0)
-    × RunsPairs (record { words = words; script = script }) e

@@ -1,9 +1,9 @@
 -- What the steps of the answers say to one another
-use Rattle.std.specs.Prelude.{◌≡◌, ◌⊎◌, ℕ, List, [], ◌∷◌, ◌++◌, map, length, drop, take, Option, None, Some, Result, Ok, Err}
+use Rattle.std.specs.Prelude.{◌≡◌, ◌⊎◌, ℕ, List, [], ◌∷◌, ◌++◌, map, length, drop, take}
+use Rattle.std.specs.Prelude.{Option, None, Some, Result, Ok, Err}
 use Rattle.std.specs.List.{flat_map}
 use Rattle.secured_pdu.specs.Frame.{IsPayload}
-use Rattle.secured_pdu.specs.Verdict.{Outcome, Verdict}
-use Rattle.text_lines.specs.Texts.{outcome_text}
+use Rattle.counting_receiver.specs.Counting.{next_counter}
 use Rattle.pdu_collection.specs.declared.joiner.BadLength.{BadLength}
 use Rattle.pdu_collection.specs.declared.answering.Receiver.{Receiver}
 use Rattle.pdu_collection.specs.declared.pair_lines.Head.{Head}
@@ -14,7 +14,8 @@ use Rattle.pdu_collection.specs.Collection.{Place, IsAuthentic, IsCryptographic}
 use Rattle.pdu_collection.specs.Joining.{Kind, Arrival}
 use Rattle.pdu_collection.specs.Joined.{JoinerState, Given, Arrives}
 use Rattle.pdu_collection.specs.PairLines.{IsScript}
-use Rattle.pdu_collection.specs.Answering.{HasLength, Said, bad_length, waits, judged, made, said_text, arrives, arrival_of, counter_after, last_accepted, SaysOf, Says, SaysMade, SaysEach}
+use Rattle.pdu_collection.specs.Answering.{HasLength, Said, said_text, arrives, arrival_of, said_accepts}
+use Rattle.pdu_collection.specs.Answering.{counter_behind_lines, SaysOf, Says, SaysMade, SaysEach}
 
 -- the lines are none, or a script
 abbrev pub IsPairScript : List PairLine → Type 0
@@ -30,17 +31,11 @@ TellsEntries head lines text =
     (entries : List Entry) × (arrivals : List Arrival) × (said : List Said)
     × (lines ≡ map line.Entry entries) × SaysEach head entries arrivals said × (text ≡ flat_map said_text said)
 
--- the verdict on a Secured I-PDU was added, and the counter is the one behind it
-abbrev pub Judges : Head → Receiver → Receiver → List ℕ → List ℕ → List ℕ → Type 0
-Judges head old new pdu before after =
-    (outcome : Outcome) × Verdict head.key head.id old.counter 256 pdu outcome × (after ≡ before ++ outcome_text outcome)
-    × (new ≡ record { joiner = old.joiner; counter = counter_after old.counter (judged outcome) })
-
 -- what is said of an entry was added, and the receiver was given it, whatever it was given before
 abbrev pub Answers : Head → Receiver → Receiver → Entry → List ℕ → List ℕ → Type 0
 Answers head old new entry before after =
     (said : Said) × (after ≡ before ++ said_text said) × (new.joiner.place ≡ old.joiner.place)
-    × (new.counter ≡ counter_after old.counter said)
+    × (new.counter ≡ next_counter 0 old.counter (said_accepts said))
     × ((arrivals : List Arrival) → Given old.joiner arrivals
     → Says head arrivals old.counter entry said × Given new.joiner (arrivals ++ arrival_of entry said))
 
@@ -48,13 +43,14 @@ Answers head old new entry before after =
 abbrev pub AnswersArrival : Head → Receiver → Receiver → Kind → List ℕ → List ℕ → List ℕ → Type 0
 AnswersArrival head old new kind pdu before after =
     (said : Said) × (after ≡ before ++ said_text said) × (new.joiner.place ≡ old.joiner.place)
-    × (new.counter ≡ counter_after old.counter said)
+    × (new.counter ≡ next_counter 0 old.counter (said_accepts said))
     × ((arrivals : List Arrival) → Given old.joiner arrivals
     → SaysOf head arrivals old.counter kind pdu said × Given new.joiner (arrivals ++ arrives kind pdu said))
 
 -- the PDUs that are asked for were added
 abbrev pub AddsMade : Head → ℕ → List ℕ → List ℕ → List ℕ → Type 0
-AddsMade head freshness payload before after = (said : Said) × SaysMade head freshness payload said × (after ≡ before ++ said_text said)
+AddsMade head freshness payload before after =
+    (said : Said) × SaysMade head freshness payload said × (after ≡ before ++ said_text said)
 
 -- what a joiner told of a PDU of this kind that arrived
 abbrev pub Arrived : JoinerState → JoinerState → Kind → List ℕ → List ℕ → Result (Option ℕ) BadLength → Type 0
@@ -70,5 +66,5 @@ pub record Answered (head : Head) (entries : List Entry) (receiver : Receiver) (
   pub says : SaysEach head entries arrivals said
   pub text_is : text ≡ flat_map said_text said
   pub place_is : receiver.joiner.place ≡ head.place
-  pub counter_is : receiver.counter ≡ last_accepted head.counter said
+  pub counter_is : receiver.counter ≡ counter_behind_lines head said
   pub given : Given receiver.joiner arrivals

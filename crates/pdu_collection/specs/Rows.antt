@@ -3,7 +3,7 @@ use Rattle.std.specs.Prelude.{◌≡◌, ℕ, List, length, Ok, Err, codes}
 use Rattle.text_lines.specs.Readings.{Fault}
 use Rattle.text_lines.specs.Texts.{line}
 use Rattle.command_edge.specs.declared.input.InputFault.{InputFault}
-use Rattle.answer_rows.specs.Rows.{Row, row_of, input_row, memory_row}
+use Rattle.answer_rows.specs.Rows.{Row, row_of, input_row}
 use Rattle.answer_rows.specs.Inputs.{Reading, IsUnread, ReadsWhole, Lacks}
 use Rattle.line_rows.specs.LineRows.{line_row}
 use Rattle.pdu_collection.specs.declared.pair_lines.PairLine.{PairLine}
@@ -37,9 +37,3 @@ pub data ComesInPairing (i : PairingInputs) : Row → Type 0 where
   no_input : (fault : InputFault) → NamesInput i.words → Lacks i.script fault → ComesInPairing i (input_row fault)
   line_fault : (fault : Fault) → OverPairs i (λ read. pairs_of read ≡ Err fault) → ComesInPairing i (line_row fault)
   done : (text : List ℕ) → OverPairs i (λ read. PrintsPairs read text) → ComesInPairing i (row_of 0 text)
-
--- the rows that come over a text in memory, which is read to its end without a fault
-pub data ComesOfText (text : List ℕ) : Row → Type 0 where
-  line_fault_of : (fault : Fault) → pairs_of text ≡ Err fault → ComesOfText text (line_row fault)
-  memory_of : ComesOfText text memory_row
-  done_of : (printed : List ℕ) → PrintsPairs text printed → ComesOfText text (row_of 0 printed)

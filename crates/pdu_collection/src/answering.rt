@@ -1,20 +1,17 @@
 //! What is said of each line of a script of pairs.
 ghost use Rattle.std.specs.Prelude.{◌≡◌, ◌≤◌, ◌++◌, ℕ, OnOk, IfOk, IfSome, List};
-ghost use Rattle.secured_pdu.specs.Frame.{IsFrame};
 ghost use Rattle.pdu_collection.specs.Joining.{Kind};
 ghost use Rattle.pdu_collection.specs.Joined.{JoinerState};
 ghost use Rattle.pdu_collection.specs.Answering.{TellsPairs};
-ghost use Rattle.pdu_collection.specs.Receiving.{Judges, Answers, Arrived, AnswersArrival, AddsMade, IsPairScript, AreEntries, TellsEntries};
+ghost use Rattle.pdu_collection.specs.Receiving.{Answers, Arrived, AnswersArrival, AddsMade};
+ghost use Rattle.pdu_collection.specs.Receiving.{IsPairScript, AreEntries, TellsEntries};
 
 use crate::joiner::{BadLength, Joiner};
 use crate::pair_lines::{Entry, Head, PairLine};
-use secured_pdu::{Judgement, judge, split};
+use counting_receiver::{WIDEST_WINDOW, push_verdict};
 use she_aes::{Schedule, expand};
 use std::alloc::{AllocError, Global};
-use text_lines::verdicts::{push_bad_length, push_digits, push_line, push_outcome};
-
-/// The window of the receiver, the widest one.
-const WINDOW: u16 = 256;
+use text_lines::verdicts::{push_bad_length, push_digits, push_line};
 
 /// What changes from line to line: the arrivals that wait, and the freshness that was accepted last.
 #[derive(Drop)]
@@ -98,38 +95,24 @@ impl Receiver {
         requires size { IfOk arrived (λ size. IfSome size (λ n. (5 ≤ n) × (n ≤ 64))) }
         ensures { OnOk result ((before : JoinerState) (kind : Kind) (pdu : List ℕ) → before.place ≡ head.now.place
             → Arrived before self.old.joiner kind pdu joined.now arrived
-            → AnswersArrival head.now (record { joiner = before; counter = self.old.counter }) self.new kind pdu text.old.items text.new.items) }
+            → AnswersArrival head.now (record { joiner = before; counter = self.old.counter }) self.new kind pdu
+            text.old.items text.new.items) }
     {
         let size = match arrived {
             Ok(size) => size,
             Err(BadLength) => return push_bad_length(text),
         };
         match size {
-            Some(size) => self.push_verdict(head, schedule, &joined[..size], text),
+            Some(size) => push_verdict(
+                schedule,
+                head.id,
+                WIDEST_WINDOW,
+                &mut self.counter,
+                &joined[..size],
+                text,
+            ),
             None => push_line(text, b"waiting"),
         }
-    }
-
-    /// Adds the verdict on a Secured I-PDU. Where it is accepted, the counter is its freshness.
-    fn push_verdict(
-        &mut self,
-        head: &Head,
-        schedule: &Schedule,
-        pdu: &[u8],
-        text: &mut Vec<u8>,
-    ) -> Result<(), AllocError>
-        requires key { schedule.now ≡ head.now.key }
-        requires frame { IsFrame pdu.now }
-        ensures { OnOk result (Judges head.now self.old self.new pdu.now text.old.items text.new.items) }
-    {
-        let Some(parts) = split(pdu) else {
-            return push_bad_length(text);
-        };
-        let judgement = judge(schedule, head.id, self.counter, WINDOW, &parts);
-        if let Judgement::Accepted(freshness) = judgement {
-            self.counter = freshness;
-        }
-        push_outcome(text, parts.payload, &judgement)
     }
 }
 

@@ -12,10 +12,11 @@ use std::marker::Model;
 #[derive(Clone, Copy, Debug, PartialEq, Eq)]
 pub struct BadLength;
 
-/// Joins the PDUs of one Secured PDU collection as they arrive. An arrival joins the latest earlier one of the other kind, where
-/// their links are equal, and that one joins none and no arrival between them joined it.
+/// Joins the PDUs of one Secured PDU collection as they arrive. An arrival joins the latest earlier one of the other
+/// kind, where their links are equal, and that one joins none and no arrival between them joined it.
 ///
-/// It keeps of each kind the latest arrival where that is single, which is all that a later one may join: where two are joined, none.
+/// It keeps of each kind the latest arrival where that is single, which is all that a later one may join: where two are
+/// joined, none.
 #[derive(Drop)]
 pub struct Joiner {
     linker: Linker,
@@ -48,13 +49,16 @@ impl Joiner {
         }
     }
 
-    /// An authentic PDU arrives. Where it joins an earlier arrival, their Secured I-PDU is in front of `out`, and its length is given.
+    /// An authentic PDU arrives. Where it joins an earlier arrival, their Secured I-PDU is in front of `out`, and its
+    /// length is given.
     /// `BadLength` exactly where it hasn't 1 to 60 bytes or not those of the link; nothing is then changed.
     pub fn authentic(&mut self, pdu: &[u8], out: &mut [u8; 64]) -> Result<Option<usize>, BadLength>
-        ensures bad_length { IfErr result (λ _. ¬ IsAuthentic self.old.place pdu.now × (self.new ≡ self.old) × (out.new ≡ out.old)) }
+        ensures bad_length { IfErr result (λ _. ¬ IsAuthentic self.old.place pdu.now
+            × (self.new ≡ self.old) × (out.new ≡ out.old)) }
         ensures good_length { IfOk result (λ _. IsAuthentic self.old.place pdu.now) }
         ensures size { IfOk result (λ size. IfSome size (λ n. (5 ≤ n) × (n ≤ 64))) }
-        ensures arrives { IfOk result (Arrives self.old self.new (record { kind = authentic; pdu = pdu.now }) out.old out.new) }
+        ensures arrives { IfOk result (Arrives self.old self.new (record { kind = authentic; pdu = pdu.now })
+            out.old out.new) }
     {
         if !self.linker.is_authentic(pdu) {
             return Err(BadLength);
@@ -72,17 +76,20 @@ impl Joiner {
         }
     }
 
-    /// A cryptographic PDU arrives. Where it joins an earlier arrival, their Secured I-PDU is in front of `out`, and its length is given.
+    /// A cryptographic PDU arrives. Where it joins an earlier arrival, their Secured I-PDU is in front of `out`, and
+    /// its length is given.
     /// `BadLength` exactly where it hasn't four bytes and those of the link; nothing is then changed.
     pub fn cryptographic(
         &mut self,
         pdu: &[u8],
         out: &mut [u8; 64],
     ) -> Result<Option<usize>, BadLength>
-        ensures bad_length { IfErr result (λ _. ¬ IsCryptographic self.old.place pdu.now × (self.new ≡ self.old) × (out.new ≡ out.old)) }
+        ensures bad_length { IfErr result (λ _. ¬ IsCryptographic self.old.place pdu.now
+            × (self.new ≡ self.old) × (out.new ≡ out.old)) }
         ensures good_length { IfOk result (λ _. IsCryptographic self.old.place pdu.now) }
         ensures size { IfOk result (λ size. IfSome size (λ n. (5 ≤ n) × (n ≤ 64))) }
-        ensures arrives { IfOk result (Arrives self.old self.new (record { kind = cryptographic; pdu = pdu.now }) out.old out.new) }
+        ensures arrives { IfOk result (Arrives self.old self.new (record { kind = cryptographic; pdu = pdu.now })
+            out.old out.new) }
     {
         if !self.linker.is_cryptographic(pdu) {
             return Err(BadLength);

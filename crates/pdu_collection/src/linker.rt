@@ -6,7 +6,8 @@ use secured_pdu::build;
 use she_aes::Schedule;
 use std::marker::Model;
 
-/// Which bytes of a payload the message link repeats (AUTOSAR SecOC, Secured I-PDU collection; the layout is this project's own).
+/// Which bytes of a payload the message link repeats (AUTOSAR SecOC, Secured I-PDU collection; the layout is this
+/// project's own).
 #[derive(Clone, Copy, Debug)]
 pub struct Linker {
     at: u8,
@@ -26,7 +27,8 @@ impl Model for Linker {
 }
 
 impl Linker {
-    /// The link of `size` bytes from place `at` of a payload on. `None` exactly where these aren't 1 to 4 bytes of the first 60.
+    /// The link of `size` bytes from place `at` of a payload on. `None` exactly where these aren't 1 to 4 bytes of the
+    /// first 60.
     pub fn new(at: u8, size: u8) -> Option<Linker>
         ensures none { IfNone result (¬ IsPlace (record { at = at; size = size })) }
         ensures some { IfSome result (λ linker. linker ≡ record { at = at; size = size }) }
@@ -70,9 +72,9 @@ impl Linker {
         &from[..usize::from(self.size)]
     }
 
-    /// Writes the cryptographic PDU of a payload and a freshness to the front of `out`, and gives its length, 5 to 8 bytes:
-    /// the low byte of the freshness, the first three bytes of the authenticator, and the link. `None` exactly where the payload isn't
-    /// an authentic PDU; `out` is then as before.
+    /// Writes the cryptographic PDU of a payload and a freshness to the front of `out`, and gives its length, 5 to 8
+    /// bytes: the low byte of the freshness, the first three bytes of the authenticator, and the link. `None` exactly
+    /// where the payload isn't an authentic PDU; `out` is then as before.
     pub fn part(
         &self,
         schedule: &Schedule,
@@ -100,7 +102,8 @@ impl Linker {
     }
 }
 
-/// Writes the Secured I-PDU of an authentic and a cryptographic PDU to the front of `out`, and gives its length, 5 to 64 bytes.
+/// Writes the Secured I-PDU of an authentic and a cryptographic PDU to the front of `out`, and gives its length, 5 to
+/// 64 bytes.
 pub fn join(payload: &[u8], pdu: &[u8], out: &mut [u8; 64]) -> usize
     requires payload { 1 ≤ length payload.now × length payload.now ≤ 60 }
     requires pdu { 4 ≤ length pdu.now }

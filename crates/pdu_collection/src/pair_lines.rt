@@ -1,7 +1,8 @@
 //! The lines of a script of pairs.
 ghost use Rattle.std.specs.Prelude.{◌≡◌, ◌<◌, ◌≤◌, ◌^◌, length, IfOk};
 ghost use Rattle.text_lines.specs.Readings.{Gives, GivesLine};
-ghost use Rattle.pdu_collection.specs.PairLines.{place_form, head_of, authentic_of, cryptographic_of, secured_of, pair_entry_of, pairs_of};
+ghost use Rattle.pdu_collection.specs.PairLines.{place_form, head_of, authentic_of, cryptographic_of};
+ghost use Rattle.pdu_collection.specs.PairLines.{secured_of, pair_entry_of, pairs_of};
 ghost use Rattle.pdu_collection.specs.Receiving.{IsPairScript};
 
 use crate::linker::Linker;

@@ -14,9 +14,9 @@ use command_edge::{DONE, read_input, tell};
 use line_rows::line_refusal;
 use std::alloc::{AllocError, Global};
 
-/// Tells what is said of each line of a script of pairs, and gives the status that the program ends with. One word, which names the
-/// script and may be any text, is the form of the words, the program's name left out. All reading comes before all printing, and every
-/// text that is printed ends with a line feed.
+/// Tells what is said of each line of a script of pairs, and gives the status that the program ends with. One word,
+/// which names the script and may be any text, is the form of the words, the program's name left out. All reading comes
+/// before all printing, and every text that is printed ends with a line feed.
 ///
 /// The statuses are looked for in the order 2, 5, 8, 4. Want of memory, 7, prints nothing. A sink that fails makes the
 /// status 6, whatever was to be printed.

@@ -12,14 +12,19 @@ use Rattle.text_lines.specs.Lines.{TextLine, lines_of}
 use Rattle.text_lines.specs.Places.{PlacedLine, texts_of, unplaced, placed_lines_of}
 use Rattle.text_lines.specs.Spans.{word_at, piece_at, line_at}
 use Rattle.trace_audit.specs.declared.map_lines.MapLine.{MapLine}
-use Rattle.trace_audit.specs.Auditing.{Finding, other, too_short, verdict, finding_text, is_other, others_in, counter_found, last_found, first_counters, counter_of_place, Mapped, AuditsLine, AuditsEach, none, more}
+use Rattle.counting_receiver.specs.Counting.{next_counter, last_accepted}
+use Rattle.counting_receiver.specs.CountingLaws.{last_accepted-more}
+use Rattle.trace_audit.specs.Auditing.{Finding, other, too_short, verdict, finding_text, is_other, others_in, finding_accepts, first_counters, counter_of_place, Mapped, AuditsLine, AuditsEach, none, more}
 use Rattle.trace_audit.specs.Findings.{AddsFinding, Audited}
 
 -- the last finding is the last that a counter is taken from
-pub last_more : (place counter : ℕ) (findings : List Finding) (finding : Finding)
-    → last_found place counter (findings ++ finding ∷ []) ≡ counter_found place (last_found place counter findings) finding
-last_more place counter [] finding = refl
-last_more place counter (x ∷ findings) finding = last_more place (counter_found place counter x) findings finding
+counter_more : (mapping : List MapLine) (place : ℕ) (findings : List Finding) (finding : Finding)
+    → counter_of_place mapping (findings ++ finding ∷ []) place
+    ≡ next_counter place (counter_of_place mapping findings place) (finding_accepts finding)
+counter_more mapping place findings finding =
+    let first : ℕ = slice_index (first_counters mapping) place in
+    ap (last_accepted place first) (map-append finding_accepts findings (finding ∷ []))
+    ∙ last_accepted-more place first (map finding_accepts findings) (finding_accepts finding)
 
 -- one more other line is counted
 others_more : (findings : List Finding) (finding : Finding) → is_other finding ≡ true → others_in (findings ++ finding ∷ []) ≡ others_in findings + 1
@@ -71,8 +76,9 @@ module _ (mapping : List MapLine) (lines : List TextLine) (old new : List ℕ) (
         others_is = count_is;
         as_many = same_length ∙ done.as_many;
         counters_are = λ place inside.
-            counters place (omega (arith, inside, done.as_many)) ∙ ap (λ c. counter_found place c finding) (done.counters_are place inside)
-            ∙ sym (last_more place (slice_index (first_counters mapping) place) done.findings finding);
+            counters place (omega (arith, inside, done.as_many))
+            ∙ ap (λ c. next_counter place c (finding_accepts finding)) (done.counters_are place inside)
+            ∙ sym (counter_more mapping place done.findings finding);
       }
 
   not_true : (b : Bool) → true ≡ not b → b ≡ false

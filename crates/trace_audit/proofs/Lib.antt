@@ -4,3 +4,4 @@ pub mod Noting
 pub mod Naming
 pub mod Phases
 pub mod Promises
+pub mod Example

@@ -1,21 +1,10 @@
--- The sources that the two words of an audit name.
-use Rattle.std.proofs.Common.{◌≡◌, ◌⊎◌, ◌<◌, ◌≤◌, ℕ, List, [], ◌∷◌, Option, None, option_and_then, length, get_or, map, codes, refl, ap, subst, sym, ◌∙◌, inl, inr, arith}
+-- The sources that the two words of an audit name
+use Rattle.std.proofs.Common.{◌≡◌, ◌<◌, ◌≤◌, ℕ, List, [], ◌∷◌, length, get_or, map, refl, ap, subst, sym, ◌∙◌, arith}
 use Rattle.std.proofs.lemmas.List.{length-map}
-use Rattle.std.specs.Str.{bytes_eq}
-use Rattle.std.proofs.lemmas.Bool.{cases_Bool, false≢true}
-use Rattle.std.proofs.lemmas.Slice.Eq.{bytes_eq-Decides}
 use Rattle.bus_port.specs.Source.{SourceState}
-use Rattle.bus_port.specs.StdPort.{StdSourceState}
-use Rattle.command_edge.specs.declared.opening.NamedSource.{NamedSource}
-use Rattle.command_edge.specs.declared.opening.NamedSource.TheVariants.{File, Input}
-use Rattle.command_edge.specs.Named.{named_source, IsFreshFile, IsFreshInput}
-use Rattle.trace_audit.specs.Named.{IsUntouched, AreNamed}
-
-is_dash : (word : List ℕ) → (word ≡ codes "-") ⊎ (¬ (word ≡ codes "-"))
-is_dash word = elim (cases_Bool (bytes_eq word (codes "-"))) [
-  | inl same ↦ inl ((bytes_eq-Decides word (codes "-")).0 same)
-  | inr differ ↦ inr (λ e. false≢true (sym differ ∙ (bytes_eq-Decides word (codes "-")).1 e))
-]
+use Rattle.named_sources.specs.NamedSources.{missing_source, IsNamed, AreBothDashes}
+use Rattle.trace_audit.specs.Rows.{AuditInputs}
+use Rattle.trace_audit.specs.Named.{AreNamed}
 
 -- fewer words than two, or more, aren't two
 pub fewer_than_two : {A : Type 0} (ws : List A) → length ws < 2 → ¬ (length ws ≡ 2)
@@ -37,73 +26,28 @@ first_same words a b c d one other = ap (λ (ws : List (List ℕ)). get_or ws 0 
 second_same : (words : List (List ℕ)) (a b c d : List ℕ) → words ≡ a ∷ b ∷ [] → words ≡ c ∷ d ∷ [] → b ≡ d
 second_same words a b c d one other = ap (λ (ws : List (List ℕ)). get_or ws 1 []) (sym one ∙ other)
 
-module _ {F I : Type 0} (file_left : F → Option (List ℕ)) (input_left : I → Option (List ℕ)) where
-  fresh_file : (s : NamedSource F I) → IsFreshFile s → IsUntouched (named_source file_left input_left s)
-  fresh_file (File s) fresh = fresh
-  fresh_file (Input s) fresh = absurd fresh
-
-  fresh_input : (stdin : I) (s : NamedSource F I) → IsFreshInput stdin s
-      → IsUntouched (named_source file_left input_left s) × ((named_source file_left input_left s).told ≡ input_left stdin)
-  fresh_input stdin (File s) fresh = absurd fresh
-  fresh_input stdin (Input s) fresh = (
-    (ap (λ (x : StdSourceState I). x.taken) fresh, ap (λ (x : StdSourceState I). x.faults) fresh),
-    ap (λ (x : StdSourceState I). option_and_then input_left x.reader) fresh,
-  )
-
-  map_fresh : (stdin : I) (word : List ℕ) (s : NamedSource F I) → (word ≡ codes "-" → IsFreshInput stdin s) → (¬ (word ≡ codes "-") → IsFreshFile s)
-      → IsUntouched (named_source file_left input_left s)
-  map_fresh stdin word s input file = elim (is_dash word) [
-    | inl is ↦ (fresh_input stdin s (input is)).0
-    | inr other ↦ fresh_file s (file other)
-  ]
-
-  -- a source that is missing
-  abbrev missing : NamedSource F I
-  missing = File (record { reader = None; taken = 0; faults = 0 })
-
-  log_fresh : (stdin : I) (map_word log_word : List ℕ) (s : NamedSource F I)
-      → (¬ (map_word ≡ codes "-") → log_word ≡ codes "-" → IsFreshInput stdin s) → (¬ (log_word ≡ codes "-") → IsFreshFile s)
-      → (map_word ≡ codes "-" → log_word ≡ codes "-" → s ≡ missing) → IsUntouched (named_source file_left input_left s)
-  log_fresh stdin map_word log_word s input file none = elim (is_dash log_word) [
-    | inr other ↦ fresh_file s (file other)
-    | inl is ↦ elim (is_dash map_word) [
-      | inl taken ↦ subst (λ (x : NamedSource F I). IsUntouched (named_source file_left input_left x)) (sym (none taken is)) (refl, refl)
-      | inr free ↦ (fresh_input stdin s (input free is)).0
-    ]
-  ]
-
-  pub are_named : (map_input log_input : I) (words : List (List ℕ)) (map_word log_word : List ℕ) (m l : NamedSource F I) (map_after log_after : SourceState)
-      → words ≡ map_word ∷ log_word ∷ []
-      → (map_word ≡ codes "-" → IsFreshInput map_input m) → (¬ (map_word ≡ codes "-") → IsFreshFile m)
-      → (¬ (map_word ≡ codes "-") → log_word ≡ codes "-" → IsFreshInput log_input l) → (¬ (log_word ≡ codes "-") → IsFreshFile l)
-      → (map_word ≡ codes "-" → log_word ≡ codes "-" → l ≡ missing)
-      → AreNamed (input_left map_input) (input_left log_input) words (record {
-        words = words;
-        map = record { before = named_source file_left input_left m; after = map_after };
-        log = record { before = named_source file_left input_left l; after = log_after };
-      })
-  are_named map_input log_input words map_word log_word m l map_after log_after are input_m file_m input_l file_l none = record {
+module _ (opens : List ℕ → SourceState → Type 0) (map_input log_input : SourceState) (i : AuditInputs) where
+  -- of the words a and b the sources are those of a and of b
+  pub are_named : (a b : List ℕ) → i.words ≡ a ∷ b ∷ [] → IsNamed opens map_input a i.map.before
+      → (¬ AreBothDashes a b → IsNamed opens log_input b i.log.before) → (AreBothDashes a b → i.log.before ≡ missing_source 0)
+      → AreNamed opens map_input log_input i.words i
+  are_named a b are named_a named_b missing_b = record {
     words_are = refl;
-    map_untouched = map_fresh map_input map_word m input_m file_m;
-    log_untouched = log_fresh log_input map_word log_word l input_l file_l none;
-    map_input = λ file log e is. (fresh_input map_input m (input_m (first_same words map_word log_word file log are e ∙ is))).1;
-    log_input = λ file log e other is. (fresh_input log_input l
-        (input_l (λ dash. other (sym (first_same words map_word log_word file log are e) ∙ dash)) (second_same words map_word log_word file log are e ∙ is))).1;
-    log_missing = λ file log e is too. ap (λ (s : NamedSource F I). (named_source file_left input_left s).told)
-        (none (first_same words map_word log_word file log are e ∙ is) (second_same words map_word log_word file log are e ∙ too));
+    map_named = λ m l e. subst (λ w. IsNamed opens map_input w i.map.before) (first_same i.words a b m l are e) named_a;
+    log_named = λ m l e free.
+        let a_is : a ≡ m = first_same i.words a b m l are e in
+        let b_is : b ≡ l = second_same i.words a b m l are e in
+        subst (λ w. IsNamed opens log_input w i.log.before) b_is (named_b (λ both. free (sym a_is ∙ both.0, sym b_is ∙ both.1)));
+    log_missing = λ m l e both. missing_b (first_same i.words a b m l are e ∙ both.0, second_same i.words a b m l are e ∙ both.1);
   }
 
--- words that aren't two name nothing
-pub none_named : {A : Type 0} (f : A → List ℕ) (ws : List A) (map_told log_told : Option (List ℕ)) (m map_after l log_after : SourceState)
-    → ¬ (length ws ≡ 2) → IsUntouched m → IsUntouched l → AreNamed map_told log_told (map f ws)
-    (record { words = map f ws; map = record { before = m; after = map_after }; log = record { before = l; after = log_after } })
-none_named f ws map_told log_told m map_after l log_after other untouched_m untouched_l =
-    let none : (file log : List ℕ) → map f ws ≡ file ∷ log ∷ [] → ⊥ = λ file log e. other (sym (length-map ws f) ∙ ap length e) in
-    record {
-      words_are = refl;
-      map_untouched = untouched_m;
-      log_untouched = untouched_l;
-      map_input = λ file log e is. absurd (none file log e);
-      log_input = λ file log e other is. absurd (none file log e);
-      log_missing = λ file log e is too. absurd (none file log e);
-    }
+  -- words that aren't two name no source
+  pub none_named : ¬ (length i.words ≡ 2) → AreNamed opens map_input log_input i.words i
+  none_named other =
+      let none : (m l : List ℕ) → i.words ≡ m ∷ l ∷ [] → ⊥ = λ m l e. other (ap length e) in
+      record {
+        words_are = refl;
+        map_named = λ m l e. absurd (none m l e);
+        log_named = λ m l e free. absurd (none m l e);
+        log_missing = λ m l e both. absurd (none m l e);
+      }

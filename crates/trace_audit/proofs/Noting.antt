@@ -3,14 +3,15 @@ use Rattle.std.proofs.Common.{◌≡◌, ℕ, arith, ◌<◌, ◌≤◌, ◌+◌
 use Rattle.std.specs.Prelude.{slice_index, if◌then◌else◌, Option, None, Some}
 use Rattle.std.specs.List.{slice_get}
 use Rattle.std.proofs.lemmas.Bool.Decides.{nat_tests}
-use Rattle.secured_pdu.specs.Verdict.{Outcome}
+use Rattle.secured_pdu.specs.Verdict.{Outcome, Accepted, FreshnessFailure, VerificationFailure}
+use Rattle.counting_receiver.specs.Counting.{counter_behind, accepted_by, next_counter}
 use Rattle.text_lines.specs.Lines.{TextLine}
 use Rattle.text_lines.specs.Texts.{outcome_text, bad_length_text}
 use Rattle.trace_audit.specs.declared.map_lines.MapLine.{MapLine}
 use Rattle.trace_audit.specs.declared.frames.LogFrame.{LogFrame}
 use Rattle.trace_audit.specs.MapLines.{place_of_can}
 use Rattle.trace_audit.specs.Frames.{log_frame_of}
-use Rattle.trace_audit.specs.Auditing.{Finding, other, too_short, verdict, front_text, finding_text, counter_behind, counter_found, Mapped, IsMapped, IsUnmapped, AuditsLine}
+use Rattle.trace_audit.specs.Auditing.{Finding, other, too_short, verdict, front_text, finding_text, Mapped, IsMapped, IsUnmapped, AuditsLine}
 use Rattle.trace_audit.specs.Findings.{AddsDataVerdict, AddsFinding}
 
 put_counter : (counters : List ℕ) (place p v : ℕ) (b : Bool) → (place == p) ≡ b → place < length counters
@@ -21,19 +22,22 @@ put_counter counters place p v true e inside =
 put_counter counters place p v false e inside =
     get_or-set_other counters place p v 0 (λ (same : p ≡ place). absurd (grind (arith, nat_tests, e, same)))
 
-pick : (counters : List ℕ) (place p v : ℕ) (outcome : Outcome) (b : Bool) → (place == p) ≡ b → v ≡ counter_behind (slice_index counters place) outcome
-    → (if b then v else slice_index counters p) ≡ (if b then counter_behind (slice_index counters p) outcome else slice_index counters p)
-pick counters place p v outcome true e h =
-    let same : place ≡ p = grind (arith, nat_tests, e) in
-    h ∙ ap (λ k. counter_behind (slice_index counters k) outcome) same
-pick counters place p v outcome false e h = refl
-
 keep : (counters : List ℕ) (place p v : ℕ) (b : Bool) → (place == p) ≡ b → v ≡ slice_index counters place
     → (if b then v else slice_index counters p) ≡ slice_index counters p
 keep counters place p v true e h =
     let same : place ≡ p = grind (arith, nat_tests, e) in
     h ∙ ap (λ k. slice_index counters k) same
 keep counters place p v false e h = refl
+
+-- the counter that a verdict leaves at its place
+noted : (counters : List ℕ) (place p v : ℕ) (outcome : Outcome) → place < length counters → v ≡ counter_behind (slice_index counters place) outcome
+    → slice_index (set counters place v) p ≡ next_counter p (slice_index counters p) (accepted_by place outcome)
+noted counters place p v (Accepted payload freshness) inside is =
+    put_counter counters place p v (place == p) refl inside ∙ ap (λ k. if place == p then k else slice_index counters p) is
+noted counters place p v FreshnessFailure inside is =
+    put_counter counters place p v (place == p) refl inside ∙ keep counters place p v (place == p) refl is
+noted counters place p v VerificationFailure inside is =
+    put_counter counters place p v (place == p) refl inside ∙ keep counters place p v (place == p) refl is
 
 -- nothing is said of a line that the map has no line for
 pub AddsFinding-other : (mapping : List MapLine) (counters : List ℕ) (l : TextLine) (text : List ℕ) → IsUnmapped mapping l.words
@@ -70,5 +74,5 @@ AddsFinding-mapped mapping counters l frame place entry v before front after fra
       after_is ∙ ap (λ t. t ++ outcome_text outcome) front_is ∙ append_assoc before (front_text l.number entry.can) (outcome_text outcome),
       refl,
       length-set counters place v,
-      λ p within. put_counter counters place p v (place == p) refl inside ∙ pick counters place p v outcome (place == p) refl new_is,
+      λ p within. noted counters place p v outcome inside new_is,
     )

@@ -1,8 +1,10 @@
 -- What is found of each line of a log, and printed
-use Rattle.std.specs.Prelude.{◌≡◌, ℕ, ◌<◌, ◌≤◌, ◌+◌, ◌==◌, if◌then◌else◌, Bool, true, false, List, [], ◌∷◌, ◌++◌, length, take, map, filter, slice_index, codes, Option, None, Some}
+use Rattle.std.specs.Prelude.{◌≡◌, ℕ, ◌<◌, ◌≤◌, ◌+◌, Bool, true, false, List, [], ◌∷◌, ◌++◌, length, take, map, filter}
+use Rattle.std.specs.Prelude.{slice_index, codes, Option, None, Some}
 use Rattle.std.specs.List.{flat_map, slice_get}
 use Rattle.std.specs.Fmt.{decimal}
-use Rattle.secured_pdu.specs.Verdict.{Outcome, Accepted, Verdict}
+use Rattle.secured_pdu.specs.Verdict.{Outcome, Verdict}
+use Rattle.counting_receiver.specs.Counting.{Acceptance, accepted_by, last_accepted}
 use Rattle.text_lines.specs.Lines.{TextLine, lines_of}
 use Rattle.text_lines.specs.Texts.{line, outcome_text, bad_length_text}
 use Rattle.trace_audit.specs.declared.map_lines.MapLine.{MapLine}
@@ -10,8 +12,8 @@ use Rattle.trace_audit.specs.declared.frames.LogFrame.{LogFrame}
 use Rattle.trace_audit.specs.MapLines.{place_of_can}
 use Rattle.trace_audit.specs.Frames.{log_frame_of}
 
--- what is found of a line: the map has no line for it; or the number of the line, the place of the map's line, counted from 0,
--- and its CAN identifier, and that the frame is too short, or the verdict
+-- what is found of a line: the map has no line for it; or the number of the line, the place of the map's line, counted
+-- from 0, and its CAN identifier, and that the frame is too short, or the verdict
 pub data Finding : Type 0 where
   other : Finding
   too_short : (number place : ℕ) (can : List ℕ) → Finding
@@ -41,20 +43,11 @@ others_text count = line (codes "other " ++ decimal count)
 
 -- ---- the counters
 
--- the counter behind a verdict
-abbrev pub counter_behind : ℕ → Outcome → ℕ
-counter_behind counter (Accepted payload freshness) = freshness
-counter_behind counter _ = counter
-
--- the counter of the map's line at this place behind a finding
-abbrev pub counter_found : ℕ → ℕ → Finding → ℕ
-counter_found place counter (verdict number at can outcome) = if at == place then counter_behind counter outcome else counter
-counter_found place counter _ = counter
-
--- the freshness of the latest finding that was accepted by the map's line at this place, or the counter of before
-abbrev pub last_found : ℕ → ℕ → List Finding → ℕ
-last_found place counter [] = counter
-last_found place counter (finding ∷ findings) = last_found place (counter_found place counter finding) findings
+-- what a finding accepts, if it does, by the place of the map's line
+abbrev pub finding_accepts : Finding → Option Acceptance
+finding_accepts other = None
+finding_accepts (too_short number place can) = None
+finding_accepts (verdict number place can outcome) = accepted_by place outcome
 
 -- the counters of the map's lines before the log
 abbrev pub first_counters : List MapLine → List ℕ
@@ -62,7 +55,8 @@ first_counters mapping = map (λ l. l.counter) mapping
 
 -- the counter of the map's line at this place behind these findings
 abbrev pub counter_of_place : List MapLine → List Finding → ℕ → ℕ
-counter_of_place mapping findings place = last_found place (slice_index (first_counters mapping) place) findings
+counter_of_place mapping findings place =
+    last_accepted place (slice_index (first_counters mapping) place) (map finding_accepts findings)
 
 -- ---- what is found of one line
 
@@ -82,15 +76,17 @@ IsMapped mapping words m =
 abbrev pub IsUnmapped : List MapLine → List (List ℕ) → Type 0
 IsUnmapped mapping words = (frame : LogFrame) → log_frame_of words ≡ Some frame → place_of_can mapping frame.can ≡ None
 
--- the first bytes of a mapped frame are judged as a Secured I-PDU with a payload of the map's length, by a receiver with the widest window,
--- where `counter` says the counter of each line of the map; the rest is padding
+-- the first bytes of a mapped frame are judged as a Secured I-PDU with a payload of the map's length, by a receiver
+-- with the widest window, where `counter` says the counter of each line of the map; the rest is padding
 abbrev pub AuditsLine : List MapLine → (ℕ → ℕ) → TextLine → Finding → Type 0
 AuditsLine mapping counter text_line other = IsUnmapped mapping text_line.words
 AuditsLine mapping counter text_line (too_short number place can) =
-    (m : Mapped) × IsMapped mapping text_line.words m × (number ≡ text_line.number) × (place ≡ m.place) × (can ≡ m.entry.can)
+    (m : Mapped) × IsMapped mapping text_line.words m
+    × (number ≡ text_line.number) × (place ≡ m.place) × (can ≡ m.entry.can)
     × (length m.bytes < m.entry.size + 4)
 AuditsLine mapping counter text_line (verdict number place can outcome) =
-    (m : Mapped) × IsMapped mapping text_line.words m × (number ≡ text_line.number) × (place ≡ m.place) × (can ≡ m.entry.can)
+    (m : Mapped) × IsMapped mapping text_line.words m
+    × (number ≡ text_line.number) × (place ≡ m.place) × (can ≡ m.entry.can)
     × (m.entry.size + 4 ≤ length m.bytes)
     × Verdict m.entry.key m.entry.id (counter place) 256 (take (m.entry.size + 4) m.bytes) outcome
 
@@ -99,8 +95,8 @@ AuditsLine mapping counter text_line (verdict number place can outcome) =
 -- what is found of the lines so far; of one more it is found with the freshness that each line of the map accepted last
 pub data AuditsEach (mapping : List MapLine) : List TextLine → List Finding → Type 0 where
   none : AuditsEach mapping [] []
-  more : (lines : List TextLine) (findings : List Finding) (text_line : TextLine) (finding : Finding) → AuditsEach mapping lines findings
-      → AuditsLine mapping (counter_of_place mapping findings) text_line finding
+  more : (lines : List TextLine) (findings : List Finding) (text_line : TextLine) (finding : Finding)
+      → AuditsEach mapping lines findings → AuditsLine mapping (counter_of_place mapping findings) text_line finding
       → AuditsEach mapping (lines ++ text_line ∷ []) (findings ++ finding ∷ [])
 
 -- the text of findings, one behind the other, and then the number of the others
@@ -111,10 +107,3 @@ findings_text findings = flat_map finding_text findings ++ others_text (others_i
 abbrev pub TellsAudit : List MapLine → List ℕ → List ℕ → Type 0
 TellsAudit mapping log text =
     (findings : List Finding) × AuditsEach mapping (lines_of log) findings × (text ≡ findings_text findings)
-
--- ---- what holds of it
-
--- of two that the same line of the map accepted, the later has the greater freshness
-abbrev pub FoundRise : Finding → Finding → Type 0
-FoundRise (verdict number place can (Accepted payload v)) (verdict number' place' can' (Accepted payload' v')) = place ≡ place' → v < v'
-FoundRise _ _ = Unit {0}

@@ -1,15 +1,17 @@
 -- What a run of `audit` promises
-use Rattle.std.specs.Prelude.{◌≡◌, ◌⊎◌, ℕ, List, [], AllPairs, Ok, Err, codes}
+use Rattle.std.specs.Prelude.{◌≡◌, ◌⊎◌, ℕ, List, [], map, Ok, Err, codes}
+use Rattle.counting_receiver.specs.Counting.{AcceptedRise}
 use Rattle.text_lines.specs.Lines.{lines_of}
 use Rattle.text_lines.specs.Readings.{Fault}
 use Rattle.text_lines.specs.Texts.{fault_text_of}
-use Rattle.answer_rows.specs.Inputs.{IsUnread, SourceFailed, CountsFault}
+use Rattle.command_edge.specs.declared.input.InputFault.TheVariants as input
+use Rattle.answer_rows.specs.Inputs.{IsUnread, Lacks, SourceFailed, CountsFault}
 use Rattle.answer_rows.specs.Inputs.{GivesTooMuch, CountsTooMuch, Offers}
 use Rattle.answer_rows.specs.Endings.{Ending, EndsInRow, EndsIn, MayEndIn, PrintsWhole, PrintsFront}
 use Rattle.answer_rows.specs.Endings.{SinkFailed, CountsWriteFault}
 use Rattle.trace_audit.specs.declared.map_lines.MapLine.{MapLine}
 use Rattle.trace_audit.specs.MapLines.{map_of}
-use Rattle.trace_audit.specs.Auditing.{Finding, AuditsEach, FoundRise, findings_text, TellsAudit}
+use Rattle.trace_audit.specs.Auditing.{Finding, AuditsEach, finding_accepts, findings_text, TellsAudit}
 use Rattle.trace_audit.specs.Rows.{AuditInputs, NamesInputs, audit_usage}
 use Rattle.trace_audit.specs.Rows.{IsMapFault, OverAudit, ComesInAudit}
 
@@ -24,7 +26,7 @@ pub record Audits (i : AuditInputs) (e : Ending) : Type 0 where
   pub rising : e.status ≡ 0 →
       OverAudit i (λ mapping log. (findings : List Finding)
       × AuditsEach mapping (lines_of log) findings
-      × AllPairs FoundRise findings × PrintsWhole e (findings_text findings))
+      × AcceptedRise (map finding_accepts findings) × PrintsWhole e (findings_text findings))
   -- 2: exactly where the words are of no form; nothing was read.
   pub usage : e.status ≡ 2 → (¬ NamesInputs i.words) × IsUnread i.map × IsUnread i.log
       × PrintsWhole e audit_usage
@@ -41,8 +43,9 @@ pub record Audits (i : AuditInputs) (e : Ending) : Type 0 where
   -- 6: exactly where the sink's count of faults rose; a front was written of a row that comes.
   pub write_fault : e.status ≡ 6 → SinkFailed e × PrintsFront (ComesInAudit i) e
   pub write_fault_only : CountsWriteFault e → e.status ≡ 6
-  -- 7: only where the words are of the form; nothing was written.
-  pub no_memory : e.status ≡ 7 → NamesInputs i.words × PrintsWhole e []
+  -- 7: only where the words are of the form, and no source failed or gave too much; nothing was written.
+  pub no_memory : e.status ≡ 7 → NamesInputs i.words
+      × Lacks i.map input.Memory × Lacks i.log input.Memory × PrintsWhole e []
   -- 8: exactly where one byte more than an input may have came from a source.
   pub too_long : e.status ≡ 8 → NamesInputs i.words
       × (GivesTooMuch i.map ⊎ GivesTooMuch i.log) × PrintsWhole e (codes "input too long\n")

@@ -1,5 +1,6 @@
 -- The frames of a log, as `candump` of can-utils writes them.
-use Rattle.std.specs.Prelude.{ℕ, ◌+◌, ◌==◌, ◌&&◌, nat_le, Bool, if◌then◌else◌, List, length, take, drop, slice_index, position, Option, None, Some, option_map, option_and_then}
+use Rattle.std.specs.Prelude.{ℕ, ◌+◌, ◌==◌, ◌&&◌, nat_le, Bool, if◌then◌else◌, List, length, take, drop}
+use Rattle.std.specs.Prelude.{slice_index, position, Option, None, Some, option_map, option_and_then}
 use Rattle.std.specs.Char.{is_ascii_hexdigit}
 use Rattle.text_lines.specs.Lines.{last_byte}
 use Rattle.text_lines.specs.Forms.{hex_bytes_form}
@@ -21,12 +22,15 @@ data_form rest = if slice_index rest 0 == 35 then fd_form (drop 1 rest) else hex
 
 -- the frame of a CAN identifier and what stands behind `#`
 unfoldable pub frame_parts : List ℕ → List ℕ → Option LogFrame
-frame_parts can rest = option_and_then (λ can. option_map (λ bytes. record { can = can; bytes = bytes }) (data_form rest)) (can_form can)
+frame_parts can rest =
+    option_and_then (λ can. option_map (λ bytes. record { can = can; bytes = bytes }) (data_form rest)) (can_form can)
 
 -- a frame: a CAN identifier, the first `#`, and what stands behind it
 unfoldable pub frame_form : List ℕ → Option LogFrame
-frame_form word = option_and_then (λ at. frame_parts (take at word) (drop (at + 1) word)) (position (λ byte. byte == 35) word)
+frame_form word =
+    option_and_then (λ at. frame_parts (take at word) (drop (at + 1) word)) (position (λ byte. byte == 35) word)
 
 -- the data frame of a line of a log: a time, a word for the interface, and the frame; words behind them are ignored
 unfoldable pub log_frame_of : List (List ℕ) → Option LogFrame
-log_frame_of words = if nat_le 3 (length words) && is_time (nth_word words 1) then frame_form (nth_word words 3) else None
+log_frame_of words =
+    if nat_le 3 (length words) && is_time (nth_word words 1) then frame_form (nth_word words 3) else None

@@ -1,5 +1,6 @@
 -- The lines of a map: what stands behind the CAN identifiers of a bus.
-use Rattle.std.specs.Prelude.{ℕ, ◌==◌, ◌&&◌, ◌||◌, Bool, if◌then◌else◌, List, length, map, Option, None, Some, option_and_then, is_some, Result, Ok}
+use Rattle.std.specs.Prelude.{ℕ, ◌==◌, ◌&&◌, ◌||◌, Bool, if◌then◌else◌, List, length, map}
+use Rattle.std.specs.Prelude.{Option, None, Some, option_and_then, is_some, Result, Ok}
 use Rattle.std.specs.List.{list_all, position}
 use Rattle.std.specs.Char.{is_ascii_hexdigit, to_ascii_lowercase}
 use Rattle.std.specs.Str.{bytes_eq}
@@ -22,7 +23,8 @@ place_of_can mapping can = position (λ l. bytes_eq l.can can) mapping
 
 -- a CAN identifier that no line before has
 unfoldable pub new_can_form : List MapLine → List ℕ → Option (List ℕ)
-new_can_form before word = option_and_then (λ can. if is_some (place_of_can before can) then None else Some can) (can_form word)
+new_can_form before word =
+    option_and_then (λ can. if is_some (place_of_can before can) then None else Some can) (can_form word)
 
 -- `CANID ID KEY FRESH LEN`, where FRESH is the receiver's counter
 unfoldable pub map_line_of : List MapLine → List (List ℕ) → Result MapLine Cause

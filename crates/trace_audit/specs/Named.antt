@@ -1,18 +1,22 @@
--- What the two words of an audit name.
-use Rattle.std.specs.Prelude.{◌≡◌, ℕ, List, [], ◌∷◌, Option, None, codes}
+-- What the words of an audit name
+use Rattle.std.specs.Prelude.{◌≡◌, ℕ, List, [], ◌∷◌}
 use Rattle.bus_port.specs.Source.{SourceState}
-use Rattle.trace_audit.specs.Rows.{AuditInputs}
+use Rattle.named_sources.specs.NamedSources.{missing_source, IsNamed, AreBothDashes}
+use Rattle.answer_rows.specs.Inputs.{Offers}
+use Rattle.trace_audit.specs.Rows.{AuditInputs, NamesInputs}
+use Rattle.trace_audit.specs.declared.start.TheConstants.{EXAMPLE_MAP, EXAMPLE_LOG}
 
--- nothing came from this source yet
-abbrev pub IsUntouched : SourceState → Type 0
-IsUntouched source = (source.taken ≡ 0) × (source.faults ≡ 0)
-
--- the sources of an audit are those that its two words name, the map's first, where standard input tells this to each: `-` is standard
--- input, but for the log a source that tells nothing where the map has it already. What a file tells isn't known
-pub record AreNamed (map_told log_told : Option (List ℕ)) (words : List (List ℕ)) (i : AuditInputs) : Type 0 where
+-- the sources of an audit are those that its two words name, the map's first. The input is handed in once for each
+-- word: where both are `-`, the map has it, and the log is missing
+pub record AreNamed (opens : List ℕ → SourceState → Type 0) (map_input log_input : SourceState)
+    (words : List (List ℕ)) (i : AuditInputs) : Type 0 where
   pub words_are : i.words ≡ words
-  pub map_untouched : IsUntouched i.map.before
-  pub log_untouched : IsUntouched i.log.before
-  pub map_input : (file log : List ℕ) → words ≡ file ∷ log ∷ [] → file ≡ codes "-" → i.map.before.told ≡ map_told
-  pub log_input : (file log : List ℕ) → words ≡ file ∷ log ∷ [] → ¬ (file ≡ codes "-") → log ≡ codes "-" → i.log.before.told ≡ log_told
-  pub log_missing : (file log : List ℕ) → words ≡ file ∷ log ∷ [] → file ≡ codes "-" → log ≡ codes "-" → i.log.before.told ≡ None
+  pub map_named : (map log : List ℕ) → words ≡ map ∷ log ∷ [] → IsNamed opens map_input map i.map.before
+  pub log_named : (map log : List ℕ) → words ≡ map ∷ log ∷ [] → ¬ AreBothDashes map log
+      → IsNamed opens log_input log i.log.before
+  pub log_missing : (map log : List ℕ) → words ≡ map ∷ log ∷ [] → AreBothDashes map log
+      → i.log.before ≡ missing_source 0
+
+-- an audit of the example: of two words, over sources that tell its map and its log, and don't fail
+abbrev pub IsExampleAudit : AuditInputs → Type 0
+IsExampleAudit i = NamesInputs i.words × Offers i.map EXAMPLE_MAP.now × Offers i.log EXAMPLE_LOG.now

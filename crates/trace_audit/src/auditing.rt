@@ -1,22 +1,18 @@
 //! What is found of each line of a log.
 ghost use Rattle.std.specs.Prelude.{◌≡◌, ◌<◌, ◌^◌, ◌++◌, length, map as each, OnOk, IfOk};
-ghost use Rattle.secured_pdu.specs.Frame.{IsFrame};
 ghost use Rattle.trace_audit.specs.Auditing.{front_text, others_text, TellsAudit};
-ghost use Rattle.trace_audit.specs.Findings.{AddsFinding, AddsFrameVerdict, AddsDataVerdict};
+ghost use Rattle.trace_audit.specs.Findings.{AddsFinding, AddsDataVerdict};
 
 use crate::frames::log_frame;
 use crate::map_lines::{MapLine, place_of};
-use secured_pdu::{Judgement, judge, split};
+use counting_receiver::{WIDEST_WINDOW, push_verdict};
 use she_aes::expand;
 use std::alloc::{AllocError, Global};
 use text_lines::Memory;
 use text_lines::forms::cut;
 use text_lines::laws::places_are_those_of_the_words;
-use text_lines::verdicts::{push_bad_length, push_outcome};
+use text_lines::verdicts::push_bad_length;
 use text_lines::words::Words;
-
-/// The window of the receiver, the widest one.
-const WINDOW: u16 = 256;
 
 /// What is found of all lines, one behind the other, and then the number of those that the map has no line for.
 pub fn audit_text(alloc: Global, map: &[MapLine], log: &[u8]) -> Result<Vec<u8>, Memory>
@@ -67,7 +63,8 @@ fn push_finding(
     text: &mut Vec<u8>,
 ) -> Result<bool, Memory>
     requires { length counters.old ≡ length map.now }
-    ensures { IfOk result (AddsFinding map.now counters.old counters.new (record { number = number; words = words.now }) text.old.items text.new.items) }
+    ensures { IfOk result (AddsFinding map.now counters.old counters.new (record { number = number; words = words.now })
+        text.old.items text.new.items) }
 {
     let Some(frame) = log_frame(alloc, words)? else {
         return Ok(false);
@@ -77,7 +74,7 @@ fn push_finding(
     };
     let line = &map[place];
     push_front(alloc, number, line.can.bytes(), text)?;
-    push_verdict(line, &mut counters[place], frame.bytes.bytes(), text)?;
+    push_data_verdict(line, &mut counters[place], frame.bytes.bytes(), text)?;
     Ok(true)
 }
 
@@ -92,8 +89,9 @@ fn push_front(alloc: Global, number: u32, can: &[u8], text: &mut Vec<u8>) -> Res
     Ok(())
 }
 
-/// Adds the verdict on the data of a frame without its padding, or its bad length. Where it is accepted, the counter is its freshness.
-fn push_verdict(
+/// Adds the verdict on the data of a frame without its padding, or its bad length. Where it is accepted, the counter is
+/// its freshness.
+fn push_data_verdict(
     line: &MapLine,
     counter: &mut u64,
     bytes: &[u8],
@@ -105,27 +103,14 @@ fn push_verdict(
     if bytes.len() < size {
         return push_bad_length(text);
     }
-    push_judged(line, counter, &bytes[..size], text)
-}
-
-/// Adds the verdict on a Secured I-PDU. Where it is accepted, the counter is its freshness.
-fn push_judged(
-    line: &MapLine,
-    counter: &mut u64,
-    pdu: &[u8],
-    text: &mut Vec<u8>,
-) -> Result<(), AllocError>
-    requires frame { IsFrame pdu.now }
-    ensures { OnOk result (AddsFrameVerdict line.now counter.old counter.new pdu.now text.old.items text.new.items) }
-{
-    let Some(parts) = split(pdu) else {
-        return push_bad_length(text);
-    };
-    let judgement = judge(&expand(&line.key), line.id, *counter, WINDOW, &parts);
-    if let Judgement::Accepted(freshness) = judgement {
-        *counter = freshness;
-    }
-    push_outcome(text, parts.payload, &judgement)
+    push_verdict(
+        &expand(&line.key),
+        line.id,
+        WIDEST_WINDOW,
+        counter,
+        &bytes[..size],
+        text,
+    )
 }
 
 /// Adds the number of the lines that the map has no line for.

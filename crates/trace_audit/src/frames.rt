@@ -17,8 +17,8 @@ pub struct LogFrame {
     pub bytes: Bytes,
 }
 
-/// The frame of a line of a log: a time in parentheses, an interface, and the frame. What follows is ignored. `None` where the line is no
-/// data frame.
+/// The frame of a line of a log: a time in parentheses, an interface, and the frame. What follows is ignored. `None`
+/// where the line is no data frame.
 #[tactic(auto, unfolding(crate::specs::Frames::log_frame_of))]
 pub fn log_frame(alloc: Global, words: &Words<'_>) -> Result<Option<LogFrame>, Memory>
     ensures { IfOk result (λ found. found ≡ log_frame_of words.now) }
@@ -69,7 +69,8 @@ fn frame_of_parts(alloc: Global, can: &[u8], rest: &[u8]) -> Result<Option<LogFr
     Ok(Some(LogFrame { can, bytes }))
 }
 
-/// The data bytes that stand behind `#`: up to 8 bytes, or another `#`, one digit for the flags of CAN FD, and up to 64 bytes.
+/// The data bytes that stand behind `#`: up to 8 bytes, or another `#`, one digit for the flags of CAN FD, and up to 64
+/// bytes.
 #[tactic(auto, unfolding(crate::specs::Frames::data_form))]
 fn data_bytes(alloc: Global, rest: &[u8]) -> Result<Option<Bytes>, Memory>
     ensures { IfOk result (λ found. found ≡ data_form rest.now) }

@@ -65,7 +65,8 @@ impl PayloadSize {
     }
 }
 
-/// A CAN identifier: three or eight hexadecimal digits of either case. Its digits in lower case stand for its length and value.
+/// A CAN identifier: three or eight hexadecimal digits of either case. Its digits in lower case stand for its length
+/// and value.
 #[tactic(auto, unfolding(crate::specs::MapLines::can_form))]
 pub fn can_id(alloc: Global, word: &[u8]) -> Result<Option<Bytes>, Memory>
     ensures { IfOk result (λ found. found ≡ can_form word.now) }

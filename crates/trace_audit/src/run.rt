@@ -18,9 +18,9 @@ use line_rows::line_refusal;
 use std::alloc::Global;
 use text_lines::Memory;
 
-/// Judges the frames of a log by a map, and gives the status that the program ends with. Two words, which name the map and
-/// the log and may be any text, are the form of the words, the program's name left out. All reading comes before all
-/// printing, and every text that is printed ends with a line feed.
+/// Judges the frames of a log by a map, and gives the status that the program ends with. Two words, which name the map
+/// and the log and may be any text, are the form of the words, the program's name left out. All reading comes before
+/// all printing, and every text that is printed ends with a line feed.
 ///
 /// The statuses are looked for in the order 2, then 5, 8 and 4 of the map, then 5 and 8 of the log. Want of memory, 7,
 /// prints nothing. A sink that fails makes the status 6, whatever was to be printed.

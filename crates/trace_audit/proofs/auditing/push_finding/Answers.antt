@@ -25,9 +25,9 @@ returns c =
     ap (place_of_can mapping) (sym c.bytes.ensures.value) ∙ sym c.place_of.ensures ∙ c.in-Some-place_of.is in
     let inside : place < length mapping = (position-Some (λ (l : MapLine). bytes_eq l.can frame.can) mapping place entry place_is).0 in
     AddsFinding-mapped mapping c.args.counters.now (record { number = c.args.number; words = c.args.words.now }) frame place entry
-    c.push_verdict.new.counter before front c.push_verdict.new.text.items frame_is place_is
+    c.push_data_verdict.new.counter before front c.push_data_verdict.new.text.items frame_is place_is
     (slice_get_read mapping (length mapping) place entry refl inside c.index-map-place.is)
     (omega (arith, inside, c.requires))
     (c.in_ok-push_front.ensures ∙ ap (λ can. before ++ front_text c.args.number can) c.bytes-2.ensures.value)
-    (subst (λ bytes. AddsDataVerdict entry (slice_index c.args.counters.now place) c.push_verdict.new.counter bytes front c.push_verdict.new.text.items)
-    c.bytes-3.ensures.value c.in_ok-push_verdict.ensures)
+    (subst (λ bytes. AddsDataVerdict entry (slice_index c.args.counters.now place) c.push_data_verdict.new.counter bytes front c.push_data_verdict.new.text.items)
+    c.bytes-3.ensures.value c.in_ok-push_data_verdict.ensures)

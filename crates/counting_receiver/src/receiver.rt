@@ -1,0 +1,37 @@
+//! One verdict.
+ghost use Rattle.std.specs.Prelude.{OnOk};
+ghost use Rattle.secured_pdu.specs.Frame.{IsFrame, IsWindow};
+ghost use Rattle.counting_receiver.specs.Counting.{AddsVerdict};
+
+use secured_pdu::{Judgement, judge, split};
+use she_aes::Schedule;
+use std::alloc::AllocError;
+use text_lines::verdicts::{push_bad_length, push_outcome};
+
+/// The widest window that a receiver has.
+pub const WIDEST_WINDOW: u16 = 256;
+
+/// Adds the text of the verdict on a Secured I-PDU of 5 to 64 bytes, under the key of this schedule, and by a receiver
+/// with this Data ID, window (1 to 256) and counter. Where it is accepted, the counter is its freshness.
+pub fn push_verdict(
+    schedule: &Schedule,
+    id: u16,
+    window: u16,
+    counter: &mut u64,
+    pdu: &[u8],
+    text: &mut Vec<u8>,
+) -> Result<(), AllocError>
+    requires window { IsWindow window }
+    requires frame { IsFrame pdu.now }
+    ensures { OnOk result (AddsVerdict schedule.now id window counter.old counter.new pdu.now
+        text.old.items text.new.items) }
+{
+    let Some(parts) = split(pdu) else {
+        return push_bad_length(text);
+    };
+    let judgement = judge(schedule, id, *counter, window, &parts);
+    if let Judgement::Accepted(freshness) = judgement {
+        *counter = freshness;
+    }
+    push_outcome(text, parts.payload, &judgement)
+}

@@ -1,0 +1,28 @@
+//! `pairing`: Secured PDU collections (AUTOSAR SecOC, profile 1): authentic and cryptographic PDUs that arrive apart
+//! are joined and judged, and made from payloads.
+//!
+//! [`pdu_collection::pair_words`] is the program; its clauses say what each status means and what is printed. Here it
+//! is handed the words, the files, standard input and standard output.
+#![tactic(auto)]
+
+use bus_port::{StdSink, StdSource};
+use command_edge::{NO_MEMORY, behind_name, words_of};
+use named_sources::Paths;
+use pdu_collection::pair_words;
+use std::alloc::AllocError;
+use std::process::ExitCode;
+
+fn main(rt: HostRuntime) -> ExitCode {
+    let mut sink = StdSink::new(rt.stdout());
+    let status = match words_of(&rt) {
+        Ok(words) => pair_words(
+            rt.alloc(),
+            &Paths::of(&rt),
+            StdSource::new(rt.stdin()),
+            behind_name(words.as_slice()),
+            &mut sink,
+        ),
+        Err(AllocError) => NO_MEMORY,
+    };
+    ExitCode::from(status)
+}
