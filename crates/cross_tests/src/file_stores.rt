@@ -51,7 +51,7 @@ fn a_twin_store_outlasts_its_run_in_a_file(rt: HostRuntime) -> Result<(), Fail> 
     store.put(1, &[0x33; 32])?;
     store.put(2, &[0x44; 32])?;
     store.put(1, &[0x55; 32])?;
-    let _disk = store.release();
+    drop(store.release());
     let again = attached(&rt, path.as_str())?;
     assert_eq!(rt; cells_of(&again)?, [[0; 32], [0x55; 32], [0x44; 32]]);
     assert_eq!(rt; fs::metadata(&rt, path.as_str())?.len(), 65536);

@@ -9,3 +9,7 @@ is_there file = is_some file.file
 -- its length when it was opened
 abbrev pub length_of : SystemFile → ℕ
 length_of file = file.size
+
+-- whether a write or a sync of it has failed
+abbrev pub has_failed : SystemFile → Bool
+has_failed file = file.failed

@@ -62,6 +62,7 @@ fn a_file_is_made_and_keeps_what_was_synced(rt: HostRuntime) -> Result<(), Fail>
     write_at(&mut disk, 65534, &[7, 8])?;
     disk.sync()?;
     disk.power_cut(Torn::Old);
+    drop(disk);
     let mut again = FileDisk::on(&rt, path.as_str());
     assert_eq!(rt; again.size(), 65536);
     let mut end = [9; 3];
@@ -85,7 +86,7 @@ fn a_disk_over_no_file_has_65536_bytes_and_each_call_fails(rt: HostRuntime) -> R
 }
 
 #[test]
-fn over_a_write_protected_file_only_writes_fail(rt: HostRuntime) -> Result<(), Fail> {
+fn a_write_protected_file_is_read_until_a_write_fails(rt: HostRuntime) -> Result<(), Fail> {
     let folder = empty_folder(&rt, "protected")?;
     let path = format!(in rt.alloc(); "{folder}/disk")?;
     fs::write(&rt, path.as_str(), [1, 2, 3].as_slice())?;
@@ -94,16 +95,18 @@ fn over_a_write_protected_file_only_writes_fail(rt: HostRuntime) -> Result<(), F
     fs::set_permissions(&rt, path.as_str(), permissions)?;
     let mut disk = FileDisk::on(&rt, path.as_str());
     assert_eq!(rt; disk.size(), 3);
-    assert_eq!(rt; answers(&mut disk), *b".x.");
     let mut out = [9; 3];
     read_at(&mut disk, 0, &mut out)?;
     assert_eq!(rt; out, [1, 2, 3]);
+    disk.sync()?;
+    assert_eq!(rt; answers(&mut disk), *b".xx");
+    assert_eq!(rt; answers(&mut disk), *b"xxx");
     fs::remove_dir_all(&rt, folder.as_str())?;
     Ok(())
 }
 
 #[test]
-fn calls_that_meet_a_shorter_file_fail(rt: HostRuntime) -> Result<(), Fail> {
+fn a_file_that_became_shorter_is_not_asked_again(rt: HostRuntime) -> Result<(), Fail> {
     let folder = empty_folder(&rt, "shorter")?;
     let path = format!(in rt.alloc(); "{folder}/disk")?;
     fs::write(&rt, path.as_str(), [1, 2, 3, 4].as_slice())?;
@@ -112,14 +115,17 @@ fn calls_that_meet_a_shorter_file_fail(rt: HostRuntime) -> Result<(), Fail> {
     let shortened = OpenOptions::new().write(true).open(&rt, path.as_str())?;
     shortened.set_len(3)?;
     assert_eq!(rt; disk.size(), 4);
-    assert_eq!(rt; answers(&mut disk), *b".xx");
     assert_eq!(rt; read_at(&mut disk, 2, &mut [0, 0]), Err(DiskFailed));
+    assert_eq!(rt; answers(&mut disk), *b".xx");
     assert_eq!(rt;
         fs::read(&rt, path.as_str())?.as_slice(),
         [5, 6, 3].as_slice()
     );
     shortened.set_len(4)?;
-    assert_eq!(rt; answers(&mut disk), *b"...");
+    disk.power_cut(Torn::Keep);
+    assert_eq!(rt; answers(&mut disk), *b"xxx");
+    drop(disk);
+    assert_eq!(rt; answers(&mut FileDisk::on(&rt, path.as_str())), *b"...");
     fs::remove_dir_all(&rt, folder.as_str())?;
     Ok(())
 }
@@ -164,7 +170,8 @@ fn arms_and_stops_are_those_of_the_disk_in_memory(rt: HostRuntime) -> Result<(),
     let mut disk = FileDisk::on(&rt, path.as_str());
     disk.fail_at(2);
     assert_eq!(rt; answers(&mut disk), *b".x.");
-    assert_eq!(rt; fs::read(&rt, path.as_str())?.as_slice(), [1, 2].as_slice());
+    assert_eq!(rt; answers(&mut disk), *b"...");
+    assert_eq!(rt; fs::read(&rt, path.as_str())?.as_slice(), [5, 6].as_slice());
     fs::remove_dir_all(&rt, folder.as_str())?;
     Ok(())
 }
@@ -176,8 +183,26 @@ fn an_empty_file_stays_one(rt: HostRuntime) -> Result<(), Fail> {
     fs::write(&rt, path.as_str(), [].as_slice())?;
     let mut disk = FileDisk::over(SystemFile::on(&rt, path.as_str()), 0);
     assert_eq!(rt; disk.size(), 0);
-    assert_eq!(rt; FileDisk::on(&rt, path.as_str()).size(), 0);
     disk.sync()?;
+    drop(disk);
+    assert_eq!(rt; FileDisk::on(&rt, path.as_str()).size(), 0);
+    fs::remove_dir_all(&rt, folder.as_str())?;
+    Ok(())
+}
+
+#[test]
+fn a_file_is_open_in_one_place_at_a_time(rt: HostRuntime) -> Result<(), Fail> {
+    let folder = empty_folder(&rt, "locked")?;
+    let path = format!(in rt.alloc(); "{folder}/disk")?;
+    fs::write(&rt, path.as_str(), [1, 2].as_slice())?;
+    let mut disk = FileDisk::on(&rt, path.as_str());
+    let mut other = FileDisk::on(&rt, path.as_str());
+    assert_eq!(rt; other.size(), 65536);
+    assert_eq!(rt; answers(&mut other), *b"xxx");
+    assert_eq!(rt; answers(&mut disk), *b"...");
+    drop(disk);
+    assert_eq!(rt; answers(&mut other), *b"xxx");
+    assert_eq!(rt; FileDisk::on(&rt, path.as_str()).size(), 2);
     fs::remove_dir_all(&rt, folder.as_str())?;
     Ok(())
 }
