@@ -15,7 +15,7 @@ use Rattle.bus_config.specs.FaultTexts.{config_fault_text}
 use Rattle.cut_disk.specs.State.{DiskState}
 use Rattle.bus_machine.specs.declared.events.Event.{Event}
 use Rattle.bus_nodes.specs.Buses.{NamedBus}
-use Rattle.bus_script.specs.Trials.{trial_events}
+use Rattle.bus_trials.specs.Trials.{trial_events}
 use Rattle.bus_world.specs.Starts.{HasRoom}
 use Rattle.bus_replay.specs.declared.words.Command.TheVariants as command
 use Rattle.bus_replay.specs.declared.task.Task.{Task}

@@ -19,7 +19,7 @@ use Rattle.bus_machine.specs.declared.events.Event.{Event}
 use Rattle.bus_nodes.specs.declared.nodes.NodeLine.{NodeLine}
 use Rattle.bus_nodes.specs.Buses.{NamedBus, IsNamedBus}
 use Rattle.bus_script.specs.EventForms.{events_of}
-use Rattle.bus_script.specs.Trials.{trial_events}
+use Rattle.bus_trials.specs.Trials.{trial_events}
 use Rattle.numbered_run.specs.declared.printing.Unwritten.{Unwritten}
 use Rattle.numbered_run.specs.declared.printing.Unwritten.TheVariants.{SinkFailed, Memory as NoRoom}
 use Rattle.cell_store.specs.declared.faults.Reread.TheVariants.{DiskFailed}

@@ -18,7 +18,7 @@ use Rattle.bus_config.specs.declared.fault.ConfigFault.{ConfigFault}
 use Rattle.bus_config.specs.BusFile.{bus_of}
 use Rattle.bus_config.specs.FaultTexts.{config_fault_text}
 use Rattle.bus_script.specs.EventForms.{events_of}
-use Rattle.bus_script.specs.Trials.{trial_events}
+use Rattle.bus_trials.specs.Trials.{trial_events}
 use Rattle.bus_machine.specs.declared.events.Event.{Event}
 use Rattle.bus_replay.specs.declared.trial_words.TrialWords.{TrialWords}
 use Rattle.bus_script.specs.ScriptEvents.{IsScriptEvent}

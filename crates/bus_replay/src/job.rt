@@ -8,7 +8,8 @@ use crate::refusal::Refusal;
 use crate::task::Task;
 use crate::trial_words::TrialWords;
 use bus_nodes::BusConfig;
-use bus_script::{Event, FrameLine, JudgeLine, Memory, make_trial, read_script};
+use bus_script::{Event, FrameLine, JudgeLine, read_script};
+use bus_trials::make_trial;
 use std::alloc::{AllocError, Global};
 
 /// What is to be done.
@@ -58,7 +59,7 @@ pub fn trial_job(alloc: Global, bus: BusConfig, trial: TrialWords) -> Result<Job
 {
     match make_trial(alloc, &bus, trial.count, trial.seed) {
         Ok(events) => Ok(Job::Trial(bus, events)),
-        Err(Memory) => Err(Refusal::Memory),
+        Err(AllocError) => Err(Refusal::Memory),
     }
 }
 

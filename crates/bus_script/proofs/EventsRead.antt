@@ -24,12 +24,12 @@ use Rattle.bus_nodes.proofs.Named.{own_name_found}
 use Rattle.bus_machine.specs.declared.events.Event.{Event}
 use Rattle.bus_machine.specs.declared.events.Event.TheVariants as event
 use Rattle.bus_machine.specs.Bus.{node_of}
-use Rattle.bus_script.specs.EventKinds.{kind_name, kind_of}
-use Rattle.bus_script.specs.EventForms.{no_node, uid_at, send_of, deliver_of, inject_of, load_event_of, key_event_of, boot_of, cut_of, stop_of, fail_of, event_of, events_of}
+use Rattle.bus_script.specs.EventKinds.{kind_name, kinds, kind_of}
+use Rattle.bus_script.specs.EventForms.{no_node, uid_at, send_of, deliver_of, inject_of, load_event_of, key_event_of, boot_of, cut_of, stop_of, fail_of, event_among, events_among, events_of}
 use Rattle.bus_script.specs.Canon.{name_at, field_words, event_words, event_kind, canon}
 use Rattle.bus_script.specs.ScriptEvents.{AreBytes, IsTorn, IsScriptEvent}
 use Rattle.bus_script.proofs.EventsWritten.{uid_written, number_written, number_plain, flags_written, flags_plain, torn_written, torn_plain}
-use Rattle.bus_script.proofs.EventValues.{events_of-values, events_of-few}
+use Rattle.bus_script.proofs.EventValues.{events_among-are_events, events_among-few}
 
 -- a number that is small enough fits 64 bits
 fits : (most n : ℕ) → n ≤ most → most < 2 ^ 64 → n < 2 ^ 64
@@ -38,29 +38,29 @@ fits most n below small = omega arith
 -- ---- the words of an event mean it
 
 send_read : (nodes : List NodeLine) (node id : ℕ) (payload : List ℕ) → place_named nodes (name_at nodes node) ≡ Some node → id < 2 ^ 16 → AreBytes payload
-    → event_of nodes (event_words nodes (event.Send node id payload)) ≡ Ok (event.Send node id payload)
-unfolding event_of kind_of send_of
+    → event_among kinds nodes (event_words nodes (event.Send node id payload)) ≡ Ok (event.Send node id payload)
+unfolding event_among kind_of send_of
 send_read nodes node id payload here small bytes = rw (here, data_id_form-encode id small, bytes_form-word payload bytes) refl
 
 inject_read : (nodes : List NodeLine) (node id : ℕ) (pdu : List ℕ) → place_named nodes (name_at nodes node) ≡ Some node → id < 2 ^ 16 → AreBytes pdu
-    → event_of nodes (event_words nodes (event.Inject node id pdu)) ≡ Ok (event.Inject node id pdu)
-unfolding event_of kind_of inject_of
+    → event_among kinds nodes (event_words nodes (event.Inject node id pdu)) ≡ Ok (event.Inject node id pdu)
+unfolding event_among kind_of inject_of
 inject_read nodes node id pdu here small bytes = rw (here, data_id_form-encode id small, bytes_form-word pdu bytes) refl
 
 deliver_read : (nodes : List NodeLine) (node number : ℕ) → place_named nodes (name_at nodes node) ≡ Some node → 1 ≤ number → number ≤ 65536
-    → event_of nodes (event_words nodes (event.Deliver node number)) ≡ Ok (event.Deliver node number)
-unfolding event_of kind_of deliver_of
+    → event_among kinds nodes (event_words nodes (event.Deliver node number)) ≡ Ok (event.Deliver node number)
+unfolding event_among kind_of deliver_of
 deliver_read nodes node number here above below = rw (here, number_written 1 65536 number (fits 65536 number below (lit< tt)) above below) refl
 
 load_read : (nodes : List NodeLine) (node : ℕ) (request : Request) → place_named nodes (name_at nodes node) ≡ Some node → IsLoad request
-    → event_of nodes (event_words nodes (event.Load node request)) ≡ Ok (event.Load node request)
-unfolding event_of kind_of load_event_of
+    → event_among kinds nodes (event_words nodes (event.Load node request)) ≡ Ok (event.Load node request)
+unfolding event_among kind_of load_event_of
 load_read nodes node request here is =
     rw (here, key_form-encode request.m1 is.m1, pair_encode request.m2 is.two is.m2, key_form-encode request.m3 is.m3) refl
 
 key_read : (nodes : List NodeLine) (node : ℕ) (update : Update) (authkey : List ℕ) → place_named nodes (name_at nodes node) ≡ Some node → IsUpdate update → IsBytes 16 authkey
-    → event_of nodes (event_words nodes (event.Key node update authkey)) ≡ Ok (event.Key node update authkey)
-unfolding event_of kind_of key_event_of
+    → event_among kinds nodes (event_words nodes (event.Key node update authkey)) ≡ Ok (event.Key node update authkey)
+unfolding event_among kind_of key_event_of
 key_read nodes node update authkey here is key =
     let id : update.id ≤ 13 = let f = is.id_fits in omega arith in
     let auth : update.auth ≤ 13 = let f = is.auth_fits in omega arith in
@@ -82,27 +82,27 @@ image_word [] some = absurd (omega arith)
 image_word (b ∷ image) some = refl
 
 boot_read : (nodes : List NodeLine) (node : ℕ) (image : List ℕ) → place_named nodes (name_at nodes node) ≡ Some node → 1 ≤ length image → length image ≤ 65536 → AreBytes image
-    → event_of nodes (event_words nodes (event.Boot node image)) ≡ Ok (event.Boot node image)
-unfolding event_of kind_of boot_of
+    → event_among kinds nodes (event_words nodes (event.Boot node image)) ≡ Ok (event.Boot node image)
+unfolding event_among kind_of boot_of
 boot_read nodes node image here some few bytes =
     rw (image_word image some, here, hex_bytes_form-encode 1 65536 image some few bytes) refl
 
 cut_read : (nodes : List NodeLine) (node : ℕ) (torn : Torn) → place_named nodes (name_at nodes node) ≡ Some node → IsTorn torn
-    → event_of nodes (event_words nodes (event.Cut node torn)) ≡ Ok (event.Cut node torn)
-unfolding event_of kind_of cut_of
+    → event_among kinds nodes (event_words nodes (event.Cut node torn)) ≡ Ok (event.Cut node torn)
+unfolding event_among kind_of cut_of
 cut_read nodes node torn here is = rw (here, torn_written torn is) refl
 
 stop_read : (nodes : List NodeLine) (node calls : ℕ) → place_named nodes (name_at nodes node) ≡ Some node → 1 ≤ calls → calls ≤ 1000000
-    → event_of nodes (event_words nodes (event.Stop node calls)) ≡ Ok (event.Stop node calls)
-unfolding event_of kind_of stop_of
+    → event_among kinds nodes (event_words nodes (event.Stop node calls)) ≡ Ok (event.Stop node calls)
+unfolding event_among kind_of stop_of
 stop_read nodes node calls here above below = rw (here, number_written 1 1000000 calls (fits 1000000 calls below (lit< tt)) above below) refl
 
 fail_read : (nodes : List NodeLine) (node calls : ℕ) → place_named nodes (name_at nodes node) ≡ Some node → 1 ≤ calls → calls ≤ 1000000
-    → event_of nodes (event_words nodes (event.Fail node calls)) ≡ Ok (event.Fail node calls)
-unfolding event_of kind_of fail_of
+    → event_among kinds nodes (event_words nodes (event.Fail node calls)) ≡ Ok (event.Fail node calls)
+unfolding event_among kind_of fail_of
 fail_read nodes node calls here above below = rw (here, number_written 1 1000000 calls (fits 1000000 calls below (lit< tt)) above below) refl
 
-words_mean : (bus : NamedBus) → IsNamedBus bus → (e : Event) → IsScriptEvent bus.nodes e → event_of bus.nodes (event_words bus.nodes e) ≡ Ok e
+words_mean : (bus : NamedBus) → IsNamedBus bus → (e : Event) → IsScriptEvent bus.nodes e → event_among kinds bus.nodes (event_words bus.nodes e) ≡ Ok e
 words_mean bus is (event.Send node id payload) h = send_read bus.nodes node id payload (own_name_found bus is node no_node h.node) h.fields.0 h.fields.1
 words_mean bus is (event.Deliver node number) h = deliver_read bus.nodes node number (own_name_found bus is node no_node h.node) h.fields.0 h.fields.1
 words_mean bus is (event.Inject node id pdu) h = inject_read bus.nodes node id pdu (own_name_found bus is node no_node h.node) h.fields.0 h.fields.1
@@ -182,9 +182,9 @@ words_writable bus is e h =
 
 lines_read : (bus : NamedBus) → IsNamedBus bus → (events : List Event) → All (IsScriptEvent bus.nodes) events → length events ≤ most_lines
     → events_of bus.nodes (flat_map written (map (event_words bus.nodes) events)) ≡ Ok events
-unfolding events_of
+unfolding events_among
 lines_read bus is events are few =
-    read_from-words (IsScriptEvent bus.nodes) (event_of bus.nodes) (event_words bus.nodes) (words_mean bus is) most_lines []
+    read_from-words (IsScriptEvent bus.nodes) (event_among kinds bus.nodes) (event_words bus.nodes) (words_mean bus is) most_lines []
     (lines_of (flat_map written (map (event_words bus.nodes) events))) events
     (words-written (map (event_words bus.nodes) events) (all_writable (IsScriptEvent bus.nodes) (event_words bus.nodes) (words_writable bus is) events are))
     are (omega arith)
@@ -209,4 +209,4 @@ event_read bus is e h =
 pub script_read : (bus : NamedBus) → IsNamedBus bus → (text : List ℕ) (events : List Event) → events_of bus.nodes text ≡ Ok events
     → events_of bus.nodes (flat_map (canon bus.nodes) events) ≡ Ok events
 script_read bus is text events given =
-    events_read bus is events (events_of-values bus.nodes text events is.are_nodes given) (events_of-few bus.nodes text events given)
+    events_read bus is events (events_among-are_events kinds bus.nodes text events is.are_nodes given) (events_among-few kinds bus.nodes text events given)

@@ -1,11 +1,7 @@
 pub mod BigEndian
-pub mod Drawing
 pub mod EventValues
 pub mod EventsRead
 pub mod EventsWritten
 pub mod FormValues
 pub mod NoWords
 pub mod Pieces
-pub mod TrialLists
-pub mod TrialValues
-pub mod Trials

@@ -16,7 +16,7 @@ use Rattle.text_lines.specs.Readings.{Fault, ◌>>=◌, nth_word, field, with_co
 use Rattle.text_lines.specs.Frames.{most_lines}
 use Rattle.bus_script.specs.declared.kinds.EventKind.{EventKind}
 use Rattle.bus_script.specs.declared.kinds.EventKind.TheVariants.{Send, Deliver, Inject, Load, Key, Boot, Cut, Stop, Fail}
-use Rattle.bus_script.specs.EventKinds.{kind_of, kind_words}
+use Rattle.bus_script.specs.EventKinds.{kinds, own_kinds, kind_of, kind_words}
 
 -- the node at a place; past the last one without a name
 abbrev pub no_node : NodeLine
@@ -132,12 +132,20 @@ fields_of Cut = cut_of
 fields_of Stop = stop_of
 fields_of Fail = fail_of
 
--- the event that the words of a line mean: the first word names the kind
-unfoldable pub event_of : List NodeLine → List (List ℕ) → Result Event Cause
-event_of nodes words = do
-  kind ← ok_or (kind_of (nth_word words 1)) cause.Event
+-- the event of one of these kinds that the words of a line mean: the first word names the kind
+unfoldable pub event_among : List EventKind → List NodeLine → List (List ℕ) → Result Event Cause
+event_among among nodes words = do
+  kind ← ok_or (kind_of among (nth_word words 1)) cause.Event
   with_count (kind_words kind) words (fields_of kind nodes words)
 
--- the events of a script over a bus with these nodes, or its first fault
-unfoldable pub events_of : List NodeLine → List ℕ → Result (List Event) Fault
-events_of nodes text = read_all (λ _ words. event_of nodes words) most_lines text
+-- the events of a script of these kinds of events over a bus with these nodes, or its first fault
+unfoldable pub events_among : List EventKind → List NodeLine → List ℕ → Result (List Event) Fault
+events_among among nodes text = read_all (λ _ words. event_among among nodes words) most_lines text
+
+-- the events of a script
+abbrev pub events_of : List NodeLine → List ℕ → Result (List Event) Fault
+events_of = events_among kinds
+
+-- the events of a script in which each is a node's own
+abbrev pub own_events_of : List NodeLine → List ℕ → Result (List Event) Fault
+own_events_of = events_among own_kinds

@@ -30,6 +30,15 @@ kind_words Fail = 3
 abbrev pub kinds : List EventKind
 kinds = Send ∷ Deliver ∷ Inject ∷ Load ∷ Key ∷ Boot ∷ Cut ∷ Stop ∷ Fail ∷ []
 
--- the kind that a word names
-unfoldable pub kind_of : List ℕ → Option EventKind
-kind_of word = find (λ kind. bytes_eq word (kind_name kind)) kinds
+-- the kinds of events that are a node's own: all but those by which a PDU goes from a node of the bus to another
+abbrev pub own_kinds : List EventKind
+own_kinds = Inject ∷ Load ∷ Key ∷ Boot ∷ Cut ∷ Stop ∷ Fail ∷ []
+
+abbrev pub IsOwnKind : EventKind → Type 0
+IsOwnKind Send = ⊥
+IsOwnKind Deliver = ⊥
+IsOwnKind kind = Unit {0}
+
+-- the kind among these that a word names
+unfoldable pub kind_of : List EventKind → List ℕ → Option EventKind
+kind_of among word = find (λ kind. bytes_eq word (kind_name kind)) among

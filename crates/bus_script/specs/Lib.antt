@@ -3,7 +3,3 @@ pub mod EventForms
 pub mod Canon
 pub mod ScriptEvents
 pub mod WordsAdded
-pub mod Draws
-pub mod Trials
-pub mod TrialLaws
-pub mod TrialSteps

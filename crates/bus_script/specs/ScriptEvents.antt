@@ -33,6 +33,12 @@ HasFields (Cut node torn) = IsTorn torn
 HasFields (Stop node calls) = (1 ≤ calls) × (calls ≤ 1000000)
 HasFields (Fail node calls) = (1 ≤ calls) × (calls ≤ 1000000)
 
+-- an event of a node's own: it sends nothing on the bus, and takes nothing that was sent on it
+abbrev pub IsOwn : Event → Type 0
+IsOwn (Send node id payload) = ⊥
+IsOwn (Deliver node number) = ⊥
+IsOwn event = Unit {0}
+
 -- an event of a bus with these nodes, as a script can have it
 pub record IsScriptEvent (nodes : List NodeLine) (event : Event) : Type 0 where
   pub node : node_of event < length nodes

@@ -1,7 +1,7 @@
 //! The kinds of events, as the first word of a line names them.
 
 ghost use Rattle.std.specs.Prelude.{◌≡◌};
-ghost use Rattle.bus_script.specs.EventKinds.{kind_name, kind_words, kind_of};
+ghost use Rattle.bus_script.specs.EventKinds.{kinds, own_kinds, kind_name, kind_words, kind_of};
 
 /// A kind of event.
 #[derive(Clone, Copy, Debug, PartialEq, Eq)]
@@ -16,6 +16,30 @@ pub enum EventKind {
     Stop,
     Fail,
 }
+
+/// The kinds of all events.
+pub const KINDS: [EventKind; 9] = [
+    EventKind::Send,
+    EventKind::Deliver,
+    EventKind::Inject,
+    EventKind::Load,
+    EventKind::Key,
+    EventKind::Boot,
+    EventKind::Cut,
+    EventKind::Stop,
+    EventKind::Fail,
+];
+
+/// The kinds of events that are a node's own: all but those by which a PDU goes from a node of the bus to another.
+pub const OWN_KINDS: [EventKind; 7] = [
+    EventKind::Inject,
+    EventKind::Load,
+    EventKind::Key,
+    EventKind::Boot,
+    EventKind::Cut,
+    EventKind::Stop,
+    EventKind::Fail,
+];
 
 impl EventKind {
     /// The word that names the kind.
@@ -51,38 +75,11 @@ impl EventKind {
         }
     }
 
-    /// The kind that a word names.
+    /// The kind among these that a word names.
     #[tactic(auto, unfolding(crate::specs::EventKinds::kind_of))]
-    pub fn of(word: &[u8]) -> Option<EventKind>
-        ensures { result ≡ kind_of word.now }
+    pub fn among(kinds: &[EventKind], word: &[u8]) -> Option<EventKind>
+        ensures { result ≡ kind_of kinds.now word.now }
     {
-        if word == b"send".as_slice() {
-            return Some(EventKind::Send);
-        }
-        if word == b"deliver".as_slice() {
-            return Some(EventKind::Deliver);
-        }
-        if word == b"inject".as_slice() {
-            return Some(EventKind::Inject);
-        }
-        if word == b"load".as_slice() {
-            return Some(EventKind::Load);
-        }
-        if word == b"key".as_slice() {
-            return Some(EventKind::Key);
-        }
-        if word == b"boot".as_slice() {
-            return Some(EventKind::Boot);
-        }
-        if word == b"cut".as_slice() {
-            return Some(EventKind::Cut);
-        }
-        if word == b"stop".as_slice() {
-            return Some(EventKind::Stop);
-        }
-        if word == b"fail".as_slice() {
-            return Some(EventKind::Fail);
-        }
-        None
+        kinds.iter().copied().find(|kind| word == kind.name())
     }
 }

@@ -8,8 +8,6 @@ ghost use Rattle.bus_machine.specs.declared.events.Event.{Event};
 ghost use Rattle.bus_script.specs.EventForms.{events_of};
 ghost use Rattle.bus_script.specs.Canon.{canon};
 ghost use Rattle.bus_script.specs.ScriptEvents.{IsScriptEvent};
-ghost use Rattle.bus_script.specs.Draws.{WorkedDraws};
-ghost use Rattle.bus_script.specs.TrialLaws.{WorkedEvent, TrialsAreScripts};
 
 /// Law: each event that a script gives is one of its bus within its bounds, and they are at most 65,536.
 pub fn events_are_within_their_bounds()
@@ -27,17 +25,4 @@ pub fn a_written_event_is_read()
 pub fn a_written_script_is_read()
     ensures { (bus : NamedBus) (text : List ℕ) (events : List Event) → IsNamedBus bus → events_of bus.nodes text ≡ Ok events
         → events_of bus.nodes (flat_map (canon bus.nodes) events) ≡ Ok events }
-{}
-
-/// Worked draws and a worked event: what the seed 0 gives first.
-#[tactic(auto, unfolding(crate::specs::Draws::next_state))]
-pub fn worked_draws()
-    ensures draws { WorkedDraws }
-    ensures event { WorkedEvent }
-{}
-
-/// Law: the events of a trial are a script: each is one that a script can have, they are at most 65,536, and they are read
-/// again from their canonical lines.
-pub fn trials_are_scripts()
-    ensures { TrialsAreScripts }
 {}

@@ -6,8 +6,6 @@
 //! ([`write_line`]), the lines of `frame`, `judge` and `keytool load`, and the [`forms`] of words, are offered here again.
 #![tactic(auto)]
 
-mod drawn_events;
-mod draws;
 mod fields;
 mod kinds;
 pub mod laws;
@@ -16,13 +14,9 @@ mod pushing;
 mod reader;
 #[cfg(test)]
 mod tests;
-mod trial;
-#[cfg(test)]
-mod trial_tests;
 mod writing;
 
-pub use crate::reader::read_script;
-pub use crate::trial::make_trial;
+pub use crate::reader::{read_own_script, read_script};
 pub use crate::writing::write_event;
 pub use bus_machine::{Event, Line, Refusal};
 pub use bus_nodes::BusConfig;

@@ -4,10 +4,10 @@ ghost use Rattle.std.specs.Prelude.{◌≡◌, ◌<◌, ◌≤◌, ◌^◌, leng
 ghost use Rattle.text_lines.specs.Readings.{Gives, GivesLine};
 ghost use Rattle.bus_script.specs.EventKinds.{kind_words};
 ghost use Rattle.text_lines.specs.Frames.{most_lines};
-ghost use Rattle.bus_script.specs.EventForms.{events_of, fields_of};
-ghost use Rattle.bus_script.specs.ScriptEvents.{IsScriptEvent};
+ghost use Rattle.bus_script.specs.EventForms.{events_among, events_of, own_events_of, fields_of};
+ghost use Rattle.bus_script.specs.ScriptEvents.{IsOwn, IsScriptEvent};
 
-use crate::kinds::EventKind;
+use crate::kinds::{EventKind, KINDS, OWN_KINDS};
 use crate::lines::{
     read_boot, read_cut, read_deliver, read_fail, read_inject, read_key, read_load, read_send,
     read_stop,
@@ -19,20 +19,21 @@ use text_lines::reader::{LineReader, MOST_LINES, expect_count, read_lines};
 use text_lines::words::Words;
 use text_lines::{Cause, LineFault, ScriptFault};
 
-/// Reads a line of a script over a bus.
+/// Reads a line of a script of these kinds of events over a bus.
 #[derive(Clone, Copy)]
 pub struct EventReader<'a> {
     pub bus: &'a BusConfig,
+    pub kinds: &'a [EventKind],
 }
 
 impl<'a> LineReader for EventReader<'a> {
-    ghost use Rattle.bus_script.specs.EventForms.{event_of};
+    ghost use Rattle.bus_script.specs.EventForms.{event_among};
 
     type Item = Event;
 
-    ghost means = { λ reader _ words. event_of reader.bus.now.nodes words };
+    ghost means = { λ reader _ words. event_among reader.kinds.now reader.bus.now.nodes words };
 
-    #[tactic(auto, unfolding(crate::specs::EventForms::event_of))]
+    #[tactic(auto, unfolding(crate::specs::EventForms::event_among))]
     fn read(
         &self,
         alloc: Global,
@@ -42,7 +43,7 @@ impl<'a> LineReader for EventReader<'a> {
         if words.is_empty() {
             return Err(LineFault::Refused(Cause::Event));
         }
-        let Some(kind) = EventKind::of(words.word(1)) else {
+        let Some(kind) = EventKind::among(self.kinds, words.word(1)) else {
             return Err(LineFault::Refused(Cause::Event));
         };
         expect_count(words, kind.word_count())?;
@@ -76,13 +77,45 @@ fn read_fields(
 /// The events of a script over a bus: at most 65,536 lines that aren't skipped, each an event of one of the bus's nodes;
 /// or the first fault, by the line it stands in. A line's cause is the first of: too many events, no event's name, a wrong
 /// number of words, and the lowest word that isn't of its form.
-#[tactic(auto, unfolding(crate::specs::EventForms::events_of))]
 pub fn read_script(alloc: Global, text: &[u8], bus: &BusConfig) -> Result<Vec<Event>, ScriptFault>
     requires { length text.now < 2 ^ 32 }
     ensures exact { Gives (events_of bus.now.nodes text.now) result }
     ensures are_events { IfOk result (λ events. All (IsScriptEvent bus.now.nodes) events.items) }
     ensures few { IfOk result (λ events. length events.items ≤ most_lines) }
 {
+    read_kinds(alloc, text, bus, &KINDS)
+}
+
+/// The events of a script in which each is a node's own, as [`read_script`] reads them: here `send` and `deliver` are no
+/// event's name.
+pub fn read_own_script(
+    alloc: Global,
+    text: &[u8],
+    bus: &BusConfig,
+) -> Result<Vec<Event>, ScriptFault>
+    requires { length text.now < 2 ^ 32 }
+    ensures exact { Gives (own_events_of bus.now.nodes text.now) result }
+    ensures are_events { IfOk result (λ events. All (IsScriptEvent bus.now.nodes) events.items) }
+    ensures own { IfOk result (λ events. All IsOwn events.items) }
+    ensures few { IfOk result (λ events. length events.items ≤ most_lines) }
+{
     let _nodes = bus.nodes();
-    read_lines(alloc, text, MOST_LINES, &EventReader { bus })
+    read_kinds(alloc, text, bus, &OWN_KINDS)
+}
+
+/// The events of a script of these kinds of events.
+#[tactic(auto, unfolding(crate::specs::EventForms::events_among))]
+fn read_kinds(
+    alloc: Global,
+    text: &[u8],
+    bus: &BusConfig,
+    kinds: &[EventKind],
+) -> Result<Vec<Event>, ScriptFault>
+    requires { length text.now < 2 ^ 32 }
+    ensures exact { Gives (events_among kinds.now bus.now.nodes text.now) result }
+    ensures are_events { IfOk result (λ events. All (IsScriptEvent bus.now.nodes) events.items) }
+    ensures few { IfOk result (λ events. length events.items ≤ most_lines) }
+{
+    let _nodes = bus.nodes();
+    read_lines(alloc, text, MOST_LINES, &EventReader { bus, kinds })
 }

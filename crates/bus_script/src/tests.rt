@@ -1,5 +1,5 @@
 //! Scripts over a bus of two nodes: what is read, what is refused and where, and what is written.
-use crate::{BusConfig, Cause, ScriptFault, read_script, write_event};
+use crate::{BusConfig, Cause, ScriptFault, read_own_script, read_script, write_event};
 use bus_nodes::{Name, NodeLine};
 use cell_store::{Kind, Version};
 use freshness_routes::{Direction, NodeConfig, Route};
@@ -160,6 +160,34 @@ fn the_first_of_two_causes_is_given(rt: HostRuntime) -> Result<(), Fail> {
         ),
     ] {
         refused(&rt, alloc, &bus, script, line, cause);
+    }
+    Ok(())
+}
+
+/// `send` and `deliver` are no event's name there, whatever else is wrong with their line; all other lines are read as ever.
+#[test]
+fn own_events_are_read_alone(rt: HostRuntime) -> Result<(), Fail> {
+    let alloc = rt.alloc();
+    let bus = bus(alloc)?;
+    let own =
+        "inject right 6bc1 0a\nload left 00000000000000000000000000000141 2b111e2d93f486566bcbba1d7f7a9797c94643b050fc5d4d7de14cff682203c3 b9d745e5ace7d41860bc63c2b9f5bb46\nkey left - 1 2 ffffffffffffffffffffffffffffffff 268435455 10101 000102030405060708090a0b0c0d0e0f\nboot left ff00\ncut left keep\nstop left 1\nfail right 7\n";
+    for (behind, answer) in [
+        ("", Ok(7)),
+        ("send left 6bc1 -", Err(Cause::Event)),
+        ("send left", Err(Cause::Event)),
+        ("deliver left 0", Err(Cause::Event)),
+        ("deliver", Err(Cause::Event)),
+        ("stop left", Err(Cause::Count)),
+        ("stop left 0", Err(Cause::Field(3))),
+    ] {
+        let mut script = own.as_bytes().to_vec(alloc)?;
+        script.extend_from_slice(behind.as_bytes())?;
+        if script.len() > MOST_BYTES {
+            return Err(Fail::from("a long script"));
+        }
+        let events = read_own_script(alloc, script.as_slice(), &bus);
+        let want = answer.map_err(|cause| ScriptFault::At { line: 8, cause });
+        assert_eq!(rt; events.map(|events| events.len()), want, "{behind}");
     }
     Ok(())
 }

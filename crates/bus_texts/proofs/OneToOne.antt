@@ -10,7 +10,7 @@ use Rattle.bus_machine.specs.declared.lines.Line.{Line}
 use Rattle.bus_texts.specs.LineTexts.{line_text, text_of, told_words}
 use Rattle.bus_texts.specs.LineKinds.{IsLine}
 use Rattle.bus_texts.specs.Spaced.{spaced}
-use Rattle.bus_texts.proofs.Added.{written-spaced}
+use Rattle.bus_texts.specs.SpacedLaws.{written-spaced}
 use Rattle.bus_texts.proofs.Cutting.{cut_first, cut_words}
 use Rattle.bus_texts.proofs.PlainWords.{decimal_plain, told_plain}
 use Rattle.bus_texts.proofs.ReadBack.{same_told}

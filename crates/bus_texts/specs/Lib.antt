@@ -1,3 +1,4 @@
 pub mod LineTexts
 pub mod LineKinds
 pub mod Spaced
+pub mod SpacedLaws

@@ -5,9 +5,9 @@ pub mod laws;
 #[cfg(test)]
 mod tests;
 mod values;
-mod words;
+pub mod words;
 mod writing;
 
 pub use text_lines::Memory;
 pub use values::every_line_is_one;
-pub use writing::write_line;
+pub use writing::{push_told, write_line};

@@ -1,4 +1,4 @@
-//! Lines that are written.
+//! What came of events, written as lines.
 
 ghost use Rattle.std.specs.Prelude.{◌≡◌, [], ◌∷◌, ◌++◌, codes, IfOk, OnOk, OnErr};
 ghost use Rattle.std.specs.Fmt.{decimal};
@@ -6,10 +6,11 @@ ghost use Rattle.bus_machine.specs.declared.lines.Line.TheVariants.{Sent, Accept
 ghost use Rattle.bus_texts.specs.LineTexts.{line_text, told_words, source_word};
 ghost use Rattle.bus_texts.specs.Spaced.{spaced};
 
-use crate::words::{push_hex, push_number, push_word};
+use crate::words::{
+    begin_line, end_line, push_freshness, push_hex, push_id, push_numbered, push_refusal, push_word,
+};
 use bus_machine::{Line, Refusal};
 use byte_lists::Pdu;
-use itoa::Buffer;
 use memory_update::Reply;
 use std::alloc::{AllocError, Global};
 use text_lines::Memory;
@@ -24,24 +25,14 @@ pub fn write_line(alloc: Global, number: u32, line: &Line, out: &mut Vec<u8>) ->
     ensures appended { OnOk result (out.new.items ≡ out.old.items ++ line_text number line.now) }
     ensures as_before { OnErr result (out.new.items ≡ out.old.items) }
 {
-    let text = text_of_line(alloc, number, line)?;
-    out.extend_from_slice(text.as_slice())?;
+    let mut text = begin_line(alloc, number)?;
+    push_told(&mut text, line)?;
+    end_line(text, out)?;
     Ok(())
 }
 
-// The text of a line.
-fn text_of_line(alloc: Global, number: u32, line: &Line) -> Result<Vec<u8>, AllocError>
-    ensures { IfOk result (λ text. text.items ≡ line_text number line.now) }
-{
-    let mut digits = Buffer::new();
-    let mut text = Vec::from_slice(alloc, digits.format(number).as_bytes())?;
-    push_told(&mut text, line)?;
-    text.push(b'\n')?;
-    Ok(text)
-}
-
-// Adds the words of a line behind its number.
-fn push_told(text: &mut Vec<u8>, line: &Line) -> Result<(), AllocError>
+/// Adds the words of a line, as they stand behind its number.
+pub fn push_told(text: &mut Vec<u8>, line: &Line) -> Result<(), AllocError>
     ensures { OnOk result (text.new.items ≡ text.old.items ++ spaced (told_words line.now)) }
 {
     match line {
@@ -64,20 +55,12 @@ fn push_told(text: &mut Vec<u8>, line: &Line) -> Result<(), AllocError>
     }
 }
 
-// Adds a word and a number.
-fn push_numbered(text: &mut Vec<u8>, word: &[u8], number: u32) -> Result<(), AllocError>
-    ensures { OnOk result (text.new.items ≡ text.old.items ++ spaced (word.now ∷ decimal number ∷ [])) }
-{
-    push_word(text, word)?;
-    push_number(text, number)
-}
-
 fn push_sent(text: &mut Vec<u8>, id: u16, freshness: u64, pdu: &Pdu) -> Result<(), AllocError>
     ensures { OnOk result (text.new.items ≡ text.old.items ++ spaced (told_words (Sent id freshness pdu.now))) }
 {
     push_word(text, b"sent")?;
-    push_hex(text, &id.to_be_bytes())?;
-    push_hex(text, &freshness.to_be_bytes())?;
+    push_id(text, id)?;
+    push_freshness(text, freshness)?;
     push_hex(text, pdu.bytes())?;
     Ok(())
 }
@@ -92,8 +75,8 @@ fn push_accepted(
     ensures { OnOk result (text.new.items ≡ text.old.items ++ spaced (told_words (Accepted id freshness payload.now from))) }
 {
     push_word(text, b"accepted")?;
-    push_hex(text, &id.to_be_bytes())?;
-    push_hex(text, &freshness.to_be_bytes())?;
+    push_id(text, id)?;
+    push_freshness(text, freshness)?;
     push_hex(text, payload.bytes())?;
     push_source(text, from)?;
     Ok(())
@@ -132,16 +115,5 @@ fn push_refused(text: &mut Vec<u8>, refusal: &Refusal) -> Result<(), AllocError>
     ensures { OnOk result (text.new.items ≡ text.old.items ++ spaced (told_words (Refused refusal.now))) }
 {
     push_word(text, b"refused")?;
-    match refusal {
-        Refusal::Down => push_word(text, b"Down"),
-        Refusal::NoRoute => push_word(text, b"NoRoute"),
-        Refusal::BadLength => push_word(text, b"BadLength"),
-        Refusal::Key(erc) => push_word(text, erc.name().as_bytes()),
-        Refusal::Exhausted => push_word(text, b"Exhausted"),
-        Refusal::MemoryFailure => push_word(text, b"MEMORY_FAILURE"),
-        Refusal::NotFormatted => push_word(text, b"NotFormatted"),
-        Refusal::Damaged(place) => push_numbered(text, b"Damaged", u32::from(*place)),
-        Refusal::BadSlot(slot) => push_numbered(text, b"BadSlot", u32::from(slot.number())),
-        Refusal::BadBound(cell) => push_numbered(text, b"BadBound", u32::from(*cell)),
-    }
+    push_refusal(text, refusal)
 }

@@ -16,7 +16,7 @@ use Rattle.cell_store.specs.declared.faults.StoreFault.{StoreFault}
 use Rattle.cell_store.specs.declared.faults.StoreFault.TheVariants as store
 use Rattle.cell_store.specs.Store.{Stands, HasHeader, store_size}
 use Rattle.cell_store.specs.Cells.{CellsState, Settled}
-use Rattle.cell_store.specs.Formats.{Formats, FreshOn}
+use Rattle.cell_store.specs.Formats.{Formats, FreshOn, LeavesUnformed}
 use Rattle.cell_store.specs.ReadOrder.{reads, reads_to}
 use Rattle.cell_store.specs.Attaching.{Attached, NotAttached, NotFormed}
 use Rattle.cell_store.proofs.StoreLaws.{stands_once, stands-whole}
@@ -66,23 +66,27 @@ not_attached_store kind version config before after store.Memory is room h = rec
   runs = subst (λ d. Runs [] (reads kind (cells_in config)) before d) (sym h.1) (runs_more (reads kind (cells_in config)) (omega arith) (runs_none before));
   told = ap (λ (d : DiskState). d.told) h.1;
   cause = tt;
+  memory = λ _. ap (λ (d : DiskState). d.faults) h.1;
 }
 not_attached_store kind version config before after store.DiskFailed is room h = record {
   runs = h.leaves.runs;
   told = h.leaves.told;
   cause = h.leaves.rose;
+  memory = λ e. cc;
 }
 not_attached_store kind version config before after store.NotFormatted is room h = record {
   runs = runs_more (reads kind (cells_in config)) (min_within (reads kind (cells_in config)) 1) h.leaves.runs;
   told = h.leaves.told;
   cause = λ b told stands. h.finds (firm b) told
       (subst (λ n. HasHeader (layout kind version) n b) (length-CellsOf config (first_node config).kept (first_is_kept config is)) stands.head);
+  memory = λ e. cc;
 }
 not_attached_store kind version config before after (store.Damaged place) is room h = record {
   runs = runs_more (reads kind (cells_in config)) (min_within (reads kind (cells_in config)) (reads_to kind (cells_in config) place)) h.leaves.runs;
   told = h.leaves.told;
   cause = λ b told stands. stands-whole (layout kind version) b (new_cells config) (cells_in config) place stands
       (length-CellsOf config (first_node config).kept (first_is_kept config is)) (h.finds (firm b) told).1;
+  memory = λ e. cc;
 }
 
 bad_slot_no_memory : (slot : ℕ) → cells.BadSlot slot ≡ cells.Memory → ⊥
@@ -112,7 +116,7 @@ not_attached_cells kind version config before after s f is a same of_kept =
     let told = ap (λ (d : DiskState). d.told) same ∙ a.as_before.told in
     let memory : StandsForNoNewOr kind version config before f = λ b tells stands.
     of_kept (first_node config).kept (first_is_kept config is) (stands_once (layout kind version) b s.cells (new_cells config) (a.stands (firm b) tells) stands) in
-    record { runs = runs; told = told; cause = cells_cause kind version config before after f memory }
+    record { runs = runs; told = told; cause = cells_cause kind version config before after f memory; memory = λ _. ap (λ (d : DiskState). d.faults) same ∙ a.as_before.faults }
 
 -- ---- one node over a disk that is formatted
 
@@ -121,21 +125,26 @@ not_opened_none kind version config before = record {
   runs = runs_more (start_calls kind config) (omega arith) (runs_none before);
   left = inl refl;
   cause = tt;
+  leaves = inl refl;
+  memory = λ _. refl;
 }
 
 -- the format failed
 pub not_opened_format : (kind : Kind) (version : Version) (config : Config) (before after : DiskState) (f : StoreFault)
     → store_size (layout kind version) (cells_in config) ≤ before.size
-    → NotFormed (layout kind version) (format_calls kind (cells_in config)) (cells_in config) before after f → NotOpened kind version config before after (of_store f)
-not_opened_format kind version config before after store.TooSmall room h = absurd (omega (arith, room, h.0))
-not_opened_format kind version config before after store.DiskFailed room h = record {
+    → NotFormed (layout kind version) (format_calls kind (cells_in config)) (cells_in config) before after f
+    → (f ≡ store.DiskFailed → LeavesUnformed (layout kind version) (new_cells config) before.told after.told) → NotOpened kind version config before after (of_store f)
+not_opened_format kind version config before after store.TooSmall room h unformed = absurd (omega (arith, room, h.0))
+not_opened_format kind version config before after store.DiskFailed room h unformed = record {
   runs = runs_more (start_calls kind config) (omega arith) h.2;
   left = inr (inr h.1);
   cause = h.1;
+  leaves = inr (inr (record { rose = h.1; runs = h.2; unformed = unformed refl }));
+  memory = λ e. cc;
 }
-not_opened_format kind version config before after store.NotFormatted room h = absurd h
-not_opened_format kind version config before after (store.Damaged place) room h = absurd h
-not_opened_format kind version config before after store.Memory room h = absurd h
+not_opened_format kind version config before after store.NotFormatted room h unformed = absurd h
+not_opened_format kind version config before after (store.Damaged place) room h unformed = absurd h
+not_opened_format kind version config before after store.Memory room h unformed = absurd h
 
 -- what a format leaves of a disk
 pub record IsFormatted (kind : Kind) (version : Version) (config : Config) (before mid : DiskState) : Type 0 where
@@ -157,6 +166,7 @@ opened_over kind version config before mid n f a = record {
   runs = runs_join f.runs a.runs;
   grows = grows_then f.grows a.runs;
   faults = a.faults ∙ f.faults;
+  formats = subst (λ o. Formats (layout kind version) (new_cells config) before.told o) (sym a.told) f.fresh;
 }
 
 untold : (o : Option Told) → ((t : Told) → o ≡ Some t → ⊥) → o ≡ None
@@ -184,6 +194,8 @@ not_opened_attach kind version config before mid after fault f a = record {
       let old = told_before before.told mid.told f.runs.tells t now in
       fresh_images (layout kind version) (new_cells config) old.0 t (subst (λ o. FreshOn (layout kind version) (new_cells config) old.0 o) now (f.fresh old.0 old.1)) x image));
   cause = open_cause kind version config before mid after fault f a.cause;
+  leaves = inr (inl (subst (λ o. Formats (layout kind version) (new_cells config) before.told o) (sym a.told) f.fresh));
+  memory = λ is. a.memory is ∙ f.faults;
 }
 
 pub formatted : (kind : Kind) (version : Version) (config : Config) (before mid : DiskState) (list : List (List ℕ)) → IsConfig config → list ≡ new_cells config
@@ -198,10 +210,12 @@ formatted kind version config before mid list is same runs grows faults fresh = 
 
 pub not_formatted : (kind : Kind) (version : Version) (config : Config) (before after : DiskState) (f : StoreFault) (list : List (List ℕ)) → IsConfig config → list ≡ new_cells config
     → store_size (layout kind version) (cells_in config) ≤ before.size
-    → NotFormed (layout kind version) (format_calls kind (length list)) (length list) before after f → NotOpened kind version config before after (of_store f)
-not_formatted kind version config before after f list is same room h =
+    → NotFormed (layout kind version) (format_calls kind (length list)) (length list) before after f
+    → (f ≡ store.DiskFailed → LeavesUnformed (layout kind version) list before.told after.told) → NotOpened kind version config before after (of_store f)
+not_formatted kind version config before after f list is same room h unformed =
     not_opened_format kind version config before after f room
     (subst (λ n. NotFormed (layout kind version) (format_calls kind n) n before after f) (ap length same ∙ length-CellsOf config (first_node config).kept (first_is_kept config is)) h)
+    (subst (λ xs. f ≡ store.DiskFailed → LeavesUnformed (layout kind version) xs before.told after.told) same unformed)
 
 pub ok_by : {A E : Type 0} (P Q : A → Type 0) (r : Result A E) → IfOk r P → ((a : A) → P a → Q a) → IfOk r Q
 ok_by P Q (Ok a) h f = f a h

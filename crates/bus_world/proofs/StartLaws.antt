@@ -1,6 +1,6 @@
 -- A start that is refused behind some nodes that are open
 use Rattle.std.specs.Prelude.{◌≡◌, ℕ, suc, ◌+◌, ◌-◌, ◌<◌, ◌≤◌, false, None, List, [], ◌∷◌, ◌++◌, length, drop, get_or}
-use Rattle.std.proofs.Common.{sym, ap, ◌∙◌, subst, arith, inl, inr, length-append}
+use Rattle.std.proofs.Common.{refl, sym, ap, ◌∙◌, subst, arith, inl, inr, length-append}
 use Rattle.std.proofs.lemmas.Bool.{cases_lt}
 use Rattle.std.proofs.Math.Nat.{eq-or-lt_of_le}
 use Rattle.std.proofs.lemmas.List.{length-map, length-drop, get_or-map, get_or_append_left, get_or-append_right, get_or-drop, ext_get_or}
@@ -23,7 +23,8 @@ use Rattle.secoc_node.proofs.FitsLaws.{told_before}
 use Rattle.bus_world.specs.declared.opening.OpenFault.{OpenFault}
 use Rattle.bus_world.specs.declared.opening.OpenFault.TheVariants as open_fault
 use Rattle.bus_world.specs.declared.start.StartFault.{StartFault}
-use Rattle.bus_world.specs.Starts.{new_cells, start_calls, disks_of, Opened, LeftOver, OpenCause, HasRoom, OfNumber, StartCause, Broken, NotStarted, OpensTo, fault_of_node}
+use Rattle.bus_world.specs.declared.start.StartFault.TheVariants as start_fault
+use Rattle.bus_world.specs.Starts.{new_cells, start_calls, disks_of, Opened, LeftOver, LeavesDisk, OpenCause, HasRoom, OfNumber, StartCause, Broken, NotStarted, OpensTo, fault_of_node}
 
 -- a new node's disk stands for its cells
 stands_new : (config : Config) (kind : Kind) (version : Version) (node : Node) (x : List ℕ) → node ≡ first_node config → StandsForNode (layout kind version) node x → Stands (layout kind version) x (new_cells config)
@@ -74,6 +75,13 @@ module _ (bus : NamedBus) (before after : List DiskState) (place : ℕ) (inside 
   start_cause (open_fault.BadSlot slot) h = at_number (λ old new. old.told ≡ None) h
   start_cause (open_fault.BadBound cell) h = at_number (λ old new. old.told ≡ None) h
   start_cause open_fault.Memory h = tt
+
+-- want of memory of a start is that of a node
+of_memory : (n : ℕ) (cause : OpenFault) → fault_of_node n cause ≡ start_fault.Memory → cause ≡ open_fault.Memory
+of_memory n (open_fault.Store fault) is = cc is
+of_memory n (open_fault.BadSlot slot) is = cc is
+of_memory n (open_fault.BadBound cell) is = cc is
+of_memory n open_fault.Memory is = refl
 
 as_broken : (bus : NamedBus) (before after : List DiskState) (n : ℕ) (cause : OpenFault) → Broken bus before after (fault_of_node n cause) → NotStarted bus before after (fault_of_node n cause)
 as_broken bus before after n (open_fault.Store fault) b = b
@@ -141,10 +149,51 @@ module _ (bus : NamedBus) (before mid after : List DiskState) (nodes : List Node
   unfailed : (i : ℕ) (d : DiskState) → i < o.place → (get_or after i d).faults ≡ (get_or before i d).faults
   unfailed i d less = ap (λ (s : DiskState). s.faults) (earlier i d (no_node bus d) less) ∙ (o.opened.opened i no_line d (no_node bus d) less).faults
 
+  leaves : (i : ℕ) (l : NodeLine) (d : DiskState) → i < length bus.nodes
+      → LeavesDisk bus.kind bus.version (get_or bus.nodes i l).config (get_or before i d) (get_or after i d)
+  leaves i l d inside = elim (cases_lt i o.place) [
+    | inl less ↦ subst (λ s. LeavesDisk bus.kind bus.version (get_or bus.nodes i l).config (get_or before i d) s) (sym (earlier i d (no_node bus d) less))
+        (inr (inl (o.opened.opened i l d (no_node bus d) less).formats))
+    | inr from ↦ elim (eq-or-lt_of_le from) [
+      | inl same ↦ subst (λ k. LeavesDisk bus.kind bus.version (get_or bus.nodes k l).config (get_or before k d) (get_or after k d)) same
+          (subst (λ s. LeavesDisk bus.kind bus.version (get_or bus.nodes o.place l).config (get_or before o.place d) s) (sym (here d)) (o.refused l d).leaves)
+      | inr more ↦ inl (later i d more)
+    ]
+  ]
+
+  memory : o.cause ≡ open_fault.Memory → (i : ℕ) (d : DiskState) → (get_or after i d).faults ≡ (get_or before i d).faults
+  memory none i d = elim (cases_lt i o.place) [
+    | inl less ↦ unfailed i d less
+    | inr from ↦ elim (eq-or-lt_of_le from) [
+      | inl same ↦ subst (λ k. (get_or after k d).faults ≡ (get_or before k d).faults) same (ap (λ (s : DiskState). s.faults) (here d) ∙ (o.refused no_line d).memory none)
+      | inr more ↦ ap (λ (s : DiskState). s.faults) (later i d more)
+    ]
+  ]
+
   pub broken : Broken bus before after (fault_of_node (o.place + 1) o.cause)
-  broken = record { room = room; count = count; left = left; rest = rest; cause = start_cause bus before after o.place o.inside unfailed later o.cause open_cause }
+  broken = record {
+    room = room;
+    count = count;
+    left = left;
+    rest = rest;
+    cause = start_cause bus before after o.place o.inside unfailed later o.cause open_cause;
+    leaves = leaves;
+    memory = λ is. memory (of_memory (o.place + 1) o.cause is);
+  }
 
 pub start_refused : (bus : NamedBus) (before mid after : List DiskState) (nodes : List NodeState) (fault : StartFault) → HasRoom bus before → OpensTo bus before mid nodes fault → after ≡ disks_of nodes ++ mid
     → NotStarted bus before after fault
 start_refused bus before mid after nodes fault room o is =
     subst (NotStarted bus before after) (sym o.fault_is) (as_broken bus before after (o.place + 1) o.cause (broken bus before mid after nodes fault room o is))
+
+-- want of memory before any disk was touched
+pub start_unopened : (bus : NamedBus) (before : List DiskState) → HasRoom bus before → NotStarted bus before before start_fault.Memory
+start_unopened bus before room = record {
+  room = room;
+  count = refl;
+  left = λ i l d inside. untouched bus before before i l d refl;
+  rest = refl;
+  cause = tt;
+  leaves = λ i l d inside. inl refl;
+  memory = λ is i d. refl;
+}

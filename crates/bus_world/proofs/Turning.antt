@@ -7,6 +7,7 @@ use Rattle.bus_machine.specs.declared.lines.Refusal.TheVariants.{MemoryFailure}
 use Rattle.cut_disk.specs.declared.Torn.{Torn}
 use Rattle.cut_disk.specs.declared.Mark.TheVariants as mark
 use Rattle.cut_disk.specs.Calls.{Rose, Runs}
+use Rattle.cut_disk.specs.Images.{CutsTo}
 use Rattle.cell_store.specs.declared.faults.Reread.TheVariants as reread
 use Rattle.cell_store.specs.Cells.{CellsState, StandsNow}
 use Rattle.cut_disk.specs.CallLaws.{runs_none, runs_more}
@@ -26,8 +27,8 @@ use Rattle.secoc_node.specs.Causes.{CutCause}
 use Rattle.secoc_node.specs.Cells.{CellsOf}
 use Rattle.secoc_node.specs.Lines.{refusal_of_fault, refusal_of_cut, cut_line, IfLeftAlone}
 use Rattle.secoc_node.specs.State.{NodeState, FitsNow, TellsFitting}
-use Rattle.bus_world.specs.History.{HistoryState, with_line}
-use Rattle.bus_world.specs.Turns.{duty, duty_of, TellsFaults, NodeTurn}
+use Rattle.sent_lines.specs.History.{HistoryState, with_line}
+use Rattle.bus_world.specs.Turns.{duty, duty_of, TellsFaults, LeavesAlone, NodeTurn}
 use Rattle.bus_machine.specs.Steps.{Act, sends, receives, loads, keys, boots, cuts, arms, hears_nothing, Faults, PowersUp, NodeStep}
 
 powers_config : (node after : Node) → PowersUp node after → after.config ≡ node.config
@@ -67,8 +68,8 @@ step_config node _ _ after step = absurd step
 
 pub calm_turn : (before after : NodeState) (act : Act) (line : Line) → NodeStep before.node act line after.node → (act ≡ cuts → ⊥)
     → after.store.layout ≡ before.store.layout → Runs [] 6 before.store.disk after.store.disk → (FitsNow before → FitsNow after)
-    → TellsFaults line before.store.disk.faults after.store.disk.faults → NodeTurn before (duty act None) line after
-calm_turn before after act line step other layout runs fits faults = record {
+    → TellsFaults line before.store.disk.faults after.store.disk.faults → LeavesAlone None line before after → NodeTurn before (duty act None) line after
+calm_turn before after act line step other layout runs fits faults untouched = record {
   step = λ _. step;
   of_cut = λ is. absurd (other is);
   config = step_config before.node act line after.node step;
@@ -76,6 +77,8 @@ calm_turn before after act line step other layout runs fits faults = record {
   runs = runs;
   fits = fits;
   faults = faults;
+  image = tt;
+  untouched = untouched;
 }
 
 pub receives_no_cut : (id : ℕ) (pdu : List ℕ) → receives id pdu ≡ cuts → ⊥
@@ -97,6 +100,15 @@ faults_told (fault.Key erc) before after rose same = ap (λ (s : NodeState). s.s
 faults_told fault.Exhausted before after rose same = ap (λ (s : NodeState). s.store.disk.faults) (same (λ e. cc))
 faults_told fault.Faulted before after rose same = rose refl
 
+-- so a refusal that tells of it leaves all as it was
+pub alone_told : (f : NodeFault) (before after : NodeState) → (f ≢ fault.Faulted → after ≡ before) → LeavesAlone None (Refused (refusal_of_fault f)) before after
+alone_told fault.Down before after same = same (λ e. cc)
+alone_told fault.NoRoute before after same = same (λ e. cc)
+alone_told fault.BadLength before after same = same (λ e. cc)
+alone_told (fault.Key erc) before after same = same (λ e. cc)
+alone_told fault.Exhausted before after same = same (λ e. cc)
+alone_told fault.Faulted before after same = tt
+
 pub unmoved_by : (f : NodeFault) (P : Type 0) → IfLeftAlone (Err f) P → f ≢ fault.Faulted → P
 unmoved_by fault.Down P h other = h
 unmoved_by fault.NoRoute P h other = h
@@ -114,7 +126,7 @@ accepted_short node id pdu payload v source after step =
 
 -- a node that hears nothing is as it was
 pub hears_nothing_turn : (s : NodeState) → NodeTurn s (duty hears_nothing None) NoFrame s
-hears_nothing_turn s = calm_turn s s hears_nothing NoFrame refl hears_no_cut refl (runs_more 6 (omega arith) (runs_none s.store.disk)) (λ f. f) refl
+hears_nothing_turn s = calm_turn s s hears_nothing NoFrame refl hears_no_cut refl (runs_more 6 (omega arith) (runs_none s.store.disk)) (λ f. f) refl refl
 
 -- ---- cuts
 
@@ -129,8 +141,9 @@ told_by_cut routes (cut_fault.BadBound place) old new cause = cause.0.faults
 pub up_turn : (before after : NodeState) (torn : Torn) → (TellsFitting before → NodeStep before.node cuts Up after.node)
     → after.node ≡ powered before.node.config after.node.kept → after.store.cells ≡ CellsOf before.node.config after.node.kept → StandsNow after.store
     → after.store.layout ≡ before.store.layout → Runs (mark.Cut torn ∷ []) (68 + cell_count before.node) before.store.disk after.store.disk → (FitsNow before → FitsNow after)
-    → after.store.disk.faults ≡ before.store.disk.faults → NodeTurn before (duty cuts (Some (mark.Cut torn))) Up after
-up_turn before after torn step up kept stands layout runs fits faults = record {
+    → after.store.disk.faults ≡ before.store.disk.faults → CutsTo before.store.disk.told after.store.disk.told
+    → NodeTurn before (duty cuts (Some (mark.Cut torn))) Up after
+up_turn before after torn step up kept stands layout runs fits faults image = record {
   step = step;
   of_cut = λ _. record { result = Ok tt; line_is = refl; up = up; kept = kept; stands = stands; down = tt; cause = tt };
   config = ap (λ (n : Node). n.config) up;
@@ -138,14 +151,16 @@ up_turn before after torn step up kept stands layout runs fits faults = record {
   runs = runs;
   fits = fits;
   faults = faults;
+  image = image;
+  untouched = tt;
 }
 
 -- one that leaves it down
 pub down_turn : (before after : NodeState) (torn : Torn) (f : CutFault) → (TellsFitting before → NodeStep before.node cuts (Refused (refusal_of_cut f)) after.node)
     → after.node ≡ refused_up before.node → CutCause before.node.config.routes before.store after.store f
     → after.store.layout ≡ before.store.layout → Runs (mark.Cut torn ∷ []) (68 + cell_count before.node) before.store.disk after.store.disk → (FitsNow before → FitsNow after)
-    → NodeTurn before (duty cuts (Some (mark.Cut torn))) (Refused (refusal_of_cut f)) after
-down_turn before after torn f step down cause layout runs fits = record {
+    → CutsTo before.store.disk.told after.store.disk.told → NodeTurn before (duty cuts (Some (mark.Cut torn))) (Refused (refusal_of_cut f)) after
+down_turn before after torn f step down cause layout runs fits image = record {
   step = step;
   of_cut = λ _. record { result = Err f; line_is = refl; up = tt; kept = tt; stands = tt; down = down; cause = cause };
   config = ap (λ (n : Node). n.config) down;
@@ -153,6 +168,8 @@ down_turn before after torn f step down cause layout runs fits = record {
   runs = runs;
   fits = fits;
   faults = told_by_cut before.node.config.routes f before.store after.store cause;
+  image = image;
+  untouched = tt;
 }
 
 -- ---- what is put down of a line

@@ -1,5 +1,5 @@
-pub mod History
-pub mod Records
 pub mod Turns
 pub mod Worlds
 pub mod Starts
+pub mod StartRows
+pub mod StartRowLaws

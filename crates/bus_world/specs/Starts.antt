@@ -9,6 +9,7 @@ use Rattle.cell_store.specs.declared.faults.Reread.TheVariants as reread
 use Rattle.cell_store.specs.declared.faults.StoreFault.{StoreFault}
 use Rattle.cell_store.specs.declared.faults.StoreFault.TheVariants as store
 use Rattle.cell_store.specs.Store.{Stands, store_size}
+use Rattle.cell_store.specs.Formats.{Formats, LeavesUnformed}
 use Rattle.any_cells.specs.Either.{layout, format_calls}
 use Rattle.cell_store.specs.ReadOrder.{reads}
 use Rattle.freshness_routes.specs.Config.{Config}
@@ -47,12 +48,25 @@ pub record Opened (kind : Kind) (version : Version) (config : Config) (before : 
   pub runs : Runs [] (start_calls kind config) before n.store.disk
   pub grows : Grows before n.store.disk
   pub faults : n.store.disk.faults ≡ before.faults
+  pub formats : Formats (layout kind version) (new_cells config) before.told n.store.disk.told
 
 -- what a start that is refused leaves of a disk: it is as it was, or whatever a power cut leaves of it stands for a new node's cells, or its count of faults rose
 abbrev pub LeftOver : Kind → Version → Config → DiskState → DiskState → Type 0
 LeftOver kind version config before after =
     (after ≡ before)
     ⊎ (EachImage after.told (λ x. Stands (layout kind version) x (new_cells config)) ⊎ Rose before.faults after.faults)
+
+-- the disk failed while it was formatted: its count of faults rose within the calls of a format, and whatever a power cut leaves of it is what one that failed may leave
+pub record FormatFailed (kind : Kind) (version : Version) (config : Config) (before after : DiskState) : Type 0 where
+  pub rose : Rose before.faults after.faults
+  pub runs : Runs [] (format_calls kind (cells_in config)) before after
+  pub unformed : LeavesUnformed (layout kind version) (new_cells config) before.told after.told
+
+-- the same, byte by byte: the disk is as it was, or it was formatted for a new node and written no more, or its format failed
+abbrev pub LeavesDisk : Kind → Version → Config → DiskState → DiskState → Type 0
+LeavesDisk kind version config before after =
+    (after ≡ before)
+    ⊎ (Formats (layout kind version) (new_cells config) before.told after.told ⊎ FormatFailed kind version config before after)
 
 -- the disk failed; any other refusal but want of memory comes only over a disk that doesn't tell its bytes
 abbrev pub OpenCause : DiskState → DiskState → OpenFault → Type 0
@@ -66,6 +80,8 @@ pub record NotOpened (kind : Kind) (version : Version) (config : Config) (before
   pub runs : Runs [] (start_calls kind config) before after
   pub left : LeftOver kind version config before after
   pub cause : OpenCause before after fault
+  pub leaves : LeavesDisk kind version config before after
+  pub memory : fault ≡ open_fault.Memory → after.faults ≡ before.faults
 
 -- ---- one node over its store
 
@@ -94,6 +110,7 @@ pub record NotAttachedTo (kind : Kind) (version : Version) (config : Config) (be
   pub runs : Runs [] (reads kind (cells_in config)) before after
   pub told : after.told ≡ before.told
   pub cause : AttachCauseOf kind version config before after fault
+  pub memory : fault ≡ open_fault.Memory → after.faults ≡ before.faults
 
 abbrev pub of_store : StoreFault → OpenFault
 of_store store.DiskFailed = open_fault.Store reread.DiskFailed
@@ -123,6 +140,11 @@ pub record OpenedFirst (k : ℕ) (bus : NamedBus) (before : List DiskState) (nod
   pub count : length nodes ≡ k
   pub opened : (i : ℕ) (l : NodeLine) (d : DiskState) (n : NodeState) → i < k
       → Opened bus.kind bus.version (get_or bus.nodes i l).config (get_or before i d) (get_or nodes i n)
+
+-- there was room, and every node of the bus is open, each over its disk
+pub record OpensNodes (bus : NamedBus) (before : List DiskState) (nodes : List NodeState) : Type 0 where
+  pub room : HasRoom bus before
+  pub opened : OpenedFirst (length bus.nodes) bus before nodes
 
 pub record Started (bus : NamedBus) (most : ℕ) (before : List DiskState) (world : BusState) : Type 0 where
   pub room : HasRoom bus before
@@ -155,6 +177,9 @@ pub record Broken (bus : NamedBus) (before after : List DiskState) (fault : Star
       × LeftOver bus.kind bus.version (get_or bus.nodes i l).config (get_or before i d) (get_or after i d)
   pub rest : drop (length bus.nodes) after ≡ drop (length bus.nodes) before
   pub cause : StartCause bus before after fault
+  pub leaves : (i : ℕ) (l : NodeLine) (d : DiskState) → i < length bus.nodes
+      → LeavesDisk bus.kind bus.version (get_or bus.nodes i l).config (get_or before i d) (get_or after i d)
+  pub memory : fault ≡ start_fault.Memory → (i : ℕ) (d : DiskState) → (get_or after i d).faults ≡ (get_or before i d).faults
 
 -- the disk of this node is the first that is too small
 pub record IsTooSmall (bus : NamedBus) (disks : List DiskState) (number : ℕ) : Type 0 where

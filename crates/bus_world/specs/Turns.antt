@@ -1,14 +1,16 @@
 -- What one event does to its node and the node's disk
-use Rattle.std.specs.Prelude.{◌≡◌, ℕ, ◌+◌, ◌^◌, ◌<◌, ◌≤◌, ◌==◌, Option, Some, Result, OnOk, OnErr, IfErr, List, find, option_map}
+use Rattle.std.specs.Prelude.{◌≡◌, ℕ, ◌+◌, ◌^◌, ◌<◌, ◌≤◌, ◌==◌, Option, None, Some, Result, OnOk, OnErr, IfErr, List, [], find, option_map}
 use Rattle.std.specs.Option.{option_to_list}
 use Rattle.cut_disk.specs.declared.Mark.{Mark}
 use Rattle.cut_disk.specs.declared.Mark.TheVariants as mark
+use Rattle.cut_disk.specs.State.{DiskState}
 use Rattle.cut_disk.specs.Calls.{Rose, Runs}
+use Rattle.cut_disk.specs.Images.{CutsTo}
 use Rattle.cell_store.specs.Cells.{StandsNow}
 use Rattle.bus_machine.specs.declared.events.Event.{Event}
 use Rattle.bus_machine.specs.declared.events.Event.TheVariants.{Deliver, Inject, Boot, Stop, Fail}
 use Rattle.bus_machine.specs.declared.lines.Line.{Line}
-use Rattle.bus_machine.specs.declared.lines.Line.TheVariants.{Accepted, Refused}
+use Rattle.bus_machine.specs.declared.lines.Line.TheVariants.{Accepted, FreshnessFailure, VerificationFailure, NoFrame, Refused}
 use Rattle.bus_machine.specs.declared.lines.Refusal.TheVariants.{MemoryFailure}
 use Rattle.bus_machine.specs.Steps.{Act, cuts, NodeStep}
 use Rattle.bus_machine.specs.Bus.{World, SentLine, act_of}
@@ -17,7 +19,7 @@ use Rattle.bus_machine.specs.Node.{Node, place_of, powered, refused_up}
 use Rattle.bus_machine.specs.Honest.{IsInTime, IsHeard}
 use Rattle.freshness_routes.specs.declared.routes.Direction.TheVariants.{Receives}
 use Rattle.secure_boot.specs.Booting.{IsImage}
-use Rattle.bus_world.specs.History.{has_values}
+use Rattle.sent_lines.specs.History.{has_values}
 use Rattle.secoc_node.specs.declared.faults.CutFault.{CutFault}
 use Rattle.secoc_node.specs.Causes.{CutCause}
 use Rattle.secoc_node.specs.Cells.{CellsOf}
@@ -72,6 +74,25 @@ abbrev pub NamesSourceIn : List SentLine → Line → Type 0
 NamesSourceIn lines (Accepted id v payload source) = source ≡ option_map (λ s. s.number) (find (has_values id payload v) lines)
 NamesSourceIn lines _ = Unit {0}
 
+-- a power cut leaves of bytes that are told one list that it was allowed to leave, and no write comes behind it
+abbrev pub LeavesCut : Option Mark → DiskState → DiskState → Type 0
+LeavesCut (Some (mark.Cut torn)) before after = CutsTo before.told after.told
+LeavesCut _ before after = Unit {0}
+
+-- a line that tells that nothing was done, though the disk didn't fail and no power was cut, leaves the node, its store and its disk as they were
+abbrev pub LeavesAlone : Option Mark → Line → NodeState → NodeState → Type 0
+LeavesAlone (Some mark) line before after = Unit {0}
+LeavesAlone None FreshnessFailure before after = after ≡ before
+LeavesAlone None VerificationFailure before after = after ≡ before
+LeavesAlone None NoFrame before after = after ≡ before
+LeavesAlone None (Refused MemoryFailure) before after = Unit {0}
+LeavesAlone None (Refused refusal) before after = after ≡ before
+LeavesAlone None line before after = Unit {0}
+
+-- a bus on which nothing was sent
+abbrev pub silent : World
+silent = record { nodes = []; events = 0; sent = [] }
+
 pub record NodeTurn (before : NodeState) (duty : Duty) (line : Line) (after : NodeState) : Type 0 where
   pub step : IsCertain duty.mark before → NodeStep before.node duty.act line after.node
   pub of_cut : duty.act ≡ cuts → AnswersCut before line after
@@ -80,6 +101,8 @@ pub record NodeTurn (before : NodeState) (duty : Duty) (line : Line) (after : No
   pub runs : Runs (option_to_list duty.mark) (most_calls (cell_count before.node) duty.mark) before.store.disk after.store.disk
   pub fits : FitsNow before → FitsNow after
   pub faults : TellsFaults line before.store.disk.faults after.store.disk.faults
+  pub image : LeavesCut duty.mark before.store.disk after.store.disk
+  pub untouched : LeavesAlone duty.mark line before after
 
 -- ---- honest PDUs
 

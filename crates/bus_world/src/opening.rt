@@ -83,9 +83,9 @@ fn attach<D: CutDisk>(
                 fault: attach_fault(&refused.fault),
             }),
         },
-        Err(refused) => Err(Unopened {
-            disk: refused.disk,
-            fault: open_fault(refused.fault),
+        Err(unread) => Err(Unopened {
+            disk: unread.disk,
+            fault: open_fault(unread.fault),
         }),
     }
 }
@@ -114,8 +114,9 @@ fn attach_fault(fault: &AttachFault) -> OpenFault
     }
 }
 
-/// Gives the disks of these nodes back at the front of the list, in their order. There is room for them.
-pub(crate) fn close_all<D: CutDisk>(nodes: Vec<Node<AnyCells<D>>>, disks: &mut Vec<D>)
+/// Gives the disks of these nodes back at the front of the list, in their order. There is room for them, and it takes no
+/// memory.
+pub fn close_nodes<D: CutDisk>(nodes: Vec<Node<AnyCells<D>>>, disks: &mut Vec<D>)
     requires { vec_len disks.old + vec_len nodes ≤ vec_capacity disks.old }
     ensures { map D.state disks.new.items ≡ disks_of nodes.items ++ map D.state disks.old.items }
 {

@@ -1,12 +1,11 @@
 //! How a world starts, and how it ends.
-ghost use Rattle.std.specs.Prelude.{◌≡◌, ◌+◌, ◌≤◌, ◌<◌, ◌++◌, ◌∷◌, [], length, map, drop, MatchResult, OnOk};
+ghost use Rattle.std.specs.Prelude.{◌≡◌, ◌+◌, ◌≤◌, ◌<◌, ◌++◌, ◌∷◌, [], length, map, drop, MatchResult, IfOk, IfErr, OnOk};
 ghost use Rattle.std.specs.Vec.{vec_len, vec_capacity};
 ghost use Rattle.any_cells.specs.Either.{layout};
 ghost use Rattle.cell_store.specs.Store.{store_size as size_of};
-ghost use Rattle.bus_world.specs.Starts.{cells_in, HasRoom, FindsRoom, OpenedFirst, OpensTo, fault_of_node as fault_numbered};
+ghost use Rattle.bus_world.specs.Starts.{cells_in, HasRoom, FindsRoom, OpenedFirst, OpensNodes, OpensTo, NotStarted, fault_of_node as fault_numbered};
 
-use crate::history::History;
-use crate::opening::{OpenFault, close_all, open_new, put_first};
+use crate::opening::{OpenFault, close_nodes, open_new, put_first};
 use crate::world::World;
 use any_cells::{AnyCells, store_size};
 use bus_nodes::BusConfig;
@@ -15,6 +14,7 @@ use cut_disk::CutDisk;
 use freshness_routes::NodeConfig;
 use key_slots::SlotId;
 use secoc_node::Node;
+use sent_lines::History;
 use std::alloc::Global;
 
 /// What a world makes of its disks when it starts.
@@ -71,15 +71,9 @@ impl<D: CutDisk> World<D> {
         let Ok(history) = History::new(alloc, events) else {
             return Err(StartFault::Memory);
         };
-        let Ok(mut nodes) = Vec::with_capacity(alloc, bus.nodes().len()) else {
-            return Err(StartFault::Memory);
-        };
-        match open_all(alloc, bus, disks, &mut nodes) {
-            Ok(()) => Ok(World { nodes, history }),
-            Err(fault) => {
-                close_all(nodes, disks);
-                Err(fault)
-            }
+        match open_in_room(alloc, bus, disks) {
+            Ok(nodes) => Ok(World { nodes, history }),
+            Err(fault) => Err(fault),
         }
     }
 
@@ -89,7 +83,50 @@ impl<D: CutDisk> World<D> {
         ensures { map D.state disks.new.items ≡ disks_of self.nodes ++ map D.state disks.old.items }
     {
         let World { nodes, history: _ } = self;
-        close_all(nodes, disks);
+        close_nodes(nodes, disks);
+    }
+}
+
+/// The nodes of a bus, each over a disk from the front of `disks` that is formatted for it, as [`World::start`] opens
+/// them. After a refusal all disks are back in `disks`, in their order. After `Ok` there is room in `disks` for those
+/// that were taken; [`close_nodes`] puts them back.
+pub fn open_nodes<D: CutDisk>(
+    alloc: Global,
+    bus: &BusConfig,
+    disks: &mut Vec<D>,
+) -> Result<Vec<Node<AnyCells<D>>>, StartFault>
+    ensures opened { IfOk result (λ nodes. OpensNodes bus.now (map D.state disks.old.items) nodes.items) }
+    ensures rest { OnOk result (map D.state disks.new.items ≡ drop (length bus.now.nodes) (map D.state disks.old.items)) }
+    ensures room { OnOk result (vec_len disks.new + length bus.now.nodes ≤ vec_capacity disks.new) }
+    ensures refused { IfErr result (NotStarted bus.now (map D.state disks.old.items) (map D.state disks.new.items)) }
+{
+    match find_room(bus, disks.as_slice()) {
+        Ok(()) => open_in_room(alloc, bus, disks),
+        Err(fault) => Err(fault),
+    }
+}
+
+/// The same where there is room on the disks.
+fn open_in_room<D: CutDisk>(
+    alloc: Global,
+    bus: &BusConfig,
+    disks: &mut Vec<D>,
+) -> Result<Vec<Node<AnyCells<D>>>, StartFault>
+    requires room { HasRoom bus.now (map D.state disks.old.items) }
+    ensures opened { IfOk result (λ nodes. OpensNodes bus.now (map D.state disks.old.items) nodes.items) }
+    ensures rest { OnOk result (map D.state disks.new.items ≡ drop (length bus.now.nodes) (map D.state disks.old.items)) }
+    ensures room { OnOk result (vec_len disks.new + length bus.now.nodes ≤ vec_capacity disks.new) }
+    ensures refused { IfErr result (NotStarted bus.now (map D.state disks.old.items) (map D.state disks.new.items)) }
+{
+    let Ok(mut nodes) = Vec::with_capacity(alloc, bus.nodes().len()) else {
+        return Err(StartFault::Memory);
+    };
+    match open_all(alloc, bus, disks, &mut nodes) {
+        Ok(()) => Ok(nodes),
+        Err(fault) => {
+            close_nodes(nodes, disks);
+            Err(fault)
+        }
     }
 }
 

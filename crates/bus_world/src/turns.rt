@@ -1,5 +1,6 @@
 //! What an event is for its node: a call, and the line that tells its answer.
-ghost use Rattle.std.specs.Prelude.{◌≡◌, ◌≤◌, ◌==◌, None, Some, length, take, find};
+ghost use Rattle.std.specs.Prelude.{◌≡◌, ◌≤◌, ◌<◌, ◌^◌, ◌==◌, None, Some, [], length, take, find, option_map};
+ghost use Rattle.std.specs.Option.{option_map_or};
 ghost use Rattle.freshness_routes.specs.declared.routes.Direction.TheVariants.{Receives};
 ghost use Rattle.bus_machine.specs.Node.{place_of};
 ghost use Rattle.bus_machine.specs.Bus.{World, SentLine, node_of as place_of_node, hearing, NamesSource};
@@ -8,9 +9,9 @@ ghost use Rattle.cut_disk.specs.State.{Cut, Stop, Fail};
 ghost use Rattle.secure_boot.specs.Booting.{IsImage};
 ghost use Rattle.bus_machine.specs.Steps.{sends, receives, loads, keys, boots, cuts, arms};
 ghost use Rattle.secoc_node.specs.Lines.{refusal_of_fault, refusal_of_cut};
-ghost use Rattle.bus_world.specs.Turns.{NodeTurn, duty, duty_of, CanBeDone, NamesSourceIn, HearsPdu, HearsBrought};
+ghost use Rattle.sent_lines.specs.History.{has_values, frame_in};
+ghost use Rattle.bus_world.specs.Turns.{NodeTurn, silent, duty, duty_of, CanBeDone, NamesSourceIn, HearsPdu, HearsBrought};
 
-use crate::history::History;
 use bus_machine::{Event, Line, Refusal};
 use byte_lists::Pdu;
 use cell_store::{Cells, CutCells, Reread};
@@ -18,6 +19,7 @@ use cut_disk::Torn;
 use memory_update::{Request, Update, build};
 use secoc_node::{CutFault, Node, NodeFault};
 use secoc_receiver::Reception;
+use sent_lines::{Frame, History};
 use she_aes::Block;
 
 /// The place of the event's node in the bus.
@@ -37,13 +39,30 @@ pub(crate) fn node_of(event: &Event) -> u8
     }
 }
 
-/// The node of an event does what the event tells it, after what was sent so far.
-pub(crate) fn take_turn<C: CutCells>(node: &mut Node<C>, event: &Event, history: &History) -> Line
+/// What an event is for a node alone, on a bus where nothing was sent: the node does what the event tells it, and an
+/// accepted line is from none. It takes no memory.
+pub fn own_turn<C: CutCells>(node: &mut Node<C>, event: &Event) -> Line
     requires { CanBeDone event.now }
-    ensures turn { (world : World) → world.sent ≡ history.now.lines
+    ensures turn { NodeTurn node.old (duty_of silent event.now) result node.new }
+    ensures source { NamesSource silent result }
+    ensures honest { HearsBrought silent event.now node.old.node result }
+{
+    take_turn(node, event, None)
+}
+
+/// The node of an event does what the event tells it, after what was sent so far on its bus, if it is on one.
+pub(crate) fn take_turn<C: CutCells>(
+    node: &mut Node<C>,
+    event: &Event,
+    history: Option<&History>,
+) -> Line
+    requires { CanBeDone event.now }
+    ensures turn { (world : World) → world.sent ≡ option_map_or (λ h. h.now.lines) history.entry []
         → NodeTurn node.old (duty_of world event.now) result node.new }
-    ensures source { (world : World) → world.sent ≡ history.now.lines → NamesSource world result }
-    ensures honest { (world : World) → world.sent ≡ history.now.lines → HearsBrought world event.now node.old.node result }
+    ensures source { (world : World) → world.sent ≡ option_map_or (λ h. h.now.lines) history.entry []
+        → NamesSource world result }
+    ensures honest { (world : World) → world.sent ≡ option_map_or (λ h. h.now.lines) history.entry []
+        → HearsBrought world event.now node.old.node result }
 {
     match event {
         Event::Send { id, payload, .. } => send(node, *id, payload.bytes()),
@@ -78,22 +97,46 @@ fn send<C: Cells>(node: &mut Node<C>, id: u16, payload: &[u8]) -> Line
 }
 
 /// The node receives the PDU that the event of this number sent, if it did.
-fn deliver<C: Cells>(node: &mut Node<C>, event: u32, history: &History) -> Line
-    ensures turn { NodeTurn node.old (duty (hearing (find (λ s. s.number == event) history.now.lines)) None) result node.new }
-    ensures source { NamesSourceIn history.now.lines result }
-    ensures honest { (s : SentLine) → find (λ s. s.number == event) history.now.lines ≡ Some s
+fn deliver<C: Cells>(node: &mut Node<C>, event: u32, history: Option<&History>) -> Line
+    ensures turn { let lines = option_map_or (λ h. h.now.lines) history.entry [] in
+        NodeTurn node.old (duty (hearing (find (λ s. s.number == event) lines)) None) result node.new }
+    ensures source { NamesSourceIn (option_map_or (λ h. h.now.lines) history.entry []) result }
+    ensures honest { (s : SentLine) → find (λ s. s.number == event) (option_map_or (λ h. h.now.lines) history.entry []) ≡ Some s
         → IsInTime node.old.node s (place_of node.old.node s.id Receives) → IsHeard s result }
 {
-    match history.frame(event) {
+    match frame_of(history, event) {
         Some(frame) => receive(node, frame.id, frame.pdu.bytes(), history),
         None => Line::NoFrame,
     }
 }
 
+/// What the event of this number sent, if it did.
+fn frame_of(history: Option<&History>, event: u32) -> Option<Frame>
+    ensures value { result ≡ frame_in event (option_map_or (λ h. h.now.lines) history.entry []) }
+    ensures bounded { (s : SentLine) → find (λ s. s.number == event) (option_map_or (λ h. h.now.lines) history.entry []) ≡ Some s
+        → s.freshness < 2 ^ 64 }
+{
+    match history {
+        Some(history) => history.frame(event),
+        None => None,
+    }
+}
+
+/// The number of the earliest event that sent this payload with this freshness under this Data ID.
+fn source_of(history: Option<&History>, id: u16, payload: &[u8], freshness: u64) -> Option<u32>
+    ensures { result ≡ option_map (λ s. s.number)
+        (find (has_values id payload.now freshness) (option_map_or (λ h. h.now.lines) history.entry [])) }
+{
+    match history {
+        Some(history) => history.source(id, payload, freshness),
+        None => None,
+    }
+}
+
 /// The node receives a PDU. An accepted line names the earliest event that sent what is accepted.
-fn receive<C: Cells>(node: &mut Node<C>, id: u16, pdu: &[u8], history: &History) -> Line
+fn receive<C: Cells>(node: &mut Node<C>, id: u16, pdu: &[u8], history: Option<&History>) -> Line
     ensures turn { NodeTurn node.old (duty (receives id pdu.now) None) result node.new }
-    ensures source { NamesSourceIn history.now.lines result }
+    ensures source { NamesSourceIn (option_map_or (λ h. h.now.lines) history.entry []) result }
     ensures honest { HearsPdu node.old.node id pdu.now result }
 {
     match node.receive(id, pdu) {
@@ -103,7 +146,7 @@ fn receive<C: Cells>(node: &mut Node<C>, id: u16, pdu: &[u8], history: &History)
                 id,
                 freshness,
                 payload,
-                from: history.source(id, payload.bytes(), freshness),
+                from: source_of(history, id, payload.bytes(), freshness),
             }
         }
         Ok(Reception::FreshnessFailure) => Line::FreshnessFailure,

@@ -1,13 +1,13 @@
 //! The world of a bus.
 ghost use Rattle.std.specs.Prelude.{◌≡◌};
 
-use crate::history::History;
 use crate::turns::{node_of, take_turn};
 use any_cells::AnyCells;
 use bus_machine::{Event, Line};
 use cut_disk::CutDisk;
 use numbered_run::Machine;
 use secoc_node::Node;
+use sent_lines::History;
 use std::marker::Model;
 
 /// The nodes of a bus over their disks, and the lines that were sent on it. Contracts see the states of the nodes and
@@ -52,7 +52,7 @@ impl<D: CutDisk> World<D> {
         ensures honest { NodeHears self.old event.now result }
     {
         let place = node_of(event) as usize;
-        take_turn(&mut self.nodes[place], event, &self.history)
+        take_turn(&mut self.nodes[place], event, Some(&self.history))
     }
 }
 

@@ -156,7 +156,7 @@ pub(crate) fn delivered(node: u8, event: u32, line: Line) -> Turn {
     }
 }
 
-fn can_be_done(event: &Event) -> bool
+pub(crate) fn can_be_done(event: &Event) -> bool
     ensures { IsTrue result → CanBeDone event.now }
 {
     match event {

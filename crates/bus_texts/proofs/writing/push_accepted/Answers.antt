@@ -1,8 +1,6 @@
 use Rattle.std.proofs.Common.{[], ◌∷◌, ◌++◌, ap, ◌∙◌}
 use Rattle.std.specs.Prelude.{codes}
-use Rattle.std.specs.Int.{w16, w64}
 use Rattle.byte_lists.specs.Numbers.{bytes_of}
-use Rattle.byte_lists.specs.NumberLaws.{to_be_bytes-is}
 use Rattle.hex.specs.Hex.{encode_lower}
 use Rattle.bus_texts.specs.LineTexts.{source_word}
 use Rattle.bus_texts.specs.Spaced.{spaced}
@@ -13,8 +11,6 @@ pub returns : goal.returns
 returns c =
     five_added c.args.text.now.items (32 ∷ codes "accepted") (32 ∷ encode_lower (bytes_of 2 c.args.id)) (32 ∷ encode_lower (bytes_of 8 c.args.freshness)) (32 ∷ encode_lower c.args.payload.now)
     (spaced (codes "from" ∷ source_word c.args.from ∷ []))
-    _ _ _ _ _ c.in_ok-push_word.ensures
-    (c.in_ok-push_hex.ensures ∙ ap (λ b. c.push_word.new.text.items ++ 32 ∷ encode_lower b) (c.to_be_bytes.ensures ∙ to_be_bytes-is w16 c.args.id))
-    (c.in_ok-push_hex-2.ensures ∙ ap (λ b. c.push_hex.new.text.items ++ 32 ∷ encode_lower b) (c.to_be_bytes-2.ensures ∙ to_be_bytes-is w64 c.args.freshness))
-    (c.in_ok-push_hex-3.ensures ∙ ap (λ b. c.push_hex-2.new.text.items ++ 32 ∷ encode_lower b) c.bytes.ensures.value)
+    _ _ _ _ _ c.in_ok-push_word.ensures c.in_ok-push_id.ensures c.in_ok-push_freshness.ensures
+    (c.in_ok-push_hex.ensures ∙ ap (λ b. c.push_freshness.new.text.items ++ 32 ∷ encode_lower b) c.bytes.ensures.value)
     c.in_ok-push_source.ensures

@@ -23,5 +23,5 @@ returns-in-Err-attach-clause-refused g c =
 pub returns-in-Err-clause-refused : goal.returns-in-Err-clause-refused
 returns-in-Err-clause-refused g c =
     rw c.open_fault.ensures
-    (not_attached_store c.args.kind c.args.version c.args.config (g.D.Disk.state c.args.disk) (g.D.Disk.state c.in-Err.refused.disk) c.in-Err.refused.fault c.requires.2 c.requires.3
-    (subst (λ k. NotAttached (layout c.args.kind c.args.version) (reads c.args.kind k) (reads_to c.args.kind k) k (g.D.Disk.state c.args.disk) (g.D.Disk.state c.in-Err.refused.disk) c.in-Err.refused.fault) c.requires.0 c.in-Err.ensures.refused))
+    (not_attached_store c.args.kind c.args.version c.args.config (g.D.Disk.state c.args.disk) (g.D.Disk.state c.in-Err.unread.disk) c.in-Err.unread.fault c.requires.2 c.requires.3
+    (subst (λ k. NotAttached (layout c.args.kind c.args.version) (reads c.args.kind k) (reads_to c.args.kind k) k (g.D.Disk.state c.args.disk) (g.D.Disk.state c.in-Err.unread.disk) c.in-Err.unread.fault) c.requires.0 c.in-Err.ensures.refused))

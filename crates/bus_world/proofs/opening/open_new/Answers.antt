@@ -26,4 +26,4 @@ pub returns-in-Err-clause-refused : goal.returns-in-Err-clause-refused
 returns-in-Err-clause-refused g c =
     rw c.open_fault.ensures
     (not_formatted c.args.kind c.args.version c.args.config.now (g.D.Disk.state c.args.disk) (g.D.Disk.state c.in-Err.refused.disk) c.in-Err.refused.fault _ c.requires.0
-    c.first_cells-count.ensures.cells c.requires.1 c.in-Err.ensures.refused)
+    c.first_cells-count.ensures.cells c.requires.1 c.in-Err.ensures.refused c.in-Err.ensures.unformed)

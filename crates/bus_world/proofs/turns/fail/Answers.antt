@@ -16,4 +16,6 @@ returns g c = record {
   runs = runs_more 6 (omega arith) (subst (λ n. Runs (Fail n ∷ []) 1 c.args.node.now.store.disk c.fail_at.new.self.store.disk) c.from.ensures c.fail_at.ensures.runs);
   fits = c.fail_at.ensures.fits;
   faults = c.fail_at.ensures.faults;
+  image = tt;
+  untouched = tt;
 }

@@ -16,4 +16,6 @@ returns g c = record {
   runs = runs_more 6 (omega arith) (subst (λ n. Runs (Stop n ∷ []) 1 c.args.node.now.store.disk c.stop_at.new.self.store.disk) c.from.ensures c.stop_at.ensures.runs);
   fits = c.stop_at.ensures.fits;
   faults = c.stop_at.ensures.faults;
+  image = tt;
+  untouched = tt;
 }

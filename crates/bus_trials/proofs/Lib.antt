@@ -1,0 +1,4 @@
+mod Drawing
+mod TrialLists
+mod TrialValues
+mod Trials

@@ -1,0 +1,4 @@
+pub mod Draws
+pub mod Trials
+pub mod TrialLaws
+pub mod TrialSteps

@@ -1,0 +1,144 @@
+-- What follows from the row of a start that is refused
+use Rattle.std.specs.Prelude.{◌≡◌, ◌⊎◌, ℕ, ◌-◌, ◌<◌, ◌≤◌, true, None, Some, Option, List, [], length, drop, get_or}
+use Rattle.std.proofs.Common.{refl, sym, subst, inl, inr, arith}
+use Rattle.cut_disk.specs.State.{DiskState, Told}
+use Rattle.cut_disk.specs.Arming.{no_arms}
+use Rattle.cut_disk.specs.Calls.{Rose, Runs, IsQuiet}
+use Rattle.cut_disk.specs.CallLaws.{runs_none, runs_more}
+use Rattle.fault_count.specs.FaultCount.{last_count}
+use Rattle.cell_store.specs.declared.faults.Reread.TheVariants as reread
+use Rattle.bus_machine.specs.Bus.{no_config}
+use Rattle.bus_nodes.specs.declared.nodes.NodeLine.{NodeLine}
+use Rattle.bus_nodes.specs.Buses.{NamedBus}
+use Rattle.bus_world.specs.declared.start.StartFault.{StartFault}
+use Rattle.bus_world.specs.declared.start.StartFault.TheVariants as fault
+use Rattle.bus_world.specs.Starts.{start_calls, HasRoom, OfNumber, Broken, NotStarted, FindsRoom}
+use Rattle.bus_world.specs.StartRows.{start_row, StoreCause, LeavesEach, RefusesStart, DisksDo}
+
+-- something past the last node
+no_line : NodeLine
+no_line = record { name = []; config = no_config }
+
+-- a start is refused with 9, with 10, or for want of memory
+pub start_statuses : (f : StartFault) → ((start_row f).status ≡ 9) ⊎ (((start_row f).status ≡ 10) ⊎ (f ≡ fault.Memory))
+start_statuses fault.TooFew = inl refl
+start_statuses (fault.TooSmall node) = inl refl
+start_statuses (fault.Store node cause) = inr (inl refl)
+start_statuses (fault.BadSlot node slot) = inr (inl refl)
+start_statuses (fault.BadBound node cell) = inr (inl refl)
+start_statuses fault.Memory = inr (inr refl)
+
+-- 9 comes before any call of a disk
+pub refused_at_9 : (bus : NamedBus) (before after : List DiskState) (f : StartFault) → NotStarted bus before after f → (start_row f).status ≡ 9
+    → FindsRoom bus before f × (after ≡ before)
+refused_at_9 bus before after fault.TooFew refused is = refused
+refused_at_9 bus before after (fault.TooSmall node) refused is = refused
+refused_at_9 bus before after (fault.Store node cause) refused is = absurd (let no : ⊥ = omega (arith, is) in no)
+refused_at_9 bus before after (fault.BadSlot node slot) refused is = absurd (let no : ⊥ = omega (arith, is) in no)
+refused_at_9 bus before after (fault.BadBound node cell) refused is = absurd (let no : ⊥ = omega (arith, is) in no)
+refused_at_9 bus before after fault.Memory refused is = absurd (let no : ⊥ = omega (arith, is) in no)
+
+-- a quiet disk doesn't fail
+quiet_stays : (n : ℕ) (old new : DiskState) → Runs [] n old new → IsQuiet old → (old.faults < new.faults) ⊎ (last_count ≤ new.faults) → ⊥
+quiet_stays n old new runs quiet (inl more) = omega (arith, (runs.quiet refl quiet).faults, more)
+quiet_stays n old new runs quiet (inr top) = omega (arith, (runs.quiet refl quiet).faults, quiet.below, top)
+
+loud_at : (bus : NamedBus) (before after : List DiskState) (f : StartFault) (number : ℕ) → Broken bus before after f
+    → OfNumber bus before after number (λ old new. Rose old.faults new.faults) → OfNumber bus before after number (λ old new. Rose old.faults new.faults × ¬ IsQuiet old)
+loud_at bus before after f number broken of = record {
+  least = of.least;
+  most = of.most;
+  disk = λ d. (
+    of.disk d,
+    λ quiet. quiet_stays _ (get_or before (number - 1) d) (get_or after (number - 1) d)
+        (broken.left (number - 1) no_line d (omega (arith, of.least, of.most))).0 quiet (of.disk d),
+  );
+  earlier = of.earlier;
+  later = of.later;
+}
+
+-- 10 comes where a store failed, or its disk doesn't tell its bytes
+pub refused_at_10 : (bus : NamedBus) (before after : List DiskState) (f : StartFault) → NotStarted bus before after f → (start_row f).status ≡ 10 → StoreCause bus before after f
+refused_at_10 bus before after fault.TooFew refused is = absurd (let no : ⊥ = omega (arith, is) in no)
+refused_at_10 bus before after (fault.TooSmall node) refused is = absurd (let no : ⊥ = omega (arith, is) in no)
+refused_at_10 bus before after (fault.Store node reread.DiskFailed) refused is = loud_at bus before after (fault.Store node reread.DiskFailed) node refused refused.cause
+refused_at_10 bus before after (fault.Store node reread.NotFormatted) refused is = refused.cause
+refused_at_10 bus before after (fault.Store node (reread.Damaged place)) refused is = refused.cause
+refused_at_10 bus before after (fault.BadSlot node slot) refused is = refused.cause
+refused_at_10 bus before after (fault.BadBound node cell) refused is = refused.cause
+refused_at_10 bus before after fault.Memory refused is = absurd (let no : ⊥ = omega (arith, is) in no)
+
+left_of : (bus : NamedBus) (before after : List DiskState) (f : StartFault) → Broken bus before after f → LeavesEach bus before after
+left_of bus before after f broken = record { count = broken.count; each = broken.left; rest = broken.rest; leaves = broken.leaves }
+
+left_same : (bus : NamedBus) (before after : List DiskState) → after ≡ before → LeavesEach bus before after
+left_same bus before after same = subst (λ (disks : List DiskState). LeavesEach bus before disks) (sym same) (record {
+  count = refl;
+  each = λ i l d inside. (runs_more (start_calls bus.kind (get_or bus.nodes i l).config) (omega arith) (runs_none (get_or before i d)), inl refl);
+  rest = refl;
+  leaves = λ i l d inside. inl refl;
+})
+
+-- what a start that is refused leaves, whatever its cause
+pub start_leaves : (bus : NamedBus) (before after : List DiskState) (f : StartFault) → NotStarted bus before after f → LeavesEach bus before after
+start_leaves bus before after fault.TooFew refused = left_same bus before after refused.1
+start_leaves bus before after (fault.TooSmall node) refused = left_same bus before after refused.1
+start_leaves bus before after (fault.Store node cause) refused = left_of bus before after (fault.Store node cause) refused
+start_leaves bus before after (fault.BadSlot node slot) refused = left_of bus before after (fault.BadSlot node slot) refused
+start_leaves bus before after (fault.BadBound node cell) refused = left_of bus before after (fault.BadBound node cell) refused
+start_leaves bus before after fault.Memory refused = left_of bus before after fault.Memory refused
+
+-- a start that isn't refused for want of memory is refused for its disks
+pub start_refuses : (bus : NamedBus) (before after : List DiskState) (f : StartFault) → NotStarted bus before after f → (f ≡ fault.Memory → ⊥) → RefusesStart bus before after f
+start_refuses bus before after f refused other = elim (start_statuses f) [
+  | inl nine ↦ inl (refused_at_9 bus before after f refused nine)
+  | inr more ↦ elim more [
+    | inl ten ↦ inr (refused_at_10 bus before after f refused ten, start_leaves bus before after f refused)
+    | inr memory ↦ absurd (other memory)
+  ]
+]
+
+-- without room a start is refused with 9
+pub start_without_room : (bus : NamedBus) (before after : List DiskState) (f : StartFault) → NotStarted bus before after f → (HasRoom bus before → ⊥) → (start_row f).status ≡ 9
+start_without_room bus before after fault.TooFew refused none = refl
+start_without_room bus before after (fault.TooSmall node) refused none = refl
+start_without_room bus before after (fault.Store node cause) refused none = absurd (none refused.room)
+start_without_room bus before after (fault.BadSlot node slot) refused none = absurd (none refused.room)
+start_without_room bus before after (fault.BadBound node cell) refused none = absurd (none refused.room)
+start_without_room bus before after fault.Memory refused none = absurd (none refused.room)
+
+-- ---- disks that do
+
+told_not_none : (o : Option Told) (t : Told) → o ≡ Some t → o ≡ None → ⊥
+told_not_none o t told none = cc
+
+-- a disk that is quiet, or doesn't fail, doesn't fail
+does_not_fail : (n : ℕ) (old new : DiskState) → Runs [] n old new → Rose old.faults new.faults → IsQuiet old ⊎ ¬ Rose old.faults new.faults → ⊥
+does_not_fail n old new runs rose (inl quiet) = quiet_stays n old new runs quiet rose
+does_not_fail n old new runs rose (inr calm) = calm rose
+
+-- any disk
+no_disk : DiskState
+no_disk = record { size = 0; told = None; arms = no_arms; faults = 0; quiet = true; past = None }
+
+-- no disk of them is refused for what it has
+told_at : (bus : NamedBus) (before after : List DiskState) (number : ℕ) → OfNumber bus before after number (λ old new. old.told ≡ None) → DisksDo bus before after → ⊥
+told_at bus before after number of able =
+    let has = able (number - 1) no_disk (omega (arith, of.least, of.most)) in
+    told_not_none (get_or before (number - 1) no_disk).told has.0.0 has.0.1 (of.disk no_disk)
+
+-- a start over them, where there is room, is refused for want of memory alone
+pub start_wants_memory : (bus : NamedBus) (before after : List DiskState) (f : StartFault) → NotStarted bus before after f → HasRoom bus before → DisksDo bus before after
+    → f ≡ fault.Memory
+start_wants_memory bus before after fault.TooFew refused room able = absurd (let no : ⊥ = omega (arith, refused.0, room.enough) in no)
+start_wants_memory bus before after (fault.TooSmall node) refused room able =
+    absurd (let no : ⊥ = omega (arith, refused.0.small no_line no_disk, room.room (node - 1) no_line no_disk (omega (arith, refused.0.least, refused.0.most))) in no)
+start_wants_memory bus before after (fault.Store node reread.DiskFailed) refused room able =
+    let inside : node - 1 < length bus.nodes = omega (arith, refused.cause.least, refused.cause.most) in
+    absurd (does_not_fail _ (get_or before (node - 1) no_disk) (get_or after (node - 1) no_disk) (refused.left (node - 1) no_line no_disk inside).0 (refused.cause.disk no_disk)
+    (able (node - 1) no_disk inside).1)
+start_wants_memory bus before after (fault.Store node reread.NotFormatted) refused room able = absurd (told_at bus before after node refused.cause able)
+start_wants_memory bus before after (fault.Store node (reread.Damaged place)) refused room able = absurd (told_at bus before after node refused.cause able)
+start_wants_memory bus before after (fault.BadSlot node slot) refused room able = absurd (told_at bus before after node refused.cause able)
+start_wants_memory bus before after (fault.BadBound node cell) refused room able = absurd (told_at bus before after node refused.cause able)
+start_wants_memory bus before after fault.Memory refused room able = refl

@@ -1,0 +1,63 @@
+-- How a start that is refused is answered, and what it leaves of the disks, whichever row it is
+use Rattle.std.specs.Prelude.{◌≡◌, ◌⊎◌, ℕ, ◌-◌, ◌<◌, ◌≤◌, None, Some, List, [], ◌++◌, length, drop, get_or, codes}
+use Rattle.std.specs.Fmt.{decimal}
+use Rattle.cut_disk.specs.State.{DiskState, Told}
+use Rattle.cut_disk.specs.Calls.{Rose, Runs, IsQuiet}
+use Rattle.cell_store.specs.declared.faults.Reread.{Reread}
+use Rattle.cell_store.specs.declared.faults.Reread.TheVariants as reread
+use Rattle.answer_rows.specs.Rows.{Row, row_of, memory_row}
+use Rattle.bus_nodes.specs.declared.nodes.NodeLine.{NodeLine}
+use Rattle.bus_nodes.specs.Buses.{NamedBus}
+use Rattle.bus_world.specs.declared.start.StartFault.{StartFault}
+use Rattle.bus_world.specs.declared.start.StartFault.TheVariants as fault
+use Rattle.bus_world.specs.Starts.{start_calls, LeftOver, LeavesDisk, FindsRoom, OfNumber}
+
+-- why a node's store isn't read again, with the line feed
+abbrev pub reread_text : Reread → List ℕ
+reread_text reread.DiskFailed = codes "DiskFailed\n"
+reread_text reread.NotFormatted = codes "NotFormatted\n"
+reread_text (reread.Damaged place) = codes "Damaged " ++ (decimal place ++ codes "\n")
+
+-- 9 where the disks aren't such as the bus needs, 10 where a store fails, and want of memory; a node is told by its number, from 1
+abbrev pub start_row : StartFault → Row
+start_row fault.TooFew = row_of 9 (codes "disks: too few\n")
+start_row (fault.TooSmall node) = row_of 9 (codes "disks: node " ++ (decimal node ++ codes " too small\n"))
+start_row (fault.Store node cause) = row_of 10 (codes "store: node " ++ (decimal node ++ (codes ": " ++ reread_text cause)))
+start_row (fault.BadSlot node slot) = row_of 10 (codes "store: node " ++ (decimal node ++ (codes ": BadSlot " ++ (decimal slot ++ codes "\n"))))
+start_row (fault.BadBound node cell) = row_of 10 (codes "store: node " ++ (decimal node ++ (codes ": BadBound " ++ (decimal cell ++ codes "\n"))))
+start_row fault.Memory = memory_row
+
+-- that row, or want of memory
+abbrev pub IsStartRow : StartFault → Row → Type 0
+IsStartRow fault row = (row ≡ start_row fault) ⊎ (row ≡ memory_row)
+
+-- the disk of the named node failed in the call: its count rose, and it wasn't quiet; or it doesn't tell its bytes
+abbrev pub StoreCause : NamedBus → List DiskState → List DiskState → StartFault → Type 0
+StoreCause bus before after (fault.Store number reread.DiskFailed) = OfNumber bus before after number (λ old new. Rose old.faults new.faults × ¬ IsQuiet old)
+StoreCause bus before after (fault.Store number cause) = OfNumber bus before after number (λ old new. old.told ≡ None)
+StoreCause bus before after (fault.BadSlot number slot) = OfNumber bus before after number (λ old new. old.told ≡ None)
+StoreCause bus before after (fault.BadBound number cell) = OfNumber bus before after number (λ old new. old.told ≡ None)
+StoreCause bus before after fault = ⊥
+
+-- only calls without a mark were made of the disk of each node, so it tells its bytes where it told them; it is as it was, or was formatted for a new
+-- node and written no more, or its format failed; the others are as before
+pub record LeavesEach (bus : NamedBus) (before after : List DiskState) : Type 0 where
+  pub count : length after ≡ length before
+  pub each : (i : ℕ) (l : NodeLine) (d : DiskState) → i < length bus.nodes
+      → Runs [] (start_calls bus.kind (get_or bus.nodes i l).config) (get_or before i d) (get_or after i d)
+      × LeftOver bus.kind bus.version (get_or bus.nodes i l).config (get_or before i d) (get_or after i d)
+  pub rest : drop (length bus.nodes) after ≡ drop (length bus.nodes) before
+  pub leaves : (i : ℕ) (l : NodeLine) (d : DiskState) → i < length bus.nodes
+      → LeavesDisk bus.kind bus.version (get_or bus.nodes i l).config (get_or before i d) (get_or after i d)
+
+-- why a start is refused with 9 or with 10, and what it leaves of the disks
+abbrev pub RefusesStart : NamedBus → List DiskState → List DiskState → StartFault → Type 0
+RefusesStart bus before after fault =
+    (FindsRoom bus before fault × (after ≡ before)) ⊎ (StoreCause bus before after fault × LeavesEach bus before after)
+
+-- the disk of each node tells its bytes, and was quiet, or didn't fail
+abbrev pub DisksDo : NamedBus → List DiskState → List DiskState → Type 0
+DisksDo bus before after =
+    (i : ℕ) (d : DiskState) → i < length bus.nodes
+    → ((told : Told) × ((get_or before i d).told ≡ Some told))
+    × (IsQuiet (get_or before i d) ⊎ ¬ Rose (get_or before i d).faults (get_or after i d).faults)

@@ -1,0 +1,10 @@
+//! What was sent on a bus: how many events there were, the lines that were sent, and how one of them is found, by the
+//! number of its event or by what it carries.
+#![tactic(auto)]
+
+mod history;
+mod records;
+#[cfg(test)]
+mod tests;
+
+pub use history::{Frame, History};
