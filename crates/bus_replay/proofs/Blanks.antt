@@ -19,9 +19,9 @@ use Rattle.bus_nodes.specs.Buses.{NamedBus, IsNamedBus, most_routes}
 use Rattle.bus_world.specs.Starts.{FindsRoom, OfNumber}
 use Rattle.bus_world.specs.declared.start.StartFault.{StartFault}
 use Rattle.bus_world.specs.declared.start.StartFault.TheVariants.{TooFew, TooSmall, Store, BadSlot, BadBound, Memory}
-use Rattle.bus_replay.specs.Answers.{Inputs, DisksRefused, StoreRefused, StoreCause}
+use Rattle.bus_commands.specs.Answers.{Inputs, DisksRefused, StoreRefused, StoreCause}
 use Rattle.bus_replay.specs.Blank.{AreBlank, AreGiven}
-use Rattle.bus_replay.proofs.Starting.{no_line}
+use Rattle.bus_commands.proofs.Starting.{no_line}
 
 -- what the program's disks mean
 abbrev pub states : List MemDisk → List DiskState
