@@ -2,7 +2,6 @@ pub mod Canonical
 pub mod Each
 pub mod AnswerSizes
 pub mod Judged
-pub mod Phases
 pub mod Summing
 pub mod Replaying
 pub mod Starting
@@ -16,11 +15,13 @@ pub mod QuietRuns
 pub mod TracedRuns
 pub mod Honesty
 pub mod WholeRun
-pub mod Rows
-pub mod Ending
-pub mod Clauses
 pub mod WholeTrial
 pub mod WordTexts
-pub mod TrialPhases
-pub mod TrialEnding
-pub mod TrialClauses
+pub mod Asking
+pub mod Preparing
+pub mod Refusing
+pub mod RowEnds
+pub mod RowFacts
+pub mod Promises
+pub mod Doing
+pub mod Summed

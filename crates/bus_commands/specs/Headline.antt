@@ -23,7 +23,7 @@ use Rattle.bus_machine.specs.Past.{TracedDisk}
 use Rattle.bus_nodes.specs.Buses.{NamedBus, configs_of}
 use Rattle.bus_texts.specs.LineTexts.{line_text}
 use Rattle.secoc_node.specs.Fits.{Fits}
-use Rattle.bus_commands.specs.Replays.{written_status, Ran, NotReplayed}
+use Rattle.bus_commands.specs.Replays.{Ran}
 
 -- the disk of each node tells its bytes
 abbrev pub TellEach : NamedBus → List DiskState → Type 0
@@ -129,13 +129,6 @@ pub record Replayed (bus : NamedBus) (before after : List DiskState) (events : L
   pub disks : DisksFollow bus before after moments last
   pub failures : (i : ℕ) (d : DiskState) → i < length bus.nodes → FailuresCounted i (get_or before i d) (get_or after i d) moments
   pub honest : Honest bus before events moments
-
--- how a replay ends: with turns of its first events, of which over disks that tell their bytes all of this holds, or not started
-abbrev pub EndsReplayed : NamedBus → List Event → List DiskState → List DiskState → SinkState → SinkState → ℕ → Type 0
-EndsReplayed bus events before after sink_before sink_after status =
-    ((result : Result (Unit {0}) Unwritten) × Ran bus before after events sink_before sink_after result × (status ≡ written_status result)
-    × (TellEach bus before → Replayed bus before after events sink_before sink_after result))
-    ⊎ NotReplayed bus before after sink_before sink_after status
 
 -- what was done of a replay over disks that tell their bytes has all of this
 abbrev pub ReplaysAreRuns : Type 0

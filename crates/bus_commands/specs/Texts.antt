@@ -13,8 +13,7 @@ use Rattle.text_lines.specs.Texts.{line, outcome_text, bad_length_text}
 use Rattle.bus_machine.specs.declared.events.Event.{Event}
 use Rattle.bus_script.specs.EventForms.{events_of}
 use Rattle.bus_script.specs.Canon.{canon}
-use Rattle.bus_commands.specs.declared.task.Task.{Task}
-use Rattle.bus_commands.specs.declared.task.Task.TheVariants.{Frame, Judge, Check, Replay}
+use Rattle.bus_commands.specs.Tasks.{Task, frame, judge, check, replay}
 
 -- the line of words that is printed where the words are of no form
 abbrev pub usage : List ℕ
@@ -22,7 +21,7 @@ usage = line (codes "usage: frame F, judge F, check B F, replay B F, trial B N S
 
 -- a line of `frame` is answered by the digits of the frame that is its Secured I-PDU
 abbrev pub TellsFrame : FrameLine → List ℕ → Type 0
-TellsFrame l text = (frame : List ℕ) × Secured l.key l.id l.payload l.freshness frame × (text ≡ line (encode_lower frame))
+TellsFrame l text = (pdu : List ℕ) × Secured l.key l.id l.payload l.freshness pdu × (text ≡ line (encode_lower pdu))
 
 -- a line of `judge` is answered by the verdict on its PDU, of a receiver with the widest window, or by its bad length
 abbrev pub TellsJudgement : JudgeLine → List ℕ → Type 0
@@ -38,15 +37,15 @@ TellsEach Tells (l ∷ lines) text =
 
 -- the text is what a task prints of an input; of a replay see the text that its run prints
 abbrev pub Prints : Task → List ℕ → List ℕ → Type 0
-Prints Frame input text = (lines : List FrameLine) × (frames_of input ≡ Ok lines) × TellsEach TellsFrame lines text
-Prints Judge input text = (lines : List JudgeLine) × (judges_of input ≡ Ok lines) × TellsEach TellsJudgement lines text
-Prints (Check bus) input text =
+Prints frame input text = (lines : List FrameLine) × (frames_of input ≡ Ok lines) × TellsEach TellsFrame lines text
+Prints judge input text = (lines : List JudgeLine) × (judges_of input ≡ Ok lines) × TellsEach TellsJudgement lines text
+Prints (check bus) input text =
     (events : List Event) × (events_of bus.nodes input ≡ Ok events) × (text ≡ flat_map (canon bus.nodes) events)
-Prints (Replay bus) input text = ⊥
+Prints (replay bus) input text = ⊥
 
 -- the first fault of an input, if it has one
 abbrev pub fault_of : Task → List ℕ → Option Fault
-fault_of Frame input = result_err (frames_of input)
-fault_of Judge input = result_err (judges_of input)
-fault_of (Check bus) input = result_err (events_of bus.nodes input)
-fault_of (Replay bus) input = result_err (events_of bus.nodes input)
+fault_of frame input = result_err (frames_of input)
+fault_of judge input = result_err (judges_of input)
+fault_of (check bus) input = result_err (events_of bus.nodes input)
+fault_of (replay bus) input = result_err (events_of bus.nodes input)

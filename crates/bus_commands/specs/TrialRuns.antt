@@ -1,7 +1,5 @@
 -- A trial: a run of the events that a seed gives, over formatted disks, and its summary (own)
-use Rattle.std.specs.Prelude.{◌≡◌, ◌⊎◌, ℕ, ◌<◌, List, ◌++◌, length, drop, get_or}
-use Rattle.bus_port.specs.Sink.{SinkState}
-use Rattle.command_edge.specs.Told.{EndingTold}
+use Rattle.std.specs.Prelude.{◌≡◌, ℕ, ◌<◌, List, ◌++◌, length, drop, get_or}
 use Rattle.cut_disk.specs.State.{DiskState}
 use Rattle.machine_runs.specs.Run.{commands_in, lines_in}
 use Rattle.numbered_run.specs.Driven.{FirstDone}
@@ -14,15 +12,10 @@ use Rattle.bus_nodes.specs.Buses.{NamedBus, IsNamedBus, configs_of}
 use Rattle.bus_world.specs.Worlds.{BusState, BusTurn}
 use Rattle.bus_world.specs.Starts.{Started, disks_of}
 use Rattle.bus_commands.specs.declared.summary.Summary.{Summary}
-use Rattle.bus_commands.specs.Summaries.{summary_of, summary_text}
-use Rattle.bus_commands.specs.Replays.{NotReplayed}
+use Rattle.bus_commands.specs.Summaries.{summary_of}
 use Rattle.bus_commands.specs.Headline.{TellEach, EachSkipsLittle, DisksFollow, FailuresCounted, Honest}
 
 -- ---- over disks of any kind
-
--- the seven lines are told, or there was no memory for their text
-abbrev pub TellsSummary : Summary → SinkState → SinkState → ℕ → Type 0
-TellsSummary summary before after status = EndingTold before after (summary_text summary) 0 status ⊎ ((status ≡ 7) × (after ≡ before))
 
 -- all events were done as turns, and the numbers are those of their lines
 abbrev pub SummedTurns : BusState → BusState → List Event → Summary → Type 0
@@ -37,12 +30,6 @@ pub record RanThrough (bus : NamedBus) (before after : List DiskState) (events :
   pub started : Started bus (length events) before start
   pub turns : SummedTurns start now events summary
   pub disks : after ≡ disks_of now.nodes ++ drop (length bus.nodes) before
-
--- how a trial of these events ends
-abbrev pub EndsTrial : NamedBus → List Event → List DiskState → List DiskState → SinkState → SinkState → ℕ → Type 0
-EndsTrial bus events before after sink_before sink_after status =
-    ((summary : Summary) × RanThrough bus before after events summary × TellsSummary summary sink_before sink_after status)
-    ⊎ NotReplayed bus before after sink_before sink_after status
 
 -- ---- over disks that tell their bytes
 
@@ -61,14 +48,6 @@ pub record Tried (bus : NamedBus) (before after : List DiskState) (events : List
   pub disks : DisksFollow bus before after moments last
   pub failures : (i : ℕ) (d : DiskState) → i < length bus.nodes → FailuresCounted i (get_or before i d) (get_or after i d) moments
   pub honest : Honest bus before events moments
-
--- how a trial ends: with the turns of all events, of which over disks that tell their bytes all of this holds, whatever became of the text;
--- or not started
-abbrev pub EndsTried : NamedBus → List Event → List DiskState → List DiskState → SinkState → SinkState → ℕ → Type 0
-EndsTried bus events before after sink_before sink_after status =
-    ((summary : Summary) × RanThrough bus before after events summary × TellsSummary summary sink_before sink_after status
-    × (TellEach bus before → Tried bus before after events summary))
-    ⊎ NotReplayed bus before after sink_before sink_after status
 
 -- what was done of a trial over disks that tell their bytes has all of this
 abbrev pub TrialsAreRuns : Type 0

@@ -2,39 +2,38 @@
 use Rattle.std.specs.Prelude.{◌≡◌, ℕ, List, [], ◌∷◌, codes}
 use Rattle.bus_commands.specs.TrialWords.{NamesTrial}
 use Rattle.bus_commands.specs.declared.words.Command.{Command}
-use Rattle.bus_commands.specs.declared.words.Command.TheVariants.{Frame, Judge, Check, Replay, Trial}
+use Rattle.bus_commands.specs.declared.words.Command.TheVariants.{Lines, World}
+use Rattle.bus_commands.specs.declared.words.LineCommand.TheVariants.{Frame, Judge, Check}
+use Rattle.bus_commands.specs.declared.words.WorldCommand.TheVariants.{Replay, Trial}
 
 -- the first of two words, of which the second names a file of lines, asks for this command
 abbrev pub NamesCommand : List ℕ → Command → Type 0
-NamesCommand word Frame = word ≡ codes "frame"
-NamesCommand word Judge = word ≡ codes "judge"
-NamesCommand word Check = ⊥
-NamesCommand word Replay = ⊥
-NamesCommand word (Trial trial) = ⊥
+NamesCommand word (Lines Frame) = word ≡ codes "frame"
+NamesCommand word (Lines Judge) = word ≡ codes "judge"
+NamesCommand word (Lines Check) = ⊥
+NamesCommand word (World command) = ⊥
 
 -- the first of three words, of which the others name a bus file and a script, asks for this command
 abbrev pub NamesBusCommand : List ℕ → Command → Type 0
-NamesBusCommand word Frame = ⊥
-NamesBusCommand word Judge = ⊥
-NamesBusCommand word Check = word ≡ codes "check"
-NamesBusCommand word Replay = word ≡ codes "replay"
-NamesBusCommand word (Trial trial) = ⊥
+NamesBusCommand word (Lines Frame) = ⊥
+NamesBusCommand word (Lines Judge) = ⊥
+NamesBusCommand word (Lines Check) = word ≡ codes "check"
+NamesBusCommand word (World Replay) = word ≡ codes "replay"
+NamesBusCommand word (World (Trial trial)) = ⊥
 
--- the first of four words, of which the second names a bus file, the third is a number of events and the fourth a seed, asks for this command
+-- the first of four words, of which the second names a bus file, the third is a number of events and the fourth a seed, asks for
+-- this command
 abbrev pub NamesTrialCommand : List ℕ → List ℕ → List ℕ → Command → Type 0
-NamesTrialCommand word count seed (Trial trial) = NamesTrial word count seed trial
-NamesTrialCommand word count seed Frame = ⊥
-NamesTrialCommand word count seed Judge = ⊥
-NamesTrialCommand word count seed Check = ⊥
-NamesTrialCommand word count seed Replay = ⊥
+NamesTrialCommand word count seed (World (Trial trial)) = NamesTrial word count seed trial
+NamesTrialCommand word count seed (World Replay) = ⊥
+NamesTrialCommand word count seed (Lines command) = ⊥
 
 -- with no words it is `frame` over standard input
 abbrev pub IsDefault : Command → Type 0
-IsDefault Frame = Unit {0}
-IsDefault Judge = ⊥
-IsDefault Check = ⊥
-IsDefault Replay = ⊥
-IsDefault (Trial trial) = ⊥
+IsDefault (Lines Frame) = Unit {0}
+IsDefault (Lines Judge) = ⊥
+IsDefault (Lines Check) = ⊥
+IsDefault (World command) = ⊥
 
 -- the words ask for this command; words of another form ask for none
 abbrev pub Asks : List (List ℕ) → Command → Type 0
@@ -44,11 +43,6 @@ Asks (word ∷ file ∷ []) command = NamesCommand word command
 Asks (word ∷ bus ∷ file ∷ []) command = NamesBusCommand word command
 Asks (word ∷ bus ∷ count ∷ seed ∷ []) command = NamesTrialCommand word count seed command
 Asks (word ∷ bus ∷ count ∷ seed ∷ more ∷ words) command = ⊥
-
--- the command reads lines; a trial reads none
-abbrev pub ReadsLinesCommand : Command → Type 0
-ReadsLinesCommand (Trial trial) = ⊥
-ReadsLinesCommand command = Unit {0}
 
 -- the words are of no form
 abbrev pub AsksNothing : List (List ℕ) → Type 0

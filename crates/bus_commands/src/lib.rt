@@ -6,25 +6,18 @@
 #![tactic(auto)]
 
 mod events;
+mod inputs;
 mod job;
 pub mod laws;
 mod lines;
 mod questions;
-mod refusal;
 mod replay;
-#[cfg(test)]
-mod replay_tests;
 pub mod run;
+mod start_faults;
 mod summary;
-mod task;
-#[cfg(test)]
-mod tests;
 mod trial;
-#[cfg(test)]
-mod trial_run_tests;
-#[cfg(test)]
-mod trial_tests;
 mod trial_words;
 pub mod words;
 
+pub use summary::Summary;
 pub use trial_words::TrialWords;

@@ -8,8 +8,9 @@ ghost use Rattle.bus_commands.specs.Steps.{HasPayload, IsAny, Adds, ReadsLines};
 use crate::lines::{
     KeptSchedule, most_frame_bytes, most_judgement_bytes, push_frame, push_judgement,
 };
-use crate::refusal::Refusal;
+use answer_rows::Refusal;
 use bus_script::{FrameLine, JudgeLine, ScriptFault, read_frames, read_judges};
+use line_rows::line_refusal;
 use she_aes::Block;
 use std::alloc::{AllocError, Global};
 
@@ -88,7 +89,7 @@ pub fn questions<Q: Question>(alloc: Global, input: &[u8]) -> Result<Vec<Q>, Ref
 {
     match Q::read_lines(alloc, input) {
         Ok(lines) => Ok(lines),
-        Err(fault) => Err(Refusal::of_line(alloc, fault)),
+        Err(fault) => Err(line_refusal(alloc, fault)),
     }
 }
 

@@ -1,17 +1,18 @@
 //! A trial: a run of the events that a seed gives, and its summary.
-ghost use Rattle.std.specs.Prelude.{◌≤◌, All, length, map};
-ghost use Rattle.text_lines.specs.Frames.{most_lines};
+ghost use Rattle.std.specs.Prelude.{map};
+ghost use Rattle.answer_rows.specs.Endings.{EndsInRow};
 ghost use Rattle.bus_nodes.specs.Buses.{IsNamedBus};
-ghost use Rattle.bus_script.specs.ScriptEvents.{IsScriptEvent};
-ghost use Rattle.bus_commands.specs.TrialRuns.{EndsTrial, TellsSummary};
+ghost use Rattle.bus_commands.specs.Steps.{AreEvents, DoesTrial, TellsSummary};
 
-use crate::replay::refuse;
+use crate::laws::trials_are_runs;
+use crate::start_faults::start_refusal;
 use crate::summary::Summary;
+use answer_rows::{Refusal, tell_refusal};
 use bus_machine::Event;
 use bus_nodes::BusConfig;
 use bus_port::Sink;
 use bus_world::{Start, World};
-use command_edge::{DONE, NO_MEMORY, tell};
+use command_edge::{DONE, tell};
 use cut_disk::CutDisk;
 use numbered_run::count_run;
 use std::alloc::{AllocError, Global};
@@ -25,14 +26,15 @@ pub fn trial<K: Sink, D: CutDisk>(
     disks: &mut Vec<D>,
 ) -> u8
     requires is_bus { IsNamedBus bus.now }
-    requires are_events { All (IsScriptEvent bus.now.nodes) events.now }
-    requires few { length events.now ≤ most_lines }
-    ensures { EndsTrial bus.now events.now (map D.state disks.old.items) (map D.state disks.new.items) (K.state sink.old) (K.state sink.new) result }
+    requires are_events { AreEvents bus.now events.now }
+    ensures { EndsInRow (DoesTrial bus.now events.now (record { before = map D.state disks.old.items; after = map D.state disks.new.items }))
+        (record { before = K.state sink.old; after = K.state sink.new; status = result }) }
 {
+    trials_are_runs();
     let started = World::start(alloc, bus, disks, events.len() as u32, Start::Format);
     let mut world = match started {
         Ok(world) => world,
-        Err(fault) => return refuse(alloc, &fault, sink),
+        Err(fault) => return tell_refusal(sink, &start_refusal(alloc, &fault)),
     };
     let mut summary = Summary::none();
     count_run::<World<D>, Summary>(&mut world, events, &mut summary);
@@ -42,10 +44,10 @@ pub fn trial<K: Sink, D: CutDisk>(
 
 /// Tells a summary.
 fn tell_summary<K: Sink>(alloc: Global, summary: Summary, sink: &mut K) -> u8
-    ensures { TellsSummary summary (K.state sink.old) (K.state sink.new) result }
+    ensures { EndsInRow (TellsSummary summary) (record { before = K.state sink.old; after = K.state sink.new; status = result }) }
 {
     match summary.text(alloc) {
         Ok(text) => tell(sink, text.as_slice(), DONE),
-        Err(AllocError) => NO_MEMORY,
+        Err(AllocError) => tell_refusal(sink, &Refusal::no_memory()),
     }
 }

@@ -8,15 +8,29 @@ use crate::trial_words::{TrialWords, trial_of};
 /// What the words ask for.
 #[derive(Clone, Copy, Debug, PartialEq, Eq)]
 pub enum Command {
+    /// Lines are read, and what they come to is printed.
+    Lines(LineCommand),
+    /// A bus runs over formatted disks, and what comes of it is printed.
+    World(WorldCommand),
+}
+
+/// A command that uses no disk.
+#[derive(Clone, Copy, Debug, PartialEq, Eq)]
+pub enum LineCommand {
     /// `frame F`, or no words: one Secured I-PDU a line.
     Frame,
     /// `judge F`: one verdict a line.
     Judge,
     /// `check B F`: the events of a script in canonical form.
     Check,
-    /// `replay B F`: the lines of a script's events, over formatted disks.
+}
+
+/// A command that runs a bus over disks.
+#[derive(Clone, Copy, Debug, PartialEq, Eq)]
+pub enum WorldCommand {
+    /// `replay B F`: the lines of a script's events.
     Replay,
-    /// `trial B N SEED`: the summary of a run of the events that a seed gives, over formatted disks.
+    /// `trial B N SEED`: the summary of a run of the events that a seed gives.
     Trial(TrialWords),
 }
 
@@ -26,7 +40,7 @@ pub fn command_of(words: &[String]) -> Option<Command>
     ensures none { IfNone result (AsksNothing (map string_bytes words.now)) }
 {
     match words {
-        [] => Some(Command::Frame),
+        [] => Some(Command::Lines(LineCommand::Frame)),
         [name, _file] => over_lines(name.as_str()),
         [name, _bus, _file] => over_a_bus(name.as_str()),
         [name, _bus, count, seed] => over_a_seed(name.as_str(), count.as_str(), seed.as_str()),
@@ -40,8 +54,8 @@ fn over_lines(name: &str) -> Option<Command>
     ensures none { IfNone result ((command : Command) → ¬ NamesCommand name.now command) }
 {
     match name {
-        "frame" => Some(Command::Frame),
-        "judge" => Some(Command::Judge),
+        "frame" => Some(Command::Lines(LineCommand::Frame)),
+        "judge" => Some(Command::Lines(LineCommand::Judge)),
         _ => None,
     }
 }
@@ -52,8 +66,8 @@ fn over_a_bus(name: &str) -> Option<Command>
     ensures none { IfNone result ((command : Command) → ¬ NamesBusCommand name.now command) }
 {
     match name {
-        "check" => Some(Command::Check),
-        "replay" => Some(Command::Replay),
+        "check" => Some(Command::Lines(LineCommand::Check)),
+        "replay" => Some(Command::World(WorldCommand::Replay)),
         _ => None,
     }
 }
@@ -64,7 +78,7 @@ fn over_a_seed(name: &str, count: &str, seed: &str) -> Option<Command>
     ensures none { IfNone result ((command : Command) → ¬ NamesTrialCommand name.now count.now seed.now command) }
 {
     match trial_of(name, count, seed) {
-        Some(trial) => Some(Command::Trial(trial)),
+        Some(trial) => Some(Command::World(WorldCommand::Trial(trial))),
         None => None,
     }
 }

@@ -72,7 +72,7 @@ fn disks_of(rt: &HostRuntime, words: &[String]) -> Result<Vec<MemDisk>, AllocErr
     ensures usage { AsksNothing (map string_bytes words.now) → IsOk result }
 {
     match command_of(words) {
-        Some(Command::Replay | Command::Trial(_)) => blank_disks(rt.alloc(), 8, 65_536),
+        Some(Command::World(_)) => blank_disks(rt.alloc(), 8, 65_536),
         _ => Ok(Vec::new(rt.alloc())),
     }
 }
