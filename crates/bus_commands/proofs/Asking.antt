@@ -1,9 +1,9 @@
 -- Words ask for one command, and it sets one task
-use Rattle.std.specs.Prelude.{◌≡◌, ℕ, ◌≤◌, ◌&&◌, nat_le, Bool, cond, List, [], ◌∷◌, get_or, Option, None, Some, Result, Ok, codes}
+use Rattle.std.specs.Prelude.{◌≡◌, ℕ, ◌≤◌, ◌&&◌, nat_le, Bool, cond, List, [], ◌∷◌, get_or, Option, None, Some, Result, Ok}
 use Rattle.std.specs.Str.Parse.{digits_value}
 use Rattle.std.proofs.Common.{refl, sym, ap, ◌∙◌, subst, arith}
 use Rattle.text_lines.specs.Forms.{is_number, number_form}
-use Rattle.answer_rows.specs.Inputs.{Reading, Offers, ReadsWhole}
+use Rattle.answer_rows.specs.Inputs.{Reading}
 use Rattle.answer_rows.specs.InputLaws.{Offers-whole}
 use Rattle.bus_config.specs.declared.fault.ConfigFault.{ConfigFault}
 use Rattle.bus_config.specs.BusFile.{bus_of}
@@ -13,13 +13,12 @@ use Rattle.bus_commands.specs.declared.trial_words.TrialWords.{TrialWords}
 use Rattle.bus_commands.specs.TrialWords.{NamesTrial}
 use Rattle.bus_commands.specs.declared.words.Command.{Command}
 use Rattle.bus_commands.specs.declared.words.Command.TheVariants.{Lines, World}
-use Rattle.bus_commands.specs.declared.words.LineCommand.{LineCommand}
 use Rattle.bus_commands.specs.declared.words.LineCommand.TheVariants as lines
 use Rattle.bus_commands.specs.declared.words.WorldCommand.{WorldCommand}
 use Rattle.bus_commands.specs.declared.words.WorldCommand.TheVariants.{Replay, Trial}
 use Rattle.bus_commands.specs.Words.{Asks, IsDefault, NamesCommand, NamesBusCommand, NamesTrialCommand}
 use Rattle.bus_commands.specs.Tasks.{Task, frame, judge, check, replay}
-use Rattle.bus_commands.specs.Inputs.{BusInputs, ReadsBus, OffersBus, NeedsBus, AsksOverBus, SetsTask, OffersTask, SetsWorld, OffersTrial}
+use Rattle.bus_commands.specs.Inputs.{BusInputs, ReadsBus, OffersBus, NeedsBus, AsksOverBus, SetsTask, OffersTask, SetsWorld}
 use Rattle.bus_commands.specs.Steps.{HasFewEvents}
 
 -- ---- the number of events

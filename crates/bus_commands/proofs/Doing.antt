@@ -1,9 +1,9 @@
 -- The two phases, put together
-use Rattle.std.specs.Prelude.{◌≡◌, ℕ, List, Result, Ok, Err}
-use Rattle.std.proofs.Common.{refl, sym, ap, subst, inl, inr}
+use Rattle.std.specs.Prelude.{◌≡◌, ℕ, List, Ok}
+use Rattle.std.proofs.Common.{sym, subst}
 use Rattle.std.specs.List.{flat_map}
 use Rattle.command_edge.specs.declared.input.InputFault.TheVariants as input
-use Rattle.answer_rows.specs.Rows.{Row, memory_row}
+use Rattle.answer_rows.specs.Rows.{Row}
 use Rattle.answer_rows.specs.Endings.{Ending, EndsInRow}
 use Rattle.answer_rows.specs.EndingLaws.{EndsInRow-more}
 use Rattle.answer_rows.specs.InputLaws.{Lacks-whole}
@@ -20,9 +20,9 @@ use Rattle.bus_commands.specs.declared.words.WorldCommand.TheVariants.{Replay, T
 use Rattle.bus_commands.specs.Tasks.{Task, frame, judge, check, replay}
 use Rattle.bus_commands.specs.Texts.{Prints}
 use Rattle.bus_commands.specs.Inputs.{BusInputs, Over, SetsWorld}
-use Rattle.bus_commands.specs.StartRows.{DiskStates, ComesOfStart}
+use Rattle.bus_commands.specs.StartRows.{DiskStates}
 use Rattle.bus_commands.specs.Rows.{ComesOfInputs, no_script, done, ComesInRun, without_disks, not_started, tried, tried_without_memory, EndsRun, in_row, replayed}
-use Rattle.bus_commands.specs.Steps.{IsJobOf, IsWholeWorld, Prepares, TellsLines, DoesLines, told, no_text, DoesTrial, refused_trial, summed, no_summary, DoesReplay, refused_replay, first_done, DoesAsked}
+use Rattle.bus_commands.specs.Steps.{IsJobOf, Prepares, TellsLines, DoesLines, told, no_text, DoesTrial, refused_trial, summed, no_summary, DoesReplay, refused_replay, first_done, DoesAsked}
 
 -- ---- lines
 
@@ -61,7 +61,7 @@ module _ {same : Type 0} where
 
   Comes-trial : (i : BusInputs) (d : DiskStates) (bus : NamedBus) (events : List Event) (trial : TrialWords) → IsNamedBus bus → SetsWorld i (Trial trial) bus events
       → (row : Row) → DoesTrial bus events d row → ComesInRun same i d row
-  Comes-trial i d bus events trial is set row (refused_trial row comes) = not_started row (Trial trial, bus, events, set, (is, comes))
+  Comes-trial i d bus events trial is set row (refused_trial _ comes) = not_started row (Trial trial, bus, events, set, (is, comes))
   Comes-trial i d bus events trial is set row (summed summary ran) = tried summary (trial, bus, events, set, ran)
   Comes-trial i d bus events trial is set row (no_summary summary ran) = tried_without_memory summary (trial, bus, events, set, ran)
 
@@ -75,3 +75,8 @@ module _ {same : Type 0} where
   pub ends_world : (i : BusInputs) (d : DiskStates) (e : Ending) (job : WorldJob) → Prepares i (Ok (World job)) → DoesAsked job.command job.bus job.events.items d e
       → EndsRun same i d e
   ends_world i d e job prepared does = ends_asked i d e job.command job.bus job.events.items prepared.0.0 prepared.1 does
+
+-- where a replay is asked for
+pub does_replay : (job : WorldJob) (d : DiskStates) (e : Ending) → job.command ≡ Replay → DoesReplay job.bus job.events.items d e
+    → DoesAsked job.command job.bus job.events.items d e
+does_replay job d e is does = subst (λ (c : WorldCommand). DoesAsked c job.bus job.events.items d e) (sym is) does

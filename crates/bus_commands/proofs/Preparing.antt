@@ -1,14 +1,14 @@
 -- The first phase, put together
 use Rattle.std.proofs.Common.{◌≡◌, ◌∙◌, ℕ, List, refl, inl, inr, ap, sym, subst}
-use Rattle.std.specs.Prelude.{Some, Result, Ok, Err, Vec, IfOk, IfErr, All}
+use Rattle.std.specs.Prelude.{Some, Result, Ok, Err, Vec}
 use Rattle.std.specs.Result.{result_err}
 use Rattle.std.specs.declared.alloc.Global.{Global}
 use Rattle.command_edge.specs.declared.input.InputFault.TheVariants as input
 use Rattle.text_lines.specs.Readings.{Fault}
-use Rattle.answer_rows.specs.Rows.{Row, row_of, memory_row}
+use Rattle.answer_rows.specs.Rows.{Row, memory_row}
 use Rattle.answer_rows.specs.Inputs.{Reading, IsUnread, ReadsWhole}
 use Rattle.answer_rows.specs.InputLaws.{Lacks-whole}
-use Rattle.line_rows.specs.LineRows.{line_row, NoLines}
+use Rattle.line_rows.specs.LineRows.{NoLines}
 use Rattle.bus_nodes.specs.Buses.{NamedBus, IsNamedBus}
 use Rattle.text_lines.specs.declared.frames.FrameLine.{FrameLine}
 use Rattle.text_lines.specs.declared.judges.JudgeLine.{JudgeLine}
@@ -96,43 +96,43 @@ Comes-no_lines i task meaning row set is (lines_refused fault text whole err) =
 abbrev given : List (List ℕ) → Reading → Reading → BusInputs
 given words config script = record { words = words; config = config; script = script }
 
-asks_as : {words : List (List ℕ)} (asked is : LineCommand) → asked ≡ is → Asks words (command.Lines asked) → Asks words (command.Lines is)
-asks_as {words} asked is same asks = subst (λ (c : LineCommand). Asks words (command.Lines c)) same asks
+asks_as : (words : List (List ℕ)) (asked is : LineCommand) → asked ≡ is → Asks words (command.Lines asked) → Asks words (command.Lines is)
+asks_as words asked is same asks = subst (λ (c : LineCommand). Asks words (command.Lines c)) same asks
 
 pub frames_err : (asked : LineCommand) (config script : Reading) (row : Row) → asked ≡ lines.Frame → IsUnread config → LacksLines frames_of script row
     → PreparesLines asked config script (Err row)
 frames_err asked config script row is unread lacks = λ words asks.
-    Comes-no_lines (given words config script) frame frames_of row (asks_as asked lines.Frame is asks, unread) (λ text. refl) lacks
+    Comes-no_lines (given words config script) frame frames_of row (asks_as words asked lines.Frame is asks, unread) (λ text. refl) lacks
 
 pub judgements_err : (asked : LineCommand) (config script : Reading) (row : Row) → asked ≡ lines.Judge → IsUnread config → LacksLines judges_of script row
     → PreparesLines asked config script (Err row)
 judgements_err asked config script row is unread lacks = λ words asks.
-    Comes-no_lines (given words config script) judge judges_of row (asks_as asked lines.Judge is asks, unread) (λ text. refl) lacks
+    Comes-no_lines (given words config script) judge judges_of row (asks_as words asked lines.Judge is asks, unread) (λ text. refl) lacks
 
 pub check_no_bus : (asked : LineCommand) (config script : Reading) (row : Row) → asked ≡ lines.Check → IsUnread script → LacksBus config row
     → PreparesLines asked config script (Err row)
 check_no_bus asked config script row is unread lacks = λ words asks.
-    Comes-no_bus (given words config script) row (command.Lines lines.Check, asks_as asked lines.Check is asks, tt) lacks unread
+    Comes-no_bus (given words config script) row (command.Lines lines.Check, asks_as words asked lines.Check is asks, tt) lacks unread
 
 pub check_no_events : (asked : LineCommand) (config script : Reading) (bus : NamedBus) (row : Row) → asked ≡ lines.Check → ReadsBus config bus
     → LacksLines (events_of bus.nodes) script row → PreparesLines asked config script (Err row)
 check_no_events asked config script bus row is reads lacks = λ words asks.
-    Comes-no_lines (given words config script) (check bus) (events_of bus.nodes) row (asks_as asked lines.Check is asks, reads) (λ text. refl) lacks
+    Comes-no_lines (given words config script) (check bus) (events_of bus.nodes) row (asks_as words asked lines.Check is asks, reads) (λ text. refl) lacks
 
 pub frames_ok : (asked : LineCommand) (config script : Reading) (found : Vec FrameLine Global) → asked ≡ lines.Frame → IsUnread config
     → FindsLines frames_of HasPayload script (Ok found) → PreparesLines asked config script (Ok (Frames found))
 frames_ok asked config script found is unread finds = λ words asks.
-    (finds.1, (frame, (asks_as asked lines.Frame is asks, unread), finds.0))
+    (finds.1, (frame, (asks_as words asked lines.Frame is asks, unread), finds.0))
 
 pub judgements_ok : (asked : LineCommand) (config script : Reading) (found : Vec JudgeLine Global) → asked ≡ lines.Judge → IsUnread config
     → FindsLines judges_of IsAny script (Ok found) → PreparesLines asked config script (Ok (Judgements found))
 judgements_ok asked config script found is unread finds = λ words asks.
-    (finds.1, (judge, (asks_as asked lines.Judge is asks, unread), finds.0))
+    (finds.1, (judge, (asks_as words asked lines.Judge is asks, unread), finds.0))
 
 pub check_ok : (asked : LineCommand) (config script : Reading) (bus : NamedBus) (found : Vec Event Global) → asked ≡ lines.Check → ReadsBus config bus
     → FindsScript bus script (Ok found) → PreparesLines asked config script (Ok (Events bus found))
 check_ok asked config script bus found is reads finds = λ words asks.
-    (finds.1.0, (check bus, (asks_as asked lines.Check is asks, reads), (finds.0.0, finds.0.1, (refl, finds.0.2))))
+    (finds.1.0, (check bus, (asks_as words asked lines.Check is asks, reads), (finds.0.0, finds.0.1, (refl, finds.0.2))))
 
 pub world_no_bus : (asked : WorldCommand) (config script : Reading) (row : Row) → IsUnread script → LacksBus config row
     → PreparesWorld asked config script (Err row)

@@ -1,8 +1,8 @@
 -- A start that is refused: which row comes, and what that says of the disks
 use Rattle.std.specs.Prelude.{◌≡◌, ◌⊎◌, ℕ, ◌-◌, ◌<◌, ◌≤◌, List, [], length, get_or, Option, None, Some}
-use Rattle.std.proofs.Common.{refl, sym, ap, ◌∙◌, subst, arith, inl, inr}
+use Rattle.std.proofs.Common.{refl, sym, subst, arith, inl, inr}
 use Rattle.fault_count.specs.FaultCount.{last_count, Rose}
-use Rattle.answer_rows.specs.Rows.{Row, row_of, memory_row}
+use Rattle.answer_rows.specs.Rows.{Row, row_of}
 use Rattle.cut_disk.specs.State.{DiskState, Told}
 use Rattle.cut_disk.specs.CallLaws.{runs_none, runs_more}
 use Rattle.cut_disk.specs.Calls.{IsQuiet, Runs}

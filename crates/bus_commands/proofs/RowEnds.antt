@@ -2,7 +2,7 @@
 use Rattle.std.specs.Prelude.{◌≡◌, ◌≢◌, ◌⊎◌, ℕ}
 use Rattle.std.proofs.Common.{sym, ◌∙◌, inl, inr, arith}
 use Rattle.answer_rows.specs.Rows.{Row}
-use Rattle.answer_rows.specs.Endings.{Ending, PrintsWhole, SinkFailed, CountsWriteFault, EndsIn, MayEndIn, EndsInRow, PrintsFront}
+use Rattle.answer_rows.specs.Endings.{Ending, SinkFailed, CountsWriteFault, EndsIn, MayEndIn, EndsInRow, PrintsFront}
 use Rattle.command_edge.specs.Told.{EndingTold}
 
 may_end : (e : Ending) (n status : ℕ) → e.status ≡ status → (status ≡ n) ⊎ (status ≡ 7) → MayEndIn n e

@@ -1,11 +1,11 @@
 -- What each row of the table says of the sources and of the words
-use Rattle.std.specs.Prelude.{◌≡◌, ◌≢◌, ◌⊎◌, ℕ, ◌+◌, ◌<◌, ◌≤◌, List, length, None, Some, Option, Result, Ok, Err}
+use Rattle.std.specs.Prelude.{◌≡◌, ◌⊎◌, ℕ, ◌+◌, ◌<◌, ◌≤◌, List, None, Some, Result, Ok, Err}
 use Rattle.std.specs.Result.{result_err}
 use Rattle.std.proofs.Common.{refl, sym, ap, ◌∙◌, subst, arith, inl, inr}
 use Rattle.bus_port.specs.Fault.{last_count}
 use Rattle.bus_port.specs.Source.{SourceState}
 use Rattle.bus_port.specs.Whole.{CameWithin}
-use Rattle.command_edge.specs.Input.{input_limit, input_fault_status}
+use Rattle.command_edge.specs.Input.{input_limit, input_fault_status, input_fault_text}
 use Rattle.command_edge.specs.declared.input.InputFault.{InputFault}
 use Rattle.command_edge.specs.declared.input.InputFault.TheVariants as input
 use Rattle.text_lines.specs.Readings.{Fault}
@@ -14,22 +14,20 @@ use Rattle.answer_rows.specs.Inputs.{Reading, IsUnread, ReadsWhole, Lacks, Offer
 use Rattle.answer_rows.specs.InputLaws.{Offers-whole, Offers-is}
 use Rattle.bus_config.specs.declared.fault.ConfigFault.{ConfigFault}
 use Rattle.bus_config.specs.BusFile.{bus_of}
-use Rattle.bus_nodes.specs.Buses.{NamedBus, IsNamedBus}
+use Rattle.bus_nodes.specs.Buses.{NamedBus}
 use Rattle.bus_machine.specs.declared.events.Event.{Event}
 use Rattle.bus_world.specs.Starts.{HasRoom}
-use Rattle.bus_commands.specs.declared.trial_words.TrialWords.{TrialWords}
-use Rattle.bus_commands.specs.declared.words.Command.{Command}
 use Rattle.bus_commands.specs.declared.words.Command.TheVariants.{Lines, World}
 use Rattle.bus_commands.specs.declared.words.LineCommand.TheVariants as lines
 use Rattle.bus_commands.specs.declared.words.WorldCommand.{WorldCommand}
 use Rattle.bus_commands.specs.declared.words.WorldCommand.TheVariants.{Replay, Trial}
-use Rattle.bus_commands.specs.Words.{Asks, AsksNothing}
+use Rattle.bus_commands.specs.Words.{AsksNothing}
 use Rattle.bus_commands.specs.Tasks.{Task, frame, judge, check, replay}
 use Rattle.bus_commands.specs.Texts.{Prints, fault_of}
-use Rattle.bus_commands.specs.Inputs.{BusInputs, ReadsBus, IsConfigFault, OffersBus, NeedsBus, AsksOverBus, SetsTask, OffersTask, Over, NoConfig, NoScript, HasEvents, SetsWorld, OffersTrial}
-use Rattle.bus_commands.specs.StartRows.{DiskStates, ComesOfStart, disks_refused, store_refused, start_without_memory}
+use Rattle.bus_commands.specs.Inputs.{BusInputs, ReadsBus, IsConfigFault, OffersBus, AsksOverBus, SetsTask, OffersTask, Over, HasEvents, SetsWorld, OffersTrial}
+use Rattle.bus_commands.specs.StartRows.{DiskStates, ComesOfStart}
 use Rattle.bus_commands.specs.Rows.{ComesOfInputs, no_form, no_config, config_refused, no_script, script_refused, done, ComesInRun, without_disks, not_started, tried, tried_without_memory}
-use Rattle.bus_commands.proofs.Asking.{asks_one, needs_bus, command_for, set_asks, offered_asks, apart, no_trial, same_bus, same_task, replay_task}
+use Rattle.bus_commands.proofs.Asking.{needs_bus, command_for, set_asks, offered_asks, no_trial, same_bus, same_task, replay_task}
 
 -- ---- the sources
 
@@ -95,16 +93,16 @@ told_second fault text config script calm lacks = elim (lacking script fault lac
 
 inputs_tell : (i : BusInputs) (row : Row) → ComesOfInputs i row → Told row i.config i.script
 inputs_tell i row (no_form none config script) = inr (inr (calm_unread i.config config, calm_unread i.script script))
-inputs_tell i row (no_config fault (asks, lacks, unread)) = told_first fault _ i.config i.script lacks (calm_unread i.script unread)
+inputs_tell i row (no_config fault (asks, lacks, unread)) = told_first fault (input_fault_text fault) i.config i.script lacks (calm_unread i.script unread)
 inputs_tell i row (config_refused fault text asks is told unread) = inr (inr (calm_whole i.config is.0 is.1, calm_unread i.script unread))
-inputs_tell i row (no_script fault (task, set, lacks)) = told_second fault _ i.config i.script (calm_set i task set) lacks
+inputs_tell i row (no_script fault (task, set, lacks)) = told_second fault (input_fault_text fault) i.config i.script (calm_set i task set) lacks
 inputs_tell i row (script_refused fault (task, set, (text, whole, is))) = inr (inr (calm_set i task set, calm_whole i.script text whole))
 inputs_tell i row (done text (task, set, (read, whole, is))) = inr (inr (calm_set i task set, calm_whole i.script read whole))
 
 module _ {same : Type 0} where
   pub row_tells : (i : BusInputs) (d : DiskStates) (row : Row) → ComesInRun same i d row → Told row i.config i.script
-  row_tells i d row (without_disks row comes as_before) = inputs_tell i row comes
-  row_tells i d row (not_started row (c, bus, events, set, comes)) = inr (inr (calm_world i c bus events set))
+  row_tells i d row (without_disks _ comes as_before) = inputs_tell i row comes
+  row_tells i d row (not_started _ (c, bus, events, set, comes)) = inr (inr (calm_world i c bus events set))
   row_tells i d row (tried summary (trial, bus, events, set, ran)) = inr (inr (calm_world i (Trial trial) bus events set))
   row_tells i d row (tried_without_memory summary (trial, bus, events, set, ran)) = inr (inr (calm_world i (Trial trial) bus events set))
 
@@ -138,8 +136,8 @@ inputs_ask i row (done text (task, set, over)) nothing = absurd (nothing (comman
 module _ {same : Type 0} where
   -- words of no form are told
   pub row_asks : (i : BusInputs) (d : DiskStates) (row : Row) → ComesInRun same i d row → AsksNothing i.words → row.status ≡ 2
-  row_asks i d row (without_disks row comes as_before) nothing = inputs_ask i row comes nothing
-  row_asks i d row (not_started row (c, bus, events, set, comes)) nothing = absurd (nothing (World c) set.asks)
+  row_asks i d row (without_disks _ comes as_before) nothing = inputs_ask i row comes nothing
+  row_asks i d row (not_started _ (c, bus, events, set, comes)) nothing = absurd (nothing (World c) set.asks)
   row_asks i d row (tried summary (trial, bus, events, set, ran)) nothing = absurd (nothing (World (Trial trial)) set.asks)
   row_asks i d row (tried_without_memory summary (trial, bus, events, set, ran)) nothing = absurd (nothing (World (Trial trial)) set.asks)
 
@@ -180,8 +178,8 @@ module _ {same : Type 0} where
   -- its first fault is told, or want of memory
   pub row_refuses : (i : BusInputs) (d : DiskStates) (row : Row) (file : List ℕ) (fault : ConfigFault) → ComesInRun same i d row → AsksOverBus i.words → Offers i.config file
       → bus_of file ≡ Err fault → (row.status ≡ 3) ⊎ (row.status ≡ 7)
-  row_refuses i d row file fault (without_disks row comes as_before) over offers err = inputs_refuse i row file fault comes over offers err
-  row_refuses i d row file fault (not_started row (c, bus, events, set, comes)) over offers err = absurd (bus_or_fault i.config bus file fault set.of_bus offers err)
+  row_refuses i d row file fault (without_disks _ comes as_before) over offers err = inputs_refuse i row file fault comes over offers err
+  row_refuses i d row file fault (not_started _ (c, bus, events, set, comes)) over offers err = absurd (bus_or_fault i.config bus file fault set.of_bus offers err)
   row_refuses i d row file fault (tried summary (trial, bus, events, set, ran)) over offers err = absurd (bus_or_fault i.config bus file fault set.of_bus offers err)
   row_refuses i d row file fault (tried_without_memory summary (trial, bus, events, set, ran)) over offers err =
       absurd (bus_or_fault i.config bus file fault set.of_bus offers err)
@@ -240,8 +238,8 @@ start_offered i d row task input (Trial trial) bus events set comes offers lines
 
 module _ {same : Type 0} where
   pub row_offered : (i : BusInputs) (d : DiskStates) (row : Row) (task : Task) (input : List ℕ) → ComesInRun same i d row → OffersTask i task → Offers i.script input → OfTask d row task input
-  row_offered i d row task input (without_disks row comes as_before) offers lines = inputs_offered i d row task input comes offers lines
-  row_offered i d row task input (not_started row (c, bus, events, set, comes)) offers lines = start_offered i d row task input c bus events set comes.1 offers lines
+  row_offered i d row task input (without_disks _ comes as_before) offers lines = inputs_offered i d row task input comes offers lines
+  row_offered i d row task input (not_started _ (c, bus, events, set, comes)) offers lines = start_offered i d row task input c bus events set comes.1 offers lines
   row_offered i d row task input (tried summary (trial, bus, events, set, ran)) offers lines = no_trial i.words task trial (offered_asks i task offers) set.asks
   row_offered i d row task input (tried_without_memory summary (trial, bus, events, set, ran)) offers lines =
       no_trial i.words task trial (offered_asks i task offers) set.asks
@@ -262,8 +260,8 @@ inputs_tried i d row bus (done text (task, set, over)) (trial, asks, of_bus) = n
 
 module _ {same : Type 0} where
   pub row_tried : (i : BusInputs) (d : DiskStates) (row : Row) (bus : NamedBus) → ComesInRun same i d row → OffersTrial i bus → OfTrial d row bus
-  row_tried i d row bus (without_disks row comes as_before) offers = inputs_tried i d row bus comes offers
-  row_tried i d row bus (not_started row (c, over, events, set, comes)) offers =
+  row_tried i d row bus (without_disks _ comes as_before) offers = inputs_tried i d row bus comes offers
+  row_tried i d row bus (not_started _ (c, over, events, set, comes)) offers =
       inr (inl (subst (λ (b : NamedBus). ComesOfStart b d row) (same_bus i.config over bus set.of_bus offers.2) comes.1))
   row_tried i d row bus (tried summary (trial, over, events, set, ran)) offers =
       inr (inr (refl, subst (λ (b : NamedBus). HasRoom b d.before) (same_bus i.config over bus set.of_bus offers.2) ran.ran.started.room))

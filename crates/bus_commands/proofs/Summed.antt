@@ -4,7 +4,6 @@ use Rattle.std.proofs.Common.{subst, sym}
 use Rattle.answer_rows.specs.Rows.{Row, row_of}
 use Rattle.answer_rows.specs.Endings.{Ending, EndsInRow}
 use Rattle.answer_rows.specs.EndingLaws.{EndsInRow-more}
-use Rattle.cut_disk.specs.State.{DiskState}
 use Rattle.bus_machine.specs.declared.events.Event.{Event}
 use Rattle.bus_nodes.specs.Buses.{NamedBus}
 use Rattle.bus_commands.specs.declared.summary.Summary.{Summary}

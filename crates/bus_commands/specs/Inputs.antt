@@ -1,8 +1,7 @@
 -- What goes into a command, and what of it is read
-use Rattle.std.specs.Prelude.{◌≡◌, ℕ, List, Result, Ok, Err}
+use Rattle.std.specs.Prelude.{◌≡◌, ℕ, List, Ok, Err}
 use Rattle.command_edge.specs.declared.input.InputFault.{InputFault}
 use Rattle.answer_rows.specs.Inputs.{Reading, IsUnread, ReadsWhole, Lacks, Offers}
-use Rattle.text_lines.specs.Readings.{Fault}
 use Rattle.bus_config.specs.declared.fault.ConfigFault.{ConfigFault}
 use Rattle.bus_config.specs.BusFile.{bus_of}
 use Rattle.bus_nodes.specs.Buses.{NamedBus}

@@ -1,5 +1,5 @@
 -- A replay that was started: the turns of its first events, over disks of any kind
-use Rattle.std.specs.Prelude.{◌≡◌, ◌⊎◌, ℕ, List, ◌++◌, length, drop, Result, Ok, Err}
+use Rattle.std.specs.Prelude.{◌≡◌, ℕ, List, ◌++◌, length, drop, Result, Ok, Err}
 use Rattle.bus_port.specs.Sink.{SinkState}
 use Rattle.cut_disk.specs.State.{DiskState}
 use Rattle.numbered_run.specs.declared.printing.Unwritten.{Unwritten}

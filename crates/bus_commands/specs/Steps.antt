@@ -23,7 +23,6 @@ use Rattle.bus_script.specs.Trials.{trial_events}
 use Rattle.bus_script.specs.ScriptEvents.{IsScriptEvent}
 use Rattle.bus_script.specs.Canon.{canon}
 use Rattle.bus_commands.specs.declared.trial_words.TrialWords.{TrialWords}
-use Rattle.bus_commands.specs.declared.words.Command.{Command}
 use Rattle.bus_commands.specs.declared.words.Command.TheVariants as command
 use Rattle.bus_commands.specs.declared.words.LineCommand.{LineCommand}
 use Rattle.bus_commands.specs.declared.words.WorldCommand.{WorldCommand}
@@ -34,7 +33,7 @@ use Rattle.bus_commands.specs.declared.job.LineJob.{LineJob}
 use Rattle.bus_commands.specs.declared.job.LineJob.TheVariants.{Frames, Judgements, Events}
 use Rattle.bus_commands.specs.declared.job.WorldJob.{WorldJob}
 use Rattle.bus_commands.specs.declared.summary.Summary.{Summary}
-use Rattle.bus_commands.specs.Tasks.{Task, frame, judge, check, replay}
+use Rattle.bus_commands.specs.Tasks.{Task, frame, judge, check}
 use Rattle.bus_commands.specs.Texts.{TellsEach, TellsFrame, TellsJudgement}
 use Rattle.bus_commands.specs.Words.{Asks}
 use Rattle.bus_commands.specs.Inputs.{BusInputs, ReadsBus, IsConfigFault, Over, SetsWorld}

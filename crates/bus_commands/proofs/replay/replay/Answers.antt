@@ -18,13 +18,13 @@ pub returns-in-Err : goal.returns-in-Err
 returns-in-Err g c = refused_replay (record {
   row = c.start_refusal.result;
   comes = Comes-not_started c.args.bus.now _ c.in-Err.fault c.start_refusal.result c.in-Err.ensures.refused c.start_refusal.ensures;
-  told = c.tell_refusal.ensures;
+  told = c.tell_refusal-in-Err.ensures;
 })
 
 pub returns : goal.returns
 returns g c =
     let ran : Ran c.args.bus.now (map g.D.Disk.state c.args.disks.now.items) (map g.D.Disk.state c.finish.new.disks.items) c.args.events.now
-        (g.K.Sink.state c.args.sink.now) (g.K.Sink.state c.print_run-printed.new.sink) c.print_run-printed.result = search rules in
+    (g.K.Sink.state c.args.sink.now) (g.K.Sink.state c.print_run-printed.new.sink) c.print_run-printed.result = search rules in
     first_done c.print_run-printed.result (record {
       ran = ran;
       status_is = c.status_of_run.ensures;

@@ -3,7 +3,7 @@ use Rattle.bus_commands.specs.Steps.{DoesLines, told, no_text}
 use Rattle.bus_commands.proofs.run.do_lines.Goals as goal
 
 pub returns-in-Ok : goal.returns-in-Ok
-returns-in-Ok g c = record { row = _; comes = told c.as_slice-in-Ok.result.now (search rules); told = c.tell.ensures }
+returns-in-Ok g c = record { row = _; comes = told c.as_slice.result.now (search rules); told = c.tell.ensures }
 
 pub returns-in-Err : goal.returns-in-Err
 returns-in-Err g c =

@@ -1,5 +1,5 @@
 use Rattle.std.proofs.Common.{subst, sym, rules}
-use Rattle.bus_commands.specs.Steps.{TellsSummary, seven_lines, no_lines_told}
+use Rattle.bus_commands.specs.Steps.{TellsSummary, no_lines_told}
 use Rattle.bus_commands.proofs.Summed.{told_as}
 use Rattle.bus_commands.proofs.trial.tell_summary.Goals as goal
 
