@@ -2,7 +2,6 @@
 use Rattle.std.specs.Prelude.{◌≡◌, ℕ, zero, suc, ◌+◌, ◌-◌, ◌≤◌, List, [], ◌∷◌, length, map, get_or, replicate, All}
 use Rattle.std.proofs.Common.{refl, ap, subst, arith, inl, inr}
 use Rattle.std.proofs.lemmas.List.{length-map, length-replicate}
-use Rattle.bus_port.specs.Sink.{SinkState}
 use Rattle.cut_disk.specs.declared.mem_disk.MemDisk.{MemDisk}
 use Rattle.cut_disk.specs.State.{DiskState}
 use Rattle.cut_disk.specs.Calls.{IsQuiet}
@@ -19,9 +18,10 @@ use Rattle.bus_nodes.specs.Buses.{NamedBus, IsNamedBus, most_routes}
 use Rattle.bus_world.specs.Starts.{FindsRoom, OfNumber}
 use Rattle.bus_world.specs.declared.start.StartFault.{StartFault}
 use Rattle.bus_world.specs.declared.start.StartFault.TheVariants.{TooFew, TooSmall, Store, BadSlot, BadBound, Memory}
-use Rattle.bus_replay.specs.Answers.{Inputs, DisksRefused, StoreRefused, StoreCause}
+use Rattle.bus_commands.specs.Inputs.{BusInputs, OverWorld}
+use Rattle.bus_world.specs.StartRows.{LeavesEach, StoreCause}
 use Rattle.bus_replay.specs.Blank.{AreBlank, AreGiven}
-use Rattle.bus_replay.proofs.Starting.{no_line}
+use Rattle.bus_commands.proofs.Starting.{no_line}
 
 -- what the program's disks mean
 abbrev pub states : List MemDisk → List DiskState
@@ -90,16 +90,12 @@ finds_room count size disks bus Memory enough large are is room = room
 
 -- ---- both
 
-pub never_9 : (words : List (List ℕ)) (i : Inputs) (disks : List MemDisk) (after : List DiskState) (sink_before sink_after : SinkState) → AreGiven words disks
-    → DisksRefused words i (states disks) after sink_before sink_after → ⊥
-never_9 words i disks after sink_before sink_after given (inl over) =
-    finds_room 8 65536 disks over.0 over.6.2 (omega arith) (omega arith) (given.0 (inl over.1.0)) over.6.0 over.6.3
-never_9 words i disks after sink_before sink_after given (inr over) =
-    finds_room 8 65536 disks over.4 over.7.2 (omega arith) (omega arith) (given.0 (inr (over.0, over.1))) over.7.0 over.7.3
+pub never_9 : (i : BusInputs) (disks : List MemDisk) (after : List DiskState) (P : StartFault → Type 0) → AreGiven i.words disks
+    → OverWorld i (λ bus events. IsNamedBus bus × (after ≡ states disks) × ((fault : StartFault) × FindsRoom bus (states disks) fault × P fault)) → ⊥
+never_9 i disks after P given (c, bus, events, set, (is, same, (fault, finds, told))) =
+    finds_room 8 65536 disks bus fault (omega arith) (omega arith) (given.0 (c, set.asks)) is finds
 
-pub never_10 : (words : List (List ℕ)) (i : Inputs) (disks : List MemDisk) (after : List DiskState) (sink_before sink_after : SinkState) → AreGiven words disks
-    → StoreRefused words i (states disks) after sink_before sink_after → ⊥
-never_10 words i disks after sink_before sink_after given (inl over) =
-    no_store_cause 65536 disks over.0 after over.6.1 (given.0 (inl over.1.0)).blank over.6.2
-never_10 words i disks after sink_before sink_after given (inr over) =
-    no_store_cause 65536 disks over.4 after over.7.1 (given.0 (inr (over.0, over.1))).blank over.7.2
+pub never_10 : (i : BusInputs) (disks : List MemDisk) (after : List DiskState) (P : StartFault → Type 0) → AreGiven i.words disks
+    → OverWorld i (λ bus events. LeavesEach bus (states disks) after × ((fault : StartFault) × StoreCause bus (states disks) after fault × P fault)) → ⊥
+never_10 i disks after P given (c, bus, events, set, (left, (fault, cause, told))) =
+    no_store_cause 65536 disks bus after fault (given.0 (c, set.asks)).blank cause

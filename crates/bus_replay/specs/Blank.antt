@@ -3,7 +3,7 @@ use Rattle.std.specs.Prelude.{◌≡◌, ℕ, List, [], length, replicate, All}
 use Rattle.cut_disk.specs.declared.mem_disk.MemDisk.{MemDisk}
 use Rattle.cut_disk.specs.Memory.{fresh}
 use Rattle.cut_disk.specs.MemDisk.{contents}
-use Rattle.bus_replay.specs.Answers.{AsksWorld}
+use Rattle.bus_commands.specs.Inputs.{AsksWorld}
 
 -- so many disks of so many zero bytes each, none of them loose; nothing is armed on them, and nothing has failed
 pub record AreBlank (count size : ℕ) (disks : List MemDisk) : Type 0 where

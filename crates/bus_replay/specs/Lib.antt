@@ -1,12 +1,1 @@
-pub mod Words
-pub mod Texts
-pub mod Refusals
-pub mod Replays
-pub mod Headline
-pub mod Answers
-pub mod Steps
 pub mod Blank
-pub mod Summaries
-pub mod SummarySteps
-pub mod TrialWords
-pub mod TrialRuns

@@ -1,39 +1,17 @@
 //! `bus_replay`: Secured I-PDUs and verdicts (AUTOSAR SecOC, profile 1) from lines of text, and scripts of a bus.
 //!
-//! [`run::run`] is the program; its clauses say what each status means and what is printed. This file makes the objects
-//! that it works on: standard output, and standard input or the files that the words name.
+//! `run` of the crate `bus_commands` is the program; its clauses say what each status means and what is printed. This file makes the
+//! objects that it works on: standard output, standard input or the files that the words name, and the disks.
 #![tactic(auto)]
-
-mod events;
-mod job;
-mod laws;
-mod lines;
-mod questions;
-mod refusal;
-mod replay;
-#[cfg(test)]
-mod replay_tests;
-mod run;
-mod summary;
-mod task;
-#[cfg(test)]
-mod tests;
-mod trial;
-#[cfg(test)]
-mod trial_run_tests;
-#[cfg(test)]
-mod trial_tests;
-mod trial_words;
-mod words;
 
 ghost use Rattle.std.specs.Prelude.{◌≡◌, ◌≢◌, ◌⊎◌, ◌^◌, ◌≤◌, drop, map, string_bytes, codes, IfSome, IfNone, IfOk, IsOk, None};
 ghost use Rattle.command_edge.specs.Named.{IsFreshFile, IsFreshInput};
 ghost use Rattle.command_edge.specs.declared.opening.NamedSource.TheVariants as named;
-ghost use Rattle.bus_replay.specs.Words.{AsksNothing};
+ghost use Rattle.bus_commands.specs.Words.{AsksNothing};
 ghost use Rattle.bus_replay.specs.Blank.{AreBlank, AreGiven};
 
-use crate::run::run;
-use crate::words::{Command, command_of, config_word, script_word};
+use bus_commands::run::run;
+use bus_commands::words::{Command, command_of, config_word, script_word};
 use bus_port::{StdSink, StdSource};
 use command_edge::{NO_MEMORY, NamedSource, behind_name, open_named, words_of};
 use cut_disk::MemDisk;
@@ -94,7 +72,7 @@ fn disks_of(rt: &HostRuntime, words: &[String]) -> Result<Vec<MemDisk>, AllocErr
     ensures usage { AsksNothing (map string_bytes words.now) → IsOk result }
 {
     match command_of(words) {
-        Some(Command::Replay | Command::Trial(_)) => blank_disks(rt.alloc(), 8, 65_536),
+        Some(Command::World(_)) => blank_disks(rt.alloc(), 8, 65_536),
         _ => Ok(Vec::new(rt.alloc())),
     }
 }

@@ -1,0 +1,14 @@
+pub mod TrialWords
+pub mod Words
+pub mod Tasks
+pub mod Texts
+pub mod Inputs
+pub mod Summaries
+pub mod SummarySteps
+pub mod StartRows
+pub mod Replays
+pub mod Headline
+pub mod TrialRuns
+pub mod Rows
+pub mod Commands
+pub mod Steps

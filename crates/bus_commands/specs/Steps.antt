@@ -1,0 +1,197 @@
+-- What the steps of the work say to one another.
+use Rattle.std.specs.Prelude.{◌≡◌, ◌⊎◌, ℕ, ◌≤◌, Some, List, ◌++◌, length, All, Result, Ok, Err, Vec}
+use Rattle.std.specs.List.{flat_map}
+use Rattle.std.specs.declared.alloc.Global.{Global}
+use Rattle.command_edge.specs.declared.input.InputFault.{InputFault}
+use Rattle.secured_pdu.specs.Frame.{IsPayload}
+use Rattle.text_lines.specs.declared.frames.FrameLine.{FrameLine}
+use Rattle.text_lines.specs.declared.judges.JudgeLine.{JudgeLine}
+use Rattle.text_lines.specs.Frames.{frames_of, judges_of, most_lines}
+use Rattle.text_lines.specs.Readings.{Fault}
+use Rattle.answer_rows.specs.Rows.{Row, row_of, input_row, memory_row}
+use Rattle.answer_rows.specs.Inputs.{Reading, IsUnread, ReadsWhole, Lacks}
+use Rattle.answer_rows.specs.Endings.{Ending, EndsInRow}
+use Rattle.line_rows.specs.LineRows.{line_row, NoLines}
+use Rattle.numbered_run.specs.declared.printing.Unwritten.{Unwritten}
+use Rattle.bus_nodes.specs.Buses.{NamedBus, IsNamedBus}
+use Rattle.bus_config.specs.declared.fault.ConfigFault.{ConfigFault}
+use Rattle.bus_config.specs.BusFile.{bus_of}
+use Rattle.bus_config.specs.FaultTexts.{config_fault_text}
+use Rattle.bus_machine.specs.declared.events.Event.{Event}
+use Rattle.bus_script.specs.EventForms.{events_of}
+use Rattle.bus_trials.specs.Trials.{trial_events}
+use Rattle.bus_script.specs.ScriptEvents.{IsScriptEvent}
+use Rattle.bus_script.specs.Canon.{canon}
+use Rattle.bus_commands.specs.declared.trial_words.TrialWords.{TrialWords}
+use Rattle.bus_commands.specs.declared.words.Command.TheVariants as command
+use Rattle.bus_commands.specs.declared.words.LineCommand.{LineCommand}
+use Rattle.bus_commands.specs.declared.words.WorldCommand.{WorldCommand}
+use Rattle.bus_commands.specs.declared.words.WorldCommand.TheVariants.{Replay, Trial}
+use Rattle.bus_commands.specs.declared.job.Job.{Job}
+use Rattle.bus_commands.specs.declared.job.Job.TheVariants.{Lines, World}
+use Rattle.bus_commands.specs.declared.job.LineJob.{LineJob}
+use Rattle.bus_commands.specs.declared.job.LineJob.TheVariants.{Frames, Judgements, Events}
+use Rattle.bus_commands.specs.declared.job.WorldJob.{WorldJob}
+use Rattle.bus_commands.specs.declared.summary.Summary.{Summary}
+use Rattle.bus_commands.specs.Tasks.{Task, frame, judge, check}
+use Rattle.bus_commands.specs.Texts.{TellsEach, TellsFrame, TellsJudgement}
+use Rattle.bus_commands.specs.Words.{Asks}
+use Rattle.bus_commands.specs.Inputs.{BusInputs, ReadsBus, IsConfigFault, Over, SetsWorld}
+use Rattle.bus_commands.specs.Summaries.{summary_text}
+use Rattle.bus_commands.specs.StartRows.{DiskStates, ComesOfStart}
+use Rattle.bus_commands.specs.Rows.{ComesOfInputs, DoneTrial, DoneReplay}
+
+-- the line's payload has 1 to 60 bytes
+abbrev pub HasPayload : FrameLine → Type 0
+HasPayload l = IsPayload l.payload
+
+-- nothing more is asked of a line of `judge`
+abbrev pub IsAny : JudgeLine → Type 0
+IsAny l = Unit {0}
+
+-- a text was added at the end that has this
+abbrev pub Adds : List ℕ → List ℕ → (List ℕ → Type 0) → Type 0
+Adds old new P = (text : List ℕ) × P text × (new ≡ old ++ text)
+
+-- the lines are those that the input has, each of them whole, or they are refused
+abbrev pub ReadsLines : {A : Type 0} → (A → Type 0) → Result (List A) Fault → Result (Vec A Global) Row → Type 0
+ReadsLines P meaning (Ok lines) = (meaning ≡ Ok lines.items) × All P lines.items
+ReadsLines P meaning (Err row) = NoLines meaning row
+
+-- ---- the sources
+
+-- the row of a fault of a bus file, or want of memory for its text
+abbrev pub IsConfigRow : ConfigFault → Row → Type 0
+IsConfigRow fault row = ((text : List ℕ) × (config_fault_text fault ≡ Some text) × (row ≡ row_of 3 text)) ⊎ (row ≡ memory_row)
+
+-- the bus is the one that a bus file has, or the file is refused
+abbrev pub HasBus : List ℕ → Result NamedBus Row → Type 0
+HasBus file (Ok bus) = bus_of file ≡ Ok bus
+HasBus file (Err row) = ((fault : ConfigFault) × (bus_of file ≡ Err fault) × IsConfigRow fault row) ⊎ (row ≡ memory_row)
+
+-- why the source of a bus file gives none
+pub data LacksBus (config : Reading) : Row → Type 0 where
+  no_file : (fault : InputFault) → Lacks config fault → LacksBus config (input_row fault)
+  file_refused : (fault : ConfigFault) (text : List ℕ) → IsConfigFault config fault → config_fault_text fault ≡ Some text
+      → LacksBus config (row_of 3 text)
+
+-- the bus of a bus file that was read whole, or why there is none
+abbrev pub FindsBus : Reading → Result NamedBus Row → Type 0
+FindsBus config (Ok bus) = ReadsBus config bus
+FindsBus config (Err row) = LacksBus config row
+
+-- why a source gives no lines of this meaning
+pub data LacksLines {A : Type 0} (meaning : List ℕ → Result (List A) Fault) (script : Reading) : Row → Type 0 where
+  no_lines : (fault : InputFault) → Lacks script fault → LacksLines meaning script (input_row fault)
+  lines_refused : (fault : Fault) (text : List ℕ) → ReadsWhole script text → meaning text ≡ Err fault
+      → LacksLines meaning script (line_row fault)
+
+-- the source was read whole, and its lines mean these
+abbrev pub ReadsAs : {A : Type 0} → (List ℕ → Result (List A) Fault) → Reading → List A → Type 0
+ReadsAs meaning script lines = (text : List ℕ) × ReadsWhole script text × (meaning text ≡ Ok lines)
+
+-- the lines of a source that was read whole, each of them whole, or why there are none
+abbrev pub FindsLines : {A : Type 0} → (List ℕ → Result (List A) Fault) → (A → Type 0) → Reading → Result (Vec A Global) Row → Type 0
+FindsLines meaning P script (Ok lines) = ReadsAs meaning script lines.items × All P lines.items
+FindsLines meaning P script (Err row) = LacksLines meaning script row
+
+-- such as a script over a bus has, at most 65,536 of them
+abbrev pub AreEvents : NamedBus → List Event → Type 0
+AreEvents bus events = All (IsScriptEvent bus.nodes) events × (length events ≤ most_lines)
+
+-- the events of a script, or why there are none
+abbrev pub HasScript : NamedBus → List ℕ → Result (Vec Event Global) Row → Type 0
+HasScript bus text (Ok events) = (events_of bus.nodes text ≡ Ok events.items) × AreEvents bus events.items
+HasScript bus text (Err row) = NoLines (events_of bus.nodes text) row
+
+-- those of a source that was read whole, or why there are none
+abbrev pub FindsScript : NamedBus → Reading → Result (Vec Event Global) Row → Type 0
+FindsScript bus script (Ok events) = ReadsAs (events_of bus.nodes) script events.items × AreEvents bus events.items
+FindsScript bus script (Err row) = LacksLines (events_of bus.nodes) script row
+
+-- the events that the seed of a trial gives, or want of memory
+abbrev pub DrawsEvents : NamedBus → TrialWords → Result (Vec Event Global) Row → Type 0
+DrawsEvents bus trial (Ok events) = (events.items ≡ trial_events bus.nodes trial.count trial.seed) × AreEvents bus events.items
+DrawsEvents bus trial (Err row) = row ≡ memory_row
+
+-- ---- the first phase
+
+-- each line of the job is whole
+abbrev pub IsWholeLines : LineJob → Type 0
+IsWholeLines (Frames lines) = All HasPayload lines.items
+IsWholeLines (Judgements lines) = All IsAny lines.items
+IsWholeLines (Events bus events) = All (IsScriptEvent bus.nodes) events.items
+
+abbrev pub IsWholeWorld : WorldJob → Type 0
+IsWholeWorld job = IsNamedBus job.bus × AreEvents job.bus job.events.items
+
+-- the job is what is to be printed of these lines
+abbrev pub IsJobOf : Task → List ℕ → LineJob → Type 0
+IsJobOf frame input (Frames lines) = frames_of input ≡ Ok lines.items
+IsJobOf judge input (Judgements lines) = judges_of input ≡ Ok lines.items
+IsJobOf (check bus) input (Events over events) = (over ≡ bus) × (events_of bus.nodes input ≡ Ok events.items)
+IsJobOf task input job = ⊥
+
+-- how the first phase ends: in a job over inputs that were read whole, or in a row that comes
+abbrev pub Prepares : BusInputs → Result Job Row → Type 0
+Prepares i (Ok (Lines job)) = IsWholeLines job × Over i (λ task input. IsJobOf task input job)
+Prepares i (Ok (World job)) = IsWholeWorld job × SetsWorld i job.command job.bus job.events.items
+Prepares i (Err row) = ComesOfInputs i row
+
+-- how it ends for a command of lines, whatever the words are that ask for it
+abbrev pub PreparesLines : LineCommand → Reading → Reading → Result LineJob Row → Type 0
+PreparesLines asked config script (Ok job) = (words : List (List ℕ)) → Asks words (command.Lines asked)
+    → Prepares (record { words = words; config = config; script = script }) (Ok (Lines job))
+PreparesLines asked config script (Err row) = (words : List (List ℕ)) → Asks words (command.Lines asked)
+    → Prepares (record { words = words; config = config; script = script }) (Err row)
+
+-- and for one that runs a bus
+abbrev pub PreparesWorld : WorldCommand → Reading → Reading → Result WorldJob Row → Type 0
+PreparesWorld asked config script (Ok job) = (words : List (List ℕ)) → Asks words (command.World asked)
+    → Prepares (record { words = words; config = config; script = script }) (Ok (World job))
+PreparesWorld asked config script (Err row) = (words : List (List ℕ)) → Asks words (command.World asked)
+    → Prepares (record { words = words; config = config; script = script }) (Err row)
+
+-- the number of events of a trial is one that its words may have
+abbrev pub HasFewEvents : WorldCommand → Type 0
+HasFewEvents Replay = Unit {0}
+HasFewEvents (Trial trial) = (1 ≤ trial.count) × (trial.count ≤ 60000)
+
+-- the events of a run of this bus, or why there are none; for a trial nothing is read
+abbrev pub FindsEvents : WorldCommand → NamedBus → Reading → Result (Vec Event Global) Row → Type 0
+FindsEvents Replay bus script result = FindsScript bus script result
+FindsEvents (Trial trial) bus script result = IsUnread script × DrawsEvents bus trial result
+
+-- ---- the second phase
+
+-- the text is what the job prints
+abbrev pub TellsLines : LineJob → List ℕ → Type 0
+TellsLines (Frames lines) text = TellsEach TellsFrame lines.items text
+TellsLines (Judgements lines) text = TellsEach TellsJudgement lines.items text
+TellsLines (Events bus events) text = text ≡ flat_map (canon bus.nodes) events.items
+
+-- what the second phase over lines ends in: the whole text is told, or there was no memory for it
+pub data DoesLines (job : LineJob) : Row → Type 0 where
+  told : (text : List ℕ) → TellsLines job text → DoesLines job (row_of 0 text)
+  no_text : DoesLines job memory_row
+
+-- what a trial ends in: it isn't started, or all its events are done, and its seven lines are told, or there was no memory for them
+pub data DoesTrial (bus : NamedBus) (events : List Event) (d : DiskStates) : Row → Type 0 where
+  refused_trial : (row : Row) → ComesOfStart bus d row → DoesTrial bus events d row
+  summed : (summary : Summary) → DoneTrial bus events d summary → DoesTrial bus events d (row_of 0 (summary_text summary))
+  no_summary : (summary : Summary) → DoneTrial bus events d summary → DoesTrial bus events d memory_row
+
+-- how the text of a summary is told, or want of memory for it
+pub data TellsSummary (summary : Summary) : Row → Type 0 where
+  seven_lines : TellsSummary summary (row_of 0 (summary_text summary))
+  no_lines_told : TellsSummary summary memory_row
+
+-- how a replay ends: it isn't started, or it did its first events
+pub data DoesReplay (bus : NamedBus) (events : List Event) (d : DiskStates) (e : Ending) : Type 0 where
+  refused_replay : EndsInRow (ComesOfStart bus d) e → DoesReplay bus events d e
+  first_done : (result : Result (Unit {0}) Unwritten) → DoneReplay bus events d e result → DoesReplay bus events d e
+
+-- how the run of a bus ends, by what is asked of it
+abbrev pub DoesAsked : WorldCommand → NamedBus → List Event → DiskStates → Ending → Type 0
+DoesAsked Replay bus events d e = DoesReplay bus events d e
+DoesAsked (Trial trial) bus events d e = EndsInRow (DoesTrial bus events d) e

@@ -1,0 +1,74 @@
+-- The words of the command line, and what they ask for.
+use Rattle.std.specs.Prelude.{◌≡◌, ℕ, List, [], ◌∷◌, codes}
+use Rattle.bus_commands.specs.TrialWords.{NamesTrial}
+use Rattle.bus_commands.specs.declared.words.Command.{Command}
+use Rattle.bus_commands.specs.declared.words.Command.TheVariants.{Lines, World}
+use Rattle.bus_commands.specs.declared.words.LineCommand.TheVariants.{Frame, Judge, Check}
+use Rattle.bus_commands.specs.declared.words.WorldCommand.TheVariants.{Replay, Trial}
+
+-- the first of two words, of which the second names a file of lines, asks for this command
+abbrev pub NamesCommand : List ℕ → Command → Type 0
+NamesCommand word (Lines Frame) = word ≡ codes "frame"
+NamesCommand word (Lines Judge) = word ≡ codes "judge"
+NamesCommand word (Lines Check) = ⊥
+NamesCommand word (World command) = ⊥
+
+-- the first of three words, of which the others name a bus file and a script, asks for this command
+abbrev pub NamesBusCommand : List ℕ → Command → Type 0
+NamesBusCommand word (Lines Frame) = ⊥
+NamesBusCommand word (Lines Judge) = ⊥
+NamesBusCommand word (Lines Check) = word ≡ codes "check"
+NamesBusCommand word (World Replay) = word ≡ codes "replay"
+NamesBusCommand word (World (Trial trial)) = ⊥
+
+-- the first of four words, of which the second names a bus file, the third is a number of events and the fourth a seed, asks for
+-- this command
+abbrev pub NamesTrialCommand : List ℕ → List ℕ → List ℕ → Command → Type 0
+NamesTrialCommand word count seed (World (Trial trial)) = NamesTrial word count seed trial
+NamesTrialCommand word count seed (World Replay) = ⊥
+NamesTrialCommand word count seed (Lines command) = ⊥
+
+-- with no words it is `frame` over standard input
+abbrev pub IsDefault : Command → Type 0
+IsDefault (Lines Frame) = Unit {0}
+IsDefault (Lines Judge) = ⊥
+IsDefault (Lines Check) = ⊥
+IsDefault (World command) = ⊥
+
+-- the words ask for this command; words of another form ask for none
+abbrev pub Asks : List (List ℕ) → Command → Type 0
+Asks [] command = IsDefault command
+Asks (word ∷ []) command = ⊥
+Asks (word ∷ file ∷ []) command = NamesCommand word command
+Asks (word ∷ bus ∷ file ∷ []) command = NamesBusCommand word command
+Asks (word ∷ bus ∷ count ∷ seed ∷ []) command = NamesTrialCommand word count seed command
+Asks (word ∷ bus ∷ count ∷ seed ∷ more ∷ words) command = ⊥
+
+-- the words are of no form
+abbrev pub AsksNothing : List (List ℕ) → Type 0
+AsksNothing words = (command : Command) → ¬ Asks words command
+
+-- the words are of a form
+abbrev pub AsksSomething : List (List ℕ) → Type 0
+AsksSomething words = (command : Command) × Asks words command
+
+-- this word names the bus file, which only commands of three and of four words read
+abbrev pub NamesConfig : List (List ℕ) → List ℕ → Type 0
+NamesConfig [] name = ⊥
+NamesConfig (word ∷ []) name = ⊥
+NamesConfig (word ∷ file ∷ []) name = ⊥
+NamesConfig (word ∷ bus ∷ file ∷ []) name = AsksSomething (word ∷ bus ∷ file ∷ []) × (name ≡ bus)
+NamesConfig (word ∷ bus ∷ count ∷ seed ∷ []) name = AsksSomething (word ∷ bus ∷ count ∷ seed ∷ []) × (name ≡ bus)
+NamesConfig (word ∷ bus ∷ count ∷ seed ∷ more ∷ words) name = ⊥
+
+-- both words are `-`
+abbrev pub AreInput : List ℕ → List ℕ → Type 0
+AreInput bus file = (bus ≡ codes "-") × (file ≡ codes "-")
+
+-- this word names the lines: `-`, standard input, with no words; a trial has none. Where the bus file is standard input already, `-` names nothing
+abbrev pub NamesScript : List (List ℕ) → List ℕ → Type 0
+NamesScript [] name = name ≡ codes "-"
+NamesScript (word ∷ []) name = ⊥
+NamesScript (word ∷ file ∷ []) name = AsksSomething (word ∷ file ∷ []) × (name ≡ file)
+NamesScript (word ∷ bus ∷ file ∷ []) name = AsksSomething (word ∷ bus ∷ file ∷ []) × (name ≡ file) × ¬ AreInput bus file
+NamesScript (word ∷ bus ∷ file ∷ more ∷ words) name = ⊥

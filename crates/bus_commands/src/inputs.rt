@@ -1,0 +1,92 @@
+//! What the sources of a command have, or why they have it not.
+ghost use Rattle.std.specs.Prelude.{◌<◌, ◌≤◌, ◌^◌, length};
+ghost use Rattle.bus_commands.specs.Steps.{FindsBus, HasBus, IsConfigRow, FindsLines, FindsScript, HasScript, DrawsEvents};
+
+use crate::questions::{Question, questions};
+use crate::trial_words::TrialWords;
+use answer_rows::Refusal;
+use bus_config::{ConfigFault, Memory as NoMemory, config_fault_text, read_config};
+use bus_nodes::BusConfig;
+use bus_port::Source;
+use bus_script::{Event, read_script};
+use bus_trials::make_trial;
+use command_edge::read_input;
+use line_rows::line_refusal;
+use std::alloc::{AllocError, Global};
+
+/// The bus of the bus file that a source gives, or its refusal.
+pub fn bus_from<S: Source>(alloc: Global, config: &mut S) -> Result<BusConfig, Refusal>
+    ensures { FindsBus (record { before = S.state config.old; after = S.state config.new }) result }
+{
+    let input = read_input(alloc, config)?;
+    bus_in(alloc, input.as_slice())
+}
+
+/// The bus of a bus file, or its refusal.
+fn bus_in(alloc: Global, text: &[u8]) -> Result<BusConfig, Refusal>
+    ensures { HasBus text.now result }
+{
+    match read_config(alloc, text) {
+        Ok(bus) => Ok(bus),
+        Err(fault) => Err(config_refusal(alloc, &fault)),
+    }
+}
+
+/// The refusal of a bus file, with the text that names its fault, or want of memory.
+fn config_refusal(alloc: Global, fault: &ConfigFault) -> Refusal
+    ensures { IsConfigRow fault.now result }
+{
+    match config_fault_text(alloc, fault) {
+        Ok(text) => Refusal::made(3, text),
+        Err(NoMemory) => Refusal::no_memory(),
+    }
+}
+
+/// The questions of the lines that a source gives, or the refusal of the source or of a line.
+pub fn questions_from<Q: Question, S: Source>(
+    alloc: Global,
+    script: &mut S,
+) -> Result<Vec<Q>, Refusal>
+    ensures { FindsLines Q.questions_of Q.is_whole (record { before = S.state script.old; after = S.state script.new }) result }
+{
+    let input = read_input(alloc, script)?;
+    questions(alloc, input.as_slice())
+}
+
+/// The events of the script that a source gives, over this bus, or the refusal of the source or of a line.
+pub fn script_from<S: Source>(
+    alloc: Global,
+    bus: &BusConfig,
+    script: &mut S,
+) -> Result<Vec<Event>, Refusal>
+    ensures { FindsScript bus.now (record { before = S.state script.old; after = S.state script.new }) result }
+{
+    let input = read_input(alloc, script)?;
+    events_in(alloc, bus, input.as_slice())
+}
+
+/// The events of a script, or the refusal of a line.
+fn events_in(alloc: Global, bus: &BusConfig, text: &[u8]) -> Result<Vec<Event>, Refusal>
+    requires { length text.now < 2 ^ 32 }
+    ensures { HasScript bus.now text.now result }
+{
+    match read_script(alloc, text, bus) {
+        Ok(events) => Ok(events),
+        Err(fault) => Err(line_refusal(alloc, fault)),
+    }
+}
+
+/// The events that the seed of a trial gives, or want of memory.
+pub fn drawn_events(
+    alloc: Global,
+    bus: &BusConfig,
+    trial: TrialWords,
+) -> Result<Vec<Event>, Refusal>
+    requires { (1 ≤ trial.count) × (trial.count ≤ 60000) }
+    ensures { DrawsEvents bus.now trial result }
+{
+    match make_trial(alloc, bus, trial.count, trial.seed) {
+        Ok(events) => Ok(events),
+        Err(AllocError) => Err(Refusal::no_memory()),
+    }
+}

@@ -1,0 +1,190 @@
+//! The commands of the program.
+ghost use Rattle.std.specs.Prelude.{◌≡◌, ◌≤◌, map, string_bytes};
+ghost use Rattle.answer_rows.specs.Endings.{EndsInRow};
+ghost use Rattle.bus_commands.specs.Rows.{EndsRun};
+ghost use Rattle.bus_commands.specs.Commands.{RunsCommand};
+ghost use Rattle.bus_commands.specs.Steps.{Prepares, PreparesLines, PreparesWorld, HasFewEvents, FindsEvents, IsWholeLines, IsWholeWorld, DoesLines, DoesAsked};
+ghost use Rattle.bus_nodes.specs.Buses.{NamedBus};
+
+use crate::inputs::{bus_from, drawn_events, questions_from, script_from};
+use crate::job::{Job, LineJob, WorldJob};
+use crate::replay::replay;
+use crate::trial::trial;
+use crate::words::{Command, LineCommand, WorldCommand, command_of};
+use answer_rows::{Refusal, tell_refusal};
+use bus_nodes::BusConfig;
+use bus_port::{Sink, Source};
+use bus_script::Event;
+use command_edge::{DONE, tell};
+use cut_disk::CutDisk;
+use std::alloc::{AllocError, Global};
+
+/// Runs the command that the words ask for, the program's name left out, and gives the status that the program ends with. `config`
+/// gives the bus file, which `check`, `replay` and `trial` read, and `script` the lines, which all but `trial` read. All reading comes
+/// before all printing, and every text that is printed ends with a line feed. A replay and a trial format one disk a node. A replay
+/// writes each line as soon as its event is done, a trial its seven lines after all events.
+///
+/// The statuses are looked for in the order 2, then 5, 8 and 3 of the bus file, then 5, 8 and 4 of the lines, then 9 and 10 of the
+/// disks. A sink that fails makes the status 6, whatever was to be printed, and no further event is done. Want of memory, 7, prints
+/// nothing more.
+pub fn run<S: Source, T: Source, K: Sink, D: CutDisk>(
+    alloc: Global,
+    words: &[String],
+    config: &mut S,
+    script: &mut T,
+    sink: &mut K,
+    disks: &mut Vec<D>,
+) -> u8
+    // `RunsCommand` of specs/Commands.antt has a member for each promise, in the order of the table of answers.
+    ensures promises { RunsCommand (disks.new ≡ disks.old)
+        (record {
+          words = map string_bytes words.now;
+          config = record { before = S.state config.old; after = S.state config.new };
+          script = record { before = T.state script.old; after = T.state script.new };
+        })
+        (record { before = map D.state disks.old.items; after = map D.state disks.new.items })
+        (record { before = K.state sink.old; after = K.state sink.new; status = result }) }
+
+    // A row of the table of answers comes; or a replay of valid inputs did its first events. Over disks that tell their bytes the events
+    // of a replay and of a trial are one run of the machine from the first world of the bus, and one record has all that holds of it:
+    // `is_a_run`, `rising`, `authentic`, `single`, `keys_kept`, `cuts_skip_little`, `disks`, `failures` and `honest`.
+    ensures replayed { EndsRun (disks.new ≡ disks.old)
+        (record {
+          words = map string_bytes words.now;
+          config = record { before = S.state config.old; after = S.state config.new };
+          script = record { before = T.state script.old; after = T.state script.new };
+        })
+        (record { before = map D.state disks.old.items; after = map D.state disks.new.items })
+        (record { before = K.state sink.old; after = K.state sink.new; status = result }) }
+{
+    match prepare(alloc, words, config, script) {
+        Ok(Job::Lines(job)) => do_lines(alloc, &job, sink),
+        Ok(Job::World(job)) => do_world(alloc, &job, sink, disks),
+        Err(refusal) => tell_refusal(sink, &refusal),
+    }
+}
+
+const USAGE: &str =
+    "usage: frame F, judge F, check B F, replay B F, trial B N SEED, node B F DISK\n";
+
+/// The first phase: the words and the inputs. It ends in a job, or in the first refusal that applies.
+fn prepare<S: Source, T: Source>(
+    alloc: Global,
+    words: &[String],
+    config: &mut S,
+    script: &mut T,
+) -> Result<Job, Refusal>
+    ensures { Prepares
+        (record {
+          words = map string_bytes words.now;
+          config = record { before = S.state config.old; after = S.state config.new };
+          script = record { before = T.state script.old; after = T.state script.new };
+        })
+        result }
+{
+    match command_of(words) {
+        None => Err(Refusal::fixed(2, USAGE)),
+        Some(Command::Lines(command)) => match lines_job(alloc, command, config, script) {
+            Ok(job) => Ok(Job::Lines(job)),
+            Err(refusal) => Err(refusal),
+        },
+        Some(Command::World(command)) => match world_job(alloc, command, config, script) {
+            Ok(job) => Ok(Job::World(job)),
+            Err(refusal) => Err(refusal),
+        },
+    }
+}
+
+/// The job of a command that uses no disk.
+fn lines_job<S: Source, T: Source>(
+    alloc: Global,
+    command: LineCommand,
+    config: &mut S,
+    script: &mut T,
+) -> Result<LineJob, Refusal>
+    ensures { PreparesLines command
+        (record { before = S.state config.old; after = S.state config.new })
+        (record { before = T.state script.old; after = T.state script.new }) result }
+{
+    match command {
+        LineCommand::Frame => {
+            let frames = questions_from(alloc, script)?;
+            Ok(LineJob::Frames(frames))
+        }
+        LineCommand::Judge => {
+            let judgements = questions_from(alloc, script)?;
+            Ok(LineJob::Judgements(judgements))
+        }
+        LineCommand::Check => {
+            let bus = bus_from(alloc, config)?;
+            let events = script_from(alloc, &bus, script)?;
+            Ok(LineJob::Events(bus, events))
+        }
+    }
+}
+
+/// The job of a command that runs a bus.
+fn world_job<S: Source, T: Source>(
+    alloc: Global,
+    command: WorldCommand,
+    config: &mut S,
+    script: &mut T,
+) -> Result<WorldJob, Refusal>
+    requires { HasFewEvents command }
+    ensures { PreparesWorld command
+        (record { before = S.state config.old; after = S.state config.new })
+        (record { before = T.state script.old; after = T.state script.new }) result }
+{
+    let bus = bus_from(alloc, config)?;
+    let events = events_for(alloc, command, &bus, script)?;
+    Ok(WorldJob {
+        command,
+        bus,
+        events,
+    })
+}
+
+/// The events of a run of this bus: those of the script, or those that the seed gives.
+fn events_for<T: Source>(
+    alloc: Global,
+    command: WorldCommand,
+    bus: &BusConfig,
+    script: &mut T,
+) -> Result<Vec<Event>, Refusal>
+    requires { HasFewEvents command }
+    ensures { FindsEvents command bus.now (record { before = T.state script.old; after = T.state script.new }) result }
+{
+    match command {
+        WorldCommand::Replay => script_from(alloc, bus, script),
+        WorldCommand::Trial(trial) => drawn_events(alloc, bus, trial),
+    }
+}
+
+/// The second phase where no disk is used: what the job prints is told.
+fn do_lines<K: Sink>(alloc: Global, job: &LineJob, sink: &mut K) -> u8
+    requires { IsWholeLines job.now }
+    ensures { EndsInRow (DoesLines job.now) (record { before = K.state sink.old; after = K.state sink.new; status = result }) }
+{
+    match job.text(alloc) {
+        Ok(text) => tell(sink, text.as_slice(), DONE),
+        Err(AllocError) => tell_refusal(sink, &Refusal::no_memory()),
+    }
+}
+
+/// The second phase over disks: the bus runs.
+fn do_world<K: Sink, D: CutDisk>(
+    alloc: Global,
+    job: &WorldJob,
+    sink: &mut K,
+    disks: &mut Vec<D>,
+) -> u8
+    requires { IsWholeWorld job.now }
+    ensures { DoesAsked job.now.command job.now.bus job.now.events.items
+        (record { before = map D.state disks.old.items; after = map D.state disks.new.items })
+        (record { before = K.state sink.old; after = K.state sink.new; status = result }) }
+{
+    match job.command {
+        WorldCommand::Replay => replay(alloc, &job.bus, job.events.as_slice(), sink, disks),
+        WorldCommand::Trial(_) => trial(alloc, &job.bus, job.events.as_slice(), sink, disks),
+    }
+}

@@ -1,9 +1,0 @@
-use Rattle.std.proofs.Common.{◌≡◌, ◌+◌}
-use Rattle.bus_replay.specs.SummarySteps.{CountsFew}
-use Rattle.bus_replay.proofs.trial_tests.each_line_is_counted_by_what_it_tells.Given as goal
-
-abbrev pub invariant-loop-line : goal.invariant-loop-line
-invariant-loop-line g l = record {
-  counts : CountsFew l.summary (l.number + 1);
-  number : l.number ≡ l.line-index;
-}

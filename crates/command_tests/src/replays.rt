@@ -1,0 +1,308 @@
+//! Whole replays over disks and ports in memory: what a program over disks of its own can't show. What it can is a row of checks/.
+use bus_commands::run::run;
+use crate::lines::{BUS, ending, sink_of, words_of};
+use bus_port::CleanSource;
+use cut_disk::{CutDisk, Disk, DiskFailed, MemDisk, TapeDisk};
+use file_disk::{ByteFile, FileDisk, FileFailed};
+use std::alloc::{AllocError, Global};
+use std::process::Abort;
+use std::test::Fail;
+
+/// Keys for both nodes, under a master key that each gets first, and a PDU that is sent, delivered twice, and altered. The key and the MAC
+/// are of the second CMAC example of SP 800-38B.
+const ORDINARY: &str =
+    "key left - 1 1 ffffffffffffffffffffffffffffffff 1 00000 000102030405060708090a0b0c0d0e0f\nkey right - 1 1 ffffffffffffffffffffffffffffffff 1 00000 000102030405060708090a0b0c0d0e0f\nkey left - 4 1 000102030405060708090a0b0c0d0e0f 1 00010 2b7e151628aed2a6abf7158809cf4f3c\nkey right - 4 1 000102030405060708090a0b0c0d0e0f 1 00010 2b7e151628aed2a6abf7158809cf4f3c\nsend left 6bc1 bee22e409f96\ndeliver right 5\ndeliver right 5\ninject right 6bc1 bee22e409f972a070a16\n";
+
+const ORDINARY_LINES: &str =
+    "1 keyed 1\n2 keyed 1\n3 keyed 4\n4 keyed 4\n5 sent 6bc1 e93d7e117393172a bee22e409f962a070a16\n6 accepted 6bc1 e93d7e117393172a bee22e409f96 from 5\n7 VERIFICATIONFAILURE\n8 VERIFICATIONFAILURE\n";
+
+/// The key for both nodes, and a PDU that is sent.
+const SENT: &str =
+    "key left - 4 4 ffffffffffffffffffffffffffffffff 1 00010 2b7e151628aed2a6abf7158809cf4f3c\nkey right - 4 4 ffffffffffffffffffffffffffffffff 1 00010 2b7e151628aed2a6abf7158809cf4f3c\nsend left 6bc1 bee22e409f96\n";
+
+const SENT_LINES: &str =
+    "1 keyed 4\n2 keyed 4\n3 sent 6bc1 e93d7e117393172a bee22e409f962a070a16\n";
+
+/// What is behind [`SENT`], and its lines: a stop within the write of the receiver's bound, a cut, and the delivery again; and a cut that fails.
+const POWER_CUTS: [(&str, &str); 4] = [
+    (
+        "stop right 2\ndeliver right 3\ndeliver right 3\ncut right old\ndeliver right 3\n",
+        "4 armed\n5 refused MEMORY_FAILURE\n6 refused Down\n7 up\n8 accepted 6bc1 e93d7e117393172a bee22e409f96 from 3\n",
+    ),
+    (
+        "stop right 6\ndeliver right 3\ndeliver right 3\ncut right keep\ndeliver right 3\n",
+        "4 armed\n5 refused MEMORY_FAILURE\n6 refused Down\n7 up\n8 VERIFICATIONFAILURE\n",
+    ),
+    (
+        "stop right 6\ndeliver right 3\ndeliver right 3\ncut right old\ndeliver right 3\n",
+        "4 armed\n5 refused MEMORY_FAILURE\n6 refused Down\n7 up\n8 accepted 6bc1 e93d7e117393172a bee22e409f96 from 3\n",
+    ),
+    (
+        "fail right 1\ncut right keep\ncut right keep\n",
+        "4 armed\n5 refused MEMORY_FAILURE\n6 up\n",
+    ),
+];
+
+/// Disks in memory of these sizes.
+pub(crate) fn disks_of(alloc: Global, sizes: &[usize]) -> Result<Vec<MemDisk>, AllocError> {
+    let mut disks = Vec::new(alloc);
+    for size in sizes {
+        if *size > 65_536 {
+            return Err(AllocError);
+        }
+        match MemDisk::new(alloc, *size) {
+            Ok(disk) => disks.push(disk)?,
+            Err(_) => return Err(AllocError),
+        }
+    }
+    Ok(disks)
+}
+
+/// Replays a script over these disks and a sink that takes a byte in a call, and compares the status and the output. Where the sink fails once so
+/// many bytes are written, the status is 6, and these bytes are all of the output.
+fn replays<D: CutDisk>(
+    rt: &impl Abort,
+    alloc: Global,
+    disks: &mut Vec<D>,
+    texts: [&str; 2],
+    fails_behind: Option<usize>,
+    status: u8,
+    output: &str,
+) -> Result<(), Fail> {
+    let [bus, script] = texts;
+    let words = words_of(alloc, "replay B F")?;
+    let mut config = CleanSource::new(Vec::from_slice(alloc, bus.as_bytes())?);
+    let mut source = CleanSource::new(Vec::from_slice(alloc, script.as_bytes())?);
+    let mut sink = sink_of(alloc, fails_behind)?;
+    let number = disks.len();
+    let answer = run(
+        alloc,
+        words.as_slice(),
+        &mut config,
+        &mut source,
+        &mut sink,
+        disks,
+    );
+    let (status, output) = ending(fails_behind, status, output);
+    assert_eq!(rt; answer, status, "{script}");
+    assert_eq!(rt; sink.bytes(), output, "{script}");
+    assert_eq!(rt; disks.len(), number, "every disk is back");
+    Ok(())
+}
+
+#[test]
+fn disks_that_tell_their_past_print_the_same(rt: HostRuntime) -> Result<(), Fail> {
+    let alloc = rt.alloc();
+    let mut rows = Vec::new(alloc);
+    rows.push((
+        String::from_str(alloc, ORDINARY)?,
+        String::from_str(alloc, ORDINARY_LINES)?,
+    ))?;
+    for (rest, lines) in POWER_CUTS {
+        rows.push((
+            format!(in alloc; "{SENT}{rest}")?,
+            format!(in alloc; "{SENT_LINES}{lines}")?,
+        ))?;
+    }
+    for (script, lines) in rows.as_slice() {
+        let texts = [BUS, script.as_str()];
+        let mut disks = disks_of(alloc, &[2_048, 2_048])?;
+        replays(&rt, alloc, &mut disks, texts, None, 0, lines.as_str())?;
+        let mut tapes = Vec::new(alloc);
+        for _ in 0..2 {
+            tapes.push(TapeDisk::new(alloc, 2_048, 400)?)?;
+        }
+        replays(&rt, alloc, &mut tapes, texts, None, 0, lines.as_str())?;
+        for tape in tapes.as_slice() {
+            assert!(rt; tape.past().is_some(), "the past is told");
+        }
+    }
+    Ok(())
+}
+
+/// The byte at an address of a disk.
+fn byte_at<D: Disk>(disk: &mut D, at: u64) -> Result<u8, DiskFailed> {
+    let mut out = [0];
+    if at >= disk.size() {
+        return Err(DiskFailed);
+    }
+    disk.read(at, &mut out)?;
+    Ok(out[0])
+}
+
+/// The first four events put the cell of slot 1 and then that of slot 4, of the first node and then of the second, and have a line of ten bytes
+/// each. The mark of the second copy of a cell is 2 in a new twin store, and 1 behind the first put.
+#[test]
+fn after_a_write_that_fails_nothing_more_is_written_or_done(rt: HostRuntime) -> Result<(), Fail> {
+    for written in 0..40 {
+        let mut disks = disks_of(rt.alloc(), &[2_048, 2_048])?;
+        let texts = [BUS, ORDINARY];
+        replays(
+            &rt,
+            rt.alloc(),
+            &mut disks,
+            texts,
+            Some(written),
+            0,
+            ORDINARY_LINES,
+        )?;
+        for (lines, node, at) in [(0, 0, 135), (1, 1, 135), (2, 0, 339), (3, 1, 339)] {
+            let Some(disk) = disks.as_mut_slice().get_mut(node) else {
+                return Err(Fail::from("no disk"));
+            };
+            let is_done = written / 10 >= lines;
+            assert_eq!(rt; byte_at(disk, at)? == 1, is_done, "{written}: {lines}");
+        }
+    }
+    Ok(())
+}
+
+/// The bytes that the store of a node with one route takes, in each layout.
+const LAYOUTS: [(&str, usize); 4] = [
+    ("", 1_052),
+    ("store = \"log\"\n", 5_476),
+    ("version = 2\n", 33_820),
+    ("store = \"log\"\nversion = 2\n", 38_244),
+];
+
+#[test]
+fn disks_that_are_too_few_or_too_small_are_told(rt: HostRuntime) -> Result<(), Fail> {
+    let alloc = rt.alloc();
+    for (layout, least) in LAYOUTS {
+        let bus = format!(in alloc; "{layout}{BUS}")?;
+        let texts = [bus.as_str(), SENT];
+        for (sizes, status, output) in [
+            (&[][..], 9, "disks: too few\n"),
+            (&[least][..], 9, "disks: too few\n"),
+            (&[100, 100][..], 9, "disks: node 1 too small\n"),
+            (
+                &[least, least.saturating_sub(1)][..],
+                9,
+                "disks: node 2 too small\n",
+            ),
+            (&[least, least][..], 0, SENT_LINES),
+            (&[65_536, 65_536, 0][..], 0, SENT_LINES),
+        ] {
+            let mut disks = disks_of(alloc, sizes)?;
+            replays(&rt, alloc, &mut disks, texts, None, status, output)?;
+            let mut disks = disks_of(alloc, sizes)?;
+            replays(&rt, alloc, &mut disks, texts, Some(7), status, output)?;
+        }
+    }
+    Ok(())
+}
+
+/// A start over a twin store of fifteen cells makes twenty calls to format it and sixteen to read it.
+#[test]
+fn a_disk_that_fails_at_the_start_is_named(rt: HostRuntime) -> Result<(), Fail> {
+    for (node, output) in [
+        (0, "store: node 1: DiskFailed\n"),
+        (1, "store: node 2: DiskFailed\n"),
+    ] {
+        for (call, fails_behind, status, output) in [
+            (1, None, 10, output),
+            (20, None, 10, output),
+            (36, None, 10, output),
+            (36, Some(7), 10, output),
+            (37, None, 0, ""),
+        ] {
+            let mut disks = disks_of(rt.alloc(), &[2_048, 2_048])?;
+            match disks.as_mut_slice().get_mut(node) {
+                Some(disk) if call >= 1 => disk.fail_at(call),
+                _ => return Err(Fail::from("no disk")),
+            }
+            let texts = [BUS, ""];
+            replays(
+                &rt,
+                rt.alloc(),
+                &mut disks,
+                texts,
+                fails_behind,
+                status,
+                output,
+            )?;
+        }
+    }
+    Ok(())
+}
+
+/// A file in memory that has lost one byte: at this address it reads as `byte`.
+#[derive(Drop)]
+struct WornFile {
+    bytes: Vec<u8>,
+    at: usize,
+    byte: u8,
+}
+
+impl ByteFile for WornFile {
+    ghost use Rattle.std.specs.Prelude.{true, None};
+
+    ghost is_open = { λ _. true };
+
+    ghost calls = { λ _. None };
+
+    fn read_at(&mut self, at: u64, out: &mut [u8]) -> Result<(), FileFailed> {
+        for (place, byte) in out.iter_mut().enumerate() {
+            let address = (at as usize).saturating_add(place);
+            *byte = match self.bytes.get(address) {
+                Some(_) if address == self.at => self.byte,
+                Some(kept) => *kept,
+                None => return Err(FileFailed),
+            };
+        }
+        Ok(())
+    }
+
+    fn write_at(&mut self, at: u64, bytes: &[u8]) -> Result<(), FileFailed> {
+        for (place, byte) in bytes.iter().enumerate() {
+            match self.bytes.get_mut((at as usize).saturating_add(place)) {
+                Some(kept) => *kept = *byte,
+                None => return Err(FileFailed),
+            }
+        }
+        Ok(())
+    }
+
+    fn sync_all(&mut self) -> Result<(), FileFailed> {
+        Ok(())
+    }
+}
+
+/// Over disks that tell no bytes, and read otherwise than they were written: of the second node the first byte of the header, the mark of a copy
+/// that counts, the first byte of a slot's cell and of a bound's; and a byte that no cell has.
+#[test]
+fn what_is_read_again_otherwise_is_told(rt: HostRuntime) -> Result<(), Fail> {
+    let alloc = rt.alloc();
+    for (layout, at, byte, status, output) in [
+        ("", 0, 0, 10, "store: node 2: NotFormatted\n"),
+        ("", 985, 3, 10, "store: node 2: Damaged 14\n"),
+        ("", 918, 7, 10, "store: node 2: BadSlot 13\n"),
+        ("", 986, 1, 10, "store: node 2: BadBound 14\n"),
+        ("", 1_052, 1, 0, SENT_LINES),
+        (
+            "store = \"log\"\n",
+            31,
+            1,
+            10,
+            "store: node 2: NotFormatted\n",
+        ),
+        ("store = \"log\"\n", 32, 0, 10, "store: node 2: Damaged 0\n"),
+        (
+            "store = \"log\"\n",
+            549,
+            0xa7,
+            10,
+            "store: node 2: Damaged 2\n",
+        ),
+    ] {
+        let bus = format!(in alloc; "{layout}{BUS}")?;
+        let mut disks = Vec::new(alloc);
+        for (at, byte) in [(65_536, 0), (at, byte)] {
+            let bytes = vec![in alloc; 0; 65_536]?;
+            disks.push(FileDisk::over(WornFile { bytes, at, byte }, 65_536))?;
+        }
+        let texts = [bus.as_str(), SENT];
+        replays(&rt, alloc, &mut disks, texts, None, status, output)?;
+    }
+    Ok(())
+}

@@ -1,0 +1,73 @@
+//! Whole trials over disks in memory: the bus file, the words, the status and the summary.
+use crate::replays::disks_of;
+use bus_commands::run::run;
+use crate::lines::{BUS, ending, sink_of, words_of};
+use bus_port::CleanSource;
+use std::alloc::Global;
+use std::process::Abort;
+use std::test::Fail;
+
+/// The summary of one event of the seed 0, a power cut, behind the keys of two nodes.
+const ONE: &str = "events 21\nsent 0\naccepted 0\nfailures 0\nkeyed 20\ncuts 1\nrefused 0\n";
+
+/// That of the most events, of the seed 1.
+const MOST: &str =
+    "events 60020\nsent 10946\naccepted 729\nfailures 1200\nkeyed 105\ncuts 1422\nrefused 25393\n";
+
+/// Runs the words of a trial over two disks of so many bytes and a sink that takes a byte in a call, and compares the status and the output.
+/// Where the sink fails once so many bytes are written, the status is 6, and these bytes are all of the output.
+fn gives(
+    rt: &impl Abort,
+    alloc: Global,
+    line: &str,
+    size: usize,
+    fails_behind: Option<usize>,
+    status: u8,
+    output: &str,
+) -> Result<(), Fail> {
+    let words = words_of(alloc, line)?;
+    let mut disks = disks_of(alloc, &[size, size])?;
+    let mut config = CleanSource::new(Vec::from_slice(alloc, BUS.as_bytes())?);
+    let mut script = CleanSource::new(Vec::from_slice(alloc, b"no script is read")?);
+    let mut sink = sink_of(alloc, fails_behind)?;
+    let answer = run(
+        alloc,
+        words.as_slice(),
+        &mut config,
+        &mut script,
+        &mut sink,
+        &mut disks,
+    );
+    let (status, output) = ending(fails_behind, status, output);
+    assert_eq!(rt; answer, status, "{line}");
+    assert_eq!(rt; sink.bytes(), output, "{line}");
+    assert_eq!(rt; disks.len(), 2, "every disk is back");
+    Ok(())
+}
+
+#[test]
+fn a_trial_prints_the_same_summary_each_time(rt: HostRuntime) -> Result<(), Fail> {
+    for _ in 0..2 {
+        gives(&rt, rt.alloc(), "trial B 1 0", 65_536, None, 0, ONE)?;
+        gives(&rt, rt.alloc(), "trial B 60000 1", 65_536, None, 0, MOST)?;
+    }
+    Ok(())
+}
+
+#[test]
+fn a_trial_that_cannot_start_or_tell_says_so(rt: HostRuntime) -> Result<(), Fail> {
+    let small = "disks: node 1 too small\n";
+    gives(&rt, rt.alloc(), "trial B 1 0", 100, None, 9, small)?;
+    for written in [0, 10, 64] {
+        gives(
+            &rt,
+            rt.alloc(),
+            "trial B 1 0",
+            65_536,
+            Some(written),
+            6,
+            ONE,
+        )?;
+    }
+    Ok(())
+}
