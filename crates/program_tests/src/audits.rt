@@ -18,10 +18,10 @@ const EXAMPLE: &str =
 
 const USAGE: &str = "usage: audit MAP LOG\n";
 
-/// How many words there are, the calls of the map, of the log and of the sink that fail, the status, and what is
+/// The words, the calls of the map, of the log and of the sink that fail, the status, and what is
 /// written.
 struct Row(
-    usize,
+    &'static [&'static str],
     &'static [u64],
     &'static [u64],
     &'static [u64],
@@ -29,19 +29,25 @@ struct Row(
     &'static str,
 );
 
+const ONE: &[&str] = &["MAP"];
+
+const TWO: &[&str] = &["MAP", "LOG"];
+
+const THREE: &[&str] = &["MAP", "LOG", "MORE"];
+
 const ROWS: &[Row] = &[
-    Row(2, &[], &[], &[], 0, AUDITED),
-    Row(1, &[], &[], &[], 2, USAGE),
-    Row(3, &[], &[], &[], 2, USAGE),
-    Row(2, &[2], &[], &[], 5, "read fault\n"),
-    Row(2, &[], &[2], &[], 5, "read fault\n"),
-    Row(2, &[], &[], &[3], 6, "1 123 "),
-    Row(1, &[], &[], &[1], 6, ""),
+    Row(TWO, &[], &[], &[], 0, AUDITED),
+    Row(ONE, &[], &[], &[], 2, USAGE),
+    Row(THREE, &[], &[], &[], 2, USAGE),
+    Row(TWO, &[2], &[], &[], 5, "read fault\n"),
+    Row(TWO, &[], &[2], &[], 5, "read fault\n"),
+    Row(TWO, &[], &[], &[3], 6, "1 123 "),
+    Row(ONE, &[], &[], &[1], 6, ""),
 ];
 
 /// Runs an audit over sources of pieces of 16 bytes and a sink of pieces of 3, and compares the status and the output.
 fn check(rt: &impl Abort, alloc: Global, row: &Row) -> Result<(), Fail> {
-    let words = words_of(alloc, &["MAP", "LOG", "MORE"][..row.0])?;
+    let words = words_of(alloc, row.0)?;
     let mut map = MemSource::new(
         Vec::from_slice(alloc, MAP.as_bytes())?,
         Vec::from_slice(alloc, row.1)?,

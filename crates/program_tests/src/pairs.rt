@@ -15,9 +15,9 @@ const EXAMPLE: &str = "waiting\nVERIFICATIONSUCCESS e93d7e117393172a bee22e409f9
 
 const USAGE: &str = "usage: pairing F\n";
 
-/// How many words there are, the script, its calls that fail and those of the sink, the status, and what is written.
+/// The words, the script, its calls that fail and those of the sink, the status, and what is written.
 struct Row(
-    usize,
+    &'static [&'static str],
     &'static str,
     &'static [u64],
     &'static [u64],
@@ -25,19 +25,25 @@ struct Row(
     &'static str,
 );
 
+const NONE: &[&str] = &[];
+
+const ONE: &[&str] = &["F"];
+
+const TWO: &[&str] = &["F", "MORE"];
+
 const ROWS: &[Row] = &[
-    Row(1, SCRIPT, &[], &[], 0, ANSWERED),
-    Row(1, "# nothing but this\n\n", &[], &[], 0, ""),
-    Row(0, SCRIPT, &[], &[], 2, USAGE),
-    Row(2, SCRIPT, &[], &[], 2, USAGE),
-    Row(1, SCRIPT, &[2], &[], 5, "read fault\n"),
-    Row(1, "a 11\n", &[], &[3], 6, "script"),
-    Row(1, SCRIPT, &[], &[3], 6, "waitin"),
+    Row(ONE, SCRIPT, &[], &[], 0, ANSWERED),
+    Row(ONE, "# nothing but this\n\n", &[], &[], 0, ""),
+    Row(NONE, SCRIPT, &[], &[], 2, USAGE),
+    Row(TWO, SCRIPT, &[], &[], 2, USAGE),
+    Row(ONE, SCRIPT, &[2], &[], 5, "read fault\n"),
+    Row(ONE, "a 11\n", &[], &[3], 6, "script"),
+    Row(ONE, SCRIPT, &[], &[3], 6, "waitin"),
 ];
 
 /// Runs a script from pieces of 16 bytes to a sink of pieces of 3, and compares the status and the output.
 fn check(rt: &impl Abort, alloc: Global, row: &Row) -> Result<(), Fail> {
-    let words = words_of(alloc, &["F", "MORE"][..row.0])?;
+    let words = words_of(alloc, row.0)?;
     let mut script = MemSource::new(
         Vec::from_slice(alloc, row.1.as_bytes())?,
         Vec::from_slice(alloc, row.2)?,
