@@ -1,4 +1,6 @@
 //! Whole runs over ports in memory: the words, the status and the bytes that go out.
+ghost use Rattle.std.specs.Prelude.{◌≤◌};
+
 use bus_port::{CleanSource, MemSink};
 use cut_disk::MemDisk;
 use key_commands::{run_example, run_key};
@@ -91,19 +93,25 @@ fn check_failing(
     room: usize,
     failing: u64,
     piece: usize,
-    written: usize,
-) -> Result<(), Fail> {
+    written: &str,
+) -> Result<(), Fail>
+    requires { 1 ≤ piece }
+{
     let words = words_of(alloc, CONFIRM)?;
     let mut sink = MemSink::new(alloc, room, vec![in alloc; failing]?, piece)?;
     let status = status_of(rt, alloc, words.as_slice(), &mut sink)?;
     assert_eq!(rt; status, 6);
-    assert_eq!(rt; sink.bytes(), &b"confirmed\n"[..written]);
+    assert_eq!(rt; sink.bytes(), written.as_bytes());
     Ok(())
 }
 
 #[test]
 fn a_failing_sink_is_told(rt: HostRuntime) -> Result<(), Fail> {
-    for (room, failing, piece, written) in [(64, 1, 64, 0), (64, 6, 1, 5), (8, 0, 5, 8)] {
+    for (room, failing, piece, written) in [
+        (64, 1, 64, ""),
+        (64, 6, 1, "confi"),
+        (8, 0, 5, "confirme"),
+    ] {
         check_failing(&rt, rt.alloc(), room, failing, piece, written)?;
     }
     Ok(())
