@@ -29,8 +29,8 @@ fn words_of(alloc: Global, line: &str) -> Result<Vec<String>, AllocError> {
     Ok(words)
 }
 
-/// The status of the words, or of the example where there are none, over a source, a sink and a disk in memory; neither the source nor the
-/// number of the disks changes.
+/// The status of the words, or of the example where there are none, over a source, a sink and a disk in memory, of
+/// which there is still one then.
 fn status_of(
     rt: &impl Abort,
     alloc: Global,
@@ -70,7 +70,8 @@ fn the_example_is_made_by_its_words_and_without_words(rt: HostRuntime) -> Result
     check(&rt, rt.alloc(), &[], 0, REQUEST)
 }
 
-/// No command line holds an image of 65,536 bytes, since Linux allows a word at most 131,071 bytes. The MAC is that of OpenSSL.
+/// No command line holds an image of 65,536 bytes, since Linux allows a word at most 131,071 bytes. The MAC is that of
+/// OpenSSL.
 #[test]
 fn the_largest_image_has_a_boot_mac(rt: HostRuntime) -> Result<(), Fail> {
     let alloc = rt.alloc();

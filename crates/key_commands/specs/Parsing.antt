@@ -26,7 +26,8 @@ refusals s words = fault_of (command_of s) words
 unfoldable pub found : Subcommand → List (List ℕ) → List Row
 found s words = matches_of (command_of s) words
 
--- the value of this name. clap gives each required argument a value; one without would have the empty text, which is of no form
+-- the value of this name. clap gives each required argument a value; one without would have the empty text, which is of
+-- no form
 abbrev pub value_in : List Row → List ℕ → List ℕ
 value_in rows name = unwrap_or (first_of name rows) []
 

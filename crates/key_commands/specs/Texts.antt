@@ -41,13 +41,15 @@ target_rows u lines =
 -- the lines of what it puts there
 abbrev pub content_rows : Update → List ℕ
 content_rows u =
-    row (codes "counter") (decimal u.counter) (row (codes "flags") (flags_text u.flags) (row (codes "key") (encode_lower u.key) []))
+    row (codes "counter") (decimal u.counter)
+    (row (codes "flags") (flags_text u.flags) (row (codes "key") (encode_lower u.key) []))
 
 -- the six values of an update, a line each
 abbrev pub update_text : Update → List ℕ
 update_text u = target_rows u (content_rows u)
 
--- what is printed where a task is done: the request that is built, the update that is carried, the confirmation, or the boot MAC
+-- what is printed where a task is done: the request that is built, the update that is carried, the confirmation, or the
+-- boot MAC
 abbrev pub PrintsDone : Task → List ℕ → Type 0
 PrintsDone (Make update authkey) text =
     (request : Request) × Builds request authkey update × (text ≡ request_text request)
@@ -56,7 +58,8 @@ PrintsDone (Read request authkey) text =
 PrintsDone (Confirm reply update) text = Confirms reply update update.uid × (text ≡ line (codes "confirmed"))
 PrintsDone (Bootmac key image) text = text ≡ mac_text (bootmac key image)
 
--- what is printed where the messages are refused: ID or AuthID is no slot's, M3 is wrong, or M4 and M5 are not the update's
+-- what is printed where the messages are refused: ID or AuthID is no slot's, M3 is wrong, or M4 and M5 are not the
+-- update's
 abbrev pub Denies : Task → List ℕ → Type 0
 Denies (Make update authkey) text = ⊥
 Denies (Read request authkey) text =

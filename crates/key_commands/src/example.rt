@@ -21,7 +21,7 @@ pub const EXAMPLE: [&str; 9] = [
     "000102030405060708090a0b0c0d0e0f",
 ];
 
-/// Runs the words of the example, and gives the status that the program ends with: as [`run_key`] does, to whose words it adds none.
+/// Runs the words of the example as [`run_key`] does, and gives the status that the program ends with.
 pub fn run_example<S: Source, K: Sink, D: Disk>(
     alloc: Global,
     request: &mut S,

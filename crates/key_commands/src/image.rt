@@ -26,8 +26,8 @@ impl Model for Image {
 }
 
 impl Image {
-    /// The image that a word is: an even number of hexadecimal digits of either case, 2 to 131,072; none exactly where the word is of
-    /// another form.
+    /// The image that a word is: an even number of hexadecimal digits of either case, 2 to 131,072; none exactly where
+    /// the word is of another form.
     pub fn of_word(alloc: Global, word: &[u8]) -> Result<Option<Image>, Memory>
         ensures { IfOk result (λ found. found ≡ hex_bytes_form 1 65536 word.now) }
     {

@@ -20,7 +20,8 @@ pub fn parse<'a>(
     words: &'a [String],
 ) -> Result<ArgMatches<'a>, Refusal>
     ensures taken { IfOk result (λ _. refusals subcommand (map string_bytes words.entry.now) ≡ []) }
-    ensures values { IfOk result (λ matches. rows_of (found_of matches) ≡ found subcommand (map string_bytes words.entry.now)) }
+    ensures values { IfOk result (λ matches. rows_of (found_of matches)
+        ≡ found subcommand (map string_bytes words.entry.now)) }
     ensures refused { IfErr result (λ row. (row ≡ memory_row)
         ⊎ (refusals subcommand (map string_bytes words.entry.now) ≢ [] × (row ≡ row_of 2 key_usage))) }
 {
@@ -61,7 +62,8 @@ fn simple_command<'a>(
     name: &'a str,
     values: &[&'a str],
 ) -> Result<Command<'a>, AllocError>
-    ensures { IfOk result (λ command. app_of command ≡ simple_command name.entry.now (map (λ value. value.now) values.now)) }
+    ensures { IfOk result (λ command. app_of command
+        ≡ simple_command name.entry.now (map (λ value. value.now) values.now)) }
 {
     let mut command = Command::new(alloc, name);
     for value in values {
@@ -80,7 +82,8 @@ fn required_text<'a>(alloc: Global, name: &'a str) -> Arg<'a>
 
 /// The refusal by the kind of error that `clap` gives.
 fn refusal_of(kind: ErrorKind) -> Refusal
-    ensures { ((kind ≡ OutOfMemory) × (result ≡ memory_row)) ⊎ (¬ (kind ≡ OutOfMemory) × (result ≡ row_of 2 key_usage)) }
+    ensures { ((kind ≡ OutOfMemory) × (result ≡ memory_row))
+        ⊎ (¬ (kind ≡ OutOfMemory) × (result ≡ row_of 2 key_usage)) }
 {
     match kind {
         ErrorKind::OutOfMemory => Refusal::no_memory(),

@@ -17,11 +17,11 @@ use cut_disk::Disk;
 use std::alloc::Global;
 use text_lines::Memory;
 
-/// Runs the subcommand that the words ask for, and gives the status that the program ends with. The first of the words is
-/// the program's name. Every text that is printed ends with a line feed.
+/// Runs the subcommand that the words ask for, and gives the status that the program ends with. The first of the words
+/// is the program's name. Every text that is printed ends with a line feed.
 ///
-/// The statuses are looked for in the order 2, 3. Want of memory, 7, prints nothing. A sink that fails makes the status 6,
-/// whatever was to be printed. No subcommand reads from the source of requests or touches a disk.
+/// The statuses are looked for in the order 2, 3. Want of memory, 7, prints nothing. A sink that fails makes the status
+/// 6, whatever was to be printed. No subcommand reads from the source of requests or touches a disk.
 pub fn run_key<S: Source, K: Sink, D: Disk>(
     alloc: Global,
     words: &[String],

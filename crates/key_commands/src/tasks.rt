@@ -3,7 +3,8 @@ ghost use Rattle.std.specs.Prelude.{◌≡◌, IfOk};
 ghost use Rattle.clap.specs.Words.{rows_of, found_of};
 ghost use Rattle.key_commands.specs.Subcommands.{values_of as names_of};
 ghost use Rattle.key_commands.specs.Parsing.{values_in};
-ghost use Rattle.key_commands.specs.Tasks.{value_at, make_of, read_of, confirm_of, boot_task, bootmac_of, task_of as task_by};
+ghost use Rattle.key_commands.specs.Tasks.{value_at, make_of, read_of, confirm_of, boot_task, bootmac_of};
+ghost use Rattle.key_commands.specs.Tasks.{task_of as task_by};
 ghost use Rattle.key_commands.specs.declared.subcommands.Subcommand.TheVariants as subcommand;
 
 use crate::image::Image;
@@ -41,7 +42,8 @@ pub fn task_of(
     subcommand: Subcommand,
     matches: &ArgMatches<'_>,
 ) -> Result<Result<Task, BadValue>, Memory>
-    ensures { IfOk result (λ asked. asked ≡ task_by subcommand (values_in (names_of subcommand) (rows_of (found_of matches.now)))) }
+    ensures { IfOk result (λ asked. asked
+        ≡ task_by subcommand (values_in (names_of subcommand) (rows_of (found_of matches.now)))) }
 {
     match subcommand {
         Subcommand::Make => Ok(make_of(matches)),
@@ -116,7 +118,8 @@ fn confirm_of(matches: &ArgMatches<'_>) -> Result<Task, BadValue>
 
 #[tactic(auto, unfolding(crate::specs::Tasks::bootmac_of))]
 fn bootmac_of(alloc: Global, matches: &ArgMatches<'_>) -> Result<Result<Task, BadValue>, Memory>
-    ensures { IfOk result (λ asked. asked ≡ bootmac_of (values_in (names_of subcommand.Bootmac) (rows_of (found_of matches.now)))) }
+    ensures { IfOk result (λ asked. asked
+        ≡ bootmac_of (values_in (names_of subcommand.Bootmac) (rows_of (found_of matches.now)))) }
 {
     let key = forms::key(value_of(matches, "KEY"));
     let image = Image::of_word(alloc, value_of(matches, "IMAGE"))?;

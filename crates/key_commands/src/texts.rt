@@ -2,7 +2,9 @@
 ghost use Rattle.std.specs.Prelude.{◌≡◌, [], IfOk, string_bytes};
 ghost use Rattle.std.specs.List.{flat_map};
 ghost use Rattle.hex.specs.Hex.{encode_lower};
-ghost use Rattle.key_commands.specs.Texts.{mac_text as mac_line, request_text as request_lines, update_text as update_lines, target_rows, content_rows, value_text as value_line};
+ghost use Rattle.key_commands.specs.Texts.{mac_text as mac_line, request_text as request_lines};
+ghost use Rattle.key_commands.specs.Texts.{update_text as update_lines, target_rows, content_rows};
+ghost use Rattle.key_commands.specs.Texts.{value_text as value_line};
 
 use hex::encode;
 use memory_update::{Request, Update};

@@ -1,5 +1,5 @@
-//! `keytool`: makes the messages of a key update (SHE specification, memory update protocol), reads them, and checks the
-//! engine's answer; and makes the boot MAC of an image (SHE specification, secure booting).
+//! `keytool`: makes the messages of a key update (SHE specification, memory update protocol), reads them, and checks
+//! the engine's answer; and makes the boot MAC of an image (SHE specification, secure booting).
 //!
 //! [`run_key`] is the program; its clauses say what each status means and what is printed. This file makes the objects
 //! that it works on: standard output and standard input. Without words behind its name the program runs an example.
@@ -26,8 +26,8 @@ fn main(rt: HostRuntime) -> ExitCode {
     ExitCode::from(status)
 }
 
-/// Runs the words of the command line, the program's name first, or those of the example where there are none behind it;
-/// over this input, and with no disk.
+/// Runs the words of the command line, the program's name first, or those of the example where there are none behind
+/// it; over this input, and with no disk.
 fn start<I: Read + Drop, K: Sink>(alloc: Global, stdin: I, words: &[String], sink: &mut K) -> u8
     ensures words { 2 ≤ length words.now → RunsWords stdin (drop 1 (each string_bytes words.now))
         (record { before = K.state sink.old; after = K.state sink.new; status = result }) }
