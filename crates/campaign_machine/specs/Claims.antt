@@ -28,16 +28,19 @@ pub record BeginsLedger (start : Campaign) : Type 0 where
 
 -- each run has this
 abbrev pub EachLedgerRun : (Campaign → List LedgerMoment → Campaign → Type 0) → Type 0
-EachLedgerRun Claim = (start : Campaign) (ms : List LedgerMoment) (last : Campaign) → BeginsLedger start → Run LedgerStep start ms last → Claim start ms last
+EachLedgerRun Claim = (start : Campaign) (ms : List LedgerMoment) (last : Campaign)
+    → BeginsLedger start → Run LedgerStep start ms last → Claim start ms last
 
 abbrev pub LedgerStepsKeepSound : Type 0
-LedgerStepsKeepSound = (c : Campaign) (cmd : LedgerCommand) (told : LedgerLine) (after : Campaign) → SoundLedger c → LedgerStep c cmd told after → SoundLedger after
+LedgerStepsKeepSound = (c : Campaign) (cmd : LedgerCommand) (told : LedgerLine) (after : Campaign)
+    → SoundLedger c → LedgerStep c cmd told after → SoundLedger after
 
 -- ---- what a moment issued
 
 -- the counter that was issued for this unit and slot, if one was
 abbrev pub issued_for : List ℕ → ℕ → LedgerCommand → LedgerLine → Option ℕ
-issued_for uid id (command.Issue i) (line.Issued counter request) = if same_slot uid id i.uid i.id then Some counter else None
+issued_for uid id (command.Issue i) (line.Issued counter request) =
+    if same_slot uid id i.uid i.id then Some counter else None
 issued_for uid id _ _ = None
 
 -- an issue for this unit and slot failed with the disk
@@ -50,19 +53,21 @@ failed_for uid id _ _ = false
 -- of two counters that were issued for one unit and slot the later is greater
 abbrev pub CountersRise : List LedgerMoment → Type 0
 CountersRise = AllPairs (λ m n. (uid : List ℕ) (id counter later : ℕ)
-    → issued_for uid id m.command m.line ≡ Some counter → issued_for uid id n.command n.line ≡ Some later → counter < later)
+    → issued_for uid id m.command m.line ≡ Some counter
+    → issued_for uid id n.command n.line ≡ Some later → counter < later)
 
 -- a request that was issued builds the update with its counter
 abbrev pub BuildsItsUpdate : LedgerCommand → LedgerLine → Type 0
 BuildsItsUpdate (command.Issue i) (line.Issued counter request) = Builds request i.authkey (update_for i counter)
 BuildsItsUpdate _ _ = Unit {0}
 
--- It is one that an engine of its unit allows whose slots are these, where the authorising slot has the given key, the target's
--- counter is below, and none of the refusals by the two slots alone applies.
+-- It is one that an engine of its unit allows whose slots are these, where the authorising slot has the given key, the
+-- target's counter is below, and none of the refusals by the two slots alone applies.
 abbrev pub IsAllowedIn : List Slot → Bool → LedgerCommand → LedgerLine → Type 0
 IsAllowedIn slots good (command.Issue i) (line.Issued counter request) =
     IsSlots slots → key_in (slot_at slots i.auth) ≡ i.authkey → counter_of (slot_at slots i.id) < counter
-    → first_applying (head_refusals slots good i.id i.auth) ≡ None → Allows slots good i.uid request (Ok (update_for i counter))
+    → first_applying (head_refusals slots good i.id i.auth) ≡ None
+    → Allows slots good i.uid request (Ok (update_for i counter))
 IsAllowedIn slots good _ _ = Unit {0}
 
 -- the entry of a unit and slot is still there, with no lower counter
@@ -72,7 +77,8 @@ pub record StillKept (uid : List ℕ) (id : ℕ) (e : LedgerEntry) (last : Campa
   pub no_lower : e.counter ≤ now.counter
 
 abbrev pub KeepsEntries : Campaign → Campaign → Type 0
-KeepsEntries start last = (uid : List ℕ) (id : ℕ) (e : LedgerEntry) → entry_for uid id start.entries ≡ Some e → StillKept uid id e last
+KeepsEntries start last = (uid : List ℕ) (id : ℕ) (e : LedgerEntry)
+    → entry_for uid id start.entries ≡ Some e → StillKept uid id e last
 
 -- the command confirms this unit and slot, with a reply that confirms an update with this counter
 abbrev pub CarriesReply : List ℕ → ℕ → ℕ → LedgerCommand → Type 0
@@ -81,7 +87,8 @@ CarriesReply uid id counter _ = ⊥
 
 -- an entry that is confirmed was so at first, or such a command came
 abbrev pub ConfirmedByReply : Campaign → List LedgerMoment → Campaign → Type 0
-ConfirmedByReply start ms last = (uid : List ℕ) (id : ℕ) (e : LedgerEntry) → entry_for uid id last.entries ≡ Some e → e.confirmed ≡ true
+ConfirmedByReply start ms last = (uid : List ℕ) (id : ℕ) (e : LedgerEntry)
+    → entry_for uid id last.entries ≡ Some e → e.confirmed ≡ true
     → (entry_for uid id start.entries ≡ Some e) ⊎ Any (λ m. CarriesReply uid id e.counter m.command) ms
 
 -- the counter that was issued last for a unit and slot, or else the one at first
@@ -97,11 +104,13 @@ failures_after (Some counter) failed so_far = 0
 abbrev pub failed_since : List ℕ → ℕ → ℕ → List LedgerMoment → ℕ
 failed_since uid id so_far [] = so_far
 failed_since uid id so_far (m ∷ ms) =
-    failed_since uid id (failures_after (issued_for uid id m.command m.line) (failed_for uid id m.command m.line) so_far) ms
+    let failures = failures_after (issued_for uid id m.command m.line) (failed_for uid id m.command m.line) so_far in
+    failed_since uid id failures ms
 
 -- a counter that is issued is at most one more than the one before, and one more for each issue since that failed
 abbrev pub FewAreSkipped : Campaign → List LedgerMoment → Type 0
-FewAreSkipped start ms = (done rest : List LedgerMoment) (m : LedgerMoment) (uid : List ℕ) (id counter : ℕ) → ms ≡ done ++ m ∷ rest
+FewAreSkipped start ms = (done rest : List LedgerMoment) (m : LedgerMoment) (uid : List ℕ) (id counter : ℕ)
+    → ms ≡ done ++ m ∷ rest
     → issued_for uid id m.command m.line ≡ Some counter
     → counter ≤ issued_before uid id (last_issued uid id start.entries) done + 1 + failed_since uid id 0 done
 
@@ -114,7 +123,8 @@ abbrev pub RunsBuildUpdates : Type 0
 RunsBuildUpdates = EachLedgerRun (λ start ms last. All (λ m. BuildsItsUpdate m.command m.line) ms)
 
 abbrev pub RunsAreAllowed : Type 0
-RunsAreAllowed = EachLedgerRun (λ start ms last. (slots : List Slot) (good : Bool) → All (λ m. IsAllowedIn slots good m.command m.line) ms)
+RunsAreAllowed = EachLedgerRun (λ start ms last. (slots : List Slot) (good : Bool)
+    → All (λ m. IsAllowedIn slots good m.command m.line) ms)
 
 abbrev pub RunsKeepEntries : Type 0
 RunsKeepEntries = EachLedgerRun (λ start ms last. KeepsEntries start last)

@@ -65,7 +65,8 @@ last_issued uid id entries = entry_counter (entry_for uid id entries)
 abbrev pub TakesPlace : List ℕ → ℕ → List (Option LedgerEntry) → ℕ → Type 0
 TakesPlace uid id entries place =
     (place < length entries)
-    × ((place ≡ place_for uid id entries) ⊎ ((place_for uid id entries ≡ length entries) × (place ≡ empty_place entries)))
+    × ((place ≡ place_for uid id entries)
+    ⊎ ((place_for uid id entries ≡ length entries) × (place ≡ empty_place entries)))
 
 -- the places of a ledger: entries, of which no two are of one unit and slot
 pub record AreLedgerEntries (entries : List (Option LedgerEntry)) : Type 0 where
@@ -81,7 +82,8 @@ no_entries = replicate place_count None
 abbrev pub with_change : PendingEntry → List (Option LedgerEntry) → List (Option LedgerEntry)
 with_change change entries = set entries change.place (Some change.entry)
 
--- a change that moves a ledger forward: an entry with at least the counter that was issued last stands in its unit's and slot's place
+-- a change that moves a ledger forward: an entry with at least the counter that was issued last stands in the place of
+-- its unit and slot
 pub record Advances (entries : List (Option LedgerEntry)) (change : PendingEntry) : Type 0 where
   pub takes : TakesPlace change.entry.uid change.entry.id entries change.place
   pub is_entry : IsEntry change.entry

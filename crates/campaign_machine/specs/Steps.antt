@@ -1,4 +1,5 @@
--- What a ledger may answer to a command, and what it then is (own; updates, their pairs of slots and their replies are those of the SHE specification)
+-- What a ledger may answer to a command, and what it then is (own; updates, their pairs of slots and their replies are
+-- those of the SHE specification)
 use Rattle.std.specs.Prelude.{◌≡◌, ◌⊎◌, ℕ, ◌+◌, ◌<◌, Bool, true, false, Option, None, Some, List, length, option_map}
 use Rattle.key_slots.specs.Authority.{is_pair}
 use Rattle.key_slots.specs.declared.memory.Flags.{Flags}
@@ -27,7 +28,8 @@ update_for i counter = record { uid = i.uid; id = i.id; auth = i.auth; counter =
 
 -- the update of which the reply is said to be, with this counter and these flags
 abbrev pub update_told : Confirm → ℕ → Flags → Update
-update_told k counter flags = record { uid = k.uid; id = k.id; auth = k.auth; counter = counter; flags = flags; key = k.key }
+update_told k counter flags =
+    record { uid = k.uid; id = k.id; auth = k.auth; counter = counter; flags = flags; key = k.key }
 
 -- the reply confirms an update of this unit, slot, authorising slot and key with this counter
 abbrev pub ConfirmsWith : Confirm → ℕ → Type 0
@@ -49,6 +51,10 @@ RefusesIssue c i refusal.Spent =
     (c.up ≡ true) × (is_pair i.id i.auth ≡ true) × (last_issued i.uid i.id c.entries ≡ greatest_counter)
 RefusesIssue c i _ = ⊥
 
+-- the entry of an update that was issued with this counter
+abbrev pub issued_entry : Issue → ℕ → LedgerEntry
+issued_entry i counter = record { uid = i.uid; id = i.id; counter = counter; confirmed = false }
+
 -- none applies, the update is for one unit, and the entry with the next counter is to be put into its place
 pub record MakesIssue (c : Campaign) (i : Issue) (change : PendingEntry) : Type 0 where
   pub is_unit : IsUnit i.uid
@@ -56,7 +62,7 @@ pub record MakesIssue (c : Campaign) (i : Issue) (change : PendingEntry) : Type 
   pub pair : is_pair i.id i.auth ≡ true
   pub takes : TakesPlace i.uid i.id c.entries change.place
   pub below : last_issued i.uid i.id c.entries < greatest_counter
-  pub entry_is : change.entry ≡ record { uid = i.uid; id = i.id; counter = last_issued i.uid i.id c.entries + 1; confirmed = false }
+  pub entry_is : change.entry ≡ issued_entry i (last_issued i.uid i.id c.entries + 1)
 
 -- ---- a confirmation
 

@@ -1,8 +1,8 @@
 //! Each function has an empty body, and its contract is the law. A run begins at a sound ledger with nothing pending.
 ghost use Rattle.campaign_machine.specs.Claims.{LedgerStepsKeepSound, LedgerRunsAreSound, RunsCountersRise, RunsBuildUpdates, RunsAreAllowed, RunsKeepEntries, RunsConfirmByReply, RunsSkipFew};
 
-/// A step keeps a ledger sound: 256 places, no two of them for one unit and slot, each entry with a unit, a slot and a counter as the
-/// ledger's cells have them, and a pending change that moves it forward.
+/// A step keeps a ledger sound: 256 places, no two of them for one unit and slot, each entry with a unit, a slot and a
+/// counter as the ledger's cells have them, and a pending change that moves it forward.
 pub fn steps_keep_ledgers_sound()
     ensures { LedgerStepsKeepSound }
 {}
@@ -22,8 +22,8 @@ pub fn issued_requests_build_their_updates()
     ensures { RunsBuildUpdates }
 {}
 
-/// Each request that is issued is one that an engine of its unit allows, where the target's counter is below, the authorising key is the
-/// given one, and none of the first four refusals applies.
+/// Each request that is issued is one that an engine of its unit allows, where the target's counter is below, the
+/// authorising key is the given one, and none of the first four refusals applies.
 pub fn issued_requests_are_allowed()
     ensures { RunsAreAllowed }
 {}
@@ -33,12 +33,14 @@ pub fn no_entry_goes_away()
     ensures { RunsKeepEntries }
 {}
 
-/// An entry is confirmed with a counter only where it was so at first, or where a command carried a reply that confirms an update with it.
+/// An entry is confirmed with a counter only where it was so at first, or where a command carried a reply that confirms
+/// an update with it.
 pub fn entries_are_confirmed_by_a_reply()
     ensures { RunsConfirmByReply }
 {}
 
-/// A counter that is issued is at most one more than the last one, and one more for each issue since that failed with the disk.
+/// A counter that is issued is at most one more than the last one, and one more for each issue since that failed with
+/// the disk.
 pub fn few_counters_are_skipped()
     ensures { RunsSkipFew }
 {}

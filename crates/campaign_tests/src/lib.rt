@@ -1,0 +1,12 @@
+//! Tests of the ledger of a key campaign. There is nothing else here: a crate of tests over several libraries has none of
+//! them proved a second time.
+#![tactic(auto)]
+
+#[cfg(test)]
+mod entries;
+#[cfg(test)]
+mod played;
+#[cfg(test)]
+mod stops;
+#[cfg(test)]
+mod worked;

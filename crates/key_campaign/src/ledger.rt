@@ -1,0 +1,334 @@
+//! A ledger in all its lives.
+ghost use Rattle.std.specs.Prelude.{◌≡◌, ◌≢◌, ◌<◌, ◌≤◌, ◌+◌, ◌∷◌, ◌↔◌, ℕ, [], length, true, false, Some, None, option_map, not, IfOk, IfErr, OnOk, OnErr, IsErrOf};
+ghost use Rattle.cut_disk.specs.State.{Told, Cut, Stop, Fail};
+ghost use Rattle.cut_disk.specs.Arming.{with_stop, with_fail};
+ghost use Rattle.cut_disk.specs.Calls.{Rose, Runs, Grows};
+ghost use Rattle.cut_disk.specs.Images.{CutsTo};
+ghost use Rattle.cell_store.specs.Reading.{NoStop};
+ghost use Rattle.cell_store.specs.Cells.{Settled, StandsNow};
+ghost use Rattle.key_slots.specs.Authority.{is_pair};
+ghost use Rattle.campaign_machine.specs.declared.entries.PendingEntry.{PendingEntry};
+ghost use Rattle.campaign_machine.specs.Entries.{place_count, greatest_counter, IsUnit, entry_for, last_issued, Advances};
+ghost use Rattle.campaign_machine.specs.Campaign.{powered_ledger, changed_ledger, failed_change, stays_off, SoundLedger};
+ghost use Rattle.campaign_machine.specs.Steps.{HasNoPlace, RefusesConfirm, told_entry, LedgerStep};
+ghost use Rattle.key_campaign.specs.Cell.{HoldEntries, FirstBadEntry};
+ghost use Rattle.key_campaign.specs.Causes.{LedgerCutCause};
+ghost use Rattle.key_campaign.specs.State.{FitsLedger, TellsLedger};
+ghost use Rattle.key_campaign.specs.Lines.{issued_line, confirmed_line, ledger_cut_line};
+
+use crate::faults::{BadEntry, LedgerCut, LedgerFault};
+use crate::places::{Places, put_entry, read_places};
+use campaign_machine::{LedgerCommand, LedgerEntry, LedgerLine, LedgerRefusal, PendingEntry};
+use cell_store::{Cells, CutCells, PutFailed, Reread};
+use cut_disk::Torn;
+use key_slots::{Counter28, Flags, SlotId, may_authorise};
+use memory_update::{Reply, Request, Uid, Update, build, is_confirmed};
+use she_aes::Block;
+use std::marker::Model;
+
+/// The ledger of a key campaign over a store of cells. Contracts see the machine's ledger and the state of the store. The
+/// ledger is always sound, and while it is up its store has the cells of its entries.
+#[derive(Drop)]
+pub struct Ledger<C: Cells> {
+    entries: Places,
+    up: bool,
+    pending: Option<PendingEntry>,
+    cells: C,
+}
+
+impl<C: Cells> Model for Ledger<C> {
+    ghost use Rattle.key_campaign.specs.State.{LedgerState, IsLedger};
+
+    ghost Value = { LedgerState };
+
+    ghost view = { λ l. record {
+      campaign = record { entries = l.entries; up = l.up; pending = l.pending };
+      store = C.state l.cells;
+    } };
+
+    ghost invariant = { λ l.
+        IsLedger (record { entries = l.entries; up = l.up; pending = l.pending }) (C.state l.cells) };
+}
+
+impl<C: Cells> Ledger<C> {
+    /// The ledger over a store of 256 cells. `BadEntry` exactly where a cell is neither empty nor an entry, or repeats the
+    /// unit and slot of an earlier one; the lowest is named, and the cells are handed back as they were.
+    pub fn attach(cells: C) -> Result<Ledger<C>, BadEntry<C>>
+        requires count { length (C.state cells).cells ≡ place_count }
+        requires whole { (C.state cells).broken ≡ false }
+        ensures up { IfOk result (λ l. l.campaign ≡ powered_ledger l.campaign.entries) }
+        ensures held { IfOk result (λ l. HoldEntries (C.state cells).cells l.campaign.entries) }
+        ensures store { IfOk result (λ l. l.store ≡ C.state cells) }
+        ensures sound { IfOk result (λ l. SoundLedger l.campaign) }
+        ensures fits { Settled (C.state cells) → IfOk result FitsLedger }
+        ensures bad { IfErr result (λ r. FirstBadEntry (C.state cells).cells r.entry) }
+        ensures handed_back { IfErr result (λ r. C.state r.cells ≡ C.state cells) }
+    {
+        match read_places(&cells) {
+            Ok(entries) => Ok(Ledger {
+                entries,
+                up: true,
+                pending: None,
+                cells,
+            }),
+            Err(entry) => Err(BadEntry { cells, entry }),
+        }
+    }
+
+    // Puts an entry into its place, in the store and then in memory. Where the disk fails, the change is pending and the
+    // ledger down.
+    fn put(&mut self, place: u16, entry: LedgerEntry) -> Result<(), PutFailed>
+        requires up { self.old.campaign.up ≡ true }
+        requires advances { Advances self.old.campaign.entries (record { place = place; entry = entry }) }
+        ensures made { OnOk result (self.new.campaign
+            ≡ changed_ledger (record { place = place; entry = entry }) self.old.campaign) }
+        ensures failed { OnErr result (self.new.campaign
+            ≡ failed_change (record { place = place; entry = entry }) self.old.campaign) }
+        ensures rose { OnErr result (Rose self.old.store.disk.faults self.new.store.disk.faults) }
+        ensures faults { OnOk result (self.new.store.disk.faults ≡ self.old.store.disk.faults) }
+        ensures layout { self.new.store.layout ≡ self.old.store.layout }
+        ensures runs { Runs [] 6 self.old.store.disk self.new.store.disk }
+        ensures fits { FitsLedger self.old → FitsLedger self.new }
+    {
+        match put_entry(&mut self.cells, place, &entry) {
+            Ok(()) => {
+                self.entries.set(usize::from(place), entry);
+                Ok(())
+            }
+            Err(failed) => {
+                self.pending = Some(PendingEntry { place, entry });
+                self.up = false;
+                Err(failed)
+            }
+        }
+    }
+
+    /// Issues the request that puts a new key into slot `id` of one unit, authorised by the key of slot `auth`, with
+    /// the next counter of that unit and slot (SHE specification, memory update). The entry with this counter is put
+    /// before the request is made. The UID is that of one unit: it isn't zero. Errors, in their order: `Down`,
+    /// `BadPair`, `Full`, `Spent`, `Faulted`. After each of them but `Faulted` all is as before, and no call of the
+    /// disk was made.
+    pub fn issue(
+        &mut self,
+        uid: Uid,
+        id: SlotId,
+        auth: SlotId,
+        flags: Flags,
+        key: &Block,
+        authkey: &Block,
+    ) -> Result<(Counter28, Request), LedgerFault>
+        requires { IsUnit uid }
+        ensures step { LedgerStep self.old.campaign
+            (LedgerCommand.Issue (record { uid = uid; id = id; auth = auth; flags = flags; key = key.now; authkey = authkey.now }))
+            (issued_line result) self.new.campaign }
+        ensures untouched { IfErr result (λ fault. fault ≢ LedgerFault.Faulted → self.new ≡ self.old) }
+        ensures down { IsErrOf result LedgerFault.Down ↔ self.old.campaign.up ≡ false }
+        ensures bad_pair { IsErrOf result LedgerFault.BadPair
+            ↔ ((self.old.campaign.up ≡ true) × (is_pair id auth ≡ false)) }
+        ensures full { IsErrOf result LedgerFault.Full
+            ↔ ((self.old.campaign.up ≡ true) × (is_pair id auth ≡ true) × HasNoPlace self.old.campaign.entries uid id) }
+        ensures spent { IsErrOf result LedgerFault.Spent
+            ↔ ((self.old.campaign.up ≡ true) × (is_pair id auth ≡ true)
+            × (last_issued uid id self.old.campaign.entries ≡ greatest_counter)) }
+        ensures faulted { IsErrOf result LedgerFault.Faulted
+            → Rose self.old.store.disk.faults self.new.store.disk.faults }
+        ensures faults { OnOk result (self.new.store.disk.faults ≡ self.old.store.disk.faults) }
+        ensures layout { self.new.store.layout ≡ self.old.store.layout }
+        ensures runs { Runs [] 6 self.old.store.disk self.new.store.disk }
+        ensures fits { FitsLedger self.old → FitsLedger self.new }
+    {
+        if !self.up {
+            return Err(LedgerFault::Down);
+        }
+        if !may_authorise(id, auth) {
+            return Err(LedgerFault::BadPair);
+        }
+        let (place, counter) = match self.entries.next(&uid, id) {
+            Ok(next) => next,
+            Err(fault) => return Err(fault),
+        };
+        let entry = LedgerEntry {
+            uid,
+            id,
+            counter,
+            confirmed: false,
+        };
+        match self.put(place, entry) {
+            Ok(()) => {
+                let update = Update {
+                    uid,
+                    id,
+                    auth,
+                    counter,
+                    flags,
+                    key: *key,
+                };
+                Ok((counter, build(&update, authkey)))
+            }
+            Err(_) => Err(LedgerFault::Faulted),
+        }
+    }
+
+    /// Records that a unit's engine confirmed the update that was issued last for its slot `id`, with this new key and
+    /// authorised by the key of slot `auth` (SHE specification, memory update); gives the update's counter. Errors, in
+    /// their order: `Down`, `Unknown`, `AlreadyConfirmed`, `NotConfirmed`, `Faulted`. After each of them but `Faulted` all is
+    /// as before, and no call of the disk was made.
+    pub fn confirm(
+        &mut self,
+        uid: Uid,
+        id: SlotId,
+        auth: SlotId,
+        key: &Block,
+        reply: &Reply,
+    ) -> Result<Counter28, LedgerFault>
+        ensures step { LedgerStep self.old.campaign
+            (LedgerCommand.Confirm (record { uid = uid; id = id; auth = auth; key = key.now; reply = reply.now }))
+            (confirmed_line result) self.new.campaign }
+        ensures untouched { IfErr result (λ fault. fault ≢ LedgerFault.Faulted → self.new ≡ self.old) }
+        ensures down { IsErrOf result LedgerFault.Down ↔ self.old.campaign.up ≡ false }
+        ensures unknown { IsErrOf result LedgerFault.Unknown
+            ↔ ((self.old.campaign.up ≡ true) × (entry_for uid id self.old.campaign.entries ≡ None)) }
+        ensures already { IsErrOf result LedgerFault.AlreadyConfirmed
+            ↔ RefusesConfirm self.old.campaign
+            (record { uid = uid; id = id; auth = auth; key = key.now; reply = reply.now })
+            LedgerRefusal.AlreadyConfirmed }
+        ensures not_confirmed { IsErrOf result LedgerFault.NotConfirmed
+            ↔ RefusesConfirm self.old.campaign
+            (record { uid = uid; id = id; auth = auth; key = key.now; reply = reply.now })
+            LedgerRefusal.NotConfirmed }
+        ensures faulted { IsErrOf result LedgerFault.Faulted
+            → Rose self.old.store.disk.faults self.new.store.disk.faults }
+        ensures faults { OnOk result (self.new.store.disk.faults ≡ self.old.store.disk.faults) }
+        ensures layout { self.new.store.layout ≡ self.old.store.layout }
+        ensures runs { Runs [] 6 self.old.store.disk self.new.store.disk }
+        ensures fits { FitsLedger self.old → FitsLedger self.new }
+    {
+        if !self.up {
+            return Err(LedgerFault::Down);
+        }
+        let Some((place, held)) = self.entries.find(&uid, id) else {
+            return Err(LedgerFault::Unknown);
+        };
+        if held.confirmed {
+            return Err(LedgerFault::AlreadyConfirmed);
+        }
+        let update = Update {
+            uid,
+            id,
+            auth,
+            counter: held.counter,
+            flags: Flags::of(0),
+            key: *key,
+        };
+        if !is_confirmed(reply, &update, uid) {
+            return Err(LedgerFault::NotConfirmed);
+        }
+        let entry = LedgerEntry {
+            confirmed: true,
+            ..held
+        };
+        match self.put(place as u16, entry) {
+            Ok(()) => Ok(held.counter),
+            Err(_) => Err(LedgerFault::Faulted),
+        }
+    }
+
+    /// The counter that was issued last for a unit and slot, and whether it was confirmed, also while the ledger is down;
+    /// `None` exactly where there is no entry.
+    pub fn show(&self, uid: Uid, id: SlotId) -> Option<(Counter28, bool)>
+        ensures { result ≡ option_map told_entry (entry_for uid id self.now.campaign.entries) }
+    {
+        let (_place, entry) = self.entries.find(&uid, id)?;
+        Some((entry.counter, entry.confirmed))
+    }
+
+    /// Whether the ledger issues and confirms nothing until its power is cut: a call of its disk failed, or a power cut was
+    /// refused, since it was last powered up. Whatever was called before and answered, the ledger is sound.
+    pub fn is_down(&self) -> bool
+        ensures down { result ≡ not self.now.campaign.up }
+        ensures sound { SoundLedger self.now.campaign }
+    {
+        !self.up
+    }
+
+    /// Gives the cells back. Nothing is written.
+    pub fn release(self) -> C
+        ensures { C.state result ≡ self.store }
+    {
+        self.cells
+    }
+}
+
+impl<C: CutCells> Ledger<C> {
+    /// Cuts the power and powers up again, from a ledger that is up as from one that is down: the cells are read anew, so
+    /// that the bytes of the disk stand for them. Errors: `Store` where the store isn't read, then `BadEntry`. The ledger is
+    /// then down, and its entries and its pending change are as before. Over a disk that tells its bytes, and fits the
+    /// ledger, only the disk itself can fail.
+    pub fn power_cut(&mut self, torn: Torn) -> Result<(), LedgerCut>
+        ensures step { TellsLedger self.old
+            → LedgerStep self.old.campaign (LedgerCommand.Cut torn) (ledger_cut_line result) self.new.campaign }
+        ensures up { OnOk result (self.new.campaign ≡ powered_ledger self.new.campaign.entries) }
+        ensures held { OnOk result (HoldEntries self.new.store.cells self.new.campaign.entries) }
+        ensures stands { OnOk result (StandsNow self.new.store) }
+        ensures settled { OnOk result ((t : Told) → self.old.store.disk.told ≡ Some t → Settled self.new.store) }
+        ensures refused { OnErr result (self.new.campaign ≡ stays_off self.old.campaign) }
+        ensures cause { IfErr result (LedgerCutCause self.old.store self.new.store) }
+        ensures only { TellsLedger self.old → IfErr result (λ fault. fault ≡ LedgerCut.Store Reread.DiskFailed) }
+        ensures image { CutsTo self.old.store.disk.told self.new.store.disk.told }
+        ensures stops { NoStop self.new.store.disk }
+        ensures faults { OnOk result (self.new.store.disk.faults ≡ self.old.store.disk.faults) }
+        ensures layout { self.new.store.layout ≡ self.old.store.layout }
+        ensures runs { Runs (Cut torn ∷ []) (68 + place_count) self.old.store.disk self.new.store.disk }
+        ensures grows { OnOk result (Grows self.old.store.disk self.new.store.disk) }
+        ensures fits { FitsLedger self.old → FitsLedger self.new }
+    {
+        self.up = false;
+        if let Err(fault) = self.cells.power_cut(torn) {
+            return Err(LedgerCut::Store(fault));
+        }
+        match read_places(&self.cells) {
+            Ok(entries) => {
+                self.entries = entries;
+                self.pending = None;
+                self.up = true;
+                Ok(())
+            }
+            Err(bad) => Err(LedgerCut::BadEntry(bad)),
+        }
+    }
+
+    /// Passes on to the disk: from the call of this number on, 1 for the next, each call of the disk fails until the power
+    /// is cut.
+    pub fn stop_at(&mut self, calls: u64)
+        requires { 1 ≤ calls }
+        ensures step { LedgerStep self.old.campaign (LedgerCommand.Stop calls) LedgerLine.Armed self.new.campaign }
+        ensures cells { self.new.store.cells ≡ self.old.store.cells }
+        ensures broken { self.new.store.broken ≡ self.old.store.broken }
+        ensures told { self.new.store.disk.told ≡ self.old.store.disk.told }
+        ensures faults { self.new.store.disk.faults ≡ self.old.store.disk.faults }
+        ensures arms { self.new.store.disk.arms ≡ with_stop calls self.old.store.disk.arms }
+        ensures loud { self.new.store.disk.quiet ≡ false }
+        ensures layout { self.new.store.layout ≡ self.old.store.layout }
+        ensures runs { Runs (Stop calls ∷ []) 1 self.old.store.disk self.new.store.disk }
+        ensures fits { FitsLedger self.old → FitsLedger self.new }
+    {
+        self.cells.stop_at(calls);
+    }
+
+    /// Passes on to the disk: the call of this number, 1 for the next, fails.
+    pub fn fail_at(&mut self, calls: u64)
+        requires { 1 ≤ calls }
+        ensures step { LedgerStep self.old.campaign (LedgerCommand.Fail calls) LedgerLine.Armed self.new.campaign }
+        ensures cells { self.new.store.cells ≡ self.old.store.cells }
+        ensures broken { self.new.store.broken ≡ self.old.store.broken }
+        ensures told { self.new.store.disk.told ≡ self.old.store.disk.told }
+        ensures faults { self.new.store.disk.faults ≡ self.old.store.disk.faults }
+        ensures arms { self.new.store.disk.arms ≡ with_fail calls self.old.store.disk.arms }
+        ensures loud { self.new.store.disk.quiet ≡ false }
+        ensures layout { self.new.store.layout ≡ self.old.store.layout }
+        ensures runs { Runs (Fail calls ∷ []) 1 self.old.store.disk self.new.store.disk }
+        ensures fits { FitsLedger self.old → FitsLedger self.new }
+    {
+        self.cells.fail_at(calls);
+    }
+}
