@@ -31,6 +31,9 @@
 extern "C" {
 #endif
 
+/* The version of this header and of rathonsi_store.h: major times 65536, minor times 256, patch. */
+#define RATHONSI_VERSION 0x000200u
+
 /* The statuses. Where several could come, the first of this list does. */
 
 /* The call did what it says. */
@@ -67,9 +70,9 @@ int32_t rathonsi_cmac(const uint8_t *key, size_t key_length, const uint8_t *mess
 
 /* A payload has 1 to RATHONSI_PAYLOAD_MOST bytes; its Secured I-PDU has RATHONSI_TRAILER more: the low byte of the freshness, and the
  * first three bytes of the CMAC over the Data ID, the payload and the full freshness of 64 bits. */
-#define RATHONSI_PAYLOAD_MOST 60
-#define RATHONSI_TRAILER 4
-#define RATHONSI_PDU_MOST 64
+#define RATHONSI_PAYLOAD_MOST 60u
+#define RATHONSI_TRAILER 4u
+#define RATHONSI_PDU_MOST 64u
 
 /* Writes the Secured I-PDU to the first payload_length + RATHONSI_TRAILER bytes of pdu; the others stay.
  * RATHONSI_BAD_LENGTH: key_length isn't 16, payload_length is 0 or over 60, or pdu_length is below payload_length + 4. */
@@ -98,19 +101,19 @@ RathonsiVerdict rathonsi_secoc_verify(const uint8_t *key, size_t key_length, uin
 /* ---- Keys of SHE ------------------------------------------------------------------------------------------------------------- */
 
 /* KEY_UPDATE_ENC_C and KEY_UPDATE_MAC_C */
-#define RATHONSI_TO_ENCRYPT 1
-#define RATHONSI_TO_AUTHENTICATE 2
+#define RATHONSI_TO_ENCRYPT 1u
+#define RATHONSI_TO_AUTHENTICATE 2u
 
 /* Writes the key that is derived from a key with this constant to derived.
  * RATHONSI_BAD_LENGTH: key_length isn't 16. RATHONSI_BAD_VALUE: the constant is none of the two. */
 int32_t rathonsi_she_derive(const uint8_t *key, size_t key_length, uint32_t constant, uint8_t derived[16]);
 
 /* The flags of a slot */
-#define RATHONSI_WRITE_PROTECTION 16
-#define RATHONSI_BOOT_PROTECTION 8
-#define RATHONSI_DEBUGGER_PROTECTION 4
-#define RATHONSI_KEY_USAGE 2
-#define RATHONSI_WILDCARD 1
+#define RATHONSI_WRITE_PROTECTION 16u
+#define RATHONSI_BOOT_PROTECTION 8u
+#define RATHONSI_DEBUGGER_PROTECTION 4u
+#define RATHONSI_KEY_USAGE 2u
+#define RATHONSI_WILDCARD 1u
 
 /* A key update: the engine's UID (zero bytes for every engine), the slot that is updated and the slot whose key authorises it (0 to
  * 13), the new flags (below 32), the new counter (below 2^28) and the new key. */

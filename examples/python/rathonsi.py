@@ -7,7 +7,7 @@ OK, BAD_LENGTH, BAD_VALUE, FRESHNESS_FAILURE, VERIFICATION_FAILURE, BAD_ID, BAD_
 TO_ENCRYPT, TO_AUTHENTICATE = 1, 2
 
 _top = os.path.join(os.path.dirname(os.path.abspath(__file__)), "..", "..")
-_library = ctypes.CDLL(os.environ.get("RATHONSI", os.path.join(_top, "crates", "rathonsi_c", "out", "librathonsi.so")))
+library = ctypes.CDLL(os.environ.get("RATHONSI", os.path.join(_top, "crates", "rathonsi_c", "out", "librathonsi.so")))
 
 
 class Refused(Exception):
@@ -39,7 +39,7 @@ _bytes, _size, _status = ctypes.c_char_p, ctypes.c_size_t, ctypes.c_int32
 
 
 def _declare(name, result, *arguments):
-    function = getattr(_library, name)
+    function = getattr(library, name)
     function.restype, function.argtypes = result, arguments
     return function
 

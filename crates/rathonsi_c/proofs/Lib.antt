@@ -1,1 +1,5 @@
 pub mod Chunks
+pub mod ImageLaws
+pub mod AnswerLaws
+pub mod LivesLaws
+pub mod KeyLaws

@@ -1,2 +1,9 @@
 pub mod Calls
 pub mod Updates
+pub mod Causes
+pub mod Images
+pub mod Routes
+pub mod Refused
+pub mod Slots
+pub mod Stores
+pub mod Lives

@@ -1,18 +1,29 @@
-//! The Secured I-PDU of AUTOSAR SecOC profile 1, AES-128, its CMAC and the key update of SHE, for programs in C.
+//! The Secured I-PDU of AUTOSAR SecOC profile 1, AES-128, its CMAC and the key update of SHE, for programs in C;
+//! and the counters and key slots of a store over the caller's own device.
 //!
 //! Each export is a thin call of a proved library, and says its clauses again. Every one answers a status: [`OK`], or why it did
 //! nothing; it then has written nothing. A slice is a pointer and a length in bytes, an array of a fixed size a pointer alone.
-//! `include/rathonsi.h` declares them. Nothing here takes memory, keeps a state or calls back.
+//! `include/rathonsi.h` and `include/rathonsi_store.h` declare them. Nothing here takes memory, keeps a state or calls back.
 #![tactic(auto)]
 
 mod aes;
+mod images;
 mod keys;
+pub mod laws;
+mod refusals;
+mod route;
 mod secoc;
 mod she;
+mod slots;
+mod store;
 
 pub use aes::{
     rathonsi_aes128_cbc_decrypt, rathonsi_aes128_cbc_encrypt, rathonsi_aes128_decrypt,
     rathonsi_aes128_encrypt, rathonsi_cmac,
+};
+pub use route::{
+    RathonsiRoute, rathonsi_route_open, rathonsi_route_receive, rathonsi_route_reserve,
+    rathonsi_route_send,
 };
 pub use secoc::{
     RathonsiVerdict, rathonsi_secoc_protect, rathonsi_secoc_protect_in_place, rathonsi_secoc_verify,
@@ -20,6 +31,10 @@ pub use secoc::{
 pub use she::{
     RathonsiReply, RathonsiRequest, RathonsiUpdate, rathonsi_she_confirm, rathonsi_she_derive,
     rathonsi_she_make_update, rathonsi_she_read_update,
+};
+pub use slots::{rathonsi_slot_confirm, rathonsi_slot_load};
+pub use store::{
+    rathonsi_route_make, rathonsi_store_check, rathonsi_store_done, rathonsi_store_make,
 };
 
 /// The call did what it says.
@@ -43,5 +58,37 @@ pub const BAD_ID: i32 = 5;
 /// M3 is not the MAC of M1 and M2 under the authorising key.
 pub const BAD_MAC: i32 = 6;
 
+/// The image doesn't begin with the header of a store of this size.
+pub const NO_STORE: i32 = 7;
+
+/// A cell has no copy that counts, or isn't what the call asks of it.
+pub const DAMAGED: i32 = 8;
+
+/// The plan isn't empty: it is to be done first.
+pub const BUSY: i32 = 9;
+
+/// The bound in the image doesn't cover this freshness yet.
+pub const RESERVE: i32 = 10;
+
+/// The counter is 2^64 - 1.
+pub const EXHAUSTED: i32 = 11;
+
+/// The slot holds no key.
+pub const KEY_EMPTY: i32 = 12;
+
+/// The key doesn't serve MACs.
+pub const KEY_INVALID: i32 = 13;
+
+/// The key is protected by the secure boot, and there was none.
+pub const KEY_NOT_AVAILABLE: i32 = 14;
+
+/// The slot takes no update.
+pub const KEY_WRITE_PROTECTED: i32 = 15;
+
+/// The request's MAC, identifier or counter is refused.
+pub const KEY_UPDATE_ERROR: i32 = 16;
+
+#[cfg(test)]
+mod store_tests;
 #[cfg(test)]
 mod tests;

@@ -4,6 +4,7 @@ ghost use Rattle.secured_pdu.specs.Frame.{IsWindow, Secured};
 ghost use Rattle.secured_pdu.specs.Verdict.{Outcome, Verdict};
 ghost use Rattle.secured_pdu.specs.Judged.{outcome_of};
 ghost use Rattle.rathonsi_c.specs.Calls.{TakesProtect, TakesInPlace, FitsVerify, answer_to};
+ghost use Rattle.rathonsi_c.specs.Routes.{no_verdict};
 
 use crate::keys::schedule_of;
 use crate::{BAD_LENGTH, BAD_VALUE, FRESHNESS_FAILURE, OK, VERIFICATION_FAILURE};
@@ -113,10 +114,11 @@ pub extern "C" fn rathonsi_secoc_verify(
 }
 
 // The answer with this status that tells nothing of a PDU.
-fn refusal(status: i32) -> RathonsiVerdict
+pub(crate) fn refusal(status: i32) -> RathonsiVerdict
     ensures status { result.status ≡ status }
     ensures payload_length { result.payload_length ≡ 0 }
     ensures freshness { result.freshness ≡ 0 }
+    ensures value { result ≡ no_verdict status }
 {
     RathonsiVerdict {
         status,

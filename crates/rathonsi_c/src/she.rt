@@ -187,7 +187,7 @@ fn update_struct(update: &Update) -> RathonsiUpdate
 }
 
 // M1, M2 and M3 of the struct.
-fn read_request(request: &RathonsiRequest) -> Request
+pub(crate) fn read_request(request: &RathonsiRequest) -> Request
     ensures { result ≡ as_request request.now }
 {
     let [first, second] = request.m2;
@@ -211,7 +211,7 @@ fn request_struct(request: &Request) -> RathonsiRequest
 }
 
 // The struct of M4 and M5.
-fn reply_struct(reply: &Reply) -> RathonsiReply
+pub(crate) fn reply_struct(reply: &Reply) -> RathonsiReply
     ensures { as_reply result ≡ reply.now }
 {
     let [first, second] = &reply.m4;

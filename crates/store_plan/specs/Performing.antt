@@ -33,5 +33,5 @@ abbrev pub MakesFirm : Write → Option Told → Option Told → Type 0
 MakesFirm w old new = (x : List ℕ) → old ≡ Some (firm x) → new ≡ Some (firm (applied_write w x))
 
 -- where no byte was loose, every image is what the power leaves that goes within the plan
-abbrev pub LeavesCut : Plan → Option Told → Option Told → Type 0
-LeavesCut plan old new = (x : List ℕ) → old ≡ Some (firm x) → EachImage new (CutWithin plan x)
+abbrev pub LeavesPlanCut : Plan → Option Told → Option Told → Type 0
+LeavesPlanCut plan old new = (x : List ℕ) → old ≡ Some (firm x) → EachImage new (CutWithin plan x)

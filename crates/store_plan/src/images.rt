@@ -74,6 +74,7 @@ pub fn check(image: &[u8], cells: u16) -> Result<(), ImageFault>
     ensures no_store { IsErrOf result ImageFault.NoStore ↔ ¬ HasHeader (twin_layout One) cells image.now }
     ensures damaged { IsErrOf result ImageFault.Damaged ↔ (HasHeader (twin_layout One) cells image.now
         × ((i : ℕ) × ((i < cells) × (cell_at image.now i ≡ None)))) }
+    ensures head { IsOk result → HasHeader (twin_layout One) cells image.now }
     ensures whole { IsOk result → (i : ℕ) → i < cells → IsSome (cell_at image.now i) }
 {
     if !has_head(image, cells) {

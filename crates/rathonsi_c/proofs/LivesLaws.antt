@@ -1,0 +1,346 @@
+-- Freshness rises over all lives.
+use Rattle.std.proofs.Common.{◌≡◌, ◌≢◌, ℕ, ◌^◌, ◌<◌, ◌≤◌, ◌==◌, ◌⊎◌, inl, inr, true, false, if◌then◌else◌, List, [], ◌∷◌, refl, sym, ap, subst, ◌∙◌, arith}
+use Rattle.std.proofs.lemmas.Bool.{cases_lt, cases_eq, eq-eqb, ne_eqb}
+use Rattle.freshness_routes.specs.declared.routes.Direction.{Direction}
+use Rattle.freshness_store.specs.Bound.{bound_cell}
+use Rattle.store_plan.specs.declared.planning.Plan.{Plan}
+use Rattle.store_plan.specs.Plans.{PlansPut, CutWithin, IsEmptyPlan, applied}
+use Rattle.store_plan.proofs.GatedLaws.{applied-cell, applied-others, applied-length}
+use Rattle.store_plan.proofs.CutLaws.{cut-cell, cut-others, cut-length, cut-none, applied-none}
+use Rattle.rathonsi_c.specs.declared.route.RathonsiRoute.{RathonsiRoute}
+use Rattle.rathonsi_c.specs.Images.{ImageBound}
+use Rattle.rathonsi_c.specs.Routes.{InRanges, at_counter, wanted, Opens, RouteAdvances, Reserves}
+use Rattle.rathonsi_c.specs.Lives.{Memory, Deed, sends, accepts, reserves, loads, drops, finishes, powers_up, GivesOut, PlansBound, PlansUpdate, DropsPlan, FinishesPlan, PowerBack, SameRoutes, DoesDeed, Lives, PoweredUp, given_out, RisesTo, CounterCovered}
+use Rattle.rathonsi_c.proofs.ImageLaws.{bound_once, one_direction, moved_bound, renewed_bound}
+
+-- what is planned: a higher bound of this route, or another cell
+pub record Higher (image : List ℕ) (plan : Plan) (r : RathonsiRoute) (d : Direction) (bound : ℕ) : Type 0 where
+  pub to : ℕ
+  pub above : bound < to
+  pub fits : to < 2 ^ 64
+  pub plans : PlansPut plan image r.cell (bound_cell r.data_id d to)
+
+pub record Elsewhere (image : List ℕ) (plan : Plan) (cell : ℕ) : Type 0 where
+  pub place : ℕ
+  pub new : List ℕ
+  pub apart : place ≢ cell
+  pub plans : PlansPut plan image place new
+
+-- what holds of a route at all times: its counter is at most the bound in the image, and what is planned doesn't lower that
+pub record Holds (image : List ℕ) (plan : Plan) (r : RathonsiRoute) : Type 0 where
+  pub direction : Direction
+  pub ranges : InRanges r direction
+  pub bound : ℕ
+  pub kept : ImageBound image r.cell r.data_id direction bound
+  pub below : r.counter ≤ bound
+  pub planned : IsEmptyPlan plan ⊎ (Higher image plan r direction bound ⊎ Elsewhere image plan r.cell)
+
+-- an image keeps a bound that is at least this
+pub record AtLeast (low : ℕ) (image : List ℕ) (r : RathonsiRoute) (d : Direction) : Type 0 where
+  pub bound : ℕ
+  pub kept : ImageBound image r.cell r.data_id d bound
+  pub least : low ≤ bound
+
+-- a plan that is done, or cut, doesn't lower the bound
+after-finish : (image : List ℕ) (plan : Plan) (r : RathonsiRoute) (h : Holds image plan r) → AtLeast h.bound (applied plan image) r h.direction
+after-finish image plan r h = elim h.planned [
+  | inl none ↦ record { bound = h.bound; kept = subst (λ (y : List ℕ). ImageBound y r.cell r.data_id h.direction h.bound) (sym (applied-none plan image none)) h.kept; least = omega arith }
+  | inr some ↦ elim some [
+    | inl up ↦ record {
+      bound = up.to;
+      kept = renewed_bound image (applied plan image) r.cell r.data_id h.direction h.bound up.to (applied-length plan image r.cell _ up.plans) up.fits (applied-cell plan image r.cell _ up.plans) h.kept;
+      least = (let u = up.above in omega arith);
+    }
+    | inr far ↦ record {
+      bound = h.bound;
+      kept = moved_bound image (applied plan image) r.cell r.data_id h.direction h.bound (applied-length plan image far.place far.new far.plans) (applied-others plan image far.place far.new far.plans r.cell (λ e. far.apart (sym e))) h.kept;
+      least = omega arith;
+    }
+  ]
+]
+
+after-cut : (image : List ℕ) (plan : Plan) (r : RathonsiRoute) (y : List ℕ) → CutWithin plan image y → (h : Holds image plan r) → AtLeast h.bound y r h.direction
+after-cut image plan r y cut h = elim h.planned [
+  | inl none ↦ record { bound = h.bound; kept = subst (λ (z : List ℕ). ImageBound z r.cell r.data_id h.direction h.bound) (sym (cut-none plan image y none cut)) h.kept; least = omega arith }
+  | inr some ↦ elim some [
+    | inl up ↦ elim (cut-cell plan image y r.cell _ up.plans cut) [
+      | inl old ↦ record {
+        bound = h.bound;
+        kept = moved_bound image y r.cell r.data_id h.direction h.bound (cut-length plan image y r.cell _ up.plans cut) old h.kept;
+        least = omega arith;
+      }
+      | inr new ↦ record {
+        bound = up.to;
+        kept = renewed_bound image y r.cell r.data_id h.direction h.bound up.to (cut-length plan image y r.cell _ up.plans cut) up.fits new h.kept;
+        least = (let u = up.above in omega arith);
+      }
+    ]
+    | inr far ↦ record {
+      bound = h.bound;
+      kept = moved_bound image y r.cell r.data_id h.direction h.bound (cut-length plan image y far.place far.new far.plans cut) (cut-others plan image y far.place far.new far.plans cut r.cell (λ e. far.apart (sym e))) h.kept;
+      least = omega arith;
+    }
+  ]
+]
+
+-- only the counter of a route changes
+ranges-counted : (r : RathonsiRoute) (n : ℕ) (d : Direction) → InRanges r d → InRanges (at_counter r n) d
+ranges-counted r n d h = record {
+  direction_is = h.direction_is;
+  cell_least = h.cell_least;
+  reserve_least = h.reserve_least;
+  reserve_most = h.reserve_most;
+  window_is = h.window_is;
+  slot_least = h.slot_least;
+  slot_most = h.slot_most;
+  booted_most = h.booted_most;
+}
+
+holds-same : (image y : List ℕ) (plan q : Plan) (r s : RathonsiRoute) → y ≡ image → q ≡ plan → s ≡ r → Holds image plan r → Holds y q s
+holds-same image y plan q r s e f g h =
+    subst (λ (t : RathonsiRoute). Holds y q t) (sym g) (subst (λ (p : Plan). Holds y p r) (sym f) (subst (λ (z : List ℕ). Holds z plan r) (sym e) h))
+
+-- each step for one route: it stays within what holds, and its counter doesn't fall
+pub record Goes (image : List ℕ) (plan : Plan) (r s : RathonsiRoute) : Type 0 where
+  pub holds : Holds image plan s
+  pub later : r.counter ≤ s.counter
+
+goes-same : (image y : List ℕ) (plan q : Plan) (r s : RathonsiRoute) → y ≡ image → q ≡ plan → s ≡ r → Holds image plan r → Goes y q r s
+goes-same image y plan q r s e f g h = record { holds = holds-same image y plan q r s e f g h; later = (let c : s.counter ≡ r.counter = ap (λ (t : RathonsiRoute). t.counter) g in omega arith) }
+
+advanced : (d : Direction) (image : List ℕ) (plan : Plan) (r s : RathonsiRoute) (freshness : ℕ) → Holds image plan r → RouteAdvances d r image freshness s → Holds image plan s
+advanced d image plan r s freshness h a =
+    let e : d ≡ h.direction = one_direction r d h.direction a.ranges h.ranges in
+    let same : h.bound ≡ a.covered.bound = bound_once image r.cell r.data_id d h.bound a.covered.bound (subst (λ (q : Direction). ImageBound image r.cell r.data_id q h.bound) (sym e) h.kept) a.covered.kept in
+    subst (λ (t : RathonsiRoute). Holds image plan t) (sym a.now) (record {
+      direction = h.direction;
+      ranges = ranges-counted r freshness h.direction h.ranges;
+      bound = h.bound;
+      kept = h.kept;
+      below = (let c = a.covered.covers in omega arith);
+      planned = elim h.planned [
+        | inl none ↦ inl none
+        | inr some ↦ elim some [
+          | inl up ↦ inr (inl (record { to = up.to; above = up.above; fits = up.fits; plans = up.plans }))
+          | inr far ↦ inr (inr (record { place = far.place; new = far.new; apart = far.apart; plans = far.plans }))
+        ]
+      ];
+    })
+
+reserved_here : (image : List ℕ) (plan next : Plan) (r : RathonsiRoute) (freshness : ℕ) → Holds image plan r → Reserves r image freshness plan next → Holds image next r
+reserved_here image plan next r freshness h s =
+    let e : s.direction ≡ h.direction = one_direction r s.direction h.direction s.ranges h.ranges in
+    let same : h.bound ≡ s.bound = bound_once image r.cell r.data_id s.direction h.bound s.bound (subst (λ (q : Direction). ImageBound image r.cell r.data_id q h.bound) (sym e) h.kept) s.kept in
+    record {
+      direction = h.direction;
+      ranges = h.ranges;
+      bound = h.bound;
+      kept = h.kept;
+      below = h.below;
+      planned = elim (cases_lt s.bound (wanted r freshness)) [
+        | inl low ↦ inr (inl (record {
+          to = wanted r freshness;
+          above = omega arith;
+          fits = omega arith;
+          plans = subst (λ (q : Direction). PlansPut next image r.cell (bound_cell r.data_id q (wanted r freshness))) e (s.plans low);
+        }))
+        | inr high ↦ inl (subst (λ (p : Plan). IsEmptyPlan p) (sym (s.enough high)) s.empty)
+      ];
+    }
+
+planned_elsewhere : (image : List ℕ) (plan next : Plan) (r : RathonsiRoute) (place : ℕ) (new : List ℕ) → place ≢ r.cell → PlansPut next image place new → Holds image plan r → Holds image next r
+planned_elsewhere image plan next r place new apart plans h = record {
+  direction = h.direction;
+  ranges = h.ranges;
+  bound = h.bound;
+  kept = h.kept;
+  below = h.below;
+  planned = inr (inr (record { place = place; new = new; apart = apart; plans = plans }));
+}
+
+planned_nothing : (image : List ℕ) (plan next : Plan) (r : RathonsiRoute) → IsEmptyPlan next → Holds image plan r → Holds image next r
+planned_nothing image plan next r empty h = record { direction = h.direction; ranges = h.ranges; bound = h.bound; kept = h.kept; below = h.below; planned = inl empty }
+
+-- another route reserves
+reserved_there : (image : List ℕ) (plan next : Plan) (that r : RathonsiRoute) (freshness : ℕ) → that.cell ≢ r.cell → Reserves that image freshness plan next → Holds image plan r → Holds image next r
+reserved_there image plan next that r freshness apart s h = elim (cases_lt s.bound (wanted that freshness)) [
+  | inl low ↦ planned_elsewhere image plan next r that.cell _ apart (s.plans low) h
+  | inr high ↦ planned_nothing image plan next r (subst (λ (p : Plan). IsEmptyPlan p) (sym (s.enough high)) s.empty) h
+]
+
+finished : (image y : List ℕ) (plan next : Plan) (r : RathonsiRoute) → y ≡ applied plan image → IsEmptyPlan next → Holds image plan r → Holds y next r
+finished image y plan next r e empty h =
+    let n = after-finish image plan r h in
+    record {
+      direction = h.direction;
+      ranges = h.ranges;
+      bound = n.bound;
+      kept = subst (λ (z : List ℕ). ImageBound z r.cell r.data_id h.direction n.bound) (sym e) n.kept;
+      below = (let b = h.below in let l = n.least in omega arith);
+      planned = inl empty;
+    }
+
+opened_again : (image y : List ℕ) (plan next : Plan) (r s : RathonsiRoute) → CutWithin plan image y → IsEmptyPlan next → Opens r y s → Holds image plan r → Goes y next r s
+opened_again image y plan next r s cut empty o h =
+    let n = after-cut image plan r y cut h in
+    let e : o.direction ≡ h.direction = one_direction r o.direction h.direction o.ranges h.ranges in
+    let same : o.bound ≡ n.bound = bound_once y r.cell r.data_id h.direction o.bound n.bound (subst (λ (q : Direction). ImageBound y r.cell r.data_id q o.bound) e o.kept) n.kept in
+    subst (λ (t : RathonsiRoute). Goes y next r t) (sym o.now) (record {
+      holds = record {
+        direction = o.direction;
+        ranges = ranges-counted r o.bound o.direction o.ranges;
+        bound = o.bound;
+        kept = o.kept;
+        below = omega arith;
+        planned = inl empty;
+      };
+      later = (let b = h.below in let l = n.least in omega arith);
+    })
+
+-- ---- all routes
+
+-- what holds of all of them: no two have one cell
+pub record Sound (n : ℕ) (a : Memory) : Type 0 where
+  pub apart : (j k : ℕ) → j < n → k < n → j ≢ k → (a.routes j).cell ≢ (a.routes k).cell
+  pub holds : (k : ℕ) → k < n → Holds a.image a.plan (a.routes k)
+
+-- a deed keeps it, no counter falls, and no cell changes
+pub record Moves (n : ℕ) (a b : Memory) : Type 0 where
+  pub goes : (k : ℕ) → k < n → Goes b.image b.plan (a.routes k) (b.routes k)
+  pub cells : (k : ℕ) → k < n → (b.routes k).cell ≡ (a.routes k).cell
+
+sound-then : (n : ℕ) (a b : Memory) → Sound n a → Moves n a b → Sound n b
+sound-then n a b s m = record {
+  apart = λ j k x y ne e. s.apart j k x y ne (sym (m.cells j x) ∙ (e ∙ m.cells k y));
+  holds = λ k x. (m.goes k x).holds;
+}
+
+cell_same : (r s : RathonsiRoute) → s ≡ r → s.cell ≡ r.cell
+cell_same r s e = ap (λ (t : RathonsiRoute). t.cell) e
+
+gives : (d : Direction) (n k freshness : ℕ) (a b : Memory) → Sound n a → GivesOut d n k freshness a b → Moves n a b
+gives d n k freshness a b s g = record {
+  goes = λ j x. elim (cases_eq j k) [
+    | inl here ↦ subst (λ i. Goes b.image b.plan (a.routes i) (b.routes i)) (sym here) (record {
+      holds = holds-same a.image b.image a.plan b.plan (b.routes k) (b.routes k) g.image g.plan refl (advanced d a.image a.plan (a.routes k) (b.routes k) freshness (s.holds k g.which) g.advances);
+      later = (let u = g.advances.above in let c : (b.routes k).counter ≡ freshness = ap (λ (t : RathonsiRoute). t.counter) g.advances.now in omega arith);
+    })
+    | inr there ↦ goes-same a.image b.image a.plan b.plan (a.routes j) (b.routes j) g.image g.plan (g.others j there) (s.holds j x)
+  ];
+  cells = λ j x. elim (cases_eq j k) [
+    | inl here ↦ subst (λ i. (b.routes i).cell ≡ (a.routes i).cell) (sym here) (ap (λ (t : RathonsiRoute). t.cell) g.advances.now)
+    | inr there ↦ cell_same (a.routes j) (b.routes j) (g.others j there)
+  ];
+}
+
+-- a deed that leaves image and routes, and plans
+plans_only : (n : ℕ) (a b : Memory) → b.image ≡ a.image → SameRoutes a b → ((k : ℕ) → k < n → Holds a.image b.plan (a.routes k)) → Moves n a b
+plans_only n a b image routes holds = record {
+  goes = λ k x. goes-same a.image b.image b.plan b.plan (a.routes k) (b.routes k) image refl (routes k) (holds k x);
+  cells = λ k x. cell_same (a.routes k) (b.routes k) (routes k);
+}
+
+plans_bound : (n k : ℕ) (a b : Memory) → Sound n a → PlansBound n k a b → Moves n a b
+plans_bound n k a b s p = plans_only n a b p.image p.routes (λ j x. elim (cases_eq j k) [
+  | inl here ↦ subst (λ i. Holds a.image b.plan (a.routes i)) (sym here) (reserved_here a.image a.plan b.plan (a.routes k) p.freshness (s.holds k p.which) p.reserved)
+  | inr there ↦ reserved_there a.image a.plan b.plan (a.routes k) (a.routes j) p.freshness (s.apart k j p.which x (λ e. there (sym e))) p.reserved (s.holds j x)
+])
+
+plans_update : (n slot : ℕ) (a b : Memory) → Sound n a → PlansUpdate slot a b → Moves n a b
+plans_update n slot a b s p = plans_only n a b p.image p.routes (λ j x.
+    let h = s.holds j x in
+    let least = h.ranges.cell_least in
+    planned_elsewhere a.image a.plan b.plan (a.routes j) p.loaded.update.id _ (λ e. let few = p.loaded.allowed.1.padded.is_update.id_fits in omega arith) p.loaded.plans h)
+
+drops_plan : (n : ℕ) (a b : Memory) → Sound n a → DropsPlan a b → Moves n a b
+drops_plan n a b s p = plans_only n a b p.image p.routes (λ j x. planned_nothing a.image a.plan b.plan (a.routes j) p.empty (s.holds j x))
+
+finishes_plan : (n : ℕ) (a b : Memory) → Sound n a → FinishesPlan a b → Moves n a b
+finishes_plan n a b s p = record {
+  goes = λ j x. goes-same b.image b.image b.plan b.plan (a.routes j) (b.routes j) refl refl (p.routes j) (finished a.image b.image a.plan b.plan (a.routes j) p.done.image_is p.done.empty (s.holds j x));
+  cells = λ j x. cell_same (a.routes j) (b.routes j) (p.routes j);
+}
+
+power_back : (n : ℕ) (a b : Memory) → Sound n a → PowerBack n a b → Moves n a b
+power_back n a b s p = record {
+  goes = λ j x. opened_again a.image b.image a.plan b.plan (a.routes j) (b.routes j) p.left p.empty (p.opened j x) (s.holds j x);
+  cells = λ j x. ap (λ (t : RathonsiRoute). t.cell) (p.opened j x).now;
+}
+
+moves : (n : ℕ) (deed : Deed) (a b : Memory) → Sound n a → DoesDeed n deed a b → Moves n a b
+moves n (sends k freshness) a b s d = gives _ n k freshness a b s d
+moves n (accepts k freshness) a b s d = gives _ n k freshness a b s d
+moves n (reserves k) a b s d = plans_bound n k a b s d
+moves n (loads slot) a b s d = plans_update n slot a b s d
+moves n drops a b s d = drops_plan n a b s d
+moves n finishes a b s d = finishes_plan n a b s d
+moves n powers_up a b s d = power_back n a b s d
+
+-- ---- over all deeds
+
+pub lives-sound : (n : ℕ) (deeds : List Deed) (a c : Memory) → Sound n a → Lives n deeds a c → Sound n c
+lives-sound n [] a c s lives = subst (λ (m : Memory). Sound n m) (sym lives) s
+lives-sound n (deed ∷ deeds) a c s (b, (d, rest)) = lives-sound n deeds b c (sound-then n a b s (moves n deed a b s d)) rest
+
+-- a number that is lower will do
+rises_from : (low high end : ℕ) (xs : List ℕ) → low ≤ high → RisesTo high xs end → RisesTo low xs end
+rises_from low high end [] le r = omega arith
+rises_from low high end (x ∷ xs) le r = (let l = r.0 in omega arith, r.1)
+
+-- route j gives out one more
+given_rises : (n j k freshness end : ℕ) (d : Direction) (deeds : List Deed) (a b : Memory) → k < n → Sound n a → GivesOut d n j freshness a b → RisesTo (b.routes k).counter (given_out k deeds) end
+    → RisesTo (a.routes k).counter (if j == k then freshness ∷ given_out k deeds else given_out k deeds) end
+given_rises n j k freshness end d deeds a b x s g rest = elim (cases_eq j k) [
+  | inl here ↦
+      let test : (j == k) ≡ true = eq-eqb j k here in
+      let now : (b.routes k).counter ≡ freshness = ap (λ i. (b.routes i).counter) (sym here) ∙ ap (λ (t : RathonsiRoute). t.counter) g.advances.now in
+      let was : (a.routes j).counter ≡ (a.routes k).counter = ap (λ i. (a.routes i).counter) here in
+      subst (λ t. RisesTo (a.routes k).counter (if t then freshness ∷ given_out k deeds else given_out k deeds) end) (sym test)
+      ((let u = g.advances.above in omega arith), subst (λ low. RisesTo low (given_out k deeds) end) now rest)
+  | inr there ↦
+      let test : (j == k) ≡ false = ne_eqb j k there in
+      subst (λ t. RisesTo (a.routes k).counter (if t then freshness ∷ given_out k deeds else given_out k deeds) end) (sym test)
+      (rises_from _ _ end (given_out k deeds) ((gives d n j freshness a b s g).goes k x).later rest)
+]
+
+rises : (n k : ℕ) (deeds : List Deed) (a c : Memory) → k < n → Sound n a → Lives n deeds a c → RisesTo (a.routes k).counter (given_out k deeds) (c.routes k).counter
+rises n k [] a c x s lives = (let e : (c.routes k).counter ≡ (a.routes k).counter = ap (λ (m : Memory). (m.routes k).counter) lives in omega arith)
+rises n k (sends j freshness ∷ deeds) a c x s (b, (d, rest)) =
+    given_rises n j k freshness (c.routes k).counter _ deeds a b x s d (rises n k deeds b c x (sound-then n a b s (moves n (sends j freshness) a b s d)) rest)
+rises n k (accepts j freshness ∷ deeds) a c x s (b, (d, rest)) =
+    given_rises n j k freshness (c.routes k).counter _ deeds a b x s d (rises n k deeds b c x (sound-then n a b s (moves n (accepts j freshness) a b s d)) rest)
+rises n k (reserves j ∷ deeds) a c x s (b, (d, rest)) =
+    let m = moves n (reserves j) a b s d in rises_from _ _ _ (given_out k deeds) (m.goes k x).later (rises n k deeds b c x (sound-then n a b s m) rest)
+rises n k (loads slot ∷ deeds) a c x s (b, (d, rest)) =
+    let m = moves n (loads slot) a b s d in rises_from _ _ _ (given_out k deeds) (m.goes k x).later (rises n k deeds b c x (sound-then n a b s m) rest)
+rises n k (drops ∷ deeds) a c x s (b, (d, rest)) =
+    let m = moves n drops a b s d in rises_from _ _ _ (given_out k deeds) (m.goes k x).later (rises n k deeds b c x (sound-then n a b s m) rest)
+rises n k (finishes ∷ deeds) a c x s (b, (d, rest)) =
+    let m = moves n finishes a b s d in rises_from _ _ _ (given_out k deeds) (m.goes k x).later (rises n k deeds b c x (sound-then n a b s m) rest)
+rises n k (powers_up ∷ deeds) a c x s (b, (d, rest)) =
+    let m = moves n powers_up a b s d in rises_from _ _ _ (given_out k deeds) (m.goes k x).later (rises n k deeds b c x (sound-then n a b s m) rest)
+
+-- a caller that was powered up
+pub first_sound : (n : ℕ) (a : Memory) → PoweredUp n a → Sound n a
+first_sound n a p = record {
+  apart = p.apart.cells;
+  holds = λ k x.
+      let o = p.opened k x in
+      record {
+        direction = o.direction;
+        ranges = o.ranges;
+        bound = o.bound;
+        kept = o.kept;
+        below = (let e : (a.routes k).counter ≡ o.bound = ap (λ (t : RathonsiRoute). t.counter) o.now in omega arith);
+        planned = inl p.empty;
+      };
+}
+
+pub rises_over_lives : (n : ℕ) (deeds : List Deed) (a c : Memory) → PoweredUp n a → Lives n deeds a c → (k : ℕ) → k < n → RisesTo (a.routes k).counter (given_out k deeds) (c.routes k).counter
+rises_over_lives n deeds a c p lives k x = rises n k deeds a c x (first_sound n a p) lives
+
+pub covered_over_lives : (n : ℕ) (deeds : List Deed) (a c : Memory) → PoweredUp n a → Lives n deeds a c → (k : ℕ) → k < n → (y : List ℕ) → CutWithin c.plan c.image y → CounterCovered (c.routes k) y
+covered_over_lives n deeds a c p lives k x y cut =
+    let h = (lives-sound n deeds a c (first_sound n a p) lives).holds k x in
+    let l = after-cut c.image c.plan (c.routes k) y cut h in
+    record { direction = h.direction; ranges = h.ranges; bound = l.bound; kept = l.kept; covers = (let b = h.below in let m = l.least in omega arith) }

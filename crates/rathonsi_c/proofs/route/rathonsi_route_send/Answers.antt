@@ -1,0 +1,18 @@
+use Rattle.std.proofs.Common.{inr, refl, subst, arith, rules}
+use Rattle.freshness_routes.specs.declared.routes.Direction.TheVariants.{Sends}
+use Rattle.rathonsi_c.specs.Routes.{RouteAnswers, CounterAnswers, status_alone}
+use Rattle.rathonsi_c.proofs.AnswerLaws.{refused_send, done_send}
+use Rattle.rathonsi_c.proofs.route.rathonsi_route_send.Goals as goal
+
+pub returns-in-Err-clause-answer : goal.returns-in-Err-clause-answer
+returns-in-Err-clause-answer c = inr (
+  search rules,
+  subst (λ s. RouteAnswers status_alone c.args.route.now Sends c.args.image.now (CounterAnswers c.args.route.now c.args.image.now) s) (search rules) (refused_send c.args.route.now c.args.image.now c.in-Err.refusal c.in-Err.ensures.refused),
+)
+
+pub returns-clause-answer : goal.returns-clause-answer
+returns-clause-answer c = inr (
+  search rules,
+  done_send c.args.route.now c.args.image.now c.in-Ok.sending.key c.in-Ok.ensures.covered.bound _ (record { ranges = c.in-Ok.ensures.ranges; kept = c.in-Ok.ensures.covered.kept; keyed = c.in-Ok.ensures.key })
+      (let n = c.in-Ok.ensures.next in let k = c.in-Ok.ensures.covered.covers in omega arith) refl,
+)

@@ -1,0 +1,56 @@
+-- What the image of a store keeps of a route and of a key slot: cells of which both copies are within it.
+use Rattle.std.specs.Prelude.{◌≡◌, ℕ, ◌+◌, ◌<◌, ◌≤◌, Bool, Some, None, List, length}
+use Rattle.cell_store.specs.Twin.{twin_size, cell_at}
+use Rattle.key_slots.specs.declared.memory.Flags.{Flags}
+use Rattle.key_slots.specs.declared.memory.Slot.{Slot}
+use Rattle.key_slots.specs.declared.memory.Slot.TheVariants.{Filled}
+use Rattle.key_slots.specs.declared.refusals.Erc.{Erc}
+use Rattle.key_slots.specs.declared.usage.Purpose.TheVariants.{Mac}
+use Rattle.key_slots.specs.Slots.{IsSlots, slot_at}
+use Rattle.key_slots.specs.Usage.{slot_refusals, first_applying}
+use Rattle.slot_disk.specs.Cell.{HoldsSlot, slot_cell}
+use Rattle.freshness_routes.specs.declared.routes.Direction.{Direction}
+use Rattle.freshness_store.specs.Bound.{HoldsBound}
+
+-- the image keeps this bound in the cell at this place
+pub record ImageBound (image : List ℕ) (place id : ℕ) (direction : Direction) (bound : ℕ) : Type 0 where
+  pub room : twin_size (place + 1) ≤ length image
+  pub bytes : List ℕ
+  pub is : cell_at image place ≡ Some bytes
+  pub holds : HoldsBound bytes id direction bound
+
+-- or it keeps none of this Data ID and direction there
+abbrev pub NoBound : List ℕ → ℕ → ℕ → Direction → Type 0
+NoBound image place id direction = (bound : ℕ) → ¬ ImageBound image place id direction bound
+
+-- the image keeps this slot in the cell at this place
+pub record ImageSlot (image : List ℕ) (place : ℕ) (slot : Slot) : Type 0 where
+  pub room : twin_size (place + 1) ≤ length image
+  pub bytes : List ℕ
+  pub is : cell_at image place ≡ Some bytes
+  pub holds : HoldsSlot bytes slot
+
+abbrev pub NoSlot : List ℕ → ℕ → Type 0
+NoSlot image place = (slot : Slot) → ¬ ImageSlot image place slot
+
+-- the key of that slot may be used for a MAC
+pub record ImageKey (image : List ℕ) (place : ℕ) (booted : Bool) (key : List ℕ) : Type 0 where
+  pub counter : ℕ
+  pub flags : Flags
+  pub held : ImageSlot image place (Filled key counter flags)
+  pub may : first_applying (slot_refusals (Filled key counter flags) booted Mac) ≡ None
+
+-- or this is the first refusal of such a use
+pub record SlotRefuses (image : List ℕ) (place : ℕ) (booted : Bool) (refusal : Erc) : Type 0 where
+  pub slot : Slot
+  pub held : ImageSlot image place slot
+  pub first : first_applying (slot_refusals slot booted Mac) ≡ Some refusal
+
+-- the first fourteen cells of the image are those of these slots, in order
+pub record ImageSlots (image : List ℕ) (slots : List Slot) : Type 0 where
+  pub room : twin_size 14 ≤ length image
+  pub are_slots : IsSlots slots
+  pub cells : (i : ℕ) → i < 14 → cell_at image i ≡ Some (slot_cell (slot_at slots i))
+
+abbrev pub NoSlots : List ℕ → Type 0
+NoSlots image = (slots : List Slot) → ¬ ImageSlots image slots

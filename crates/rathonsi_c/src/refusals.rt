@@ -1,0 +1,53 @@
+// Why a call on a store does nothing, and the status of it.
+ghost use Rattle.std.specs.Prelude.{◌≡◌, ◌≢◌};
+ghost use Rattle.rathonsi_c.specs.Causes.{erc_status};
+ghost use Rattle.rathonsi_c.specs.Refused.{route_status};
+
+use crate::{
+    BAD_VALUE, DAMAGED, EXHAUSTED, KEY_EMPTY, KEY_INVALID, KEY_NOT_AVAILABLE, KEY_UPDATE_ERROR,
+    KEY_WRITE_PROTECTED, RESERVE,
+};
+use key_slots::Erc;
+
+/// Why a route isn't used.
+#[derive(Clone, Copy)]
+pub enum Refusal {
+    /// A number of the route is outside its range.
+    BadValue,
+    /// The cell of its bound or of its slot isn't what it should be.
+    Damaged,
+    /// The slot's key isn't for this use.
+    Key(Erc),
+    /// The counter is 2^64 - 1.
+    Exhausted,
+    /// The bound in the image is below the freshness above the counter.
+    Reserve,
+}
+
+impl Refusal {
+    pub fn status(self) -> i32
+        ensures { result ≡ route_status self }
+    {
+        match self {
+            Refusal::BadValue => BAD_VALUE,
+            Refusal::Damaged => DAMAGED,
+            Refusal::Key(refusal) => erc_status(refusal),
+            Refusal::Exhausted => EXHAUSTED,
+            Refusal::Reserve => RESERVE,
+        }
+    }
+}
+
+/// The status of a refusal of the key memory.
+pub fn erc_status(refusal: Erc) -> i32
+    ensures { result ≡ erc_status refusal }
+{
+    match refusal {
+        Erc::KeyEmpty => KEY_EMPTY,
+        Erc::KeyInvalid => KEY_INVALID,
+        Erc::KeyNotAvailable => KEY_NOT_AVAILABLE,
+        Erc::KeyWriteProtected => KEY_WRITE_PROTECTED,
+        Erc::KeyUpdateError => KEY_UPDATE_ERROR,
+        Erc::NoSecureBoot | Erc::SequenceError => DAMAGED,
+    }
+}
