@@ -8,7 +8,12 @@ use std::alloc::{AllocError, Global};
 use std::test::Fail;
 
 /// What four words ask for, of which the second is a bus file.
-fn asked(alloc: Global, name: &str, count: &str, seed: &str) -> Result<Option<Command>, AllocError> {
+fn asked(
+    alloc: Global,
+    name: &str,
+    count: &str,
+    seed: &str,
+) -> Result<Option<Command>, AllocError> {
     let mut words = Vec::new(alloc);
     for word in [name, "B", count, seed] {
         words.push(String::from_str(alloc, word)?)?;
@@ -44,7 +49,11 @@ fn the_words_of_a_trial_are_read_by_their_form(rt: HostRuntime) -> Result<(), Fa
         let wanted = read.map(|(count, seed)| {
             Command::World(WorldCommand::Trial(TrialWords { count, seed }))
         });
-        assert_eq!(rt; asked(rt.alloc(), "trial", count, seed)?, wanted, "{count} {seed}");
+        assert_eq!(rt;
+            asked(rt.alloc(), "trial", count, seed)?,
+            wanted,
+            "{count} {seed}"
+        );
     }
     assert_eq!(rt; asked(rt.alloc(), "Trial", "1", "0")?, None);
     assert_eq!(rt; asked(rt.alloc(), "replay", "1", "0")?, None);

@@ -1,6 +1,6 @@
 //! Whole replays over disks and ports in memory: what a program over disks of its own can't show. What it can is a row of checks/.
-use bus_commands::run::run;
 use crate::lines::{BUS, ending, sink_of, words_of};
+use bus_commands::run::run;
 use bus_port::CleanSource;
 use cut_disk::{CutDisk, Disk, DiskFailed, MemDisk, TapeDisk};
 use file_disk::{ByteFile, FileDisk, FileFailed};

@@ -1,7 +1,7 @@
 //! Whole trials over disks in memory: the bus file, the words, the status and the summary.
+use crate::lines::{BUS, ending, sink_of, words_of};
 use crate::replays::disks_of;
 use bus_commands::run::run;
-use crate::lines::{BUS, ending, sink_of, words_of};
 use bus_port::CleanSource;
 use std::alloc::Global;
 use std::process::Abort;
