@@ -1,7 +1,7 @@
 -- A status and a text as the row of a fault
 use Rattle.std.specs.Prelude.{◌≡◌, ℕ, List}
 use Rattle.std.proofs.Common.{refl}
-use Rattle.answer_rows.specs.Rows.{Row, row_of}
+use Rattle.answer_rows.specs.Rows.{row_of}
 use Rattle.bus_world.specs.declared.start.StartFault.{StartFault}
 use Rattle.bus_world.specs.declared.start.StartFault.TheVariants as fault
 use Rattle.bus_world.specs.StartRows.{start_row}

@@ -1,5 +1,5 @@
 -- How a start that is refused is answered, and what it leaves of the disks, whichever row it is
-use Rattle.std.specs.Prelude.{◌≡◌, ◌⊎◌, ℕ, ◌-◌, ◌<◌, ◌≤◌, None, Some, List, [], ◌++◌, length, drop, get_or, codes}
+use Rattle.std.specs.Prelude.{◌≡◌, ◌⊎◌, ℕ, ◌<◌, None, Some, List, [], ◌++◌, length, drop, get_or, codes}
 use Rattle.std.specs.Fmt.{decimal}
 use Rattle.cut_disk.specs.State.{DiskState, Told}
 use Rattle.cut_disk.specs.Calls.{Rose, Runs, IsQuiet}
