@@ -1,20 +1,18 @@
 -- One arrival, from what the node's two calls ensure
-use Rattle.std.specs.Prelude.{◌≡◌, ◌≢◌, ℕ, ◌+◌, ◌^◌, ◌<◌, ◌≤◌, ◌==◌, Bool, true, false, not, nat_lt, nat_le, Option, None, Some, Result, Ok, Err, List, [], ◌∷◌, length, take, get_or, option_map, eqb}
+use Rattle.std.specs.Prelude.{◌≡◌, ◌≢◌, ℕ, ◌+◌, ◌<◌, ◌≤◌, ◌⊎◌, ◌==◌, Bool, true, false, not, nat_lt, nat_le, Option, None, Some, List, [], ◌∷◌, length, get_or, option_map}
 use Rattle.std.proofs.Common.{refl, sym, ◌∙◌, ap, subst, arith, inl, inr, get_or-set_other}
 use Rattle.std.proofs.lemmas.Bool.Decides.{nat_tests}
 use Rattle.cut_disk.specs.State.{DiskState}
 use Rattle.cut_disk.specs.Calls.{IsQuiet, Rose, Runs}
 use Rattle.key_slots.specs.declared.refusals.Erc.{Erc}
-use Rattle.secured_pdu.specs.Frame.{Secured}
-use Rattle.secured_pdu.specs.Verdict as verdict
 use Rattle.freshness_routes.specs.declared.routes.Direction.TheVariants.{Sends, Receives}
 use Rattle.freshness_routes.specs.Changes.{last_freshness}
 use Rattle.bus_machine.specs.declared.lines.Line.{Line}
-use Rattle.bus_machine.specs.declared.lines.Line.TheVariants.{Sent, Accepted, FreshnessFailure, VerificationFailure, Refused}
+use Rattle.bus_machine.specs.declared.lines.Line.TheVariants.{Sent, Accepted, Refused}
 use Rattle.bus_machine.specs.declared.lines.Refusal.{Refusal}
 use Rattle.bus_machine.specs.declared.lines.Refusal.TheVariants as refusal
-use Rattle.bus_machine.specs.Node.{Node, no_route, HasRoute, place_of, place_in, counter_at, with_counter}
-use Rattle.bus_machine.specs.Steps.{Act, sends, receives, when, first_of, has_length, has_route, key_refusal, send_refusal, AcceptsFrame, Faults, PowersUp, NodeStep}
+use Rattle.bus_machine.specs.Node.{Node, no_route, HasRoute, place_of, place_in, counter_at}
+use Rattle.bus_machine.specs.Steps.{Act, sends, receives, when, first_of, has_length, has_route, key_refusal, send_refusal, PowersUp, NodeStep}
 use Rattle.bus_machine.specs.Bus.{SentLine}
 use Rattle.bus_machine.specs.Honest.{IsInTime, IsHeard}
 use Rattle.bus_laws.proofs.Effects.{Effect, effect_of, stays, sent, accepted, took, decided, faulted, powers, refused, routed}
@@ -174,20 +172,20 @@ module _ (node between : Node) (id out : ℕ) (pdu payload : List ℕ) (v : ℕ)
       (payload_least node between id out pdu payload v source step out_route) (payload_most node between id out pdu payload v source step out_route)
 
   pub reason_of : (f : NodeFault) (after : Node) → NodeStep between (sends out payload) (Refused (refusal_of_fault f)) after → IsReason f
-  reason_of f after refused = elim (is_faulted f) [
+  reason_of f after told = elim (is_faulted f) [
     | inl is ↦ subst IsReason (sym is) tt
-    | inr other ↦ reasons _ _ f (sym cleared_between ∙ refused_for between out payload f after other refused)
+    | inr other ↦ reasons _ _ f (sym cleared_between ∙ refused_for between out payload f after other told)
   ]
 
   -- nothing but the disk can refuse
   pub only_the_disk : (f : NodeFault) (after : Node) → key_refusal node (place_of node out Sends) ≡ None → counter_at node (place_of node out Sends) < last_freshness
       → f ≢ fault.Faulted → NodeStep between (sends out payload) (Refused (refusal_of_fault f)) after → ⊥
-  only_the_disk f after usable below other refused =
+  only_the_disk f after usable below other told =
       let k : ℕ = place_of between out Sends in
       let same = counter_between node between id out pdu payload v source step out_route in
       let free : (counter_at between k == last_freshness) ≡ false = ne_test (counter_at between k) last_freshness (omega (arith, same, below)) in
       let none : first_of (last_refusals between k) ≡ None = rw (usable_between node between id out pdu payload v source step out_route usable, free) refl in
-      none_is_some (sym none ∙ sym cleared_between ∙ refused_for between out payload f after other refused)
+      none_is_some (sym none ∙ sym cleared_between ∙ refused_for between out payload f after other told)
     where
       none_is_some : {r : Refusal} → None ≡ Some r → ⊥
       none_is_some e = cc
@@ -217,3 +215,31 @@ heard_not id pdu payload v fault.BadLength other heard = heard
 heard_not id pdu payload v (fault.Key erc) other heard = heard
 heard_not id pdu payload v fault.Exhausted other heard = heard
 heard_not id pdu payload v fault.Faulted other heard = absurd (other refl)
+
+-- ---- the clauses of one arrival
+
+-- what was forwarded has the freshness that the arrival had, and the one above the outgoing counter
+pub forwards_right : (node between after : Node) (id out : ℕ) (pdu given payload : List ℕ) (w x v : ℕ) (frame : List ℕ) (source : Option ℕ) → HasRoute node out Sends
+    → NodeStep node (receives id pdu) (Accepted id w given source) between → NodeStep between (sends out given) (Sent out x frame) after
+    → IsHeard (brought_line id pdu payload v) (Accepted id w given source) → (w ≡ v) × (x ≡ counter_at node (place_of node out Sends) + 1)
+forwards_right node between after id out pdu given payload w x v frame source route first second heard =
+    (heard.1, second.1.freshness_is ∙ ap (λ n. n + 1) (counter_between node between id out pdu given w source first route))
+
+-- what can be forwarded isn't dropped
+pub drops_not : (s t u : NodeState) (id out : ℕ) (pdu given payload : List ℕ) (w v : ℕ) (f : NodeFault) (source : Option ℕ) → HasRoute s.node out Sends
+    → NodeStep s.node (receives id pdu) (Accepted id w given source) t.node → NodeStep t.node (sends out given) (Refused (refusal_of_fault f)) u.node
+    → Runs [] 6 s.store.disk t.store.disk → Runs [] 6 t.store.disk u.store.disk → (f ≡ fault.Faulted → Rose t.store.disk.faults u.store.disk.faults)
+    → CanForward s id out pdu payload v → ⊥
+drops_not s t u id out pdu given payload w v f source route first second before after rose can = elim (is_faulted f) [
+  | inl is ↦ quiet_fails_not 6 t.store.disk u.store.disk after (stays_quiet 6 s.store.disk t.store.disk before can.quiet) (rose is)
+  | inr other ↦ only_the_disk s.node t.node id out pdu given w source first route f u.node can.out_usable can.below other second
+]
+
+-- nor refused
+pub refuses_not : (s t : NodeState) (id out : ℕ) (pdu payload : List ℕ) (v : ℕ) (f : NodeFault) → Runs [] 6 s.store.disk t.store.disk
+    → (f ≡ fault.Faulted → Rose s.store.disk.faults t.store.disk.faults) → CanForward s id out pdu payload v
+    → IsHeard (brought_line id pdu payload v) (Refused (refusal_of_fault f)) → ⊥
+refuses_not s t id out pdu payload v f runs rose can heard = elim (is_faulted f) [
+  | inl is ↦ quiet_fails_not 6 s.store.disk t.store.disk runs can.quiet (rose is)
+  | inr other ↦ heard_not id pdu payload v f other heard
+]

@@ -1,5 +1,5 @@
 -- A node has at most 256 routes, so at most 256 pairs are good
-use Rattle.std.specs.Prelude.{◌≡◌, ◌≢◌, ℕ, zero, suc, ◌+◌, ◌<◌, ◌≤◌, ◌||◌, ◌⊎◌, Bool, true, false, List, [], ◌∷◌, ◌++◌, length, take, All, get_or, eqb}
+use Rattle.std.specs.Prelude.{◌≡◌, ◌≢◌, ℕ, zero, suc, ◌<◌, ◌≤◌, ◌||◌, ◌⊎◌, Bool, true, false, List, [], ◌∷◌, ◌++◌, length, get_or, eqb}
 use Rattle.std.specs.List.{list_any, IsDistinct}
 use Rattle.std.proofs.Common.{refl, sym, ◌∙◌, ap, subst, arith, inl, inr, length-append, true≢false}
 use Rattle.std.proofs.lemmas.Bool.{false_from_ne_true}
@@ -9,7 +9,7 @@ use Rattle.std.proofs.lemmas.List.{get_or-take, length-take-le}
 use Rattle.std.proofs.lemmas.List.Folds.{list_any-append}
 use Rattle.std.proofs.lemmas.Map.Keys.{IsDistinct-push}
 use Rattle.std.proofs.lemmas.Map.Steps.{length-le_from_distinct_below}
-use Rattle.freshness_routes.specs.declared.routes.Direction.TheVariants.{Sends, Receives}
+use Rattle.freshness_routes.specs.declared.routes.Direction.TheVariants.{Receives}
 use Rattle.bus_machine.specs.Node.{Node, no_route, place_of}
 use Rattle.bus_laws.proofs.SoundSteps.{place_is}
 use Rattle.secoc_gateway.specs.Pairs.{pair_in, IsGoodAt}
@@ -40,7 +40,7 @@ one_of false b e = inr e
 last_one : (q x : ℕ) → list_any (eqb q) (x ∷ []) ≡ true → q ≡ x
 last_one q x e = elim (eqb_tells q x) [
   | inl same ↦ same.1
-  | inr other ↦ absurd (elim (one_of (eqb q x) false e) [ inl yes ↦ true≢false (sym yes ∙ other.0) | inr no ↦ true≢false (sym no) ])
+  | inr other ↦ absurd (elim (one_of (eqb q x) false e) [ inl is ↦ true≢false (sym is ∙ other.0) | inr none ↦ true≢false (sym none) ])
 ]
 
 in_places : (node : Node) (pairs : List (ℕ × ℕ)) (n q : ℕ) → list_any (eqb q) (places node pairs n) ≡ true → IsOfPair node pairs n q
@@ -61,6 +61,7 @@ own_places node pairs j k before inside first later same =
     (ap (λ (p : ℕ × ℕ). p.0) (get_or-take k pairs j (0, 0) before) ∙ ids)
 
 distinct_places : (node : Node) (pairs : List (ℕ × ℕ)) (n : ℕ) → n ≤ length pairs → ((k : ℕ) → k < n → IsGoodAt node pairs k) → IsDistinct eqb (places node pairs n)
+unfolding IsDistinct
 distinct_places node pairs zero inside good = tt
 distinct_places node pairs (suc n) inside good =
     IsDistinct-push nat_eq_equiv (places node pairs n) (place_at node pairs n)

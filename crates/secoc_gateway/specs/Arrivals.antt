@@ -1,12 +1,12 @@
 -- What an arrival's answer stands for, and when an arrival is forwarded
-use Rattle.std.specs.Prelude.{◌≡◌, ℕ, ◌+◌, ◌<◌, true, None, Result, Ok, Err, List, take}
+use Rattle.std.specs.Prelude.{◌≡◌, ℕ, ◌<◌, true, None, Result, Ok, Err, List, take}
 use Rattle.cut_disk.specs.Calls.{IsQuiet}
 use Rattle.secured_pdu.specs.Verdict as verdict
 use Rattle.freshness_routes.specs.declared.routes.Direction.TheVariants.{Sends, Receives}
 use Rattle.freshness_routes.specs.Changes.{last_freshness}
 use Rattle.secoc_sender.specs.declared.sender.Sent.{Sent}
 use Rattle.bus_machine.specs.declared.lines.Line.TheVariants.{FreshnessFailure, VerificationFailure, Refused}
-use Rattle.bus_machine.specs.Node.{Node, place_of, route_at, counter_at, route_key}
+use Rattle.bus_machine.specs.Node.{place_of, route_at, counter_at, route_key}
 use Rattle.bus_machine.specs.Steps.{key_refusal}
 use Rattle.secoc_node.specs.declared.faults.NodeFault.{NodeFault}
 use Rattle.secoc_node.specs.declared.faults.NodeFault.TheVariants as fault

@@ -1,5 +1,5 @@
 -- Which pairs of Data IDs a gateway takes (own)
-use Rattle.std.specs.Prelude.{◌≡◌, ◌≢◌, ℕ, ◌<◌, List, length, take, All, slice_index_or}
+use Rattle.std.specs.Prelude.{◌≢◌, ℕ, ◌<◌, List, length, take, All, slice_index_or}
 use Rattle.freshness_routes.specs.declared.routes.Direction.TheVariants.{Sends, Receives}
 use Rattle.bus_machine.specs.Node.{Node, HasRoute}
 

@@ -1,5 +1,5 @@
 //! A gateway over a node.
-ghost use Rattle.std.specs.Prelude.{◌≡◌, ◌≢◌, ◌<◌, ◌≤◌, ◌+◌, ◌^◌, ◌∷◌, ◌↔◌, ℕ, [], List, length, drop, not, false, Some, Option, IsSome, IfOk, IfErr, OnOk, OnErr, IsErrOf, MatchOption};
+ghost use Rattle.std.specs.Prelude.{◌≡◌, ◌≢◌, ◌<◌, ◌≤◌, ◌+◌, ◌^◌, ◌∷◌, ◌↔◌, ℕ, [], List, length, drop, not, true, false, Some, Option, IsSome, IfOk, IfErr, OnOk, OnErr, IsErrOf, MatchOption};
 ghost use Rattle.cut_disk.specs.State.{Told, Cut, Stop, Fail};
 ghost use Rattle.cut_disk.specs.Arming.{with_stop, with_fail};
 ghost use Rattle.cut_disk.specs.Calls.{Rose, Runs, Grows};
@@ -128,7 +128,8 @@ impl<C: CutCells> Gateway<C> {
         ensures down { IsErrOf result NodeFault.Down ↔ self.old.node.up ≡ false }
         ensures no_route { IsErrOf result NodeFault.NoRoute
             ↔ ((self.old.node.up ≡ true) × (¬ HasRoute self.old.node id Receives)) }
-        ensures faulted { IsErrOf result NodeFault.Faulted → Rose self.old.store.disk.faults self.new.store.disk.faults }
+        ensures faulted { IsErrOf result NodeFault.Faulted
+            → Rose self.old.store.disk.faults self.new.store.disk.faults }
         ensures faults { OnOk result (self.new.store.disk.faults ≡ self.old.store.disk.faults) }
         ensures layout { self.new.store.layout ≡ self.old.store.layout }
         ensures runs { Runs [] 6 self.old.store.disk self.new.store.disk }
@@ -148,7 +149,8 @@ impl<C: CutCells> Gateway<C> {
             → NodeStep self.old.node (keys update authkey) (keyed_line update.id result) self.new.node }
         ensures untouched { IfErr result (λ fault. fault ≢ NodeFault.Faulted → self.new ≡ self.old) }
         ensures down { IsErrOf result NodeFault.Down ↔ self.old.node.up ≡ false }
-        ensures faulted { IsErrOf result NodeFault.Faulted → Rose self.old.store.disk.faults self.new.store.disk.faults }
+        ensures faulted { IsErrOf result NodeFault.Faulted
+            → Rose self.old.store.disk.faults self.new.store.disk.faults }
         ensures faults { OnOk result (self.new.store.disk.faults ≡ self.old.store.disk.faults) }
         ensures layout { self.new.store.layout ≡ self.old.store.layout }
         ensures runs { Runs [] 6 self.old.store.disk self.new.store.disk }
@@ -176,7 +178,8 @@ impl<C: CutCells> Gateway<C> {
     /// began. `None` exactly where there is no such route.
     pub fn counter(&self, id: u16, direction: Direction) -> Option<u64>
         ensures { MatchOption result (¬ HasRoute self.now.node id direction)
-            (λ v. HasRoute self.now.node id direction × (v ≡ counter_at self.now.node (place_of self.now.node id direction))) }
+            (λ v. HasRoute self.now.node id direction
+            × (v ≡ counter_at self.now.node (place_of self.now.node id direction))) }
     {
         self.node.counter(id, direction)
     }

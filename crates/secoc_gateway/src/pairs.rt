@@ -28,7 +28,8 @@ fn is_new(earlier: &[(u16, u16)], pair: (u16, u16)) -> bool
 
 // Whether the node has both routes of this pair, and no earlier pair has one of them.
 fn is_good_after<C: Cells>(node: &Node<C>, earlier: &[(u16, u16)], pair: (u16, u16)) -> bool
-    ensures { IsTrue result ↔ IsGoodAfter node.now.node earlier.now pair }
+    ensures good { IsTrue result ↔ IsGoodAfter node.now.node earlier.now pair }
+    ensures few { length node.now.node.config.routes ≤ 256 }
 {
     if node.counter(pair.0, Direction::Receives).is_none() {
         return false;

@@ -1,5 +1,5 @@
 //! One arrival: what a node accepts under one Data ID, it sends under another.
-ghost use Rattle.std.specs.Prelude.{◌≡◌, ◌+◌, ◌<◌, ◌≤◌, ℕ, List, [], length, drop};
+ghost use Rattle.std.specs.Prelude.{◌≡◌, ◌+◌, ◌<◌, ◌≤◌, ℕ, List, [], length, take, drop};
 ghost use Rattle.cut_disk.specs.Calls.{Rose, Runs};
 ghost use Rattle.freshness_routes.specs.declared.routes.Direction.TheVariants.{Sends, Receives};
 ghost use Rattle.bus_machine.specs.declared.events.Event.TheVariants.{Inject};
@@ -12,6 +12,14 @@ use crate::arrival::Arrival;
 use cell_store::Cells;
 use secoc_node::{Node, NodeFault};
 use secoc_receiver::Reception;
+
+// The first bytes, so many of them.
+fn front(bytes: &[u8], len: u8) -> &[u8]
+    requires { len ≤ length bytes.now }
+    ensures { result.now ≡ take len bytes.now }
+{
+    &bytes[..usize::from(len)]
+}
 
 /// Receives a PDU under a Data ID, and where it is accepted sends its payload under another: the PDU that departs stands at the front of
 /// `out`, whose rest is as before. Errors: those of the reception.
@@ -42,7 +50,7 @@ pub fn pass_on<C: Cells>(
 {
     match node.receive(id, pdu) {
         Ok(Reception::Accepted { freshness, len }) => {
-            let payload = &pdu[..usize::from(len)];
+            let payload = front(pdu, len);
             match node.send(second, payload, out) {
                 Ok(sent) => Ok(Arrival::Forwarded { freshness, sent }),
                 Err(fault) => Ok(Arrival::Dropped { freshness, fault }),

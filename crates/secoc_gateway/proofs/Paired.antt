@@ -1,0 +1,77 @@
+-- Pairs that are good stay so, and an arrival under the first of one is a step of the gateway
+use Rattle.std.specs.Prelude.{◌≡◌, ℕ, suc, ◌<◌, ◌==◌, Bool, true, false, cond, Some, Result, List, [], ◌∷◌, length, find, option_map}
+use Rattle.std.proofs.Common.{refl, sym, ◌∙◌, ap, subst, arith}
+use Rattle.freshness_routes.specs.declared.routes.Direction.TheVariants.{Sends, Receives}
+use Rattle.bus_machine.specs.declared.events.Event.{Event}
+use Rattle.bus_machine.specs.declared.events.Event.TheVariants.{Inject}
+use Rattle.bus_machine.specs.declared.lines.Line.{Line}
+use Rattle.bus_machine.specs.declared.lines.Line.TheVariants.{Accepted}
+use Rattle.bus_machine.specs.Node.{Node, HasRoute, place_in}
+use Rattle.bus_machine.specs.Steps.{sends}
+use Rattle.bus_machine.specs.Bus.{node_of, act_of}
+use Rattle.bus_laws.proofs.SoundSteps.{same_some, eq_of_test}
+use Rattle.secoc_node.specs.declared.faults.NodeFault.{NodeFault}
+use Rattle.gateway_machine.specs.declared.lines.GatewayLine.{GatewayLine}
+use Rattle.gateway_machine.specs.Gateway.{second_of, Departs, PassesOn, StepUnder, GatewayStep, EventStep, nothing_sent}
+use Rattle.secoc_gateway.specs.declared.arrival.Arrival.{Arrival}
+use Rattle.secoc_gateway.specs.Arrivals.{arrival_line}
+use Rattle.secoc_gateway.specs.Pairs.{pair_in, AreGood}
+use Rattle.secoc_gateway.proofs.Arriving.{step_config}
+
+-- ---- good pairs
+
+pub AreGood-same : (node after : Node) (pairs : List (ℕ × ℕ)) → after.config ≡ node.config → AreGood node pairs → AreGood after pairs
+AreGood-same node after pairs same good k inside =
+    let g = good k inside in
+    record {
+      receives = subst (λ c. place_in c.routes (pair_in pairs k).0 Receives < length c.routes) (sym same) g.receives;
+      sends = subst (λ c. place_in c.routes (pair_in pairs k).1 Sends < length c.routes) (sym same) g.sends;
+      is_new = g.is_new;
+    }
+
+-- the pair that was found
+pub record IsPairOf (pairs : List (ℕ × ℕ)) (id out : ℕ) : Type 0 where
+  pub place : ℕ
+  pub inside : place < length pairs
+  pub first_is : (pair_in pairs place).0 ≡ id
+  pub second_is : (pair_in pairs place).1 ≡ out
+
+pair_of : (pairs : List (ℕ × ℕ)) (id out : ℕ) → second_of pairs id ≡ Some out → IsPairOf pairs id out
+pair_of [] id out e = cc
+pair_of (p ∷ ps) id out e = by_test (p.0 == id) refl (λ e. pair_of ps id out e) e
+  where
+    by_test : (b : Bool) → (p.0 == id) ≡ b → (second_of ps id ≡ Some out → IsPairOf ps id out)
+        → option_map (λ (p : ℕ × ℕ). p.1) (cond b (Some p) (find (λ (p : ℕ × ℕ). p.0 == id) ps)) ≡ Some out → IsPairOf (p ∷ ps) id out
+    by_test true t rest e = record { place = 0; inside = omega arith; first_is = eq_of_test p.0 id t; second_is = same_some p.1 out e }
+    by_test false t rest e =
+        let r = rest e in
+        record { place = suc r.place; inside = omega (arith, r.inside); first_is = r.first_is; second_is = r.second_is }
+
+-- the routes of a good pair
+pub record HasBoth (node : Node) (id out : ℕ) : Type 0 where
+  pub receives : HasRoute node id Receives
+  pub sends : HasRoute node out Sends
+
+pub good_routes : (node : Node) (pairs : List (ℕ × ℕ)) (id out : ℕ) → AreGood node pairs → second_of pairs id ≡ Some out → HasBoth node id out
+good_routes node pairs id out good e =
+    let p = pair_of pairs id out e in
+    let g = good p.place p.inside in
+    record { receives = subst (λ i. HasRoute node i Receives) p.first_is g.receives; sends = subst (λ i. HasRoute node i Sends) p.second_is g.sends }
+
+-- ---- the step
+
+departs_config : (place out : ℕ) (first : Line) (between : Node) (line : GatewayLine) (after : Node) → Departs EventStep place out first between line after → after.config ≡ between.config
+departs_config place out (Accepted id v payload source) between line after d = step_config between (sends out payload) d.0 after d.1
+departs_config place out first between line after d = ap (λ (n : Node). n.config) d.1
+
+pub passes_config : (out : ℕ) (before : Node) (event : Event) (line : GatewayLine) (after : Node) → PassesOn EventStep out before event line after → after.config ≡ before.config
+passes_config out before event line after step =
+    departs_config (node_of event) out step.first step.between line after step.departs
+    ∙ step_config before (act_of nothing_sent event) step.first step.between step.arrives
+
+pub step_of_pair : (pairs : List (ℕ × ℕ)) (id out told : ℕ) (before after : Node) (place : ℕ) (pdu bytes : List ℕ) (result : Result Arrival NodeFault)
+    → second_of pairs id ≡ Some out → second_of pairs id ≡ Some told → PassesOn EventStep out before (Inject place id pdu) (arrival_line id out bytes result) after
+    → GatewayStep EventStep pairs before (Inject place id pdu) (arrival_line id told bytes result) after
+step_of_pair pairs id out told before after place pdu bytes result is also step =
+    subst (λ o. StepUnder EventStep o before (Inject place id pdu) (arrival_line id told bytes result) after) (sym is)
+    (subst (λ i. PassesOn EventStep out before (Inject place id pdu) (arrival_line id i bytes result) after) (same_some out told (sym is ∙ also)) step)

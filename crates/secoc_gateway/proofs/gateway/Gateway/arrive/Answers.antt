@@ -1,0 +1,32 @@
+use Rattle.std.proofs.Common.{subst, sym, ap, ◌∙◌}
+use Rattle.bus_machine.specs.declared.events.Event.TheVariants.{Inject}
+use Rattle.secoc_node.specs.State.{FitsNow}
+use Rattle.secoc_gateway.specs.State.{GatewayState, over}
+use Rattle.secoc_gateway.specs.Arrivals.{arrival_line}
+use Rattle.secoc_gateway.proofs.Paired.{AreGood-same, good_routes, passes_config, step_of_pair}
+use Rattle.gateway_machine.specs.Gateway.{second_of, EventStep, GatewayStep}
+use Rattle.secoc_gateway.proofs.gateway.Gateway.arrive.Goals as goal
+
+pub pass_on-requires-clause-receives : goal.pass_on-requires-clause-receives
+pass_on-requires-clause-receives g c =
+    (good_routes c.self.inside.node.node c.self.inside.pairs.items c.args.id c.in-Some.second c.self.invariant
+    (ap (λ (s : GatewayState). second_of s.pairs c.args.id) c.self.view_is ∙ sym c.in-Some.ensures)).receives
+
+pub pass_on-requires-clause-sends : goal.pass_on-requires-clause-sends
+pass_on-requires-clause-sends g c =
+    (good_routes c.self.inside.node.node c.self.inside.pairs.items c.args.id c.in-Some.second c.self.invariant
+    (ap (λ (s : GatewayState). second_of s.pairs c.args.id) c.self.view_is ∙ sym c.in-Some.ensures)).sends
+
+pub invariant_of-self : goal.invariant_of-self
+invariant_of-self g c =
+    AreGood-same c.self.inside.node.node c.pass_on.new.node.node c.self.inside.pairs.items (passes_config _ _ _ _ _ (c.pass_on.ensures.step 0)) c.self.invariant
+
+pub returns-clause-step : goal.returns-clause-step
+returns-clause-step g c place told also =
+    subst (λ (s : GatewayState). GatewayStep EventStep s.pairs s.node (Inject place c.args.id c.args.pdu.now) (arrival_line c.args.id told c.pass_on.new.out c.pass_on.result) c.pass_on.new.node.node) c.self.view_is
+    (step_of_pair c.self.inside.pairs.items c.args.id c.in-Some.second told c.self.inside.node.node c.pass_on.new.node.node place c.args.pdu.now c.pass_on.new.out c.pass_on.result
+    (ap (λ (s : GatewayState). second_of s.pairs c.args.id) c.self.view_is ∙ sym c.in-Some.ensures)
+    (ap (λ (s : GatewayState). second_of s.pairs c.args.id) c.self.view_is ∙ also) (c.pass_on.ensures.step place))
+
+pub returns-clause-fits : goal.returns-clause-fits
+returns-clause-fits g c = subst (λ s. FitsNow (over s) → FitsNow c.pass_on.new.node) c.self.view_is c.pass_on.ensures.fits

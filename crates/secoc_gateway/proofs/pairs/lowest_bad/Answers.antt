@@ -1,0 +1,12 @@
+use Rattle.std.proofs.Common.{arith}
+use Rattle.secoc_gateway.proofs.Few.{few_good}
+use Rattle.secoc_gateway.proofs.pairs.lowest_bad.Goals as goal
+
+pub overflow_cast-result : goal.overflow_cast-result
+overflow_cast-result g c =
+    let most = few_good c.args.node.now.node c.args.pairs.now c.loop-place.place c.is_good_after.ensures.few (omega (arith, c.loop-place-test.true)) c.loop-place.invariant in
+    omega (arith, most)
+
+pub returns-then-not-is_good_after-clause-within : goal.returns-then-not-is_good_after-clause-within
+returns-then-not-is_good_after-clause-within g c =
+    few_good c.args.node.now.node c.args.pairs.now c.loop-place.place c.is_good_after.ensures.few (omega (arith, c.loop-place-test.true)) c.loop-place.invariant

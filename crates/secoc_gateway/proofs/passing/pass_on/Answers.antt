@@ -1,0 +1,118 @@
+use Rattle.std.specs.Prelude.{None, Err}
+use Rattle.std.proofs.Common.{refl, ap, arith, take}
+use Rattle.cut_disk.specs.CallLaws.{runs_join, runs_more}
+use Rattle.bus_machine.specs.declared.lines.Line.TheVariants.{Sent, Accepted, FreshnessFailure, VerificationFailure, Refused}
+use Rattle.secoc_node.specs.Lines.{refusal_of_fault}
+use Rattle.secoc_gateway.proofs.Arriving.{reason_of, brought_line, in_time, forwards_right, drops_not, refuses_not}
+use Rattle.secoc_gateway.proofs.passing.pass_on.Goals as goal
+
+-- ---- what was accepted departed
+
+pub returns-in-Ok-clause-step : goal.returns-in-Ok-clause-step
+returns-in-Ok-clause-step g c place = record {
+  first = Accepted c.args.id c.in-Ok-Accepted.freshness (take c.in-Ok-Accepted.len c.args.pdu.now) None;
+  between = c.receive.new.self.node;
+  arrives = rw c.in-Ok-Accepted.field-0-is at (c.in-Ok-Accepted.ensures.step None);
+  departs = (
+    Sent c.args.second c.in-Ok.sent.freshness (take c.in-Ok.sent.len c.send.new.out),
+    rw c.front-payload.ensures at c.in-Ok.ensures.step,
+    refl,
+  );
+}
+
+pub returns-in-Ok-clause-forwards : goal.returns-in-Ok-clause-forwards
+returns-in-Ok-clause-forwards g c payload v can =
+    forwards_right c.args.node.now.node c.receive.new.self.node c.send.new.self.node c.args.id c.args.second c.args.pdu.now (take c.in-Ok-Accepted.len c.args.pdu.now) payload
+    c.in-Ok-Accepted.freshness c.in-Ok.sent.freshness v (take c.in-Ok.sent.len c.send.new.out) None c.requires.sends
+    (rw c.in-Ok-Accepted.field-0-is at (c.in-Ok-Accepted.ensures.step None))
+    (rw c.front-payload.ensures at c.in-Ok.ensures.step)
+    (rw c.in-Ok-Accepted.field-0-is at
+    (c.in-Ok-Accepted.ensures.honest (brought_line c.args.id c.args.pdu.now payload v) None refl refl
+    (in_time c.args.node.now c.args.id c.args.second c.args.pdu.now payload v c.requires.receives can) can.accepted.0.fits))
+
+pub returns-in-Ok-clause-runs : goal.returns-in-Ok-clause-runs
+returns-in-Ok-clause-runs g c = runs_join c.receive.ensures.runs c.send.ensures.runs
+
+pub returns-in-Ok-clause-fits : goal.returns-in-Ok-clause-fits
+returns-in-Ok-clause-fits g c = λ fits. c.send.ensures.fits (c.receive.ensures.fits fits)
+
+-- ---- it didn't
+
+pub returns-in-Err-send-clause-step : goal.returns-in-Err-send-clause-step
+returns-in-Err-send-clause-step g c place = record {
+  first = Accepted c.args.id c.in-Ok-Accepted.freshness (take c.in-Ok-Accepted.len c.args.pdu.now) None;
+  between = c.receive.new.self.node;
+  arrives = rw c.in-Ok-Accepted.field-0-is at (c.in-Ok-Accepted.ensures.step None);
+  departs = (Refused (refusal_of_fault c.in-Err-send.fault), rw c.front-payload.ensures at c.in-Err-send.ensures.step, refl);
+}
+
+pub returns-in-Err-send-clause-reason : goal.returns-in-Err-send-clause-reason
+returns-in-Err-send-clause-reason g c =
+    reason_of c.args.node.now.node c.receive.new.self.node c.args.id c.args.second c.args.pdu.now (take c.in-Ok-Accepted.len c.args.pdu.now) c.in-Ok-Accepted.freshness None
+    (rw c.in-Ok-Accepted.field-0-is at (c.in-Ok-Accepted.ensures.step None)) c.requires.sends c.in-Err-send.fault c.send.new.self.node
+    (rw c.front-payload.ensures at c.in-Err-send.ensures.step)
+
+pub returns-in-Err-send-clause-forwards : goal.returns-in-Err-send-clause-forwards
+returns-in-Err-send-clause-forwards g c payload v can =
+    drops_not c.args.node.now c.receive.new.self c.send.new.self c.args.id c.args.second c.args.pdu.now (take c.in-Ok-Accepted.len c.args.pdu.now) payload
+    c.in-Ok-Accepted.freshness v c.in-Err-send.fault None c.requires.sends
+    (rw c.in-Ok-Accepted.field-0-is at (c.in-Ok-Accepted.ensures.step None))
+    (rw c.front-payload.ensures at c.in-Err-send.ensures.step)
+    c.receive.ensures.runs c.send.ensures.runs (λ e. c.in-Err-send.ensures.faulted (ap Err e)) can
+
+pub returns-in-Err-send-clause-runs : goal.returns-in-Err-send-clause-runs
+returns-in-Err-send-clause-runs g c = runs_join c.receive.ensures.runs c.send.ensures.runs
+
+pub returns-in-Err-send-clause-fits : goal.returns-in-Err-send-clause-fits
+returns-in-Err-send-clause-fits g c = λ fits. c.send.ensures.fits (c.receive.ensures.fits fits)
+
+-- ---- nothing was accepted
+
+pub returns-in-Ok-FreshnessFailure-clause-step : goal.returns-in-Ok-FreshnessFailure-clause-step
+returns-in-Ok-FreshnessFailure-clause-step g c place = record {
+  first = FreshnessFailure;
+  between = c.receive.new.self.node;
+  arrives = rw c.in-Ok-FreshnessFailure.field-0-is at (c.in-Ok-FreshnessFailure.ensures.step None);
+  departs = (refl, refl);
+}
+
+pub returns-in-Ok-FreshnessFailure-clause-forwards :
+    goal.returns-in-Ok-FreshnessFailure-clause-forwards
+returns-in-Ok-FreshnessFailure-clause-forwards g c payload v can =
+    rw c.in-Ok-FreshnessFailure.field-0-is at
+    (c.in-Ok-FreshnessFailure.ensures.honest (brought_line c.args.id c.args.pdu.now payload v) None refl refl
+    (in_time c.args.node.now c.args.id c.args.second c.args.pdu.now payload v c.requires.receives can) can.accepted.0.fits)
+
+pub returns-in-Ok-VerificationFailure-clause-step :
+    goal.returns-in-Ok-VerificationFailure-clause-step
+returns-in-Ok-VerificationFailure-clause-step g c place = record {
+  first = VerificationFailure;
+  between = c.receive.new.self.node;
+  arrives = rw c.in-Ok-VerificationFailure.field-0-is at (c.in-Ok-VerificationFailure.ensures.step None);
+  departs = (refl, refl);
+}
+
+pub returns-in-Ok-VerificationFailure-clause-forwards :
+    goal.returns-in-Ok-VerificationFailure-clause-forwards
+returns-in-Ok-VerificationFailure-clause-forwards g c payload v can =
+    rw c.in-Ok-VerificationFailure.field-0-is at
+    (c.in-Ok-VerificationFailure.ensures.honest (brought_line c.args.id c.args.pdu.now payload v) None refl refl
+    (in_time c.args.node.now c.args.id c.args.second c.args.pdu.now payload v c.requires.receives can) can.accepted.0.fits)
+
+pub returns-in-Err-clause-step : goal.returns-in-Err-clause-step
+returns-in-Err-clause-step g c place = record {
+  first = Refused (refusal_of_fault c.in-Err.fault);
+  between = c.receive.new.self.node;
+  arrives = c.in-Err.ensures.step None;
+  departs = (refl, refl);
+}
+
+pub returns-in-Err-clause-forwards : goal.returns-in-Err-clause-forwards
+returns-in-Err-clause-forwards g c payload v can =
+    refuses_not c.args.node.now c.receive.new.self c.args.id c.args.second c.args.pdu.now payload v c.in-Err.fault c.receive.ensures.runs
+    (λ e. c.in-Err.ensures.faulted (ap Err e)) can
+    (c.in-Err.ensures.honest (brought_line c.args.id c.args.pdu.now payload v) None refl refl
+    (in_time c.args.node.now c.args.id c.args.second c.args.pdu.now payload v c.requires.receives can) can.accepted.0.fits)
+
+pub returns-in-Err-clause-runs : goal.returns-in-Err-clause-runs
+returns-in-Err-clause-runs g c = runs_more 12 (omega arith) c.receive.ensures.runs
