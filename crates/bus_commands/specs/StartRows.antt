@@ -1,5 +1,5 @@
 -- Why a bus doesn't start: the rows that come then
-use Rattle.std.specs.Prelude.{◌≡◌, ◌×◌, List, Option, None, Some, ℕ}
+use Rattle.std.specs.Prelude.{◌≡◌, ℕ, List, Option, None, Some}
 use Rattle.answer_rows.specs.Rows.{Row, row_of, memory_row}
 use Rattle.cut_disk.specs.State.{DiskState}
 use Rattle.bus_nodes.specs.Buses.{NamedBus}
