@@ -1,1 +1,3 @@
 pub mod MigratingLaws
+pub mod LookingLaws
+pub mod OpeningLaws

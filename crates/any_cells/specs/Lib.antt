@@ -1,2 +1,5 @@
 pub mod Either
 pub mod Migrating
+pub mod Looking
+pub mod Opening
+pub mod FaultTexts

@@ -1,7 +1,10 @@
 //! A store of either kind, in either version: each call is passed on to the store that it is.
 #![tactic(auto)]
 
+pub mod laws;
+mod looking;
 mod migrating;
+mod opening;
 #[cfg(test)]
 mod tests;
 
@@ -19,7 +22,9 @@ use cell_store::{
     Version, log_size, probe_as, twin_size,
 };
 use cut_disk::{CutDisk, Disk, Torn};
+pub use looking::{Found, look};
 pub use migrating::migrate;
+pub use opening::{open_store, store_fault_text};
 use std::alloc::Global;
 
 /// The number of bytes that a disk needs for a store of so many cells: 0 or 32768 for the version,
