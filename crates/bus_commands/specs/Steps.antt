@@ -87,12 +87,12 @@ pub data LacksLines {A : Type 0} (meaning : List ℕ → Result (List A) Fault) 
       → LacksLines meaning script (line_row fault)
 
 -- the source was read whole, and its lines mean these
-abbrev pub ReadsAs : {A : Type 0} → (List ℕ → Result (List A) Fault) → Reading → List A → Type 0
-ReadsAs meaning script lines = (text : List ℕ) × ReadsWhole script text × (meaning text ≡ Ok lines)
+abbrev pub ReadsLinesAs : {A : Type 0} → (List ℕ → Result (List A) Fault) → Reading → List A → Type 0
+ReadsLinesAs meaning script lines = (text : List ℕ) × ReadsWhole script text × (meaning text ≡ Ok lines)
 
 -- the lines of a source that was read whole, each of them whole, or why there are none
 abbrev pub FindsLines : {A : Type 0} → (List ℕ → Result (List A) Fault) → (A → Type 0) → Reading → Result (Vec A Global) Row → Type 0
-FindsLines meaning P script (Ok lines) = ReadsAs meaning script lines.items × All P lines.items
+FindsLines meaning P script (Ok lines) = ReadsLinesAs meaning script lines.items × All P lines.items
 FindsLines meaning P script (Err row) = LacksLines meaning script row
 
 -- such as a script over a bus has, at most 65,536 of them
@@ -106,7 +106,7 @@ HasScript bus text (Err row) = NoLines (events_of bus.nodes text) row
 
 -- those of a source that was read whole, or why there are none
 abbrev pub FindsScript : NamedBus → Reading → Result (Vec Event Global) Row → Type 0
-FindsScript bus script (Ok events) = ReadsAs (events_of bus.nodes) script events.items × AreEvents bus events.items
+FindsScript bus script (Ok events) = ReadsLinesAs (events_of bus.nodes) script events.items × AreEvents bus events.items
 FindsScript bus script (Err row) = LacksLines (events_of bus.nodes) script row
 
 -- the events that the seed of a trial gives, or want of memory
