@@ -24,6 +24,9 @@
  *   - one image, one plan and one task at a time for a store;
  *   - one cell for a Data ID and direction, and one route; no other route uses the cell.
  *
+ * As measured of one build: a send takes 9.9 KB of code with all that it calls and 0.8 KB of stack on x86-64, 6.6 KB and 0.8 KB on
+ * ARM64; a load 14.4 KB and 2.1 KB, 9.1 KB and 2.1 KB.
+ *
  * How it is used (examples/c/control_unit.c does all of it):
  *
  *     static uint8_t image[RATHONSI_STORE_SIZE(2)];                                                     // power-up

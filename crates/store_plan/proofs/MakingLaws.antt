@@ -1,12 +1,11 @@
 -- The image of a fresh store, cell by cell.
-use Rattle.std.proofs.Common.{◌≡◌, ◌≢◌, ℕ, ◌+◌, ◌*◌, ◌<◌, ◌≤◌, ◌⊎◌, inl, inr, Some, List, [], ◌∷◌, ◌++◌, length, take, drop, get_or, replicate, refl, sym, ap, subst, ◌∙◌, arith, length-append}
+use Rattle.std.proofs.Common.{◌≡◌, ◌≢◌, ℕ, ◌+◌, ◌*◌, ◌<◌, ◌≤◌, ◌⊎◌, inl, inr, Some, List, [], ◌++◌, length, take, drop, replicate, refl, sym, ap, subst, ◌∙◌, arith, length-append}
 use Rattle.std.specs.List.{flat_map}
 use Rattle.std.proofs.lemmas.Bool.{cases_lt}
 use Rattle.std.proofs.lemmas.List.{get_or-replicate, length-replicate, take_all}
 use Rattle.cut_disk.specs.Images.{splice}
 use Rattle.cut_disk.specs.Splices.{splice-beside, length-splice}
 use Rattle.cell_store.specs.declared.kinds.Version.TheVariants.{One}
-use Rattle.cell_store.specs.declared.kinds.Kind.TheVariants.{Twin}
 use Rattle.cell_store.specs.Layout.{SameOutside, part, header, twin_layout}
 use Rattle.cell_store.specs.Twin.{first_at, second_at, cell_of, cell_at, fresh_cell}
 use Rattle.cell_store.specs.Store.{fresh_cells, fresh_store}

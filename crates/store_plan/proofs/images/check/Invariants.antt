@@ -1,4 +1,4 @@
-use Rattle.std.proofs.Common.{◌≡◌, ◌<◌, ℕ, IsSome}
+use Rattle.std.proofs.Common.{◌<◌, ℕ, IsSome}
 use Rattle.cell_store.specs.Twin.{cell_at}
 use Rattle.store_plan.proofs.images.check.Given as goal
 

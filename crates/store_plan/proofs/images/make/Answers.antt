@@ -1,4 +1,4 @@
-use Rattle.std.proofs.Common.{◌≡◌, ◌+◌, ◌*◌, ◌≤◌, length, ap, ◌∙◌, arith}
+use Rattle.std.proofs.Common.{length, ap, ◌∙◌, arith}
 use Rattle.store_plan.proofs.MakingLaws.{made_none, made_more, made_all, length_made, length_cell}
 use Rattle.store_plan.proofs.images.make.Goals as goal
 

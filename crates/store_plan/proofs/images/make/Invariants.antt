@@ -1,4 +1,4 @@
-use Rattle.std.proofs.Common.{◌≡◌, ◌≤◌, length}
+use Rattle.std.proofs.Common.{◌≡◌, length}
 use Rattle.store_plan.proofs.MakingLaws.{MadeSoFar}
 use Rattle.store_plan.proofs.images.make.Given as goal
 

@@ -1,4 +1,4 @@
-use Rattle.std.proofs.Common.{◌≡◌, ◌≢◌, ℕ, Some, List, length, sym, ap, subst, ◌∙◌, arith, rules}
+use Rattle.std.proofs.Common.{◌≡◌, ℕ, List, length, ap, ◌∙◌, arith, rules}
 use Rattle.cut_disk.specs.Images.{splice}
 use Rattle.cell_store.specs.Twin.{first_at, fresh_cell, cell_at}
 use Rattle.cell_store.proofs.FreshLaws.{length-fresh_cell}

@@ -1,4 +1,4 @@
-use Rattle.std.proofs.Common.{◌≡◌, length, sym, ap, ◌∙◌, length-take-le}
+use Rattle.std.proofs.Common.{length, sym, ap, ◌∙◌, length-take-le}
 use Rattle.cell_store.specs.declared.kinds.Version.TheVariants.{One}
 use Rattle.cell_store.specs.Layout.{header, twin_layout}
 use Rattle.cell_store.proofs.StoreLaws.{length-header}
