@@ -18,6 +18,9 @@ fn bad_entry(alloc: Global, held: &[(usize, [u8; 32])]) -> Result<Option<u16>, F
             *at = *cell;
         }
     }
+    if cells.len() != 256 {
+        return Err(Fail::from("a ledger has 256 cells"));
+    }
     match Ledger::attach(store_of(alloc, &cells)?) {
         Ok(_) => Ok(None),
         Err(refused) => Ok(Some(refused.entry)),

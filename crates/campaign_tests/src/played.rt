@@ -168,6 +168,7 @@ fn slot_of(act: Act) -> Option<SlotId> {
 }
 
 /// The store of these 256 cells.
+#[tactic(auto, unfolding(campaign_machine::specs::Entries::place_count))]
 pub fn store_of(alloc: Global, cells: &[[u8; 32]]) -> Result<Store, Fail>
     requires { length cells.now ≡ 256 }
     ensures count { IfOk result (λ s. length s.cells ≡ place_count) }
