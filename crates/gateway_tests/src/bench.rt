@@ -1,6 +1,5 @@
 //! A gateway over either store in memory, and the player of tables.
-ghost use Rattle.std.specs.Prelude.{◌≡◌, ◌+◌, length, false, IfOk};
-ghost use Rattle.cell_store.specs.Store.{FewCells};
+ghost use Rattle.std.specs.Prelude.{◌≡◌, ◌+◌, ◌≤◌, length};
 
 use any_cells::AnyCells;
 use cell_store::{Kind, Reread, Version};
@@ -119,23 +118,22 @@ fn config(alloc: Global, ways: &[Way]) -> Result<NodeConfig, Fail> {
     Ok(config)
 }
 
-fn store(
+fn attached(
     alloc: Global,
     kind: Kind,
     version: Version,
-    cells: &[[u8; 32]],
-) -> Result<AnyCells<MemDisk>, Fail>
-    requires { FewCells (length cells.now) }
-    ensures count { IfOk result (λ store. length (AnyCells.state store).cells ≡ length cells.now) }
-    ensures whole { IfOk result (λ store. (AnyCells.state store).broken ≡ false) }
+    config: NodeConfig,
+    disk: MemDisk,
+    count: u16,
+) -> Result<Node<AnyCells<MemDisk>>, Fail>
+    requires count { count ≡ 14 + length config.routes }
+    requires few { count ≤ 270 }
 {
-    let disk = MemDisk::new(alloc, 65_000)?;
-    let disk = match AnyCells::format_as(disk, kind, version, cells) {
-        Ok(disk) => disk,
-        Err(refused) => return Err(Fail::from(refused.fault)),
-    };
-    match AnyCells::attach_as(alloc, disk, kind, version, cells.len() as u16) {
-        Ok(store) => Ok(store),
+    match AnyCells::attach_as(alloc, disk, kind, version, count) {
+        Ok(cells) => match Node::attach(alloc, config, cells) {
+            Ok(node) => Ok(node),
+            Err(refused) => Err(Fail::from(refused.fault)),
+        },
         Err(refused) => Err(Fail::from(refused.fault)),
     }
 }
@@ -145,9 +143,9 @@ pub fn node(alloc: Global, shape: Shape, ways: &[Way]) -> Result<Node<AnyCells<M
     let config = config(alloc, ways)?;
     let mut cells = [[0; 32]; 270];
     let count = first_cells(&config, &mut cells);
-    let store = store(alloc, shape.0, shape.1, &cells[..count])?;
-    match Node::attach(alloc, config, store) {
-        Ok(node) => Ok(node),
+    let disk = MemDisk::new(alloc, 65_000)?;
+    match AnyCells::format_as(disk, shape.0, shape.1, &cells[..count]) {
+        Ok(disk) => attached(alloc, shape.0, shape.1, config, disk, count as u16),
         Err(refused) => Err(Fail::from(refused.fault)),
     }
 }
