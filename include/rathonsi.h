@@ -33,7 +33,7 @@ extern "C" {
 #endif
 
 /* The version of this header and of rathonsi_store.h: major times 65536, minor times 256, patch. */
-#define RATHONSI_VERSION 0x000200u
+#define RATHONSI_VERSION 0x000600u
 
 /* The statuses. Where several could come, the first of this list does. */
 
@@ -85,7 +85,8 @@ int32_t rathonsi_secoc_protect_in_place(const uint8_t *key, size_t key_length, u
                                         uint8_t *pdu, size_t pdu_length, size_t payload_length);
 
 /* What a receiver says of a PDU. Where status is RATHONSI_OK the payload is the first payload_length bytes of the PDU, and freshness is
- * the receiver's next counter; else both are 0, and the counter stays. */
+ * the receiver's next counter; else both are 0 (but for the freshness that RATHONSI_RESERVE of rathonsi_store.h tells), and the counter
+ * stays. */
 typedef struct RathonsiVerdict {
     int32_t status;
     uint32_t payload_length;

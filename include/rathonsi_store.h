@@ -8,17 +8,21 @@
  *
  * Each function is an export of the crate rathonsi_c, whose contract is proved: each status comes exactly where it is said below, of
  * several the first that the call names, and with a status other than RATHONSI_OK every output is as before (but for what
- * rathonsi_route_receive says of RATHONSI_RESERVE). And it is proved of a caller that keeps what it owes, over all that it may do with a
- * store of several routes and slots, and wherever within a write the power goes: the freshness sent under a Data ID strictly rises, so
- * does the freshness accepted, and both stay at most the bound on the device; an update that was confirmed stays until another update of
- * its slot is planned; and no filled slot becomes empty.
+ * rathonsi_route_receive says of RATHONSI_RESERVE). And it is proved of a caller that keeps what it owes, over all lives with a store of
+ * several routes and slots, wherever within a write the power goes: whatever it sends, accepts, reserves, loads, finishes or drops with the
+ * calls below, of routes that are opened at power-up and whose other fields stay as they are, the freshness sent under a Data ID strictly
+ * rises, so does the freshness accepted, and both stay at most the bound on the device; an update that was confirmed is confirmed by the
+ * same reply until another update of its slot is planned; and no filled slot becomes empty.
  *
  * What the caller owes, beside what rathonsi.h says:
  *   - the image is what the device holds, but for a plan that isn't done yet: it is read from the device at power-up, and only the
- *     functions below change image, plan and the counters of routes;
+ *     functions below change image, plan and the counters of routes (rathonsi_store_make and rathonsi_route_make before the first
+ *     power-up alone);
+ *   - what is read at power-up is durable, and reads the same ever after: a device with a cache is synced before it is read, else what
+ *     a write that failed has left may be read, relied on, and then be gone;
  *   - the writes of a plan are done in their order, each durable before the next begins. A write that is durable stays. A write within
- *     which the power goes may leave anything in its own bytes, and changes no other byte. Memory that rewrites whole pages or sectors
- *     (NOR flash, many EEPROMs, eMMC) keeps this only behind an emulation that does;
+ *     which the power goes may leave anything in its own bytes, and changes no other byte. Memory that rewrites whole words, pages or
+ *     sectors (memory with error correction over words, NOR flash, many EEPROMs, eMMC) keeps this only behind an emulation that does;
  *   - a plan that was begun is done, or the power-up is: where one of its writes fails, no further one is made and no other call, and
  *     all begins again as at power-up. A plan of which no write was begun may be dropped (zeroed);
  *   - one image, one plan and one task at a time for a store;
@@ -42,12 +46,13 @@
  *     }
  *     status = rathonsi_route_send(&speed, image, sizeof image, payload, 8u, pdu, sizeof pdu);
  *     if (status == RATHONSI_RESERVE) {                                                                 // then send again; or
- *         rathonsi_route_reserve(&speed, speed.counter + 1u, image, sizeof image, &plan); do_plan(); }  // ahead, in the background
+ *         rathonsi_route_reserve(&speed, speed.counter + 1u, image, sizeof image, &plan); do_plan(); }  // ahead, see there
  *     verdict = rathonsi_route_receive(&brake, image, sizeof image, pdu, pdu_length);
  *     if (verdict.status == RATHONSI_RESERVE) {                                                         // then receive again
  *         rathonsi_route_reserve(&brake, verdict.freshness, image, sizeof image, &plan); do_plan(); }
- *     status = rathonsi_slot_load(uid, booted, &request, image, sizeof image, &plan); do_plan();        // load a key,
- *     status = rathonsi_slot_confirm(uid, request.m1, image, sizeof image, &reply);                     // and answer
+ *     status = rathonsi_slot_load(uid, booted, &request, image, sizeof image, &plan);                   // load a key,
+ *     if (status == RATHONSI_OK) {                                                                      // and answer
+ *         do_plan(); status = rathonsi_slot_confirm(uid, request.m1, image, sizeof image, &reply); }
  */
 #ifndef RATHONSI_STORE_H
 #define RATHONSI_STORE_H
@@ -101,13 +106,15 @@ typedef struct RathonsiPlan {
 #define RATHONSI_SENDS 1u
 #define RATHONSI_RECEIVES 2u
 
-/* A Data ID in one direction. The caller fills in all but the counter, once. */
+/* A Data ID in one direction. The caller fills in all but the counter. */
 typedef struct RathonsiRoute {
     uint64_t counter;  /* the last freshness that was sent or accepted; rathonsi_route_open sets it */
     uint16_t data_id;
     uint16_t cell;     /* of its bound, from RATHONSI_SLOT_CELLS on */
-    uint16_t reserve;  /* how far a reserve moves the bound, 1 to 128: the most that a power cut makes a sender skip */
-    uint16_t window;   /* how far above its counter a receiver accepts freshness, 1 to 256; 1 for a sender */
+    uint16_t reserve;  /* how far a reserve moves the bound, 1 to 128. A power cut makes a sender skip what is reserved and not sent, and
+                          a receiver refuse what is reserved and not accepted */
+    uint16_t window;   /* how far above its counter a receiver accepts freshness, 1 to 256, and at least what its sender may skip at a
+                          power cut, else it may never accept again; 1 for a sender */
     uint8_t slot;      /* of its key, 4 to 13 */
     uint8_t direction; /* RATHONSI_SENDS or RATHONSI_RECEIVES */
     uint8_t booted;    /* 1 after a secure boot that succeeded in this life, else 0 */
@@ -129,7 +136,7 @@ int32_t rathonsi_route_make(const RathonsiRoute *route, uint64_t bound, uint8_t 
  * RATHONSI_BAD_LENGTH: as above. RATHONSI_NO_STORE, RATHONSI_DAMAGED. */
 int32_t rathonsi_store_check(const uint8_t *image, size_t image_length);
 
-/* Says that all writes of the plan are durable: brings the image up to date, and empties the plan. Of an empty plan it does nothing.
+/* Says that all writes of the plan are durable: brings the image up to date, and empties the plan. Of a plan of zero bytes it does nothing.
  * RATHONSI_BAD_VALUE: a write reaches beyond the image, or has more than 40 bytes. */
 int32_t rathonsi_store_done(uint8_t *image, size_t image_length, RathonsiPlan *plan);
 
@@ -140,7 +147,8 @@ int32_t rathonsi_store_done(uint8_t *image, size_t image_length, RathonsiPlan *p
 int32_t rathonsi_route_open(RathonsiRoute *route, const uint8_t *image, size_t image_length);
 
 /* Plans the bound that covers this freshness and reserve - 1 more, at most 2^64 - 1. The plan stays empty where the bound in the image is
- * as high already.
+ * as high already. Who reserves ahead, in the background, does so when the counter comes near the freshness that was reserved last, and then
+ * from that freshness on: a freshness that is one higher each time makes a plan each time, and wears the device.
  * RATHONSI_BUSY; RATHONSI_BAD_VALUE, RATHONSI_DAMAGED: as above. */
 int32_t rathonsi_route_reserve(const RathonsiRoute *route, uint64_t freshness, const uint8_t *image, size_t image_length,
                                RathonsiPlan *plan);

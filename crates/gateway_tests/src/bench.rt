@@ -1,5 +1,6 @@
 //! A gateway over either store in memory, and the player of tables.
 ghost use Rattle.std.specs.Prelude.{◌≡◌, ◌+◌, ◌≤◌, length};
+ghost use Rattle.cell_store.specs.Store.{FewCells};
 
 use any_cells::AnyCells;
 use cell_store::{Kind, Reread, Version};
@@ -138,16 +139,24 @@ fn attached(
     }
 }
 
+/// A disk with a store of these cells.
+fn formatted(alloc: Global, shape: Shape, cells: &[[u8; 32]]) -> Result<MemDisk, Fail>
+    requires { FewCells (length cells.now) }
+{
+    let disk = MemDisk::new(alloc, 65_000)?;
+    match AnyCells::format_as(disk, shape.0, shape.1, cells) {
+        Ok(disk) => Ok(disk),
+        Err(refused) => Err(Fail::from(refused.fault)),
+    }
+}
+
 /// A new node with these routes.
 pub fn node(alloc: Global, shape: Shape, ways: &[Way]) -> Result<Node<AnyCells<MemDisk>>, Fail> {
     let config = config(alloc, ways)?;
     let mut cells = [[0; 32]; 270];
     let count = first_cells(&config, &mut cells);
-    let disk = MemDisk::new(alloc, 65_000)?;
-    match AnyCells::format_as(disk, shape.0, shape.1, &cells[..count]) {
-        Ok(disk) => attached(alloc, shape.0, shape.1, config, disk, count as u16),
-        Err(refused) => Err(Fail::from(refused.fault)),
-    }
+    let disk = formatted(alloc, shape, &cells[..count])?;
+    attached(alloc, shape.0, shape.1, config, disk, count as u16)
 }
 
 fn gateway(

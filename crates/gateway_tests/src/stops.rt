@@ -1,5 +1,7 @@
 //! A disk that stops at each call of an arrival, with each kind of cut: the arrival is spent as soon as it is told, and nothing departs
 //! twice with one freshness.
+ghost use Rattle.std.specs.Prelude.{◌≤◌};
+
 use crate::bench::{Act, Answer, Given, Row, SHAPES, plays};
 use crate::runs::{AFTER_CUT, FIRST_IN, FIRST_KEY, FIRST_OUT, GATE, IN, PAIR, SECOND_IN, START};
 use cell_store::Kind;
@@ -107,7 +109,9 @@ const KINDS_OF_CUTS: [(Torn, bool, bool, bool); 5] = [
 ];
 
 /// Which rows hold where the disk stops at this call, where a put makes so many calls, of which the last two leave what the cut leaves.
-fn rows(calls: u64, put: u64, arrived: bool, departed: bool) -> &'static [Row] {
+fn rows(calls: u64, put: u64, arrived: bool, departed: bool) -> &'static [Row]
+    requires { (calls ≤ 13) × (put ≤ 6) }
+{
     if calls > 2 * put {
         BEHIND_BOTH
     } else if calls > put {
