@@ -4,25 +4,56 @@
 //! handed the words, the files, standard input and standard output.
 #![tactic(auto)]
 
-use bus_port::{StdSink, StdSource};
+ghost use Rattle.std.specs.Prelude.{◌<◌, ◌≤◌, drop, length, map, string_bytes};
+ghost use Rattle.trace_audit.specs.Rows.{AuditInputs};
+ghost use Rattle.trace_audit.specs.Audits.{Audits};
+ghost use Rattle.trace_audit.specs.Named.{AreNamed, IsExampleAudit};
+
+use bus_port::{Sink, Source, StdSink, StdSource};
 use command_edge::{NO_MEMORY, behind_name, words_of};
-use named_sources::Paths;
-use std::alloc::AllocError;
+use named_sources::{Opener, Paths};
+use std::alloc::{AllocError, Global};
 use std::process::ExitCode;
 use trace_audit::audit_words;
 
 fn main(rt: HostRuntime) -> ExitCode {
     let mut sink = StdSink::new(rt.stdout());
     let status = match words_of(&rt) {
-        Ok(words) => audit_words(
+        Ok(words) => start(
             rt.alloc(),
             &Paths::of(&rt),
             StdSource::new(rt.stdin()),
             StdSource::new(rt.stdin()),
-            behind_name(words.as_slice()),
+            words.as_slice(),
             &mut sink,
         ),
         Err(AllocError) => NO_MEMORY,
     };
     ExitCode::from(status)
+}
+
+/// Audits what the words of the command line name, the program's name first, or the example where there is none behind
+/// it.
+fn start<O: Opener, I: Source + Drop, K: Sink>(
+    alloc: Global,
+    opener: &O,
+    map_input: I,
+    log_input: I,
+    words: &[String],
+    sink: &mut K,
+) -> u8
+    ensures example { length words.now < 2 → (i : AuditInputs) × IsExampleAudit i
+        × Audits i (record { before = K.state sink.old; after = K.state sink.new; status = result }) }
+    ensures words { 2 ≤ length words.now → (i : AuditInputs)
+        × AreNamed (O.opens opener.now) (I.state map_input) (I.state log_input) (drop 1 (map string_bytes words.now)) i
+        × Audits i (record { before = K.state sink.old; after = K.state sink.new; status = result }) }
+{
+    audit_words(
+        alloc,
+        opener,
+        map_input,
+        log_input,
+        behind_name(words),
+        sink,
+    )
 }

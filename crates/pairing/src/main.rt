@@ -5,24 +5,47 @@
 //! is handed the words, the files, standard input and standard output.
 #![tactic(auto)]
 
-use bus_port::{StdSink, StdSource};
+ghost use Rattle.std.specs.Prelude.{◌<◌, ◌≤◌, drop, length, map, string_bytes};
+ghost use Rattle.pdu_collection.specs.Rows.{PairingInputs};
+ghost use Rattle.pdu_collection.specs.Pairs.{RunsPairs};
+ghost use Rattle.pdu_collection.specs.Named.{ScriptIsNamed, IsExampleScript};
+
+use bus_port::{Sink, Source, StdSink, StdSource};
 use command_edge::{NO_MEMORY, behind_name, words_of};
-use named_sources::Paths;
+use named_sources::{Opener, Paths};
 use pdu_collection::pair_words;
-use std::alloc::AllocError;
+use std::alloc::{AllocError, Global};
 use std::process::ExitCode;
 
 fn main(rt: HostRuntime) -> ExitCode {
     let mut sink = StdSink::new(rt.stdout());
     let status = match words_of(&rt) {
-        Ok(words) => pair_words(
+        Ok(words) => start(
             rt.alloc(),
             &Paths::of(&rt),
             StdSource::new(rt.stdin()),
-            behind_name(words.as_slice()),
+            words.as_slice(),
             &mut sink,
         ),
         Err(AllocError) => NO_MEMORY,
     };
     ExitCode::from(status)
+}
+
+/// Answers the script that the words of the command line name, the program's name first, or the example where there is
+/// none behind it.
+fn start<O: Opener, I: Source + Drop, K: Sink>(
+    alloc: Global,
+    opener: &O,
+    input: I,
+    words: &[String],
+    sink: &mut K,
+) -> u8
+    ensures example { length words.now < 2 → (i : PairingInputs) × IsExampleScript i
+        × RunsPairs i (record { before = K.state sink.old; after = K.state sink.new; status = result }) }
+    ensures words { 2 ≤ length words.now → (i : PairingInputs)
+        × ScriptIsNamed (O.opens opener.now) (I.state input) (drop 1 (map string_bytes words.now)) i
+        × RunsPairs i (record { before = K.state sink.old; after = K.state sink.new; status = result }) }
+{
+    pair_words(alloc, opener, input, behind_name(words), sink)
 }
