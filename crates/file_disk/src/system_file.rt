@@ -6,7 +6,7 @@ ghost use Rattle.file_disk.specs.SystemFile.{is_there, length_of, has_failed};
 use crate::byte_file::{ByteFile, FileFailed};
 use std::fs::{File, OpenOptions};
 use std::io::ErrorKind;
-use std::os::unix::fs::FileExt;
+use std::os::unix::fs::{FileExt, OpenOptionsExt};
 use std::path::Path;
 use std::{fs, io};
 
@@ -194,12 +194,13 @@ fn is_protection(kind: ErrorKind) -> bool {
     )
 }
 
-/// Makes a file of zero bytes, or leaves none.
+/// Makes a file of zero bytes, or leaves none. Its owner alone may read it, since keys will stand in it.
 fn made(rt: &HostRuntime, path: &str) -> io::Result<File> {
     let file = OpenOptions::new()
         .read(true)
         .write(true)
         .create_new(true)
+        .mode(0o600)
         .open(rt, path)?;
     let file = locked(file)?;
     match file.set_len(FIRST_SIZE) {
