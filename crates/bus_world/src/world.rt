@@ -14,7 +14,7 @@ use std::marker::Model;
 /// their disks, how many events there were and may be, and the lines that were sent.
 ///
 /// A step takes no memory. It finds the line that a `deliver` names by halving, and the event that sent what is
-/// accepted along links whose number grows with the logarithm of the lines of its Data ID.
+/// accepted along links, of which few are needed (measured, and no clause).
 #[derive(Drop)]
 pub struct World<D: CutDisk> {
     pub(crate) nodes: Vec<Node<AnyCells<D>>>,

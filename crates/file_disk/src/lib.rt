@@ -7,7 +7,7 @@
 //! [`SystemFile`] is a file of the system, and the trusted edge: no clause says what such a file holds, or when
 //! its calls fail. A read is `pread`, a write `fstat` and `pwrite`, a sync `fstat` and `fsync`, each again until the whole range is done or
 //! a call fails; opening is `stat`, `open` and `flock`, `ftruncate` where the file is made, and `fsync` of the file and of its folder.
-//! That a file whose write or sync failed isn't asked again is proved.
+//! That each call fails after a write or a sync of the file failed is proved.
 #![tactic(auto)]
 
 mod byte_file;

@@ -8,8 +8,8 @@ pub fn forwards_what_arrived()
     ensures { RunsForwardWhatArrived }
 {}
 
-/// The freshness of what arrives under one Data ID strictly rises, over all that was forwarded, dropped or accepted: no PDU is forwarded
-/// twice, and payloads keep their order.
+/// The freshness of what arrives under one Data ID strictly rises, over all that was forwarded, dropped or accepted: no freshness is
+/// forwarded twice, and payloads keep their order.
 pub fn arrivals_rise()
     ensures { ArrivalsRise }
 {}

@@ -280,7 +280,7 @@ fn answer(judgement: Judgement, bound: u64, payload: &[u8]) -> RathonsiVerdict
     }
 }
 
-/// JudgesPdu a PDU of 5 to 64 bytes. `OK`: it is accepted, and its freshness becomes the counter. `RESERVE`: its authenticator agrees, and
+/// Judges a PDU of 5 to 64 bytes. `OK`: it is accepted, and its freshness becomes the counter. `RESERVE`: its authenticator agrees, and
 /// the same call accepts it once its freshness is reserved. `BAD_LENGTH`, `BAD_VALUE`, `DAMAGED`, `KEY_EMPTY`, `KEY_INVALID`,
 /// `KEY_NOT_AVAILABLE`, `FRESHNESS_FAILURE`, `VERIFICATION_FAILURE`: the first that applies.
 #[unsafe(no_mangle)]

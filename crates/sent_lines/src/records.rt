@@ -12,8 +12,8 @@ use byte_lists::Pdu;
 pub(crate) struct Links {
     /// The latest of them.
     pub(crate) last: u32,
-    /// One of them, mostly further back: along both links any earlier line is reached in steps whose number grows with
-    /// the logarithm of `depth`.
+    /// One of them, mostly further back: along both links any earlier line is meant to be reached in steps whose number
+    /// grows with the logarithm of `depth` (measured, and no clause).
     pub(crate) far: u32,
     /// How many there are.
     pub(crate) depth: u32,
