@@ -1,6 +1,7 @@
 /* Nanoseconds of a send and of a receive over the image of a store, beside rathonsi_secoc_protect and rathonsi_secoc_verify alone, and, with
    -DAES_INSTRUCTIONS (and -maes), beside the same two in C over the processor's AES instructions. Each call expands its key, as a control
-   unit without kept schedules does. The payload has 8 bytes. */
+   unit without kept schedules does. The payload has 8 bytes. Each is timed in turn, 400 rounds of 5,000 calls, of which the best counts: so
+   other work on the machine shows little. */
 #include <stdint.h>
 #include <stdio.h>
 #include <stdlib.h>
@@ -9,7 +10,7 @@
 
 #include "rathonsi_store.h"
 
-enum { ROUNDS = 7, CALLS = 100000, PAYLOAD = 8, PDU = PAYLOAD + 4, ID = 0x1234 };
+enum { ROUNDS = 400, CALLS = 5000, PAYLOAD = 8, PDU = PAYLOAD + 4, ID = 0x1234 };
 
 static const uint8_t key[16] = {0x2b, 0x7e, 0x15, 0x16, 0x28, 0xae, 0xd2, 0xa6, 0xab, 0xf7, 0x15, 0x88, 0x09, 0xcf, 0x4f, 0x3c};
 static uint8_t image[RATHONSI_STORE_SIZE(2)], pdus[CALLS][PDU], payload[PAYLOAD];
@@ -143,18 +144,6 @@ static void c_verify(void)
 }
 #endif
 
-static void time_of(const char *name, void (*calls)(void))
-{
-    double best = 1e18;
-    for (int i = 0; i < ROUNDS; i++) {
-        double begin = now();
-        calls();
-        double took = now() - begin;
-        if (took < best) best = took;
-    }
-    printf("%-44s %6.0f ns/call\n", name, best / CALLS);
-}
-
 static void make_store(void)
 {
     uint8_t empty[16], uid[15] = {1};
@@ -174,17 +163,29 @@ static void make_store(void)
         stop("no store");
 }
 
+static struct { const char *name; void (*calls)(void); double best; } timed[] = {
+    {"rathonsi_route_send", send, 1e18},
+    {"rathonsi_secoc_protect", protect, 1e18},
+    {"rathonsi_route_receive", receive, 1e18},
+    {"rathonsi_secoc_verify", verify, 1e18},
+#ifdef AES_INSTRUCTIONS
+    {"protect in C over AES instructions", c_protect, 1e18},
+    {"verify in C over AES instructions", c_verify, 1e18},
+#endif
+};
+enum { TIMED = sizeof timed / sizeof timed[0] };
+
 int main(void)
 {
     make_store();
-    time_of("rathonsi_route_send", send);
-    time_of("rathonsi_secoc_protect", protect);
-    time_of("rathonsi_route_receive", receive);
-    time_of("rathonsi_secoc_verify", verify);
-#ifdef AES_INSTRUCTIONS
-    time_of("protect in C over AES instructions", c_protect);
-    time_of("verify in C over AES instructions", c_verify);
-    receive(); /* what C made is what the store accepts */
-#endif
+    for (int round = 0; round < ROUNDS; round++)
+        for (int i = 0; i < TIMED; i++) {
+            double begin = now();
+            timed[i].calls();
+            double took = now() - begin;
+            if (took < timed[i].best) timed[i].best = took;
+        }
+    for (int i = 0; i < TIMED; i++) printf("%-44s %6.0f ns/call\n", timed[i].name, timed[i].best / CALLS);
+    receive(); /* what was made last, in C where there are AES instructions, is what the store accepts */
     return 0;
 }

@@ -17,7 +17,7 @@
  *
  * Builds: bin/build_c makes the archive for x86-64 (its level v2, from SSE4.2 on) or ARM64; there is no target of 32 bits. A program
  * without a C library gives it memcpy, memmove and memset, and it wants nothing else. As measured of one build with what
- * rathonsi_store.h declares: 24.8 KB of code and 1.1 KB of constants on x86-64, 18.6 KB and 0.8 KB on ARM64, of which a linker keeps
+ * rathonsi_store.h declares: 24.9 KB of code and 1.1 KB of constants on x86-64, 18.7 KB and 0.8 KB on ARM64, of which a linker keeps
  * what is called; 0.3 KB (AES) to 1.5 KB (rathonsi_she_confirm) of stack on both.
  *
  * Lengths are in bytes. A key has 16 bytes. All numbers within PDUs and messages are big-endian; a caller never sees them.
@@ -33,7 +33,7 @@ extern "C" {
 #endif
 
 /* The version of this header and of rathonsi_store.h: major times 65536, minor times 256, patch. */
-#define RATHONSI_VERSION 0x000600u
+#define RATHONSI_VERSION 0x000700u
 
 /* The statuses. Where several could come, the first of this list does. */
 

@@ -12,6 +12,11 @@
  *     forgets_done      does a plan, and plans anew without saying that it is done
  *     two_tasks         another task sends with an image, a plan and a route of its own
  *     two_cells         two routes send under one Data ID
+ *     drops_begun       drops a plan of which writes are done, and goes on
+ *     goes_on           goes on with a plan of which a write failed
+ *     loses_writes      its device loses, where power goes, the write before, which was durable
+ *     reads_loose       it reads at power-up what a write that was cut has left in a cache, and what is gone in the next life
+ *     opens_nothing     it opens no route after a power-up, whose counters are then zero
  */
 #include <stdio.h>
 #include <stdlib.h>
@@ -20,9 +25,11 @@
 #include "rathonsi_store.h"
 
 enum { ROUTES = 4, SENDERS = 2, SLOT = 4, MASTER = 1, PAGE = 64 };
-enum duty { KEEPS_ALL, SAYS_DONE_FIRST, GATE_FIRST, REWRITES_PAGES, FORGETS_DONE, TWO_TASKS, TWO_CELLS, DUTIES };
+enum duty { KEEPS_ALL, SAYS_DONE_FIRST, GATE_FIRST, REWRITES_PAGES, FORGETS_DONE, TWO_TASKS, TWO_CELLS, DROPS_BEGUN, GOES_ON,
+            LOSES_WRITES, READS_LOOSE, OPENS_NOTHING, DUTIES };
 static const char *const duty_names[DUTIES] = {"", "says_done_first", "gate_first", "rewrites_pages", "forgets_done", "two_tasks",
-                                               "two_cells"};
+                                               "two_cells", "drops_begun", "goes_on", "loses_writes", "reads_loose",
+                                               "opens_nothing"};
 
 /* The control unit: all that it has in RAM, and its device. */
 static uint8_t image[RATHONSI_STORE_SIZE(ROUTES)];
@@ -33,6 +40,9 @@ static enum duty broken;
 static uint8_t other_image[sizeof image]; /* of another task, where there is one */
 static RathonsiPlan other_plan;
 static RathonsiRoute other_route;
+static RathonsiWrite lost;  /* what the last write wrote over */
+static RathonsiWrite loose; /* what a write that was cut wrote over, and in how many lives that is back */
+static int loose_lives;
 
 static const uint8_t uid[15] = {1, 2, 3, 4, 5, 6, 7, 8, 9, 10, 11, 12, 13, 14, 15};
 static const uint8_t master[16] = {15, 14, 13, 12, 11, 10, 9, 8, 7, 6, 5, 4, 3, 2, 1, 0};
@@ -44,7 +54,9 @@ static RathonsiUpdate confirmed; /* the last update that was confirmed */
 static RathonsiUpdate loading;   /* the one that is being loaded */
 static int is_loading;
 static const char *harm;
-static long sent, accepted, replayed, done, loaded, cuts, loaded_by_cut;
+static uint8_t pdu_in[RATHONSI_PDU_MOST]; /* the PDU that came last */
+static size_t pdu_in_length;
+static long sent, accepted, again, replayed, done, loaded, cuts, loaded_by_cut;
 
 static uint32_t random_state = 2463534242u;
 
@@ -76,12 +88,20 @@ static void read_file(uint32_t offset, uint8_t *bytes, size_t length) {
     }
 }
 
-/* Power goes within a write: of its bytes anything is left. */
+/* Power goes within a write: of its bytes anything is left. In half of the cases it is cut at a byte: those before are written. */
 static void tear(const RathonsiWrite *write) {
     uint8_t bytes[sizeof write->bytes];
+    uint32_t whole = draw(2) == 0 ? draw(write->length + 1) : UINT32_MAX;
     read_file(write->offset, bytes, write->length);
+    if (broken == READS_LOOSE) {
+        loose = *write;
+        loose_lives = 2;
+        memcpy(loose.bytes, bytes, sizeof bytes);
+        write_file(write->offset, write->bytes, write->length);
+        return;
+    }
     for (uint32_t i = 0; i < write->length; i++) {
-        uint32_t what = draw(4);
+        uint32_t what = whole == UINT32_MAX ? draw(4) : i < whole ? 0 : i == whole ? 1 : 3;
         if (what == 0)
             bytes[i] = write->bytes[i];
         else if (what == 1)
@@ -97,17 +117,33 @@ static void tear(const RathonsiWrite *write) {
     write_file(write->offset, bytes, write->length);
 }
 
+static void write_durably(const RathonsiWrite *write) {
+    lost = *write;
+    read_file(write->offset, lost.bytes, write->length);
+    write_file(write->offset, write->bytes, write->length);
+}
+
 /* ---- The control unit ---- */
+
+/* The bound is what the counter is then, so who sends to a receiver begins there. */
+static void open_route(int which) {
+    expect(rathonsi_route_open(&routes[which], image, sizeof image) == RATHONSI_OK, "a bound is damaged");
+    expect(routes[which].counter >= highest[which], "a counter fell back");
+    if (far_end[which] < routes[which].counter)
+        far_end[which] = routes[which].counter;
+}
 
 static void power_up(void) {
     read_file(0, image, sizeof image);
     memset(&plan, 0, sizeof plan);
     expect(rathonsi_store_check(image, sizeof image) == RATHONSI_OK, "the store is damaged");
     for (int i = 0; i < ROUTES; i++) {
-        expect(rathonsi_route_open(&routes[i], image, sizeof image) == RATHONSI_OK, "a bound is damaged");
-        expect(routes[i].counter >= highest[i], "a counter fell back");
-        if (far_end[i] < routes[i].counter)
-            far_end[i] = routes[i].counter;
+        routes[i].reserve = (uint16_t)(i == 0 ? 1 : 1 + draw(128)); /* another one in each life */
+        routes[i].booted = (uint8_t)draw(2);
+        if (broken == OPENS_NOTHING && cuts > 0)
+            routes[i].counter = 0;
+        else
+            open_route(i);
     }
     memcpy(other_image, image, sizeof image);
     memset(&other_plan, 0, sizeof other_plan);
@@ -132,6 +168,10 @@ static void confirm(void) {
 
 static void cut_power(void) {
     cuts++;
+    if (broken == LOSES_WRITES)
+        write_file(lost.offset, lost.bytes, lost.length);
+    if (loose_lives > 0 && --loose_lives == 0)
+        write_file(loose.offset, loose.bytes, loose.length);
     power_up();
     confirm();
 }
@@ -160,13 +200,14 @@ static int32_t send_on(int which, RathonsiRoute *route, const uint8_t *from) {
 static int32_t receive_on(int which, uint64_t *wanted) {
     RathonsiRoute *route = &routes[which];
     RathonsiRoute before = *route;
-    uint8_t payload[8] = {9}, pdu[12];
+    uint8_t payload[8] = {9};
     int old = draw(4) == 0;
     uint64_t freshness = far_end[which] + 1 + draw(3);
     if (old)
         freshness = highest[which] - draw((uint32_t)(highest[which] < 60 ? highest[which] + 1 : 60));
-    rathonsi_secoc_protect(confirmed.key, 16, route->data_id, freshness, payload, sizeof payload, pdu, sizeof pdu);
-    RathonsiVerdict verdict = rathonsi_route_receive(route, image, sizeof image, pdu, sizeof pdu);
+    pdu_in_length = sizeof payload + RATHONSI_TRAILER;
+    rathonsi_secoc_protect(confirmed.key, 16, route->data_id, freshness, payload, sizeof payload, pdu_in, sizeof pdu_in);
+    RathonsiVerdict verdict = rathonsi_route_receive(route, image, sizeof image, pdu_in, pdu_in_length);
     *wanted = verdict.freshness;
     if (verdict.status != RATHONSI_OK)
         expect(memcmp(&before, route, sizeof before) == 0, "a refused call changed its route");
@@ -187,14 +228,29 @@ static int32_t receive_on(int which, uint64_t *wanted) {
     return verdict.status;
 }
 
-/* Does the plan: three writes at most, each durable before the next. 0 where the power went. */
-static int do_plan(void) {
+/* The PDU that came last, once more: its freshness is reserved now. */
+static void receive_again(int which, uint64_t freshness) {
+    RathonsiVerdict verdict = rathonsi_route_receive(&routes[which], image, sizeof image, pdu_in, pdu_in_length);
+    expect(verdict.status == RATHONSI_OK && verdict.freshness == freshness, "a PDU that was reserved for isn't accepted");
+    highest[which] = freshness;
+    accepted++;
+    again++;
+}
+
+enum outcome { POWER_WENT, DROPPED, DONE };
+
+/* Does the plan: three writes at most, each durable before the next. Now and then it is dropped before the first. */
+static enum outcome do_plan(void) {
     static const int in_order[3] = {0, 1, 2}, gate_before[3] = {0, 2, 1};
     const int *order = broken == GATE_FIRST ? gate_before : in_order;
     RathonsiPlan todo = plan;
     if (broken == SAYS_DONE_FIRST) {
         rathonsi_store_done(image, sizeof image, &plan);
         send_on(0, &routes[0], image);
+    }
+    if (broken != SAYS_DONE_FIRST && draw(50) == 0) {
+        memset(&plan, 0, sizeof plan);
+        return DROPPED;
     }
     for (int i = 0; i < 3; i++) {
         const RathonsiWrite *write = &todo.writes[order[i]];
@@ -204,27 +260,34 @@ static int do_plan(void) {
             send_on(1, &routes[1], image); /* other work goes on meanwhile */
         if (draw(12) == 0) {
             tear(write);
-            return 0;
+            if (broken != GOES_ON)
+                return POWER_WENT;
+        } else
+            write_durably(write);
+        if (broken == DROPS_BEGUN && draw(4) == 0) {
+            memset(&plan, 0, sizeof plan);
+            return DROPPED;
         }
-        write_file(write->offset, write->bytes, write->length);
     }
     done++;
     if (broken == FORGETS_DONE && draw(3) == 0) {
         memset(&plan, 0, sizeof plan);
-        return 1;
+        return DONE;
     }
     expect(rathonsi_store_done(image, sizeof image, &plan) == RATHONSI_OK, "a plan reaches beyond the image");
-    return 1;
+    return DONE;
 }
 
-static void reserve(int which, uint64_t freshness) {
+static enum outcome reserve(int which, uint64_t freshness) {
     int32_t status = rathonsi_route_reserve(&routes[which], freshness, image, sizeof image, &plan);
     expect(status == RATHONSI_OK, "a bound isn't planned");
     if (plan.writes[1].length == 0)
-        return;
+        return DONE;
     expect(rathonsi_route_reserve(&routes[which], freshness, image, sizeof image, &plan) == RATHONSI_BUSY, "a plan is planned over");
-    if (!do_plan())
+    enum outcome outcome = do_plan();
+    if (outcome == POWER_WENT)
         cut_power();
+    return outcome;
 }
 
 static void do_other_task(void) {
@@ -252,13 +315,14 @@ static void load_key(void) {
     rathonsi_slot_confirm(uid, request.m1, image, sizeof image, &reply);
     expect(memcmp(&reply, &wanted, sizeof reply) != 0, "a key is confirmed before it is durable");
     is_loading = 1;
-    if (!do_plan()) {
+    enum outcome outcome = do_plan();
+    if (outcome == POWER_WENT)
         cut_power();
+    is_loading = 0;
+    if (outcome != DONE)
         return;
-    }
     rathonsi_slot_confirm(uid, request.m1, image, sizeof image, &reply);
     expect(memcmp(&reply, &wanted, sizeof reply) == 0, "a key that was loaded isn't confirmed");
-    is_loading = 0;
     confirmed = loading;
     loaded++;
     expect(rathonsi_slot_load(uid, 0, &request, image, sizeof image, &plan) == RATHONSI_KEY_UPDATE_ERROR, "an old update is taken again");
@@ -315,23 +379,30 @@ static void make_store(void) {
 
 static void one_event(void) {
     int which = (int)draw(ROUTES);
-    uint64_t wanted = routes[which].counter + 1;
+    uint64_t wanted;
     int32_t status = RATHONSI_RESERVE;
+    int received = 0;
     if (draw(300) == 0) {
         cut_power();
         return;
     }
+    if (draw(400) == 0) /* opened again within a life */
+        open_route(which);
+    wanted = routes[which].counter + 1;
     if (draw(200) == 0) {
         load_key();
         return;
     }
     if (broken == TWO_TASKS && draw(20) == 0)
         do_other_task();
-    if (draw(6) != 0) /* else ahead of need */
-        status = which < SENDERS ? send_on(broken == TWO_CELLS ? 0 : which, &routes[which], image) : receive_on(which, &wanted);
-    if (status == RATHONSI_RESERVE)
-        reserve(which, wanted);
-    else
+    if (draw(6) != 0) { /* else ahead of need */
+        received = which >= SENDERS;
+        status = received ? receive_on(which, &wanted) : send_on(broken == TWO_CELLS ? 0 : which, &routes[which], image);
+    }
+    if (status == RATHONSI_RESERVE) {
+        if (reserve(which, wanted) == DONE && received && broken != FORGETS_DONE)
+            receive_again(which, wanted);
+    } else
         expect(status == RATHONSI_OK, "a call is refused");
 }
 
@@ -353,8 +424,8 @@ int main(int count, char **words) {
         n++;
     }
     fclose(device);
-    printf("%ld events: sent %ld, accepted %ld, replays refused %ld, plans done %ld, keys loaded %ld and %ld by a cut, power cuts %ld\n",
-           n, sent, accepted, replayed, done, loaded, loaded_by_cut, cuts);
+    printf("%ld events: sent %ld, accepted %ld, %ld of them once their freshness was reserved, replays refused %ld, plans done %ld, "
+           "keys loaded %ld and %ld by a cut, power cuts %ld\n", n, sent, accepted, again, replayed, done, loaded, loaded_by_cut, cuts);
     printf("%s%s%s\n", duty_names[broken], broken == KEEPS_ALL ? "" : ": ", harm != NULL ? harm : "no harm");
     return (harm != NULL) == (broken != KEEPS_ALL) ? 0 : 1;
 }

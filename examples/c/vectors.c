@@ -89,6 +89,7 @@ static void pdus(void) {
     for (int i = 0; i < 3; i++) {
         uint8_t pdu[64];
         size_t length = rows[i].length;
+        memset(pdu, 0xaa, sizeof pdu);
         is(rathonsi_secoc_protect(key, 16, 0x6bc1, rows[i].freshness, text + 2, length, pdu, 64), RATHONSI_OK, "protect");
         same(pdu + length, rows[i].trailer, "PDU");
         is(memcmp(pdu, text + 2, length), 0, "payload");
@@ -98,8 +99,30 @@ static void pdus(void) {
         RathonsiVerdict verdict = rathonsi_secoc_verify(key, 16, 0x6bc1, rows[i].freshness - 256, 256, pdu, length + 4);
         is(verdict.status, RATHONSI_OK, "verify");
         is(verdict.payload_length == length && verdict.freshness == rows[i].freshness, 1, "verdict");
-        verdict = rathonsi_secoc_verify(key, 16, 0x6bc1, rows[i].freshness - 256, 255, pdu, length + 4);
-        is(verdict.status, RATHONSI_FRESHNESS_FAILURE, "verify outside the window");
+        for (size_t at = length + 4; at < sizeof pdu; at++)
+            is(pdu[at], 0xaa, "a byte behind the PDU");
+    }
+}
+
+/* the counter and the window of a receiver, and its verdict on the first PDU above */
+static void verdicts(void) {
+    static const struct { uint64_t counter; uint16_t window; int32_t status; } rows[7] = {
+        {UINT64_C(0xe93d7e1173931729), 1, RATHONSI_OK},
+        {UINT64_C(0xe93d7e117393162a), 256, RATHONSI_OK},
+        {UINT64_C(0xe93d7e1173931728), 1, RATHONSI_FRESHNESS_FAILURE},
+        {UINT64_C(0xe93d7e117393162a), 255, RATHONSI_FRESHNESS_FAILURE},
+        {UINT64_C(0xe93d7e117393172a), 256, RATHONSI_VERIFICATION_FAILURE},
+        {UINT64_C(0xe93d7e1173931729), 0, RATHONSI_BAD_VALUE},
+        {UINT64_C(0xe93d7e1173931729), 257, RATHONSI_BAD_VALUE},
+    };
+    for (int i = 0; i < 7; i++) {
+        uint8_t pdu[10];
+        int is_accepted = rows[i].status == RATHONSI_OK;
+        read_hex("bee22e409f962a070a16", pdu);
+        RathonsiVerdict verdict = rathonsi_secoc_verify(key, 16, 0x6bc1, rows[i].counter, rows[i].window, pdu, 10);
+        is(verdict.status, rows[i].status, "verdict");
+        is((int32_t)verdict.payload_length, is_accepted ? 6 : 0, "payload of a verdict");
+        is(verdict.freshness == (is_accepted ? UINT64_C(0xe93d7e117393172a) : 0), 1, "freshness of a verdict");
     }
 }
 
@@ -137,6 +160,7 @@ int main(void) {
     modes();
     macs();
     pdus();
+    verdicts();
     update_of_the_example();
     printf("%d comparisons, %d failures\n", vectors, failures);
     return failures != 0;

@@ -134,6 +134,8 @@ int main(void) {
     verifies(16, 10, 0, RATHONSI_BAD_VALUE);
     verifies(16, 10, 257, RATHONSI_BAD_VALUE);
     verifies(16, 10, 1, RATHONSI_FRESHNESS_FAILURE);
+    verifies(16, 4, 257, RATHONSI_BAD_LENGTH);
+    keys(15, 3, RATHONSI_BAD_LENGTH);
     keys(16, 0, RATHONSI_BAD_VALUE);
     keys(16, 2, RATHONSI_OK);
     keys(16, 3, RATHONSI_BAD_VALUE);

@@ -26,7 +26,7 @@ ends-low Twin n few = let m = few.most in omega arith
 ends-low Log n few = let m = few.most in omega arith
 
 -- bytes that stand in version 2 and aren't loose are their only image
-in-two : (kind : Kind) (cells : List (List ℕ)) (bytes : List ℕ) (new : Option Told) → new ≡ Some (firm bytes) → Stands (layout kind Two) bytes cells → EachImage new (StandsInTwo kind cells)
+pub in-two : (kind : Kind) (cells : List (List ℕ)) (bytes : List ℕ) (new : Option Told) → new ≡ Some (firm bytes) → Stands (layout kind Two) bytes cells → EachImage new (StandsInTwo kind cells)
 in-two kind cells bytes new is stands t told x image =
     let e : t ≡ firm bytes = same_Some _ _ (sym told ∙ is) in
     let f : x ≡ bytes = image_of_firm (subst (λ (u : Told). Image u x) e image) in

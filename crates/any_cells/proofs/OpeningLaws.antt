@@ -49,7 +49,7 @@ header-room Log version n size room small = absurd (let no : ⊥ = omega (arith,
 
 -- ---- what a format that fails may leave is also what was there before, and a fresh store
 
-unformed-same : (laid : Layout) (cells : List (List ℕ)) (b : List ℕ) → Unformed laid cells b b
+pub unformed-same : (laid : Layout) (cells : List (List ℕ)) (b : List ℕ) → Unformed laid cells b b
 unformed-same laid cells b = record {
   besides = SameOutside-refl (base laid.version) (size_from_base laid.kind (length cells)) b;
   within = inl (SameOutside-refl (base laid.version) 32 b);
@@ -69,7 +69,7 @@ unformed-fresh kind version cells b y sized room fresh =
     }
 
 -- every image of told bytes without a loose one is these bytes
-only-image : (P : List ℕ → Type 0) (b : List ℕ) (t : Told) (x : List ℕ) → t ≡ firm b → P b → Image t x → P x
+pub only-image : (P : List ℕ → Type 0) (b : List ℕ) (t : Told) (x : List ℕ) → t ≡ firm b → P b → Image t x → P x
 only-image P b t x is holds image = subst P (sym (image_of_firm (subst (λ (s : Told). Image s x) is image))) holds
 
 -- ---- what attaching read
@@ -155,6 +155,7 @@ module _ (kind : Kind) (version : Version) (cells : List (List ℕ)) (before : D
 
   pub small : (after : DiskState) → after ≡ before → before.size < store_size laid n → NoneOpened after store.TooSmall
   small after same less = record {
+    room = λ other. absurd (other refl);
     runs = subst (Runs [] (open_calls kind n) before) (sym same) (runs_more (open_calls kind n) (omega arith) (runs_none before));
     cause = (less, same);
     kept = λ t told not. ap (λ (s : DiskState). s.told) same;
@@ -167,6 +168,7 @@ module _ (kind : Kind) (version : Version) (cells : List (List ℕ)) (before : D
   not-probed after (store.Damaged i) room why = absurd why
   not-probed after store.Memory room why = absurd why
   not-probed after store.DiskFailed room why = record {
+    room = λ _. room;
     runs = runs_more (open_calls kind n) (omega arith) why.1.runs;
     cause = why.1.rose;
     kept = λ t told not. why.1.told;
@@ -186,6 +188,7 @@ module _ (kind : Kind) (version : Version) (cells : List (List ℕ)) (before : D
     not-formed after (store.Damaged i) why unformed = absurd why
     not-formed after store.Memory why unformed = absurd why
     not-formed after store.DiskFailed why unformed = record {
+      room = λ _. room;
       runs = runs_more (open_calls kind n) (omega arith) (runs_join probed.as_before.runs why.2);
       cause = subst (λ m. Rose m after.faults) probed.as_before.faults why.1;
       kept = λ t told not. absurd (not (is-blank t told));
@@ -221,6 +224,7 @@ module _ (kind : Kind) (version : Version) (cells : List (List ℕ)) (before : D
       made-not-attached after fault why bytes =
           let read = only-read kind version n formed after fault why in
           record {
+            room = λ _. room;
             runs = runs_join probed.as_before.runs (runs_join runs read.runs);
             cause = cause-made after fault why;
             kept = λ t told not. absurd (not (is-blank t told));
@@ -248,6 +252,7 @@ module _ (kind : Kind) (version : Version) (cells : List (List ℕ)) (before : D
     found-not-attached after fault why =
         let read = only-read kind version n mid after fault why in
         record {
+          room = λ _. room;
           runs = runs_more (open_calls kind n) (omega arith) (runs_join probed.as_before.runs read.runs);
           cause = cause-found after fault why;
           kept = λ t told not. read.told ∙ probed.as_before.told;

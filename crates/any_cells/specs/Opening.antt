@@ -1,5 +1,5 @@
 -- What opening a store answers and leaves: one that stands on the disk, or a new one where the disk is blank
-use Rattle.std.specs.Prelude.{◌≡◌, ℕ, ◌+◌, ◌<◌, ◌≤◌, false, Some, List, [], length}
+use Rattle.std.specs.Prelude.{◌≡◌, ◌≢◌, ℕ, ◌+◌, ◌<◌, ◌≤◌, false, Some, List, [], length}
 use Rattle.cut_disk.specs.State.{DiskState, Told}
 use Rattle.cut_disk.specs.Images.{firm}
 use Rattle.cut_disk.specs.Calls.{Rose, Runs, Grows}
@@ -61,8 +61,10 @@ NoStoreCause layout cells before after (store.Damaged i) =
     × ((t : Told) → before.told ≡ Some t
     → HasHeader layout (length cells) t.bytes × FirstDamaged layout t.bytes (length cells) i)
 
--- no store is open: what told bytes weren't blank are as they were, and of blank ones a format was begun at most
+-- no store is open: there was room but for `TooSmall`, told bytes that weren't blank are as they were, and of blank ones a
+-- format was begun at most
 pub record NoStoreOpened (layout : Layout) (cells : List (List ℕ)) (before after : DiskState) (fault : StoreFault) : Type 0 where
+  pub room : fault ≢ store.TooSmall → store_size layout (length cells) ≤ before.size
   pub runs : Runs [] (open_calls layout.kind (length cells)) before after
   pub cause : NoStoreCause layout cells before after fault
   pub kept : (t : Told) → before.told ≡ Some t → (IsBlank layout.version t.bytes → ⊥) → after.told ≡ before.told

@@ -5,8 +5,6 @@ pub mod laws;
 mod looking;
 mod migrating;
 mod opening;
-#[cfg(test)]
-mod tests;
 
 ghost use Rattle.std.specs.Prelude.{◌≡◌, ◌≤◌, [], length, OnOk, IfOk, IfErr};
 ghost use Rattle.cut_disk.specs.Calls.{Runs, Grows};

@@ -1,5 +1,5 @@
 // A look at a disk, before a store is attached to it or made on it.
-ghost use Rattle.std.specs.Prelude.{◌≡◌, ◌↔◌, ◌≤◌, ℕ, IsTrue, Some, List, OnOk, OnErr, IfOk};
+ghost use Rattle.std.specs.Prelude.{◌≡◌, ◌≢◌, ◌↔◌, ◌≤◌, ℕ, IsTrue, Some, List, OnOk, OnErr, IfOk};
 ghost use Rattle.cut_disk.specs.State.{Told};
 ghost use Rattle.cell_store.specs.declared.kinds.Kind.{Kind};
 ghost use Rattle.cell_store.specs.declared.kinds.Version.{Version};
@@ -30,7 +30,8 @@ pub enum Found {
 }
 
 /// Looks what the disk has for this store, of 1 to 1024 cells, for which it has room. It reads 32 bytes
-/// at 32768, where the disk has them, and 32 at 0, and writes nothing.
+/// at 32768, where the disk has them, and 32 at 0, and writes nothing. An older store is found for
+/// version 2 alone, also where the disk doesn't tell its bytes.
 pub fn look<D: Disk>(
     disk: &mut D,
     kind: Kind,
@@ -41,6 +42,7 @@ pub fn look<D: Disk>(
     requires room { store_size (layout kind version) cells ≤ (D.state disk.old).size }
     ensures found { IfOk result (λ found. (t : Told) → (D.state disk.old).told ≡ Some t
         → IsFound kind version cells t.bytes found) }
+    ensures older { IfOk result (λ found. found ≡ Found.Older → version ≡ Two) }
     ensures as_before { OnOk result (ReadOnly 2 (D.state disk.old) (D.state disk.new)) }
     ensures failed { OnErr result (ReadFailed 2 (D.state disk.old) (D.state disk.new)) }
 {
@@ -66,7 +68,8 @@ fn header_at<D: Disk>(disk: &mut D, version: Version) -> Result<Probe, DiskFaile
 /// What is found for this store, by what stands at 32768 and at 0.
 fn found_as(kind: Kind, version: Version, cells: u16, high: Probe, low: Probe) -> Found
     requires { FewCells cells }
-    ensures { (x : List ℕ) → Probes Two (part 0 32 (from_base Two x)) high
+    ensures older { result ≡ Found.Older → version ≡ Two }
+    ensures found { (x : List ℕ) → Probes Two (part 0 32 (from_base Two x)) high
         → Probes One (part 0 32 (from_base One x)) low → IsFound kind version cells x result }
 {
     match version {
@@ -78,7 +81,8 @@ fn found_as(kind: Kind, version: Version, cells: u16, high: Probe, low: Probe) -
 /// What is found for this store of version 1, by what stands at 32768 and at 0.
 fn found_as_one(kind: Kind, cells: u16, high: Probe, low: Probe) -> Found
     requires { FewCells cells }
-    ensures { (x : List ℕ) → Probes Two (part 0 32 (from_base Two x)) high
+    ensures never_older { result ≢ Found.Older }
+    ensures found { (x : List ℕ) → Probes Two (part 0 32 (from_base Two x)) high
         → Probes One (part 0 32 (from_base One x)) low → IsFound kind One cells x result }
 {
     if is_store(high, kind, cells) {

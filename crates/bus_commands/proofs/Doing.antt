@@ -20,9 +20,9 @@ use Rattle.bus_commands.specs.declared.words.WorldCommand.TheVariants.{Replay, T
 use Rattle.bus_commands.specs.Tasks.{Task, frame, judge, check, replay}
 use Rattle.bus_commands.specs.Texts.{Prints}
 use Rattle.bus_commands.specs.Inputs.{BusInputs, Over, SetsWorld}
-use Rattle.bus_commands.specs.StartRows.{DiskStates}
-use Rattle.bus_commands.specs.Rows.{ComesOfInputs, no_script, done, ComesInRun, without_disks, not_started, tried, tried_without_memory, EndsRun, in_row, replayed}
-use Rattle.bus_commands.specs.Steps.{IsJobOf, Prepares, TellsLines, DoesLines, told, no_text, DoesTrial, refused_trial, summed, no_summary, DoesReplay, refused_replay, first_done, DoesAsked}
+use Rattle.bus_commands.specs.StartRows.{DiskStates, CommandDisks}
+use Rattle.bus_commands.specs.Rows.{ComesOfInputs, no_script, done, ComesInRun, without_disks, not_started, tried, tried_without_memory, EndsCommand, in_row, replayed}
+use Rattle.bus_commands.specs.Steps.{IsJobOf, Prepares, TellsLines, AnswersLines, told, no_text, AnswersTrial, refused_trial, summed, no_summary, AnswersReplay, refused_replay, first_done, AnswersWorld}
 
 -- ---- lines
 
@@ -43,40 +43,40 @@ Prints-job (replay bus) read (Judgements lines) text is tells = absurd is
 Prints-job (replay bus) read (Events over events) text is tells = absurd is
 
 -- what was prepared, and then told
-Comes-lines : (i : BusInputs) (job : LineJob) → Over i (λ task input. IsJobOf task input job) → (row : Row) → DoesLines job row → ComesOfInputs i row
+Comes-lines : (i : BusInputs) (job : LineJob) → Over i (λ task input. IsJobOf task input job) → (row : Row) → AnswersLines job row → ComesOfInputs i row
 Comes-lines i job (task, set, (read, whole, is)) row (told text tells) = done text (task, set, (read, whole, Prints-job task read job text is tells))
 Comes-lines i job (task, set, (read, whole, is)) row no_text = no_script input.Memory (task, set, Lacks-whole i.script read whole)
 
-module _ {same : Type 0} where
-  pub ends_lines : (i : BusInputs) (d : DiskStates) (e : Ending) (job : LineJob) → same → Prepares i (Ok (Lines job)) → EndsInRow (DoesLines job) e → EndsRun same i d e
+module _ {V : Type 0} where
+  pub ends_lines : (i : BusInputs) (d : CommandDisks V) (e : Ending) (job : LineJob) → d.new ≡ d.old → Prepares i (Ok (Lines job)) → EndsInRow (AnswersLines job) e → EndsCommand i d e
   ends_lines i d e job as_before prepared ends =
       in_row (EndsInRow-more (λ row comes. without_disks row (Comes-lines i job prepared.1 row comes) as_before) ends)
 
   -- a refusal
-  pub ends_refused : (i : BusInputs) (d : DiskStates) (e : Ending) (row : Row) → same → ComesOfInputs i row → EndsInRow (λ other. other ≡ row) e → EndsRun same i d e
+  pub ends_refused : (i : BusInputs) (d : CommandDisks V) (e : Ending) (row : Row) → d.new ≡ d.old → ComesOfInputs i row → EndsInRow (λ other. other ≡ row) e → EndsCommand i d e
   ends_refused i d e row as_before comes ends =
       in_row (EndsInRow-more (λ other is. without_disks other (subst (ComesOfInputs i) (sym is) comes) as_before) ends)
 
   -- ---- a bus
 
-  Comes-trial : (i : BusInputs) (d : DiskStates) (bus : NamedBus) (events : List Event) (trial : TrialWords) → IsNamedBus bus → SetsWorld i (Trial trial) bus events
-      → (row : Row) → DoesTrial bus events d row → ComesInRun same i d row
+  Comes-trial : (i : BusInputs) (d : CommandDisks V) (bus : NamedBus) (events : List Event) (trial : TrialWords) → IsNamedBus bus → SetsWorld i (Trial trial) bus events
+      → (row : Row) → AnswersTrial bus events d.states row → ComesInRun i d row
   Comes-trial i d bus events trial is set row (refused_trial _ comes) = not_started row (Trial trial, bus, events, set, (is, comes))
   Comes-trial i d bus events trial is set row (summed summary ran) = tried summary (trial, bus, events, set, ran)
   Comes-trial i d bus events trial is set row (no_summary summary ran) = tried_without_memory summary (trial, bus, events, set, ran)
 
-  ends_asked : (i : BusInputs) (d : DiskStates) (e : Ending) (c : WorldCommand) (bus : NamedBus) (events : List Event) → IsNamedBus bus → SetsWorld i c bus events
-      → DoesAsked c bus events d e → EndsRun same i d e
+  ends_asked : (i : BusInputs) (d : CommandDisks V) (e : Ending) (c : WorldCommand) (bus : NamedBus) (events : List Event) → IsNamedBus bus → SetsWorld i c bus events
+      → AnswersWorld c bus events d.states e → EndsCommand i d e
   ends_asked i d e Replay bus events is set (refused_replay ends) =
       in_row (EndsInRow-more (λ row comes. not_started row (Replay, bus, events, set, (is, comes))) ends)
   ends_asked i d e Replay bus events is set (first_done result ran) = replayed result (bus, events, set, ran)
   ends_asked i d e (Trial trial) bus events is set ends = in_row (EndsInRow-more (Comes-trial i d bus events trial is set) ends)
 
-  pub ends_world : (i : BusInputs) (d : DiskStates) (e : Ending) (job : WorldJob) → Prepares i (Ok (World job)) → DoesAsked job.command job.bus job.events.items d e
-      → EndsRun same i d e
+  pub ends_world : (i : BusInputs) (d : CommandDisks V) (e : Ending) (job : WorldJob) → Prepares i (Ok (World job)) → AnswersWorld job.command job.bus job.events.items d.states e
+      → EndsCommand i d e
   ends_world i d e job prepared does = ends_asked i d e job.command job.bus job.events.items prepared.0.0 prepared.1 does
 
 -- where a replay is asked for
-pub does_replay : (job : WorldJob) (d : DiskStates) (e : Ending) → job.command ≡ Replay → DoesReplay job.bus job.events.items d e
-    → DoesAsked job.command job.bus job.events.items d e
-does_replay job d e is does = subst (λ (c : WorldCommand). DoesAsked c job.bus job.events.items d e) (sym is) does
+pub does_replay : (job : WorldJob) (d : DiskStates) (e : Ending) → job.command ≡ Replay → AnswersReplay job.bus job.events.items d e
+    → AnswersWorld job.command job.bus job.events.items d e
+does_replay job d e is does = subst (λ (c : WorldCommand). AnswersWorld c job.bus job.events.items d e) (sym is) does

@@ -8,7 +8,7 @@ use Rattle.text_lines.specs.Texts.{fault_text_of}
 use Rattle.answer_rows.specs.Rows.{Row, memory_row}
 use Rattle.answer_rows.specs.Inputs.{IsUnread, CountsFault, CountsTooMuch, Offers}
 use Rattle.answer_rows.specs.Endings.{Ending, EndsInRow, PrintsWhole, SinkFailed, CountsWriteFault}
-use Rattle.answer_rows.specs.EndingLaws.{EndsInRow-at}
+use Rattle.answer_rows.specs.EndingLaws.{EndsInRow-at, EndsInRow-front, EndsInRow-rose, EndsInRow-only, EndsInRow-may, EndsInRow-done}
 use Rattle.numbered_run.specs.declared.printing.Unwritten.{Unwritten}
 use Rattle.numbered_run.specs.declared.printing.Unwritten.TheVariants as unwritten
 use Rattle.bus_config.specs.declared.fault.ConfigFault.{ConfigFault}
@@ -16,23 +16,21 @@ use Rattle.bus_config.specs.FaultTexts.{config_fault_text}
 use Rattle.cell_store.specs.declared.kinds.Kind.TheVariants.{Twin}
 use Rattle.cell_store.specs.declared.kinds.Version.TheVariants.{One}
 use Rattle.bus_nodes.specs.Buses.{NamedBus, IsNamedBus}
+use Rattle.bus_world.specs.declared.start.Start.TheVariants.{Format}
 use Rattle.bus_world.specs.Starts.{HasRoom, FindsRoom}
 use Rattle.bus_world.specs.declared.start.StartFault.{StartFault}
 use Rattle.bus_commands.specs.declared.words.Command.TheVariants.{World}
 use Rattle.bus_commands.specs.declared.words.WorldCommand.TheVariants.{Replay, Trial}
-use Rattle.bus_commands.specs.declared.summary.Summary.{Summary}
 use Rattle.bus_commands.specs.Words.{AsksNothing}
 use Rattle.bus_commands.specs.Tasks.{Task, frame, judge, check, replay}
 use Rattle.bus_commands.specs.Texts.{usage, Prints, fault_of}
-use Rattle.bus_commands.specs.Inputs.{BusInputs, AsksOverBus, AsksWorld, IsConfigFault, NoConfig, NoScript, Over, OverReplay, OverTrial, OverWorld, OffersTask, OffersTrial}
-use Rattle.bus_commands.specs.Summaries.{summary_text}
+use Rattle.bus_commands.specs.Inputs.{BusInputs, AsksOverBus, AsksWorld, IsConfigFault, NoConfig, NoScript, Over, OverWorld, OffersTask, OffersTrial}
 use Rattle.bus_commands.specs.Replays.{written_status}
 use Rattle.bus_world.specs.StartRows.{StoreCause, LeavesEach}
-use Rattle.bus_commands.specs.StartRows.{DiskStates, start_fault_text, ComesOfStart, disks_refused, store_refused, start_without_memory, BusHasDisks}
-use Rattle.bus_commands.specs.Rows.{DoneTrial, DoneReplay, ComesOfInputs, no_form, no_config, config_refused, no_script, script_refused, done, ComesInRun, without_disks, not_started, tried, tried_without_memory, EndsRun, in_row, replayed}
-use Rattle.bus_commands.specs.Commands.{PrintsThe, LeavesDisks, HasDisks, RunsCommand}
+use Rattle.bus_commands.specs.StartRows.{CommandDisks, start_fault_text, ComesOfStart, disks_refused, store_refused, start_without_memory, BusHasDisks}
+use Rattle.bus_commands.specs.Rows.{ReplaysScript, ComesOfInputs, no_form, no_config, config_refused, no_script, script_refused, done, ComesInRun, without_disks, not_started, tried, tried_without_memory, EndsCommand, in_row, replayed}
+use Rattle.bus_commands.specs.Commands.{PrintsThe, PrintsAnswers, PrintsSummary, LeavesDisks, as_before, by_refused_start, by_replay, by_trial, TaskHasDisks, RunsCommand}
 use Rattle.bus_commands.proofs.Asking.{apart}
-use Rattle.bus_commands.proofs.RowEnds.{EndsInRow-front, EndsInRow-rose, EndsInRow-only, EndsInRow-may, EndsInRow-told}
 use Rattle.bus_commands.proofs.RowFacts.{row_tells, told_fault, told_too_much, row_asks, row_refuses, OfTask, row_offered, replay_offered, OfTrial, row_tried, calm_world, bus_or_fault}
 use Rattle.bus_commands.proofs.Refusing.{Comes-leaves, start_without_room, start_complete}
 
@@ -69,394 +67,391 @@ not_low : (n : ℕ) → LowStatus n → (n ≡ 0) ⊎ ((n ≡ 6) ⊎ ((n ≡ 7) 
 not_low n low high = omega (arith, low, high)
 
 -- the status of a bus that doesn't start
-start_status : (same : Type 0) (i : BusInputs) (d : DiskStates) (e : Ending) (bus : NamedBus) (row : Row) → ComesOfStart bus d row → (row.status ≡ 0) ⊎ ((row.status ≡ 6) ⊎ ((row.status ≡ 7) ⊎ ((row.status ≡ 9) ⊎ (row.status ≡ 10))))
-start_status same i d e bus row (disks_refused fault text finds as_before is) = inr (inr (inr (inl refl)))
-start_status same i d e bus row (store_refused fault text room cause left is) = inr (inr (inr (inr refl)))
-start_status same i d e bus row (start_without_memory fault refused) = inr (inr (inl refl))
+start_status : {V : Type 0} (i : BusInputs) (d : CommandDisks V) (e : Ending) (bus : NamedBus) (row : Row) → ComesOfStart bus d.states row → (row.status ≡ 0) ⊎ ((row.status ≡ 6) ⊎ ((row.status ≡ 7) ⊎ ((row.status ≡ 9) ⊎ (row.status ≡ 10))))
+start_status i d e bus row (disks_refused fault text finds same is) = inr (inr (inr (inl refl)))
+start_status i d e bus row (store_refused fault text room cause left is) = inr (inr (inr (inr refl)))
+start_status i d e bus row (start_without_memory fault refused) = inr (inr (inl refl))
 
-row_disks : (same : Type 0) (i : BusInputs) (d : DiskStates) (e : Ending) (row : Row) → ComesInRun same i d row → ¬ AsksWorld i.words → same
-row_disks same i d e row (without_disks _ comes as_before) lacks = as_before
-row_disks same i d e row (not_started _ (c, bus, events, set, comes)) lacks = absurd (lacks (c, set.asks))
-row_disks same i d e row (tried summary (trial, bus, events, set, ran)) lacks = absurd (lacks (Trial trial, set.asks))
-row_disks same i d e row (tried_without_memory summary (trial, bus, events, set, ran)) lacks = absurd (lacks (Trial trial, set.asks))
+row_disks : {V : Type 0} (i : BusInputs) (d : CommandDisks V) (e : Ending) (row : Row) → ComesInRun i d row → ¬ AsksWorld i.words → d.new ≡ d.old
+row_disks i d e row (without_disks _ comes same) lacks = same
+row_disks i d e row (not_started _ (c, bus, events, set, comes)) lacks = absurd (lacks (c, set.asks))
+row_disks i d e row (tried summary (trial, bus, events, set, ran)) lacks = absurd (lacks (Trial trial, set.asks))
+row_disks i d e row (tried_without_memory summary (trial, bus, events, set, ran)) lacks = absurd (lacks (Trial trial, set.asks))
 
-row_unused : (same : Type 0) (i : BusInputs) (d : DiskStates) (e : Ending) (row : Row) → ComesInRun same i d row → LowStatus row.status → same
-row_unused same i d e row (without_disks _ comes as_before) low = as_before
-row_unused same i d e row (not_started _ (c, bus, events, set, comes)) low = absurd (not_low row.status low (start_status same i d e bus row comes.1))
-row_unused same i d e row (tried summary (trial, bus, events, set, ran)) low = absurd (not_low 0 low (inl refl))
-row_unused same i d e row (tried_without_memory summary (trial, bus, events, set, ran)) low = absurd (not_low 7 low (inr (inr (inl refl))))
+row_unused : {V : Type 0} (i : BusInputs) (d : CommandDisks V) (e : Ending) (row : Row) → ComesInRun i d row → LowStatus row.status → d.new ≡ d.old
+row_unused i d e row (without_disks _ comes same) low = same
+row_unused i d e row (not_started _ (c, bus, events, set, comes)) low = absurd (not_low row.status low (start_status i d e bus row comes.1))
+row_unused i d e row (tried summary (trial, bus, events, set, ran)) low = absurd (not_low 0 low (inl refl))
+row_unused i d e row (tried_without_memory summary (trial, bus, events, set, ran)) low = absurd (not_low 7 low (inr (inr (inl refl))))
 
-unused : (same : Type 0) (i : BusInputs) (d : DiskStates) (e : Ending) → EndsInRow (ComesInRun same i d) e → LowStatus e.status → same
-unused same i d e ends low = elim ends.told [
-  | inl (status_is, well) ↦ row_unused same i d e ends.row ends.comes (subst LowStatus status_is low)
+unused : {V : Type 0} (i : BusInputs) (d : CommandDisks V) (e : Ending) → EndsInRow (ComesInRun i d) e → LowStatus e.status → d.new ≡ d.old
+unused i d e ends low = elim ends.told [
+  | inl (status_is, well) ↦ row_unused i d e ends.row ends.comes (subst LowStatus status_is low)
   | inr (six, rose, part) ↦ absurd (not_low e.status low (inr (inl six)))
 ]
 
-row_leaves : (same : Type 0) (i : BusInputs) (d : DiskStates) (e : Ending) (row : Row) → ComesInRun same i d row → LeavesDisks same i d e
-row_leaves same i d e row (without_disks _ comes as_before) = inl as_before
-row_leaves same i d e row (not_started _ (c, bus, events, set, comes)) = inr (inl (c, bus, events, set, Comes-leaves bus d row comes.1))
-row_leaves same i d e row (tried summary (trial, bus, events, set, ran)) = inr (inr (inr (trial, bus, events, set, (summary, ran))))
-row_leaves same i d e row (tried_without_memory summary (trial, bus, events, set, ran)) = inr (inr (inr (trial, bus, events, set, (summary, ran))))
+row_leaves : {V : Type 0} (i : BusInputs) (d : CommandDisks V) (e : Ending) (row : Row) → ComesInRun i d row → LeavesDisks i d e
+row_leaves i d e row (without_disks _ comes same) = as_before same
+row_leaves i d e row (not_started _ (c, bus, events, set, comes)) = by_refused_start (c, bus, events, set, Comes-leaves bus d.states row comes.1)
+row_leaves i d e row (tried summary ran) = by_trial summary ran
+row_leaves i d e row (tried_without_memory summary ran) = by_trial summary ran
 
 -- the rows of each status
 
-inputs_0 : (same : Type 0) (i : BusInputs) (d : DiskStates) (e : Ending) (row : Row) → ComesOfInputs i row → row.status ≡ 0 → PrintsWhole e row.text
-    → Over i (λ task input. (text : List ℕ) × Prints task input text × PrintsWhole e text)
-inputs_0 same i d e row (no_form none config script) is well = absurd (let no : ⊥ = omega (arith, is) in no)
-inputs_0 same i d e row (no_config input.ReadFault of) is well = absurd (let no : ⊥ = omega (arith, is) in no)
-inputs_0 same i d e row (no_config input.TooLong of) is well = absurd (let no : ⊥ = omega (arith, is) in no)
-inputs_0 same i d e row (no_config input.Memory of) is well = absurd (let no : ⊥ = omega (arith, is) in no)
-inputs_0 same i d e row (config_refused fault text asks of told unread) is well = absurd (let no : ⊥ = omega (arith, is) in no)
-inputs_0 same i d e row (no_script input.ReadFault of) is well = absurd (let no : ⊥ = omega (arith, is) in no)
-inputs_0 same i d e row (no_script input.TooLong of) is well = absurd (let no : ⊥ = omega (arith, is) in no)
-inputs_0 same i d e row (no_script input.Memory of) is well = absurd (let no : ⊥ = omega (arith, is) in no)
-inputs_0 same i d e row (script_refused fault of) is well = absurd (let no : ⊥ = omega (arith, is) in no)
-inputs_0 same i d e row (done text (task, set, (read, whole, prints))) is well = (task, set, (read, whole, (text, prints, well)))
+inputs_0 : {V : Type 0} (i : BusInputs) (d : CommandDisks V) (e : Ending) (row : Row) → ComesOfInputs i row → row.status ≡ 0 → PrintsWhole e row.text
+    → PrintsAnswers i e
+inputs_0 i d e row (no_form none config script) is well = absurd (let no : ⊥ = omega (arith, is) in no)
+inputs_0 i d e row (no_config input.ReadFault of) is well = absurd (let no : ⊥ = omega (arith, is) in no)
+inputs_0 i d e row (no_config input.TooLong of) is well = absurd (let no : ⊥ = omega (arith, is) in no)
+inputs_0 i d e row (no_config input.Memory of) is well = absurd (let no : ⊥ = omega (arith, is) in no)
+inputs_0 i d e row (config_refused fault text asks of told unread) is well = absurd (let no : ⊥ = omega (arith, is) in no)
+inputs_0 i d e row (no_script input.ReadFault of) is well = absurd (let no : ⊥ = omega (arith, is) in no)
+inputs_0 i d e row (no_script input.TooLong of) is well = absurd (let no : ⊥ = omega (arith, is) in no)
+inputs_0 i d e row (no_script input.Memory of) is well = absurd (let no : ⊥ = omega (arith, is) in no)
+inputs_0 i d e row (script_refused fault of) is well = absurd (let no : ⊥ = omega (arith, is) in no)
+inputs_0 i d e row (done text (task, set, (read, whole, prints))) is well = (task, set, (read, whole, (text, prints, well)))
 
-inputs_2 : (same : Type 0) (i : BusInputs) (d : DiskStates) (e : Ending) (row : Row) → ComesOfInputs i row → row.status ≡ 2 → PrintsWhole e row.text
+inputs_2 : {V : Type 0} (i : BusInputs) (d : CommandDisks V) (e : Ending) (row : Row) → ComesOfInputs i row → row.status ≡ 2 → PrintsWhole e row.text
     → AsksNothing i.words × IsUnread i.config × IsUnread i.script × PrintsWhole e usage
-inputs_2 same i d e row (no_form none config script) is well = (none, config, script, well)
-inputs_2 same i d e row (no_config input.ReadFault of) is well = absurd (let no : ⊥ = omega (arith, is) in no)
-inputs_2 same i d e row (no_config input.TooLong of) is well = absurd (let no : ⊥ = omega (arith, is) in no)
-inputs_2 same i d e row (no_config input.Memory of) is well = absurd (let no : ⊥ = omega (arith, is) in no)
-inputs_2 same i d e row (config_refused fault text asks of told unread) is well = absurd (let no : ⊥ = omega (arith, is) in no)
-inputs_2 same i d e row (no_script input.ReadFault of) is well = absurd (let no : ⊥ = omega (arith, is) in no)
-inputs_2 same i d e row (no_script input.TooLong of) is well = absurd (let no : ⊥ = omega (arith, is) in no)
-inputs_2 same i d e row (no_script input.Memory of) is well = absurd (let no : ⊥ = omega (arith, is) in no)
-inputs_2 same i d e row (script_refused fault of) is well = absurd (let no : ⊥ = omega (arith, is) in no)
-inputs_2 same i d e row (done text of) is well = absurd (let no : ⊥ = omega (arith, is) in no)
+inputs_2 i d e row (no_form none config script) is well = (none, config, script, well)
+inputs_2 i d e row (no_config input.ReadFault of) is well = absurd (let no : ⊥ = omega (arith, is) in no)
+inputs_2 i d e row (no_config input.TooLong of) is well = absurd (let no : ⊥ = omega (arith, is) in no)
+inputs_2 i d e row (no_config input.Memory of) is well = absurd (let no : ⊥ = omega (arith, is) in no)
+inputs_2 i d e row (config_refused fault text asks of told unread) is well = absurd (let no : ⊥ = omega (arith, is) in no)
+inputs_2 i d e row (no_script input.ReadFault of) is well = absurd (let no : ⊥ = omega (arith, is) in no)
+inputs_2 i d e row (no_script input.TooLong of) is well = absurd (let no : ⊥ = omega (arith, is) in no)
+inputs_2 i d e row (no_script input.Memory of) is well = absurd (let no : ⊥ = omega (arith, is) in no)
+inputs_2 i d e row (script_refused fault of) is well = absurd (let no : ⊥ = omega (arith, is) in no)
+inputs_2 i d e row (done text of) is well = absurd (let no : ⊥ = omega (arith, is) in no)
 
-inputs_3 : (same : Type 0) (i : BusInputs) (d : DiskStates) (e : Ending) (row : Row) → ComesOfInputs i row → row.status ≡ 3 → PrintsWhole e row.text
+inputs_3 : {V : Type 0} (i : BusInputs) (d : CommandDisks V) (e : Ending) (row : Row) → ComesOfInputs i row → row.status ≡ 3 → PrintsWhole e row.text
     → AsksOverBus i.words × IsUnread i.script × ((fault : ConfigFault) × IsConfigFault i.config fault × PrintsThe e (config_fault_text fault))
-inputs_3 same i d e row (no_form none config script) is well = absurd (let no : ⊥ = omega (arith, is) in no)
-inputs_3 same i d e row (no_config input.ReadFault of) is well = absurd (let no : ⊥ = omega (arith, is) in no)
-inputs_3 same i d e row (no_config input.TooLong of) is well = absurd (let no : ⊥ = omega (arith, is) in no)
-inputs_3 same i d e row (no_config input.Memory of) is well = absurd (let no : ⊥ = omega (arith, is) in no)
-inputs_3 same i d e row (config_refused fault text asks of told unread) is well = (asks, unread, (fault, of, (text, told, well)))
-inputs_3 same i d e row (no_script input.ReadFault of) is well = absurd (let no : ⊥ = omega (arith, is) in no)
-inputs_3 same i d e row (no_script input.TooLong of) is well = absurd (let no : ⊥ = omega (arith, is) in no)
-inputs_3 same i d e row (no_script input.Memory of) is well = absurd (let no : ⊥ = omega (arith, is) in no)
-inputs_3 same i d e row (script_refused fault of) is well = absurd (let no : ⊥ = omega (arith, is) in no)
-inputs_3 same i d e row (done text of) is well = absurd (let no : ⊥ = omega (arith, is) in no)
+inputs_3 i d e row (no_form none config script) is well = absurd (let no : ⊥ = omega (arith, is) in no)
+inputs_3 i d e row (no_config input.ReadFault of) is well = absurd (let no : ⊥ = omega (arith, is) in no)
+inputs_3 i d e row (no_config input.TooLong of) is well = absurd (let no : ⊥ = omega (arith, is) in no)
+inputs_3 i d e row (no_config input.Memory of) is well = absurd (let no : ⊥ = omega (arith, is) in no)
+inputs_3 i d e row (config_refused fault text asks of told unread) is well = (asks, unread, (fault, of, (text, told, well)))
+inputs_3 i d e row (no_script input.ReadFault of) is well = absurd (let no : ⊥ = omega (arith, is) in no)
+inputs_3 i d e row (no_script input.TooLong of) is well = absurd (let no : ⊥ = omega (arith, is) in no)
+inputs_3 i d e row (no_script input.Memory of) is well = absurd (let no : ⊥ = omega (arith, is) in no)
+inputs_3 i d e row (script_refused fault of) is well = absurd (let no : ⊥ = omega (arith, is) in no)
+inputs_3 i d e row (done text of) is well = absurd (let no : ⊥ = omega (arith, is) in no)
 
-inputs_4 : (same : Type 0) (i : BusInputs) (d : DiskStates) (e : Ending) (row : Row) → ComesOfInputs i row → row.status ≡ 4 → PrintsWhole e row.text
+inputs_4 : {V : Type 0} (i : BusInputs) (d : CommandDisks V) (e : Ending) (row : Row) → ComesOfInputs i row → row.status ≡ 4 → PrintsWhole e row.text
     → Over i (λ task input. (fault : Fault) × (fault_of task input ≡ Some fault) × PrintsWhole e (fault_text_of fault))
-inputs_4 same i d e row (no_form none config script) is well = absurd (let no : ⊥ = omega (arith, is) in no)
-inputs_4 same i d e row (no_config input.ReadFault of) is well = absurd (let no : ⊥ = omega (arith, is) in no)
-inputs_4 same i d e row (no_config input.TooLong of) is well = absurd (let no : ⊥ = omega (arith, is) in no)
-inputs_4 same i d e row (no_config input.Memory of) is well = absurd (let no : ⊥ = omega (arith, is) in no)
-inputs_4 same i d e row (config_refused fault text asks of told unread) is well = absurd (let no : ⊥ = omega (arith, is) in no)
-inputs_4 same i d e row (no_script input.ReadFault of) is well = absurd (let no : ⊥ = omega (arith, is) in no)
-inputs_4 same i d e row (no_script input.TooLong of) is well = absurd (let no : ⊥ = omega (arith, is) in no)
-inputs_4 same i d e row (no_script input.Memory of) is well = absurd (let no : ⊥ = omega (arith, is) in no)
-inputs_4 same i d e row (script_refused fault (task, set, (read, whole, found))) is well = (task, set, (read, whole, (fault, found, well)))
-inputs_4 same i d e row (done text of) is well = absurd (let no : ⊥ = omega (arith, is) in no)
+inputs_4 i d e row (no_form none config script) is well = absurd (let no : ⊥ = omega (arith, is) in no)
+inputs_4 i d e row (no_config input.ReadFault of) is well = absurd (let no : ⊥ = omega (arith, is) in no)
+inputs_4 i d e row (no_config input.TooLong of) is well = absurd (let no : ⊥ = omega (arith, is) in no)
+inputs_4 i d e row (no_config input.Memory of) is well = absurd (let no : ⊥ = omega (arith, is) in no)
+inputs_4 i d e row (config_refused fault text asks of told unread) is well = absurd (let no : ⊥ = omega (arith, is) in no)
+inputs_4 i d e row (no_script input.ReadFault of) is well = absurd (let no : ⊥ = omega (arith, is) in no)
+inputs_4 i d e row (no_script input.TooLong of) is well = absurd (let no : ⊥ = omega (arith, is) in no)
+inputs_4 i d e row (no_script input.Memory of) is well = absurd (let no : ⊥ = omega (arith, is) in no)
+inputs_4 i d e row (script_refused fault (task, set, (read, whole, found))) is well = (task, set, (read, whole, (fault, found, well)))
+inputs_4 i d e row (done text of) is well = absurd (let no : ⊥ = omega (arith, is) in no)
 
-inputs_5 : (same : Type 0) (i : BusInputs) (d : DiskStates) (e : Ending) (row : Row) → ComesOfInputs i row → row.status ≡ 5 → PrintsWhole e row.text
+inputs_5 : {V : Type 0} (i : BusInputs) (d : CommandDisks V) (e : Ending) (row : Row) → ComesOfInputs i row → row.status ≡ 5 → PrintsWhole e row.text
     → (NoConfig i input.ReadFault ⊎ NoScript i input.ReadFault) × PrintsWhole e (codes "read fault\n")
-inputs_5 same i d e row (no_form none config script) is well = absurd (let no : ⊥ = omega (arith, is) in no)
-inputs_5 same i d e row (no_config input.ReadFault of) is well = (inl of, well)
-inputs_5 same i d e row (no_config input.TooLong of) is well = absurd (let no : ⊥ = omega (arith, is) in no)
-inputs_5 same i d e row (no_config input.Memory of) is well = absurd (let no : ⊥ = omega (arith, is) in no)
-inputs_5 same i d e row (config_refused fault text asks of told unread) is well = absurd (let no : ⊥ = omega (arith, is) in no)
-inputs_5 same i d e row (no_script input.ReadFault of) is well = (inr of, well)
-inputs_5 same i d e row (no_script input.TooLong of) is well = absurd (let no : ⊥ = omega (arith, is) in no)
-inputs_5 same i d e row (no_script input.Memory of) is well = absurd (let no : ⊥ = omega (arith, is) in no)
-inputs_5 same i d e row (script_refused fault of) is well = absurd (let no : ⊥ = omega (arith, is) in no)
-inputs_5 same i d e row (done text of) is well = absurd (let no : ⊥ = omega (arith, is) in no)
+inputs_5 i d e row (no_form none config script) is well = absurd (let no : ⊥ = omega (arith, is) in no)
+inputs_5 i d e row (no_config input.ReadFault of) is well = (inl of, well)
+inputs_5 i d e row (no_config input.TooLong of) is well = absurd (let no : ⊥ = omega (arith, is) in no)
+inputs_5 i d e row (no_config input.Memory of) is well = absurd (let no : ⊥ = omega (arith, is) in no)
+inputs_5 i d e row (config_refused fault text asks of told unread) is well = absurd (let no : ⊥ = omega (arith, is) in no)
+inputs_5 i d e row (no_script input.ReadFault of) is well = (inr of, well)
+inputs_5 i d e row (no_script input.TooLong of) is well = absurd (let no : ⊥ = omega (arith, is) in no)
+inputs_5 i d e row (no_script input.Memory of) is well = absurd (let no : ⊥ = omega (arith, is) in no)
+inputs_5 i d e row (script_refused fault of) is well = absurd (let no : ⊥ = omega (arith, is) in no)
+inputs_5 i d e row (done text of) is well = absurd (let no : ⊥ = omega (arith, is) in no)
 
-inputs_8 : (same : Type 0) (i : BusInputs) (d : DiskStates) (e : Ending) (row : Row) → ComesOfInputs i row → row.status ≡ 8 → PrintsWhole e row.text
+inputs_8 : {V : Type 0} (i : BusInputs) (d : CommandDisks V) (e : Ending) (row : Row) → ComesOfInputs i row → row.status ≡ 8 → PrintsWhole e row.text
     → (NoConfig i input.TooLong ⊎ NoScript i input.TooLong) × PrintsWhole e (codes "input too long\n")
-inputs_8 same i d e row (no_form none config script) is well = absurd (let no : ⊥ = omega (arith, is) in no)
-inputs_8 same i d e row (no_config input.ReadFault of) is well = absurd (let no : ⊥ = omega (arith, is) in no)
-inputs_8 same i d e row (no_config input.TooLong of) is well = (inl of, well)
-inputs_8 same i d e row (no_config input.Memory of) is well = absurd (let no : ⊥ = omega (arith, is) in no)
-inputs_8 same i d e row (config_refused fault text asks of told unread) is well = absurd (let no : ⊥ = omega (arith, is) in no)
-inputs_8 same i d e row (no_script input.ReadFault of) is well = absurd (let no : ⊥ = omega (arith, is) in no)
-inputs_8 same i d e row (no_script input.TooLong of) is well = (inr of, well)
-inputs_8 same i d e row (no_script input.Memory of) is well = absurd (let no : ⊥ = omega (arith, is) in no)
-inputs_8 same i d e row (script_refused fault of) is well = absurd (let no : ⊥ = omega (arith, is) in no)
-inputs_8 same i d e row (done text of) is well = absurd (let no : ⊥ = omega (arith, is) in no)
+inputs_8 i d e row (no_form none config script) is well = absurd (let no : ⊥ = omega (arith, is) in no)
+inputs_8 i d e row (no_config input.ReadFault of) is well = absurd (let no : ⊥ = omega (arith, is) in no)
+inputs_8 i d e row (no_config input.TooLong of) is well = (inl of, well)
+inputs_8 i d e row (no_config input.Memory of) is well = absurd (let no : ⊥ = omega (arith, is) in no)
+inputs_8 i d e row (config_refused fault text asks of told unread) is well = absurd (let no : ⊥ = omega (arith, is) in no)
+inputs_8 i d e row (no_script input.ReadFault of) is well = absurd (let no : ⊥ = omega (arith, is) in no)
+inputs_8 i d e row (no_script input.TooLong of) is well = (inr of, well)
+inputs_8 i d e row (no_script input.Memory of) is well = absurd (let no : ⊥ = omega (arith, is) in no)
+inputs_8 i d e row (script_refused fault of) is well = absurd (let no : ⊥ = omega (arith, is) in no)
+inputs_8 i d e row (done text of) is well = absurd (let no : ⊥ = omega (arith, is) in no)
 
-inputs_7 : (same : Type 0) (i : BusInputs) (d : DiskStates) (e : Ending) (row : Row) → ComesOfInputs i row → row.status ≡ 7 → PrintsWhole e row.text → ComesOfInputs i memory_row × PrintsWhole e []
-inputs_7 same i d e row (no_form none config script) is well = absurd (let no : ⊥ = omega (arith, is) in no)
-inputs_7 same i d e row (no_config input.ReadFault of) is well = absurd (let no : ⊥ = omega (arith, is) in no)
-inputs_7 same i d e row (no_config input.TooLong of) is well = absurd (let no : ⊥ = omega (arith, is) in no)
-inputs_7 same i d e row (no_config input.Memory of) is well = (no_config input.Memory of, well)
-inputs_7 same i d e row (config_refused fault text asks of told unread) is well = absurd (let no : ⊥ = omega (arith, is) in no)
-inputs_7 same i d e row (no_script input.ReadFault of) is well = absurd (let no : ⊥ = omega (arith, is) in no)
-inputs_7 same i d e row (no_script input.TooLong of) is well = absurd (let no : ⊥ = omega (arith, is) in no)
-inputs_7 same i d e row (no_script input.Memory of) is well = (no_script input.Memory of, well)
-inputs_7 same i d e row (script_refused fault of) is well = absurd (let no : ⊥ = omega (arith, is) in no)
-inputs_7 same i d e row (done text of) is well = absurd (let no : ⊥ = omega (arith, is) in no)
+inputs_7 : {V : Type 0} (i : BusInputs) (d : CommandDisks V) (e : Ending) (row : Row) → ComesOfInputs i row → row.status ≡ 7 → PrintsWhole e row.text → ComesOfInputs i memory_row × PrintsWhole e []
+inputs_7 i d e row (no_form none config script) is well = absurd (let no : ⊥ = omega (arith, is) in no)
+inputs_7 i d e row (no_config input.ReadFault of) is well = absurd (let no : ⊥ = omega (arith, is) in no)
+inputs_7 i d e row (no_config input.TooLong of) is well = absurd (let no : ⊥ = omega (arith, is) in no)
+inputs_7 i d e row (no_config input.Memory of) is well = (no_config input.Memory of, well)
+inputs_7 i d e row (config_refused fault text asks of told unread) is well = absurd (let no : ⊥ = omega (arith, is) in no)
+inputs_7 i d e row (no_script input.ReadFault of) is well = absurd (let no : ⊥ = omega (arith, is) in no)
+inputs_7 i d e row (no_script input.TooLong of) is well = absurd (let no : ⊥ = omega (arith, is) in no)
+inputs_7 i d e row (no_script input.Memory of) is well = (no_script input.Memory of, well)
+inputs_7 i d e row (script_refused fault of) is well = absurd (let no : ⊥ = omega (arith, is) in no)
+inputs_7 i d e row (done text of) is well = absurd (let no : ⊥ = omega (arith, is) in no)
 
-inputs_not : (same : Type 0) (i : BusInputs) (d : DiskStates) (e : Ending) (row : Row) → ComesOfInputs i row → (row.status < 9) × (row.status ≢ 6)
-inputs_not same i d e row (no_form none config script) = (omega arith, λ six. omega (arith, six))
-inputs_not same i d e row (no_config input.ReadFault of) = (omega arith, λ six. omega (arith, six))
-inputs_not same i d e row (no_config input.TooLong of) = (omega arith, λ six. omega (arith, six))
-inputs_not same i d e row (no_config input.Memory of) = (omega arith, λ six. omega (arith, six))
-inputs_not same i d e row (config_refused fault text asks of told unread) = (omega arith, λ six. omega (arith, six))
-inputs_not same i d e row (no_script input.ReadFault of) = (omega arith, λ six. omega (arith, six))
-inputs_not same i d e row (no_script input.TooLong of) = (omega arith, λ six. omega (arith, six))
-inputs_not same i d e row (no_script input.Memory of) = (omega arith, λ six. omega (arith, six))
-inputs_not same i d e row (script_refused fault of) = (omega arith, λ six. omega (arith, six))
-inputs_not same i d e row (done text of) = (omega arith, λ six. omega (arith, six))
+inputs_not : {V : Type 0} (i : BusInputs) (d : CommandDisks V) (e : Ending) (row : Row) → ComesOfInputs i row → (row.status < 9) × (row.status ≢ 6)
+inputs_not i d e row (no_form none config script) = (omega arith, λ six. omega (arith, six))
+inputs_not i d e row (no_config input.ReadFault of) = (omega arith, λ six. omega (arith, six))
+inputs_not i d e row (no_config input.TooLong of) = (omega arith, λ six. omega (arith, six))
+inputs_not i d e row (no_config input.Memory of) = (omega arith, λ six. omega (arith, six))
+inputs_not i d e row (config_refused fault text asks of told unread) = (omega arith, λ six. omega (arith, six))
+inputs_not i d e row (no_script input.ReadFault of) = (omega arith, λ six. omega (arith, six))
+inputs_not i d e row (no_script input.TooLong of) = (omega arith, λ six. omega (arith, six))
+inputs_not i d e row (no_script input.Memory of) = (omega arith, λ six. omega (arith, six))
+inputs_not i d e row (script_refused fault of) = (omega arith, λ six. omega (arith, six))
+inputs_not i d e row (done text of) = (omega arith, λ six. omega (arith, six))
 
-row_2 : (same : Type 0) (i : BusInputs) (d : DiskStates) (e : Ending) (row : Row) → ComesInRun same i d row → row.status ≡ 2 → PrintsWhole e row.text
+row_2 : {V : Type 0} (i : BusInputs) (d : CommandDisks V) (e : Ending) (row : Row) → ComesInRun i d row → row.status ≡ 2 → PrintsWhole e row.text
     → AsksNothing i.words × IsUnread i.config × IsUnread i.script × PrintsWhole e usage
-row_2 same i d e row (without_disks _ comes as_before) is well = inputs_2 same i d e row comes is well
-row_2 same i d e row (not_started _ (c, bus, events, set, comes)) is well = absurd (let no : ⊥ = omega (arith, start_status same i d e bus row comes.1, is) in no)
-row_2 same i d e row (tried summary ran) is well = absurd (let no : ⊥ = omega (arith, is) in no)
-row_2 same i d e row (tried_without_memory summary ran) is well = absurd (let no : ⊥ = omega (arith, is) in no)
+row_2 i d e row (without_disks _ comes same) is well = inputs_2 i d e row comes is well
+row_2 i d e row (not_started _ (c, bus, events, set, comes)) is well = absurd (let no : ⊥ = omega (arith, start_status i d e bus row comes.1, is) in no)
+row_2 i d e row (tried summary ran) is well = absurd (let no : ⊥ = omega (arith, is) in no)
+row_2 i d e row (tried_without_memory summary ran) is well = absurd (let no : ⊥ = omega (arith, is) in no)
 
-row_3 : (same : Type 0) (i : BusInputs) (d : DiskStates) (e : Ending) (row : Row) → ComesInRun same i d row → row.status ≡ 3 → PrintsWhole e row.text
+row_3 : {V : Type 0} (i : BusInputs) (d : CommandDisks V) (e : Ending) (row : Row) → ComesInRun i d row → row.status ≡ 3 → PrintsWhole e row.text
     → AsksOverBus i.words × IsUnread i.script × ((fault : ConfigFault) × IsConfigFault i.config fault × PrintsThe e (config_fault_text fault))
-row_3 same i d e row (without_disks _ comes as_before) is well = inputs_3 same i d e row comes is well
-row_3 same i d e row (not_started _ (c, bus, events, set, comes)) is well = absurd (let no : ⊥ = omega (arith, start_status same i d e bus row comes.1, is) in no)
-row_3 same i d e row (tried summary ran) is well = absurd (let no : ⊥ = omega (arith, is) in no)
-row_3 same i d e row (tried_without_memory summary ran) is well = absurd (let no : ⊥ = omega (arith, is) in no)
+row_3 i d e row (without_disks _ comes same) is well = inputs_3 i d e row comes is well
+row_3 i d e row (not_started _ (c, bus, events, set, comes)) is well = absurd (let no : ⊥ = omega (arith, start_status i d e bus row comes.1, is) in no)
+row_3 i d e row (tried summary ran) is well = absurd (let no : ⊥ = omega (arith, is) in no)
+row_3 i d e row (tried_without_memory summary ran) is well = absurd (let no : ⊥ = omega (arith, is) in no)
 
-row_4 : (same : Type 0) (i : BusInputs) (d : DiskStates) (e : Ending) (row : Row) → ComesInRun same i d row → row.status ≡ 4 → PrintsWhole e row.text
+row_4 : {V : Type 0} (i : BusInputs) (d : CommandDisks V) (e : Ending) (row : Row) → ComesInRun i d row → row.status ≡ 4 → PrintsWhole e row.text
     → Over i (λ task input. (fault : Fault) × (fault_of task input ≡ Some fault) × PrintsWhole e (fault_text_of fault))
-row_4 same i d e row (without_disks _ comes as_before) is well = inputs_4 same i d e row comes is well
-row_4 same i d e row (not_started _ (c, bus, events, set, comes)) is well = absurd (let no : ⊥ = omega (arith, start_status same i d e bus row comes.1, is) in no)
-row_4 same i d e row (tried summary ran) is well = absurd (let no : ⊥ = omega (arith, is) in no)
-row_4 same i d e row (tried_without_memory summary ran) is well = absurd (let no : ⊥ = omega (arith, is) in no)
+row_4 i d e row (without_disks _ comes same) is well = inputs_4 i d e row comes is well
+row_4 i d e row (not_started _ (c, bus, events, set, comes)) is well = absurd (let no : ⊥ = omega (arith, start_status i d e bus row comes.1, is) in no)
+row_4 i d e row (tried summary ran) is well = absurd (let no : ⊥ = omega (arith, is) in no)
+row_4 i d e row (tried_without_memory summary ran) is well = absurd (let no : ⊥ = omega (arith, is) in no)
 
-row_5 : (same : Type 0) (i : BusInputs) (d : DiskStates) (e : Ending) (row : Row) → ComesInRun same i d row → row.status ≡ 5 → PrintsWhole e row.text
+row_5 : {V : Type 0} (i : BusInputs) (d : CommandDisks V) (e : Ending) (row : Row) → ComesInRun i d row → row.status ≡ 5 → PrintsWhole e row.text
     → (NoConfig i input.ReadFault ⊎ NoScript i input.ReadFault) × PrintsWhole e (codes "read fault\n")
-row_5 same i d e row (without_disks _ comes as_before) is well = inputs_5 same i d e row comes is well
-row_5 same i d e row (not_started _ (c, bus, events, set, comes)) is well = absurd (let no : ⊥ = omega (arith, start_status same i d e bus row comes.1, is) in no)
-row_5 same i d e row (tried summary ran) is well = absurd (let no : ⊥ = omega (arith, is) in no)
-row_5 same i d e row (tried_without_memory summary ran) is well = absurd (let no : ⊥ = omega (arith, is) in no)
+row_5 i d e row (without_disks _ comes same) is well = inputs_5 i d e row comes is well
+row_5 i d e row (not_started _ (c, bus, events, set, comes)) is well = absurd (let no : ⊥ = omega (arith, start_status i d e bus row comes.1, is) in no)
+row_5 i d e row (tried summary ran) is well = absurd (let no : ⊥ = omega (arith, is) in no)
+row_5 i d e row (tried_without_memory summary ran) is well = absurd (let no : ⊥ = omega (arith, is) in no)
 
-row_8 : (same : Type 0) (i : BusInputs) (d : DiskStates) (e : Ending) (row : Row) → ComesInRun same i d row → row.status ≡ 8 → PrintsWhole e row.text
+row_8 : {V : Type 0} (i : BusInputs) (d : CommandDisks V) (e : Ending) (row : Row) → ComesInRun i d row → row.status ≡ 8 → PrintsWhole e row.text
     → (NoConfig i input.TooLong ⊎ NoScript i input.TooLong) × PrintsWhole e (codes "input too long\n")
-row_8 same i d e row (without_disks _ comes as_before) is well = inputs_8 same i d e row comes is well
-row_8 same i d e row (not_started _ (c, bus, events, set, comes)) is well = absurd (let no : ⊥ = omega (arith, start_status same i d e bus row comes.1, is) in no)
-row_8 same i d e row (tried summary ran) is well = absurd (let no : ⊥ = omega (arith, is) in no)
-row_8 same i d e row (tried_without_memory summary ran) is well = absurd (let no : ⊥ = omega (arith, is) in no)
+row_8 i d e row (without_disks _ comes same) is well = inputs_8 i d e row comes is well
+row_8 i d e row (not_started _ (c, bus, events, set, comes)) is well = absurd (let no : ⊥ = omega (arith, start_status i d e bus row comes.1, is) in no)
+row_8 i d e row (tried summary ran) is well = absurd (let no : ⊥ = omega (arith, is) in no)
+row_8 i d e row (tried_without_memory summary ran) is well = absurd (let no : ⊥ = omega (arith, is) in no)
 
 -- a bus that doesn't start
 
-start_not_0 : (same : Type 0) (i : BusInputs) (d : DiskStates) (e : Ending) (bus : NamedBus) (row : Row) → ComesOfStart bus d row → row.status ≡ 0 → ⊥
-start_not_0 same i d e bus row (disks_refused fault text finds as_before told) is = omega (arith, is)
-start_not_0 same i d e bus row (store_refused fault text room cause left told) is = omega (arith, is)
-start_not_0 same i d e bus row (start_without_memory fault refused) is = omega (arith, is)
+start_not_0 : {V : Type 0} (i : BusInputs) (d : CommandDisks V) (e : Ending) (bus : NamedBus) (row : Row) → ComesOfStart bus d.states row → row.status ≡ 0 → ⊥
+start_not_0 i d e bus row (disks_refused fault text finds same told) is = omega (arith, is)
+start_not_0 i d e bus row (store_refused fault text room cause left told) is = omega (arith, is)
+start_not_0 i d e bus row (start_without_memory fault refused) is = omega (arith, is)
 
-start_not_6 : (same : Type 0) (i : BusInputs) (d : DiskStates) (e : Ending) (bus : NamedBus) (row : Row) → ComesOfStart bus d row → row.status ≢ 6
-start_not_6 same i d e bus row (disks_refused fault text finds as_before told) is = omega (arith, is)
-start_not_6 same i d e bus row (store_refused fault text room cause left told) is = omega (arith, is)
-start_not_6 same i d e bus row (start_without_memory fault refused) is = omega (arith, is)
+start_not_6 : {V : Type 0} (i : BusInputs) (d : CommandDisks V) (e : Ending) (bus : NamedBus) (row : Row) → ComesOfStart bus d.states row → row.status ≢ 6
+start_not_6 i d e bus row (disks_refused fault text finds same told) is = omega (arith, is)
+start_not_6 i d e bus row (store_refused fault text room cause left told) is = omega (arith, is)
+start_not_6 i d e bus row (start_without_memory fault refused) is = omega (arith, is)
 
-start_9 : (same : Type 0) (i : BusInputs) (d : DiskStates) (e : Ending) (bus : NamedBus) (row : Row) → ComesOfStart bus d row → row.status ≡ 9 → PrintsWhole e row.text
-    → (d.after ≡ d.before) × ((fault : StartFault) × FindsRoom bus d.before fault × PrintsThe e (start_fault_text fault))
-start_9 same i d e bus row (disks_refused fault text finds as_before told) is well = (as_before, (fault, finds, (text, told, well)))
-start_9 same i d e bus row (store_refused fault text room cause left told) is well = absurd (let no : ⊥ = omega (arith, is) in no)
-start_9 same i d e bus row (start_without_memory fault refused) is well = absurd (let no : ⊥ = omega (arith, is) in no)
+start_9 : {V : Type 0} (i : BusInputs) (d : CommandDisks V) (e : Ending) (bus : NamedBus) (row : Row) → ComesOfStart bus d.states row → row.status ≡ 9 → PrintsWhole e row.text
+    → (d.states.after ≡ d.states.before) × ((fault : StartFault) × FindsRoom bus d.states.before fault × PrintsThe e (start_fault_text fault))
+start_9 i d e bus row (disks_refused fault text finds same told) is well = (same, (fault, finds, (text, told, well)))
+start_9 i d e bus row (store_refused fault text room cause left told) is well = absurd (let no : ⊥ = omega (arith, is) in no)
+start_9 i d e bus row (start_without_memory fault refused) is well = absurd (let no : ⊥ = omega (arith, is) in no)
 
-start_10 : (same : Type 0) (i : BusInputs) (d : DiskStates) (e : Ending) (bus : NamedBus) (row : Row) → ComesOfStart bus d row → row.status ≡ 10 → PrintsWhole e row.text
-    → LeavesEach bus d.before d.after × ((fault : StartFault) × StoreCause bus d.before d.after fault × PrintsThe e (start_fault_text fault))
-start_10 same i d e bus row (disks_refused fault text finds as_before told) is well = absurd (let no : ⊥ = omega (arith, is) in no)
-start_10 same i d e bus row (store_refused fault text room cause left told) is well = (left, (fault, cause, (text, told, well)))
-start_10 same i d e bus row (start_without_memory fault refused) is well = absurd (let no : ⊥ = omega (arith, is) in no)
+start_10 : {V : Type 0} (i : BusInputs) (d : CommandDisks V) (e : Ending) (bus : NamedBus) (row : Row) → ComesOfStart bus d.states row → row.status ≡ 10 → PrintsWhole e row.text
+    → LeavesEach Format bus d.states.before d.states.after × ((fault : StartFault) × StoreCause Format bus d.states.before d.states.after fault × PrintsThe e (start_fault_text fault))
+start_10 i d e bus row (disks_refused fault text finds same told) is well = absurd (let no : ⊥ = omega (arith, is) in no)
+start_10 i d e bus row (store_refused fault text room cause left told) is well = (left, (fault, cause, (text, told, well)))
+start_10 i d e bus row (start_without_memory fault refused) is well = absurd (let no : ⊥ = omega (arith, is) in no)
 
-start_7 : (same : Type 0) (i : BusInputs) (d : DiskStates) (e : Ending) (bus : NamedBus) (row : Row) → ComesOfStart bus d row → row.status ≡ 7 → PrintsWhole e row.text → ComesOfStart bus d memory_row × PrintsWhole e []
-start_7 same i d e bus row (disks_refused fault text finds as_before told) is well = absurd (let no : ⊥ = omega (arith, is) in no)
-start_7 same i d e bus row (store_refused fault text room cause left told) is well = absurd (let no : ⊥ = omega (arith, is) in no)
-start_7 same i d e bus row (start_without_memory fault refused) is well = (start_without_memory fault refused, well)
+start_7 : {V : Type 0} (i : BusInputs) (d : CommandDisks V) (e : Ending) (bus : NamedBus) (row : Row) → ComesOfStart bus d.states row → row.status ≡ 7 → PrintsWhole e row.text → ComesOfStart bus d.states memory_row × PrintsWhole e []
+start_7 i d e bus row (disks_refused fault text finds same told) is well = absurd (let no : ⊥ = omega (arith, is) in no)
+start_7 i d e bus row (store_refused fault text room cause left told) is well = absurd (let no : ⊥ = omega (arith, is) in no)
+start_7 i d e bus row (start_without_memory fault refused) is well = (start_without_memory fault refused, well)
 
-row_0 : (same : Type 0) (i : BusInputs) (d : DiskStates) (e : Ending) (row : Row) → ComesInRun same i d row → row.status ≡ 0 → PrintsWhole e row.text
-    → Over i (λ task input. (text : List ℕ) × Prints task input text × PrintsWhole e text)
-    ⊎ (OverReplay i (λ bus events. DoneReplay bus events d e (Ok tt))
-    ⊎ OverTrial i (λ bus events. (summary : Summary) × DoneTrial bus events d summary × PrintsWhole e (summary_text summary)))
-row_0 same i d e row (without_disks _ comes as_before) is well = inl (inputs_0 same i d e row comes is well)
-row_0 same i d e row (not_started _ (c, bus, events, set, comes)) is well = absurd (start_not_0 same i d e bus row comes.1 is)
-row_0 same i d e row (tried summary (trial, bus, events, set, ran)) is well = inr (inr (trial, bus, events, set, (summary, ran, well)))
-row_0 same i d e row (tried_without_memory summary ran) is well = absurd (let no : ⊥ = omega (arith, is) in no)
+row_0 : {V : Type 0} (i : BusInputs) (d : CommandDisks V) (e : Ending) (row : Row) → ComesInRun i d row → row.status ≡ 0 → PrintsWhole e row.text
+    → PrintsAnswers i e ⊎ (ReplaysScript i d.states e (Ok tt) ⊎ PrintsSummary i d.states e)
+row_0 i d e row (without_disks _ comes same) is well = inl (inputs_0 i d e row comes is well)
+row_0 i d e row (not_started _ (c, bus, events, set, comes)) is well = absurd (start_not_0 i d e bus row comes.1 is)
+row_0 i d e row (tried summary ran) is well = inr (inr (summary, ran, well))
+row_0 i d e row (tried_without_memory summary ran) is well = absurd (let no : ⊥ = omega (arith, is) in no)
 
-row_7 : (same : Type 0) (i : BusInputs) (d : DiskStates) (e : Ending) (row : Row) → ComesInRun same i d row → row.status ≡ 7 → PrintsWhole e row.text → ComesInRun same i d memory_row × PrintsWhole e []
-row_7 same i d e row (without_disks _ comes as_before) is well = let at = inputs_7 same i d e row comes is well in (without_disks memory_row at.0 as_before, at.1)
-row_7 same i d e row (not_started _ (c, bus, events, set, comes)) is well =
-    let at = start_7 same i d e bus row comes.1 is well in
+row_7 : {V : Type 0} (i : BusInputs) (d : CommandDisks V) (e : Ending) (row : Row) → ComesInRun i d row → row.status ≡ 7 → PrintsWhole e row.text → ComesInRun i d memory_row × PrintsWhole e []
+row_7 i d e row (without_disks _ comes same) is well = let at = inputs_7 i d e row comes is well in (without_disks memory_row at.0 same, at.1)
+row_7 i d e row (not_started _ (c, bus, events, set, comes)) is well =
+    let at = start_7 i d e bus row comes.1 is well in
     (not_started memory_row (c, bus, events, set, (comes.0, at.0)), at.1)
-row_7 same i d e row (tried summary ran) is well = absurd (let no : ⊥ = omega (arith, is) in no)
-row_7 same i d e row (tried_without_memory summary ran) is well = (tried_without_memory summary ran, well)
+row_7 i d e row (tried summary ran) is well = absurd (let no : ⊥ = omega (arith, is) in no)
+row_7 i d e row (tried_without_memory summary ran) is well = (tried_without_memory summary ran, well)
 
-row_9 : (same : Type 0) (i : BusInputs) (d : DiskStates) (e : Ending) (row : Row) → ComesInRun same i d row → row.status ≡ 9 → PrintsWhole e row.text
-    → OverWorld i (λ bus events. IsNamedBus bus × (d.after ≡ d.before) × ((fault : StartFault) × FindsRoom bus d.before fault × PrintsThe e (start_fault_text fault)))
-row_9 same i d e row (without_disks _ comes as_before) is well = absurd (let no : ⊥ = omega (arith, (inputs_not same i d e row comes).0, is) in no)
-row_9 same i d e row (not_started _ (c, bus, events, set, comes)) is well = let at = start_9 same i d e bus row comes.1 is well in (c, bus, events, set, (comes.0, at.0, at.1))
-row_9 same i d e row (tried summary ran) is well = absurd (let no : ⊥ = omega (arith, is) in no)
-row_9 same i d e row (tried_without_memory summary ran) is well = absurd (let no : ⊥ = omega (arith, is) in no)
+row_9 : {V : Type 0} (i : BusInputs) (d : CommandDisks V) (e : Ending) (row : Row) → ComesInRun i d row → row.status ≡ 9 → PrintsWhole e row.text
+    → OverWorld i (λ bus events. IsNamedBus bus × (d.states.after ≡ d.states.before) × ((fault : StartFault) × FindsRoom bus d.states.before fault × PrintsThe e (start_fault_text fault)))
+row_9 i d e row (without_disks _ comes same) is well = absurd (let no : ⊥ = omega (arith, (inputs_not i d e row comes).0, is) in no)
+row_9 i d e row (not_started _ (c, bus, events, set, comes)) is well = let at = start_9 i d e bus row comes.1 is well in (c, bus, events, set, (comes.0, at.0, at.1))
+row_9 i d e row (tried summary ran) is well = absurd (let no : ⊥ = omega (arith, is) in no)
+row_9 i d e row (tried_without_memory summary ran) is well = absurd (let no : ⊥ = omega (arith, is) in no)
 
-row_10 : (same : Type 0) (i : BusInputs) (d : DiskStates) (e : Ending) (row : Row) → ComesInRun same i d row → row.status ≡ 10 → PrintsWhole e row.text
-    → OverWorld i (λ bus events. LeavesEach bus d.before d.after × ((fault : StartFault) × StoreCause bus d.before d.after fault × PrintsThe e (start_fault_text fault)))
-row_10 same i d e row (without_disks _ comes as_before) is well = absurd (let no : ⊥ = omega (arith, (inputs_not same i d e row comes).0, is) in no)
-row_10 same i d e row (not_started _ (c, bus, events, set, comes)) is well = (c, bus, events, set, start_10 same i d e bus row comes.1 is well)
-row_10 same i d e row (tried summary ran) is well = absurd (let no : ⊥ = omega (arith, is) in no)
-row_10 same i d e row (tried_without_memory summary ran) is well = absurd (let no : ⊥ = omega (arith, is) in no)
+row_10 : {V : Type 0} (i : BusInputs) (d : CommandDisks V) (e : Ending) (row : Row) → ComesInRun i d row → row.status ≡ 10 → PrintsWhole e row.text
+    → OverWorld i (λ bus events. LeavesEach Format bus d.states.before d.states.after × ((fault : StartFault) × StoreCause Format bus d.states.before d.states.after fault × PrintsThe e (start_fault_text fault)))
+row_10 i d e row (without_disks _ comes same) is well = absurd (let no : ⊥ = omega (arith, (inputs_not i d e row comes).0, is) in no)
+row_10 i d e row (not_started _ (c, bus, events, set, comes)) is well = (c, bus, events, set, start_10 i d e bus row comes.1 is well)
+row_10 i d e row (tried summary ran) is well = absurd (let no : ⊥ = omega (arith, is) in no)
+row_10 i d e row (tried_without_memory summary ran) is well = absurd (let no : ⊥ = omega (arith, is) in no)
 
-row_not_6 : (same : Type 0) (i : BusInputs) (d : DiskStates) (e : Ending) (row : Row) → ComesInRun same i d row → row.status ≢ 6
-row_not_6 same i d e row (without_disks _ comes as_before) = (inputs_not same i d e row comes).1
-row_not_6 same i d e row (not_started _ (c, bus, events, set, comes)) = start_not_6 same i d e bus row comes.1
-row_not_6 same i d e row (tried summary ran) = λ six. omega (arith, six)
-row_not_6 same i d e row (tried_without_memory summary ran) = λ six. omega (arith, six)
+row_not_6 : {V : Type 0} (i : BusInputs) (d : CommandDisks V) (e : Ending) (row : Row) → ComesInRun i d row → row.status ≢ 6
+row_not_6 i d e row (without_disks _ comes same) = (inputs_not i d e row comes).1
+row_not_6 i d e row (not_started _ (c, bus, events, set, comes)) = start_not_6 i d e bus row comes.1
+row_not_6 i d e row (tried summary ran) = λ six. omega (arith, six)
+row_not_6 i d e row (tried_without_memory summary ran) = λ six. omega (arith, six)
 
 -- what makes a row come
 
-refused_of : (same : Type 0) (i : BusInputs) (d : DiskStates) (e : Ending) (row : Row) (task : Task) (input : List ℕ) (fault : Fault) → fault_of task input ≡ Some fault → OfTask d row task input → (row.status ≡ 4) ⊎ (row.status ≡ 7)
-refused_of same i d e row task input fault is (inl seven) = inr seven
-refused_of same i d e row task input fault is (inr (inl (other, four, found))) = inl four
-refused_of same i d e row task input fault is (inr (inr (inl (text, zero, prints)))) = absurd (None_not_Some (fault_of task input) fault (prints_no_fault task input text prints) is)
-refused_of same i d e row task input fault is (inr (inr (inr (bus, replays, none, comes)))) = absurd (None_not_Some (fault_of task input) fault none is)
+refused_of : {V : Type 0} (i : BusInputs) (d : CommandDisks V) (e : Ending) (row : Row) (task : Task) (input : List ℕ) (fault : Fault) → fault_of task input ≡ Some fault → OfTask d.states row task input → (row.status ≡ 4) ⊎ (row.status ≡ 7)
+refused_of i d e row task input fault is (inl seven) = inr seven
+refused_of i d e row task input fault is (inr (inl (other, four, found))) = inl four
+refused_of i d e row task input fault is (inr (inr (inl (text, zero, prints)))) = absurd (None_not_Some (fault_of task input) fault (prints_no_fault task input text prints) is)
+refused_of i d e row task input fault is (inr (inr (inr (bus, replays, none, comes)))) = absurd (None_not_Some (fault_of task input) fault none is)
 
-complete_of : (same : Type 0) (i : BusInputs) (d : DiskStates) (e : Ending) (row : Row) (task : Task) (input : List ℕ) → fault_of task input ≡ None → HasDisks task d → OfTask d row task input → (row.status ≡ 0) ⊎ (row.status ≡ 7)
-complete_of same i d e row task input none able (inl seven) = inr seven
-complete_of same i d e row task input none able (inr (inl (fault, four, found))) = absurd (None_not_Some (fault_of task input) fault none found)
-complete_of same i d e row task input none able (inr (inr (inl (text, zero, prints)))) = inl zero
-complete_of same i d e row task input none able (inr (inr (inr (bus, replays, also, comes)))) =
-    inr (start_complete bus d row comes (subst (λ (t : Task). HasDisks t d) replays able))
+complete_of : {V : Type 0} (i : BusInputs) (d : CommandDisks V) (e : Ending) (row : Row) (task : Task) (input : List ℕ) → fault_of task input ≡ None → TaskHasDisks task d.states → OfTask d.states row task input → (row.status ≡ 0) ⊎ (row.status ≡ 7)
+complete_of i d e row task input none able (inl seven) = inr seven
+complete_of i d e row task input none able (inr (inl (fault, four, found))) = absurd (None_not_Some (fault_of task input) fault none found)
+complete_of i d e row task input none able (inr (inr (inl (text, zero, prints)))) = inl zero
+complete_of i d e row task input none able (inr (inr (inr (bus, replays, also, comes)))) =
+    inr (start_complete bus d.states row comes (subst (λ (t : Task). TaskHasDisks t d.states) replays able))
 
-without_room_of : (same : Type 0) (i : BusInputs) (d : DiskStates) (e : Ending) (row : Row) (bus : NamedBus) (input : List ℕ) → fault_of (replay bus) input ≡ None → ¬ HasRoom bus d.before → OfTask d row (replay bus) input
+without_room_of : {V : Type 0} (i : BusInputs) (d : CommandDisks V) (e : Ending) (row : Row) (bus : NamedBus) (input : List ℕ) → fault_of (replay bus) input ≡ None → ¬ HasRoom bus d.states.before → OfTask d.states row (replay bus) input
     → (row.status ≡ 9) ⊎ (row.status ≡ 7)
-without_room_of same i d e row bus input none lacks (inl seven) = inr seven
-without_room_of same i d e row bus input none lacks (inr (inl (fault, four, found))) = absurd (None_not_Some (fault_of (replay bus) input) fault none found)
-without_room_of same i d e row bus input none lacks (inr (inr (inl (text, zero, prints)))) = absurd prints
-without_room_of same i d e row bus input none lacks (inr (inr (inr (over, replays, also, comes)))) =
+without_room_of i d e row bus input none lacks (inl seven) = inr seven
+without_room_of i d e row bus input none lacks (inr (inl (fault, four, found))) = absurd (None_not_Some (fault_of (replay bus) input) fault none found)
+without_room_of i d e row bus input none lacks (inr (inr (inl (text, zero, prints)))) = absurd prints
+without_room_of i d e row bus input none lacks (inr (inr (inr (over, replays, also, comes)))) =
     let one : bus ≡ over = ap bus_in_task replays in
-    start_without_room bus d row (subst (λ (b : NamedBus). ComesOfStart b d row) (sym one) comes) lacks
+    start_without_room bus d.states row (subst (λ (b : NamedBus). ComesOfStart b d.states row) (sym one) comes) lacks
 
-trial_complete_of : (same : Type 0) (i : BusInputs) (d : DiskStates) (e : Ending) (row : Row) (bus : NamedBus) → BusHasDisks bus d → OfTrial d row bus → (row.status ≡ 0) ⊎ (row.status ≡ 7)
-trial_complete_of same i d e row bus able (inl seven) = inr seven
-trial_complete_of same i d e row bus able (inr (inl comes)) = inr (start_complete bus d row comes able)
-trial_complete_of same i d e row bus able (inr (inr (zero, room))) = inl zero
+trial_complete_of : {V : Type 0} (i : BusInputs) (d : CommandDisks V) (e : Ending) (row : Row) (bus : NamedBus) → BusHasDisks bus d.states → OfTrial d.states row bus → (row.status ≡ 0) ⊎ (row.status ≡ 7)
+trial_complete_of i d e row bus able (inl seven) = inr seven
+trial_complete_of i d e row bus able (inr (inl comes)) = inr (start_complete bus d.states row comes able)
+trial_complete_of i d e row bus able (inr (inr (zero, room))) = inl zero
 
-trial_without_room_of : (same : Type 0) (i : BusInputs) (d : DiskStates) (e : Ending) (row : Row) (bus : NamedBus) → ¬ HasRoom bus d.before → OfTrial d row bus → (row.status ≡ 9) ⊎ (row.status ≡ 7)
-trial_without_room_of same i d e row bus lacks (inl seven) = inr seven
-trial_without_room_of same i d e row bus lacks (inr (inl comes)) = start_without_room bus d row comes lacks
-trial_without_room_of same i d e row bus lacks (inr (inr (zero, room))) = absurd (lacks room)
+trial_without_room_of : {V : Type 0} (i : BusInputs) (d : CommandDisks V) (e : Ending) (row : Row) (bus : NamedBus) → ¬ HasRoom bus d.states.before → OfTrial d.states row bus → (row.status ≡ 9) ⊎ (row.status ≡ 7)
+trial_without_room_of i d e row bus lacks (inl seven) = inr seven
+trial_without_room_of i d e row bus lacks (inr (inl comes)) = start_without_room bus d.states row comes lacks
+trial_without_room_of i d e row bus lacks (inr (inr (zero, room))) = absurd (lacks room)
 
 -- ---- where it did the first events of a replay
 
-abbrev Ended : (same : Type 0) (i : BusInputs) (d : DiskStates) (e : Ending) → Result (Unit {0}) Unwritten → Type 0
-Ended same i d e result = OverReplay i (λ bus events. DoneReplay bus events d e result)
+done_status : {V : Type 0} (i : BusInputs) (d : CommandDisks V) (e : Ending) → (result : Result (Unit {0}) Unwritten) → e.status ≡ written_status result → (e.status ≡ 0) ⊎ ((e.status ≡ 6) ⊎ (e.status ≡ 7))
+done_status i d e (Ok _) is = inl is
+done_status i d e (Err unwritten.SinkFailed) is = inr (inl is)
+done_status i d e (Err unwritten.Memory) is = inr (inr is)
 
-done_status : (same : Type 0) (i : BusInputs) (d : DiskStates) (e : Ending) → (result : Result (Unit {0}) Unwritten) → e.status ≡ written_status result → (e.status ≡ 0) ⊎ ((e.status ≡ 6) ⊎ (e.status ≡ 7))
-done_status same i d e (Ok _) is = inl is
-done_status same i d e (Err unwritten.SinkFailed) is = inr (inl is)
-done_status same i d e (Err unwritten.Memory) is = inr (inr is)
+status_of : {V : Type 0} (i : BusInputs) (d : CommandDisks V) (e : Ending) → (result : Result (Unit {0}) Unwritten) → ReplaysScript i d.states e result → (e.status ≡ 0) ⊎ ((e.status ≡ 6) ⊎ (e.status ≡ 7))
+status_of i d e result over = done_status i d e result over.3.status_is
 
-status_of : (same : Type 0) (i : BusInputs) (d : DiskStates) (e : Ending) → (result : Result (Unit {0}) Unwritten) → Ended same i d e result → (e.status ≡ 0) ⊎ ((e.status ≡ 6) ⊎ (e.status ≡ 7))
-status_of same i d e result over = done_status same i d e result over.3.status_is
+done_0 : {V : Type 0} (i : BusInputs) (d : CommandDisks V) (e : Ending) → (result : Result (Unit {0}) Unwritten) → ReplaysScript i d.states e result → e.status ≡ 0 → ReplaysScript i d.states e (Ok tt)
+done_0 i d e (Ok tt) over is = over
+done_0 i d e (Err unwritten.SinkFailed) over is = absurd (let no : ⊥ = omega (arith, over.3.status_is, is) in no)
+done_0 i d e (Err unwritten.Memory) over is = absurd (let no : ⊥ = omega (arith, over.3.status_is, is) in no)
 
-done_0 : (same : Type 0) (i : BusInputs) (d : DiskStates) (e : Ending) → (result : Result (Unit {0}) Unwritten) → Ended same i d e result → e.status ≡ 0 → Ended same i d e (Ok tt)
-done_0 same i d e (Ok tt) over is = over
-done_0 same i d e (Err unwritten.SinkFailed) over is = absurd (let no : ⊥ = omega (arith, over.3.status_is, is) in no)
-done_0 same i d e (Err unwritten.Memory) over is = absurd (let no : ⊥ = omega (arith, over.3.status_is, is) in no)
+done_6 : {V : Type 0} (i : BusInputs) (d : CommandDisks V) (e : Ending) → (result : Result (Unit {0}) Unwritten) → ReplaysScript i d.states e result → e.status ≡ 6 → SinkFailed e × ReplaysScript i d.states e (Err unwritten.SinkFailed)
+done_6 i d e (Ok _) over is = absurd (let no : ⊥ = omega (arith, over.3.status_is, is) in no)
+done_6 i d e (Err unwritten.SinkFailed) over is = (over.3.ran.printed.holds.written.0, over)
+done_6 i d e (Err unwritten.Memory) over is = absurd (let no : ⊥ = omega (arith, over.3.status_is, is) in no)
 
-done_6 : (same : Type 0) (i : BusInputs) (d : DiskStates) (e : Ending) → (result : Result (Unit {0}) Unwritten) → Ended same i d e result → e.status ≡ 6 → SinkFailed e × Ended same i d e (Err unwritten.SinkFailed)
-done_6 same i d e (Ok _) over is = absurd (let no : ⊥ = omega (arith, over.3.status_is, is) in no)
-done_6 same i d e (Err unwritten.SinkFailed) over is = (over.3.ran.printed.holds.written.0, over)
-done_6 same i d e (Err unwritten.Memory) over is = absurd (let no : ⊥ = omega (arith, over.3.status_is, is) in no)
+done_7 : {V : Type 0} (i : BusInputs) (d : CommandDisks V) (e : Ending) → (result : Result (Unit {0}) Unwritten) → ReplaysScript i d.states e result → e.status ≡ 7 → ReplaysScript i d.states e (Err unwritten.Memory)
+done_7 i d e (Ok _) over is = absurd (let no : ⊥ = omega (arith, over.3.status_is, is) in no)
+done_7 i d e (Err unwritten.SinkFailed) over is = absurd (let no : ⊥ = omega (arith, over.3.status_is, is) in no)
+done_7 i d e (Err unwritten.Memory) over is = over
 
-done_7 : (same : Type 0) (i : BusInputs) (d : DiskStates) (e : Ending) → (result : Result (Unit {0}) Unwritten) → Ended same i d e result → e.status ≡ 7 → Ended same i d e (Err unwritten.Memory)
-done_7 same i d e (Ok _) over is = absurd (let no : ⊥ = omega (arith, over.3.status_is, is) in no)
-done_7 same i d e (Err unwritten.SinkFailed) over is = absurd (let no : ⊥ = omega (arith, over.3.status_is, is) in no)
-done_7 same i d e (Err unwritten.Memory) over is = over
+done_writes : {V : Type 0} (i : BusInputs) (d : CommandDisks V) (e : Ending) → (result : Result (Unit {0}) Unwritten) → ReplaysScript i d.states e result → CountsWriteFault e → e.status ≡ 6
+done_writes i d e (Ok _) over rose = absurd (let no : ⊥ = omega (arith, over.3.ran.printed.holds.1.0, rose) in no)
+done_writes i d e (Err unwritten.SinkFailed) over rose = over.3.status_is
+done_writes i d e (Err unwritten.Memory) over rose = absurd (let no : ⊥ = omega (arith, over.3.ran.printed.holds.written.0, rose) in no)
 
-done_writes : (same : Type 0) (i : BusInputs) (d : DiskStates) (e : Ending) → (result : Result (Unit {0}) Unwritten) → Ended same i d e result → CountsWriteFault e → e.status ≡ 6
-done_writes same i d e (Ok _) over rose = absurd (let no : ⊥ = omega (arith, over.3.ran.printed.holds.1.0, rose) in no)
-done_writes same i d e (Err unwritten.SinkFailed) over rose = over.3.status_is
-done_writes same i d e (Err unwritten.Memory) over rose = absurd (let no : ⊥ = omega (arith, over.3.ran.printed.holds.written.0, rose) in no)
-
-done_well : (same : Type 0) (i : BusInputs) (d : DiskStates) (e : Ending) → (result : Result (Unit {0}) Unwritten) → Ended same i d e result → ¬ SinkFailed e → (e.status ≡ 0) ⊎ (e.status ≡ 7)
-done_well same i d e (Ok _) over well = inl over.3.status_is
-done_well same i d e (Err unwritten.SinkFailed) over well = absurd (well over.3.ran.printed.holds.written.0)
-done_well same i d e (Err unwritten.Memory) over well = inr over.3.status_is
+done_well : {V : Type 0} (i : BusInputs) (d : CommandDisks V) (e : Ending) → (result : Result (Unit {0}) Unwritten) → ReplaysScript i d.states e result → ¬ SinkFailed e → (e.status ≡ 0) ⊎ (e.status ≡ 7)
+done_well i d e (Ok _) over well = inl over.3.status_is
+done_well i d e (Err unwritten.SinkFailed) over well = absurd (well over.3.ran.printed.holds.written.0)
+done_well i d e (Err unwritten.Memory) over well = inr over.3.status_is
 
 -- no count of a source rose in it
-replay_calm : (same : Type 0) (i : BusInputs) (d : DiskStates) (e : Ending) → (result : Result (Unit {0}) Unwritten) → Ended same i d e result → CountsFault i.config ⊎ CountsFault i.script → ⊥
-replay_calm same i d e result over (inl rose) = let calm = calm_world i Replay over.0 over.1 over.2 in omega (arith, calm.0.0, rose)
-replay_calm same i d e result over (inr rose) = let calm = calm_world i Replay over.0 over.1 over.2 in omega (arith, calm.1.0, rose)
+replay_calm : {V : Type 0} (i : BusInputs) (d : CommandDisks V) (e : Ending) → (result : Result (Unit {0}) Unwritten) → ReplaysScript i d.states e result → CountsFault i.config ⊎ CountsFault i.script → ⊥
+replay_calm i d e result over (inl rose) = let calm = calm_world i Replay over.0 over.1 over.2 in omega (arith, calm.0.0, rose)
+replay_calm i d e result over (inr rose) = let calm = calm_world i Replay over.0 over.1 over.2 in omega (arith, calm.1.0, rose)
 
-replay_within : (same : Type 0) (i : BusInputs) (d : DiskStates) (e : Ending) → (result : Result (Unit {0}) Unwritten) → Ended same i d e result → CountsTooMuch i.config ⊎ CountsTooMuch i.script → ⊥
-replay_within same i d e result over (inl more) = let calm = calm_world i Replay over.0 over.1 over.2 in omega (arith, calm.0.1 more.0, more.1)
-replay_within same i d e result over (inr more) = let calm = calm_world i Replay over.0 over.1 over.2 in omega (arith, calm.1.1 more.0, more.1)
+replay_within : {V : Type 0} (i : BusInputs) (d : CommandDisks V) (e : Ending) → (result : Result (Unit {0}) Unwritten) → ReplaysScript i d.states e result → CountsTooMuch i.config ⊎ CountsTooMuch i.script → ⊥
+replay_within i d e result over (inl more) = let calm = calm_world i Replay over.0 over.1 over.2 in omega (arith, calm.0.1 more.0, more.1)
+replay_within i d e result over (inr more) = let calm = calm_world i Replay over.0 over.1 over.2 in omega (arith, calm.1.1 more.0, more.1)
 
-replay_refused : (same : Type 0) (i : BusInputs) (d : DiskStates) (e : Ending) {A : Type 0} (result : Result (Unit {0}) Unwritten) → Ended same i d e result → (task : Task) (input : List ℕ) (fault : Fault) → OffersTask i task → Offers i.script input
+replay_refused : {V : Type 0} (i : BusInputs) (d : CommandDisks V) (e : Ending) {A : Type 0} (result : Result (Unit {0}) Unwritten) → ReplaysScript i d.states e result → (task : Task) (input : List ℕ) (fault : Fault) → OffersTask i task → Offers i.script input
     → fault_of task input ≡ Some fault → A
-replay_refused same i d e result over task input fault offers lines is =
+replay_refused i d e result over task input fault offers lines is =
     absurd (None_not_Some (fault_of task input) fault (replay_offered i over.0 over.1 task input over.2 offers lines).1 is)
 
-replay_room : (same : Type 0) (i : BusInputs) (d : DiskStates) (e : Ending) → (result : Result (Unit {0}) Unwritten) → Ended same i d e result → (bus : NamedBus) (input : List ℕ) → OffersTask i (replay bus) → Offers i.script input → HasRoom bus d.before
-replay_room same i d e result over bus input offers lines =
+replay_room : {V : Type 0} (i : BusInputs) (d : CommandDisks V) (e : Ending) → (result : Result (Unit {0}) Unwritten) → ReplaysScript i d.states e result → (bus : NamedBus) (input : List ℕ) → OffersTask i (replay bus) → Offers i.script input → HasRoom bus d.states.before
+replay_room i d e result over bus input offers lines =
     let one : bus ≡ over.0 = ap bus_in_task (replay_offered i over.0 over.1 (replay bus) input over.2 offers lines).0 in
-    subst (λ (b : NamedBus). HasRoom b d.before) (sym one) over.3.ran.started.room
+    subst (λ (b : NamedBus). HasRoom b d.states.before) (sym one) over.3.ran.started.room
 
-replay_no_trial : (same : Type 0) (i : BusInputs) (d : DiskStates) (e : Ending) {A : Type 0} (result : Result (Unit {0}) Unwritten) → Ended same i d e result → (bus : NamedBus) → OffersTrial i bus → A
-replay_no_trial same i d e result over bus (trial, asks, of_bus) = apart i.words (World Replay) (World (Trial trial)) over.2.asks asks (λ x. cc)
+replay_no_trial : {V : Type 0} (i : BusInputs) (d : CommandDisks V) (e : Ending) {A : Type 0} (result : Result (Unit {0}) Unwritten) → ReplaysScript i d.states e result → (bus : NamedBus) → OffersTrial i bus → A
+replay_no_trial i d e result over bus (trial, asks, of_bus) = apart i.words (World Replay) (World (Trial trial)) over.2.asks asks (λ x. cc)
 
 -- ---- put together
 
-of_row : (same : Type 0) (i : BusInputs) (d : DiskStates) (e : Ending) → EndsInRow (ComesInRun same i d) e → RunsCommand same i d e
-of_row same i d e ends = record {
-  disks = row_disks same i d e ends.row ends.comes;
-  disks_unused = unused same i d e ends;
-  leaves = row_leaves same i d e ends.row ends.comes;
-  done = EndsInRow-at ends 0 refl (row_0 same i d e);
-  usage_told = EndsInRow-at ends 2 refl (row_2 same i d e);
+of_row : {V : Type 0} (i : BusInputs) (d : CommandDisks V) (e : Ending) → EndsInRow (ComesInRun i d) e → RunsCommand i d e
+of_row i d e ends = record {
+  ends = in_row ends;
+  disks = row_disks i d e ends.row ends.comes;
+  disks_unused = unused i d e ends;
+  leaves = row_leaves i d e ends.row ends.comes;
+  done = EndsInRow-at ends 0 refl (row_0 i d e);
+  usage_told = EndsInRow-at ends 2 refl (row_2 i d e);
   usage_only = λ nothing. EndsInRow-only ends 2 (λ row comes. row_asks i d row comes nothing);
-  config_refused = EndsInRow-at ends 3 refl (row_3 same i d e);
+  config_refused = EndsInRow-at ends 3 refl (row_3 i d e);
   config_refused_only = λ file fault over offers err. EndsInRow-may ends 3 (λ row comes. row_refuses i d row file fault comes over offers err);
-  refused = EndsInRow-at ends 4 refl (row_4 same i d e);
+  refused = EndsInRow-at ends 4 refl (row_4 i d e);
   refused_only = λ task input fault offers lines is.
-      EndsInRow-may ends 4 (λ row comes. refused_of same i d e row task input fault is (row_offered i d row task input comes offers lines));
-  read_fault = EndsInRow-at ends 5 refl (row_5 same i d e);
+      EndsInRow-may ends 4 (λ row comes. refused_of i d e row task input fault is (row_offered i d row task input comes offers lines));
+  read_fault = EndsInRow-at ends 5 refl (row_5 i d e);
   read_fault_only = λ rose. EndsInRow-only ends 5 (λ row comes. told_fault row i.config i.script (row_tells i d row comes) rose);
-  write_fault = λ six. let at = EndsInRow-front ends (row_not_6 same i d e) six in (at.0, inl at.1);
+  write_fault = λ six. let at = EndsInRow-front ends (row_not_6 i d e) six in (at.0, inl at.1);
   write_fault_only = EndsInRow-rose ends;
-  no_memory = λ seven. inl (EndsInRow-at ends 7 refl (row_7 same i d e) seven);
-  too_long = EndsInRow-at ends 8 refl (row_8 same i d e);
+  no_memory = λ seven. inl (EndsInRow-at ends 7 refl (row_7 i d e) seven);
+  too_long = EndsInRow-at ends 8 refl (row_8 i d e);
   too_long_only = λ more. EndsInRow-only ends 8 (λ row comes. told_too_much row i.config i.script (row_tells i d row comes) more);
-  disks_refused = EndsInRow-at ends 9 refl (row_9 same i d e);
+  disks_refused = EndsInRow-at ends 9 refl (row_9 i d e);
   disks_refused_only = λ bus input offers lines none lacks.
-      EndsInRow-may ends 9 (λ row comes. without_room_of same i d e row bus input none lacks (row_offered i d row (replay bus) input comes offers lines));
-  trial_disks_refused_only = λ bus offers lacks. EndsInRow-may ends 9 (λ row comes. trial_without_room_of same i d e row bus lacks (row_tried i d row bus comes offers));
-  store_refused = EndsInRow-at ends 10 refl (row_10 same i d e);
+      EndsInRow-may ends 9 (λ row comes. without_room_of i d e row bus input none lacks (row_offered i d row (replay bus) input comes offers lines));
+  trial_disks_refused_only = λ bus offers lacks. EndsInRow-may ends 9 (λ row comes. trial_without_room_of i d e row bus lacks (row_tried i d row bus comes offers));
+  store_refused = EndsInRow-at ends 10 refl (row_10 i d e);
   complete = λ task input offers lines none able well.
-      EndsInRow-told ends well 0 (λ row comes. complete_of same i d e row task input none able (row_offered i d row task input comes offers lines));
-  trial_complete = λ bus offers able well. EndsInRow-told ends well 0 (λ row comes. trial_complete_of same i d e row bus able (row_tried i d row bus comes offers));
+      EndsInRow-done ends well 0 (λ row comes. complete_of i d e row task input none able (row_offered i d row task input comes offers lines));
+  trial_complete = λ bus offers able well. EndsInRow-done ends well 0 (λ row comes. trial_complete_of i d e row bus able (row_tried i d row bus comes offers));
 }
 
-of_replay : (same : Type 0) (i : BusInputs) (d : DiskStates) (e : Ending) → (result : Result (Unit {0}) Unwritten) → Ended same i d e result → RunsCommand same i d e
-of_replay same i d e result over = record {
+of_replay : {V : Type 0} (i : BusInputs) (d : CommandDisks V) (e : Ending) → (result : Result (Unit {0}) Unwritten) → ReplaysScript i d.states e result → RunsCommand i d e
+of_replay i d e result over = record {
+  ends = replayed result over;
   disks = λ lacks. absurd (lacks (Replay, over.2.asks));
-  disks_unused = λ low. absurd (not_low e.status low (high_status e.status (status_of same i d e result over)));
-  leaves = inr (inr (inl (over.0, over.1, over.2, (result, over.3))));
-  done = λ is. inr (inl (done_0 same i d e result over is));
-  usage_told = λ is. absurd (let no : ⊥ = omega (arith, status_of same i d e result over, is) in no);
+  disks_unused = λ low. absurd (not_low e.status low (high_status e.status (status_of i d e result over)));
+  leaves = by_replay result over;
+  done = λ is. inr (inl (done_0 i d e result over is));
+  usage_told = λ is. absurd (let no : ⊥ = omega (arith, status_of i d e result over, is) in no);
   usage_only = λ nothing. absurd (nothing (World Replay) over.2.asks);
-  config_refused = λ is. absurd (let no : ⊥ = omega (arith, status_of same i d e result over, is) in no);
+  config_refused = λ is. absurd (let no : ⊥ = omega (arith, status_of i d e result over, is) in no);
   config_refused_only = λ file fault asks offers err. absurd (bus_or_fault i.config over.0 file fault over.2.of_bus offers err);
-  refused = λ is. absurd (let no : ⊥ = omega (arith, status_of same i d e result over, is) in no);
-  refused_only = λ task input fault offers lines is. replay_refused same i d e result over task input fault offers lines is;
-  read_fault = λ is. absurd (let no : ⊥ = omega (arith, status_of same i d e result over, is) in no);
-  read_fault_only = λ rose. absurd (replay_calm same i d e result over rose);
-  write_fault = λ six. let at = done_6 same i d e result over six in (at.0, inr at.1);
-  write_fault_only = done_writes same i d e result over;
-  no_memory = λ seven. inr (done_7 same i d e result over seven);
-  too_long = λ is. absurd (let no : ⊥ = omega (arith, status_of same i d e result over, is) in no);
-  too_long_only = λ more. absurd (replay_within same i d e result over more);
-  disks_refused = λ is. absurd (let no : ⊥ = omega (arith, status_of same i d e result over, is) in no);
-  disks_refused_only = λ bus input offers lines none lacks. absurd (lacks (replay_room same i d e result over bus input offers lines));
-  trial_disks_refused_only = λ bus offers lacks. replay_no_trial same i d e result over bus offers;
-  store_refused = λ is. absurd (let no : ⊥ = omega (arith, status_of same i d e result over, is) in no);
-  complete = λ task input offers lines none able well. done_well same i d e result over well;
-  trial_complete = λ bus offers able well. replay_no_trial same i d e result over bus offers;
+  refused = λ is. absurd (let no : ⊥ = omega (arith, status_of i d e result over, is) in no);
+  refused_only = λ task input fault offers lines is. replay_refused i d e result over task input fault offers lines is;
+  read_fault = λ is. absurd (let no : ⊥ = omega (arith, status_of i d e result over, is) in no);
+  read_fault_only = λ rose. absurd (replay_calm i d e result over rose);
+  write_fault = λ six. let at = done_6 i d e result over six in (at.0, inr at.1);
+  write_fault_only = done_writes i d e result over;
+  no_memory = λ seven. inr (done_7 i d e result over seven);
+  too_long = λ is. absurd (let no : ⊥ = omega (arith, status_of i d e result over, is) in no);
+  too_long_only = λ more. absurd (replay_within i d e result over more);
+  disks_refused = λ is. absurd (let no : ⊥ = omega (arith, status_of i d e result over, is) in no);
+  disks_refused_only = λ bus input offers lines none lacks. absurd (lacks (replay_room i d e result over bus input offers lines));
+  trial_disks_refused_only = λ bus offers lacks. replay_no_trial i d e result over bus offers;
+  store_refused = λ is. absurd (let no : ⊥ = omega (arith, status_of i d e result over, is) in no);
+  complete = λ task input offers lines none able well. done_well i d e result over well;
+  trial_complete = λ bus offers able well. replay_no_trial i d e result over bus offers;
 }
 
 -- how a command ends gives all that it promises
-pub RunsCommand-ends : (same : Type 0) (i : BusInputs) (d : DiskStates) (e : Ending) → EndsRun same i d e → RunsCommand same i d e
-RunsCommand-ends same i d e (in_row ends) = of_row same i d e ends
-RunsCommand-ends same i d e (replayed result over) = of_replay same i d e result over
+pub RunsCommand-ends : {V : Type 0} (i : BusInputs) (d : CommandDisks V) (e : Ending) → EndsCommand i d e → RunsCommand i d e
+RunsCommand-ends i d e (in_row ends) = of_row i d e ends
+RunsCommand-ends i d e (replayed result over) = of_replay i d e result over

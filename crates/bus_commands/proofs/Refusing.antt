@@ -1,41 +1,40 @@
 -- A start that is refused: which row comes, and what that says of the disks
-use Rattle.std.specs.Prelude.{◌≡◌, ◌⊎◌, ℕ, ◌-◌, ◌<◌, ◌≤◌, List, [], length, get_or, Option, None, Some}
+use Rattle.std.specs.Prelude.{◌≡◌, ◌⊎◌, ℕ, ◌-◌, ◌<◌, ◌≤◌, false, List, [], length, get_or, Option, None, Some}
 use Rattle.std.proofs.Common.{refl, sym, subst, arith, inl, inr}
 use Rattle.fault_count.specs.FaultCount.{last_count, Rose}
 use Rattle.answer_rows.specs.Rows.{Row, row_of}
 use Rattle.cut_disk.specs.State.{DiskState, Told}
-use Rattle.cut_disk.specs.CallLaws.{runs_none, runs_more}
+use Rattle.cut_disk.specs.Arming.{no_arms}
 use Rattle.cut_disk.specs.Calls.{IsQuiet, Runs}
 use Rattle.cell_store.specs.declared.faults.Reread.TheVariants.{DiskFailed, NotFormatted, Damaged}
+use Rattle.bus_machine.specs.Bus.{no_config}
+use Rattle.bus_nodes.specs.declared.nodes.NodeLine.{NodeLine}
 use Rattle.bus_nodes.specs.Buses.{NamedBus}
-use Rattle.bus_world.specs.Starts.{NotStarted, HasRoom, FindsRoom, OfNumber, start_calls}
+use Rattle.bus_world.specs.declared.start.Start.TheVariants.{Format}
+use Rattle.bus_world.specs.Starts.{NotStarted, HasRoom, FindsRoom, OfNumber}
 use Rattle.bus_world.specs.StartRows.{start_row, IsStartRow, StoreCause, LeavesEach}
-use Rattle.bus_world.specs.StartRowLaws.{refused_at_10, start_leaves}
+use Rattle.bus_world.specs.StartRowLaws.{refused_at_10, leaves_same, start_leaves}
 use Rattle.bus_world.specs.declared.start.StartFault.{StartFault}
 use Rattle.bus_world.specs.declared.start.StartFault.TheVariants.{TooFew, TooSmall, Store, BadSlot, BadBound, Memory}
 use Rattle.bus_commands.specs.StartRows.{DiskStates, start_fault_text, ComesOfStart, disks_refused, store_refused, start_without_memory, BusHasDisks}
-use Rattle.bus_commands.proofs.Starting.{no_disk, no_line}
 
--- ---- what is left of the disks
+-- a disk and a node, for a place without one
+no_disk : DiskState
+no_disk = record { size = 0; told = None; arms = no_arms; faults = 0; quiet = false; past = None }
 
-left_same : (bus : NamedBus) (before after : List DiskState) → after ≡ before → LeavesEach bus before after
-left_same bus before after same = subst (λ (disks : List DiskState). LeavesEach bus before disks) (sym same) (record {
-  count = refl;
-  each = λ i l d inside. (runs_more (start_calls bus.kind (get_or bus.nodes i l).config) (omega arith) (runs_none (get_or before i d)), inl refl);
-  rest = refl;
-  leaves = λ i l d inside. inl refl;
-})
+no_line : NodeLine
+no_line = record { name = []; config = no_config }
 
 -- ---- the row
 
 -- a store that isn't written, or isn't read again
-store_row : (bus : NamedBus) (d : DiskStates) (fault : StartFault) (text : List ℕ) → NotStarted bus d.before d.after fault → HasRoom bus d.before
+store_row : (bus : NamedBus) (d : DiskStates) (fault : StartFault) (text : List ℕ) → NotStarted Format bus d.before d.after fault → HasRoom bus d.before
     → (start_row fault).status ≡ 10 → start_fault_text fault ≡ Some text → ComesOfStart bus d (row_of 10 text)
 store_row bus d fault text refused room ten is =
-    store_refused fault text room (refused_at_10 bus d.before d.after fault refused ten) (start_leaves bus d.before d.after fault refused) is
+    store_refused fault text room (refused_at_10 Format bus d.before d.after fault refused ten) (start_leaves Format bus d.before d.after fault refused) is
 
 -- the row of a start that is refused comes
-row_comes : (bus : NamedBus) (d : DiskStates) (fault : StartFault) → NotStarted bus d.before d.after fault → ComesOfStart bus d (start_row fault)
+row_comes : (bus : NamedBus) (d : DiskStates) (fault : StartFault) → NotStarted Format bus d.before d.after fault → ComesOfStart bus d (start_row fault)
 row_comes bus d TooFew refused = disks_refused TooFew _ refused.0 refused.1 refl
 row_comes bus d (TooSmall node) refused = disks_refused (TooSmall node) _ refused.0 refused.1 refl
 row_comes bus d (Store node cause) refused = store_row bus d (Store node cause) _ refused refused.room refl refl
@@ -44,16 +43,16 @@ row_comes bus d (BadBound node cell) refused = store_row bus d (BadBound node ce
 row_comes bus d Memory refused = start_without_memory Memory refused
 
 -- a start that is refused ends in a row that comes
-pub Comes-not_started : (bus : NamedBus) (d : DiskStates) (fault : StartFault) (row : Row) → NotStarted bus d.before d.after fault → IsStartRow fault row
+pub Comes-not_started : (bus : NamedBus) (d : DiskStates) (fault : StartFault) (row : Row) → NotStarted Format bus d.before d.after fault → IsStartRow fault row
     → ComesOfStart bus d row
 Comes-not_started bus d fault row refused (inl is) = subst (ComesOfStart bus d) (sym is) (row_comes bus d fault refused)
 Comes-not_started bus d fault row refused (inr memory) = subst (ComesOfStart bus d) (sym memory) (start_without_memory fault refused)
 
 -- what it leaves of the disks
-pub Comes-leaves : (bus : NamedBus) (d : DiskStates) (row : Row) → ComesOfStart bus d row → LeavesEach bus d.before d.after
-Comes-leaves bus d row (disks_refused fault text finds same is) = left_same bus d.before d.after same
+pub Comes-leaves : (bus : NamedBus) (d : DiskStates) (row : Row) → ComesOfStart bus d row → LeavesEach Format bus d.before d.after
+Comes-leaves bus d row (disks_refused fault text finds same is) = leaves_same Format bus d.before d.after same
 Comes-leaves bus d row (store_refused fault text room cause left is) = left
-Comes-leaves bus d row (start_without_memory fault refused) = start_leaves bus d.before d.after fault refused
+Comes-leaves bus d row (start_without_memory fault refused) = start_leaves Format bus d.before d.after fault refused
 
 -- ---- the status
 
@@ -77,16 +76,16 @@ does_not_fail n old new runs rose (inl quiet) = quiet_stays n old new runs quiet
 does_not_fail n old new runs rose (inr calm) = calm rose
 
 -- no disk of them is refused for what it has
-told_at : (bus : NamedBus) (d : DiskStates) (number : ℕ) → OfNumber bus d.before d.after number (λ old new. old.told ≡ None) → BusHasDisks bus d → ⊥
+told_at : (bus : NamedBus) (d : DiskStates) (number : ℕ) → OfNumber Format bus d.before d.after number (λ config old new. old.told ≡ None) → BusHasDisks bus d → ⊥
 told_at bus d number of able =
-    let has = able.1 (number - 1) no_disk (omega (arith, of.least, of.most)) in
-    told_not_none (get_or d.before (number - 1) no_disk).told has.0.0 has.0.1 (of.disk no_disk)
+    let has = able.1 (number - 1) no_line no_disk (omega (arith, of.least, of.most)) in
+    told_not_none (get_or d.before (number - 1) no_disk).told has.0.0 has.0.1 (of.disk no_line no_disk)
 
-no_store_cause : (bus : NamedBus) (d : DiskStates) (fault : StartFault) → BusHasDisks bus d → StoreCause bus d.before d.after fault → LeavesEach bus d.before d.after → ⊥
+no_store_cause : (bus : NamedBus) (d : DiskStates) (fault : StartFault) → BusHasDisks bus d → StoreCause Format bus d.before d.after fault → LeavesEach Format bus d.before d.after → ⊥
 no_store_cause bus d (Store node DiskFailed) able cause left =
     let inside : node - 1 < length bus.nodes = omega (arith, cause.least, cause.most) in
     does_not_fail _ (get_or d.before (node - 1) no_disk) (get_or d.after (node - 1) no_disk) (left.each (node - 1) no_line no_disk inside).0
-    (cause.disk no_disk).0 (able.1 (node - 1) no_disk inside).1
+    (cause.disk no_line no_disk).0 (able.1 (node - 1) no_line no_disk inside).1
 no_store_cause bus d (Store node NotFormatted) able cause left = told_at bus d node cause able
 no_store_cause bus d (Store node (Damaged place)) able cause left = told_at bus d node cause able
 no_store_cause bus d (BadSlot node slot) able cause left = told_at bus d node cause able

@@ -1,18 +1,16 @@
 -- A world that is started, given the events of a script, and finished
 use Rattle.std.specs.Prelude.{◌≡◌, ℕ, ◌≤◌, List, [], ◌∷◌, length, get_or, All}
 use Rattle.std.proofs.Common.{sym, ap, ◌∙◌, subst, arith}
-use Rattle.machine_runs.specs.Run.{Moment, Run}
-use Rattle.machine_runs.specs.MemberLaws.{MemberSteps-length}
 use Rattle.bus_machine.specs.declared.events.Event.{Event}
 use Rattle.bus_machine.specs.declared.events.Event.TheVariants as event
-use Rattle.bus_machine.specs.declared.lines.Line.{Line}
 use Rattle.bus_nodes.specs.declared.nodes.NodeLine.{NodeLine}
 use Rattle.bus_nodes.specs.Buses.{NamedBus}
 use Rattle.bus_script.specs.ScriptEvents.{HasFields, IsScriptEvent}
 use Rattle.cut_disk.specs.State.{DiskState}
 use Rattle.bus_world.specs.Turns.{CanBeDone}
-use Rattle.bus_world.specs.Worlds.{BusState, IsEventOf, IsReady, BusTurn}
+use Rattle.bus_world.specs.Worlds.{BusState, IsEventOf, IsReady}
 use Rattle.bus_world.specs.Starts.{Started}
+use Rattle.bus_world.specs.declared.start.Start.TheVariants.{Format}
 
 can_be_done : (e : Event) → HasFields e → CanBeDone e
 can_be_done (event.Send node id payload) has = tt
@@ -30,14 +28,9 @@ pub event_of_nodes : (nodes : List NodeLine) (e : Event) → IsScriptEvent nodes
 event_of_nodes nodes e is = record { of_bus = is.node; fields = can_be_done e is.fields }
 
 -- a world that was started may be given the events of a script
-pub ready_for : (bus : NamedBus) (events : List Event) (most : ℕ) (before : List DiskState) (world : BusState) → Started bus most before world → length events ≤ most
+pub ready_for : (bus : NamedBus) (events : List Event) (most : ℕ) (before : List DiskState) (world : BusState) → Started Format bus most before world → length events ≤ most
     → All (IsScriptEvent bus.nodes) events → IsReady world events
 ready_for bus events most before world started few are = record {
   of_bus = λ k d inside. subst (λ n. IsEventOf n (get_or events k d)) (sym started.nodes.count) (event_of_nodes bus.nodes (get_or events k d) (are k d inside));
   room = omega (arith, started.no_event, started.most_is, few);
 }
-
--- turns leave as many nodes
-pub as_many_nodes : (start now : BusState) (moments : List (Moment Event Line BusState)) → Run BusTurn start moments now → length now.nodes ≡ length start.nodes
-as_many_nodes start now [] run = ap (λ (s : BusState). length s.nodes) run
-as_many_nodes start now (m ∷ ms) run = as_many_nodes m.after now ms run.1 ∙ MemberSteps-length run.0.one

@@ -25,7 +25,7 @@ use Rattle.bus_commands.specs.Words.{AsksNothing}
 use Rattle.bus_commands.specs.Tasks.{Task, frame, judge, check, replay}
 use Rattle.bus_commands.specs.Texts.{Prints, fault_of}
 use Rattle.bus_commands.specs.Inputs.{BusInputs, ReadsBus, IsConfigFault, OffersBus, AsksOverBus, SetsTask, OffersTask, Over, HasEvents, SetsWorld, OffersTrial}
-use Rattle.bus_commands.specs.StartRows.{DiskStates, ComesOfStart}
+use Rattle.bus_commands.specs.StartRows.{DiskStates, CommandDisks, ComesOfStart}
 use Rattle.bus_commands.specs.Rows.{ComesOfInputs, no_form, no_config, config_refused, no_script, script_refused, done, ComesInRun, without_disks, not_started, tried, tried_without_memory}
 use Rattle.bus_commands.proofs.Asking.{needs_bus, command_for, set_asks, offered_asks, no_trial, same_bus, same_task, replay_task}
 
@@ -99,8 +99,8 @@ inputs_tell i row (no_script fault (task, set, lacks)) = told_second fault (inpu
 inputs_tell i row (script_refused fault (task, set, (text, whole, is))) = inr (inr (calm_set i task set, calm_whole i.script text whole))
 inputs_tell i row (done text (task, set, (read, whole, is))) = inr (inr (calm_set i task set, calm_whole i.script read whole))
 
-module _ {same : Type 0} where
-  pub row_tells : (i : BusInputs) (d : DiskStates) (row : Row) → ComesInRun same i d row → Told row i.config i.script
+module _ {V : Type 0} where
+  pub row_tells : (i : BusInputs) (d : CommandDisks V) (row : Row) → ComesInRun i d row → Told row i.config i.script
   row_tells i d row (without_disks _ comes as_before) = inputs_tell i row comes
   row_tells i d row (not_started _ (c, bus, events, set, comes)) = inr (inr (calm_world i c bus events set))
   row_tells i d row (tried summary (trial, bus, events, set, ran)) = inr (inr (calm_world i (Trial trial) bus events set))
@@ -133,9 +133,9 @@ inputs_ask i row (no_script fault (task, set, lacks)) nothing = absurd (nothing 
 inputs_ask i row (script_refused fault (task, set, over)) nothing = absurd (nothing (command_for task) (set_asks i task set))
 inputs_ask i row (done text (task, set, over)) nothing = absurd (nothing (command_for task) (set_asks i task set))
 
-module _ {same : Type 0} where
+module _ {V : Type 0} where
   -- words of no form are told
-  pub row_asks : (i : BusInputs) (d : DiskStates) (row : Row) → ComesInRun same i d row → AsksNothing i.words → row.status ≡ 2
+  pub row_asks : (i : BusInputs) (d : CommandDisks V) (row : Row) → ComesInRun i d row → AsksNothing i.words → row.status ≡ 2
   row_asks i d row (without_disks _ comes as_before) nothing = inputs_ask i row comes nothing
   row_asks i d row (not_started _ (c, bus, events, set, comes)) nothing = absurd (nothing (World c) set.asks)
   row_asks i d row (tried summary (trial, bus, events, set, ran)) nothing = absurd (nothing (World (Trial trial)) set.asks)
@@ -174,9 +174,9 @@ inputs_refuse i row file fault (no_script other (task, set, lacks)) over offers 
 inputs_refuse i row file fault (script_refused other (task, set, rest)) over offers err = absurd (set_has_bus i task file fault set over offers err)
 inputs_refuse i row file fault (done text (task, set, rest)) over offers err = absurd (set_has_bus i task file fault set over offers err)
 
-module _ {same : Type 0} where
+module _ {V : Type 0} where
   -- its first fault is told, or want of memory
-  pub row_refuses : (i : BusInputs) (d : DiskStates) (row : Row) (file : List ℕ) (fault : ConfigFault) → ComesInRun same i d row → AsksOverBus i.words → Offers i.config file
+  pub row_refuses : (i : BusInputs) (d : CommandDisks V) (row : Row) (file : List ℕ) (fault : ConfigFault) → ComesInRun i d row → AsksOverBus i.words → Offers i.config file
       → bus_of file ≡ Err fault → (row.status ≡ 3) ⊎ (row.status ≡ 7)
   row_refuses i d row file fault (without_disks _ comes as_before) over offers err = inputs_refuse i row file fault comes over offers err
   row_refuses i d row file fault (not_started _ (c, bus, events, set, comes)) over offers err = absurd (bus_or_fault i.config bus file fault set.of_bus offers err)
@@ -236,10 +236,10 @@ start_offered i d row task input Replay bus events set comes offers lines =
     inr (inr (inr (bus, one.0, one.1, comes)))
 start_offered i d row task input (Trial trial) bus events set comes offers lines = no_trial i.words task trial (offered_asks i task offers) set.asks
 
-module _ {same : Type 0} where
-  pub row_offered : (i : BusInputs) (d : DiskStates) (row : Row) (task : Task) (input : List ℕ) → ComesInRun same i d row → OffersTask i task → Offers i.script input → OfTask d row task input
-  row_offered i d row task input (without_disks _ comes as_before) offers lines = inputs_offered i d row task input comes offers lines
-  row_offered i d row task input (not_started _ (c, bus, events, set, comes)) offers lines = start_offered i d row task input c bus events set comes.1 offers lines
+module _ {V : Type 0} where
+  pub row_offered : (i : BusInputs) (d : CommandDisks V) (row : Row) (task : Task) (input : List ℕ) → ComesInRun i d row → OffersTask i task → Offers i.script input → OfTask d.states row task input
+  row_offered i d row task input (without_disks _ comes as_before) offers lines = inputs_offered i d.states row task input comes offers lines
+  row_offered i d row task input (not_started _ (c, bus, events, set, comes)) offers lines = start_offered i d.states row task input c bus events set comes.1 offers lines
   row_offered i d row task input (tried summary (trial, bus, events, set, ran)) offers lines = no_trial i.words task trial (offered_asks i task offers) set.asks
   row_offered i d row task input (tried_without_memory summary (trial, bus, events, set, ran)) offers lines =
       no_trial i.words task trial (offered_asks i task offers) set.asks
@@ -258,11 +258,11 @@ inputs_tried i d row bus (no_script fault (task, set, lacks)) (trial, asks, of_b
 inputs_tried i d row bus (script_refused fault (task, set, over)) (trial, asks, of_bus) = no_trial i.words task trial (set_asks i task set) asks
 inputs_tried i d row bus (done text (task, set, over)) (trial, asks, of_bus) = no_trial i.words task trial (set_asks i task set) asks
 
-module _ {same : Type 0} where
-  pub row_tried : (i : BusInputs) (d : DiskStates) (row : Row) (bus : NamedBus) → ComesInRun same i d row → OffersTrial i bus → OfTrial d row bus
-  row_tried i d row bus (without_disks _ comes as_before) offers = inputs_tried i d row bus comes offers
+module _ {V : Type 0} where
+  pub row_tried : (i : BusInputs) (d : CommandDisks V) (row : Row) (bus : NamedBus) → ComesInRun i d row → OffersTrial i bus → OfTrial d.states row bus
+  row_tried i d row bus (without_disks _ comes as_before) offers = inputs_tried i d.states row bus comes offers
   row_tried i d row bus (not_started _ (c, over, events, set, comes)) offers =
-      inr (inl (subst (λ (b : NamedBus). ComesOfStart b d row) (same_bus i.config over bus set.of_bus offers.2) comes.1))
+      inr (inl (subst (λ (b : NamedBus). ComesOfStart b d.states row) (same_bus i.config over bus set.of_bus offers.2) comes.1))
   row_tried i d row bus (tried summary (trial, over, events, set, ran)) offers =
-      inr (inr (refl, subst (λ (b : NamedBus). HasRoom b d.before) (same_bus i.config over bus set.of_bus offers.2) ran.ran.started.room))
+      inr (inr (refl, subst (λ (b : NamedBus). HasRoom b d.states.before) (same_bus i.config over bus set.of_bus offers.2) ran.ran.started.room))
   row_tried i d row bus (tried_without_memory summary (trial, over, events, set, ran)) offers = inl refl

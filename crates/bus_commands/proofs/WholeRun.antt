@@ -1,49 +1,64 @@
--- All that holds of the run of a replay over disks that tell their bytes, put together
-use Rattle.std.specs.Prelude.{ℕ, Result, List, length}
+-- A replay over disks that tell their bytes is one run of the machine, and the texts of its lines were written
+use Rattle.std.specs.Prelude.{Ok, Err, Result, List, [], ◌∷◌, ◌++◌, ℕ, length, ◌≡◌}
+use Rattle.std.proofs.Common.{refl, sym, ap, ◌∙◌, subst}
 use Rattle.bus_port.specs.Sink.{SinkState}
 use Rattle.cut_disk.specs.State.{DiskState}
-use Rattle.machine_runs.specs.Run.{Moment, Run}
+use Rattle.machine_runs.specs.Run.{Moment}
 use Rattle.numbered_run.specs.declared.printing.Unwritten.{Unwritten}
+use Rattle.numbered_run.specs.Printed.{Written}
 use Rattle.bus_machine.specs.declared.events.Event.{Event}
 use Rattle.bus_machine.specs.declared.lines.Line.{Line}
-use Rattle.bus_machine.specs.Bus.{BusRun}
-use Rattle.bus_nodes.specs.Buses.{NamedBus, configs_of}
+use Rattle.bus_machine.specs.Bus.{World, Moments}
+use Rattle.bus_nodes.specs.Buses.{NamedBus}
 use Rattle.bus_texts.specs.LineTexts.{line_text}
-use Rattle.bus_world.specs.Worlds.{BusState, world_of, BusTurn}
-use Rattle.bus_commands.specs.Replays.{Ran}
-use Rattle.bus_commands.specs.Headline.{TellEach, Replayed}
-use Rattle.bus_commands.proofs.Starting.{no_disk}
-use Rattle.bus_commands.proofs.OneRun.{Laws, seen, is_a_run, first_commands, written_as, rising, authentic, single, keys_kept, cuts_skip_little}
-use Rattle.bus_commands.proofs.Disks.{disks_fit, disks_count, disks_rest}
-use Rattle.bus_commands.proofs.QuietRuns.{failures_counted}
-use Rattle.bus_commands.proofs.TracedRuns.{traced}
-use Rattle.bus_commands.proofs.Honesty.{honest}
+use Rattle.bus_world.specs.declared.start.Start.TheVariants.{Format}
+use Rattle.bus_world.specs.Worlds.{BusState, world_of}
+use Rattle.world_runs.specs.NodeDisks.{TellEach, DisksStay}
+use Rattle.world_runs.specs.WorldRuns.{IsFirstOf, WorldRun}
+use Rattle.world_runs.specs.Turns.{seen, TakesTurns, TurnsLeaveDisks, TurnsAreWorldRuns, StartsSetUp, StartsBeginAtFirst}
+use Rattle.world_runs.specs.TurnLaws.{same_lines, same_length}
+use Rattle.bus_commands.specs.Replays.{ReplayTurns}
+use Rattle.bus_commands.specs.Headline.{ReplaysAreRuns}
 
-pub whole_run : (laws : Laws) (bus : NamedBus) (before after : List DiskState) (events : List Event) (sink_before sink_after : SinkState) (result : Result (Unit {0}) Unwritten)
-    → Ran bus before after events sink_before sink_after result → TellEach bus before → Replayed bus before after events sink_before sink_after result
-whole_run laws bus before after events sink_before sink_after result ran tell =
+-- ---- the texts
+
+seen_more : (front : List (Moment Event Line BusState)) (last : Moment Event Line BusState) → seen (front ++ last ∷ []) ≡ seen front ++ seen (last ∷ [])
+seen_more [] last = refl
+seen_more (m ∷ ms) last = ap (λ (xs : Moments). seen (m ∷ []) ++ xs) (seen_more ms last)
+
+-- the same texts were written
+written_as : (text : ℕ → Line → List ℕ) (ms : List (Moment Event Line BusState)) (events : List Event) (before after : SinkState) (result : Result (Unit {0}) Unwritten)
+    → Written text before after events result ms → Written text before after events result (seen ms)
+written_as text ms events before after (Ok done) written =
+    (same_length ms ∙ written.0, rw (same_lines ms) written.1)
+written_as text ms events before after (Err cause) written = record {
+  front = seen written.front;
+  last = record { command = written.last.command; line = written.last.line; after = world_of written.last.after };
+  all = ap seen written.all ∙ seen_more written.front written.last;
+  written = rw (same_lines written.front) (rw (same_length ms) written.written);
+}
+
+-- ---- the run
+
+module _ (bus : NamedBus) (before after : List DiskState) (events : List Event) (sink_before sink_after : SinkState) (result : Result (Unit {0}) Unwritten)
+    (ran : ReplayTurns bus before after events sink_before sink_after result) where
+  turns_taken : TakesTurns bus before after events ran.start ran.printed.moments ran.now
+  turns_taken = record { run = ran.printed.run; of_events = ran.printed.first; disks = ran.disks }
+
+  pub replay_stays : StartsSetUp → TurnsLeaveDisks → DisksStay bus before after (seen ran.printed.moments)
+  replay_stays set_up leave =
+      leave bus before after events ran.start ran.printed.moments ran.now (set_up Format bus (length events) before ran.start ran.started) turns_taken
+
+pub whole_run : StartsSetUp → StartsBeginAtFirst → TurnsAreWorldRuns → ReplaysAreRuns
+whole_run set_up begin runs bus before after events sink_before sink_after result ran tell =
+    let begun = begin bus (length events) before ran.start ran.is_bus ran.started tell in
     let ms : List (Moment Event Line BusState) = ran.printed.moments in
-    let run : Run BusTurn ran.start ms ran.now = ran.printed.run in
-    let most : ℕ = length events in
-    let is : BusRun (configs_of bus) (seen ms) (world_of ran.now) = is_a_run laws bus most before ran.start ran.now ms no_disk ran.started tell run in
     record {
       moments = seen ms;
       last = world_of ran.now;
-      is_a_run = is;
-      first = first_commands ms events ran.printed.first;
+      run = subst (λ (w : World). WorldRun w bus before after events (seen ms) (world_of ran.now)) begun.first
+          (runs bus before after events ran.start ms ran.now (set_up Format bus (length events) before ran.start ran.started) begun.fits
+          (subst (IsFirstOf bus) (sym begun.first) begun.is_first)
+          (turns_taken bus before after events sink_before sink_after result ran));
       written = written_as line_text ms events sink_before sink_after result ran.printed.holds;
-      rising = rising laws bus (seen ms) (world_of ran.now) ran.is_bus is;
-      authentic = authentic laws bus (seen ms) (world_of ran.now) ran.is_bus is;
-      single = single laws bus (seen ms) (world_of ran.now) ran.is_bus is;
-      keys_kept = keys_kept laws bus (seen ms) (world_of ran.now) ran.is_bus is;
-      cuts_skip_little = cuts_skip_little laws bus (seen ms) (world_of ran.now) ran.is_bus is;
-      disks = record {
-        fit = λ i d inside. disks_fit laws bus most before after ran.start ran.now ms d ran.started tell run ran.disks i inside;
-        count = disks_count bus most before after ran.start ran.now ms ran.started run ran.disks;
-        rest = disks_rest bus most before after ran.start ran.now ms ran.started run ran.disks;
-        traced = λ i d all inside tells. traced bus most before after ran.start ran.now ms d ran.started tell run ran.disks i all inside tells;
-      };
-      failures = λ i d inside. failures_counted bus most before after ran.start ran.now ms d ran.started run ran.disks i inside;
-      honest = honest laws bus before after events (seen ms) (world_of ran.now) no_disk ran.is_bus is (first_commands ms events ran.printed.first)
-          (λ i inside. failures_counted bus most before after ran.start ran.now ms no_disk ran.started run ran.disks i inside);
     }

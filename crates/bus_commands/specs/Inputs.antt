@@ -54,7 +54,8 @@ NoConfig i fault = AsksOverBus i.words × Lacks i.config fault × IsUnread i.scr
 
 -- ---- the lines
 
--- the words ask for what is done with the lines, whose bus is that of the bus file, which was read whole; where they need none, it is unread
+-- the words ask for what is done with the lines, whose bus is that of the bus file, which was read whole; where they
+-- need none, it is unread
 abbrev pub SetsTask : BusInputs → Task → Type 0
 SetsTask i frame = Asks i.words (Lines lines.Frame) × IsUnread i.config
 SetsTask i judge = Asks i.words (Lines lines.Judge) × IsUnread i.config
@@ -78,7 +79,8 @@ NoScript i fault = (task : Task) × SetsTask i task × Lacks i.script fault
 
 -- ---- runs of a bus
 
--- a replay has the events of its script, which was read whole; a trial those that its seed gives, and of the lines nothing was read
+-- a replay has the events of its script, which was read whole; a trial those that its seed gives, and of the lines
+-- nothing was read
 abbrev pub HasEvents : WorldCommand → NamedBus → Reading → List Event → Type 0
 HasEvents Replay bus script events = (text : List ℕ) × ReadsWhole script text × (events_of bus.nodes text ≡ Ok events)
 HasEvents (Trial trial) bus script events = IsUnread script × (events ≡ trial_events bus.nodes trial.count trial.seed)
@@ -100,7 +102,8 @@ OverReplay i P = (bus : NamedBus) × (events : List Event) × SetsWorld i Replay
 -- a trial is asked for, over this bus, and these are the events that its seed gives
 abbrev pub OverTrial : BusInputs → (NamedBus → List Event → Type 0) → Type 0
 OverTrial i P =
-    (trial : TrialWords) × (bus : NamedBus) × (events : List Event) × SetsWorld i (Trial trial) bus events × P bus events
+    (trial : TrialWords) × (bus : NamedBus) × (events : List Event) × SetsWorld i (Trial trial) bus events
+    × P bus events
 
 -- a replay or a trial
 abbrev pub OverWorld : BusInputs → (NamedBus → List Event → Type 0) → Type 0

@@ -9,17 +9,20 @@ use Rattle.text_lines.specs.Readings.{Fault}
 use Rattle.numbered_run.specs.declared.printing.Unwritten.{Unwritten}
 use Rattle.bus_config.specs.declared.fault.ConfigFault.{ConfigFault}
 use Rattle.bus_config.specs.FaultTexts.{config_fault_text}
-use Rattle.bus_nodes.specs.Buses.{NamedBus, IsNamedBus}
+use Rattle.bus_nodes.specs.Buses.{NamedBus, IsNamedBus, configs_of}
 use Rattle.bus_machine.specs.declared.events.Event.{Event}
+use Rattle.bus_machine.specs.Bus.{First}
 use Rattle.bus_commands.specs.declared.summary.Summary.{Summary}
 use Rattle.bus_commands.specs.Words.{AsksNothing}
 use Rattle.bus_commands.specs.Texts.{usage, Prints, fault_of}
 use Rattle.bus_commands.specs.Inputs.{BusInputs, AsksOverBus, IsConfigFault, NoConfig, NoScript, Over, OverReplay, OverTrial, OverWorld}
-use Rattle.bus_commands.specs.StartRows.{DiskStates, ComesOfStart}
+use Rattle.bus_commands.specs.StartRows.{DiskStates, CommandDisks, ComesOfStart}
 use Rattle.bus_commands.specs.Summaries.{summary_text}
-use Rattle.bus_commands.specs.Replays.{Ran, written_status}
-use Rattle.bus_commands.specs.Headline.{TellEach, Replayed}
-use Rattle.bus_commands.specs.TrialRuns.{RanThrough, Tried}
+use Rattle.bus_commands.specs.Replays.{ReplayTurns, written_status}
+use Rattle.world_runs.specs.NodeDisks.{TellEach, DisksStay}
+use Rattle.world_runs.specs.Turns.{seen}
+use Rattle.bus_commands.specs.Headline.{Replayed}
+use Rattle.bus_commands.specs.TrialRuns.{TrialTurns, Tried}
 
 -- the rows for which no disk is used
 pub data ComesOfInputs (i : BusInputs) : Row → Type 0 where
@@ -28,31 +31,43 @@ pub data ComesOfInputs (i : BusInputs) : Row → Type 0 where
   config_refused : (fault : ConfigFault) (text : List ℕ) → AsksOverBus i.words → IsConfigFault i.config fault
       → config_fault_text fault ≡ Some text → IsUnread i.script → ComesOfInputs i (row_of 3 text)
   no_script : (fault : InputFault) → NoScript i fault → ComesOfInputs i (input_row fault)
-  script_refused : (fault : Fault) → Over i (λ task input. fault_of task input ≡ Some fault) → ComesOfInputs i (line_row fault)
+  script_refused : (fault : Fault) → Over i (λ task input. fault_of task input ≡ Some fault)
+      → ComesOfInputs i (line_row fault)
   done : (text : List ℕ) → Over i (λ task input. Prints task input text) → ComesOfInputs i (row_of 0 text)
 
--- all events of a trial were done; over disks that tell their bytes they are one run of the machine, and all of `Tried` holds of it
+-- all events of a trial were done; over disks that tell their bytes they are one run of the machine
 pub record DoneTrial (bus : NamedBus) (events : List Event) (d : DiskStates) (summary : Summary) : Type 0 where
-  pub ran : RanThrough bus d.before d.after events summary
+  pub ran : TrialTurns bus d.before d.after events summary
+  pub stay : DisksStay bus d.before d.after (seen ran.turns.moments)
   pub one_run : TellEach bus d.before → Tried bus d.before d.after events summary
 
--- a replay did its first events, up to the first whose text wasn't written, and has the status that says so; over disks that tell their
--- bytes they are one run of the machine, and all of `Replayed` holds of it
-pub record DoneReplay (bus : NamedBus) (events : List Event) (d : DiskStates) (e : Ending) (result : Result (Unit {0}) Unwritten) : Type 0 where
-  pub ran : Ran bus d.before d.after events e.before e.after result
+-- a replay did its first events, up to the first whose text wasn't written, and has the status that says so; over
+-- disks that tell their bytes they are one run of the machine from the first world of the bus
+pub record DoneReplay (bus : NamedBus) (events : List Event) (d : DiskStates) (e : Ending)
+    (result : Result (Unit {0}) Unwritten) : Type 0 where
+  pub ran : ReplayTurns bus d.before d.after events e.before e.after result
   pub status_is : e.status ≡ written_status result
-  pub one_run : TellEach bus d.before → Replayed bus d.before d.after events e.before e.after result
+  pub stay : DisksStay bus d.before d.after (seen ran.printed.moments)
+  pub one_run : TellEach bus d.before
+      → Replayed (First (configs_of bus)) bus d.before d.after events e.before e.after result
 
--- the table: when each row comes, and what the disks are then; `same` is that every disk is as before
-pub data ComesInRun (same : Type 0) (i : BusInputs) (d : DiskStates) : Row → Type 0 where
-  without_disks : (row : Row) → ComesOfInputs i row → same → ComesInRun same i d row
-  not_started : (row : Row) → OverWorld i (λ bus events. IsNamedBus bus × ComesOfStart bus d row) → ComesInRun same i d row
-  tried : (summary : Summary) → OverTrial i (λ bus events. DoneTrial bus events d summary)
-      → ComesInRun same i d (row_of 0 (summary_text summary))
-  tried_without_memory : (summary : Summary) → OverTrial i (λ bus events. DoneTrial bus events d summary)
-      → ComesInRun same i d memory_row
+-- a replay is asked for, and it did the first events of its script, which ended so
+abbrev pub ReplaysScript : BusInputs → DiskStates → Ending → Result (Unit {0}) Unwritten → Type 0
+ReplaysScript i d e result = OverReplay i (λ bus events. DoneReplay bus events d e result)
+
+-- a trial is asked for, and it did all its events, which have this summary
+abbrev pub TriesEvents : BusInputs → DiskStates → Summary → Type 0
+TriesEvents i d summary = OverTrial i (λ bus events. DoneTrial bus events d summary)
+
+-- the table: when each row comes, and what the disks are then
+pub data ComesInRun {V : Type 0} (i : BusInputs) (d : CommandDisks V) : Row → Type 0 where
+  without_disks : (row : Row) → ComesOfInputs i row → d.new ≡ d.old → ComesInRun i d row
+  not_started : (row : Row) → OverWorld i (λ bus events. IsNamedBus bus × ComesOfStart bus d.states row)
+      → ComesInRun i d row
+  tried : (summary : Summary) → TriesEvents i d.states summary → ComesInRun i d (row_of 0 (summary_text summary))
+  tried_without_memory : (summary : Summary) → TriesEvents i d.states summary → ComesInRun i d memory_row
 
 -- how a command ends: a row of the table comes, and is told; or a replay did its first events
-pub data EndsRun (same : Type 0) (i : BusInputs) (d : DiskStates) (e : Ending) : Type 0 where
-  in_row : EndsInRow (ComesInRun same i d) e → EndsRun same i d e
-  replayed : (result : Result (Unit {0}) Unwritten) → OverReplay i (λ bus events. DoneReplay bus events d e result) → EndsRun same i d e
+pub data EndsCommand {V : Type 0} (i : BusInputs) (d : CommandDisks V) (e : Ending) : Type 0 where
+  in_row : EndsInRow (ComesInRun i d) e → EndsCommand i d e
+  replayed : (result : Result (Unit {0}) Unwritten) → ReplaysScript i d.states e result → EndsCommand i d e

@@ -7,11 +7,18 @@ use Rattle.bus_world.specs.Starts.{NotStarted, HasRoom, FindsRoom}
 use Rattle.bus_world.specs.StartRows.{start_row, StoreCause, LeavesEach, DisksDo}
 use Rattle.bus_world.specs.declared.start.StartFault.{StartFault}
 use Rattle.bus_world.specs.declared.start.StartFault.TheVariants.{TooFew, TooSmall, Store, BadSlot, BadBound, Memory}
+use Rattle.bus_world.specs.declared.start.Start.TheVariants.{Format}
 
 -- what was known of the disks of a command before and after it
 pub record DiskStates : Type 0 where
   pub before : List DiskState
   pub after : List DiskState
+
+-- the disks themselves before and after it, and what was known of them
+pub record CommandDisks (V : Type 0) : Type 0 where
+  pub old : V
+  pub new : V
+  pub states : DiskStates
 
 -- the text of the row of a start that is refused; want of memory has none
 abbrev pub start_fault_text : StartFault → Option (List ℕ)
@@ -28,10 +35,11 @@ pub data ComesOfStart (bus : NamedBus) (d : DiskStates) : Row → Type 0 where
   disks_refused : (fault : StartFault) (text : List ℕ) → FindsRoom bus d.before fault → d.after ≡ d.before
       → start_fault_text fault ≡ Some text → ComesOfStart bus d (row_of 9 text)
   -- the store of a node isn't written, or what was written isn't read again
-  store_refused : (fault : StartFault) (text : List ℕ) → HasRoom bus d.before → StoreCause bus d.before d.after fault
-      → LeavesEach bus d.before d.after → start_fault_text fault ≡ Some text → ComesOfStart bus d (row_of 10 text)
-  start_without_memory : (fault : StartFault) → NotStarted bus d.before d.after fault → ComesOfStart bus d memory_row
+  store_refused : (fault : StartFault) (text : List ℕ) → HasRoom bus d.before → StoreCause Format bus d.before d.after fault
+      → LeavesEach Format bus d.before d.after → start_fault_text fault ≡ Some text → ComesOfStart bus d (row_of 10 text)
+  start_without_memory : (fault : StartFault) → NotStarted Format bus d.before d.after fault → ComesOfStart bus d memory_row
 
--- there are disks enough for the bus, of enough size, and each that it takes tells its bytes, and was quiet, or its count didn't rise
+-- there are disks enough for the bus, of enough size, and each that it takes tells its bytes, and was quiet, or its
+-- count didn't rise
 abbrev pub BusHasDisks : NamedBus → DiskStates → Type 0
-BusHasDisks bus d = HasRoom bus d.before × DisksDo bus d.before d.after
+BusHasDisks bus d = HasRoom bus d.before × DisksDo Format bus d.before d.after

@@ -62,7 +62,8 @@ ReadsLines P meaning (Err row) = NoLines meaning row
 
 -- the row of a fault of a bus file, or want of memory for its text
 abbrev pub IsConfigRow : ConfigFault → Row → Type 0
-IsConfigRow fault row = ((text : List ℕ) × (config_fault_text fault ≡ Some text) × (row ≡ row_of 3 text)) ⊎ (row ≡ memory_row)
+IsConfigRow fault row =
+    ((text : List ℕ) × (config_fault_text fault ≡ Some text) × (row ≡ row_of 3 text)) ⊎ (row ≡ memory_row)
 
 -- the bus is the one that a bus file has, or the file is refused
 abbrev pub HasBus : List ℕ → Result NamedBus Row → Type 0
@@ -72,7 +73,8 @@ HasBus file (Err row) = ((fault : ConfigFault) × (bus_of file ≡ Err fault) ×
 -- why the source of a bus file gives none
 pub data LacksBus (config : Reading) : Row → Type 0 where
   no_file : (fault : InputFault) → Lacks config fault → LacksBus config (input_row fault)
-  file_refused : (fault : ConfigFault) (text : List ℕ) → IsConfigFault config fault → config_fault_text fault ≡ Some text
+  file_refused : (fault : ConfigFault) (text : List ℕ) → IsConfigFault config fault
+      → config_fault_text fault ≡ Some text
       → LacksBus config (row_of 3 text)
 
 -- the bus of a bus file that was read whole, or why there is none
@@ -91,7 +93,8 @@ abbrev pub ReadsLinesAs : {A : Type 0} → (List ℕ → Result (List A) Fault) 
 ReadsLinesAs meaning script lines = (text : List ℕ) × ReadsWhole script text × (meaning text ≡ Ok lines)
 
 -- the lines of a source that was read whole, each of them whole, or why there are none
-abbrev pub FindsLines : {A : Type 0} → (List ℕ → Result (List A) Fault) → (A → Type 0) → Reading → Result (Vec A Global) Row → Type 0
+abbrev pub FindsLines : {A : Type 0} → (List ℕ → Result (List A) Fault) → (A → Type 0) → Reading
+    → Result (Vec A Global) Row → Type 0
 FindsLines meaning P script (Ok lines) = ReadsLinesAs meaning script lines.items × All P lines.items
 FindsLines meaning P script (Err row) = LacksLines meaning script row
 
@@ -111,7 +114,8 @@ FindsScript bus script (Err row) = LacksLines (events_of bus.nodes) script row
 
 -- the events that the seed of a trial gives, or want of memory
 abbrev pub DrawsEvents : NamedBus → TrialWords → Result (Vec Event Global) Row → Type 0
-DrawsEvents bus trial (Ok events) = (events.items ≡ trial_events bus.nodes trial.count trial.seed) × AreEvents bus events.items
+DrawsEvents bus trial (Ok events) =
+    (events.items ≡ trial_events bus.nodes trial.count trial.seed) × AreEvents bus events.items
 DrawsEvents bus trial (Err row) = row ≡ memory_row
 
 -- ---- the first phase
@@ -171,15 +175,17 @@ TellsLines (Judgements lines) text = TellsEach TellsJudgement lines.items text
 TellsLines (Events bus events) text = text ≡ flat_map (canon bus.nodes) events.items
 
 -- what the second phase over lines ends in: the whole text is told, or there was no memory for it
-pub data DoesLines (job : LineJob) : Row → Type 0 where
-  told : (text : List ℕ) → TellsLines job text → DoesLines job (row_of 0 text)
-  no_text : DoesLines job memory_row
+pub data AnswersLines (job : LineJob) : Row → Type 0 where
+  told : (text : List ℕ) → TellsLines job text → AnswersLines job (row_of 0 text)
+  no_text : AnswersLines job memory_row
 
--- what a trial ends in: it isn't started, or all its events are done, and its seven lines are told, or there was no memory for them
-pub data DoesTrial (bus : NamedBus) (events : List Event) (d : DiskStates) : Row → Type 0 where
-  refused_trial : (row : Row) → ComesOfStart bus d row → DoesTrial bus events d row
-  summed : (summary : Summary) → DoneTrial bus events d summary → DoesTrial bus events d (row_of 0 (summary_text summary))
-  no_summary : (summary : Summary) → DoneTrial bus events d summary → DoesTrial bus events d memory_row
+-- what a trial ends in: it isn't started, or all its events are done, and its seven lines are told, or there was no
+-- memory for them
+pub data AnswersTrial (bus : NamedBus) (events : List Event) (d : DiskStates) : Row → Type 0 where
+  refused_trial : (row : Row) → ComesOfStart bus d row → AnswersTrial bus events d row
+  summed : (summary : Summary) → DoneTrial bus events d summary
+      → AnswersTrial bus events d (row_of 0 (summary_text summary))
+  no_summary : (summary : Summary) → DoneTrial bus events d summary → AnswersTrial bus events d memory_row
 
 -- how the text of a summary is told, or want of memory for it
 pub data TellsSummary (summary : Summary) : Row → Type 0 where
@@ -187,11 +193,11 @@ pub data TellsSummary (summary : Summary) : Row → Type 0 where
   no_lines_told : TellsSummary summary memory_row
 
 -- how a replay ends: it isn't started, or it did its first events
-pub data DoesReplay (bus : NamedBus) (events : List Event) (d : DiskStates) (e : Ending) : Type 0 where
-  refused_replay : EndsInRow (ComesOfStart bus d) e → DoesReplay bus events d e
-  first_done : (result : Result (Unit {0}) Unwritten) → DoneReplay bus events d e result → DoesReplay bus events d e
+pub data AnswersReplay (bus : NamedBus) (events : List Event) (d : DiskStates) (e : Ending) : Type 0 where
+  refused_replay : EndsInRow (ComesOfStart bus d) e → AnswersReplay bus events d e
+  first_done : (result : Result (Unit {0}) Unwritten) → DoneReplay bus events d e result → AnswersReplay bus events d e
 
 -- how the run of a bus ends, by what is asked of it
-abbrev pub DoesAsked : WorldCommand → NamedBus → List Event → DiskStates → Ending → Type 0
-DoesAsked Replay bus events d e = DoesReplay bus events d e
-DoesAsked (Trial trial) bus events d e = EndsInRow (DoesTrial bus events d) e
+abbrev pub AnswersWorld : WorldCommand → NamedBus → List Event → DiskStates → Ending → Type 0
+AnswersWorld Replay bus events d e = AnswersReplay bus events d e
+AnswersWorld (Trial trial) bus events d e = EndsInRow (AnswersTrial bus events d) e

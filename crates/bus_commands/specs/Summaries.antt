@@ -54,6 +54,10 @@ number_line name number = name ++ (codes " " ++ line (decimal number))
 
 abbrev pub summary_text : Summary → List ℕ
 summary_text s =
-    number_line (codes "events") s.events ++ number_line (codes "sent") s.sent ++ number_line (codes "accepted") s.accepted
-    ++ number_line (codes "failures") s.failures ++ number_line (codes "keyed") s.keyed ++ number_line (codes "cuts") s.cuts
+    number_line (codes "events") s.events
+    ++ number_line (codes "sent") s.sent
+    ++ number_line (codes "accepted") s.accepted
+    ++ number_line (codes "failures") s.failures
+    ++ number_line (codes "keyed") s.keyed
+    ++ number_line (codes "cuts") s.cuts
     ++ number_line (codes "refused") s.refused

@@ -27,7 +27,8 @@ TellsFrame l text = (pdu : List ℕ) × Secured l.key l.id l.payload l.freshness
 abbrev pub TellsJudgement : JudgeLine → List ℕ → Type 0
 TellsJudgement l text =
     (¬ IsFrame l.pdu × (text ≡ bad_length_text))
-    ⊎ (IsFrame l.pdu × (outcome : Outcome) × Verdict l.key l.id l.counter 256 l.pdu outcome × (text ≡ outcome_text outcome))
+    ⊎ (IsFrame l.pdu × (outcome : Outcome) × Verdict l.key l.id l.counter 256 l.pdu outcome ×
+    (text ≡ outcome_text outcome))
 
 -- the text has the answer of each line, one behind the other, and nothing else
 abbrev pub TellsEach : {A : Type 0} → (A → List ℕ → Type 0) → List A → List ℕ → Type 0

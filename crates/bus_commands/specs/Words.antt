@@ -21,8 +21,8 @@ NamesBusCommand word (Lines Check) = word ≡ codes "check"
 NamesBusCommand word (World Replay) = word ≡ codes "replay"
 NamesBusCommand word (World (Trial trial)) = ⊥
 
--- the first of four words, of which the second names a bus file, the third is a number of events and the fourth a seed, asks for
--- this command
+-- the first of four words, of which the second names a bus file, the third is a number of events and the fourth a
+-- seed, asks for this command
 abbrev pub NamesTrialCommand : List ℕ → List ℕ → List ℕ → Command → Type 0
 NamesTrialCommand word count seed (World (Trial trial)) = NamesTrial word count seed trial
 NamesTrialCommand word count seed (World Replay) = ⊥
@@ -65,7 +65,8 @@ NamesConfig (word ∷ bus ∷ count ∷ seed ∷ more ∷ words) name = ⊥
 abbrev pub AreInput : List ℕ → List ℕ → Type 0
 AreInput bus file = (bus ≡ codes "-") × (file ≡ codes "-")
 
--- this word names the lines: `-`, standard input, with no words; a trial has none. Where the bus file is standard input already, `-` names nothing
+-- this word names the lines: `-`, standard input, with no words; a trial has none. Where the bus file is standard
+-- input already, `-` names nothing
 abbrev pub NamesScript : List (List ℕ) → List ℕ → Type 0
 NamesScript [] name = name ≡ codes "-"
 NamesScript (word ∷ []) name = ⊥

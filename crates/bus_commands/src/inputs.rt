@@ -47,7 +47,8 @@ pub fn questions_from<Q: Question, S: Source>(
     alloc: Global,
     script: &mut S,
 ) -> Result<Vec<Q>, Refusal>
-    ensures { FindsLines Q.questions_of Q.is_whole (record { before = S.state script.old; after = S.state script.new }) result }
+    ensures { FindsLines Q.questions_of Q.is_whole
+        (record { before = S.state script.old; after = S.state script.new }) result }
 {
     let input = read_input(alloc, script)?;
     questions(alloc, input.as_slice())

@@ -1,42 +1,25 @@
-//! What holds of every replay over disks that tell their bytes, put together from the laws of the crates below.
+//! What holds of every replay and of every trial over disks that tell their bytes.
 ghost use Rattle.bus_commands.specs.Headline.{ReplaysAreRuns};
 ghost use Rattle.bus_commands.specs.TrialRuns.{TrialsAreRuns};
 
-use bus_laws::{
-    accepted_freshness_rises, buses_begin_first, cuts_skip_little, events_determine_lines,
-    honest_pdus_are_accepted, keys_are_kept, no_freshness_is_sent_twice, runs_are_authentic,
-};
-use bus_nodes::named_buses_are_buses;
-use bus_world::turns_are_runs;
+use world_runs::{starts_are_set_up, starts_begin_at_the_first_world, turns_are_world_runs};
 
-/// What was done of a replay over disks that tell their bytes is one run of the machine, and all of `Replayed` holds of it.
+/// What was done of a replay over disks that tell their bytes is one run of the machine from the first world of the bus,
+/// and all of `Replayed` holds of it.
 pub fn replays_are_runs()
     ensures { ReplaysAreRuns }
 {
-    named_buses_are_buses();
-    buses_begin_first();
-    turns_are_runs();
-    accepted_freshness_rises();
-    runs_are_authentic();
-    no_freshness_is_sent_twice();
-    keys_are_kept();
-    cuts_skip_little();
-    honest_pdus_are_accepted();
-    events_determine_lines();
+    starts_are_set_up();
+    starts_begin_at_the_first_world();
+    turns_are_world_runs();
 }
 
-/// What was done of a trial over disks that tell their bytes is one run of the machine, and all of `Tried` holds of it.
+/// What was done of a trial over disks that tell their bytes is one run of the machine from the first world of the bus,
+/// and all of `Tried` holds of it.
 pub fn trials_are_runs()
     ensures { TrialsAreRuns }
 {
-    named_buses_are_buses();
-    buses_begin_first();
-    turns_are_runs();
-    accepted_freshness_rises();
-    runs_are_authentic();
-    no_freshness_is_sent_twice();
-    keys_are_kept();
-    cuts_skip_little();
-    honest_pdus_are_accepted();
-    events_determine_lines();
+    starts_are_set_up();
+    starts_begin_at_the_first_world();
+    turns_are_world_runs();
 }

@@ -1,8 +1,9 @@
-//! The commands of a bus: Secured I-PDUs and verdicts (AUTOSAR SecOC, profile 1) from lines of text, and scripts and trials of a bus over
-//! disks.
+//! The commands of a bus: Secured I-PDUs and verdicts (AUTOSAR SecOC, profile 1) from lines of text, and scripts and
+//! trials of a bus over disks.
 //!
-//! [`run::run`] is all of it; its clauses say what each status means and what is printed. [`words::command_of`] tells which command the
-//! words ask for, and [`words::config_word`] and [`words::script_word`] which of them name its sources.
+//! [`run::run`] is all of it; its clauses say what each status means and what is printed. [`words::command_of`] tells
+//! which command the words ask for, and [`words::config_word`] and [`words::script_word`] which of them name its
+//! sources.
 #![tactic(auto)]
 
 mod events;

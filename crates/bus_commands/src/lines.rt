@@ -4,6 +4,7 @@ ghost use Rattle.bus_commands.specs.Texts.{TellsFrame, TellsJudgement};
 ghost use Rattle.bus_commands.specs.Steps.{HasPayload, Adds};
 
 use bus_script::{FrameLine, JudgeLine};
+use counting_receiver::WIDEST_WINDOW;
 use secured_pdu::{build, judge, split};
 use she_aes::{Block, Schedule, expand};
 use std::alloc::AllocError;
@@ -38,7 +39,8 @@ impl KeptSchedule {
         }
     }
 
-    /// The round keys of this key: those that are kept where they are of the same key, else new ones, which are kept from then on.
+    /// The round keys of this key: those that are kept where they are of the same key, else new ones, which are kept
+    /// from then on.
     pub fn schedule(&mut self, key: &Block) -> &Schedule
         ensures { result.now ≡ key.now }
     {
@@ -75,7 +77,8 @@ pub fn push_frame(
     Ok(())
 }
 
-/// The most bytes that the answer of a line of `frame` has: two digits for each byte of the payload and of the four behind it, and the line feed.
+/// The most bytes that the answer of a line of `frame` has: two digits for each byte of the payload and of the four
+/// behind it, and the line feed.
 pub fn most_frame_bytes(line: &FrameLine) -> usize
     requires { HasPayload line.now }
     ensures { (text : List ℕ) → TellsFrame line.now text → length text ≤ result }
@@ -83,10 +86,7 @@ pub fn most_frame_bytes(line: &FrameLine) -> usize
     2 * (line.payload.bytes().len() + 4) + 1
 }
 
-/// The window of the receiver that `judge` asks, the widest one.
-const WINDOW: u16 = 256;
-
-/// Adds the answer of a line of `judge`.
+/// Adds the answer of a line of `judge`, whose receiver has the widest window.
 pub fn push_judgement(
     text: &mut Vec<u8>,
     line: &JudgeLine,
@@ -98,15 +98,16 @@ pub fn push_judgement(
         return push_bad_length(text);
     };
     let schedule = kept.schedule(&line.key);
-    let judgement = judge(schedule, line.id, line.counter, WINDOW, &parts);
+    let judgement = judge(schedule, line.id, line.counter, WIDEST_WINDOW, &parts);
     push_outcome(text, parts.payload, &judgement)
 }
 
-/// The bytes of the answer to an accepted PDU beside the digits of its payload: the word, the freshness in 16 digits, two blanks and the line feed. No
-/// other answer of `judge` is so long.
+/// The bytes of the answer to an accepted PDU beside the digits of its payload: the word, the freshness in 16 digits,
+/// two blanks and the line feed. No other answer of `judge` is so long.
 const SUCCESS_BYTES: usize = 38;
 
-/// The most bytes that the answer of a line of `judge` has: those of an acceptance, with two digits for each byte but the last four of up to 64.
+/// The most bytes that the answer of a line of `judge` has: those of an acceptance, with two digits for each byte but
+/// the last four of up to 64.
 pub fn most_judgement_bytes(line: &JudgeLine) -> usize
     ensures { (text : List ℕ) → TellsJudgement line.now text → length text ≤ result }
 {

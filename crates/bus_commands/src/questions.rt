@@ -93,7 +93,8 @@ pub fn questions<Q: Question>(alloc: Global, input: &[u8]) -> Result<Vec<Q>, Ref
     }
 }
 
-/// The most bytes that the answers of lines have together. Where they are more than any memory holds, there is none for them.
+/// The most bytes that the answers of lines have together. Where they are more than any memory holds, there is none
+/// for them.
 fn most_bytes_of<Q: Question>(lines: &[Q]) -> Result<usize, AllocError>
     requires { All Q.is_whole lines.now }
     ensures { IfOk result (λ most. (text : List ℕ) → TellsEach Q.Answers lines.now text → length text ≤ most) }

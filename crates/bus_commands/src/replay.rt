@@ -2,7 +2,7 @@
 ghost use Rattle.std.specs.Prelude.{◌≡◌, map};
 ghost use Rattle.bus_nodes.specs.Buses.{IsNamedBus};
 ghost use Rattle.bus_commands.specs.Replays.{written_status};
-ghost use Rattle.bus_commands.specs.Steps.{AreEvents, DoesReplay};
+ghost use Rattle.bus_commands.specs.Steps.{AreEvents, AnswersReplay};
 
 use crate::laws::replays_are_runs;
 use answer_rows::tell_refusal;
@@ -15,6 +15,7 @@ use command_edge::{DONE, NO_MEMORY, WRITE_FAULT};
 use cut_disk::CutDisk;
 use numbered_run::{LineText, Unwritten, print_run};
 use std::alloc::Global;
+use world_runs::{starts_are_set_up, turns_leave_disks};
 
 /// How the lines of a replay are written.
 struct Texts;
@@ -32,8 +33,8 @@ impl LineText<Line> for Texts {
     }
 }
 
-/// Starts the bus over formatted disks, steps through the events and writes the line of each, and hands the disks back.
-/// After a text that isn't written no further event is done.
+/// Starts the bus over formatted disks, steps through the events and writes the line of each, and hands the disks
+/// back. After a text that isn't written no further event is done.
 pub fn replay<K: Sink, D: CutDisk>(
     alloc: Global,
     bus: &BusConfig,
@@ -43,11 +44,13 @@ pub fn replay<K: Sink, D: CutDisk>(
 ) -> u8
     requires is_bus { IsNamedBus bus.now }
     requires are_events { AreEvents bus.now events.now }
-    ensures { DoesReplay bus.now events.now
+    ensures { AnswersReplay bus.now events.now
         (record { before = map D.state disks.old.items; after = map D.state disks.new.items })
         (record { before = K.state sink.old; after = K.state sink.new; status = result }) }
 {
     replays_are_runs();
+    starts_are_set_up();
+    turns_leave_disks();
     let started = World::start(alloc, bus, disks, events.len() as u32, Start::Format);
     let mut world = match started {
         Ok(world) => world,

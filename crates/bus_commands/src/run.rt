@@ -1,9 +1,9 @@
 //! The commands of the program.
 ghost use Rattle.std.specs.Prelude.{◌≡◌, ◌≤◌, map, string_bytes};
 ghost use Rattle.answer_rows.specs.Endings.{EndsInRow};
-ghost use Rattle.bus_commands.specs.Rows.{EndsRun};
+ghost use Rattle.bus_commands.specs.Rows.{EndsCommand};
 ghost use Rattle.bus_commands.specs.Commands.{RunsCommand};
-ghost use Rattle.bus_commands.specs.Steps.{Prepares, PreparesLines, PreparesWorld, HasFewEvents, FindsEvents, IsWholeLines, IsWholeWorld, DoesLines, DoesAsked};
+ghost use Rattle.bus_commands.specs.Steps.{Prepares, PreparesLines, PreparesWorld, HasFewEvents, FindsEvents, IsWholeLines, IsWholeWorld, AnswersLines, AnswersWorld};
 ghost use Rattle.bus_nodes.specs.Buses.{NamedBus};
 
 use crate::inputs::{bus_from, drawn_events, questions_from, script_from};
@@ -19,14 +19,15 @@ use command_edge::{DONE, tell};
 use cut_disk::CutDisk;
 use std::alloc::{AllocError, Global};
 
-/// Runs the command that the words ask for, the program's name left out, and gives the status that the program ends with. `config`
-/// gives the bus file, which `check`, `replay` and `trial` read, and `script` the lines, which all but `trial` read. All reading comes
-/// before all printing, and every text that is printed ends with a line feed. A replay and a trial format one disk a node. A replay
-/// writes each line as soon as its event is done, a trial its seven lines after all events.
+/// Runs the command that the words ask for, the program's name left out, and gives the status that the program ends
+/// with. `config` gives the bus file, which `check`, `replay` and `trial` read, and `script` the lines, which all but
+/// `trial` read. All reading comes before all printing, and every text that is printed ends with a line feed. A
+/// replay and a trial format one disk a node. A replay writes each line as soon as its event is done, a trial its
+/// seven lines after all events.
 ///
-/// The statuses are looked for in the order 2, then 5, 8 and 3 of the bus file, then 5, 8 and 4 of the lines, then 9 and 10 of the
-/// disks. A sink that fails makes the status 6, whatever was to be printed, and no further event is done. Want of memory, 7, prints
-/// nothing more.
+/// The statuses are looked for in the order 2, then 5, 8 and 3 of the bus file, then 5, 8 and 4 of the lines, then 9
+/// and 10 of the disks. A sink that fails makes the status 6, whatever was to be printed, and no further event is
+/// done. Want of memory, 7, prints nothing more.
 pub fn run<S: Source, T: Source, K: Sink, D: CutDisk>(
     alloc: Global,
     words: &[String],
@@ -36,25 +37,34 @@ pub fn run<S: Source, T: Source, K: Sink, D: CutDisk>(
     disks: &mut Vec<D>,
 ) -> u8
     // `RunsCommand` of specs/Commands.antt has a member for each promise, in the order of the table of answers.
-    ensures promises { RunsCommand (disks.new ≡ disks.old)
+    ensures promises { RunsCommand
         (record {
           words = map string_bytes words.now;
           config = record { before = S.state config.old; after = S.state config.new };
           script = record { before = T.state script.old; after = T.state script.new };
         })
-        (record { before = map D.state disks.old.items; after = map D.state disks.new.items })
+        (record {
+          old = disks.old;
+          new = disks.new;
+          states = record { before = map D.state disks.old.items; after = map D.state disks.new.items };
+        })
         (record { before = K.state sink.old; after = K.state sink.new; status = result }) }
 
-    // A row of the table of answers comes; or a replay of valid inputs did its first events. Over disks that tell their bytes the events
-    // of a replay and of a trial are one run of the machine from the first world of the bus, and one record has all that holds of it:
-    // `is_a_run`, `rising`, `authentic`, `single`, `keys_kept`, `cuts_skip_little`, `disks`, `failures` and `honest`.
-    ensures replayed { EndsRun (disks.new ≡ disks.old)
+    // A row of the table of answers comes; or a replay of valid inputs did its first events. Over disks that tell
+    // their bytes the events of a replay and of a trial are one run of the machine from the first world of the bus,
+    // and one record has all that holds of it: `is_a_run`, `are_lines`, `rising`, `authentic`, `single`, `keys_kept`,
+    // `cuts_skip_little`, `covered`, `disks`, `failures` and `honest`.
+    ensures replayed { EndsCommand
         (record {
           words = map string_bytes words.now;
           config = record { before = S.state config.old; after = S.state config.new };
           script = record { before = T.state script.old; after = T.state script.new };
         })
-        (record { before = map D.state disks.old.items; after = map D.state disks.new.items })
+        (record {
+          old = disks.old;
+          new = disks.new;
+          states = record { before = map D.state disks.old.items; after = map D.state disks.new.items };
+        })
         (record { before = K.state sink.old; after = K.state sink.new; status = result }) }
 {
     match prepare(alloc, words, config, script) {
@@ -163,7 +173,8 @@ fn events_for<T: Source>(
 /// The second phase where no disk is used: what the job prints is told.
 fn do_lines<K: Sink>(alloc: Global, job: &LineJob, sink: &mut K) -> u8
     requires { IsWholeLines job.now }
-    ensures { EndsInRow (DoesLines job.now) (record { before = K.state sink.old; after = K.state sink.new; status = result }) }
+    ensures { EndsInRow (AnswersLines job.now)
+        (record { before = K.state sink.old; after = K.state sink.new; status = result }) }
 {
     match job.text(alloc) {
         Ok(text) => tell(sink, text.as_slice(), DONE),
@@ -179,7 +190,7 @@ fn do_world<K: Sink, D: CutDisk>(
     disks: &mut Vec<D>,
 ) -> u8
     requires { IsWholeWorld job.now }
-    ensures { DoesAsked job.now.command job.now.bus job.now.events.items
+    ensures { AnswersWorld job.now.command job.now.bus job.now.events.items
         (record { before = map D.state disks.old.items; after = map D.state disks.new.items })
         (record { before = K.state sink.old; after = K.state sink.new; status = result }) }
 {

@@ -2,7 +2,7 @@
 ghost use Rattle.std.specs.Prelude.{map};
 ghost use Rattle.answer_rows.specs.Endings.{EndsInRow};
 ghost use Rattle.bus_nodes.specs.Buses.{IsNamedBus};
-ghost use Rattle.bus_commands.specs.Steps.{AreEvents, DoesTrial, TellsSummary};
+ghost use Rattle.bus_commands.specs.Steps.{AreEvents, AnswersTrial, TellsSummary};
 
 use crate::laws::trials_are_runs;
 use crate::summary::Summary;
@@ -15,8 +15,10 @@ use command_edge::{DONE, tell};
 use cut_disk::CutDisk;
 use numbered_run::count_run;
 use std::alloc::{AllocError, Global};
+use world_runs::{starts_are_set_up, turns_leave_disks};
 
-/// Starts the bus over formatted disks, steps through all events, hands the disks back, and tells the summary of the lines.
+/// Starts the bus over formatted disks, steps through all events, hands the disks back, and tells the summary of the
+/// lines.
 pub fn trial<K: Sink, D: CutDisk>(
     alloc: Global,
     bus: &BusConfig,
@@ -26,10 +28,13 @@ pub fn trial<K: Sink, D: CutDisk>(
 ) -> u8
     requires is_bus { IsNamedBus bus.now }
     requires are_events { AreEvents bus.now events.now }
-    ensures { EndsInRow (DoesTrial bus.now events.now (record { before = map D.state disks.old.items; after = map D.state disks.new.items }))
+    ensures { EndsInRow (AnswersTrial bus.now events.now
+        (record { before = map D.state disks.old.items; after = map D.state disks.new.items }))
         (record { before = K.state sink.old; after = K.state sink.new; status = result }) }
 {
     trials_are_runs();
+    starts_are_set_up();
+    turns_leave_disks();
     let started = World::start(alloc, bus, disks, events.len() as u32, Start::Format);
     let mut world = match started {
         Ok(world) => world,
@@ -43,7 +48,8 @@ pub fn trial<K: Sink, D: CutDisk>(
 
 /// Tells a summary.
 fn tell_summary<K: Sink>(alloc: Global, summary: Summary, sink: &mut K) -> u8
-    ensures { EndsInRow (TellsSummary summary) (record { before = K.state sink.old; after = K.state sink.new; status = result }) }
+    ensures { EndsInRow (TellsSummary summary)
+        (record { before = K.state sink.old; after = K.state sink.new; status = result }) }
 {
     match summary.text(alloc) {
         Ok(text) => tell(sink, text.as_slice(), DONE),

@@ -14,8 +14,9 @@ pub struct TrialWords {
     pub seed: u64,
 }
 
-/// What the first, the third and the fourth of four words ask for, of which the second names a bus file: `trial`, the number of
-/// events from 1 to 60,000, and a seed below 2^64, both in decimal digits without sign, of which only 0 begins with 0.
+/// What the first, the third and the fourth of four words ask for, of which the second names a bus file: `trial`, the
+/// number of events from 1 to 60,000, and a seed below 2^64, both in decimal digits without sign, of which only 0
+/// begins with 0.
 pub fn trial_of(name: &str, count: &str, seed: &str) -> Option<TrialWords>
     ensures found { IfSome result (NamesTrial name.now count.now seed.now) }
     ensures none { IfNone result ((trial : TrialWords) → ¬ NamesTrial name.now count.now seed.now trial) }

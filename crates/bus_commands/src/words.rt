@@ -98,8 +98,8 @@ pub fn config_word(words: &[String]) -> Option<&str>
     }
 }
 
-/// The word that names the lines: `-`, standard input, with no words. None for a trial, which has no lines, where the bus file
-/// is standard input already and the script is to be too, or the words are of no form.
+/// The word that names the lines: `-`, standard input, with no words. None for a trial, which has no lines, where the
+/// bus file is standard input already and the script is to be too, or the words are of no form.
 pub fn script_word(words: &[String]) -> Option<&str>
     ensures some { IfSome result (λ word. NamesScript (map string_bytes words.now) word.now) }
     ensures none { IfNone result ((word : List ℕ) → ¬ NamesScript (map string_bytes words.now) word) }

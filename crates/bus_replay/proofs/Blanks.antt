@@ -14,6 +14,7 @@ use Rattle.cell_store.specs.declared.kinds.Version.TheVariants.{One, Two}
 use Rattle.cell_store.specs.declared.faults.Reread.TheVariants.{DiskFailed, NotFormatted, Damaged}
 use Rattle.cell_store.specs.Store.{store_size}
 use Rattle.any_cells.specs.Either.{layout}
+use Rattle.freshness_routes.specs.Config.{Config}
 use Rattle.bus_nodes.specs.Buses.{NamedBus, IsNamedBus, most_routes}
 use Rattle.bus_world.specs.Starts.{FindsRoom, OfNumber}
 use Rattle.bus_world.specs.declared.start.StartFault.{StartFault}
@@ -21,7 +22,13 @@ use Rattle.bus_world.specs.declared.start.StartFault.TheVariants.{TooFew, TooSma
 use Rattle.bus_commands.specs.Inputs.{BusInputs, OverWorld}
 use Rattle.bus_world.specs.StartRows.{LeavesEach, StoreCause}
 use Rattle.bus_replay.specs.Blank.{AreBlank, AreGiven}
-use Rattle.bus_commands.proofs.Starting.{no_line}
+use Rattle.bus_machine.specs.Bus.{no_config}
+use Rattle.bus_nodes.specs.declared.nodes.NodeLine.{NodeLine}
+use Rattle.bus_world.specs.declared.start.Start.TheVariants.{Format}
+
+-- whatever stands where no node is
+no_line : NodeLine
+no_line = record { name = []; config = no_config }
 
 -- what the program's disks mean
 abbrev pub states : List MemDisk → List DiskState
@@ -42,14 +49,14 @@ blank_quiet size = record { quiet = refl; below = omega arith }
 
 -- ---- 10
 
-quiet_there : (size : ℕ) (disks : List MemDisk) (bus : NamedBus) (after : List DiskState) (number : ℕ) (P : DiskState → DiskState → Type 0)
-    → All (λ (disk : MemDisk). contents disk ≡ fresh (replicate size 0)) disks → OfNumber bus (states disks) after number P
-    → P (blank_state size) (get_or after (number - 1) (blank_state size))
+quiet_there : (size : ℕ) (disks : List MemDisk) (bus : NamedBus) (after : List DiskState) (number : ℕ) (P : Config → DiskState → DiskState → Type 0)
+    → All (λ (disk : MemDisk). contents disk ≡ fresh (replicate size 0)) disks → OfNumber Format bus (states disks) after number P
+    → P (get_or bus.nodes (number - 1) no_line).config (blank_state size) (get_or after (number - 1) (blank_state size))
 quiet_there size disks bus after number P all of =
-    subst (λ (s : DiskState). P s (get_or after (number - 1) (blank_state size))) (all_blank size (number - 1) disks all) (of.disk (blank_state size))
+    subst (λ (s : DiskState). P (get_or bus.nodes (number - 1) no_line).config s (get_or after (number - 1) (blank_state size))) (all_blank size (number - 1) disks all) (of.disk no_line (blank_state size))
 
 pub no_store_cause : (size : ℕ) (disks : List MemDisk) (bus : NamedBus) (after : List DiskState) (fault : StartFault)
-    → All (λ (disk : MemDisk). contents disk ≡ fresh (replicate size 0)) disks → StoreCause bus (states disks) after fault → ⊥
+    → All (λ (disk : MemDisk). contents disk ≡ fresh (replicate size 0)) disks → StoreCause Format bus (states disks) after fault → ⊥
 no_store_cause size disks bus after (Store number DiskFailed) all of = (quiet_there size disks bus after number _ all of).1 (blank_quiet size)
 no_store_cause size disks bus after (Store number NotFormatted) all of = let none = quiet_there size disks bus after number _ all of in cc
 no_store_cause size disks bus after (Store number (Damaged place)) all of = let none = quiet_there size disks bus after number _ all of in cc
@@ -96,6 +103,6 @@ never_9 i disks after P given (c, bus, events, set, (is, same, (fault, finds, to
     finds_room 8 65536 disks bus fault (omega arith) (omega arith) (given.0 (c, set.asks)) is finds
 
 pub never_10 : (i : BusInputs) (disks : List MemDisk) (after : List DiskState) (P : StartFault → Type 0) → AreGiven i.words disks
-    → OverWorld i (λ bus events. LeavesEach bus (states disks) after × ((fault : StartFault) × StoreCause bus (states disks) after fault × P fault)) → ⊥
+    → OverWorld i (λ bus events. LeavesEach Format bus (states disks) after × ((fault : StartFault) × StoreCause Format bus (states disks) after fault × P fault)) → ⊥
 never_10 i disks after P given (c, bus, events, set, (left, (fault, cause, told))) =
     no_store_cause 65536 disks bus after fault (given.0 (c, set.asks)).blank cause

@@ -12,8 +12,6 @@ pub mod laws;
 mod lines;
 mod pushing;
 mod reader;
-#[cfg(test)]
-mod tests;
 mod writing;
 
 pub use crate::reader::{read_own_script, read_script};

@@ -5,8 +5,6 @@
 mod drawn_events;
 mod draws;
 pub mod laws;
-#[cfg(test)]
-mod tests;
 mod trial;
 
 pub use trial::make_trial;

@@ -1,6 +1,11 @@
 mod Turning
 mod Stepping
+mod FoundLaws
+mod AttachLaws
 mod OpenLaws
+mod MoveLaws
+mod TakingLaws
 mod StepLaws
 mod StartLaws
 mod RowOfFault
+mod SoundLaws

@@ -1,42 +1,48 @@
 -- A start that is refused behind some nodes that are open
-use Rattle.std.specs.Prelude.{◌≡◌, ℕ, suc, ◌+◌, ◌-◌, ◌<◌, ◌≤◌, false, None, List, [], ◌∷◌, ◌++◌, length, drop, get_or}
+use Rattle.std.specs.Prelude.{◌≡◌, ℕ, suc, ◌+◌, ◌-◌, ◌<◌, ◌≤◌, false, Some, List, [], ◌∷◌, ◌++◌, length, drop, get_or}
 use Rattle.std.proofs.Common.{refl, sym, ap, ◌∙◌, subst, arith, inl, inr, length-append}
 use Rattle.std.proofs.lemmas.Bool.{cases_lt}
 use Rattle.std.proofs.Math.Nat.{eq-or-lt_of_le}
 use Rattle.std.proofs.lemmas.List.{length-map, length-drop, get_or-map, get_or_append_left, get_or-append_right, get_or-drop, ext_get_or}
-use Rattle.cut_disk.specs.State.{DiskState}
+use Rattle.cut_disk.specs.State.{DiskState, Told}
 use Rattle.cut_disk.specs.Calls.{Rose, Runs}
 use Rattle.cut_disk.specs.CallLaws.{runs_none, runs_more}
 use Rattle.cell_store.specs.declared.kinds.Kind.{Kind}
 use Rattle.cell_store.specs.declared.kinds.Version.{Version}
 use Rattle.cell_store.specs.declared.faults.Reread.TheVariants as reread
-use Rattle.cell_store.specs.Store.{Stands}
+use Rattle.cell_store.specs.Formats.{FreshOn}
+use Rattle.cell_store.proofs.CellsLaws.{fresh_images}
 use Rattle.any_cells.specs.Either.{layout}
 use Rattle.freshness_routes.specs.Config.{Config}
-use Rattle.bus_machine.specs.Node.{Node, first_node}
+use Rattle.bus_machine.specs.Node.{Kept, first_node}
 use Rattle.bus_machine.specs.Bus.{no_config}
 use Rattle.bus_nodes.specs.declared.nodes.NodeLine.{NodeLine}
 use Rattle.bus_nodes.specs.Buses.{NamedBus}
-use Rattle.secoc_node.specs.Fits.{StandsForNode}
 use Rattle.secoc_node.specs.State.{NodeState}
 use Rattle.secoc_node.proofs.FitsLaws.{told_before}
 use Rattle.bus_world.specs.declared.opening.OpenFault.{OpenFault}
 use Rattle.bus_world.specs.declared.opening.OpenFault.TheVariants as open_fault
+use Rattle.bus_world.specs.declared.start.Start.{Start}
+use Rattle.bus_world.specs.declared.start.Start.TheVariants.{Format, Attach}
 use Rattle.bus_world.specs.declared.start.StartFault.{StartFault}
 use Rattle.bus_world.specs.declared.start.StartFault.TheVariants as start_fault
-use Rattle.bus_world.specs.Starts.{new_cells, start_calls, disks_of, Opened, LeftOver, LeavesDisk, OpenCause, HasRoom, OfNumber, StartCause, Broken, NotStarted, OpensTo, fault_of_node}
+use Rattle.bus_world.specs.TakingUp.{new_cells, start_calls, KeptOn, LeftOver, LeavesDisk, RefusedFor, OpenCause, CountsRefusal}
+use Rattle.bus_world.specs.Starts.{disks_of, Opened, HasRoom, OfNumber, RefusedAt, StartCause, Broken, NotStarted, OpensTo, fault_of_node}
+use Rattle.bus_world.proofs.OpenLaws.{untouched_left, untouched_leaves}
+use Rattle.bus_world.proofs.TakingLaws.{left_of_leaves}
 
--- a new node's disk stands for its cells
-stands_new : (config : Config) (kind : Kind) (version : Version) (node : Node) (x : List ℕ) → node ≡ first_node config → StandsForNode (layout kind version) node x → Stands (layout kind version) x (new_cells config)
-stands_new config kind version node x is stands = elim (subst (λ n. StandsForNode (layout kind version) n x) is stands) [
-  | inl kept ↦ kept
-  | inr made ↦ cc
-]
-
-pub opened_left : (kind : Kind) (version : Version) (config : Config) (before : DiskState) (n : NodeState) → Opened kind version config before n → LeftOver kind version config before n.store.disk
-opened_left kind version config before n o = inr (inl (λ t told x image.
+pub opened_left : (start : Start) (kind : Kind) (version : Version) (config : Config) (before : DiskState) (n : NodeState) → Opened start kind version config before n
+    → LeftOver start kind version config before n.store.disk
+opened_left Format kind version config before n o = inr (inl (λ t told x image.
     let old = told_before before.told n.store.disk.told o.runs.tells t told in
-    stands_new config kind version n.node x (o.first old.0 old.1) (subst (λ l. StandsForNode l n.node x) o.layout_is ((o.fits t told).images x image))))
+    fresh_images (layout kind version) (new_cells config) old.0 t (subst (λ o. FreshOn (layout kind version) (new_cells config) old.0 o) told (o.leaves old.0 old.1)) x image))
+opened_left Attach kind version config before n o =
+    left_of_leaves kind version config before n.store.disk (inl o.faults) (λ t told. inl (o.leaves t told, o.faults))
+
+opened_leaves : (start : Start) (kind : Kind) (version : Version) (config : Config) (before : DiskState) (n : NodeState) → Opened start kind version config before n
+    → LeavesDisk start kind version config before n.store.disk
+opened_leaves Format kind version config before n o = inr (inl o.leaves)
+opened_leaves Attach kind version config before n o = λ t told. inl (o.leaves t told, o.faults)
 
 -- something past the last node and the last line
 abbrev no_node : NamedBus → DiskState → NodeState
@@ -46,34 +52,54 @@ abbrev no_line : NodeLine
 no_line = record { name = []; config = no_config }
 
 -- what is left of a disk
-abbrev Left : NamedBus → List DiskState → List DiskState → ℕ → NodeLine → DiskState → Type 0
-Left bus before after i l d =
-    Runs [] (start_calls bus.kind (get_or bus.nodes i l).config) (get_or before i d) (get_or after i d)
-    × LeftOver bus.kind bus.version (get_or bus.nodes i l).config (get_or before i d) (get_or after i d)
+abbrev Left : Start → NamedBus → List DiskState → List DiskState → ℕ → NodeLine → DiskState → Type 0
+Left start bus before after i l d =
+    Runs [] (start_calls start bus.kind (get_or bus.nodes i l).config) (get_or before i d) (get_or after i d)
+    × LeftOver start bus.kind bus.version (get_or bus.nodes i l).config (get_or before i d) (get_or after i d)
 
-untouched : (bus : NamedBus) (before after : List DiskState) (i : ℕ) (l : NodeLine) (d : DiskState) → get_or after i d ≡ get_or before i d → Left bus before after i l d
-untouched bus before after i l d same =
-    (subst (λ s. Runs [] (start_calls bus.kind (get_or bus.nodes i l).config) (get_or before i d) s) (sym same) (runs_more _ (omega arith) (runs_none (get_or before i d))), inl same)
+untouched : (start : Start) (bus : NamedBus) (before after : List DiskState) (i : ℕ) (l : NodeLine) (d : DiskState) → get_or after i d ≡ get_or before i d → Left start bus before after i l d
+untouched start bus before after i l d same = (
+  subst (λ s. Runs [] (start_calls start bus.kind (get_or bus.nodes i l).config) (get_or before i d) s) (sym same) (runs_more _ (omega arith) (runs_none (get_or before i d))),
+  subst (λ s. LeftOver start bus.kind bus.version (get_or bus.nodes i l).config (get_or before i d) s) (sym same)
+      (untouched_left start bus.kind bus.version (get_or bus.nodes i l).config (get_or before i d)),
+)
 
--- the node at a place is refused, the ones before it didn't fail, and those behind it weren't touched
-module _ (bus : NamedBus) (before after : List DiskState) (place : ℕ) (inside : place < length bus.nodes)
+same_leaves : (start : Start) (bus : NamedBus) (before after : List DiskState) (i : ℕ) (l : NodeLine) (d : DiskState) → get_or after i d ≡ get_or before i d
+    → LeavesDisk start bus.kind bus.version (get_or bus.nodes i l).config (get_or before i d) (get_or after i d)
+same_leaves start bus before after i l d same =
+    subst (λ s. LeavesDisk start bus.kind bus.version (get_or bus.nodes i l).config (get_or before i d) s) (sym same)
+    (untouched_leaves start bus.kind bus.version (get_or bus.nodes i l).config (get_or before i d))
+
+-- the node at a place is refused, the ones before it were taken and didn't fail, and those behind it weren't touched
+module _ (start : Start) (bus : NamedBus) (before after : List DiskState) (place : ℕ) (inside : place < length bus.nodes)
     (earlier : (i : ℕ) (d : DiskState) → i < place → (get_or after i d).faults ≡ (get_or before i d).faults)
+    (taken : (i : ℕ) (l : NodeLine) (d : DiskState) (t : Told) → i < place → (get_or before i d).told ≡ Some t
+    → (kept : Kept) × KeptOn start bus.kind bus.version (get_or bus.nodes i l).config t.bytes kept)
     (later : (i : ℕ) (d : DiskState) → place < i → get_or after i d ≡ get_or before i d) where
-  at_number : (P : DiskState → DiskState → Type 0) → ((d : DiskState) → P (get_or before place d) (get_or after place d)) → OfNumber bus before after (place + 1) P
+  at_number : (P : Config → DiskState → DiskState → Type 0)
+      → ((l : NodeLine) (d : DiskState) → P (get_or bus.nodes place l).config (get_or before place d) (get_or after place d)) → OfNumber start bus before after (place + 1) P
   at_number P holds = record {
     least = omega arith;
     most = omega (arith, inside);
-    disk = λ d. subst (λ k. P (get_or before k d) (get_or after k d)) {y = place + 1 - 1} (omega arith) (holds d);
+    disk = λ l d. subst (λ k. P (get_or bus.nodes k l).config (get_or before k d) (get_or after k d)) {y = place + 1 - 1} (omega arith) (holds l d);
     earlier = λ i d less. earlier i d (omega (arith, less));
+    taken = λ i l d t less. taken i l d t (omega (arith, less));
     later = λ i d from. later i d (omega (arith, from));
   }
 
-  start_cause : (cause : OpenFault) → ((d : DiskState) → OpenCause (get_or before place d) (get_or after place d) cause) → StartCause bus before after (fault_of_node (place + 1) cause)
-  start_cause (open_fault.Store reread.DiskFailed) h = at_number (λ old new. Rose old.faults new.faults) h
-  start_cause (open_fault.Store reread.NotFormatted) h = at_number (λ old new. old.told ≡ None) h
-  start_cause (open_fault.Store (reread.Damaged i)) h = at_number (λ old new. old.told ≡ None) h
-  start_cause (open_fault.BadSlot slot) h = at_number (λ old new. old.told ≡ None) h
-  start_cause (open_fault.BadBound cell) h = at_number (λ old new. old.told ≡ None) h
+  refused_at : (fault : OpenFault) → ((l : NodeLine) (d : DiskState) → RefusedFor start bus.kind bus.version (get_or bus.nodes place l).config (get_or before place d).told fault)
+      → RefusedAt start bus before after (place + 1) fault
+  refused_at fault h = at_number (λ config old new. RefusedFor start bus.kind bus.version config old.told fault) h
+
+  start_cause : (cause : OpenFault)
+      → ((l : NodeLine) (d : DiskState) → OpenCause start bus.kind bus.version (get_or bus.nodes place l).config (get_or before place d) (get_or after place d) cause)
+      → StartCause start bus before after (fault_of_node (place + 1) cause)
+  start_cause (open_fault.Store reread.DiskFailed) h = at_number (λ config old new. Rose old.faults new.faults) h
+  start_cause (open_fault.Store reread.NotFormatted) h = refused_at (open_fault.Store reread.NotFormatted) h
+  start_cause (open_fault.Store (reread.Damaged i)) h = refused_at (open_fault.Store (reread.Damaged i)) h
+  start_cause (open_fault.BadSlot slot) h = refused_at (open_fault.BadSlot slot) h
+  start_cause (open_fault.BadBound place) h = refused_at (open_fault.BadBound place) h
+  start_cause open_fault.TooSmall h = tt
   start_cause open_fault.Memory h = tt
 
 -- want of memory of a start is that of a node
@@ -81,15 +107,26 @@ of_memory : (n : ℕ) (cause : OpenFault) → fault_of_node n cause ≡ start_fa
 of_memory n (open_fault.Store fault) is = cc is
 of_memory n (open_fault.BadSlot slot) is = cc is
 of_memory n (open_fault.BadBound cell) is = cc is
+of_memory n open_fault.TooSmall is = cc is
 of_memory n open_fault.Memory is = refl
 
-as_broken : (bus : NamedBus) (before after : List DiskState) (n : ℕ) (cause : OpenFault) → Broken bus before after (fault_of_node n cause) → NotStarted bus before after (fault_of_node n cause)
-as_broken bus before after n (open_fault.Store fault) b = b
-as_broken bus before after n (open_fault.BadSlot slot) b = b
-as_broken bus before after n (open_fault.BadBound cell) b = b
-as_broken bus before after n open_fault.Memory b = b
+-- there is room on the disk
+fits_on : (start : Start) (kind : Kind) (version : Version) (config : Config) (before after : DiskState) → OpenCause start kind version config before after open_fault.TooSmall → ⊥
+fits_on start kind version config before after none = none
 
-module _ (bus : NamedBus) (before mid after : List DiskState) (nodes : List NodeState) (fault : StartFault) (room : HasRoom bus before) (o : OpensTo bus before mid nodes fault) (is : after ≡ disks_of nodes ++ mid) where
+as_broken : (start : Start) (bus : NamedBus) (before after : List DiskState) (n : ℕ) (cause : OpenFault) → (cause ≡ open_fault.TooSmall → ⊥)
+    → Broken start bus before after (fault_of_node n cause) → NotStarted start bus before after (fault_of_node n cause)
+as_broken start bus before after n (open_fault.Store fault) room b = b
+as_broken start bus before after n (open_fault.BadSlot slot) room b = b
+as_broken start bus before after n (open_fault.BadBound place) room b = b
+as_broken start bus before after n open_fault.TooSmall room b = absurd (room refl)
+as_broken start bus before after n open_fault.Memory room b = b
+
+-- want of memory is told where the disk didn't fail
+memory_counts : (cause : OpenFault) → cause ≡ open_fault.Memory → (before after : DiskState) → CountsRefusal cause before.faults after.faults → after.faults ≡ before.faults
+memory_counts cause is before after counts = subst (λ f. CountsRefusal f before.faults after.faults) is counts
+
+module _ (start : Start) (bus : NamedBus) (before mid after : List DiskState) (nodes : List NodeState) (fault : StartFault) (room : HasRoom bus before) (o : OpensTo start bus before mid nodes fault) (is : after ≡ disks_of nodes ++ mid) where
   all : after ≡ disks_of nodes ++ o.disk ∷ drop (o.place + 1) before
   all = is ∙ ap (λ ys. disks_of nodes ++ ys) o.left
 
@@ -120,21 +157,21 @@ module _ (bus : NamedBus) (before mid after : List DiskState) (nodes : List Node
       ∙ get_or-drop (o.place + 1) before (i - (o.place + 1)) d
       ∙ ap (λ k. get_or before k d) (omega arith)
 
-  left : (i : ℕ) (l : NodeLine) (d : DiskState) → i < length bus.nodes → Left bus before after i l d
+  left : (i : ℕ) (l : NodeLine) (d : DiskState) → i < length bus.nodes → Left start bus before after i l d
   left i l d inside = elim (cases_lt i o.place) [
     | inl less ↦ let n : NodeState = get_or nodes i (no_node bus d) in
         let opened = o.opened.opened i l d (no_node bus d) less in (
-          subst (λ s. Runs [] (start_calls bus.kind (get_or bus.nodes i l).config) (get_or before i d) s) (sym (earlier i d (no_node bus d) less)) opened.runs,
-          subst (λ s. LeftOver bus.kind bus.version (get_or bus.nodes i l).config (get_or before i d) s) (sym (earlier i d (no_node bus d) less))
-              (opened_left bus.kind bus.version (get_or bus.nodes i l).config (get_or before i d) n opened),
+          subst (λ s. Runs [] (start_calls start bus.kind (get_or bus.nodes i l).config) (get_or before i d) s) (sym (earlier i d (no_node bus d) less)) opened.runs,
+          subst (λ s. LeftOver start bus.kind bus.version (get_or bus.nodes i l).config (get_or before i d) s) (sym (earlier i d (no_node bus d) less))
+              (opened_left start bus.kind bus.version (get_or bus.nodes i l).config (get_or before i d) n opened),
         )
     | inr from ↦ elim (eq-or-lt_of_le from) [
-      | inl same ↦ subst (λ k. Left bus before after k l d) same
+      | inl same ↦ subst (λ k. Left start bus before after k l d) same
           (let refused = o.refused l d in (
-            subst (λ s. Runs [] (start_calls bus.kind (get_or bus.nodes o.place l).config) (get_or before o.place d) s) (sym (here d)) refused.runs,
-            subst (λ s. LeftOver bus.kind bus.version (get_or bus.nodes o.place l).config (get_or before o.place d) s) (sym (here d)) refused.left,
+            subst (λ s. Runs [] (start_calls start bus.kind (get_or bus.nodes o.place l).config) (get_or before o.place d) s) (sym (here d)) refused.runs,
+            subst (λ s. LeftOver start bus.kind bus.version (get_or bus.nodes o.place l).config (get_or before o.place d) s) (sym (here d)) refused.left,
           ))
-      | inr more ↦ untouched bus before after i l d (later i d more)
+      | inr more ↦ untouched start bus before after i l d (later i d more)
     ]
   ]
 
@@ -143,21 +180,32 @@ module _ (bus : NamedBus) (before mid after : List DiskState) (nodes : List Node
       (length-drop (length bus.nodes) after ∙ ap (λ n. n - length bus.nodes) count ∙ sym (length-drop (length bus.nodes) before))
       (λ k inside. get_or-drop (length bus.nodes) after k o.disk ∙ later (length bus.nodes + k) o.disk (omega (arith, o.inside)) ∙ sym (get_or-drop (length bus.nodes) before k o.disk))
 
-  open_cause : (d : DiskState) → OpenCause (get_or before o.place d) (get_or after o.place d) o.cause
-  open_cause d = subst (λ s. OpenCause (get_or before o.place d) s o.cause) (sym (here d)) (o.refused no_line d).cause
+  open_cause : (l : NodeLine) (d : DiskState) → OpenCause start bus.kind bus.version (get_or bus.nodes o.place l).config (get_or before o.place d) (get_or after o.place d) o.cause
+  open_cause l d =
+      subst (λ s. OpenCause start bus.kind bus.version (get_or bus.nodes o.place l).config (get_or before o.place d) s o.cause) (sym (here d)) (o.refused l d).cause
+
+  pub has_room : o.cause ≡ open_fault.TooSmall → ⊥
+  has_room is = fits_on start bus.kind bus.version (get_or bus.nodes o.place no_line).config (get_or before o.place o.disk) (get_or after o.place o.disk)
+      (subst (λ f. OpenCause start bus.kind bus.version (get_or bus.nodes o.place no_line).config (get_or before o.place o.disk) (get_or after o.place o.disk) f) is (open_cause no_line o.disk))
+
+  taken : (i : ℕ) (l : NodeLine) (d : DiskState) (t : Told) → i < o.place → (get_or before i d).told ≡ Some t
+      → (kept : Kept) × KeptOn start bus.kind bus.version (get_or bus.nodes i l).config t.bytes kept
+  taken i l d t less told =
+      let n : NodeState = get_or nodes i (no_node bus d) in
+      (n.node.kept, (o.opened.opened i l d (no_node bus d) less).kept t told)
 
   unfailed : (i : ℕ) (d : DiskState) → i < o.place → (get_or after i d).faults ≡ (get_or before i d).faults
   unfailed i d less = ap (λ (s : DiskState). s.faults) (earlier i d (no_node bus d) less) ∙ (o.opened.opened i no_line d (no_node bus d) less).faults
 
   leaves : (i : ℕ) (l : NodeLine) (d : DiskState) → i < length bus.nodes
-      → LeavesDisk bus.kind bus.version (get_or bus.nodes i l).config (get_or before i d) (get_or after i d)
+      → LeavesDisk start bus.kind bus.version (get_or bus.nodes i l).config (get_or before i d) (get_or after i d)
   leaves i l d inside = elim (cases_lt i o.place) [
-    | inl less ↦ subst (λ s. LeavesDisk bus.kind bus.version (get_or bus.nodes i l).config (get_or before i d) s) (sym (earlier i d (no_node bus d) less))
-        (inr (inl (o.opened.opened i l d (no_node bus d) less).formats))
+    | inl less ↦ subst (λ s. LeavesDisk start bus.kind bus.version (get_or bus.nodes i l).config (get_or before i d) s) (sym (earlier i d (no_node bus d) less))
+        (opened_leaves start bus.kind bus.version (get_or bus.nodes i l).config (get_or before i d) (get_or nodes i (no_node bus d)) (o.opened.opened i l d (no_node bus d) less))
     | inr from ↦ elim (eq-or-lt_of_le from) [
-      | inl same ↦ subst (λ k. LeavesDisk bus.kind bus.version (get_or bus.nodes k l).config (get_or before k d) (get_or after k d)) same
-          (subst (λ s. LeavesDisk bus.kind bus.version (get_or bus.nodes o.place l).config (get_or before o.place d) s) (sym (here d)) (o.refused l d).leaves)
-      | inr more ↦ inl (later i d more)
+      | inl same ↦ subst (λ k. LeavesDisk start bus.kind bus.version (get_or bus.nodes k l).config (get_or before k d) (get_or after k d)) same
+          (subst (λ s. LeavesDisk start bus.kind bus.version (get_or bus.nodes o.place l).config (get_or before o.place d) s) (sym (here d)) (o.refused l d).leaves)
+      | inr more ↦ same_leaves start bus before after i l d (later i d more)
     ]
   ]
 
@@ -165,35 +213,36 @@ module _ (bus : NamedBus) (before mid after : List DiskState) (nodes : List Node
   memory none i d = elim (cases_lt i o.place) [
     | inl less ↦ unfailed i d less
     | inr from ↦ elim (eq-or-lt_of_le from) [
-      | inl same ↦ subst (λ k. (get_or after k d).faults ≡ (get_or before k d).faults) same (ap (λ (s : DiskState). s.faults) (here d) ∙ (o.refused no_line d).memory none)
+      | inl same ↦ subst (λ k. (get_or after k d).faults ≡ (get_or before k d).faults) same (ap (λ (s : DiskState). s.faults) (here d) ∙ memory_counts o.cause none (get_or before o.place d) o.disk (o.refused no_line d).counts)
       | inr more ↦ ap (λ (s : DiskState). s.faults) (later i d more)
     ]
   ]
 
-  pub broken : Broken bus before after (fault_of_node (o.place + 1) o.cause)
+  pub broken : Broken start bus before after (fault_of_node (o.place + 1) o.cause)
   broken = record {
     room = room;
     count = count;
     left = left;
     rest = rest;
-    cause = start_cause bus before after o.place o.inside unfailed later o.cause open_cause;
+    cause = start_cause start bus before after o.place o.inside unfailed taken later o.cause open_cause;
     leaves = leaves;
     memory = λ is. memory (of_memory (o.place + 1) o.cause is);
   }
 
-pub start_refused : (bus : NamedBus) (before mid after : List DiskState) (nodes : List NodeState) (fault : StartFault) → HasRoom bus before → OpensTo bus before mid nodes fault → after ≡ disks_of nodes ++ mid
-    → NotStarted bus before after fault
-start_refused bus before mid after nodes fault room o is =
-    subst (NotStarted bus before after) (sym o.fault_is) (as_broken bus before after (o.place + 1) o.cause (broken bus before mid after nodes fault room o is))
+pub start_refused : (start : Start) (bus : NamedBus) (before mid after : List DiskState) (nodes : List NodeState) (fault : StartFault) → HasRoom bus before → OpensTo start bus before mid nodes fault
+    → after ≡ disks_of nodes ++ mid → NotStarted start bus before after fault
+start_refused start bus before mid after nodes fault room o is =
+    subst (NotStarted start bus before after) (sym o.fault_is)
+    (as_broken start bus before after (o.place + 1) o.cause (has_room start bus before mid after nodes fault room o is) (broken start bus before mid after nodes fault room o is))
 
 -- want of memory before any disk was touched
-pub start_unopened : (bus : NamedBus) (before : List DiskState) → HasRoom bus before → NotStarted bus before before start_fault.Memory
-start_unopened bus before room = record {
+pub start_unopened : (start : Start) (bus : NamedBus) (before : List DiskState) → HasRoom bus before → NotStarted start bus before before start_fault.Memory
+start_unopened start bus before room = record {
   room = room;
   count = refl;
-  left = λ i l d inside. untouched bus before before i l d refl;
+  left = λ i l d inside. untouched start bus before before i l d refl;
   rest = refl;
   cause = tt;
-  leaves = λ i l d inside. inl refl;
+  leaves = λ i l d inside. same_leaves start bus before before i l d refl;
   memory = λ is i d. refl;
 }

@@ -10,7 +10,8 @@ use Rattle.bus_machine.specs.declared.events.Event.TheVariants as event
 use Rattle.bus_machine.specs.declared.lines.Line.{Line}
 use Rattle.bus_machine.specs.Bus.{World, node_of, Step}
 use Rattle.bus_machine.specs.Past.{mark_of}
-use Rattle.secoc_node.specs.Fits.{Fits}
+use Rattle.store_runs.specs.KeepingLaws.{fits_store}
+use Rattle.secoc_node.specs.Fits.{node_keeping}
 use Rattle.secoc_node.specs.State.{NodeState, FitsNow, TellsFitting}
 use Rattle.secoc_node.proofs.FitsLaws.{told_before}
 use Rattle.bus_world.specs.Turns.{IsCertain, duty_of, NodeTurn}
@@ -57,7 +58,7 @@ certain_of (event.Stop node calls) n fits = tt
 certain_of (event.Fail node calls) n fits = tt
 
 fits_now : (n : NodeState) → TellsFitting n → FitsNow n
-fits_now n fits = λ told is. subst (Fits n.store.layout n.node) (same_Some fits.now told (sym fits.told ∙ is)) fits.fits
+fits_now n fits = fits_store (node_keeping n.node) n.store fits
 
 turn_fits : (before : NodeState) (e : Event) (w : World) (line : Line) (after : NodeState) → NodeTurn before (duty_of w e) line after → TellsFitting before → TellsFitting after
 turn_fits before e w line after turn fits =

@@ -15,6 +15,7 @@ use Rattle.secured_pdu.specs.FrameLaws.{payload_of_secured}
 use Rattle.secured_pdu.specs.Verdict.{payload_of}
 use Rattle.bus_machine.specs.Node.{Node, powered, refused_up}
 use Rattle.bus_machine.specs.Past.{cell_count}
+use Rattle.bus_machine.specs.Sound.{Sound}
 use Rattle.freshness_routes.specs.declared.routes.Route.{Route}
 use Rattle.bus_machine.specs.declared.events.Event.{Event}
 use Rattle.bus_machine.specs.declared.events.Event.TheVariants as event
@@ -68,8 +69,8 @@ step_config node _ _ after step = absurd step
 
 pub calm_turn : (before after : NodeState) (act : Act) (line : Line) → NodeStep before.node act line after.node → (act ≡ cuts → ⊥)
     → after.store.layout ≡ before.store.layout → Runs [] 6 before.store.disk after.store.disk → (FitsNow before → FitsNow after)
-    → TellsFaults line before.store.disk.faults after.store.disk.faults → LeavesAlone None line before after → NodeTurn before (duty act None) line after
-calm_turn before after act line step other layout runs fits faults untouched = record {
+    → TellsFaults line before.store.disk.faults after.store.disk.faults → LeavesAlone None line before after → Sound after.node → NodeTurn before (duty act None) line after
+calm_turn before after act line step other layout runs fits faults untouched sound = record {
   step = λ _. step;
   of_cut = λ is. absurd (other is);
   config = step_config before.node act line after.node step;
@@ -79,6 +80,7 @@ calm_turn before after act line step other layout runs fits faults untouched = r
   faults = faults;
   image = tt;
   untouched = untouched;
+  sound = λ _. sound;
 }
 
 pub receives_no_cut : (id : ℕ) (pdu : List ℕ) → receives id pdu ≡ cuts → ⊥
@@ -126,7 +128,18 @@ accepted_short node id pdu payload v source after step =
 
 -- a node that hears nothing is as it was
 pub hears_nothing_turn : (s : NodeState) → NodeTurn s (duty hears_nothing None) NoFrame s
-hears_nothing_turn s = calm_turn s s hears_nothing NoFrame refl hears_no_cut refl (runs_more 6 (omega arith) (runs_none s.store.disk)) (λ f. f) refl refl
+hears_nothing_turn s = record {
+  step = λ _. refl;
+  of_cut = λ is. absurd (hears_no_cut is);
+  config = refl;
+  layout = refl;
+  runs = runs_more 6 (omega arith) (runs_none s.store.disk);
+  fits = λ f. f;
+  faults = refl;
+  image = tt;
+  untouched = refl;
+  sound = λ sound. sound;
+}
 
 -- ---- cuts
 
@@ -141,9 +154,9 @@ told_by_cut routes (cut_fault.BadBound place) old new cause = cause.0.faults
 pub up_turn : (before after : NodeState) (torn : Torn) → (TellsFitting before → NodeStep before.node cuts Up after.node)
     → after.node ≡ powered before.node.config after.node.kept → after.store.cells ≡ CellsOf before.node.config after.node.kept → StandsNow after.store
     → after.store.layout ≡ before.store.layout → Runs (mark.Cut torn ∷ []) (68 + cell_count before.node) before.store.disk after.store.disk → (FitsNow before → FitsNow after)
-    → after.store.disk.faults ≡ before.store.disk.faults → CutsTo before.store.disk.told after.store.disk.told
+    → after.store.disk.faults ≡ before.store.disk.faults → CutsTo before.store.disk.told after.store.disk.told → Sound after.node
     → NodeTurn before (duty cuts (Some (mark.Cut torn))) Up after
-up_turn before after torn step up kept stands layout runs fits faults image = record {
+up_turn before after torn step up kept stands layout runs fits faults image sound = record {
   step = step;
   of_cut = λ _. record { result = Ok tt; line_is = refl; up = up; kept = kept; stands = stands; down = tt; cause = tt };
   config = ap (λ (n : Node). n.config) up;
@@ -153,14 +166,15 @@ up_turn before after torn step up kept stands layout runs fits faults image = re
   faults = faults;
   image = image;
   untouched = tt;
+  sound = λ _. sound;
 }
 
 -- one that leaves it down
 pub down_turn : (before after : NodeState) (torn : Torn) (f : CutFault) → (TellsFitting before → NodeStep before.node cuts (Refused (refusal_of_cut f)) after.node)
     → after.node ≡ refused_up before.node → CutCause before.node.config.routes before.store after.store f
     → after.store.layout ≡ before.store.layout → Runs (mark.Cut torn ∷ []) (68 + cell_count before.node) before.store.disk after.store.disk → (FitsNow before → FitsNow after)
-    → CutsTo before.store.disk.told after.store.disk.told → NodeTurn before (duty cuts (Some (mark.Cut torn))) (Refused (refusal_of_cut f)) after
-down_turn before after torn f step down cause layout runs fits image = record {
+    → CutsTo before.store.disk.told after.store.disk.told → Sound after.node → NodeTurn before (duty cuts (Some (mark.Cut torn))) (Refused (refusal_of_cut f)) after
+down_turn before after torn f step down cause layout runs fits image sound = record {
   step = step;
   of_cut = λ _. record { result = Err f; line_is = refl; up = tt; kept = tt; stands = tt; down = down; cause = cause };
   config = ap (λ (n : Node). n.config) down;
@@ -170,6 +184,7 @@ down_turn before after torn f step down cause layout runs fits image = record {
   faults = told_by_cut before.node.config.routes f before.store after.store cause;
   image = image;
   untouched = tt;
+  sound = λ _. sound;
 }
 
 -- ---- what is put down of a line

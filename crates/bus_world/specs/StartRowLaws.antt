@@ -6,14 +6,22 @@ use Rattle.cut_disk.specs.Arming.{no_arms}
 use Rattle.cut_disk.specs.Calls.{Rose, Runs, IsQuiet}
 use Rattle.cut_disk.specs.CallLaws.{runs_none, runs_more}
 use Rattle.fault_count.specs.FaultCount.{last_count}
+use Rattle.cell_store.specs.declared.kinds.Kind.{Kind}
+use Rattle.cell_store.specs.declared.kinds.Version.{Version}
 use Rattle.cell_store.specs.declared.faults.Reread.TheVariants as reread
+use Rattle.freshness_routes.specs.Config.{Config}
 use Rattle.bus_machine.specs.Bus.{no_config}
 use Rattle.bus_nodes.specs.declared.nodes.NodeLine.{NodeLine}
 use Rattle.bus_nodes.specs.Buses.{NamedBus}
 use Rattle.bus_world.specs.declared.start.StartFault.{StartFault}
 use Rattle.bus_world.specs.declared.start.StartFault.TheVariants as fault
-use Rattle.bus_world.specs.Starts.{start_calls, HasRoom, OfNumber, Broken, NotStarted, FindsRoom}
-use Rattle.bus_world.specs.StartRows.{start_row, StoreCause, LeavesEach, RefusesStart, DisksDo}
+use Rattle.bus_world.specs.declared.opening.OpenFault.{OpenFault}
+use Rattle.bus_world.specs.declared.opening.OpenFault.TheVariants as open_fault
+use Rattle.bus_world.specs.declared.start.Start.{Start}
+use Rattle.bus_world.specs.declared.start.Start.TheVariants.{Format, Attach}
+use Rattle.bus_world.specs.TakingUp.{start_calls, LeftOver, LeavesDisk, RefusedFor}
+use Rattle.bus_world.specs.Starts.{HasRoom, OfNumber, RefusedAt, Broken, NotStarted, FindsRoom}
+use Rattle.bus_world.specs.StartRows.{start_row, StoreCause, LeavesEach, RefusesStart, CanStart, DisksDo}
 
 -- something past the last node
 no_line : NodeLine
@@ -29,83 +37,96 @@ start_statuses (fault.BadBound node cell) = inr (inl refl)
 start_statuses fault.Memory = inr (inr refl)
 
 -- 9 comes before any call of a disk
-pub refused_at_9 : (bus : NamedBus) (before after : List DiskState) (f : StartFault) → NotStarted bus before after f → (start_row f).status ≡ 9
+pub refused_at_9 : (start : Start) (bus : NamedBus) (before after : List DiskState) (f : StartFault) → NotStarted start bus before after f → (start_row f).status ≡ 9
     → FindsRoom bus before f × (after ≡ before)
-refused_at_9 bus before after fault.TooFew refused is = refused
-refused_at_9 bus before after (fault.TooSmall node) refused is = refused
-refused_at_9 bus before after (fault.Store node cause) refused is = absurd (let no : ⊥ = omega (arith, is) in no)
-refused_at_9 bus before after (fault.BadSlot node slot) refused is = absurd (let no : ⊥ = omega (arith, is) in no)
-refused_at_9 bus before after (fault.BadBound node cell) refused is = absurd (let no : ⊥ = omega (arith, is) in no)
-refused_at_9 bus before after fault.Memory refused is = absurd (let no : ⊥ = omega (arith, is) in no)
+refused_at_9 start bus before after fault.TooFew refused is = refused
+refused_at_9 start bus before after (fault.TooSmall node) refused is = refused
+refused_at_9 start bus before after (fault.Store node cause) refused is = absurd (let no : ⊥ = omega (arith, is) in no)
+refused_at_9 start bus before after (fault.BadSlot node slot) refused is = absurd (let no : ⊥ = omega (arith, is) in no)
+refused_at_9 start bus before after (fault.BadBound node cell) refused is = absurd (let no : ⊥ = omega (arith, is) in no)
+refused_at_9 start bus before after fault.Memory refused is = absurd (let no : ⊥ = omega (arith, is) in no)
 
 -- a quiet disk doesn't fail
 quiet_stays : (n : ℕ) (old new : DiskState) → Runs [] n old new → IsQuiet old → (old.faults < new.faults) ⊎ (last_count ≤ new.faults) → ⊥
 quiet_stays n old new runs quiet (inl more) = omega (arith, (runs.quiet refl quiet).faults, more)
 quiet_stays n old new runs quiet (inr top) = omega (arith, (runs.quiet refl quiet).faults, quiet.below, top)
 
-loud_at : (bus : NamedBus) (before after : List DiskState) (f : StartFault) (number : ℕ) → Broken bus before after f
-    → OfNumber bus before after number (λ old new. Rose old.faults new.faults) → OfNumber bus before after number (λ old new. Rose old.faults new.faults × ¬ IsQuiet old)
-loud_at bus before after f number broken of = record {
+loud_at : (start : Start) (bus : NamedBus) (before after : List DiskState) (f : StartFault) (number : ℕ) → Broken start bus before after f
+    → OfNumber start bus before after number (λ config old new. Rose old.faults new.faults) → OfNumber start bus before after number (λ config old new. Rose old.faults new.faults × ¬ IsQuiet old)
+loud_at start bus before after f number broken of = record {
   least = of.least;
   most = of.most;
-  disk = λ d. (
-    of.disk d,
+  disk = λ l d. (
+    of.disk l d,
     λ quiet. quiet_stays _ (get_or before (number - 1) d) (get_or after (number - 1) d)
-        (broken.left (number - 1) no_line d (omega (arith, of.least, of.most))).0 quiet (of.disk d),
+        (broken.left (number - 1) l d (omega (arith, of.least, of.most))).0 quiet (of.disk l d),
   );
   earlier = of.earlier;
+  taken = of.taken;
   later = of.later;
 }
 
 -- 10 comes where a store failed, or its disk doesn't tell its bytes
-pub refused_at_10 : (bus : NamedBus) (before after : List DiskState) (f : StartFault) → NotStarted bus before after f → (start_row f).status ≡ 10 → StoreCause bus before after f
-refused_at_10 bus before after fault.TooFew refused is = absurd (let no : ⊥ = omega (arith, is) in no)
-refused_at_10 bus before after (fault.TooSmall node) refused is = absurd (let no : ⊥ = omega (arith, is) in no)
-refused_at_10 bus before after (fault.Store node reread.DiskFailed) refused is = loud_at bus before after (fault.Store node reread.DiskFailed) node refused refused.cause
-refused_at_10 bus before after (fault.Store node reread.NotFormatted) refused is = refused.cause
-refused_at_10 bus before after (fault.Store node (reread.Damaged place)) refused is = refused.cause
-refused_at_10 bus before after (fault.BadSlot node slot) refused is = refused.cause
-refused_at_10 bus before after (fault.BadBound node cell) refused is = refused.cause
-refused_at_10 bus before after fault.Memory refused is = absurd (let no : ⊥ = omega (arith, is) in no)
+pub refused_at_10 : (start : Start) (bus : NamedBus) (before after : List DiskState) (f : StartFault) → NotStarted start bus before after f → (start_row f).status ≡ 10 → StoreCause start bus before after f
+refused_at_10 start bus before after fault.TooFew refused is = absurd (let no : ⊥ = omega (arith, is) in no)
+refused_at_10 start bus before after (fault.TooSmall node) refused is = absurd (let no : ⊥ = omega (arith, is) in no)
+refused_at_10 start bus before after (fault.Store node reread.DiskFailed) refused is = loud_at start bus before after (fault.Store node reread.DiskFailed) node refused refused.cause
+refused_at_10 start bus before after (fault.Store node reread.NotFormatted) refused is = refused.cause
+refused_at_10 start bus before after (fault.Store node (reread.Damaged place)) refused is = refused.cause
+refused_at_10 start bus before after (fault.BadSlot node slot) refused is = refused.cause
+refused_at_10 start bus before after (fault.BadBound node cell) refused is = refused.cause
+refused_at_10 start bus before after fault.Memory refused is = absurd (let no : ⊥ = omega (arith, is) in no)
 
-left_of : (bus : NamedBus) (before after : List DiskState) (f : StartFault) → Broken bus before after f → LeavesEach bus before after
-left_of bus before after f broken = record { count = broken.count; each = broken.left; rest = broken.rest; leaves = broken.leaves }
+left_of : (start : Start) (bus : NamedBus) (before after : List DiskState) (f : StartFault) → Broken start bus before after f → LeavesEach start bus before after
+left_of start bus before after f broken = record { count = broken.count; each = broken.left; rest = broken.rest; leaves = broken.leaves }
 
-left_same : (bus : NamedBus) (before after : List DiskState) → after ≡ before → LeavesEach bus before after
-left_same bus before after same = subst (λ (disks : List DiskState). LeavesEach bus before disks) (sym same) (record {
+untouched_left : (start : Start) (kind : Kind) (version : Version) (config : Config) (before : DiskState) → LeftOver start kind version config before before
+untouched_left Format kind version config before = inl refl
+untouched_left Attach kind version config before = (inl refl, λ t told. inl (told, refl))
+
+untouched_leaves : (start : Start) (kind : Kind) (version : Version) (config : Config) (before : DiskState) → LeavesDisk start kind version config before before
+untouched_leaves Format kind version config before = inl refl
+untouched_leaves Attach kind version config before = λ t told. inl (inl told, refl)
+
+-- disks that are as before
+pub leaves_same : (start : Start) (bus : NamedBus) (before after : List DiskState) → after ≡ before → LeavesEach start bus before after
+leaves_same start bus before after same = subst (λ (disks : List DiskState). LeavesEach start bus before disks) (sym same) (record {
   count = refl;
-  each = λ i l d inside. (runs_more (start_calls bus.kind (get_or bus.nodes i l).config) (omega arith) (runs_none (get_or before i d)), inl refl);
+  each = λ i l d inside. (
+    runs_more (start_calls start bus.kind (get_or bus.nodes i l).config) (omega arith) (runs_none (get_or before i d)),
+    untouched_left start bus.kind bus.version (get_or bus.nodes i l).config (get_or before i d),
+  );
   rest = refl;
-  leaves = λ i l d inside. inl refl;
+  leaves = λ i l d inside. untouched_leaves start bus.kind bus.version (get_or bus.nodes i l).config (get_or before i d);
 })
 
 -- what a start that is refused leaves, whatever its cause
-pub start_leaves : (bus : NamedBus) (before after : List DiskState) (f : StartFault) → NotStarted bus before after f → LeavesEach bus before after
-start_leaves bus before after fault.TooFew refused = left_same bus before after refused.1
-start_leaves bus before after (fault.TooSmall node) refused = left_same bus before after refused.1
-start_leaves bus before after (fault.Store node cause) refused = left_of bus before after (fault.Store node cause) refused
-start_leaves bus before after (fault.BadSlot node slot) refused = left_of bus before after (fault.BadSlot node slot) refused
-start_leaves bus before after (fault.BadBound node cell) refused = left_of bus before after (fault.BadBound node cell) refused
-start_leaves bus before after fault.Memory refused = left_of bus before after fault.Memory refused
+pub start_leaves : (start : Start) (bus : NamedBus) (before after : List DiskState) (f : StartFault) → NotStarted start bus before after f → LeavesEach start bus before after
+start_leaves start bus before after fault.TooFew refused = leaves_same start bus before after refused.1
+start_leaves start bus before after (fault.TooSmall node) refused = leaves_same start bus before after refused.1
+start_leaves start bus before after (fault.Store node cause) refused = left_of start bus before after (fault.Store node cause) refused
+start_leaves start bus before after (fault.BadSlot node slot) refused = left_of start bus before after (fault.BadSlot node slot) refused
+start_leaves start bus before after (fault.BadBound node cell) refused = left_of start bus before after (fault.BadBound node cell) refused
+start_leaves start bus before after fault.Memory refused = left_of start bus before after fault.Memory refused
 
 -- a start that isn't refused for want of memory is refused for its disks
-pub start_refuses : (bus : NamedBus) (before after : List DiskState) (f : StartFault) → NotStarted bus before after f → (f ≡ fault.Memory → ⊥) → RefusesStart bus before after f
-start_refuses bus before after f refused other = elim (start_statuses f) [
-  | inl nine ↦ inl (refused_at_9 bus before after f refused nine)
+pub start_refuses : (start : Start) (bus : NamedBus) (before after : List DiskState) (f : StartFault) → NotStarted start bus before after f → (f ≡ fault.Memory → ⊥) → RefusesStart start bus before after f
+start_refuses start bus before after f refused other = elim (start_statuses f) [
+  | inl nine ↦ inl (refused_at_9 start bus before after f refused nine)
   | inr more ↦ elim more [
-    | inl ten ↦ inr (refused_at_10 bus before after f refused ten, start_leaves bus before after f refused)
+    | inl ten ↦ inr (refused_at_10 start bus before after f refused ten, start_leaves start bus before after f refused)
     | inr memory ↦ absurd (other memory)
   ]
 ]
 
 -- without room a start is refused with 9
-pub start_without_room : (bus : NamedBus) (before after : List DiskState) (f : StartFault) → NotStarted bus before after f → (HasRoom bus before → ⊥) → (start_row f).status ≡ 9
-start_without_room bus before after fault.TooFew refused none = refl
-start_without_room bus before after (fault.TooSmall node) refused none = refl
-start_without_room bus before after (fault.Store node cause) refused none = absurd (none refused.room)
-start_without_room bus before after (fault.BadSlot node slot) refused none = absurd (none refused.room)
-start_without_room bus before after (fault.BadBound node cell) refused none = absurd (none refused.room)
-start_without_room bus before after fault.Memory refused none = absurd (none refused.room)
+pub start_without_room : (start : Start) (bus : NamedBus) (before after : List DiskState) (f : StartFault) → NotStarted start bus before after f → (HasRoom bus before → ⊥) → (start_row f).status ≡ 9
+start_without_room start bus before after fault.TooFew refused none = refl
+start_without_room start bus before after (fault.TooSmall node) refused none = refl
+start_without_room start bus before after (fault.Store node cause) refused none = absurd (none refused.room)
+start_without_room start bus before after (fault.BadSlot node slot) refused none = absurd (none refused.room)
+start_without_room start bus before after (fault.BadBound node cell) refused none = absurd (none refused.room)
+start_without_room start bus before after fault.Memory refused none = absurd (none refused.room)
 
 -- ---- disks that do
 
@@ -122,23 +143,30 @@ no_disk : DiskState
 no_disk = record { size = 0; told = None; arms = no_arms; faults = 0; quiet = true; past = None }
 
 -- no disk of them is refused for what it has
-told_at : (bus : NamedBus) (before after : List DiskState) (number : ℕ) → OfNumber bus before after number (λ old new. old.told ≡ None) → DisksDo bus before after → ⊥
-told_at bus before after number of able =
-    let has = able (number - 1) no_disk (omega (arith, of.least, of.most)) in
-    told_not_none (get_or before (number - 1) no_disk).told has.0.0 has.0.1 (of.disk no_disk)
+able_at : (start : Start) (kind : Kind) (version : Version) (config : Config) (told : Option Told) (f : OpenFault) (t : Told) → told ≡ Some t
+    → CanStart start kind version config t.bytes → RefusedFor start kind version config told f → ⊥
+able_at Format kind version config told f t is able refused = told_not_none told t is refused
+able_at Attach kind version config told f t is able refused = (refused t is).none able.0 able.1
+
+told_at : (start : Start) (bus : NamedBus) (before after : List DiskState) (number : ℕ) (f : OpenFault) → RefusedAt start bus before after number f → DisksDo start bus before after → ⊥
+told_at start bus before after number f of able =
+    let has = able (number - 1) no_line no_disk (omega (arith, of.least, of.most)) in
+    able_at start bus.kind bus.version (get_or bus.nodes (number - 1) no_line).config (get_or before (number - 1) no_disk).told f has.0.0 has.0.1 has.0.2 (of.disk no_line no_disk)
 
 -- a start over them, where there is room, is refused for want of memory alone
-pub start_wants_memory : (bus : NamedBus) (before after : List DiskState) (f : StartFault) → NotStarted bus before after f → HasRoom bus before → DisksDo bus before after
+pub start_wants_memory : (start : Start) (bus : NamedBus) (before after : List DiskState) (f : StartFault) → NotStarted start bus before after f → HasRoom bus before → DisksDo start bus before after
     → f ≡ fault.Memory
-start_wants_memory bus before after fault.TooFew refused room able = absurd (let no : ⊥ = omega (arith, refused.0, room.enough) in no)
-start_wants_memory bus before after (fault.TooSmall node) refused room able =
+start_wants_memory start bus before after fault.TooFew refused room able = absurd (let no : ⊥ = omega (arith, refused.0, room.enough) in no)
+start_wants_memory start bus before after (fault.TooSmall node) refused room able =
     absurd (let no : ⊥ = omega (arith, refused.0.small no_line no_disk, room.room (node - 1) no_line no_disk (omega (arith, refused.0.least, refused.0.most))) in no)
-start_wants_memory bus before after (fault.Store node reread.DiskFailed) refused room able =
+start_wants_memory start bus before after (fault.Store node reread.DiskFailed) refused room able =
     let inside : node - 1 < length bus.nodes = omega (arith, refused.cause.least, refused.cause.most) in
-    absurd (does_not_fail _ (get_or before (node - 1) no_disk) (get_or after (node - 1) no_disk) (refused.left (node - 1) no_line no_disk inside).0 (refused.cause.disk no_disk)
-    (able (node - 1) no_disk inside).1)
-start_wants_memory bus before after (fault.Store node reread.NotFormatted) refused room able = absurd (told_at bus before after node refused.cause able)
-start_wants_memory bus before after (fault.Store node (reread.Damaged place)) refused room able = absurd (told_at bus before after node refused.cause able)
-start_wants_memory bus before after (fault.BadSlot node slot) refused room able = absurd (told_at bus before after node refused.cause able)
-start_wants_memory bus before after (fault.BadBound node cell) refused room able = absurd (told_at bus before after node refused.cause able)
-start_wants_memory bus before after fault.Memory refused room able = refl
+    absurd (does_not_fail _ (get_or before (node - 1) no_disk) (get_or after (node - 1) no_disk) (refused.left (node - 1) no_line no_disk inside).0 (refused.cause.disk no_line no_disk)
+    (able (node - 1) no_line no_disk inside).1)
+start_wants_memory start bus before after (fault.Store node reread.NotFormatted) refused room able =
+    absurd (told_at start bus before after node (open_fault.Store reread.NotFormatted) refused.cause able)
+start_wants_memory start bus before after (fault.Store node (reread.Damaged place)) refused room able =
+    absurd (told_at start bus before after node (open_fault.Store (reread.Damaged place)) refused.cause able)
+start_wants_memory start bus before after (fault.BadSlot node slot) refused room able = absurd (told_at start bus before after node (open_fault.BadSlot slot) refused.cause able)
+start_wants_memory start bus before after (fault.BadBound node cell) refused room able = absurd (told_at start bus before after node (open_fault.BadBound cell) refused.cause able)
+start_wants_memory start bus before after fault.Memory refused room able = refl

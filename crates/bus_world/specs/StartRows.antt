@@ -1,5 +1,5 @@
 -- How a start that is refused is answered, and what it leaves of the disks, whichever row it is
-use Rattle.std.specs.Prelude.{◌≡◌, ◌⊎◌, ℕ, ◌<◌, None, Some, List, [], ◌++◌, length, drop, get_or, codes}
+use Rattle.std.specs.Prelude.{◌≡◌, ◌⊎◌, ℕ, ◌<◌, Some, List, [], ◌++◌, length, drop, get_or, codes}
 use Rattle.std.specs.Fmt.{decimal}
 use Rattle.cut_disk.specs.State.{DiskState, Told}
 use Rattle.cut_disk.specs.Calls.{Rose, Runs, IsQuiet}
@@ -10,7 +10,15 @@ use Rattle.bus_nodes.specs.declared.nodes.NodeLine.{NodeLine}
 use Rattle.bus_nodes.specs.Buses.{NamedBus}
 use Rattle.bus_world.specs.declared.start.StartFault.{StartFault}
 use Rattle.bus_world.specs.declared.start.StartFault.TheVariants as fault
-use Rattle.bus_world.specs.Starts.{start_calls, LeftOver, LeavesDisk, FindsRoom, OfNumber}
+use Rattle.cell_store.specs.declared.kinds.Kind.{Kind}
+use Rattle.cell_store.specs.declared.kinds.Version.{Version}
+use Rattle.freshness_routes.specs.Config.{Config}
+use Rattle.bus_machine.specs.Node.{Kept}
+use Rattle.bus_world.specs.declared.opening.OpenFault.TheVariants as open_fault
+use Rattle.bus_world.specs.declared.start.Start.{Start}
+use Rattle.bus_world.specs.declared.start.Start.TheVariants.{Format, Attach}
+use Rattle.bus_world.specs.TakingUp.{KeptOn}
+use Rattle.bus_world.specs.Starts.{start_calls, LeftOver, LeavesDisk, FindsRoom, OfNumber, RefusedAt}
 
 -- why a node's store isn't read again, with the line feed
 abbrev pub reread_text : Reread → List ℕ
@@ -31,33 +39,40 @@ start_row fault.Memory = memory_row
 abbrev pub IsStartRow : StartFault → Row → Type 0
 IsStartRow fault row = (row ≡ start_row fault) ⊎ (row ≡ memory_row)
 
--- the disk of the named node failed in the call: its count rose, and it wasn't quiet; or it doesn't tell its bytes
-abbrev pub StoreCause : NamedBus → List DiskState → List DiskState → StartFault → Type 0
-StoreCause bus before after (fault.Store number reread.DiskFailed) = OfNumber bus before after number (λ old new. Rose old.faults new.faults × ¬ IsQuiet old)
-StoreCause bus before after (fault.Store number cause) = OfNumber bus before after number (λ old new. old.told ≡ None)
-StoreCause bus before after (fault.BadSlot number slot) = OfNumber bus before after number (λ old new. old.told ≡ None)
-StoreCause bus before after (fault.BadBound number cell) = OfNumber bus before after number (λ old new. old.told ≡ None)
-StoreCause bus before after fault = ⊥
+-- the disk of the named node failed in the call: its count rose, and it wasn't quiet; or the node is refused for its bytes
+abbrev pub StoreCause : Start → NamedBus → List DiskState → List DiskState → StartFault → Type 0
+StoreCause start bus before after (fault.Store number reread.DiskFailed) =
+    OfNumber start bus before after number (λ config old new. Rose old.faults new.faults × ¬ IsQuiet old)
+StoreCause start bus before after (fault.Store number cause) = RefusedAt start bus before after number (open_fault.Store cause)
+StoreCause start bus before after (fault.BadSlot number slot) = RefusedAt start bus before after number (open_fault.BadSlot slot)
+StoreCause start bus before after (fault.BadBound number cell) = RefusedAt start bus before after number (open_fault.BadBound cell)
+StoreCause start bus before after fault = ⊥
 
--- only calls without a mark were made of the disk of each node, so it tells its bytes where it told them; it is as it was, or was formatted for a new
--- node and written no more, or its format failed; the others are as before
-pub record LeavesEach (bus : NamedBus) (before after : List DiskState) : Type 0 where
+-- only calls without a mark were made of the disk of each node, so it tells its bytes where it told them; it is left as
+-- this start leaves a disk where it is refused; the others are as before
+pub record LeavesEach (start : Start) (bus : NamedBus) (before after : List DiskState) : Type 0 where
   pub count : length after ≡ length before
   pub each : (i : ℕ) (l : NodeLine) (d : DiskState) → i < length bus.nodes
-      → Runs [] (start_calls bus.kind (get_or bus.nodes i l).config) (get_or before i d) (get_or after i d)
-      × LeftOver bus.kind bus.version (get_or bus.nodes i l).config (get_or before i d) (get_or after i d)
+      → Runs [] (start_calls start bus.kind (get_or bus.nodes i l).config) (get_or before i d) (get_or after i d)
+      × LeftOver start bus.kind bus.version (get_or bus.nodes i l).config (get_or before i d) (get_or after i d)
   pub rest : drop (length bus.nodes) after ≡ drop (length bus.nodes) before
   pub leaves : (i : ℕ) (l : NodeLine) (d : DiskState) → i < length bus.nodes
-      → LeavesDisk bus.kind bus.version (get_or bus.nodes i l).config (get_or before i d) (get_or after i d)
+      → LeavesDisk start bus.kind bus.version (get_or bus.nodes i l).config (get_or before i d) (get_or after i d)
 
 -- why a start is refused with 9 or with 10, and what it leaves of the disks
-abbrev pub RefusesStart : NamedBus → List DiskState → List DiskState → StartFault → Type 0
-RefusesStart bus before after fault =
-    (FindsRoom bus before fault × (after ≡ before)) ⊎ (StoreCause bus before after fault × LeavesEach bus before after)
+abbrev pub RefusesStart : Start → NamedBus → List DiskState → List DiskState → StartFault → Type 0
+RefusesStart start bus before after fault =
+    (FindsRoom bus before fault × (after ≡ before)) ⊎ (StoreCause start bus before after fault × LeavesEach start bus before after)
 
--- the disk of each node tells its bytes, and was quiet, or didn't fail
-abbrev pub DisksDo : NamedBus → List DiskState → List DiskState → Type 0
-DisksDo bus before after =
-    (i : ℕ) (d : DiskState) → i < length bus.nodes
-    → ((told : Told) × ((get_or before i d).told ≡ Some told))
+-- told bytes are such as a node is started over: any where they are formatted
+abbrev pub CanStart : Start → Kind → Version → Config → List ℕ → Type 0
+CanStart Format kind version config x = Unit {0}
+CanStart Attach kind version config x = (kept : Kept) × KeptOn Attach kind version config x kept
+
+-- the disk of each node tells bytes such as a node is started over, and was quiet, or didn't fail
+abbrev pub DisksDo : Start → NamedBus → List DiskState → List DiskState → Type 0
+DisksDo start bus before after =
+    (i : ℕ) (l : NodeLine) (d : DiskState) → i < length bus.nodes
+    → ((told : Told) × ((get_or before i d).told ≡ Some told)
+    × CanStart start bus.kind bus.version (get_or bus.nodes i l).config told.bytes)
     × (IsQuiet (get_or before i d) ⊎ ¬ Rose (get_or before i d).faults (get_or after i d).faults)

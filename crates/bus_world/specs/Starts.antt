@@ -1,128 +1,55 @@
--- How a world starts: each node over a disk that was formatted for it
-use Rattle.std.specs.Prelude.{◌≡◌, ◌⊎◌, ℕ, ◌+◌, ◌-◌, ◌<◌, ◌≤◌, None, Some, List, [], ◌∷◌, length, map, drop, get_or}
+-- How a world starts: each node over its disk, which is formatted for it or attached
+use Rattle.std.specs.Prelude.{◌≡◌, ℕ, ◌+◌, ◌-◌, ◌<◌, ◌≤◌, Some, List, [], ◌∷◌, length, map, drop, get_or}
 use Rattle.cut_disk.specs.State.{DiskState, Told}
-use Rattle.cut_disk.specs.Images.{firm, EachImage}
+use Rattle.cut_disk.specs.Images.{firm}
 use Rattle.cut_disk.specs.Calls.{Rose, Runs, Grows}
 use Rattle.cell_store.specs.declared.kinds.Kind.{Kind}
 use Rattle.cell_store.specs.declared.kinds.Version.{Version}
 use Rattle.cell_store.specs.declared.faults.Reread.TheVariants as reread
-use Rattle.cell_store.specs.declared.faults.StoreFault.{StoreFault}
-use Rattle.cell_store.specs.declared.faults.StoreFault.TheVariants as store
-use Rattle.cell_store.specs.Store.{Stands, store_size}
-use Rattle.cell_store.specs.Formats.{Formats, LeavesUnformed}
-use Rattle.any_cells.specs.Either.{layout, format_calls}
-use Rattle.cell_store.specs.ReadOrder.{reads}
+use Rattle.cell_store.specs.Store.{store_size}
+use Rattle.any_cells.specs.Either.{layout}
 use Rattle.freshness_routes.specs.Config.{Config}
-use Rattle.bus_machine.specs.Node.{first_node}
+use Rattle.bus_machine.specs.Node.{Node, Kept, powered}
+use Rattle.bus_machine.specs.Sound.{Sound}
+use Rattle.bus_machine.specs.Bus.{World, node_at}
 use Rattle.bus_nodes.specs.declared.nodes.NodeLine.{NodeLine}
 use Rattle.bus_nodes.specs.Buses.{NamedBus}
-use Rattle.secoc_node.specs.declared.faults.AttachFault.{AttachFault}
-use Rattle.secoc_node.specs.declared.faults.AttachFault.TheVariants as cells
-use Rattle.secoc_node.specs.Cells.{CellsOf}
 use Rattle.secoc_node.specs.State.{NodeState, FitsNow}
 use Rattle.bus_world.specs.declared.opening.OpenFault.{OpenFault}
 use Rattle.bus_world.specs.declared.opening.OpenFault.TheVariants as open_fault
+use Rattle.bus_world.specs.declared.start.Start.{Start}
+use Rattle.bus_world.specs.declared.start.Start.TheVariants.{Format, Attach}
 use Rattle.bus_world.specs.declared.start.StartFault.{StartFault}
 use Rattle.bus_world.specs.declared.start.StartFault.TheVariants as start_fault
+pub use Rattle.bus_world.specs.TakingUp.{cells_in, new_cells, start_calls, KeptOn, LeavesOpened, LeftOver, LeavesDisk, RefusedFor, OpenCause, CountsRefusal}
 use Rattle.bus_world.specs.Worlds.{BusState}
-
--- the cells of a node with this configuration, and the cells that a new one has
-abbrev pub cells_in : Config → ℕ
-cells_in config = 14 + length config.routes
-
-abbrev pub new_cells : Config → List (List ℕ)
-new_cells config = CellsOf config (first_node config).kept
-
--- the most calls of a disk until its node is open
-abbrev pub start_calls : Kind → Config → ℕ
-start_calls kind config = format_calls kind (cells_in config) + reads kind (cells_in config)
 
 -- ---- one node
 
--- a node is open over a disk that was formatted for it; where the disk tells its bytes it is the first node of its configuration
-pub record Opened (kind : Kind) (version : Version) (config : Config) (before : DiskState) (n : NodeState) : Type 0 where
-  pub config_is : n.node.config ≡ config
+-- told bytes fit the node: always where the disk was formatted, and where it was attached, if no told byte was loose
+abbrev pub FitsOpened : Start → DiskState → NodeState → Type 0
+FitsOpened Format before n = FitsNow n
+FitsOpened Attach before n = (b : List ℕ) → before.told ≡ Some (firm b) → FitsNow n
+
+-- A node is open over a disk: it has just powered up and is sound, and where the disk told its bytes, what it keeps is
+-- what a node keeps that is started over them. No mark was added to a past, and at least one entry was.
+pub record Opened (start : Start) (kind : Kind) (version : Version) (config : Config) (before : DiskState) (n : NodeState) : Type 0 where
+  pub just_powered : n.node ≡ powered config n.node.kept
+  pub sound : Sound n.node
   pub layout_is : n.store.layout ≡ layout kind version
-  pub first : (t : Told) → before.told ≡ Some t → n.node ≡ first_node config
-  pub fits : FitsNow n
-  pub runs : Runs [] (start_calls kind config) before n.store.disk
+  pub kept : (t : Told) → before.told ≡ Some t → KeptOn start kind version config t.bytes n.node.kept
+  pub fits : FitsOpened start before n
+  pub runs : Runs [] (start_calls start kind config) before n.store.disk
   pub grows : Grows before n.store.disk
   pub faults : n.store.disk.faults ≡ before.faults
-  pub formats : Formats (layout kind version) (new_cells config) before.told n.store.disk.told
+  pub leaves : LeavesOpened start kind version config before.told n.store.disk.told
 
--- what a start that is refused leaves of a disk: it is as it was, or whatever a power cut leaves of it stands for a new node's cells, or its count of faults rose
-abbrev pub LeftOver : Kind → Version → Config → DiskState → DiskState → Type 0
-LeftOver kind version config before after =
-    (after ≡ before)
-    ⊎ (EachImage after.told (λ x. Stands (layout kind version) x (new_cells config)) ⊎ Rose before.faults after.faults)
-
--- the disk failed while it was formatted: its count of faults rose within the calls of a format, and whatever a power cut leaves of it is what one that failed may leave
-pub record FormatFailed (kind : Kind) (version : Version) (config : Config) (before after : DiskState) : Type 0 where
-  pub rose : Rose before.faults after.faults
-  pub runs : Runs [] (format_calls kind (cells_in config)) before after
-  pub unformed : LeavesUnformed (layout kind version) (new_cells config) before.told after.told
-
--- the same, byte by byte: the disk is as it was, or it was formatted for a new node and written no more, or its format failed
-abbrev pub LeavesDisk : Kind → Version → Config → DiskState → DiskState → Type 0
-LeavesDisk kind version config before after =
-    (after ≡ before)
-    ⊎ (Formats (layout kind version) (new_cells config) before.told after.told ⊎ FormatFailed kind version config before after)
-
--- the disk failed; any other refusal but want of memory comes only over a disk that doesn't tell its bytes
-abbrev pub OpenCause : DiskState → DiskState → OpenFault → Type 0
-OpenCause before after (open_fault.Store reread.DiskFailed) = Rose before.faults after.faults
-OpenCause before after (open_fault.Store fault) = before.told ≡ None
-OpenCause before after (open_fault.BadSlot slot) = before.told ≡ None
-OpenCause before after (open_fault.BadBound cell) = before.told ≡ None
-OpenCause before after open_fault.Memory = Unit {0}
-
-pub record NotOpened (kind : Kind) (version : Version) (config : Config) (before after : DiskState) (fault : OpenFault) : Type 0 where
-  pub runs : Runs [] (start_calls kind config) before after
-  pub left : LeftOver kind version config before after
-  pub cause : OpenCause before after fault
-  pub leaves : LeavesDisk kind version config before after
-  pub memory : fault ≡ open_fault.Memory → after.faults ≡ before.faults
-
--- ---- one node over its store
-
-pub record AttachedTo (kind : Kind) (version : Version) (config : Config) (before : DiskState) (n : NodeState) : Type 0 where
-  pub config_is : n.node.config ≡ config
-  pub layout_is : n.store.layout ≡ layout kind version
-  pub first : (b : List ℕ) → before.told ≡ Some (firm b) → Stands (layout kind version) b (new_cells config) → n.node ≡ first_node config
-  pub fits : (b : List ℕ) → before.told ≡ Some (firm b) → FitsNow n
-  pub runs : Runs [] (reads kind (cells_in config)) before n.store.disk
-  pub told : n.store.disk.told ≡ before.told
-  pub grows : Grows before n.store.disk
-  pub faults : n.store.disk.faults ≡ before.faults
-
--- no told bytes stand for a new node's cells
-abbrev pub StandsForNoNew : Kind → Version → Config → DiskState → Type 0
-StandsForNoNew kind version config before = (b : List ℕ) → before.told ≡ Some (firm b) → Stands (layout kind version) b (new_cells config) → ⊥
-
-abbrev pub AttachCauseOf : Kind → Version → Config → DiskState → DiskState → OpenFault → Type 0
-AttachCauseOf kind version config before after (open_fault.Store reread.DiskFailed) = Rose before.faults after.faults
-AttachCauseOf kind version config before after (open_fault.Store fault) = StandsForNoNew kind version config before
-AttachCauseOf kind version config before after (open_fault.BadSlot slot) = StandsForNoNew kind version config before
-AttachCauseOf kind version config before after (open_fault.BadBound cell) = StandsForNoNew kind version config before
-AttachCauseOf kind version config before after open_fault.Memory = Unit {0}
-
-pub record NotAttachedTo (kind : Kind) (version : Version) (config : Config) (before after : DiskState) (fault : OpenFault) : Type 0 where
-  pub runs : Runs [] (reads kind (cells_in config)) before after
-  pub told : after.told ≡ before.told
-  pub cause : AttachCauseOf kind version config before after fault
-  pub memory : fault ≡ open_fault.Memory → after.faults ≡ before.faults
-
-abbrev pub of_store : StoreFault → OpenFault
-of_store store.DiskFailed = open_fault.Store reread.DiskFailed
-of_store store.NotFormatted = open_fault.Store reread.NotFormatted
-of_store (store.Damaged place) = open_fault.Store (reread.Damaged place)
-of_store store.TooSmall = open_fault.Memory
-of_store store.Memory = open_fault.Memory
-
-abbrev pub of_cells : AttachFault → OpenFault
-of_cells (cells.BadSlot slot) = open_fault.BadSlot slot
-of_cells (cells.BadBound cell) = open_fault.BadBound cell
-of_cells cells.Memory = open_fault.Memory
+pub record NotOpened (start : Start) (kind : Kind) (version : Version) (config : Config) (before after : DiskState) (fault : OpenFault) : Type 0 where
+  pub runs : Runs [] (start_calls start kind config) before after
+  pub left : LeftOver start kind version config before after
+  pub cause : OpenCause start kind version config before after fault
+  pub leaves : LeavesDisk start kind version config before after
+  pub counts : CountsRefusal fault before.faults after.faults
 
 -- ---- all nodes
 
@@ -136,49 +63,59 @@ pub record HasRoom (bus : NamedBus) (disks : List DiskState) : Type 0 where
       → store_size (layout bus.kind bus.version) (cells_in (get_or bus.nodes i l).config) ≤ (get_or disks i d).size
 
 -- the first k nodes are open, each over its disk
-pub record OpenedFirst (k : ℕ) (bus : NamedBus) (before : List DiskState) (nodes : List NodeState) : Type 0 where
+pub record OpenedFirst (start : Start) (k : ℕ) (bus : NamedBus) (before : List DiskState) (nodes : List NodeState) : Type 0 where
   pub count : length nodes ≡ k
   pub opened : (i : ℕ) (l : NodeLine) (d : DiskState) (n : NodeState) → i < k
-      → Opened bus.kind bus.version (get_or bus.nodes i l).config (get_or before i d) (get_or nodes i n)
+      → Opened start bus.kind bus.version (get_or bus.nodes i l).config (get_or before i d) (get_or nodes i n)
 
 -- there was room, and every node of the bus is open, each over its disk
-pub record OpensNodes (bus : NamedBus) (before : List DiskState) (nodes : List NodeState) : Type 0 where
+pub record OpensNodes (start : Start) (bus : NamedBus) (before : List DiskState) (nodes : List NodeState) : Type 0 where
   pub room : HasRoom bus before
-  pub opened : OpenedFirst (length bus.nodes) bus before nodes
+  pub opened : OpenedFirst start (length bus.nodes) bus before nodes
 
-pub record Started (bus : NamedBus) (most : ℕ) (before : List DiskState) (world : BusState) : Type 0 where
+pub record Started (start : Start) (bus : NamedBus) (most : ℕ) (before : List DiskState) (world : BusState) : Type 0 where
   pub room : HasRoom bus before
-  pub nodes : OpenedFirst (length bus.nodes) bus before world.nodes
+  pub nodes : OpenedFirst start (length bus.nodes) bus before world.nodes
   pub no_event : world.events ≡ 0
   pub most_is : world.most ≡ most
   pub nothing_sent : world.sent ≡ []
 
--- the number, from 1, is that of the node of the bus whose start was refused, and this holds of its disk before and after; no disk before it failed, and those behind it are as before
-pub record OfNumber (bus : NamedBus) (before after : List DiskState) (number : ℕ) (P : DiskState → DiskState → Type 0) : Type 0 where
+-- The number, from 1, is that of the node of the bus whose start was refused, and this holds of its configuration and of
+-- its disk before and after. Each node before it was taken: its disk didn't fail, and told bytes are such as a node is
+-- started over. The disks behind it are as before.
+pub record OfNumber (start : Start) (bus : NamedBus) (before after : List DiskState) (number : ℕ) (P : Config → DiskState → DiskState → Type 0) : Type 0 where
   pub least : 1 ≤ number
   pub most : number ≤ length bus.nodes
-  pub disk : (d : DiskState) → P (get_or before (number - 1) d) (get_or after (number - 1) d)
+  pub disk : (l : NodeLine) (d : DiskState) → P (get_or bus.nodes (number - 1) l).config (get_or before (number - 1) d) (get_or after (number - 1) d)
   pub earlier : (i : ℕ) (d : DiskState) → i < number - 1 → (get_or after i d).faults ≡ (get_or before i d).faults
+  pub taken : (i : ℕ) (l : NodeLine) (d : DiskState) (t : Told) → i < number - 1 → (get_or before i d).told ≡ Some t
+      → (kept : Kept) × KeptOn start bus.kind bus.version (get_or bus.nodes i l).config t.bytes kept
   pub later : (i : ℕ) (d : DiskState) → number ≤ i → get_or after i d ≡ get_or before i d
 
-abbrev pub StartCause : NamedBus → List DiskState → List DiskState → StartFault → Type 0
-StartCause bus before after (start_fault.Store number reread.DiskFailed) = OfNumber bus before after number (λ old new. Rose old.faults new.faults)
-StartCause bus before after (start_fault.Store number fault) = OfNumber bus before after number (λ old new. old.told ≡ None)
-StartCause bus before after (start_fault.BadSlot number slot) = OfNumber bus before after number (λ old new. old.told ≡ None)
-StartCause bus before after (start_fault.BadBound number cell) = OfNumber bus before after number (λ old new. old.told ≡ None)
-StartCause bus before after fault = Unit {0}
+-- the node of this number is refused for the bytes of its disk
+abbrev pub RefusedAt : Start → NamedBus → List DiskState → List DiskState → ℕ → OpenFault → Type 0
+RefusedAt start bus before after number fault =
+    OfNumber start bus before after number (λ config old new. RefusedFor start bus.kind bus.version config old.told fault)
+
+abbrev pub StartCause : Start → NamedBus → List DiskState → List DiskState → StartFault → Type 0
+StartCause start bus before after (start_fault.Store number reread.DiskFailed) =
+    OfNumber start bus before after number (λ config old new. Rose old.faults new.faults)
+StartCause start bus before after (start_fault.Store number fault) = RefusedAt start bus before after number (open_fault.Store fault)
+StartCause start bus before after (start_fault.BadSlot number slot) = RefusedAt start bus before after number (open_fault.BadSlot slot)
+StartCause start bus before after (start_fault.BadBound number cell) = RefusedAt start bus before after number (open_fault.BadBound cell)
+StartCause start bus before after fault = Unit {0}
 
 -- a start that began, and was refused
-pub record Broken (bus : NamedBus) (before after : List DiskState) (fault : StartFault) : Type 0 where
+pub record Broken (start : Start) (bus : NamedBus) (before after : List DiskState) (fault : StartFault) : Type 0 where
   pub room : HasRoom bus before
   pub count : length after ≡ length before
   pub left : (i : ℕ) (l : NodeLine) (d : DiskState) → i < length bus.nodes
-      → Runs [] (start_calls bus.kind (get_or bus.nodes i l).config) (get_or before i d) (get_or after i d)
-      × LeftOver bus.kind bus.version (get_or bus.nodes i l).config (get_or before i d) (get_or after i d)
+      → Runs [] (start_calls start bus.kind (get_or bus.nodes i l).config) (get_or before i d) (get_or after i d)
+      × LeftOver start bus.kind bus.version (get_or bus.nodes i l).config (get_or before i d) (get_or after i d)
   pub rest : drop (length bus.nodes) after ≡ drop (length bus.nodes) before
-  pub cause : StartCause bus before after fault
+  pub cause : StartCause start bus before after fault
   pub leaves : (i : ℕ) (l : NodeLine) (d : DiskState) → i < length bus.nodes
-      → LeavesDisk bus.kind bus.version (get_or bus.nodes i l).config (get_or before i d) (get_or after i d)
+      → LeavesDisk start bus.kind bus.version (get_or bus.nodes i l).config (get_or before i d) (get_or after i d)
   pub memory : fault ≡ start_fault.Memory → (i : ℕ) (d : DiskState) → (get_or after i d).faults ≡ (get_or before i d).faults
 
 -- the disk of this node is the first that is too small
@@ -191,10 +128,10 @@ pub record IsTooSmall (bus : NamedBus) (disks : List DiskState) (number : ℕ) :
   pub before : (i : ℕ) (l : NodeLine) (d : DiskState) → i < number - 1
       → store_size (layout bus.kind bus.version) (cells_in (get_or bus.nodes i l).config) ≤ (get_or disks i d).size
 
-abbrev pub NotStarted : NamedBus → List DiskState → List DiskState → StartFault → Type 0
-NotStarted bus before after start_fault.TooFew = (length before < length bus.nodes) × (after ≡ before)
-NotStarted bus before after (start_fault.TooSmall number) = IsTooSmall bus before number × (after ≡ before)
-NotStarted bus before after fault = Broken bus before after fault
+abbrev pub NotStarted : Start → NamedBus → List DiskState → List DiskState → StartFault → Type 0
+NotStarted start bus before after start_fault.TooFew = (length before < length bus.nodes) × (after ≡ before)
+NotStarted start bus before after (start_fault.TooSmall number) = IsTooSmall bus before number × (after ≡ before)
+NotStarted start bus before after fault = Broken start bus before after fault
 
 -- no disk, or the first that is too small, or room for all
 abbrev pub FindsRoom : NamedBus → List DiskState → StartFault → Type 0
@@ -206,15 +143,32 @@ abbrev pub fault_of_node : ℕ → OpenFault → StartFault
 fault_of_node number (open_fault.Store fault) = start_fault.Store number fault
 fault_of_node number (open_fault.BadSlot slot) = start_fault.BadSlot number slot
 fault_of_node number (open_fault.BadBound cell) = start_fault.BadBound number cell
+fault_of_node number open_fault.TooSmall = start_fault.TooSmall number
 fault_of_node number open_fault.Memory = start_fault.Memory
 
 -- the node behind the first k isn't open: its disk stands first again
-pub record OpensTo (bus : NamedBus) (before after : List DiskState) (nodes : List NodeState) (fault : StartFault) : Type 0 where
+pub record OpensTo (start : Start) (bus : NamedBus) (before after : List DiskState) (nodes : List NodeState) (fault : StartFault) : Type 0 where
   pub place : ℕ
   pub inside : place < length bus.nodes
-  pub opened : OpenedFirst place bus before nodes
+  pub opened : OpenedFirst start place bus before nodes
   pub disk : DiskState
   pub left : after ≡ disk ∷ drop (place + 1) before
   pub cause : OpenFault
-  pub refused : (l : NodeLine) (d : DiskState) → NotOpened bus.kind bus.version (get_or bus.nodes place l).config (get_or before place d) disk cause
+  pub refused : (l : NodeLine) (d : DiskState) → NotOpened start bus.kind bus.version (get_or bus.nodes place l).config (get_or before place d) disk cause
   pub fault_is : fault ≡ fault_of_node (place + 1) cause
+
+-- ---- where a bus goes on
+
+-- a node of the machine that is started over a disk: it has just powered up, and where the disk tells its bytes, what it
+-- keeps is what a node keeps that is attached to them
+pub record NodeGoesOn (kind : Kind) (version : Version) (config : Config) (disk : DiskState) (node : Node) : Type 0 where
+  pub just_powered : node ≡ powered config node.kept
+  pub kept : (t : Told) → disk.told ≡ Some t → KeptOn Attach kind version config t.bytes node.kept
+
+-- a world in which a bus goes on where its disks stand: no event and no sent line yet, and each node goes on over its disk
+pub record StartsOver (bus : NamedBus) (before : List DiskState) (world : World) : Type 0 where
+  pub no_event : world.events ≡ 0
+  pub nothing_sent : world.sent ≡ []
+  pub count : length world.nodes ≡ length bus.nodes
+  pub nodes : (i : ℕ) (l : NodeLine) (d : DiskState) → i < length bus.nodes
+      → NodeGoesOn bus.kind bus.version (get_or bus.nodes i l).config (get_or before i d) (node_at world i)

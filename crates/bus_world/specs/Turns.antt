@@ -16,6 +16,7 @@ use Rattle.bus_machine.specs.Steps.{Act, cuts, NodeStep}
 use Rattle.bus_machine.specs.Bus.{World, SentLine, act_of}
 use Rattle.bus_machine.specs.Past.{mark_of, cell_count}
 use Rattle.bus_machine.specs.Node.{Node, place_of, powered, refused_up}
+use Rattle.bus_machine.specs.Sound.{Sound}
 use Rattle.bus_machine.specs.Honest.{IsInTime, IsHeard}
 use Rattle.freshness_routes.specs.declared.routes.Direction.TheVariants.{Receives}
 use Rattle.secure_boot.specs.Booting.{IsImage}
@@ -93,6 +94,7 @@ LeavesAlone None line before after = Unit {0}
 abbrev pub silent : World
 silent = record { nodes = []; events = 0; sent = [] }
 
+-- what a turn does, over a disk that tells its bytes as over one that doesn't
 pub record NodeTurn (before : NodeState) (duty : Duty) (line : Line) (after : NodeState) : Type 0 where
   pub step : IsCertain duty.mark before → NodeStep before.node duty.act line after.node
   pub of_cut : duty.act ≡ cuts → AnswersCut before line after
@@ -103,6 +105,7 @@ pub record NodeTurn (before : NodeState) (duty : Duty) (line : Line) (after : No
   pub faults : TellsFaults line before.store.disk.faults after.store.disk.faults
   pub image : LeavesCut duty.mark before.store.disk after.store.disk
   pub untouched : LeavesAlone duty.mark line before after
+  pub sound : Sound before.node → Sound after.node
 
 -- ---- honest PDUs
 

@@ -4,7 +4,8 @@ use Rattle.machine_runs.specs.Members.{MemberSteps}
 use Rattle.machine_runs.specs.Run.{Moment, Run, seen_as}
 use Rattle.bus_machine.specs.declared.events.Event.{Event}
 use Rattle.bus_machine.specs.declared.lines.Line.{Line}
-use Rattle.bus_machine.specs.Bus.{World, SentLine, node_of, NamesSource, sent_after, Step}
+use Rattle.bus_texts.specs.LineKinds.{IsLine}
+use Rattle.bus_machine.specs.Bus.{World, SentLine, node_of, NamesSource, sent_after, Step, SoundBus}
 use Rattle.bus_machine.specs.Past.{mark_of}
 use Rattle.bus_machine.specs.Node.{place_of}
 use Rattle.bus_machine.specs.Honest.{IsInTime, IsHeard}
@@ -33,13 +34,15 @@ pub record IsReady (s : BusState) (events : List Event) : Type 0 where
   pub of_bus : All (IsEventOf (length s.nodes)) events
   pub room : s.events + length events ≤ s.most
 
--- the event's node takes its turn over its disk, the other nodes and their disks are as before, and what was sent is put down
+-- the event's node takes its turn over its disk, the other nodes and their disks are as before, and what was sent is put
+-- down; the line is one that its type has
 pub record BusTurn (before : BusState) (event : Event) (line : Line) (after : BusState) : Type 0 where
   pub one : MemberSteps NodeTurn before.nodes (node_of event) (duty_of (world_of before) event) line after.nodes
   pub source : NamesSource (world_of before) line
   pub events : after.events ≡ before.events + 1
   pub most : after.most ≡ before.most
   pub sent : after.sent ≡ sent_after (world_of before) event line
+  pub is_line : IsLine line
 
 -- what the event brings its node in time is accepted with its payload and freshness; or the disk failed: the line tells so, and the count of faults of this node's disk rose
 abbrev pub HearsInTime : BusState → Event → Line → BusState → Type 0
@@ -78,3 +81,8 @@ TurnsAreSteps = (before : BusState) (event : Event) (line : Line) (after : BusSt
 abbrev pub TurnsAreRuns : Type 0
 TurnsAreRuns = (start now : BusState) (moments : List (Moment Event Line BusState)) → EachFits start → Run BusTurn start moments now
     → Run Step (world_of start) (seen_as (λ event. event) world_of moments) (world_of now) × EachFits now
+
+-- a turn leaves each node sound, whatever its disk tells, where each was: so do all turns of a world
+abbrev pub TurnsKeepSound : Type 0
+TurnsKeepSound = (start now : BusState) (moments : List (Moment Event Line BusState)) → SoundBus (world_of start)
+    → Run BusTurn start moments now → SoundBus (world_of now)

@@ -1,5 +1,5 @@
 //! What holds of the turns of worlds: each function has an empty body, and its contract is the law.
-ghost use Rattle.bus_world.specs.Worlds.{TurnsAreSteps, TurnsAreRuns};
+ghost use Rattle.bus_world.specs.Worlds.{TurnsAreSteps, TurnsAreRuns, TurnsKeepSound};
 
 /// A turn is the machine's step: always where the event is no cut, and where it is one, over a disk that tells its
 /// bytes and fits its node.
@@ -10,4 +10,9 @@ pub fn turns_are_steps()
 /// Turns over disks that tell their bytes and fit their nodes are a run of the machine, and leave the disks so.
 pub fn turns_are_runs()
     ensures { TurnsAreRuns }
+{}
+
+/// Turns keep the nodes of a world sound, whatever their disks tell.
+pub fn turns_keep_sound()
+    ensures { TurnsKeepSound }
 {}

@@ -7,12 +7,10 @@ mod laws;
 mod opening;
 mod refusing;
 mod start;
-#[cfg(test)]
-mod tests;
 mod turns;
 mod world;
 
-pub use laws::{turns_are_runs, turns_are_steps};
+pub use laws::{turns_are_runs, turns_are_steps, turns_keep_sound};
 pub use opening::close_nodes;
 pub use refusing::start_refusal;
 pub use start::{Start, StartFault, open_nodes};

@@ -3,12 +3,16 @@ ghost use Rattle.std.specs.Prelude.{◌≡◌, ◌+◌, ◌<◌, ◌≤◌, ◌�
 ghost use Rattle.std.specs.Vec.{vec_len, vec_capacity};
 ghost use Rattle.cell_store.specs.Store.{store_size};
 ghost use Rattle.any_cells.specs.Either.{layout};
+ghost use Rattle.cell_store.specs.declared.kinds.Version.TheVariants.{Two};
 ghost use Rattle.freshness_routes.specs.Config.{IsConfig};
-ghost use Rattle.bus_world.specs.Starts.{Opened, NotOpened, AttachedTo, NotAttachedTo, of_store, of_cells, disks_of};
+ghost use Rattle.bus_world.specs.declared.start.Start.TheVariants.{Format, Attach};
+ghost use Rattle.bus_world.specs.Opening.{AttachedTo, NotAttachedTo, MovedTo, NotMovedTo, of_store, of_cells};
+ghost use Rattle.bus_world.specs.Starts.{Opened, NotOpened, disks_of};
 
-use any_cells::AnyCells;
+use crate::start::Start;
+use any_cells::{AnyCells, Found, look, migrate};
 use cell_store::{Cells, Kind, Reread, StoreFault, Version};
-use cut_disk::CutDisk;
+use cut_disk::{CutDisk, DiskFailed};
 use freshness_routes::NodeConfig;
 use key_slots::SlotId;
 use secoc_node::{AttachFault, Node, first_cells};
@@ -17,12 +21,14 @@ use std::alloc::Global;
 /// Why a node isn't opened over its disk.
 #[derive(Clone, Copy, Debug, PartialEq, Eq, Drop)]
 pub(crate) enum OpenFault {
-    /// The store isn't written, or what was written isn't read again.
+    /// The store isn't written or moved, or what stands on the disk isn't read, or is no store of this node.
     Store(Reread),
-    /// What was read again has no slot in this slot's cell.
+    /// What was read has no slot in this slot's cell.
     BadSlot(SlotId),
-    /// What was read again has no bound of its route in this cell.
+    /// What was read has no bound of its route in this cell.
     BadBound(u16),
+    /// The disk has fewer bytes than the store needs.
+    TooSmall,
     /// There was no memory.
     Memory,
 }
@@ -34,26 +40,101 @@ pub(crate) struct Unopened<T> {
     pub(crate) fault: OpenFault,
 }
 
-/// Formats the disk as a store of the first cells of a node with this configuration, and opens the node over it.
-pub(crate) fn open_new<D: CutDisk>(
+/// Opens the node of this configuration over its disk, as this start does.
+pub(crate) fn open_node<D: CutDisk>(
     alloc: Global,
     kind: Kind,
     version: Version,
     config: &NodeConfig,
+    start: Start,
     disk: D,
 ) -> Result<Node<AnyCells<D>>, Unopened<D>>
     requires { IsConfig config.now × (store_size (layout kind version) (14 + length config.now.routes) ≤ (D.state disk).size) }
-    ensures opened { IfOk result (Opened kind version config.now (D.state disk)) }
-    ensures refused { IfErr result (λ u. NotOpened kind version config.now (D.state disk) (D.state u.disk) u.fault) }
+    ensures opened { IfOk result (Opened start kind version config.now (D.state disk)) }
+    ensures refused { IfErr result (λ u. NotOpened start kind version config.now (D.state disk) (D.state u.disk) u.fault) }
 {
-    let mut cells = [[0; 32]; 270];
-    let count = first_cells(config, &mut cells);
     let Ok(config) = config.copy(alloc) else {
         let fault = OpenFault::Memory;
         return Err(Unopened { disk, fault });
     };
+    match start {
+        Start::Format => open_new(alloc, kind, version, config, disk),
+        Start::Attach => open_found(alloc, kind, version, config, disk),
+    }
+}
+
+/// Opens the node over what is found on the disk: a blank disk is formatted, and an older store is moved.
+fn open_found<D: CutDisk>(
+    alloc: Global,
+    kind: Kind,
+    version: Version,
+    config: NodeConfig,
+    disk: D,
+) -> Result<Node<AnyCells<D>>, Unopened<D>>
+    requires { IsConfig config × (store_size (layout kind version) (14 + length config.routes) ≤ (D.state disk).size) }
+    ensures opened { IfOk result (Opened Attach kind version config (D.state disk)) }
+    ensures refused { IfErr result (λ u. NotOpened Attach kind version config (D.state disk) (D.state u.disk) u.fault) }
+{
+    let mut disk = disk;
+    match look(&mut disk, kind, version, cells_of(&config)) {
+        Ok(Found::Blank) => open_new(alloc, kind, version, config, disk),
+        Ok(Found::Standing) => attach(alloc, kind, version, config, disk),
+        Ok(Found::Older) => open_older(alloc, kind, config, disk),
+        Ok(Found::Foreign) => {
+            let fault = OpenFault::Store(Reread::NotFormatted);
+            Err(Unopened { disk, fault })
+        }
+        Err(DiskFailed) => {
+            let fault = OpenFault::Store(Reread::DiskFailed);
+            Err(Unopened { disk, fault })
+        }
+    }
+}
+
+/// Moves the store of a node to version 2, and opens the node over it.
+fn open_older<D: CutDisk>(
+    alloc: Global,
+    kind: Kind,
+    config: NodeConfig,
+    disk: D,
+) -> Result<Node<AnyCells<D>>, Unopened<D>>
+    requires { IsConfig config × (store_size (layout kind Two) (14 + length config.routes) ≤ (D.state disk).size) }
+    ensures opened { IfOk result (MovedTo kind config (D.state disk)) }
+    ensures refused { IfErr result (λ u. NotMovedTo kind config (D.state disk) (D.state u.disk) u.fault) }
+{
+    match migrate(alloc, disk, kind, cells_of(&config)) {
+        Ok(disk) => attach(alloc, kind, Version::Two, config, disk),
+        Err(refused) => Err(Unopened {
+            disk: refused.disk,
+            fault: open_fault(refused.fault),
+        }),
+    }
+}
+
+/// The number of cells of a node with this configuration.
+fn cells_of(config: &NodeConfig) -> u16
+    ensures cells { result ≡ 14 + length config.now.routes }
+    ensures most { result ≤ 270 }
+{
+    14 + config.routes.as_slice().len() as u16
+}
+
+/// Formats the disk as a store of the first cells of a node with this configuration, and opens the node over it.
+fn open_new<D: CutDisk>(
+    alloc: Global,
+    kind: Kind,
+    version: Version,
+    config: NodeConfig,
+    disk: D,
+) -> Result<Node<AnyCells<D>>, Unopened<D>>
+    requires { IsConfig config × (store_size (layout kind version) (14 + length config.routes) ≤ (D.state disk).size) }
+    ensures opened { IfOk result (Opened Format kind version config (D.state disk)) }
+    ensures refused { IfErr result (λ u. NotOpened Format kind version config (D.state disk) (D.state u.disk) u.fault) }
+{
+    let mut cells = [[0; 32]; 270];
+    let count = first_cells(&config, &mut cells);
     match AnyCells::format_as(disk, kind, version, &cells[..count]) {
-        Ok(disk) => attach(alloc, kind, version, count as u16, config, disk),
+        Ok(disk) => attach(alloc, kind, version, config, disk),
         Err(refused) => Err(Unopened {
             disk: refused.disk,
             fault: open_fault(refused.fault),
@@ -66,16 +147,14 @@ fn attach<D: CutDisk>(
     alloc: Global,
     kind: Kind,
     version: Version,
-    count: u16,
     config: NodeConfig,
     disk: D,
 ) -> Result<Node<AnyCells<D>>, Unopened<D>>
-    requires { (count ≡ 14 + length config.routes) × (length config.routes ≤ 256) × IsConfig config
-        × (store_size (layout kind version) (14 + length config.routes) ≤ (D.state disk).size) }
+    requires { IsConfig config × (store_size (layout kind version) (14 + length config.routes) ≤ (D.state disk).size) }
     ensures opened { IfOk result (AttachedTo kind version config (D.state disk)) }
     ensures refused { IfErr result (λ u. NotAttachedTo kind version config (D.state disk) (D.state u.disk) u.fault) }
 {
-    match AnyCells::attach_as(alloc, disk, kind, version, count) {
+    match AnyCells::attach_as(alloc, disk, kind, version, cells_of(&config)) {
         Ok(cells) => match Node::attach(alloc, config, cells) {
             Ok(node) => Ok(node),
             Err(refused) => Err(Unopened {
@@ -90,7 +169,7 @@ fn attach<D: CutDisk>(
     }
 }
 
-/// Why a store isn't opened. Its room was looked at before.
+/// Why a store isn't opened.
 fn open_fault(fault: StoreFault) -> OpenFault
     ensures { result ≡ of_store fault }
 {
@@ -98,7 +177,7 @@ fn open_fault(fault: StoreFault) -> OpenFault
         StoreFault::DiskFailed => OpenFault::Store(Reread::DiskFailed),
         StoreFault::NotFormatted => OpenFault::Store(Reread::NotFormatted),
         StoreFault::Damaged(place) => OpenFault::Store(Reread::Damaged(place)),
-        StoreFault::TooSmall => OpenFault::Memory,
+        StoreFault::TooSmall => OpenFault::TooSmall,
         StoreFault::Memory => OpenFault::Memory,
     }
 }

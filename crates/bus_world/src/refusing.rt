@@ -13,6 +13,9 @@ use std::alloc::{AllocError, Global};
 pub fn start_refusal(alloc: Global, fault: &StartFault) -> Refusal
     ensures { IsStartRow fault.now result }
 {
+    if let StartFault::TooFew = fault {
+        return Refusal::fixed(9, "disks: too few\n");
+    }
     match start_text(alloc, fault) {
         Ok(text) => Refusal::made(status_of(fault), text),
         Err(AllocError) => Refusal::no_memory(),
@@ -35,7 +38,7 @@ fn start_text(alloc: Global, fault: &StartFault) -> Result<String, AllocError>
     ensures { IfOk result (λ text. string_bytes text ≡ (start_row fault.now).text) }
 {
     match fault {
-        StartFault::TooFew => format!(in alloc; "disks: too few\n"),
+        StartFault::TooFew => Err(AllocError),
         StartFault::TooSmall(node) => format!(in alloc; "disks: node {node} too small\n"),
         StartFault::Store(node, reread) => store_text(alloc, *node, reread),
         StartFault::BadSlot(node, slot) => {

@@ -3,9 +3,10 @@ ghost use Rattle.std.specs.Prelude.{◌≡◌, ◌+◌, ◌≤◌, ◌<◌, ◌+
 ghost use Rattle.std.specs.Vec.{vec_len, vec_capacity};
 ghost use Rattle.any_cells.specs.Either.{layout};
 ghost use Rattle.cell_store.specs.Store.{store_size as size_of};
+ghost use Rattle.bus_world.specs.declared.start.Start.TheVariants.{Format};
 ghost use Rattle.bus_world.specs.Starts.{cells_in, HasRoom, FindsRoom, OpenedFirst, OpensNodes, OpensTo, NotStarted, fault_of_node as fault_numbered};
 
-use crate::opening::{OpenFault, close_nodes, open_new, put_first};
+use crate::opening::{OpenFault, close_nodes, open_node, put_first};
 use crate::world::World;
 use any_cells::{AnyCells, store_size};
 use bus_nodes::BusConfig;
@@ -22,6 +23,9 @@ use std::alloc::Global;
 pub enum Start {
     /// Each disk is formatted with the first cells of its node.
     Format,
+    /// Each node goes on where its disk stands. A disk that is blank is formatted. A store of the node is attached; one in
+    /// version 1 is first moved to version 2, where the bus has that. Anything else is refused, and isn't written.
+    Attach,
 }
 
 /// Why a world doesn't start. A node is told by its number, counted from 1.
@@ -31,11 +35,11 @@ pub enum StartFault {
     TooFew,
     /// The disk of this node has fewer bytes than its store needs.
     TooSmall(u8),
-    /// The store of this node isn't written, or what was written isn't read again.
+    /// The store of this node isn't written or moved, or what stands on its disk isn't read, or is no store of the node.
     Store(u8, Reread),
-    /// What was read again from this node's disk has no slot in this slot's cell.
+    /// What was read from this node's disk has no slot in this slot's cell.
     BadSlot(u8, SlotId),
-    /// What was read again from this node's disk has no bound of its route in this cell.
+    /// What was read from this node's disk has no bound of its route in this cell.
     BadBound(u8, u16),
     /// There was no memory.
     Memory,
@@ -44,12 +48,15 @@ pub enum StartFault {
 impl<D: CutDisk> World<D> {
     ghost use Rattle.std.specs.Prelude.{◌≡◌, ◌+◌, ◌≤◌, ◌++◌, length, map, drop, IfOk, IfErr, OnOk};
     ghost use Rattle.std.specs.Vec.{vec_len, vec_capacity};
+    ghost use Rattle.bus_machine.specs.Bus.{SoundBus};
     ghost use Rattle.bus_world.specs.Starts.{Started, NotStarted, disks_of};
+    ghost use Rattle.bus_world.specs.Worlds.{world_of};
 
     /// The first world of a bus, over one disk a node from the front of `disks`, with room for the lines of so many events.
     ///
     /// Numbers and sizes of the disks are looked at first: `TooFew`, and `TooSmall` with the first such node, come before
-    /// any call of a disk. After a refusal all disks are back in `disks`, in their order. After `Ok` there is room in
+    /// any call of a disk. Then node after node is opened, as the start says; a store that is moved is moved before its
+    /// cells are looked at. After a refusal all disks are back in `disks`, in their order. After `Ok` there is room in
     /// `disks` for those that were taken.
     pub fn start(
         alloc: Global,
@@ -58,12 +65,12 @@ impl<D: CutDisk> World<D> {
         events: u32,
         start: Start,
     ) -> Result<World<D>, StartFault>
-        ensures started { IfOk result (Started bus.now events (map D.state disks.old.items)) }
+        ensures started { IfOk result (Started start bus.now events (map D.state disks.old.items)) }
+        ensures sound { IfOk result (λ world. SoundBus (world_of world)) }
         ensures rest { OnOk result (map D.state disks.new.items ≡ drop (length bus.now.nodes) (map D.state disks.old.items)) }
         ensures room { OnOk result (vec_len disks.new + length bus.now.nodes ≤ vec_capacity disks.new) }
-        ensures refused { IfErr result (NotStarted bus.now (map D.state disks.old.items) (map D.state disks.new.items)) }
+        ensures refused { IfErr result (NotStarted start bus.now (map D.state disks.old.items) (map D.state disks.new.items)) }
     {
-        let Start::Format = start;
         match find_room(bus, disks.as_slice()) {
             Ok(()) => {}
             Err(fault) => return Err(fault),
@@ -71,7 +78,7 @@ impl<D: CutDisk> World<D> {
         let Ok(history) = History::new(alloc, events) else {
             return Err(StartFault::Memory);
         };
-        match open_in_room(alloc, bus, disks) {
+        match open_in_room(alloc, bus, disks, start) {
             Ok(nodes) => Ok(World { nodes, history }),
             Err(fault) => Err(fault),
         }
@@ -95,13 +102,13 @@ pub fn open_nodes<D: CutDisk>(
     bus: &BusConfig,
     disks: &mut Vec<D>,
 ) -> Result<Vec<Node<AnyCells<D>>>, StartFault>
-    ensures opened { IfOk result (λ nodes. OpensNodes bus.now (map D.state disks.old.items) nodes.items) }
+    ensures opened { IfOk result (λ nodes. OpensNodes Format bus.now (map D.state disks.old.items) nodes.items) }
     ensures rest { OnOk result (map D.state disks.new.items ≡ drop (length bus.now.nodes) (map D.state disks.old.items)) }
     ensures room { OnOk result (vec_len disks.new + length bus.now.nodes ≤ vec_capacity disks.new) }
-    ensures refused { IfErr result (NotStarted bus.now (map D.state disks.old.items) (map D.state disks.new.items)) }
+    ensures refused { IfErr result (NotStarted Format bus.now (map D.state disks.old.items) (map D.state disks.new.items)) }
 {
     match find_room(bus, disks.as_slice()) {
-        Ok(()) => open_in_room(alloc, bus, disks),
+        Ok(()) => open_in_room(alloc, bus, disks, Start::Format),
         Err(fault) => Err(fault),
     }
 }
@@ -111,17 +118,18 @@ fn open_in_room<D: CutDisk>(
     alloc: Global,
     bus: &BusConfig,
     disks: &mut Vec<D>,
+    start: Start,
 ) -> Result<Vec<Node<AnyCells<D>>>, StartFault>
     requires room { HasRoom bus.now (map D.state disks.old.items) }
-    ensures opened { IfOk result (λ nodes. OpensNodes bus.now (map D.state disks.old.items) nodes.items) }
+    ensures opened { IfOk result (λ nodes. OpensNodes start bus.now (map D.state disks.old.items) nodes.items) }
     ensures rest { OnOk result (map D.state disks.new.items ≡ drop (length bus.now.nodes) (map D.state disks.old.items)) }
     ensures room { OnOk result (vec_len disks.new + length bus.now.nodes ≤ vec_capacity disks.new) }
-    ensures refused { IfErr result (NotStarted bus.now (map D.state disks.old.items) (map D.state disks.new.items)) }
+    ensures refused { IfErr result (NotStarted start bus.now (map D.state disks.old.items) (map D.state disks.new.items)) }
 {
     let Ok(mut nodes) = Vec::with_capacity(alloc, bus.nodes().len()) else {
         return Err(StartFault::Memory);
     };
-    match open_all(alloc, bus, disks, &mut nodes) {
+    match open_all(alloc, bus, disks, start, &mut nodes) {
         Ok(()) => Ok(nodes),
         Err(fault) => {
             close_nodes(nodes, disks);
@@ -167,20 +175,21 @@ fn open_all<D: CutDisk>(
     alloc: Global,
     bus: &BusConfig,
     disks: &mut Vec<D>,
+    start: Start,
     nodes: &mut Vec<Node<AnyCells<D>>>,
 ) -> Result<(), StartFault>
     requires room { HasRoom bus.now (map D.state disks.old.items) }
     requires none { nodes.old.items ≡ [] }
     requires reserved { length bus.now.nodes ≤ vec_capacity nodes.old }
     ensures opened { MatchResult result
-        (λ _. OpenedFirst (length bus.now.nodes) bus.now (map D.state disks.old.items) nodes.new.items)
-        (OpensTo bus.now (map D.state disks.old.items) (map D.state disks.new.items) nodes.new.items) }
+        (λ _. OpenedFirst start (length bus.now.nodes) bus.now (map D.state disks.old.items) nodes.new.items)
+        (OpensTo start bus.now (map D.state disks.old.items) (map D.state disks.new.items) nodes.new.items) }
     ensures rest { OnOk result (map D.state disks.new.items ≡ drop (length bus.now.nodes) (map D.state disks.old.items)) }
     ensures room { vec_len disks.new + vec_len nodes.new ≤ vec_capacity disks.new }
 {
     for (place, node) in bus.nodes().iter().enumerate() {
         let disk = disks.remove(0);
-        match open_new(alloc, bus.kind(), bus.version(), &node.config, disk) {
+        match open_node(alloc, bus.kind(), bus.version(), &node.config, start, disk) {
             Ok(node) => keep(nodes, node),
             Err(unopened) => {
                 put_first(disks, unopened.disk);
@@ -212,6 +221,7 @@ fn fault_of_node(number: u8, fault: &OpenFault) -> StartFault
         OpenFault::Store(reread) => StartFault::Store(number, *reread),
         OpenFault::BadSlot(slot) => StartFault::BadSlot(number, *slot),
         OpenFault::BadBound(cell) => StartFault::BadBound(number, *cell),
+        OpenFault::TooSmall => StartFault::TooSmall(number),
         OpenFault::Memory => StartFault::Memory,
     }
 }

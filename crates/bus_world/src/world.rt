@@ -4,6 +4,7 @@ ghost use Rattle.std.specs.Prelude.{◌≡◌};
 use crate::turns::{node_of, take_turn};
 use any_cells::AnyCells;
 use bus_machine::{Event, Line};
+use bus_texts::every_line_is_one;
 use cut_disk::CutDisk;
 use numbered_run::Machine;
 use secoc_node::Node;
@@ -11,7 +12,8 @@ use sent_lines::History;
 use std::marker::Model;
 
 /// The nodes of a bus over their disks, and the lines that were sent on it. Contracts see the states of the nodes and
-/// their disks, how many events there were and may be, and the lines that were sent.
+/// their disks, how many events there were and may be, and the lines that were sent. Each node is always sound, also over
+/// a disk that doesn't tell its bytes.
 ///
 /// A step takes no memory. It finds the line that a `deliver` names by halving, and the event that sent what is
 /// accepted along links, of which few are needed (measured, and no clause).
@@ -27,11 +29,21 @@ impl<D: CutDisk> Model for World<D> {
     ghost Value = { BusState };
 
     ghost view = { λ w. record { nodes = w.nodes.items; events = w.history.events; most = w.history.most; sent = w.history.lines } };
+
+    ghost use Rattle.std.specs.Prelude.{map};
+    ghost use Rattle.bus_machine.specs.Bus.{SoundBus};
+
+    ghost invariant = { λ w. SoundBus (record {
+      nodes = map (λ n. n.node) w.nodes.items;
+      events = w.history.events;
+      sent = w.history.lines;
+    }) };
 }
 
 impl<D: CutDisk> World<D> {
     ghost use Rattle.std.specs.Prelude.{◌≡◌, ◌<◌, length};
-    ghost use Rattle.bus_world.specs.Worlds.{IsEventOf, BusTurn, HearsInTime, Turned, NodeHears};
+    ghost use Rattle.bus_machine.specs.Bus.{SoundBus};
+    ghost use Rattle.bus_world.specs.Worlds.{world_of, IsEventOf, BusTurn, HearsInTime, Turned, NodeHears};
 
     /// Does an event, and gives its line. It takes no memory.
     pub fn step(&mut self, event: &Event) -> Line
@@ -39,8 +51,10 @@ impl<D: CutDisk> World<D> {
         requires room { self.old.events < self.old.most }
         ensures turn { BusTurn self.old event.now result self.new }
         ensures honest { HearsInTime self.old event.now result self.new }
+        ensures sound { SoundBus (world_of self.new) }
     {
         let line = self.turn(event);
+        every_line_is_one(&line);
         self.history.note(&line);
         line
     }

@@ -35,25 +35,22 @@ fn changed(byte: usize, value: u8) -> [u8; 32] {
     cell
 }
 
-// Whether the entry with this byte at this value is one.
-fn is_entry(alloc: Global, byte: usize, value: u8) -> Result<bool, Fail> {
-    match bad_entry(alloc, &[(255, changed(byte, value))])? {
-        None => Ok(true),
-        Some(place) => Ok(place != 255),
-    }
+// The cell that is named where the last one is the entry with this byte at this value.
+fn named(alloc: Global, byte: usize, value: u8) -> Result<Option<u16>, Fail> {
+    bad_entry(alloc, &[(255, changed(byte, value))])
 }
 
 #[test]
 fn each_byte_of_an_entry_counts(rt: HostRuntime) -> Result<(), Fail> {
     let alloc = rt.alloc();
     for (byte, value) in [(0, 2), (0, 0), (16, 0), (16, 14), (17, 0x10), (21, 2)] {
-        assert!(rt; !is_entry(alloc, byte, value)?);
+        assert_eq!(rt; named(alloc, byte, value)?, Some(255));
     }
     for byte in 22..32 {
-        assert!(rt; !is_entry(alloc, byte, 1)?);
+        assert_eq!(rt; named(alloc, byte, 1)?, Some(255));
     }
     for (byte, value) in [(1, 9), (15, 9), (16, 1), (17, 0), (20, 0), (21, 0)] {
-        assert!(rt; is_entry(alloc, byte, value)?);
+        assert_eq!(rt; named(alloc, byte, value)?, None);
     }
     Ok(())
 }

@@ -1,4 +1,4 @@
-//! Tests of the ledger of a key campaign. There is nothing else here: a crate of tests over several libraries has none of
+//! Tests of the ledger of a key campaign, and of whole campaigns over disks in memory. There is nothing else here: a crate of tests over several libraries has none of
 //! them proved a second time.
 #![tactic(auto)]
 
@@ -6,6 +6,8 @@
 mod entries;
 #[cfg(test)]
 mod played;
+#[cfg(test)]
+mod scripts;
 #[cfg(test)]
 mod stops;
 #[cfg(test)]

@@ -1,5 +1,6 @@
 // The worked runs of a ledger.
-use crate::played::{Act, Answer, first_wrong};
+use crate::played::{Act, Answer, blank, done, first_wrong};
+use cell_store::Cells;
 use cut_disk::Torn;
 use key_campaign::LedgerFault;
 use std::test::Fail;
@@ -60,5 +61,23 @@ fn refusals_come_in_their_order(rt: HostRuntime) -> Result<(), Fail> {
         (Act::Show(4), Answer::Shown(2, false)),
     ];
     assert_eq!(rt; first_wrong(rt.alloc(), &ROWS)?, None);
+    Ok(())
+}
+
+#[test]
+fn a_ledger_is_down_from_a_fault_to_the_next_power_up(rt: HostRuntime) -> Result<(), Fail> {
+    const ROWS: [(Act, bool); 5] = [
+        (Act::Show(4), false),
+        (Act::Fail(3), false),
+        (Act::Issue(4, 1), true),
+        (Act::Show(4), true),
+        (Act::Cut(Torn::Keep), false),
+    ];
+    let mut ledger = blank(rt.alloc())?;
+    for (act, down) in &ROWS {
+        done(&mut ledger, *act);
+        assert_eq!(rt; ledger.is_down(), *down);
+    }
+    assert_eq!(rt; ledger.release().count(), 256);
     Ok(())
 }

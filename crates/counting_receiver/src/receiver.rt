@@ -1,6 +1,7 @@
 //! One verdict.
 ghost use Rattle.std.specs.Prelude.{OnOk};
 ghost use Rattle.secured_pdu.specs.Frame.{IsFrame, IsWindow};
+ghost use Rattle.text_lines.specs.Room.{AddsAtMost};
 ghost use Rattle.counting_receiver.specs.Counting.{AddsVerdict};
 
 use secured_pdu::{Judgement, judge, split};
@@ -12,7 +13,8 @@ use text_lines::verdicts::{push_bad_length, push_outcome};
 pub const WIDEST_WINDOW: u16 = 256;
 
 /// Adds the text of the verdict on a Secured I-PDU of 5 to 64 bytes, under the key of this schedule, and by a receiver
-/// with this Data ID, window (1 to 256) and counter. Where it is accepted, the counter is its freshness.
+/// with this Data ID, window (1 to 256) and counter. Where it is accepted, the counter is its freshness. In room for 158
+/// bytes no memory is taken.
 pub fn push_verdict(
     schedule: &Schedule,
     id: u16,
@@ -23,8 +25,9 @@ pub fn push_verdict(
 ) -> Result<(), AllocError>
     requires window { IsWindow window }
     requires frame { IsFrame pdu.now }
-    ensures { OnOk result (AddsVerdict schedule.now id window counter.old counter.new pdu.now
+    ensures verdict { OnOk result (AddsVerdict schedule.now id window counter.old counter.new pdu.now
         text.old.items text.new.items) }
+    ensures room { AddsAtMost 158 text.old text.new result }
 {
     let Some(parts) = split(pdu) else {
         return push_bad_length(text);

@@ -13,8 +13,6 @@
 mod byte_file;
 mod file_disk;
 mod system_file;
-#[cfg(test)]
-mod tests;
 
 pub use byte_file::{ByteFile, FileFailed};
 pub use file_disk::FileDisk;

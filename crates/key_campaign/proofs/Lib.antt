@@ -6,3 +6,4 @@ pub mod LedgerLaws
 pub mod CutLaws
 pub mod CallLaws
 pub mod Founds
+pub mod NoEntries

@@ -1,5 +1,5 @@
 //! Laws of ledgers and their stores: the contract of each function is the law, and its body is empty.
-ghost use Rattle.std.specs.Prelude.{◌≡◌, ℕ, List, Option};
+ghost use Rattle.std.specs.Prelude.{◌≡◌, ℕ, List, Option, replicate};
 ghost use Rattle.byte_lists.specs.Bytes.{IsBytes};
 ghost use Rattle.cut_disk.specs.Images.{firm};
 ghost use Rattle.cell_store.specs.declared.kinds.Layout.{Layout};
@@ -7,7 +7,8 @@ ghost use Rattle.cell_store.specs.Store.{Stands};
 ghost use Rattle.store_runs.specs.Keeping.{Fits};
 ghost use Rattle.campaign_machine.specs.declared.entries.LedgerEntry.{LedgerEntry};
 ghost use Rattle.campaign_machine.specs.Campaign.{powered_ledger};
-ghost use Rattle.key_campaign.specs.Cell.{IsLedgerPlace, place_cell, HoldsPlace, HoldEntries, ledger_cells};
+ghost use Rattle.campaign_machine.specs.Entries.{no_entries};
+ghost use Rattle.key_campaign.specs.Cell.{IsLedgerPlace, place_cell, HoldsPlace, HoldEntries, FirstBadEntry, ledger_cells};
 ghost use Rattle.key_campaign.specs.State.{keeping_of};
 
 /// The cell of a place has 32 bytes.
@@ -29,4 +30,16 @@ pub fn a_settled_disk_fits_its_ledger()
     ensures { (layout : Layout) (entries : List (Option LedgerEntry)) (bytes : List ℕ)
         → Stands layout bytes (ledger_cells entries)
         → Fits layout (keeping_of (powered_ledger entries)) (firm bytes) }
+{}
+
+/// Cells that are those of entries have no bad one: a ledger is attached exactly where there is none.
+pub fn held_cells_have_no_bad_entry()
+    ensures { (cells : List (List ℕ)) (entries : List (Option LedgerEntry)) (bad : ℕ) → HoldEntries cells entries
+        → ¬ FirstBadEntry cells bad }
+{}
+
+/// The cells of no entries are those of a ledger: 256 of 32 zero bytes.
+pub fn cells_of_no_entries_are_a_ledger()
+    ensures held { HoldEntries (ledger_cells no_entries) no_entries }
+    ensures zeros { ledger_cells no_entries ≡ replicate 256 (replicate 32 0) }
 {}

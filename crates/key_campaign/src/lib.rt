@@ -30,6 +30,7 @@ mod places;
 
 pub use faults::{BadEntry, LedgerCut, LedgerFault};
 pub use laws::{
-    a_place_has_a_cell_of_32_bytes, a_settled_disk_fits_its_ledger, cells_tell_entries,
+    a_place_has_a_cell_of_32_bytes, a_settled_disk_fits_its_ledger,
+    cells_of_no_entries_are_a_ledger, cells_tell_entries, held_cells_have_no_bad_entry,
 };
 pub use ledger::Ledger;

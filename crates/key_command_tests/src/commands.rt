@@ -20,6 +20,9 @@ const MAKE: &str =
 const CONFIRM: &str =
     "keytool confirm 000000000000000000000000000001 4 1 1 0f0e0d0c0b0a09080706050403020100 00000000000000000000000000000141b472e8d8727d70d57295e74849a27917 820d8d95dc11b4668878160cb2a4e23e";
 
+/// The words that ask for a load.
+const LOAD: &str = "keytool load FILE 000000000000000000000000000001";
+
 /// The words of a command line.
 fn words_of(alloc: Global, line: &str) -> Result<Vec<String>, AllocError> {
     let mut words = Vec::new(alloc);
@@ -116,4 +119,34 @@ fn a_failing_sink_is_told(rt: HostRuntime) -> Result<(), Fail> {
         check_failing(&rt, rt.alloc(), room, failing, piece, written)?;
     }
     Ok(())
+}
+
+/// What is told of these requests where there is no disk: the first fault of the requests, and then that there is no disk.
+fn check_without_disk(
+    rt: &impl Abort,
+    alloc: Global,
+    requests: &str,
+    status: u8,
+    output: &str,
+) -> Result<(), Fail> {
+    let words = words_of(alloc, LOAD)?;
+    let mut request = CleanSource::new(Vec::from_slice(alloc, requests.as_bytes())?);
+    let mut sink = MemSink::new(alloc, 64, Vec::new(alloc), 64)?;
+    let mut disks: Vec<MemDisk> = Vec::new(alloc);
+    let answer = run_key(alloc, words.as_slice(), &mut request, &mut sink, &mut disks);
+    assert_eq!(rt; answer, status);
+    assert_eq!(rt; sink.bytes(), output.as_bytes());
+    Ok(())
+}
+
+#[test]
+fn a_load_wants_a_disk(rt: HostRuntime) -> Result<(), Fail> {
+    check_without_disk(
+        &rt,
+        rt.alloc(),
+        "a b\n",
+        4,
+        "script: line 1: wrong number of words\n",
+    )?;
+    check_without_disk(&rt, rt.alloc(), "", 9, "store: no disk\n")
 }

@@ -10,7 +10,7 @@ use Rattle.clap.specs.declared.error.kind.ErrorKind.TheVariants.{OutOfMemory}
 use Rattle.clap.proofs.OnLiterals.{clap_on_literals}
 use Rattle.clap.specs.Simple.{new_shape}
 use Rattle.key_commands.specs.declared.subcommands.Subcommand.{Subcommand}
-use Rattle.key_commands.specs.declared.subcommands.Subcommand.TheVariants.{Make, Read, Confirm, Bootmac}
+use Rattle.key_commands.specs.declared.subcommands.Subcommand.TheVariants.{Make, Read, Confirm, Bootmac, Load}
 use Rattle.answer_rows.specs.Rows.{Row, row_of, memory_row}
 use Rattle.key_commands.specs.Parsing.{command_of, found, refusals, required_text, simple_command}
 use Rattle.key_commands.specs.Texts.{key_usage}
@@ -45,12 +45,14 @@ is_simple_and_free_command Make = refl
 is_simple_and_free_command Read = refl
 is_simple_and_free_command Confirm = refl
 is_simple_and_free_command Bootmac = refl
+is_simple_and_free_command Load = refl
 
 is_simple_command : (s : Subcommand) → is_simple (command_of s) ≡ true
 is_simple_command Make = refl
 is_simple_command Read = refl
 is_simple_command Confirm = refl
 is_simple_command Bootmac = refl
+is_simple_command Load = refl
 
 pub taken_words : (s : Subcommand) (a : App) (words : List (List ℕ)) → a ≡ command_of s
     → (is_simple_and_free a ≡ true → fault_of a words ≡ []) → refusals s words ≡ []

@@ -3,10 +3,10 @@ use Rattle.std.proofs.Common.{◌≡◌, ◌⊎◌, ℕ, List, Ok, Err, refl, su
 use Rattle.memory_update.specs.MessageLaws.{HasSlots-Carries}
 use Rattle.answer_rows.specs.Rows.{Row}
 use Rattle.key_commands.specs.declared.tasks.Task.{Task}
-use Rattle.key_commands.specs.declared.tasks.Task.TheVariants.{Make, Read, Confirm, Bootmac}
+use Rattle.key_commands.specs.declared.tasks.Task.TheVariants.{Make, Read, Confirm, Bootmac, Load}
 use Rattle.key_commands.specs.declared.tasks.BadValue.{BadValue}
 use Rattle.key_commands.specs.Texts.{Denies, PrintsDone}
-use Rattle.key_commands.specs.Rows.{AsksFor, IsRefused, KeyComes, denied, done, no_memory, refused_words, wrong_value}
+use Rattle.key_commands.specs.Rows.{AsksFor, IsRefused, ComesOfWords, denied, done, no_memory, refused_words, wrong_value}
 use Rattle.key_commands.proofs.Named.{asks_one, asks_taken}
 
 not_both : (task : Task) (first second : List ℕ) → PrintsDone task first → Denies task second → ⊥
@@ -18,13 +18,14 @@ not_both (Read request authkey) first second prints denies =
     ]
 not_both (Confirm reply update) first second prints denies = denies.0 prints.0
 not_both (Bootmac key image) first second prints denies = denies
+not_both (Load uid) first second prints denies = denies
 
 -- this status or that of want of memory
 abbrev pub IsOr7 : ℕ → ℕ → Type 0
 IsOr7 n status = (status ≡ n) ⊎ (status ≡ 7)
 
 pub denied_row : (words : List (List ℕ)) (task : Task) (text : List ℕ) → AsksFor words (Ok task) → Denies task text
-    → (row : Row) → KeyComes words row → IsOr7 1 row.status
+    → (row : Row) → ComesOfWords words row → IsOr7 1 row.status
 denied_row words task text asks denies row (refused_words refused) = absurd (asks_taken words (Ok task) asks refused)
 denied_row words task text asks denies row (wrong_value bad wrongly) =
     let same : Err bad ≡ Ok task = asks_one words (Err bad) (Ok task) wrongly asks in
@@ -36,7 +37,7 @@ denied_row words task text asks denies row (done other t also prints) =
     let is : other ≡ task = cc same in
     absurd (not_both task t text (subst (λ (k : Task). PrintsDone k t) is prints) denies)
 
-pub wrong_row : (words : List (List ℕ)) (bad : BadValue) → AsksFor words (Err bad) → (row : Row) → KeyComes words row → IsOr7 3 row.status
+pub wrong_row : (words : List (List ℕ)) (bad : BadValue) → AsksFor words (Err bad) → (row : Row) → ComesOfWords words row → IsOr7 3 row.status
 wrong_row words bad asks row (refused_words refused) = absurd (asks_taken words (Err bad) asks refused)
 wrong_row words bad asks row (wrong_value other wrongly) = inl refl
 wrong_row words bad asks row (no_memory names) = inr refl
@@ -47,7 +48,7 @@ wrong_row words bad asks row (done task text also prints) =
     let same : Ok task ≡ Err bad = asks_one words (Ok task) (Err bad) also asks in
     cc same
 
-pub refused_row : (words : List (List ℕ)) → IsRefused words → (row : Row) → KeyComes words row → IsOr7 2 row.status
+pub refused_row : (words : List (List ℕ)) → IsRefused words → (row : Row) → ComesOfWords words row → IsOr7 2 row.status
 refused_row words refused row (refused_words also) = inl refl
 refused_row words refused row (wrong_value bad asks) = absurd (asks_taken words (Err bad) asks refused)
 refused_row words refused row (no_memory names) = inr refl

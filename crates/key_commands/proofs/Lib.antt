@@ -1,5 +1,6 @@
 pub mod Commands
 pub mod Named
+pub mod Engines
 pub mod Complete
 pub mod Denied
 pub mod Plain

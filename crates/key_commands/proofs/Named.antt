@@ -2,7 +2,7 @@
 use Rattle.std.proofs.Common.{◌≡◌, ◌∙◌, ℕ, List, [], ◌∷◌, ap, sym, refl, get_or, inl, inr, arith}
 use Rattle.std.specs.Prelude.{Result}
 use Rattle.key_commands.specs.declared.subcommands.Subcommand.{Subcommand}
-use Rattle.key_commands.specs.declared.subcommands.Subcommand.TheVariants.{Make, Read, Confirm, Bootmac}
+use Rattle.key_commands.specs.declared.subcommands.Subcommand.TheVariants.{Make, Read, Confirm, Bootmac, Load}
 use Rattle.key_commands.specs.declared.tasks.Task.{Task}
 use Rattle.key_commands.specs.declared.tasks.BadValue.{BadValue}
 use Rattle.key_commands.specs.Subcommands.{NamesSubcommand, name_of}
@@ -16,18 +16,27 @@ first_letters Make Make e = refl
 first_letters Make Read e = absurd (omega (arith, e))
 first_letters Make Confirm e = absurd (omega (arith, e))
 first_letters Make Bootmac e = absurd (omega (arith, e))
+first_letters Make Load e = absurd (omega (arith, e))
 first_letters Read Make e = absurd (omega (arith, e))
 first_letters Read Read e = refl
 first_letters Read Confirm e = absurd (omega (arith, e))
 first_letters Read Bootmac e = absurd (omega (arith, e))
+first_letters Read Load e = absurd (omega (arith, e))
 first_letters Confirm Make e = absurd (omega (arith, e))
 first_letters Confirm Read e = absurd (omega (arith, e))
 first_letters Confirm Confirm e = refl
 first_letters Confirm Bootmac e = absurd (omega (arith, e))
+first_letters Confirm Load e = absurd (omega (arith, e))
 first_letters Bootmac Make e = absurd (omega (arith, e))
 first_letters Bootmac Read e = absurd (omega (arith, e))
 first_letters Bootmac Confirm e = absurd (omega (arith, e))
 first_letters Bootmac Bootmac e = refl
+first_letters Bootmac Load e = absurd (omega (arith, e))
+first_letters Load Make e = absurd (omega (arith, e))
+first_letters Load Read e = absurd (omega (arith, e))
+first_letters Load Confirm e = absurd (omega (arith, e))
+first_letters Load Bootmac e = absurd (omega (arith, e))
+first_letters Load Load e = refl
 
 one_name : (r s : Subcommand) → name_of r ≡ name_of s → r ≡ s
 one_name r s e = first_letters r s (ap (λ (name : List ℕ). get_or name 0 0) e)

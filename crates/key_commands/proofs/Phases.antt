@@ -10,22 +10,22 @@ use Rattle.key_commands.specs.Parsing.{found, refusals, values_in}
 use Rattle.key_commands.specs.Tasks.{task_of}
 use Rattle.std.specs.Prelude.{Result}
 use Rattle.key_commands.specs.Texts.{key_usage, value_text, Denies}
-use Rattle.key_commands.specs.Rows.{AsksFor, AskedComes, KeyComes, asked_wrongly, denied, done, no_memory, no_text, refused_words, task_denied, task_done, wrong_value}
+use Rattle.key_commands.specs.Rows.{AsksFor, AskedComes, ComesOfWords, asked_wrongly, denied, done, no_memory, no_text, refused_words, task_denied, task_done, wrong_value}
 
 -- what clap found asks for the first wrong value, which is named, unless there is no memory
 pub refuses_value : (s : Subcommand) (words : List (List ℕ)) (rows : List FoundRow) (bad : BadValue) (row : Row) → NamesSubcommand words s
     → refusals s words ≡ [] → rows ≡ found s words → Err bad ≡ task_of s (values_in (values_of s) rows)
-    → (row ≡ row_of 3 (value_text bad.number)) ⊎ (row ≡ memory_row) → KeyComes words row
+    → (row ≡ row_of 3 (value_text bad.number)) ⊎ (row ≡ memory_row) → ComesOfWords words row
 refuses_value s words rows bad row names taken rows_are is tells = elim tells [
-  | inl named ↦ subst (KeyComes words) (sym named) (wrong_value bad asks)
-  | inr memory ↦ subst (KeyComes words) (sym memory) (no_memory (s, names))
+  | inl named ↦ subst (ComesOfWords words) (sym named) (wrong_value bad asks)
+  | inr memory ↦ subst (ComesOfWords words) (sym memory) (no_memory (s, names))
 ]
   where
     asks : AsksFor words (Err bad)
     asks = (s, names, taken, ap (λ (r : List FoundRow). task_of s (values_in (values_of s) r)) (sym rows_are) ∙ sym is)
 
 -- a row of the task that the words ask for
-pub asked_row : (words : List (List ℕ)) (task : Task) → AsksFor words (Ok task) → (row : Row) → AskedComes (Ok task) row → KeyComes words row
+pub asked_row : (words : List (List ℕ)) (task : Task) → AsksFor words (Ok task) → (row : Row) → AskedComes (Ok task) row → ComesOfWords words row
 asked_row words task asks row (asked_wrongly bad is) = cc is
 asked_row words task asks row no_text = no_memory (asks.0, asks.1)
 asked_row words task asks row (task_denied other text is denies) = denied other text (subst (AsksFor words) is asks) denies
@@ -33,9 +33,9 @@ asked_row words task asks row (task_done other text is prints) = done other text
 
 -- words that clap doesn't take
 pub clap_refuses : (s : Subcommand) (words : List (List ℕ)) (row : Row) → NamesSubcommand words s
-    → (row ≡ memory_row) ⊎ ((refusals s words ≢ []) × (row ≡ row_of 2 key_usage)) → KeyComes words row
-clap_refuses s words row names (inl memory) = subst (KeyComes words) (sym memory) (no_memory (s, names))
-clap_refuses s words row names (inr (wrong, usage)) = subst (KeyComes words) (sym usage) (refused_words (inr (s, names, wrong)))
+    → (row ≡ memory_row) ⊎ ((refusals s words ≢ []) × (row ≡ row_of 2 key_usage)) → ComesOfWords words row
+clap_refuses s words row names (inl memory) = subst (ComesOfWords words) (sym memory) (no_memory (s, names))
+clap_refuses s words row names (inr (wrong, usage)) = subst (ComesOfWords words) (sym usage) (refused_words (inr (s, names, wrong)))
 
 -- want of memory for a text, and messages that are refused
 pub asked_memory : (asked : Result Task BadValue) (row : Row) → row ≡ memory_row → AskedComes asked row

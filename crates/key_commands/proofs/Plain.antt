@@ -12,7 +12,7 @@ use Rattle.clap.specs.Walk.{long_or_other, short_or_plain, trailing, Held, Rule,
 use Rattle.clap.specs.Faults.{bundle_fault, flag_word_fault, check_fault, defaults_fault, entered_fault, other_fault, settle_fault, step_fault, turn_fault, walk_fault}
 use Rattle.clap.specs.Simple.{App, Shape, built, entered}
 use Rattle.key_commands.specs.declared.subcommands.Subcommand.{Subcommand}
-use Rattle.key_commands.specs.declared.subcommands.Subcommand.TheVariants.{Make, Read, Confirm, Bootmac}
+use Rattle.key_commands.specs.declared.subcommands.Subcommand.TheVariants.{Make, Read, Confirm, Bootmac, Load}
 use Rattle.key_commands.specs.Subcommands.{values_of}
 use Rattle.key_commands.proofs.Values.{is_false}
 use Rattle.key_commands.specs.Parsing.{command_of, found, given, is_plain, refusals, values_in}
@@ -131,6 +131,8 @@ refusals_by_walk Confirm name values w walk_is none ends_is =
     ap₂ (λ (f : Kinds) (v : Walk). or_else f (ends (ready Confirm) v)) none walk_is ∙ ends_is
 refusals_by_walk Bootmac name values w walk_is none ends_is =
     ap₂ (λ (f : Kinds) (v : Walk). or_else f (ends (ready Bootmac) v)) none walk_is ∙ ends_is
+refusals_by_walk Load name values w walk_is none ends_is =
+    ap₂ (λ (f : Kinds) (v : Walk). or_else f (ends (ready Load) v)) none walk_is ∙ ends_is
 
 given_by_walk : (s : Subcommand) (name : Text) (values : List Text) (w : Walk) → walk (shape s).rules [] nothing_held values ≡ w
     → given s (name ∷ values) ≡ values_in (values_of s) (finished (shape s).rules w.held)
@@ -139,6 +141,7 @@ given_by_walk Make name values w walk_is = ap (λ (v : Walk). values_in (values_
 given_by_walk Read name values w walk_is = ap (λ (v : Walk). values_in (values_of Read) (finished (shape Read).rules v.held)) walk_is
 given_by_walk Confirm name values w walk_is = ap (λ (v : Walk). values_in (values_of Confirm) (finished (shape Confirm).rules v.held)) walk_is
 given_by_walk Bootmac name values w walk_is = ap (λ (v : Walk). values_in (values_of Bootmac) (finished (shape Bootmac).rules v.held)) walk_is
+given_by_walk Load name values w walk_is = ap (λ (v : Walk). values_in (values_of Load) (finished (shape Load).rules v.held)) walk_is
 
 -- clap takes the values, and finds them as they are
 abbrev Takes : Subcommand → Text → List Text → Type 0
@@ -178,6 +181,11 @@ unfolding defaults_fault
 bootmac_takes name (a ∷ b ∷ []) size plain = takes Bootmac name (a ∷ b ∷ []) plain (refl, refl, (refl, refl, tt)) refl refl
 bootmac_takes name values size plain = absurd (omega arith)
 
+load_takes : (name : Text) (values : List Text) → length values ≡ 2 → list_all is_plain values ≡ true → Takes Load name values
+unfolding defaults_fault
+load_takes name (a ∷ b ∷ []) size plain = takes Load name (a ∷ b ∷ []) plain (refl, refl, (refl, refl, tt)) refl refl
+load_takes name values size plain = absurd (omega arith)
+
 -- the values of a subcommand, none of which begins with `-`, are taken as they are
 pub plain_values : (s : Subcommand) (name : Text) (values : List Text) → length values ≡ length (values_of s) → list_all is_plain values ≡ true
     → Takes s name values
@@ -185,3 +193,4 @@ plain_values Make = make_takes
 plain_values Read = read_takes
 plain_values Confirm = confirm_takes
 plain_values Bootmac = bootmac_takes
+plain_values Load = load_takes

@@ -1,14 +1,30 @@
--- What a run that ends in a row of the table promises
-use Rattle.std.proofs.Common.{◌≡◌, ◌∙◌, ◌⊎◌, ℕ, List, [], Ok, Err, inl, inr, refl, subst, sym, arith}
-use Rattle.answer_rows.specs.Rows.{Row}
-use Rattle.answer_rows.specs.Endings.{CountsWriteFault, Ending, EndsInRow, PrintsFront, PrintsWhole, SinkFailed}
+-- What a key command promises, by how it ran
+use Rattle.std.proofs.Common.{◌≡◌, ◌≢◌, ◌∙◌, ◌⊎◌, ℕ, ◌≤◌, List, [], Ok, Err, inl, inr, refl, subst, sym, ap, arith}
+use Rattle.bus_port.specs.Source.{SourceState}
+use Rattle.command_edge.specs.declared.input.InputFault.TheVariants as input
+use Rattle.memory_update.specs.declared.messages.Request.{Request}
+use Rattle.answer_rows.specs.Rows.{Row, memory_row}
+use Rattle.std.specs.Prelude.{codes}
+use Rattle.text_lines.specs.Readings.{Fault}
+use Rattle.text_lines.specs.Texts.{fault_text_of}
+use Rattle.answer_rows.specs.Inputs.{CountsFault, CountsTooMuch, IsUnread, Lacks}
+use Rattle.answer_rows.specs.InputLaws.{Lacks-unread}
+use Rattle.answer_rows.specs.Endings.{CountsWriteFault, Ending, EndsIn, EndsInRow, MayEndIn, PrintsFront, PrintsWhole, SinkFailed}
 use Rattle.answer_rows.specs.EndingLaws.{EndsInRow-at, EndsInRow-more}
+use Rattle.key_loading.specs.Loads.{ComesInLoad, EndsLoad, IsRequestFault, LoadInputs, in_lines, in_row, no_requests_read, without_requests}
+use Rattle.key_loading.specs.Promises.{AnswersNone, EndsAtOne, OffersEngine, OffersRequests, RefusesStore, RunsLoad, StopsAtOne}
+use Rattle.key_loading.proofs.LoadPromises.{runs_load}
+use Rattle.key_commands.specs.declared.subcommands.Subcommand.{Subcommand}
+use Rattle.key_commands.specs.declared.subcommands.Subcommand.TheVariants as subcommand
 use Rattle.key_commands.specs.declared.tasks.Task.{Task}
+use Rattle.key_commands.specs.declared.tasks.Task.TheVariants.{Load}
 use Rattle.key_commands.specs.declared.tasks.BadValue.{BadValue}
+use Rattle.key_commands.specs.Tasks.{load_task, task_of}
 use Rattle.key_commands.specs.Texts.{key_usage, value_text, Denies, PrintsDone}
-use Rattle.key_commands.specs.Rows.{AskedComes, AsksFor, IsAsBefore, IsRefused, KeyComes, KeyInputs, NamesSome, denied, done, no_memory, refused_words, wrong_value}
-use Rattle.key_commands.specs.Keys.{Keys}
-use Rattle.key_commands.proofs.Complete.{plain_row, task_row}
+use Rattle.key_commands.specs.Rows.{AskedComes, AsksFor, AsksLoad, AsksNoLoad, ComesOfWords, EndsAsked, EndsKey, IsAsBefore, IsNoLoad, IsRefused, KeyComes, KeyInputs, NamesSome, OverLoad, denied, done, load_inputs, no_memory, not_loaded, refused_words, without_disks, wrong_value}
+use Rattle.key_commands.specs.Keys.{IsPlainCall, Keys}
+use Rattle.key_commands.proofs.Complete.{plain_asks, plain_row, task_row}
+use Rattle.key_commands.proofs.Named.{asks_one, asks_taken}
 use Rattle.key_commands.proofs.Denied.{IsOr7, denied_row, refused_row, wrong_row}
 
 module _ {Comes : Row → Type 0} {e : Ending} (ends : EndsInRow Comes e) where
@@ -39,21 +55,21 @@ abbrev Wrong : List (List ℕ) → Ending → Type 0
 Wrong words e = (bad : BadValue) × AsksFor words (Err bad) × PrintsWhole e (value_text bad.number)
 
 -- a row that comes has its status alone
-at_0 : (words : List (List ℕ)) (e : Ending) (row : Row) → KeyComes words row → row.status ≡ 0 → PrintsWhole e row.text → Done words e
+at_0 : (words : List (List ℕ)) (e : Ending) (row : Row) → ComesOfWords words row → row.status ≡ 0 → PrintsWhole e row.text → Done words e
 at_0 words e row (refused_words refused) is whole = absurd (omega (arith, is))
 at_0 words e row (wrong_value bad asks) is whole = absurd (omega (arith, is))
 at_0 words e row (no_memory names) is whole = absurd (omega (arith, is))
 at_0 words e row (denied task text asks denies) is whole = absurd (omega (arith, is))
 at_0 words e row (done task text asks prints) is whole = (task, asks, (text, prints, whole))
 
-at_1 : (words : List (List ℕ)) (e : Ending) (row : Row) → KeyComes words row → row.status ≡ 1 → PrintsWhole e row.text → Denied words e
+at_1 : (words : List (List ℕ)) (e : Ending) (row : Row) → ComesOfWords words row → row.status ≡ 1 → PrintsWhole e row.text → Denied words e
 at_1 words e row (refused_words refused) is whole = absurd (omega (arith, is))
 at_1 words e row (wrong_value bad asks) is whole = absurd (omega (arith, is))
 at_1 words e row (no_memory names) is whole = absurd (omega (arith, is))
 at_1 words e row (denied task text asks denies) is whole = (task, asks, (text, denies, whole))
 at_1 words e row (done task text asks prints) is whole = absurd (omega (arith, is))
 
-at_2 : (words : List (List ℕ)) (e : Ending) (row : Row) → KeyComes words row → row.status ≡ 2 → PrintsWhole e row.text
+at_2 : (words : List (List ℕ)) (e : Ending) (row : Row) → ComesOfWords words row → row.status ≡ 2 → PrintsWhole e row.text
     → IsRefused words × PrintsWhole e key_usage
 at_2 words e row (refused_words refused) is whole = (refused, whole)
 at_2 words e row (wrong_value bad asks) is whole = absurd (omega (arith, is))
@@ -61,14 +77,14 @@ at_2 words e row (no_memory names) is whole = absurd (omega (arith, is))
 at_2 words e row (denied task text asks denies) is whole = absurd (omega (arith, is))
 at_2 words e row (done task text asks prints) is whole = absurd (omega (arith, is))
 
-at_3 : (words : List (List ℕ)) (e : Ending) (row : Row) → KeyComes words row → row.status ≡ 3 → PrintsWhole e row.text → Wrong words e
+at_3 : (words : List (List ℕ)) (e : Ending) (row : Row) → ComesOfWords words row → row.status ≡ 3 → PrintsWhole e row.text → Wrong words e
 at_3 words e row (refused_words refused) is whole = absurd (omega (arith, is))
 at_3 words e row (wrong_value bad asks) is whole = (bad, asks, whole)
 at_3 words e row (no_memory names) is whole = absurd (omega (arith, is))
 at_3 words e row (denied task text asks denies) is whole = absurd (omega (arith, is))
 at_3 words e row (done task text asks prints) is whole = absurd (omega (arith, is))
 
-at_7 : (words : List (List ℕ)) (e : Ending) (row : Row) → KeyComes words row → row.status ≡ 7 → PrintsWhole e row.text
+at_7 : (words : List (List ℕ)) (e : Ending) (row : Row) → ComesOfWords words row → row.status ≡ 7 → PrintsWhole e row.text
     → NamesSome words × PrintsWhole e []
 at_7 words e row (refused_words refused) is whole = absurd (omega (arith, is))
 at_7 words e row (wrong_value bad asks) is whole = absurd (omega (arith, is))
@@ -76,14 +92,14 @@ at_7 words e row (no_memory names) is whole = (names, whole)
 at_7 words e row (denied task text asks denies) is whole = absurd (omega (arith, is))
 at_7 words e row (done task text asks prints) is whole = absurd (omega (arith, is))
 
-not_6 : (words : List (List ℕ)) (row : Row) → KeyComes words row → row.status ≡ 6 → ⊥
+not_6 : (words : List (List ℕ)) (row : Row) → ComesOfWords words row → row.status ≡ 6 → ⊥
 not_6 words row (refused_words refused) is = absurd (omega (arith, is))
 not_6 words row (wrong_value bad asks) is = absurd (omega (arith, is))
 not_6 words row (no_memory names) is = absurd (omega (arith, is))
 not_6 words row (denied task text asks denies) is = absurd (omega (arith, is))
 not_6 words row (done task text asks prints) is = absurd (omega (arith, is))
 
-at_6 : (words : List (List ℕ)) (e : Ending) → EndsInRow (KeyComes words) e → e.status ≡ 6 → SinkFailed e × PrintsFront (KeyComes words) e
+at_6 : (words : List (List ℕ)) (e : Ending) → EndsInRow (ComesOfWords words) e → e.status ≡ 6 → SinkFailed e × PrintsFront (ComesOfWords words) e
 at_6 words e ends six = elim ends.told [
   | inl whole ↦ absurd (not_6 words ends.row ends.comes (sym whole.0 ∙ six))
   | inr failed ↦ (failed.1, (ends.row, ends.comes, failed.2))
@@ -95,24 +111,214 @@ failed_is_6 e ends counts = elim ends.told [
   | inr failed ↦ failed.0
 ]
 
-pub Keys-row : {S D : Type 0} (i : KeyInputs S D) (e : Ending) → IsAsBefore i.request → IsAsBefore i.disks
-    → EndsInRow (KeyComes i.words) e → Keys i e
-Keys-row i e unread untouched ends = record {
-  ends = ends;
-  plain = λ s values call. EndsInRow-more (plain_row i.words s values call) ends;
-  done = EndsInRow-at ends 0 refl (at_0 i.words e);
-  denied = EndsInRow-at ends 1 refl (at_1 i.words e);
-  denied_only = λ task text asks denies. may_end ends 1 (denied_row i.words task text asks denies);
-  usage = EndsInRow-at ends 2 refl (at_2 i.words e);
-  usage_only = λ refused. may_end ends 2 (refused_row i.words refused);
-  wrong_value = EndsInRow-at ends 3 refl (at_3 i.words e);
-  wrong_value_only = λ bad asks. may_end ends 3 (wrong_row i.words bad asks);
-  write_fault = at_6 i.words e ends;
-  write_fault_only = failed_is_6 e ends;
-  no_memory = EndsInRow-at ends 7 refl (at_7 i.words e);
-  complete = λ s values task call asks calm.
+-- a row of the words has one of these statuses
+words_low : (words : List (List ℕ)) (row : Row) → ComesOfWords words row → (row.status ≤ 3) ⊎ (row.status ≡ 7)
+words_low words row (refused_words refused) = inl (omega arith)
+words_low words row (wrong_value bad asks) = inl (omega arith)
+words_low words row (no_memory names) = inr refl
+words_low words row (denied task text asks denies) = inl (omega arith)
+words_low words row (done task text asks prints) = inl (omega arith)
+
+ends_low : (words : List (List ℕ)) (e : Ending) → EndsInRow (ComesOfWords words) e → (e.status ≤ 3) ⊎ (e.status ≡ 6) ⊎ (e.status ≡ 7)
+ends_low words e ends = elim ends.told [
+  | inl whole ↦ elim (words_low words ends.row ends.comes) [
+    | inl low ↦ inl (omega (arith, low, whole.0))
+    | inr seven ↦ inr (inr (whole.0 ∙ seven))
+  ]
+  | inr failed ↦ inr (inl failed.0)
+]
+
+-- how a key command ran: without the source of requests and the disks, or as a load
+pub data RanKey {S D : Type 0} (i : KeyInputs S D) (e : Ending) : Type 0 where
+  apart : EndsInRow (ComesOfWords i.words) e → IsAsBefore i.request → IsAsBefore i.disks → IsUnread i.reading → IsAsBefore i.known → RanKey i e
+  loads : (uid : List ℕ) → AsksLoad i.words uid → EndsLoad (load_inputs i uid) e → RanKey i e
+
+-- where a load is asked for, a row of the words is want of memory
+words_of_load : {S D : Type 0} (i : KeyInputs S D) (uid : List ℕ) → AsksLoad i.words uid → IsUnread i.reading → IsAsBefore i.known
+    → (row : Row) → ComesOfWords i.words row → ComesInLoad (load_inputs i uid) row
+words_of_load i uid asks unread same row (refused_words refused) = absurd (asks_taken i.words _ asks refused)
+words_of_load i uid asks unread same row (wrong_value bad wrongly) =
+    let is : Err bad ≡ Ok (Load uid) = asks_one i.words (Err bad) (Ok (Load uid)) wrongly asks in
+    cc is
+words_of_load i uid asks unread same row (no_memory names) =
+    without_requests memory_row (no_requests_read input.Memory (Lacks-unread i.reading unread)) same
+words_of_load i uid asks unread same row (denied task text also denies) =
+    let is : Ok task ≡ Ok (Load uid) = asks_one i.words (Ok task) (Ok (Load uid)) also asks in
+    let task_is : task ≡ Load uid = cc is in
+    absurd (subst (λ (k : Task). Denies k text) task_is denies)
+words_of_load i uid asks unread same row (done task text also prints) =
+    let is : Ok task ≡ Ok (Load uid) = asks_one i.words (Ok task) (Ok (Load uid)) also asks in
+    let task_is : task ≡ Load uid = cc is in
+    absurd (subst (λ (k : Task). PrintsDone k text) task_is prints)
+
+-- the words ask for one load
+one_load : (words : List (List ℕ)) (a b : List ℕ) → AsksLoad words a → AsksLoad words b → a ≡ b
+one_load words a b left right =
+    let is : Ok (Load a) ≡ Ok (Load b) = asks_one words (Ok (Load a)) (Ok (Load b)) left right in
+    cc is
+
+module _ {S D : Type 0} (i : KeyInputs S D) (e : Ending) where
+  -- what a load promises, where one is asked for
+  of_load : RanKey i e → (uid : List ℕ) → AsksLoad i.words uid → RunsLoad (load_inputs i uid) e
+  of_load (apart ends unread untouched unasked same) uid asks =
+      runs_load (load_inputs i uid) e (in_row (EndsInRow-more (words_of_load i uid asks unasked same) ends))
+  of_load (loads other also ends) uid asks =
+      subst (λ (u : List ℕ). RunsLoad (load_inputs i u) e) (one_load i.words other uid also asks) (runs_load (load_inputs i other) e ends)
+
+  -- a status that no row of the words has is that of a load
+  only_load : RanKey i e → (P : LoadInputs → Type 0) → (4 ≤ e.status) × (e.status ≢ 6) × (e.status ≢ 7)
+      → ((uid : List ℕ) → RunsLoad (load_inputs i uid) e → P (load_inputs i uid)) → OverLoad i P
+  only_load (apart ends unread untouched unasked same) P (high, not_6, not_7) of = elim (ends_low i.words e ends) [
+    | inl low ↦ absurd (omega (arith, high, low))
+    | inr more ↦ elim more [
+      | inl six ↦ absurd (not_6 six)
+      | inr seven ↦ absurd (not_7 seven)
+    ]
+  ]
+  only_load (loads uid asks ends) P bounds of = (uid, asks, of uid (runs_load (load_inputs i uid) e ends))
+
+  -- a load ends in 0 or above 3
+  no_low : (uid : List ℕ) → EndsLoad (load_inputs i uid) e → (e.status ≡ 0) ⊎ (4 ≤ e.status)
+  no_low uid ends =
+      let among = (runs_load (load_inputs i uid) e ends).statuses in
+      elim among [
+        | inl zero ↦ inl zero
+        | inr (least, most) ↦ inr least
+      ]
+
+  -- where it isn't that of a load, it is that of a row of the words
+  not_load : {A : Type 0} → RanKey i e → (e.status ≡ 1) ⊎ (e.status ≡ 2) ⊎ (e.status ≡ 3) → (EndsInRow (ComesOfWords i.words) e → A) → A
+  not_load (apart ends unread untouched unasked same) low of = of ends
+  not_load (loads uid asks ends) low of = (let among = no_low uid ends in absurd (omega (arith, low, among)))
+
+  ended : RanKey i e → EndsKey i e
+  ended (apart ends unread untouched unasked same) = inl (EndsInRow-more (λ row comes. without_disks row comes unread untouched) ends)
+  ended (loads uid asks (in_row ends)) = inl (EndsInRow-more (λ row comes. not_loaded row (uid, asks, comes)) ends)
+  ended (loads uid asks (in_lines ends)) = inr (uid, asks, ends)
+
+  as_asked : RanKey i e → (s : Subcommand) (values : List (List ℕ)) → IsPlainCall i.words s values → EndsAsked i (task_of s values) e
+  as_asked (apart ends unread untouched unasked same) s values call = inl (EndsInRow-more (plain_row i.words s values call) ends)
+  as_asked (loads uid asks ends) s values call =
+      inr (uid, asks_one i.words (task_of s values) (Ok (Load uid)) (plain_asks i.words s values call) asks, ends)
+
+  done_at_0 : RanKey i e → AsksNoLoad i.words → e.status ≡ 0 → Done i.words e
+  done_at_0 (apart ends unread untouched unasked same) none = EndsInRow-at ends 0 refl (at_0 i.words e)
+  done_at_0 (loads uid asks ends) none = absurd (none uid asks)
+
+  denied_may : RanKey i e → (task : Task) (text : List ℕ) → AsksFor i.words (Ok task) → Denies task text → MayEndIn 1 e
+  denied_may (apart ends unread untouched unasked same) task text asks denies = may_end ends 1 (denied_row i.words task text asks denies)
+  denied_may (loads uid also ends) task text asks denies =
+      let is : Ok task ≡ Ok (Load uid) = asks_one i.words (Ok task) (Ok (Load uid)) asks also in
+      let task_is : task ≡ Load uid = cc is in
+      absurd (subst (λ (k : Task). Denies k text) task_is denies)
+
+  usage_may : RanKey i e → IsRefused i.words → MayEndIn 2 e
+  usage_may (apart ends unread untouched unasked same) refused = may_end ends 2 (refused_row i.words refused)
+  usage_may (loads uid asks ends) refused = absurd (asks_taken i.words (Ok (Load uid)) asks refused)
+
+  wrong_may : RanKey i e → (bad : BadValue) → AsksFor i.words (Err bad) → MayEndIn 3 e
+  wrong_may (apart ends unread untouched unasked same) bad asks = may_end ends 3 (wrong_row i.words bad asks)
+  wrong_may (loads uid also ends) bad asks =
+      let is : Err bad ≡ Ok (Load uid) = asks_one i.words (Err bad) (Ok (Load uid)) asks also in
+      cc is
+
+  faulted : RanKey i e → CountsFault i.reading → EndsIn 5 e
+  faulted (apart ends unread untouched unasked same) counts = absurd (omega (arith, counts, ap (λ (s : SourceState). s.faults) unasked))
+  faulted (loads uid asks ends) counts = (runs_load (load_inputs i uid) e ends).read_fault_only counts
+
+  too_much : RanKey i e → CountsTooMuch i.reading → EndsIn 8 e
+  too_much (apart ends unread untouched unasked same) (room, more) = absurd (omega (arith, more, ap (λ (s : SourceState). s.taken) unasked))
+  too_much (loads uid asks ends) counts = (runs_load (load_inputs i uid) e ends).too_long_only counts
+
+  alone : RanKey i e → (e.status ≡ 4) ⊎ (e.status ≡ 5) ⊎ (8 ≤ e.status) → (uid : List ℕ) × AsksLoad i.words uid
+  alone (apart ends unread untouched unasked same) high = (let low = ends_low i.words e ends in absurd (omega (arith, high, low)))
+  alone (loads uid asks ends) high = (uid, asks)
+
+  -- an early end of a load
+  row_or_lines : (uid : List ℕ) → AsksLoad i.words uid → AnswersNone (load_inputs i uid) e ⊎ EndsAtOne (load_inputs i uid) e → e.status ≡ 6
+      → PrintsFront (KeyComes i) e ⊎ OverLoad i (λ l. EndsAtOne l e)
+  row_or_lines uid asks (inl (same, inl (six, (row, comes, part)))) is = inl (row, not_loaded row (uid, asks, comes), part)
+  row_or_lines uid asks (inl (same, inr (seven, printed))) is = absurd (omega (arith, is, seven))
+  row_or_lines uid asks (inr one) is = inr (uid, asks, one)
+
+  nothing_or_lines : (uid : List ℕ) → AsksLoad i.words uid → AnswersNone (load_inputs i uid) e ⊎ EndsAtOne (load_inputs i uid) e → e.status ≡ 7
+      → PrintsWhole e [] ⊎ OverLoad i (λ l. EndsAtOne l e)
+  nothing_or_lines uid asks (inl (same, inl (six, front))) is = absurd (omega (arith, is, six))
+  nothing_or_lines uid asks (inl (same, inr (seven, printed))) is = inl printed
+  nothing_or_lines uid asks (inr one) is = inr (uid, asks, one)
+
+  front_at_6 : RanKey i e → e.status ≡ 6 → SinkFailed e × (PrintsFront (KeyComes i) e ⊎ OverLoad i (λ l. EndsAtOne l e))
+  front_at_6 (apart ends unread untouched unasked same) six =
+      let front = at_6 i.words e ends six in
+      (front.0, inl (front.1.0, without_disks front.1.0 front.1.1 unread untouched, front.1.2))
+  front_at_6 (loads uid asks ends) six =
+      let runs = runs_load (load_inputs i uid) e ends in
+      (runs.write_fault six, row_or_lines uid asks (runs.load_early_ends (inl six)) six)
+
+  counts_is_6 : RanKey i e → CountsWriteFault e → e.status ≡ 6
+  counts_is_6 (apart ends unread untouched unasked same) counts = failed_is_6 e ends counts
+  counts_is_6 (loads uid asks ends) counts = (runs_load (load_inputs i uid) e ends).write_fault_only counts
+
+  memory_at_7 : RanKey i e → e.status ≡ 7 → NamesSome i.words × (PrintsWhole e [] ⊎ OverLoad i (λ l. EndsAtOne l e))
+  memory_at_7 (apart ends unread untouched unasked same) seven =
+      let nothing = EndsInRow-at ends 7 refl (at_7 i.words e) seven in
+      (nothing.0, inl nothing.1)
+  memory_at_7 (loads uid asks ends) seven =
+      let runs = runs_load (load_inputs i uid) e ends in
+      ((asks.0, asks.1), nothing_or_lines uid asks (runs.load_early_ends (inr seven)) seven)
+
+  completed : RanKey i e → (s : Subcommand) (values : List (List ℕ)) (task : Task) → IsPlainCall i.words s values → task_of s values ≡ Ok task
+      → IsNoLoad task → ¬ SinkFailed e → (e.status ≡ 0) ⊎ (e.status ≡ 1) ⊎ (e.status ≡ 7)
+  completed (apart ends unread untouched unasked same) s values task call asks other calm =
       well_told (EndsInRow-more (plain_row i.words s values call) ends) (λ n. (n ≡ 0) ⊎ (n ≡ 1) ⊎ (n ≡ 7))
-      (λ row comes. task_row task row (subst (λ asked. AskedComes asked row) asks comes)) calm;
-  source = unread;
-  disks = untouched;
-}
+      (λ row comes. task_row task row (subst (λ asked. AskedComes asked row) asks comes)) calm
+  completed (loads uid also ends) s values task call asks other calm =
+      let is : Ok task ≡ Ok (Load uid) = sym asks ∙ asks_one i.words (task_of s values) (Ok (Load uid)) (plain_asks i.words s values call) also in
+      let task_is : task ≡ Load uid = cc is in
+      absurd (subst IsNoLoad task_is other)
+
+  load_completed : RanKey i e → (values : List (List ℕ)) (uid : List ℕ) (requests : List Request) → IsPlainCall i.words subcommand.Load values
+      → load_task values ≡ Ok (Load uid) → OffersRequests (load_inputs i uid) requests → OffersEngine (load_inputs i uid) → ¬ SinkFailed e
+      → (e.status ≡ 0) ⊎ (e.status ≡ 7)
+  load_completed ran values uid requests call is offers engine calm =
+      (of_load ran uid (subst (AsksFor i.words) is (plain_asks i.words subcommand.Load values call))).complete requests offers engine calm
+
+  source_same : RanKey i e → AsksNoLoad i.words ⊎ (e.status ≡ 2) ⊎ (e.status ≡ 3) → IsAsBefore i.request × IsAsBefore i.disks
+  source_same (apart ends unread untouched unasked same) unused = (unread, untouched)
+  source_same (loads uid asks ends) (inl none) = absurd (none uid asks)
+  source_same (loads uid asks ends) (inr low) =
+      (let among = no_low uid ends in absurd (omega (arith, low, among)))
+
+  pub Keys-ran : RanKey i e → Keys i e
+  Keys-ran ran = record {
+    ends = ended ran;
+    plain = as_asked ran;
+    done = done_at_0 ran;
+    denied = λ is. not_load ran (inl is) (λ ends. EndsInRow-at ends 1 refl (at_1 i.words e) is);
+    denied_only = denied_may ran;
+    usage = λ is. not_load ran (inr (inl is)) (λ ends. EndsInRow-at ends 2 refl (at_2 i.words e) is);
+    usage_only = usage_may ran;
+    wrong_value = λ is. not_load ran (inr (inr is)) (λ ends. EndsInRow-at ends 3 refl (at_3 i.words e) is);
+    wrong_value_only = wrong_may ran;
+    loaded = λ uid asks. (of_load ran uid asks).loaded;
+    refused = λ is. only_load ran (λ l. (fault : Fault) × IsRequestFault l.request fault × PrintsWhole e (fault_text_of fault)) (omega (arith, is), (λ n. omega (arith, is, n)), (λ n. omega (arith, is, n))) (λ uid runs. runs.refused is);
+    refused_only = λ uid text fault asks. (of_load ran uid asks).refused_only text fault;
+    read_fault = λ is. only_load ran (λ l. Lacks l.request input.ReadFault × PrintsWhole e (codes "read fault\n")) (omega (arith, is), (λ n. omega (arith, is, n)), (λ n. omega (arith, is, n))) (λ uid runs. runs.read_fault is);
+    read_fault_only = faulted ran;
+    too_long = λ is. only_load ran (λ l. Lacks l.request input.TooLong × PrintsWhole e (codes "input too long\n")) (omega (arith, is), (λ n. omega (arith, is, n)), (λ n. omega (arith, is, n))) (λ uid runs. runs.too_long is);
+    too_long_only = too_much ran;
+    store_refused = λ is. only_load ran (λ l. RefusesStore l e) (omega (arith, is), (λ n. omega (arith, is, n)), (λ n. omega (arith, is, n))) (λ uid runs. runs.store_refused is);
+    store_refused_only = λ uid requests asks. (of_load ran uid asks).store_refused_only requests;
+    load_failed = λ is. only_load ran (λ l. StopsAtOne l e) (omega (arith, is), (λ n. omega (arith, is, n)), (λ n. omega (arith, is, n))) (λ uid runs. runs.load_failed is);
+    images = λ uid asks. (of_load ran uid asks).images;
+    load_early_ends = λ uid asks. (of_load ran uid asks).load_early_ends;
+    load_alone = alone ran;
+    write_fault = front_at_6 ran;
+    write_fault_only = counts_is_6 ran;
+    no_memory = memory_at_7 ran;
+    complete = completed ran;
+    load_complete = load_completed ran;
+    source = λ unused. (source_same ran unused).0;
+    disks = λ unused. (source_same ran unused).1;
+    others = λ uid asks. (of_load ran uid asks).disks;
+  }

@@ -9,7 +9,7 @@ use Rattle.key_commands.specs.declared.tasks.Task.{Task}
 use Rattle.key_commands.specs.declared.tasks.Task.TheVariants as task
 use Rattle.key_commands.specs.declared.tasks.BadValue.{BadValue}
 use Rattle.key_commands.specs.declared.subcommands.Subcommand.{Subcommand}
-use Rattle.key_commands.specs.declared.subcommands.Subcommand.TheVariants.{Make, Read, Confirm, Bootmac}
+use Rattle.key_commands.specs.declared.subcommands.Subcommand.TheVariants.{Make, Read, Confirm, Bootmac, Load}
 
 -- the value with this number, counted from 1, which is to be of a form
 abbrev pub value_at : {A : Type 0} → ℕ → Option A → Result A BadValue
@@ -64,9 +64,16 @@ boot_task key_value image_value = do
 unfoldable pub bootmac_of : List (List ℕ) → Result Task BadValue
 bootmac_of values = boot_task (key_form (nth_word values 1)) (hex_bytes_form 1 65536 (nth_word values 2))
 
+-- FILE UID, of which FILE may be any text
+unfoldable pub load_task : List (List ℕ) → Result Task BadValue
+load_task values = do
+  uid ← value_at 2 (engine_uid_form (nth_word values 2))
+  Ok (task.Load uid)
+
 -- what the values of a subcommand ask for
 abbrev pub task_of : Subcommand → List (List ℕ) → Result Task BadValue
 task_of Make values = make_of values
 task_of Read values = read_of values
 task_of Confirm values = confirm_of values
 task_of Bootmac values = bootmac_of values
+task_of Load values = load_task values

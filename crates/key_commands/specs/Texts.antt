@@ -10,7 +10,7 @@ use Rattle.secure_boot.specs.Booting.{bootmac}
 use Rattle.text_lines.specs.Texts.{line}
 use Rattle.text_lines.specs.Written.{flags_text}
 use Rattle.key_commands.specs.declared.tasks.Task.{Task}
-use Rattle.key_commands.specs.declared.tasks.Task.TheVariants.{Make, Read, Confirm, Bootmac}
+use Rattle.key_commands.specs.declared.tasks.Task.TheVariants.{Make, Read, Confirm, Bootmac, Load}
 
 -- the line that is printed where the words are of no form
 abbrev pub key_usage : List ℕ
@@ -49,7 +49,7 @@ abbrev pub update_text : Update → List ℕ
 update_text u = target_rows u (content_rows u)
 
 -- what is printed where a task is done: the request that is built, the update that is carried, the confirmation, or the
--- boot MAC
+-- boot MAC; a load has lines, and rows of its own
 abbrev pub PrintsDone : Task → List ℕ → Type 0
 PrintsDone (Make update authkey) text =
     (request : Request) × Builds request authkey update × (text ≡ request_text request)
@@ -57,6 +57,7 @@ PrintsDone (Read request authkey) text =
     (update : Update) × Carries request authkey update × (text ≡ update_text update)
 PrintsDone (Confirm reply update) text = Confirms reply update update.uid × (text ≡ line (codes "confirmed"))
 PrintsDone (Bootmac key image) text = text ≡ mac_text (bootmac key image)
+PrintsDone (Load uid) text = ⊥
 
 -- what is printed where the messages are refused: ID or AuthID is no slot's, M3 is wrong, or M4 and M5 are not the
 -- update's
@@ -67,3 +68,4 @@ Denies (Read request authkey) text =
     ⊎ (HasSlots request.m1 × (request.m3 ≢ request_mac authkey request.m1 request.m2) × (text ≡ line (codes "BadMac")))
 Denies (Confirm reply update) text = ¬ Confirms reply update update.uid × (text ≡ line (codes "not confirmed"))
 Denies (Bootmac key image) text = ⊥
+Denies (Load uid) text = ⊥

@@ -33,6 +33,8 @@ pub fn run_example<S: Source, K: Sink, D: Disk>(
           words = drop 1 (each (λ text. text.now) EXAMPLE);
           request = record { before = request.old; after = request.new };
           disks = record { before = disks.old.items; after = disks.new.items };
+          reading = record { before = S.state request.old; after = S.state request.new };
+          known = record { before = each D.state disks.old.items; after = each D.state disks.new.items };
         })
         (record { before = K.state sink.old; after = K.state sink.new; status = result }) }
 {

@@ -1,5 +1,6 @@
 //! The key commands: they make the messages of a key update (SHE specification, memory update protocol), read
-//! them, and check the engine's answer; and they make the boot MAC of an image (SHE specification, secure booting).
+//! them, and check the engine's answer; they load them into the engine of a store on a disk; and they make the boot MAC
+//! of an image (SHE specification, secure booting).
 //!
 //! [`run_key`] runs the subcommand that the words of a command line ask for; `Keys` of specs/Keys.antt says what
 //! each status means and what is printed. [`run_example`] runs the request of the SHE specification's example.

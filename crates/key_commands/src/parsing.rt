@@ -53,6 +53,7 @@ fn command_of<'a>(alloc: Global, subcommand: Subcommand) -> Result<Command<'a>, 
             &["UID", "ID", "AUTH", "COUNTER", "NEWKEY", "M4", "M5"],
         ),
         Subcommand::Bootmac => simple_command(alloc, "bootmac", &["KEY", "IMAGE"]),
+        Subcommand::Load => simple_command(alloc, "load", &["FILE", "UID"]),
     }
 }
 

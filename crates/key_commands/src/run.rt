@@ -1,7 +1,7 @@
 //! The key command.
 ghost use Rattle.std.specs.Prelude.{drop, map as each, string_bytes, Ok};
 ghost use Rattle.answer_rows.specs.Endings.{EndsInRow};
-ghost use Rattle.key_commands.specs.Rows.{AskedComes, KeyComes};
+ghost use Rattle.key_commands.specs.Rows.{AskedComes, IsNoLoad};
 ghost use Rattle.key_commands.specs.Keys.{Keys};
 ghost use Rattle.key_commands.specs.Steps.{PreparesTask};
 
@@ -14,14 +14,16 @@ use answer_rows::{Refusal, tell_refusal};
 use bus_port::{Sink, Source};
 use command_edge::{DONE, behind_name, tell};
 use cut_disk::Disk;
+use key_loading::load_over;
 use std::alloc::Global;
 use text_lines::Memory;
 
 /// Runs the subcommand that the words ask for, and gives the status that the program ends with. The first of the words
 /// is the program's name. Every text that is printed ends with a line feed.
 ///
-/// The statuses are looked for in the order 2, 3. Want of memory, 7, prints nothing. A sink that fails makes the status
-/// 6, whatever was to be printed. No subcommand reads from the source of requests or touches a disk.
+/// The statuses are looked for in the order 2, 3; of `load` then 5, 8 and 4 of the source of requests, 9 of the first
+/// disk, and 10. Want of memory, 7, prints nothing, but for what `load` answered before. A sink that fails makes the
+/// status 6, whatever was to be printed. No other subcommand reads from the source of requests or touches a disk.
 pub fn run_key<S: Source, K: Sink, D: Disk>(
     alloc: Global,
     words: &[String],
@@ -35,19 +37,16 @@ pub fn run_key<S: Source, K: Sink, D: Disk>(
           words = drop 1 (each string_bytes words.now);
           request = record { before = request.old; after = request.new };
           disks = record { before = disks.old.items; after = disks.new.items };
+          reading = record { before = S.state request.old; after = S.state request.new };
+          known = record { before = each D.state disks.old.items; after = each D.state disks.new.items };
         })
         (record { before = K.state sink.old; after = K.state sink.new; status = result }) }
 {
-    in_two_phases(alloc, behind_name(words), sink)
-}
-
-/// Prepares, and then does the task or tells the refusal.
-fn in_two_phases<K: Sink>(alloc: Global, words: &[String], sink: &mut K) -> u8
-    ensures { EndsInRow (KeyComes (each string_bytes words.now))
-        (record { before = K.state sink.old; after = K.state sink.new; status = result }) }
-{
-    match prepare(alloc, words) {
-        Ok(task) => do_job(alloc, &task, sink),
+    match prepare(alloc, behind_name(words)) {
+        Ok(task) => match &task {
+            Task::Load { uid } => load_over(alloc, *uid, request, sink, disks),
+            _ => do_job(alloc, &task, sink),
+        },
         Err(refusal) => tell_refusal(sink, &refusal),
     }
 }
@@ -67,8 +66,9 @@ fn prepare(alloc: Global, words: &[String]) -> Result<Task, Refusal>
     }
 }
 
-/// The second phase: the task is done, and what it comes to is told.
+/// The second phase of a task other than a load: it is done, and what it comes to is told.
 fn do_job<K: Sink>(alloc: Global, task: &Task, sink: &mut K) -> u8
+    requires { IsNoLoad task.now }
     ensures { EndsInRow (AskedComes (Ok task.now))
         (record { before = K.state sink.old; after = K.state sink.new; status = result }) }
 {

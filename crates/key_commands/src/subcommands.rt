@@ -14,6 +14,9 @@ pub enum Subcommand {
     Confirm,
     /// `bootmac KEY IMAGE`: the boot MAC of the image under the key.
     Bootmac,
+    /// `load FILE UID`: what the engine of the store on a disk answers to requests. FILE names the disk, and isn't
+    /// looked at.
+    Load,
 }
 
 /// The subcommand that the first of the words names, the program's name left out.
@@ -37,6 +40,7 @@ fn named(name: &str) -> Option<Subcommand>
         "read" => Some(Subcommand::Read),
         "confirm" => Some(Subcommand::Confirm),
         "bootmac" => Some(Subcommand::Bootmac),
+        "load" => Some(Subcommand::Load),
         _ => None,
     }
 }

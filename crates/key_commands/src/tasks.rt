@@ -3,7 +3,7 @@ ghost use Rattle.std.specs.Prelude.{◌≡◌, IfOk};
 ghost use Rattle.clap.specs.Words.{rows_of, found_of};
 ghost use Rattle.key_commands.specs.Subcommands.{values_of as names_of};
 ghost use Rattle.key_commands.specs.Parsing.{values_in};
-ghost use Rattle.key_commands.specs.Tasks.{value_at, make_of, read_of, confirm_of, boot_task, bootmac_of};
+ghost use Rattle.key_commands.specs.Tasks.{value_at, make_of, read_of, confirm_of, boot_task, bootmac_of, load_task};
 ghost use Rattle.key_commands.specs.Tasks.{task_of as task_by};
 ghost use Rattle.key_commands.specs.declared.subcommands.Subcommand.TheVariants as subcommand;
 
@@ -12,7 +12,7 @@ use crate::parsing::value_of;
 use crate::subcommands::Subcommand;
 use clap::ArgMatches;
 use key_slots::Flags;
-use memory_update::{Reply, Request, Update};
+use memory_update::{Reply, Request, Uid, Update};
 use she_aes::Block;
 use std::alloc::Global;
 use text_lines::{Memory, forms};
@@ -28,6 +28,8 @@ pub enum Task {
     Confirm { reply: Reply, update: Update },
     /// Make the boot MAC of the image under the boot MAC key.
     Bootmac { key: Block, image: Image },
+    /// Load the requests of a source into the engine with this identifier.
+    Load { uid: Uid },
 }
 
 /// The first value of a subcommand that isn't of its form, by its number, counted from 1.
@@ -50,6 +52,7 @@ pub fn task_of(
         Subcommand::Read => Ok(read_of(matches)),
         Subcommand::Confirm => Ok(confirm_of(matches)),
         Subcommand::Bootmac => bootmac_of(alloc, matches),
+        Subcommand::Load => Ok(load_task(matches)),
     }
 }
 
@@ -134,6 +137,14 @@ fn boot_task(key: Option<Block>, image: Option<Image>) -> Result<Task, BadValue>
     let key = value_at(1, key)?;
     let image = value_at(2, image)?;
     Ok(Task::Bootmac { key, image })
+}
+
+#[tactic(auto, unfolding(crate::specs::Tasks::load_task))]
+fn load_task(matches: &ArgMatches<'_>) -> Result<Task, BadValue>
+    ensures { result ≡ load_task (values_in (names_of subcommand.Load) (rows_of (found_of matches.now))) }
+{
+    let uid = value_at(2, forms::engine_uid(value_of(matches, "UID")))?;
+    Ok(Task::Load { uid })
 }
 
 /// The value with this number, counted from 1, where it is of its form.

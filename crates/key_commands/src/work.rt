@@ -1,5 +1,6 @@
 //! What a task comes to.
 ghost use Rattle.std.specs.Prelude.{◌≡◌, IfOk};
+ghost use Rattle.key_commands.specs.Rows.{IsNoLoad};
 ghost use Rattle.key_commands.specs.Steps.{Does};
 ghost use Rattle.key_commands.specs.declared.tasks.Task.TheVariants.{Make, Read, Confirm, Bootmac};
 
@@ -12,8 +13,9 @@ use secure_boot::boot_mac;
 use she_aes::{Block, expand};
 use std::alloc::{AllocError, Global};
 
-/// Does a task: the text that is printed where it is done, or why its messages are refused.
+/// Does a task other than a load: the text that is printed where it is done, or why its messages are refused.
 pub fn do_task(alloc: Global, task: &Task) -> Result<String, Refusal>
+    requires { IsNoLoad task.now }
     ensures { Does task.now result }
 {
     match task {
@@ -21,6 +23,7 @@ pub fn do_task(alloc: Global, task: &Task) -> Result<String, Refusal>
         Task::Read { request, authkey } => read(alloc, request, authkey),
         Task::Confirm { reply, update } => confirm(alloc, reply, update),
         Task::Bootmac { key, image } => boot(alloc, key, image),
+        Task::Load { .. } => unreachable!(),
     }
 }
 

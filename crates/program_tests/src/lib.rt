@@ -13,3 +13,5 @@ mod counters;
 mod pairs;
 #[cfg(test)]
 mod shelf;
+#[cfg(test)]
+mod watches;

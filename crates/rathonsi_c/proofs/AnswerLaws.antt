@@ -34,7 +34,7 @@ refused_route {A} tell r d image rest Exhausted h = absurd h
 refused_route {A} tell r d image rest Reserve h = absurd h
 
 -- a key that may be used is refused for nothing
-may-not-refused : (image : List ℕ) (r : RathonsiRoute) (key : List ℕ) (refusal : Erc) → ImageKey image r.slot (is_booted r) key → SlotRefuses image r.slot (is_booted r) refusal → ⊥
+pub may-not-refused : (image : List ℕ) (r : RathonsiRoute) (key : List ℕ) (refusal : Erc) → ImageKey image r.slot (is_booted r) key → SlotRefuses image r.slot (is_booted r) refusal → ⊥
 may-not-refused image r key refusal k s =
     let e : s.slot ≡ Filled key k.counter k.flags = slot_once image r.slot s.slot (Filled key k.counter k.flags) s.held k.held in
     none-some refusal (sym k.may ∙ (ap (λ (slot : Slot). first_applying (slot_refusals slot (is_booted r) Mac)) (sym e) ∙ s.first))

@@ -25,7 +25,7 @@ slot_once image place a b h k =
     let e : h.bytes ≡ k.bytes = same_Some _ _ (sym h.is ∙ k.is) in
     one_slot k.bytes a b (subst (λ (c : List ℕ). HoldsSlot c a) e h.holds) k.holds
 
-same_direction : (d e : Direction) → direction_number d ≡ direction_number e → d ≡ e
+pub same_direction : (d e : Direction) → direction_number d ≡ direction_number e → d ≡ e
 same_direction Sends Sends h = refl
 same_direction Sends Receives h = absurd (omega arith)
 same_direction Receives Sends h = absurd (omega arith)

@@ -1,6 +1,6 @@
 -- Keys are kept over all lives.
-use Rattle.std.proofs.Common.{◌≡◌, ℕ, ◌<◌, ◌⊎◌, inl, inr, Some, List, [], ◌∷◌, length, refl, sym, subst, ◌∙◌, arith}
-use Rattle.std.proofs.lemmas.Bool.{cases_lt, cases_eq}
+use Rattle.std.proofs.Common.{◌≡◌, ℕ, ◌<◌, ◌⊎◌, inl, inr, Bool, true, false, Some, List, [], ◌∷◌, length, refl, sym, subst, ◌∙◌, arith}
+use Rattle.std.proofs.lemmas.Bool.{cases_lt, cases_eq, eq-eqb, false≢true}
 use Rattle.cell_store.specs.Twin.{cell_at}
 use Rattle.key_slots.specs.declared.memory.Slot.{Slot}
 use Rattle.key_slots.specs.declared.memory.Slot.TheVariants.{Filled}
@@ -17,7 +17,7 @@ use Rattle.store_plan.proofs.CutLaws.{cut-cell, cut-others, cut-length, cut-none
 use Rattle.rathonsi_c.specs.Images.{ImageSlot}
 use Rattle.rathonsi_c.specs.Routes.{wanted}
 use Rattle.rathonsi_c.specs.Slots.{ConfirmsSlot}
-use Rattle.rathonsi_c.specs.Lives.{Memory, Deed, sends, accepts, reserves, loads, drops, finishes, powers_up, Lives, DoesDeed, PoweredUp, NoUpdatePlanned, NoLoad, SlotFilled}
+use Rattle.rathonsi_c.specs.Lives.{Memory, Deed, sends, accepts, opens, sets, reserves, loads, drops, finishes, powers_up, PlansBound, Lives, DoesDeed, PoweredUp, NoUpdatePlanned, PlannedAs, planned_behind, planned_after, BeginsNone, NoneBegun, UpdateDone, SlotFilled}
 use Rattle.rathonsi_c.proofs.ImageLaws.{moved_slot}
 
 -- a plan that is done, or cut, leaves a slot that it isn't for
@@ -36,10 +36,9 @@ module _ (place : ℕ) (slot : Slot) (a : Memory) (held : ImageSlot a.image plac
         moved_slot a.image y place slot (cut-length a.plan a.image y far new plans cut) (cut-others a.plan a.image y far new plans cut place (λ e. apart (sym e))) held
   ]
 
--- what holds of a slot of which no update is planned
-pub record StaysHeld (place : ℕ) (slot : Slot) (a : Memory) : Type 0 where
-  pub held : ImageSlot a.image place slot
-  pub none : NoUpdatePlanned place a
+-- what is planned: nothing, another cell, or a key for this slot
+abbrev pub FilledPlanned : ℕ → Memory → Type 0
+FilledPlanned place a = NoUpdatePlanned place a ⊎ ((u : Update) × (HoldsSlot (slot_cell (slot_of u)) (slot_of u) × PlansPut a.plan a.image place (slot_cell (slot_of u))))
 
 -- image and plan as they were
 none-same : (place : ℕ) (a b : Memory) → b.image ≡ a.image → b.plan ≡ a.plan → NoUpdatePlanned place a → NoUpdatePlanned place b
@@ -51,60 +50,143 @@ none-same place a b image plan none = elim none [
 held-same : (place : ℕ) (slot : Slot) (a b : Memory) → b.image ≡ a.image → ImageSlot a.image place slot → ImageSlot b.image place slot
 held-same place slot a b image held = subst (λ (y : List ℕ). ImageSlot y place slot) (sym image) held
 
--- what one deed does, that plans no update of the slot
-pub kept-by : (n place : ℕ) (slot : Slot) (deed : Deed) (a b : Memory) → place < 14 → NoLoad place (deed ∷ []) → StaysHeld place slot a → DoesDeed n deed a b → StaysHeld place slot b
-kept-by n place slot (sends k freshness) a b few free h d = record { held = held-same place slot a b d.image h.held; none = none-same place a b d.image d.plan h.none }
-kept-by n place slot (accepts k freshness) a b few free h d = record { held = held-same place slot a b d.image h.held; none = none-same place a b d.image d.plan h.none }
-kept-by n place slot (reserves k) a b few free h d = record {
-  held = held-same place slot a b d.image h.held;
-  none = elim (cases_lt d.reserved.bound (wanted (a.routes k) d.freshness)) [
-    | inl low ↦ inr ((a.routes k).cell, (_, ((λ e. let least = d.reserved.ranges.cell_least in omega arith), subst (λ (y : List ℕ). PlansPut b.plan y (a.routes k).cell (bound_cell (a.routes k).data_id d.reserved.direction (wanted (a.routes k) d.freshness))) (sym d.image) (d.reserved.plans low))))
-    | inr high ↦ inl (subst (λ (p : Plan). IsEmptyPlan p) (sym (d.reserved.enough high)) d.reserved.empty)
-  ];
-}
-kept-by n place slot (loads other) a b few free h d = record {
-  held = held-same place slot a b d.image h.held;
-  none = inr (d.loaded.update.id, (_, ((λ e. free.0 (sym d.slot_is ∙ e)), subst (λ (y : List ℕ). PlansPut b.plan y d.loaded.update.id (slot_cell (slot_of d.loaded.update))) (sym d.image) d.loaded.plans)));
-}
-kept-by n place slot drops a b few free h d = record { held = held-same place slot a b d.image h.held; none = inl d.empty }
-kept-by n place slot finishes a b few free h d = record {
-  held = subst (λ (y : List ℕ). ImageSlot y place slot) (sym d.done.image_is) (kept-finish place slot a h.held h.none);
-  none = inl d.done.empty;
-}
-kept-by n place slot powers_up a b few free h d = record { held = kept-cut place slot a h.held h.none b.image d.left; none = inl d.empty }
+planned-same : (place : ℕ) (a b : Memory) → b.image ≡ a.image → b.plan ≡ a.plan → FilledPlanned place a → FilledPlanned place b
+planned-same place a b image plan p = elim p [
+  | inl none ↦ inl (none-same place a b image plan none)
+  | inr (u, (holds, plans)) ↦ inr (u, (holds, subst (λ (y : List ℕ). PlansPut b.plan y place (slot_cell (slot_of u))) (sym image) (subst (λ (q : Plan). PlansPut q a.image place (slot_cell (slot_of u))) (sym plan) plans)))
+]
 
--- the first of several
-load-parts : (place : ℕ) (deed : Deed) (deeds : List Deed) → NoLoad place (deed ∷ deeds) → NoLoad place (deed ∷ []) × NoLoad place deeds
-load-parts place (sends k freshness) deeds free = (tt, free)
-load-parts place (accepts k freshness) deeds free = (tt, free)
-load-parts place (reserves k) deeds free = (tt, free)
-load-parts place (loads other) deeds free = ((free.0, tt), free.1)
-load-parts place drops deeds free = (tt, free)
-load-parts place finishes deeds free = (tt, free)
-load-parts place powers_up deeds free = (tt, free)
+-- a bound is none of a slot
+bound-none : (n k place : ℕ) (a b : Memory) → place < 14 → PlansBound n k a b → NoUpdatePlanned place b
+bound-none n k place a b few d = elim (cases_lt d.reserved.bound (wanted (a.routes k) d.freshness)) [
+  | inl low ↦ inr ((a.routes k).cell, (_, ((λ e. let least = d.reserved.ranges.cell_least in omega arith), subst (λ (y : List ℕ). PlansPut b.plan y (a.routes k).cell (bound_cell (a.routes k).data_id d.reserved.direction (wanted (a.routes k) d.freshness))) (sym d.image) (d.reserved.plans low))))
+  | inr high ↦ inl (subst (λ (p : Plan). IsEmptyPlan p) (sym (d.reserved.enough high)) d.reserved.empty)
+]
 
-pub kept-over : (n place : ℕ) (slot : Slot) (deeds : List Deed) (a c : Memory) → place < 14 → NoLoad place deeds → StaysHeld place slot a → Lives n deeds a c → StaysHeld place slot c
-kept-over n place slot [] a c few free h lives = subst (λ (m : Memory). StaysHeld place slot m) (sym lives) h
-kept-over n place slot (deed ∷ deeds) a c few free h (b, (d, rest)) =
-    let parts = load-parts place deed deeds free in
-    kept-over n place slot deeds b c few parts.1 (kept-by n place slot deed a b few parts.0 h d) rest
+-- an update has the slot of a cell
+update-holds : (u : Update) → IsUpdate u → HoldsSlot (slot_cell (slot_of u)) (slot_of u)
+update-holds u is = record { is_slot = (is.is_key, is.counter_fits); cell_is = refl }
+
+-- what is planned, as it is told
+none-planned : (place : ℕ) (planned : Bool) (a : Memory) → PlannedAs place planned a → planned ≡ false → NoUpdatePlanned place a
+none-planned place false a none is = none
+none-planned place true a some is = absurd (false≢true (sym is))
+
+filled-planned : (place : ℕ) (planned : Bool) (a : Memory) → PlannedAs place planned a → FilledPlanned place a
+filled-planned place false a none = inl none
+filled-planned place true a some =
+    let u = some.loaded.update in
+    inr (u, (update-holds u some.loaded.allowed.1.padded.is_update, subst (λ i. PlansPut a.plan a.image i (slot_cell (slot_of u))) some.slot_is some.loaded.plans))
+
+-- what one deed plans
+planned-does : (n place : ℕ) (deed : Deed) (a b : Memory) → place < 14 → FilledPlanned place a → DoesDeed n deed a b → FilledPlanned place b
+planned-does n place (sends k freshness) a b few p d = planned-same place a b d.changes.image d.changes.plan p
+planned-does n place (accepts k freshness) a b few p d = planned-same place a b d.changes.image d.changes.plan p
+planned-does n place (opens k) a b few p d = planned-same place a b d.changes.image d.changes.plan p
+planned-does n place (sets k) a b few p d = planned-same place a b d.changes.image d.changes.plan p
+planned-does n place (reserves k) a b few p d = inl (bound-none n k place a b few d)
+planned-does n place (loads other) a b few p d =
+    let u = d.loaded.update in
+    let plans : PlansPut b.plan b.image u.id (slot_cell (slot_of u)) = subst (λ (y : List ℕ). PlansPut b.plan y u.id (slot_cell (slot_of u))) (sym d.image) d.loaded.plans in
+    elim (cases_eq u.id place) [
+      | inl here ↦ inr (u, (update-holds u d.loaded.allowed.1.padded.is_update, subst (λ i. PlansPut b.plan b.image i (slot_cell (slot_of u))) here plans))
+      | inr there ↦ inl (inr (u.id, (_, (there, plans))))
+    ]
+planned-does n place drops a b few p d = inl (inl d.empty)
+planned-does n place finishes a b few p d = inl (inl d.done.empty)
+planned-does n place powers_up a b few p d = inl (inl d.empty)
+
+-- what one deed plans, where it plans no update of the slot
+none-does : (n place : ℕ) (planned : Bool) (deed : Deed) (a b : Memory) → place < 14 → (planned ≡ false → NoUpdatePlanned place a) → DoesDeed n deed a b → planned_behind place planned deed ≡ false → NoUpdatePlanned place b
+none-does n place planned (sends k freshness) a b few none d not = none-same place a b d.changes.image d.changes.plan (none not)
+none-does n place planned (accepts k freshness) a b few none d not = none-same place a b d.changes.image d.changes.plan (none not)
+none-does n place planned (opens k) a b few none d not = none-same place a b d.changes.image d.changes.plan (none not)
+none-does n place planned (sets k) a b few none d not = none-same place a b d.changes.image d.changes.plan (none not)
+none-does n place planned (reserves k) a b few none d not = bound-none n k place a b few d
+none-does n place planned (loads other) a b few none d not =
+    let u = d.loaded.update in
+    inr (
+      u.id,
+      (
+        _,
+        (
+          (λ e. false≢true (sym not ∙ eq-eqb other place (sym d.slot_is ∙ e))),
+          subst (λ (y : List ℕ). PlansPut b.plan y u.id (slot_cell (slot_of u))) (sym d.image) d.loaded.plans,
+        ),
+      ),
+    )
+none-does n place planned drops a b few none d not = inl d.empty
+none-does n place planned finishes a b few none d not = inl d.done.empty
+none-does n place planned powers_up a b few none d not = inl d.empty
+
+-- what it leaves of the slot, where it begins no update of it
+held-does : (n place : ℕ) (slot : Slot) (planned : Bool) (deed : Deed) (a b : Memory) → BeginsNone planned deed → (planned ≡ false → NoUpdatePlanned place a) → ImageSlot a.image place slot → DoesDeed n deed a b → ImageSlot b.image place slot
+held-does n place slot planned (sends k freshness) a b free none held d = held-same place slot a b d.changes.image held
+held-does n place slot planned (accepts k freshness) a b free none held d = held-same place slot a b d.changes.image held
+held-does n place slot planned (opens k) a b free none held d = held-same place slot a b d.changes.image held
+held-does n place slot planned (sets k) a b free none held d = held-same place slot a b d.changes.image held
+held-does n place slot planned (reserves k) a b free none held d = held-same place slot a b d.image held
+held-does n place slot planned (loads other) a b free none held d = held-same place slot a b d.image held
+held-does n place slot planned drops a b free none held d = held-same place slot a b d.image held
+held-does n place slot planned finishes a b free none held d =
+    subst (λ (y : List ℕ). ImageSlot y place slot) (sym d.done.image_is) (kept-finish place slot a held (none free))
+held-does n place slot planned powers_up a b free none held d = kept-cut place slot a held (none free) b.image d.left
+
+-- what holds of a slot while no update of it is done or begun
+pub record StaysHeld (place : ℕ) (slot : Slot) (planned : Bool) (a : Memory) : Type 0 where
+  pub held : ImageSlot a.image place slot
+  pub none : planned ≡ false → NoUpdatePlanned place a
+
+pub kept-over : (n place : ℕ) (slot : Slot) (planned : Bool) (deeds : List Deed) (a c : Memory) → place < 14 → NoneBegun place planned deeds → StaysHeld place slot planned a → Lives n deeds a c → StaysHeld place slot (planned_after place planned deeds) c
+kept-over n place slot planned [] a c few free h lives = subst (λ (m : Memory). StaysHeld place slot planned m) (sym lives) h
+kept-over n place slot planned (deed ∷ deeds) a c few free h (b, (d, rest)) =
+    kept-over n place slot (planned_behind place planned deed) deeds b c few free.1 (record {
+      held = held-does n place slot planned deed a b free.0 h.none h.held d;
+      none = none-does n place planned deed a b few h.none d;
+    }) rest
+
+-- what is planned behind all deeds
+planned-over : (n place : ℕ) (deeds : List Deed) (a c : Memory) → place < 14 → FilledPlanned place a → Lives n deeds a c → FilledPlanned place c
+planned-over n place [] a c few p lives = subst (λ (m : Memory). FilledPlanned place m) (sym lives) p
+planned-over n place (deed ∷ deeds) a c few p (b, (d, rest)) = planned-over n place deeds b c few (planned-does n place deed a b few p d) rest
 
 -- the same reply confirms what the same slot holds
 confirms-same : (uid m1 x y : List ℕ) (reply : Reply) (c : ConfirmsSlot uid m1 x reply) → ImageSlot y c.update.id (slot_of c.update) → ConfirmsSlot uid m1 y reply
 confirms-same uid m1 x y reply c held = record { update = c.update; named = c.named; held = held; confirms = c.confirms }
 
-pub confirmed_over : (n : ℕ) (deeds : List Deed) (a c : Memory) (uid m1 : List ℕ) (reply : Reply) (k : ConfirmsSlot uid m1 a.image reply) → NoUpdatePlanned k.update.id a → NoLoad k.update.id deeds → Lives n deeds a c → (y : List ℕ) → CutWithin c.plan c.image y
-    → ConfirmsSlot uid m1 c.image reply × ConfirmsSlot uid m1 y reply
-confirmed_over n deeds a c uid m1 reply k none free lives y cut =
-    let place = k.update.id in
-    let h = kept-over n place (slot_of k.update) deeds a c k.named.is_head.id_fits free (record { held = k.held; none = none }) lives in
-    (confirms-same uid m1 a.image c.image reply k h.held, confirms-same uid m1 a.image y reply k (kept-cut place (slot_of k.update) c h.held h.none y cut))
+module _ (n : ℕ) (deeds : List Deed) (a c : Memory) (uid m1 : List ℕ) (reply : Reply) (planned : Bool) (k : ConfirmsSlot uid m1 a.image reply) (none : planned ≡ false → NoUpdatePlanned k.update.id a) (free : NoneBegun k.update.id planned deeds) (lives : Lives n deeds a c) where
+  stays : StaysHeld k.update.id (slot_of k.update) (planned_after k.update.id planned deeds) c
+  stays = kept-over n k.update.id (slot_of k.update) planned deeds a c k.named.is_head.id_fits free (record { held = k.held; none = none }) lives
+
+  pub confirmed_over : ImageSlot c.image k.update.id (slot_of k.update) × ConfirmsSlot uid m1 c.image reply
+  confirmed_over = let h = stays in (h.held, confirms-same uid m1 a.image c.image reply k h.held)
+
+  pub confirmed_cut : planned_after k.update.id planned deeds ≡ false → (y : List ℕ) → CutWithin c.plan c.image y → ImageSlot y k.update.id (slot_of k.update) × ConfirmsSlot uid m1 y reply
+  confirmed_cut not y cut =
+      let h = stays in
+      let held = kept-cut k.update.id (slot_of k.update) c h.held (h.none not) y cut in
+      (held, confirms-same uid m1 a.image y reply k held)
+
+module _ (n : ℕ) (deeds : List Deed) (a c : Memory) (uid m1 : List ℕ) (reply : Reply) (planned : Bool) (k : ConfirmsSlot uid m1 a.image reply) (as_told : PlannedAs k.update.id planned a) (free : NoneBegun k.update.id planned deeds) (lives : Lives n deeds a c) where
+  pub either_cut : (y : List ℕ) → CutWithin c.plan c.image y → ImageSlot y k.update.id (slot_of k.update) ⊎ UpdateDone k.update.id c y
+  either_cut y cut =
+      let place = k.update.id in
+      let kept = confirmed_over n deeds a c uid m1 reply planned k (none-planned place planned a as_told) free lives in
+      let held : ImageSlot c.image place (slot_of k.update) = kept.0 in
+      let some : FilledPlanned place c = planned-over n place deeds a c k.named.is_head.id_fits (filled-planned place planned a as_told) lives in
+      elim some [
+        | inl other ↦ inl (kept-cut place (slot_of k.update) c held other y cut)
+        | inr (u, (holds, plans)) ↦ elim (cut-cell c.plan c.image y place _ plans cut) [
+          | inl old ↦ inl (moved_slot c.image y place (slot_of k.update) (cut-length c.plan c.image y place _ plans cut) old held)
+          | inr new ↦ inr (record {
+            update = u;
+            plans = plans;
+            held = record { room = (let r = held.room in let l = cut-length c.plan c.image y place _ plans cut in omega arith); bytes = slot_cell (slot_of u); is = new; holds = holds };
+          })
+        ]
+      ]
 
 -- ---- no filled slot becomes empty
-
--- what is planned: nothing, another cell, or a key for this slot
-abbrev pub FilledPlanned : ℕ → Memory → Type 0
-FilledPlanned place a = NoUpdatePlanned place a ⊎ ((u : Update) × (HoldsSlot (slot_cell (slot_of u)) (slot_of u) × PlansPut a.plan a.image place (slot_cell (slot_of u))))
 
 pub record StaysFilled (place : ℕ) (a : Memory) : Type 0 where
   pub filled : SlotFilled a.image place
@@ -139,49 +221,20 @@ filled-cut place a y cut h = elim h.planned [
 filled-same : (place : ℕ) (a b : Memory) → b.image ≡ a.image → SlotFilled a.image place → SlotFilled b.image place
 filled-same place a b image f = subst (λ (y : List ℕ). SlotFilled y place) (sym image) f
 
-planned-same : (place : ℕ) (a b : Memory) → b.image ≡ a.image → b.plan ≡ a.plan → FilledPlanned place a → FilledPlanned place b
-planned-same place a b image plan p = elim p [
-  | inl none ↦ inl (none-same place a b image plan none)
-  | inr (u, (holds, plans)) ↦ inr (u, (holds, subst (λ (y : List ℕ). PlansPut b.plan y place (slot_cell (slot_of u))) (sym image) (subst (λ (q : Plan). PlansPut q a.image place (slot_cell (slot_of u))) (sym plan) plans)))
-]
-
--- an update has the slot of a cell
-update-holds : (u : Update) → IsUpdate u → HoldsSlot (slot_cell (slot_of u)) (slot_of u)
-update-holds u is = record { is_slot = (is.is_key, is.counter_fits); cell_is = refl }
-
-filled-does : (n place : ℕ) (deed : Deed) (a b : Memory) → place < 14 → StaysFilled place a → DoesDeed n deed a b → StaysFilled place b
-filled-does n place (sends k freshness) a b few h d = record { filled = filled-same place a b d.image h.filled; planned = planned-same place a b d.image d.plan h.planned }
-filled-does n place (accepts k freshness) a b few h d = record { filled = filled-same place a b d.image h.filled; planned = planned-same place a b d.image d.plan h.planned }
-filled-does n place (reserves k) a b few h d =
-    let slot = Filled h.filled.key h.filled.counter h.filled.flags in
-    record {
-      filled = filled-same place a b d.image h.filled;
-      planned = inl (elim (cases_lt d.reserved.bound (wanted (a.routes k) d.freshness)) [
-        | inl low ↦ inr ((a.routes k).cell, (_, ((λ e. let least = d.reserved.ranges.cell_least in omega arith), subst (λ (y : List ℕ). PlansPut b.plan y (a.routes k).cell (bound_cell (a.routes k).data_id d.reserved.direction (wanted (a.routes k) d.freshness))) (sym d.image) (d.reserved.plans low))))
-        | inr high ↦ inl (subst (λ (p : Plan). IsEmptyPlan p) (sym (d.reserved.enough high)) d.reserved.empty)
-      ]);
-    }
-filled-does n place (loads other) a b few h d = record {
-  filled = filled-same place a b d.image h.filled;
-  planned = (
-      let u = d.loaded.update in
-      let plans : PlansPut b.plan b.image u.id (slot_cell (slot_of u)) = subst (λ (y : List ℕ). PlansPut b.plan y u.id (slot_cell (slot_of u))) (sym d.image) d.loaded.plans in
-      elim (cases_eq u.id place) [
-        | inl here ↦ inr (u, (update-holds u d.loaded.allowed.1.padded.is_update, subst (λ i. PlansPut b.plan b.image i (slot_cell (slot_of u))) here plans))
-        | inr there ↦ inl (inr (u.id, (_, (there, plans))))
-      ]
-      );
-}
-filled-does n place drops a b few h d = record { filled = filled-same place a b d.image h.filled; planned = inl (inl d.empty) }
-filled-does n place finishes a b few h d = record {
-  filled = subst (λ (y : List ℕ). SlotFilled y place) (sym d.done.image_is) (filled-finish place a h);
-  planned = inl (inl d.done.empty);
-}
-filled-does n place powers_up a b few h d = record { filled = filled-cut place a b.image d.left h; planned = inl (inl d.empty) }
+filled-does : (n place : ℕ) (deed : Deed) (a b : Memory) → StaysFilled place a → DoesDeed n deed a b → SlotFilled b.image place
+filled-does n place (sends k freshness) a b h d = filled-same place a b d.changes.image h.filled
+filled-does n place (accepts k freshness) a b h d = filled-same place a b d.changes.image h.filled
+filled-does n place (opens k) a b h d = filled-same place a b d.changes.image h.filled
+filled-does n place (sets k) a b h d = filled-same place a b d.changes.image h.filled
+filled-does n place (reserves k) a b h d = filled-same place a b d.image h.filled
+filled-does n place (loads other) a b h d = filled-same place a b d.image h.filled
+filled-does n place drops a b h d = filled-same place a b d.image h.filled
+filled-does n place finishes a b h d = subst (λ (y : List ℕ). SlotFilled y place) (sym d.done.image_is) (filled-finish place a h)
+filled-does n place powers_up a b h d = filled-cut place a b.image d.left h
 
 filled-over : (n place : ℕ) (deeds : List Deed) (a c : Memory) → place < 14 → StaysFilled place a → Lives n deeds a c → StaysFilled place c
 filled-over n place [] a c few h lives = subst (λ (m : Memory). StaysFilled place m) (sym lives) h
-filled-over n place (deed ∷ deeds) a c few h (b, (d, rest)) = filled-over n place deeds b c few (filled-does n place deed a b few h d) rest
+filled-over n place (deed ∷ deeds) a c few h (b, (d, rest)) = filled-over n place deeds b c few (record { filled = filled-does n place deed a b h d; planned = planned-does n place deed a b few h.planned d }) rest
 
 pub filled_over : (n : ℕ) (deeds : List Deed) (a c : Memory) (place : ℕ) → PoweredUp n a → place < 14 → SlotFilled a.image place → Lives n deeds a c → (y : List ℕ) → CutWithin c.plan c.image y → SlotFilled c.image place × SlotFilled y place
 filled_over n deeds a c place p few filled lives y cut =

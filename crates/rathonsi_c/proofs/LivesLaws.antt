@@ -10,8 +10,8 @@ use Rattle.store_plan.proofs.CutLaws.{cut-cell, cut-others, cut-length, cut-none
 use Rattle.rathonsi_c.specs.declared.route.RathonsiRoute.{RathonsiRoute}
 use Rattle.rathonsi_c.specs.Images.{ImageBound}
 use Rattle.rathonsi_c.specs.Routes.{InRanges, at_counter, wanted, Opens, RouteAdvances, Reserves}
-use Rattle.rathonsi_c.specs.Lives.{Memory, Deed, sends, accepts, reserves, loads, drops, finishes, powers_up, GivesOut, PlansBound, PlansUpdate, DropsPlan, FinishesPlan, PowerBack, SameRoutes, DoesDeed, Lives, PoweredUp, given_out, RisesTo, CounterCovered}
-use Rattle.rathonsi_c.proofs.ImageLaws.{bound_once, one_direction, moved_bound, renewed_bound}
+use Rattle.rathonsi_c.specs.Lives.{Memory, Deed, sends, accepts, opens, sets, reserves, loads, drops, finishes, powers_up, SameRoute, OpensFilled, ChangesRoute, GivesOut, OpensRoute, SetsFields, PlansBound, PlansUpdate, DropsPlan, FinishesPlan, PowerBack, SameRoutes, DoesDeed, Lives, PoweredUp, given_out, RisesTo, CounterCovered}
+use Rattle.rathonsi_c.proofs.ImageLaws.{bound_once, same_direction, one_direction, moved_bound, renewed_bound}
 
 -- what is planned: a higher bound of this route, or another cell
 pub record Higher (image : List ℕ) (plan : Plan) (r : RathonsiRoute) (d : Direction) (bound : ℕ) : Type 0 where
@@ -180,21 +180,62 @@ finished image y plan next r e empty h =
       planned = inl empty;
     }
 
-opened_again : (image y : List ℕ) (plan next : Plan) (r s : RathonsiRoute) → CutWithin plan image y → IsEmptyPlan next → Opens r y s → Holds image plan r → Goes y next r s
-opened_again image y plan next r s cut empty o h =
+-- so does what the power left
+cut_back : (image y : List ℕ) (plan next : Plan) (r : RathonsiRoute) → CutWithin plan image y → IsEmptyPlan next → Holds image plan r → Holds y next r
+cut_back image y plan next r cut empty h =
     let n = after-cut image plan r y cut h in
-    let e : o.direction ≡ h.direction = one_direction r o.direction h.direction o.ranges h.ranges in
-    let same : o.bound ≡ n.bound = bound_once y r.cell r.data_id h.direction o.bound n.bound (subst (λ (q : Direction). ImageBound y r.cell r.data_id q o.bound) e o.kept) n.kept in
-    subst (λ (t : RathonsiRoute). Goes y next r t) (sym o.now) (record {
-      holds = record {
-        direction = o.direction;
-        ranges = ranges-counted r o.bound o.direction o.ranges;
-        bound = o.bound;
-        kept = o.kept;
-        below = omega arith;
-        planned = inl empty;
-      };
-      later = (let b = h.below in let l = n.least in omega arith);
+    record {
+      direction = h.direction;
+      ranges = h.ranges;
+      bound = n.bound;
+      kept = n.kept;
+      below = (let b = h.below in let l = n.least in omega arith);
+      planned = inl empty;
+    }
+
+-- what an image keeps of a route, it keeps of each struct of it
+bound_moves : (image : List ℕ) (r s : RathonsiRoute) (d : Direction) (bound : ℕ) → SameRoute r s → ImageBound image r.cell r.data_id d bound → ImageBound image s.cell s.data_id d bound
+bound_moves image r s d bound same kept =
+    subst (λ place. ImageBound image place s.data_id d bound) (sym same.cell) (subst (λ id. ImageBound image r.cell id d bound) (sym same.data_id) kept)
+
+bound_back : (image : List ℕ) (r s : RathonsiRoute) (d : Direction) (bound : ℕ) → SameRoute r s → ImageBound image s.cell s.data_id d bound → ImageBound image r.cell r.data_id d bound
+bound_back image r s d bound same kept =
+    subst (λ place. ImageBound image place r.data_id d bound) same.cell (subst (λ id. ImageBound image s.cell id d bound) same.data_id kept)
+
+-- another struct of the route, whose counter is at most the bound
+refilled : (image : List ℕ) (plan : Plan) (r s : RathonsiRoute) (d : Direction) → SameRoute r s → InRanges s d → (h : Holds image plan r) → s.counter ≤ h.bound → Holds image plan s
+refilled image plan r s d same ranges h below =
+    let e : d ≡ h.direction = same_direction d h.direction (sym ranges.direction_is ∙ (same.direction ∙ h.ranges.direction_is)) in
+    record {
+      direction = h.direction;
+      ranges = subst (λ (q : Direction). InRanges s q) e ranges;
+      bound = h.bound;
+      kept = bound_moves image r s h.direction h.bound same h.kept;
+      below = below;
+      planned = elim h.planned [
+        | inl none ↦ inl none
+        | inr some ↦ elim some [
+          | inl up ↦ inr (inl (record {
+            to = up.to;
+            above = up.above;
+            fits = up.fits;
+            plans = subst (λ place. PlansPut plan image place (bound_cell s.data_id h.direction up.to)) (sym same.cell) (subst (λ id. PlansPut plan image r.cell (bound_cell id h.direction up.to)) (sym same.data_id) up.plans);
+          }))
+          | inr far ↦ inr (inr (record { place = far.place; new = far.new; apart = (λ x. far.apart (x ∙ same.cell)); plans = far.plans }))
+        ]
+      ];
+    }
+
+-- it is opened, filled in anew
+opened_anew : (image : List ℕ) (plan : Plan) (r s : RathonsiRoute) → OpensFilled r image s → Holds image plan r → Goes image plan r s
+opened_anew image plan r s o h =
+    let f = o.filled in
+    let q = o.is_opened in
+    let e : q.direction ≡ h.direction = same_direction q.direction h.direction (sym q.ranges.direction_is ∙ (o.same.direction ∙ h.ranges.direction_is)) in
+    let same : q.bound ≡ h.bound = bound_once image r.cell r.data_id h.direction q.bound h.bound (bound_back image r f h.direction q.bound o.same (subst (λ (d : Direction). ImageBound image f.cell f.data_id d q.bound) e q.kept)) h.kept in
+    subst (λ (t : RathonsiRoute). Goes image plan r t) (sym q.now) (record {
+      holds = refilled image plan r (at_counter f q.bound) q.direction (record { cell = o.same.cell; data_id = o.same.data_id; direction = o.same.direction }) (ranges-counted f q.bound q.direction q.ranges) h (omega arith);
+      later = (let b = h.below in omega arith);
     })
 
 -- ---- all routes
@@ -218,20 +259,41 @@ sound-then n a b s m = record {
 cell_same : (r s : RathonsiRoute) → s ≡ r → s.cell ≡ r.cell
 cell_same r s e = ap (λ (t : RathonsiRoute). t.cell) e
 
-gives : (d : Direction) (n k freshness : ℕ) (a b : Memory) → Sound n a → GivesOut d n k freshness a b → Moves n a b
-gives d n k freshness a b s g = record {
+-- a deed on route k alone
+one_route : (n k : ℕ) (a b : Memory) → Sound n a → ChangesRoute n k a b → Goes a.image a.plan (a.routes k) (b.routes k) → (b.routes k).cell ≡ (a.routes k).cell → Moves n a b
+one_route n k a b s g goes cell = record {
   goes = λ j x. elim (cases_eq j k) [
     | inl here ↦ subst (λ i. Goes b.image b.plan (a.routes i) (b.routes i)) (sym here) (record {
-      holds = holds-same a.image b.image a.plan b.plan (b.routes k) (b.routes k) g.image g.plan refl (advanced d a.image a.plan (a.routes k) (b.routes k) freshness (s.holds k g.which) g.advances);
-      later = (let u = g.advances.above in let c : (b.routes k).counter ≡ freshness = ap (λ (t : RathonsiRoute). t.counter) g.advances.now in omega arith);
+      holds = holds-same a.image b.image a.plan b.plan (b.routes k) (b.routes k) g.image g.plan refl goes.holds;
+      later = goes.later;
     })
     | inr there ↦ goes-same a.image b.image a.plan b.plan (a.routes j) (b.routes j) g.image g.plan (g.others j there) (s.holds j x)
   ];
   cells = λ j x. elim (cases_eq j k) [
-    | inl here ↦ subst (λ i. (b.routes i).cell ≡ (a.routes i).cell) (sym here) (ap (λ (t : RathonsiRoute). t.cell) g.advances.now)
+    | inl here ↦ subst (λ i. (b.routes i).cell ≡ (a.routes i).cell) (sym here) cell
     | inr there ↦ cell_same (a.routes j) (b.routes j) (g.others j there)
   ];
 }
+
+gives : (d : Direction) (n k freshness : ℕ) (a b : Memory) → Sound n a → GivesOut d n k freshness a b → Moves n a b
+gives d n k freshness a b s g = one_route n k a b s g.changes (record {
+  holds = advanced d a.image a.plan (a.routes k) (b.routes k) freshness (s.holds k g.changes.which) g.advances;
+  later = (let u = g.advances.above in let c : (b.routes k).counter ≡ freshness = ap (λ (t : RathonsiRoute). t.counter) g.advances.now in omega arith);
+}) (ap (λ (t : RathonsiRoute). t.cell) g.advances.now)
+
+opened_cell : (r s : RathonsiRoute) (image : List ℕ) → OpensFilled r image s → s.cell ≡ r.cell
+opened_cell r s image o = ap (λ (t : RathonsiRoute). t.cell) o.is_opened.now ∙ o.same.cell
+
+opens_route : (n k : ℕ) (a b : Memory) → Sound n a → OpensRoute n k a b → Moves n a b
+opens_route n k a b s o = one_route n k a b s o.changes (opened_anew a.image a.plan (a.routes k) (b.routes k) o.opened (s.holds k o.changes.which)) (opened_cell (a.routes k) (b.routes k) a.image o.opened)
+
+sets_fields : (n k : ℕ) (a b : Memory) → Sound n a → SetsFields n k a b → Moves n a b
+sets_fields n k a b s p =
+    let h = s.holds k p.changes.which in
+    one_route n k a b s p.changes (record {
+      holds = refilled a.image a.plan (a.routes k) (b.routes k) p.direction p.same p.ranges h (let e = p.counter in let l = h.below in omega arith);
+      later = (let e = p.counter in omega arith);
+    }) p.same.cell
 
 -- a deed that leaves image and routes, and plans
 plans_only : (n : ℕ) (a b : Memory) → b.image ≡ a.image → SameRoutes a b → ((k : ℕ) → k < n → Holds a.image b.plan (a.routes k)) → Moves n a b
@@ -263,13 +325,15 @@ finishes_plan n a b s p = record {
 
 power_back : (n : ℕ) (a b : Memory) → Sound n a → PowerBack n a b → Moves n a b
 power_back n a b s p = record {
-  goes = λ j x. opened_again a.image b.image a.plan b.plan (a.routes j) (b.routes j) p.left p.empty (p.opened j x) (s.holds j x);
-  cells = λ j x. ap (λ (t : RathonsiRoute). t.cell) (p.opened j x).now;
+  goes = λ j x. opened_anew b.image b.plan (a.routes j) (b.routes j) (p.opened j x) (cut_back a.image b.image a.plan b.plan (a.routes j) p.left p.empty (s.holds j x));
+  cells = λ j x. opened_cell (a.routes j) (b.routes j) b.image (p.opened j x);
 }
 
 moves : (n : ℕ) (deed : Deed) (a b : Memory) → Sound n a → DoesDeed n deed a b → Moves n a b
 moves n (sends k freshness) a b s d = gives _ n k freshness a b s d
 moves n (accepts k freshness) a b s d = gives _ n k freshness a b s d
+moves n (opens k) a b s d = opens_route n k a b s d
+moves n (sets k) a b s d = sets_fields n k a b s d
 moves n (reserves k) a b s d = plans_bound n k a b s d
 moves n (loads slot) a b s d = plans_update n slot a b s d
 moves n drops a b s d = drops_plan n a b s d
@@ -309,6 +373,10 @@ rises n k (sends j freshness ∷ deeds) a c x s (b, (d, rest)) =
     given_rises n j k freshness (c.routes k).counter _ deeds a b x s d (rises n k deeds b c x (sound-then n a b s (moves n (sends j freshness) a b s d)) rest)
 rises n k (accepts j freshness ∷ deeds) a c x s (b, (d, rest)) =
     given_rises n j k freshness (c.routes k).counter _ deeds a b x s d (rises n k deeds b c x (sound-then n a b s (moves n (accepts j freshness) a b s d)) rest)
+rises n k (opens j ∷ deeds) a c x s (b, (d, rest)) =
+    let m = moves n (opens j) a b s d in rises_from _ _ _ (given_out k deeds) (m.goes k x).later (rises n k deeds b c x (sound-then n a b s m) rest)
+rises n k (sets j ∷ deeds) a c x s (b, (d, rest)) =
+    let m = moves n (sets j) a b s d in rises_from _ _ _ (given_out k deeds) (m.goes k x).later (rises n k deeds b c x (sound-then n a b s m) rest)
 rises n k (reserves j ∷ deeds) a c x s (b, (d, rest)) =
     let m = moves n (reserves j) a b s d in rises_from _ _ _ (given_out k deeds) (m.goes k x).later (rises n k deeds b c x (sound-then n a b s m) rest)
 rises n k (loads slot ∷ deeds) a c x s (b, (d, rest)) =
@@ -320,20 +388,23 @@ rises n k (finishes ∷ deeds) a c x s (b, (d, rest)) =
 rises n k (powers_up ∷ deeds) a c x s (b, (d, rest)) =
     let m = moves n powers_up a b s d in rises_from _ _ _ (given_out k deeds) (m.goes k x).later (rises n k deeds b c x (sound-then n a b s m) rest)
 
+-- a route that was opened for the first time, where nothing is planned
+holds_opened : (image : List ℕ) (plan : Plan) (f r : RathonsiRoute) → IsEmptyPlan plan → Opens f image r → Holds image plan r
+holds_opened image plan f r empty o =
+    subst (λ (t : RathonsiRoute). Holds image plan t) (sym o.now) (record {
+      direction = o.direction;
+      ranges = ranges-counted f o.bound o.direction o.ranges;
+      bound = o.bound;
+      kept = o.kept;
+      below = omega arith;
+      planned = inl empty;
+    })
+
 -- a caller that was powered up
 pub first_sound : (n : ℕ) (a : Memory) → PoweredUp n a → Sound n a
 first_sound n a p = record {
   apart = p.apart.cells;
-  holds = λ k x.
-      let o = p.opened k x in
-      record {
-        direction = o.direction;
-        ranges = o.ranges;
-        bound = o.bound;
-        kept = o.kept;
-        below = (let e : (a.routes k).counter ≡ o.bound = ap (λ (t : RathonsiRoute). t.counter) o.now in omega arith);
-        planned = inl p.empty;
-      };
+  holds = λ k x. let o = p.opened k x in holds_opened a.image a.plan o.0 (a.routes k) p.empty o.1;
 }
 
 pub rises_over_lives : (n : ℕ) (deeds : List Deed) (a c : Memory) → PoweredUp n a → Lives n deeds a c → (k : ℕ) → k < n → RisesTo (a.routes k).counter (given_out k deeds) (c.routes k).counter

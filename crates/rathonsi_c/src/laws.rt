@@ -1,12 +1,25 @@
 //! What all lives of a caller say: the contract of each function is the law, and its body is empty.
-ghost use Rattle.std.specs.Prelude.{◌≡◌, ◌<◌, ℕ, List};
+ghost use Rattle.std.specs.Prelude.{◌≡◌, ◌-◌, ◌<◌, ◌≤◌, ◌⊎◌, ◌++◌, ℕ, Bool, false, Some, List, [], length, take, get_or};
+ghost use Rattle.cell_store.specs.declared.kinds.Version.TheVariants.{One};
+ghost use Rattle.cell_store.specs.Layout.{twin_layout};
+ghost use Rattle.cell_store.specs.Store.{Stands};
+ghost use Rattle.cell_store.specs.Twin.{twin_size, cell_at};
+ghost use Rattle.memory_update.specs.Loading.{slot_of};
 ghost use Rattle.memory_update.specs.declared.messages.Reply.{Reply};
-ghost use Rattle.store_plan.specs.Plans.{CutWithin};
+ghost use Rattle.store_plan.specs.declared.planning.Plan.{Plan};
+ghost use Rattle.store_plan.specs.Plans.{CutWithin, IsEmptyPlan};
+ghost use Rattle.rathonsi_c.specs.Images.{ImageSlot};
+ghost use Rattle.rathonsi_c.specs.Routes.{Reserves, ReceiveAnswers};
 ghost use Rattle.rathonsi_c.specs.Slots.{ConfirmsSlot};
-ghost use Rattle.rathonsi_c.specs.Lives.{Memory, Deed, PoweredUp, Lives, RisesTo, given_out, CounterCovered, NoUpdatePlanned, NoLoad, SlotFilled};
+ghost use Rattle.rathonsi_c.specs.Stores.{IsWhole};
+ghost use Rattle.rathonsi_c.specs.Lives.{Memory, Deed, PoweredUp, Lives, PlanDone, RisesTo, given_out, CounterCovered};
+ghost use Rattle.rathonsi_c.specs.Lives.{NoUpdatePlanned, PlannedAs, NoneBegun, planned_after, UpdateDone, SlotFilled};
+ghost use Rattle.rathonsi_c.specs.declared.TheConstants.{OK, RESERVE};
+ghost use Rattle.rathonsi_c.specs.declared.route.RathonsiRoute.{RathonsiRoute};
+ghost use Rattle.rathonsi_c.specs.declared.secoc.RathonsiVerdict.{RathonsiVerdict};
 
 /// Whatever a caller that keeps its duties does with a store of several routes and slots, and whenever the power goes, the freshness
-/// that a route sends, or accepts, strictly rises. It stays at most the counter, and whatever the power leaves keeps a bound that
+/// that a route sends, or accepts, strictly rises, over all its lives: with another key, window, reserve or boot, too. It stays at most the counter, and whatever the power leaves keeps a bound that
 /// covers the counter. No two routes have one Data ID and direction, so that a route is a Data ID in one direction.
 pub fn freshness_rises_over_all_lives()
     ensures rises { (n : ℕ) (deeds : List Deed) (first last : Memory) → PoweredUp n first → Lives n deeds first last
@@ -16,14 +29,58 @@ pub fn freshness_rises_over_all_lives()
         → CounterCovered (last.routes k) image }
 {}
 
-/// An update that `rathonsi_slot_confirm` confirmed is confirmed by the same reply of whatever the image holds, and the power leaves,
-/// until another update of the slot is planned.
+/// An update that `rathonsi_slot_confirm` confirmed stays in its slot, with its key, its counter and its flags, and the same reply
+/// confirms it, until another update of the slot is done or was begun: one that was planned and dropped changes nothing. Where one is
+/// planned now, whatever the power leaves holds the one or the other. All this also where another one of the slot was `planned` when
+/// it was confirmed. And no filled slot becomes empty.
 pub fn keys_are_kept_over_all_lives()
-    ensures kept { (n : ℕ) (deeds : List Deed) (first last : Memory) (uid m1 : List ℕ) (reply : Reply)
-        → (c : ConfirmsSlot uid m1 first.image reply) → NoUpdatePlanned c.update.id first → NoLoad c.update.id deeds
-        → Lives n deeds first last → (image : List ℕ) → CutWithin last.plan last.image image
-        → ConfirmsSlot uid m1 last.image reply × ConfirmsSlot uid m1 image reply }
+    ensures kept { (n : ℕ) (deeds : List Deed) (first last : Memory) (uid m1 : List ℕ) (reply : Reply) (planned : Bool)
+        → (c : ConfirmsSlot uid m1 first.image reply) → (planned ≡ false → NoUpdatePlanned c.update.id first)
+        → NoneBegun c.update.id planned deeds → Lives n deeds first last
+        → ImageSlot last.image c.update.id (slot_of c.update) × ConfirmsSlot uid m1 last.image reply }
+    ensures cut { (n : ℕ) (deeds : List Deed) (first last : Memory) (uid m1 : List ℕ) (reply : Reply) (planned : Bool)
+        → (c : ConfirmsSlot uid m1 first.image reply) → (planned ≡ false → NoUpdatePlanned c.update.id first)
+        → NoneBegun c.update.id planned deeds → Lives n deeds first last
+        → planned_after c.update.id planned deeds ≡ false → (image : List ℕ) → CutWithin last.plan last.image image
+        → ImageSlot image c.update.id (slot_of c.update) × ConfirmsSlot uid m1 image reply }
+    ensures either { (n : ℕ) (deeds : List Deed) (first last : Memory) (uid m1 : List ℕ) (reply : Reply) (planned : Bool)
+        → (c : ConfirmsSlot uid m1 first.image reply) → PlannedAs c.update.id planned first
+        → NoneBegun c.update.id planned deeds → Lives n deeds first last
+        → (image : List ℕ) → CutWithin last.plan last.image image
+        → ImageSlot image c.update.id (slot_of c.update) ⊎ UpdateDone c.update.id last image }
     ensures filled { (n : ℕ) (deeds : List Deed) (first last : Memory) (slot : ℕ) → PoweredUp n first → slot < 14
         → SlotFilled first.image slot → Lives n deeds first last → (image : List ℕ) → CutWithin last.plan last.image image
         → SlotFilled last.image slot × SlotFilled image slot }
+{}
+
+/// An image that `rathonsi_store_check` answers OK of stays one, whatever a caller that keeps its duties does, and so is whatever the
+/// power leaves.
+pub fn a_store_stays_whole_over_all_lives()
+    ensures { (n : ℕ) (deeds : List Deed) (first last : Memory) → IsEmptyPlan first.plan → IsWhole first.image
+        → Lives n deeds first last → (image : List ℕ) → CutWithin last.plan last.image image
+        → IsWhole last.image × IsWhole image }
+{}
+
+/// Where `rathonsi_route_receive` answers RESERVE, and the freshness that it tells is reserved and the plan done, the same call on the
+/// same PDU accepts it.
+pub fn a_reserved_pdu_is_accepted()
+    ensures { (r : RathonsiRoute) (image next pdu : List ℕ) (first second : RathonsiVerdict) (old plan done : Plan)
+        → ReceiveAnswers r image pdu first → first.status ≡ RESERVE → Reserves r image first.freshness old plan
+        → PlanDone image plan next done → ReceiveAnswers r next pdu second
+        → second ≡ record { status = OK; payload_length = length pdu - 4; freshness = first.freshness } }
+{}
+
+/// The front of a store over a disk, which a node or the key tool left in version 1, is an image of which `rathonsi_store_check` answers
+/// OK, where the store has fourteen to 270 cells; and it has the cells of the store.
+pub fn a_store_over_a_disk_is_an_image()
+    ensures { (x : List ℕ) (cells : List (List ℕ)) → Stands (twin_layout One) x cells
+        → 14 ≤ length cells → length cells ≤ 270 → IsWhole (take (twin_size (length cells)) x)
+        × ((i : ℕ) → i < length cells → cell_at (take (twin_size (length cells)) x) i ≡ Some (get_or cells i [])) }
+{}
+
+/// The other way round: a disk whose first bytes are such an image is a store of as many cells, which it has.
+pub fn an_image_is_a_store_over_a_disk()
+    ensures { (image rest : List ℕ) → IsWhole image → (cells : List (List ℕ))
+        × (Stands (twin_layout One) (image ++ rest) cells
+        × ((i : ℕ) → i < length cells → cell_at image i ≡ Some (get_or cells i []))) }
 {}

@@ -87,8 +87,3 @@ pub const KEY_WRITE_PROTECTED: i32 = 15;
 
 /// The request's MAC, identifier or counter is refused.
 pub const KEY_UPDATE_ERROR: i32 = 16;
-
-#[cfg(test)]
-mod store_tests;
-#[cfg(test)]
-mod tests;

@@ -22,7 +22,7 @@ use secured_pdu::{Judgement, build, judge, split};
 use she_aes::{Block, expand};
 use store_plan::{Plan, cell_in, is_empty, plan_put};
 
-/// A Data ID in one direction. The caller fills in all but the counter, once; `rathonsi_route_open` sets the counter.
+/// A Data ID in one direction. The caller fills in all but the counter; `rathonsi_route_open` sets it.
 #[derive(Clone, Copy)]
 #[repr(C)]
 pub struct RathonsiRoute {
@@ -32,7 +32,7 @@ pub struct RathonsiRoute {
     pub data_id: u16,
     /// The cell of its bound, from 14 on.
     pub cell: u16,
-    /// How far a reserve moves the bound, 1 to 128: the most that a power cut makes a sender skip.
+    /// How far a reserve moves the bound, 1 to 128. A power cut makes a sender skip what is reserved and not sent.
     pub reserve: u16,
     /// How far above its counter it accepts freshness, 1 to 256.
     pub window: u16,

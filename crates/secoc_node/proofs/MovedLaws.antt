@@ -91,7 +91,9 @@ module _ (old : NodeState) (k id : ℕ) (direction : Direction) (up : old.node.u
   served_moved (Some bound) store v puts = record {
     layout = puts.layout;
     runs = puts.runs;
-    fits = λ fitting. fits_put old _ (14 + k) (bound_cell id direction bound) fitting up none keeps puts (keeps_moved (Some bound) store v puts);
+    fits = λ fitting.
+        fits_put old (record { node = with_counter (Some (bound_to k bound)) k v old.node; store = store }) (14 + k) (bound_cell id direction bound) fitting up none keeps puts
+        (keeps_moved (Some bound) store v puts);
   }
 
   pub served_failed : (bound : ℕ) (store : CellsState) → FailsChange (14 + k) id direction (Some bound) old.store store

@@ -1,19 +1,23 @@
--- When a state of a disk fits a node (own)
-use Rattle.std.specs.Prelude.{◌≡◌, ◌⊎◌, true, ℕ, Some, List}
+-- When a state of a disk fits a node (own): its store is to keep the cells of what the node keeps
+use Rattle.std.specs.Prelude.{ℕ, List, option_map}
 use Rattle.cut_disk.specs.State.{Told}
-use Rattle.cut_disk.specs.Images.{Image, firm}
 use Rattle.cell_store.specs.declared.kinds.Layout.{Layout}
-use Rattle.cell_store.specs.Store.{Stands}
-use Rattle.bus_machine.specs.Node.{Node, Change, changed}
+use Rattle.store_runs.specs.Keeping.{Keeping, StandsForKept, Fits}
+use Rattle.bus_machine.specs.Node.{Node, changed}
 use Rattle.secoc_node.specs.Cells.{CellsOf}
 
--- the bytes stand for the cells of what the node keeps, or, where a change is pending, for those with the change made
+-- the cells of what the node keeps, and where a change is pending those with the change made
+abbrev pub node_keeping : Node → Keeping
+node_keeping node = record {
+  cells = CellsOf node.config node.kept;
+  pending = option_map (λ change. CellsOf node.config (changed change node.kept)) node.pending;
+  up = node.up;
+}
+
+-- the bytes stand for one of these
 abbrev pub StandsForNode : Layout → Node → List ℕ → Type 0
-StandsForNode layout node x =
-    Stands layout x (CellsOf node.config node.kept)
-    ⊎ ((change : Change) × (node.pending ≡ Some change) × Stands layout x (CellsOf node.config (changed change node.kept)))
+StandsForNode layout node x = StandsForKept layout (node_keeping node) x
 
 -- whatever a power cut may leave stands for the node, and while the node is up no byte is loose
-pub record Fits (layout : Layout) (node : Node) (told : Told) : Type 0 where
-  pub images : (x : List ℕ) → Image told x → StandsForNode layout node x
-  pub firm_up : node.up ≡ true → told ≡ firm told.bytes
+abbrev pub FitsNode : Layout → Node → Told → Type 0
+FitsNode layout node told = Fits layout (node_keeping node) told

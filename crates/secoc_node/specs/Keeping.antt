@@ -12,6 +12,8 @@ use Rattle.bus_machine.specs.Node.{Node, Kept, Change, slot_to, bound_to, place_
 use Rattle.bus_machine.specs.Sound.{Sound}
 use Rattle.secoc_node.specs.Cells.{CellsOf, route_in}
 use Rattle.secoc_node.specs.Counters.{freshness_in, bound_in, CountRoutes, BeginRoutes}
+use Rattle.store_runs.specs.Keeping.{HoldsKept}
+use Rattle.secoc_node.specs.Fits.{node_keeping}
 use Rattle.secoc_node.specs.State.{NodeState}
 use Rattle.secoc_node.specs.declared.counters.RouteCounter.{RouteCounter}
 use Rattle.secoc_node.specs.declared.known.Known.{Known}
@@ -42,9 +44,8 @@ abbrev pub state_in : Known → CellsState → NodeState
 state_in known store = record { node = node_in known; store = store }
 
 -- the store isn't broken, and has the cells of what the node keeps
-pub record KeepsNode (node : Node) (store : CellsState) : Type 0 where
-  pub whole : store.broken ≡ false
-  pub cells : store.cells ≡ CellsOf node.config node.kept
+abbrev pub KeepsNode : Node → CellsState → Type 0
+KeepsNode node store = HoldsKept (node_keeping node) store
 
 -- the node is sound, its engine is its own, each route has its counter, and while it is up its store has the cells of what it keeps
 pub record IsNode (known : Known) (store : CellsState) : Type 0 where

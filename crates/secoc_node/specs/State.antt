@@ -1,11 +1,11 @@
 -- What a node means to a proof: the node of the machine, and the store in which it keeps what outlasts a power cut
-use Rattle.std.specs.Prelude.{◌≡◌, ℕ, ◌+◌, ◌≤◌, Some}
-use Rattle.cut_disk.specs.State.{Told}
+use Rattle.std.specs.Prelude.{ℕ, ◌+◌, ◌≤◌}
 use Rattle.cell_store.specs.Cells.{CellsState}
 use Rattle.freshness_routes.specs.declared.routes.Direction.{Direction}
 use Rattle.freshness_manager.specs.Counters.{KeepsBound}
 use Rattle.bus_machine.specs.Node.{Node, place_of}
-use Rattle.secoc_node.specs.Fits.{Fits}
+use Rattle.store_runs.specs.Keeping.{FitsStore, TellsKept}
+use Rattle.secoc_node.specs.Fits.{node_keeping}
 
 pub record NodeState : Type 0 where
   pub node : Node
@@ -13,13 +13,11 @@ pub record NodeState : Type 0 where
 
 -- where the disk tells its bytes, they fit the node
 abbrev pub FitsNow : NodeState → Type 0
-FitsNow s = (told : Told) → s.store.disk.told ≡ Some told → Fits s.store.layout s.node told
+FitsNow s = FitsStore (node_keeping s.node) s.store
 
 -- the disk tells its bytes, and they fit the node
-pub record TellsFitting (s : NodeState) : Type 0 where
-  pub now : Told
-  pub told : s.store.disk.told ≡ Some now
-  pub fits : Fits s.store.layout s.node now
+abbrev pub TellsFitting : NodeState → Type 0
+TellsFitting s = TellsKept (node_keeping s.node) s.store
 
 -- the bound in the cell of the route with this Data ID and direction is at least this freshness
 pub record IsCovered (s : NodeState) (id : ℕ) (direction : Direction) (freshness : ℕ) : Type 0 where

@@ -6,7 +6,7 @@ ghost use Rattle.cell_store.specs.Store.{Stands};
 ghost use Rattle.freshness_routes.specs.Config.{Config, IsConfig};
 ghost use Rattle.bus_machine.specs.Node.{Kept, powered};
 ghost use Rattle.secoc_node.specs.Cells.{CellsOf, IsKept};
-ghost use Rattle.secoc_node.specs.Fits.{Fits};
+ghost use Rattle.secoc_node.specs.Fits.{FitsNode};
 
 /// For one configuration the cells of a node tell what it keeps.
 pub fn cells_tell_what_is_kept()
@@ -17,5 +17,5 @@ pub fn cells_tell_what_is_kept()
 /// A disk without a loose byte that stands for what a node keeps fits the node that powers up with it.
 pub fn a_settled_disk_fits_its_node()
     ensures { (layout : Layout) (config : Config) (kept : Kept) (bytes : List ℕ) → Stands layout bytes (CellsOf config kept)
-        → Fits layout (powered config kept) (firm bytes) }
+        → FitsNode layout (powered config kept) (firm bytes) }
 {}

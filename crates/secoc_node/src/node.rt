@@ -96,6 +96,7 @@ impl<C: Cells> Node<C> {
         ensures layout { self.new.store.layout ≡ self.old.store.layout }
         ensures runs { Runs [] 6 self.old.store.disk self.new.store.disk }
         ensures fits { FitsNow self.old → FitsNow self.new }
+        ensures sound { Sound self.new.node }
     {
         if !self.known.up {
             return Err(NodeFault::Down);
@@ -142,6 +143,7 @@ impl<C: Cells> Node<C> {
         ensures layout { self.new.store.layout ≡ self.old.store.layout }
         ensures runs { Runs [] 6 self.old.store.disk self.new.store.disk }
         ensures fits { FitsNow self.old → FitsNow self.new }
+        ensures sound { Sound self.new.node }
     {
         if !self.known.up {
             return Err(NodeFault::Down);
@@ -175,6 +177,7 @@ impl<C: Cells> Node<C> {
         ensures layout { self.new.store.layout ≡ self.old.store.layout }
         ensures runs { Runs [] 6 self.old.store.disk self.new.store.disk }
         ensures fits { FitsNow self.old → FitsNow self.new }
+        ensures sound { Sound self.new.node }
     {
         if !self.known.up {
             return Err(NodeFault::Down);
@@ -195,6 +198,7 @@ impl<C: Cells> Node<C> {
         ensures store { self.new.store ≡ self.old.store }
         ensures down { IsErrOf result NodeFault.Down ↔ self.old.node.up ≡ false }
         ensures fits { FitsNow self.old → FitsNow self.new }
+        ensures sound { Sound self.new.node }
     {
         if !self.known.up {
             return Err(NodeFault::Down);
@@ -255,6 +259,7 @@ impl<C: CutCells> Node<C> {
             self.new.store.disk }
         ensures grows { OnOk result (Grows self.old.store.disk self.new.store.disk) }
         ensures fits { FitsNow self.old → FitsNow self.new }
+        ensures sound { Sound self.new.node }
     {
         self.known.up = false;
         if let Err(fault) = self.cells.power_cut(torn) {
@@ -276,6 +281,7 @@ impl<C: CutCells> Node<C> {
         ensures layout { self.new.store.layout ≡ self.old.store.layout }
         ensures runs { Runs (Stop calls ∷ []) 1 self.old.store.disk self.new.store.disk }
         ensures fits { FitsNow self.old → FitsNow self.new }
+        ensures sound { Sound self.new.node }
     {
         self.cells.stop_at(calls);
     }
@@ -293,6 +299,7 @@ impl<C: CutCells> Node<C> {
         ensures layout { self.new.store.layout ≡ self.old.store.layout }
         ensures runs { Runs (Fail calls ∷ []) 1 self.old.store.disk self.new.store.disk }
         ensures fits { FitsNow self.old → FitsNow self.new }
+        ensures sound { Sound self.new.node }
     {
         self.cells.fail_at(calls);
     }

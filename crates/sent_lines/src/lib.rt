@@ -4,7 +4,5 @@
 
 mod history;
 mod records;
-#[cfg(test)]
-mod tests;
 
 pub use history::{Frame, History};

@@ -12,15 +12,15 @@ use Rattle.cell_store.specs.Twin.{is_live, cell_at}
 use Rattle.cell_store.specs.Copies.{other, copy}
 use Rattle.cell_store.specs.Store.{Stands}
 use Rattle.cell_store.specs.Writing.{LeavesOutside, ClosesGate, LeavesUnfinished, Unfinished}
-use Rattle.cell_store.proofs.LayoutLaws.{SameOutside-refl, SameOutside-splice, SameOutside-widen}
-use Rattle.cell_store.proofs.CopiesLaws.{cell_at-kept, cell_at-others, cell_at-unfinished}
+use Rattle.cell_store.proofs.LayoutLaws.{part-same, SameOutside-refl, SameOutside-splice, SameOutside-widen}
+use Rattle.cell_store.proofs.CopiesLaws.{side_bounds, cell_at-kept, cell_at-others, cell_at-unfinished}
 use Rattle.cell_store.proofs.GateLaws.{closing, filling, opening}
 use Rattle.cell_store.proofs.WritingLaws.{torn-outside}
 use Rattle.store_plan.specs.declared.planning.Write.{Write}
 use Rattle.store_plan.specs.declared.planning.Plan.{Plan}
 use Rattle.store_plan.specs.Plans.{WritesAt, PlansPut, CutWithin, in_first, in_second, in_third, IsEmptyPlan, applied, applied_write, bytes_written}
 use Rattle.store_plan.specs.Performing.{WriteDone, WriteTorn}
-use Rattle.store_plan.proofs.GatedLaws.{splice-at, splice-empty, new_at, behind, long, inside, counted, keeps, unfinished-stands}
+use Rattle.store_plan.proofs.GatedLaws.{no_bytes, splice-at, splice-empty, new_at, behind, long, inside, counted, keeps, unfinished-stands}
 use Rattle.store_plan.proofs.LeavesLaws.{gate-closed}
 
 -- a write over firm bytes
@@ -79,7 +79,7 @@ module _ (plan : Plan) (x y : List ℕ) (i : ℕ) (c : List ℕ) (p : PlansPut p
   cut-unfinished cut = elim cut [
     | in_first s ↦ elim (cases_Bool live) [
       | inl on ↦ read-firm 33 at (167 ∷ rest) x y (closing 33 at (167 ∷ rest) _ _ (λ t told. gate t told ∙ on) (outside-firm at 1 x y (at-place plan.first at (0 ∷ []) x y (p.gated.closes on) s)))
-      | inr off ↦ nothing (same-all plan.first.offset x y (subst (λ n. SameOutside plan.first.offset n x y) (p.gated.closed off) s))
+      | inr off ↦ nothing (same-all plan.first.offset x y (subst (λ n. SameOutside plan.first.offset n x y) (no_bytes plan.first (p.gated.closed off)) s))
     ]
     | in_second s ↦ read-firm 33 at (167 ∷ rest) x y (filling 33 at (167 ∷ rest) _ _ _ closed
         (outside-firm (at + 1) 33 (applied_write plan.first x) y (subst (λ n. SameOutside (at + 1) n (applied_write plan.first x) y) many (at-place plan.second (at + 1) rest (applied_write plan.first x) y p.gated.fills s))))
@@ -100,6 +100,12 @@ module _ (plan : Plan) (x y : List ℕ) (i : ℕ) (c : List ℕ) (p : PlansPut p
   pub cut-others : CutWithin plan x y → (j : ℕ) → j ≢ i → cell_at y j ≡ cell_at x j
   cut-others cut j ne = cell_at-others x y i (counted plan x i c p) (cut-unfinished cut).same j ne
 
+  -- the header is as it was
+  pub cut-head : CutWithin plan x y → part 0 32 y ≡ part 0 32 x
+  cut-head cut =
+      let b = side_bounds i (other p.side) in
+      part-same 0 32 at 34 x y (cut-unfinished cut).same (inl (omega arith))
+
   -- the image is as long
   pub cut-length : CutWithin plan x y → length y ≡ length x
   cut-length cut = (cut-unfinished cut).same.lengths
@@ -118,17 +124,20 @@ applied-none plan x none =
     splice-empty plan.third (applied_write plan.second (applied_write plan.first x)) none.third ∙ (splice-empty plan.second (applied_write plan.first x) none.second ∙ splice-empty plan.first x none.first)
 
 -- A write over firm bytes, on a disk: one that failed, and one that is done.
-pub torn-cut : (w : Write) (x : List ℕ) (a b : Option Told) → a ≡ Some (firm x) → w.offset + w.size ≤ length x → WriteTorn w a b → EachImage b (SameOutside w.offset w.size x)
+pub torn-cut : (w : Write) (x : List ℕ) (a b : Option Told) → a ≡ Some (firm x) → (0 < w.size → w.offset + w.size ≤ length x) → WriteTorn w a b → EachImage b (SameOutside w.offset w.size x)
 torn-cut w x a b was fits torn =
-    torn-outside w.offset w.size a b (λ t h. let e : length x ≡ length t.bytes = ap (λ (u : Told). length u.bytes) (same_Some _ _ (sym was ∙ h)) in omega arith) torn.torn x was
+    torn-outside w.offset w.size a b (λ t h. let f = fits torn.some in let e : length x ≡ length t.bytes = ap (λ (u : Told). length u.bytes) (same_Some _ _ (sym was ∙ h)) in omega arith) torn.torn x was
 
-pub done-cut : (w : Write) (x : List ℕ) (b : Option Told) → w.offset + w.size ≤ length x → b ≡ Some (firm (applied_write w x)) → EachImage b (SameOutside w.offset w.size x)
+pub done-cut : (w : Write) (x : List ℕ) (b : Option Told) → (0 < w.size → w.offset + w.size ≤ length x) → b ≡ Some (firm (applied_write w x)) → EachImage b (SameOutside w.offset w.size x)
 done-cut w x b fits is t told y image =
     let te : t ≡ firm (applied_write w x) = same_Some _ _ (sym told ∙ is) in
     let ye : y ≡ applied_write w x = image_of_firm (subst (λ (u : Told). Image u y) te image) in
     let few : length (bytes_written w) ≤ w.size = omega (arith, length-take w.size w.bytes) in
     subst (λ (z : List ℕ). SameOutside w.offset w.size x z) (sym ye)
-    (SameOutside-widen w.offset (length (bytes_written w)) w.offset w.size x (applied_write w x) (omega arith) (omega arith) (SameOutside-splice w.offset (bytes_written w) x (omega arith)))
+    (elim (cases_lt 0 w.size) [
+      | inl some ↦ (let f = fits some in SameOutside-widen w.offset (length (bytes_written w)) w.offset w.size x (applied_write w x) (omega arith) (omega arith) (SameOutside-splice w.offset (bytes_written w) x (omega arith)))
+      | inr none ↦ subst (λ (z : List ℕ). SameOutside w.offset w.size x z) (sym (splice-empty w x (omega arith))) (SameOutside-refl w.offset w.size x)
+    ])
 
 pub still-firm : (w : Write) (x : List ℕ) (a : Option Told) → w.size ≡ 0 → a ≡ Some (firm x) → a ≡ Some (firm (applied_write w x))
 still-firm w x a none was = was ∙ ap (λ (y : List ℕ). Some (firm y)) (sym (splice-empty w x none))

@@ -19,7 +19,7 @@ use Rattle.cell_store.proofs.GateLaws.{splice-gate}
 use Rattle.cell_store.proofs.PutLaws.{put_stands}
 use Rattle.store_plan.specs.declared.planning.Write.{Write}
 use Rattle.store_plan.specs.declared.planning.Plan.{Plan}
-use Rattle.store_plan.specs.Plans.{WritesAt, Gated, PlansPut, bytes_written, applied}
+use Rattle.store_plan.specs.Plans.{WritesAt, Gated, PlansPut, bytes_written, applied, no_write}
 
 -- a write of nothing
 pub splice-none : (at : ℕ) (x : List ℕ) → splice at [] x ≡ x
@@ -40,6 +40,9 @@ splice-at w at new x p = ap (λ n. splice n (bytes_written w) x) p.place ∙ ap 
 pub splice-empty : (w : Write) (x : List ℕ) → w.size ≡ 0 → splice w.offset (bytes_written w) x ≡ x
 splice-empty w x e = ap (λ n. splice w.offset (take n w.bytes) x) e ∙ splice-none w.offset x
 
+pub no_bytes : (w : Write) → w ≡ no_write → w.size ≡ 0
+no_bytes w e = ap (λ (u : Write). u.size) e
+
 -- n bytes behind a gate, in three steps
 gated-applied : (plan : Plan) (at : ℕ) (live : Bool) (rest x : List ℕ) → Gated plan at live rest → at + suc (length rest) ≤ length x → applied plan x ≡ splice at (167 ∷ rest) x
 gated-applied plan at live rest x gated inside =
@@ -52,7 +55,7 @@ gated-applied plan at live rest x gated inside =
       same : SameOutside at 1 x (splice plan.first.offset (bytes_written plan.first) x)
       same = elim (cases_Bool live) [
         | inl opened ↦ subst (λ (z : List ℕ). SameOutside at 1 x z) (sym (splice-at plan.first at (0 ∷ []) x (gated.closes opened))) (SameOutside-splice at (0 ∷ []) x (omega arith))
-        | inr closed ↦ subst (λ (z : List ℕ). SameOutside at 1 x z) (sym (splice-empty plan.first x (gated.closed closed))) (SameOutside-refl at 1 x)
+        | inr closed ↦ subst (λ (z : List ℕ). SameOutside at 1 x z) (sym (splice-empty plan.first x (no_bytes plan.first (gated.closed closed)))) (SameOutside-refl at 1 x)
       ]
 
 module _ (plan : Plan) (x : List ℕ) (i : ℕ) (c : List ℕ) (p : PlansPut plan x i c) where
@@ -98,6 +101,11 @@ module _ (plan : Plan) (x : List ℕ) (i : ℕ) (c : List ℕ) (p : PlansPut pla
 
   pub applied-others : (j : ℕ) → j ≢ i → cell_at (applied plan x) j ≡ cell_at x j
   applied-others j ne = cell_at-others x (applied plan x) i counted (SameOutside-put x (applied plan x) i p.side c p.sized p.room done) j ne
+
+  pub applied-head : part 0 32 (applied plan x) ≡ part 0 32 x
+  applied-head =
+      let b = side_bounds i (other p.side) in
+      part-same 0 32 new_at 34 x (applied plan x) (SameOutside-put x (applied plan x) i p.side c p.sized p.room done) (inl (omega arith))
 
   pub applied-length : length (applied plan x) ≡ length x
   applied-length = (SameOutside-put x (applied plan x) i p.side c p.sized p.room done).lengths

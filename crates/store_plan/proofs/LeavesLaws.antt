@@ -22,7 +22,7 @@ use Rattle.store_plan.specs.declared.planning.Write.{Write}
 use Rattle.store_plan.specs.declared.planning.Plan.{Plan}
 use Rattle.store_plan.specs.Plans.{WritesAt, Gated, PlansPut}
 use Rattle.store_plan.specs.Performing.{WriteDone, WriteTorn, Serves, store_on}
-use Rattle.store_plan.proofs.GatedLaws.{new_at, behind, long, inside, spliced-put, unfinished-stands}
+use Rattle.store_plan.proofs.GatedLaws.{no_bytes, new_at, behind, long, inside, spliced-put, unfinished-stands}
 
 -- two clauses on one result
 pub on_ok_both : {T E P Q R : Type 0} (r : Result T E) → (P → Q → R) → OnOk r P → OnOk r Q → OnOk r R
@@ -37,7 +37,7 @@ on_err_both (Err e) f p q = f p q
 pub gate-closed : (plan : Plan) (n at : ℕ) (live : Bool) (rest : List ℕ) (a b : Option Told) → Gated plan at live rest → ((t : Told) → a ≡ Some t → at + 1 ≤ length t.bytes) → ((t : Told) → a ≡ Some t → is_live (part at (suc n) t.bytes) ≡ live) → WriteDone plan.first a b → ClosesGate n at a b
 gate-closed plan n at live rest a b gated fits gate done = elim (cases_Bool live) [
   | inl on ↦ closed-write n at a b fits (done.lasts at (0 ∷ []) (omega arith) (gated.closes on))
-  | inr off ↦ subst (λ (o : Option Told). ClosesGate n at a o) (sym (done.none (gated.closed off))) (closed-already n at a (λ t h. gate t h ∙ off))
+  | inr off ↦ subst (λ (o : Option Told). ClosesGate n at a o) (sym (done.none (no_bytes plan.first (gated.closed off)))) (closed-already n at a (λ t h. gate t h ∙ off))
 ]
 
 -- a torn write, at its place
@@ -48,7 +48,7 @@ torn-at w at new a b p t = subst (λ n. Tears at n a b) p.count (subst (λ n. Te
 gate-torn : (plan : Plan) (n at : ℕ) (live : Bool) (rest new : List ℕ) (a b : Option Told) → Gated plan at live rest → ((t : Told) → a ≡ Some t → at + 1 ≤ length t.bytes) → ((t : Told) → a ≡ Some t → is_live (part at (suc n) t.bytes) ≡ live) → WriteTorn plan.first a b → LeavesUnfinished n at new a b
 gate-torn plan n at live rest new a b gated fits gate torn = elim (cases_Bool live) [
   | inl on ↦ closing n at new a b (λ t h. gate t h ∙ on) (torn-outside at 1 a b fits (torn-at plan.first at (0 ∷ []) a b (gated.closes on) torn))
-  | inr off ↦ absurd (let z = gated.closed off in let s = torn.some in omega arith)
+  | inr off ↦ absurd (let z = no_bytes plan.first (gated.closed off) in let s = torn.some in omega arith)
 ]
 
 -- A disk of this size, whose told bytes the plan serves, before and after each of its writes.

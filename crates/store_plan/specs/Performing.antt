@@ -8,7 +8,7 @@ use Rattle.cell_store.specs.Layout.{twin_layout}
 use Rattle.cell_store.specs.Cells.{CellsState}
 use Rattle.store_plan.specs.declared.planning.Write.{Write}
 use Rattle.store_plan.specs.declared.planning.Plan.{Plan}
-use Rattle.store_plan.specs.Plans.{PlansPut, WritesAt, CutWithin, applied_write}
+use Rattle.store_plan.specs.Plans.{PlansPut, WritesAt, CutWithin, applied, applied_write}
 
 -- the write is done, and durable
 pub record WriteDone (w : Write) (old new : Option Told) : Type 0 where
@@ -31,6 +31,10 @@ store_on cells disk broken = record { layout = twin_layout One; cells = cells; d
 -- over bytes of which none is loose a write makes such bytes
 abbrev pub MakesFirm : Write → Option Told → Option Told → Type 0
 MakesFirm w old new = (x : List ℕ) → old ≡ Some (firm x) → new ≡ Some (firm (applied_write w x))
+
+-- the same of the writes of a plan
+abbrev pub DoesPlan : Plan → Option Told → Option Told → Type 0
+DoesPlan plan old new = (x : List ℕ) → old ≡ Some (firm x) → new ≡ Some (firm (applied plan x))
 
 -- where no byte was loose, every image is what the power leaves that goes within the plan
 abbrev pub LeavesPlanCut : Plan → Option Told → Option Told → Type 0

@@ -1,5 +1,5 @@
 -- Plans of a put, and what they make of bytes.
-use Rattle.std.specs.Prelude.{◌≡◌, ℕ, ◌+◌, ◌≤◌, Bool, true, false, List, [], ◌∷◌, length, take, replicate}
+use Rattle.std.specs.Prelude.{◌≡◌, ℕ, ◌+◌, ◌-◌, ◌<◌, ◌≤◌, Bool, true, false, List, [], ◌∷◌, length, take, drop, replicate}
 use Rattle.cut_disk.specs.Images.{splice}
 use Rattle.cell_store.specs.declared.copies.Side.{Side}
 use Rattle.cell_store.specs.Layout.{SameOutside}
@@ -18,10 +18,20 @@ pub record WritesAt (w : Write) (at : ℕ) (new : List ℕ) : Type 0 where
   pub count : w.size ≡ length new
   pub is : bytes_written w ≡ new
 
--- the write stays within n bytes, and within what a plan keeps of it
+abbrev pub no_write : Write
+no_write = record { offset = 0; size = 0; bytes = replicate 40 0 }
+
+abbrev pub no_plan : Plan
+no_plan = record { first = no_write; second = no_write; third = no_write }
+
+-- what stands behind the bytes of a write is zero
+abbrev pub RestIsZero : Write → Type 0
+RestIsZero w = drop w.size w.bytes ≡ replicate (40 - w.size) 0
+
+-- the write stays within n bytes, where it has some, and within what a plan keeps of it
 pub record WriteFits (n : ℕ) (w : Write) : Type 0 where
   pub few : w.size ≤ 40
-  pub inside : w.offset + w.size ≤ n
+  pub inside : 0 < w.size → w.offset + w.size ≤ n
 
 pub record PlanFits (n : ℕ) (plan : Plan) : Type 0 where
   pub first : WriteFits n plan.first
@@ -31,9 +41,14 @@ pub record PlanFits (n : ℕ) (plan : Plan) : Type 0 where
 -- a gate is closed where it is live, these bytes are written behind it, and it is opened
 pub record Gated (plan : Plan) (at : ℕ) (live : Bool) (new : List ℕ) : Type 0 where
   pub closes : live ≡ true → WritesAt plan.first at (0 ∷ [])
-  pub closed : live ≡ false → plan.first.size ≡ 0
+  pub closed : live ≡ false → plan.first ≡ no_write
   pub fills : WritesAt plan.second (at + 1) new
   pub opens : WritesAt plan.third at (167 ∷ [])
+
+pub record RestsAreZero (plan : Plan) : Type 0 where
+  pub first : RestIsZero plan.first
+  pub second : RestIsZero plan.second
+  pub third : RestIsZero plan.third
 
 -- the plan is one of a put of c at cell i, for the bytes x of a twin store of version 1
 pub record PlansPut (plan : Plan) (x : List ℕ) (i : ℕ) (c : List ℕ) : Type 0 where
@@ -42,16 +57,11 @@ pub record PlansPut (plan : Plan) (x : List ℕ) (i : ℕ) (c : List ℕ) : Type
   pub side : Side
   pub counting : counts (copy x i side) (copy x i (other side)) ≡ true
   pub gated : Gated plan (side_at i (other side)) (is_live (copy x i (other side))) (next (mark (copy x i side)) ∷ c)
+  pub rests : RestsAreZero plan
 
 -- what the writes of a plan make of x
 abbrev pub applied : Plan → List ℕ → List ℕ
 applied plan x = splice plan.third.offset (bytes_written plan.third) (splice plan.second.offset (bytes_written plan.second) (splice plan.first.offset (bytes_written plan.first) x))
-
-abbrev pub no_write : Write
-no_write = record { offset = 0; size = 0; bytes = replicate 40 0 }
-
-abbrev pub no_plan : Plan
-no_plan = record { first = no_write; second = no_write; third = no_write }
 
 -- what one write makes of x
 abbrev pub applied_write : Write → List ℕ → List ℕ

@@ -18,6 +18,3 @@ pub use performing::perform;
 pub use planning::{
     Plan, PlanFault, Write, cell_held, cell_in, done, is_empty, is_within, plan_put,
 };
-
-#[cfg(test)]
-mod tests;

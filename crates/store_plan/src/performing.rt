@@ -3,7 +3,7 @@ ghost use Rattle.std.specs.Prelude.{◌≡◌, ℕ, ◌<◌, List, [], length, s
 ghost use Rattle.cut_disk.specs.Calls.{Rose, Runs};
 ghost use Rattle.cell_store.specs.Cells.{Puts, FailsPut};
 ghost use Rattle.store_plan.specs.Plans.{WriteFits, PlanFits};
-ghost use Rattle.store_plan.specs.Performing.{WriteDone, WriteTorn, MakesFirm, LeavesPlanCut, Serves, store_on};
+ghost use Rattle.store_plan.specs.Performing.{WriteDone, WriteTorn, MakesFirm, DoesPlan, LeavesPlanCut, Serves, store_on};
 
 use crate::planning::{Plan, Write};
 use cut_disk::{Disk, DiskFailed, write_and_sync};
@@ -28,14 +28,15 @@ fn do_write<D: Disk>(disk: &mut D, write: &Write) -> Result<(), DiskFailed>
     )
 }
 
-/// Does the writes of a plan in their order, each durable before the next, and none after one that failed. Where the
-/// plan is one of a put for the bytes of the disk, this has the contract of a store's put: after an Ok the disk has
+/// Does the writes of a plan in their order, each durable before the next, and none after one that failed. An Ok says
+/// that all of them are done and durable, where no byte was loose before. Where the plan is one of a put for the bytes of the disk, this has the contract of a store's put: after an Ok the disk has
 /// the new list, and after a failure every image that a power cut may leave stands for the old list or the new one.
 pub fn perform<D: Disk>(disk: &mut D, plan: &Plan) -> Result<(), DiskFailed>
     requires { PlanFits (D.state disk.old).size plan.now }
     ensures runs { Runs [] 6 (D.state disk.old) (D.state disk.new) }
     ensures faults { OnOk result ((D.state disk.new).faults ≡ (D.state disk.old).faults) }
     ensures failed { OnErr result (Rose (D.state disk.old).faults (D.state disk.new).faults) }
+    ensures whole { OnOk result (DoesPlan plan.now (D.state disk.old).told (D.state disk.new).told) }
     ensures cut { LeavesPlanCut plan.now (D.state disk.old).told (D.state disk.new).told }
     ensures puts { OnOk result ((cells : List (List ℕ)) (cell : ℕ) (bytes : List ℕ) → cell < length cells
         → Serves plan.now (D.state disk.old).told cell bytes

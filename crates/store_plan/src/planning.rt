@@ -6,7 +6,7 @@ ghost use Rattle.cell_store.specs.Layout.{twin_layout};
 ghost use Rattle.cell_store.specs.Twin.{twin_size, cell_at};
 ghost use Rattle.cell_store.specs.Copies.{Keeps};
 ghost use Rattle.cell_store.specs.Store.{Stands, Put};
-ghost use Rattle.store_plan.specs.Plans.{WritesAt, WriteFits, PlanFits, PlansPut, IsEmptyPlan, bytes_written, applied, no_plan};
+ghost use Rattle.store_plan.specs.Plans.{WritesAt, WriteFits, PlanFits, PlansPut, IsEmptyPlan, RestIsZero, bytes_written, applied, no_write, no_plan};
 
 use cell_store::{Held, LIVE, copy_place, held_in, marked, next, pair_place};
 
@@ -58,7 +58,8 @@ impl Plan {
 
 fn write_of(offset: u32, bytes: &[u8]) -> Write
     requires { length bytes.now ≤ 40 }
-    ensures { WritesAt result offset bytes.now }
+    ensures writes { WritesAt result offset bytes.now }
+    ensures rest { RestIsZero result }
 {
     let mut all = [0; 40];
     let size = bytes.len();
@@ -140,7 +141,8 @@ fn plan_beside(cell: u16, held: &Held, payload: &[u8; 32]) -> Plan
 // The write that closes a gate, where it is live.
 fn closing(at: u32, live: bool) -> Write
     ensures closes { IsTrue live → WritesAt result at (0 ∷ []) }
-    ensures none { live ≡ false → result.size ≡ 0 }
+    ensures none { live ≡ false → result ≡ no_write }
+    ensures rest { RestIsZero result }
     ensures offset { result.offset ≤ at }
     ensures size { result.size ≤ 1 }
 {
@@ -171,10 +173,11 @@ fn write_is_within(write: &Write, size: usize) -> bool
         size: count,
         ..
     } = *write;
-    count <= 40 && offset as usize + count as usize <= size
+    count <= 40 && (count == 0 || offset as usize + count as usize <= size)
 }
 
-/// Whether each write of the plan stays within so many bytes, and has at most the forty that a plan keeps of it.
+/// Whether each write of the plan that has a byte stays within so many, and has at most the forty that a plan keeps
+/// of it.
 pub fn is_within(plan: &Plan, size: usize) -> bool
     ensures { IsTrue result ↔ PlanFits size plan.now }
 {
@@ -187,6 +190,9 @@ fn apply(image: &mut [u8], write: &Write)
     requires { WriteFits (length image.old) write.now }
     ensures { image.new ≡ splice write.now.offset (bytes_written write.now) image.old }
 {
+    if write.size == 0 {
+        return;
+    }
     let at = write.offset as usize;
     let size = write.size as usize;
     image[at..at + size].copy_from_slice(&write.bytes[..size]);

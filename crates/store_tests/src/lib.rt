@@ -1,8 +1,12 @@
-//! Tests of the stores of cells. There is nothing else here: a crate of tests
+//! Tests of the stores of cells, and of plans of their puts. There is nothing else here: a crate of tests
 //! over several libraries has none of them proved a second time.
 #![tactic(auto)]
 
 #[cfg(test)]
+mod either_stores;
+#[cfg(test)]
 mod log_stores;
+#[cfg(test)]
+mod plans;
 #[cfg(test)]
 mod twin_stores;

@@ -1,6 +1,7 @@
 //! Where lines and words of a text begin and end. Places count its bytes from 0.
 
-ghost use Rattle.std.specs.Prelude.{◌≡◌, ◌⊎◌, ◌+◌, ◌-◌, ◌<◌, ◌≤◌, ◌^◌, ◌++◌, ◌∷◌, [], true, false, length, take, drop, map, slice_index, IfOk, OnOk};
+ghost use Rattle.std.specs.Prelude.{◌≡◌, ◌⊎◌, ◌+◌, ◌-◌, ◌<◌, ◌≤◌, ◌^◌, ◌++◌, ◌∷◌, [], true, false, length, take, drop, map, slice_index};
+ghost use Rattle.std.specs.Prelude.{vec_len, vec_capacity, IfOk, OnOk, IsOk};
 ghost use Rattle.std.specs.List.{position_or_len};
 ghost use Rattle.text_lines.specs.Lines.{is_line_feed, ends_word, without_return, is_skipped as skipped};
 ghost use Rattle.text_lines.specs.Places.{placed_words_of};
@@ -69,6 +70,9 @@ fn put_word(spans: &mut Vec<Span>, at: usize, stop: usize) -> Result<(), Memory>
     requires { stop < 2 ^ 32 }
     ensures word { OnOk result (at < stop → spans.new.items ≡ spans.old.items ++ record { at = at; len = stop - at } ∷ []) }
     ensures none { OnOk result (stop ≤ at → spans.new.items ≡ spans.old.items) }
+    ensures few { vec_len spans.new ≤ vec_len spans.old + 1 }
+    ensures room { (stop ≤ at) ⊎ (vec_len spans.old < vec_capacity spans.old) → IsOk result }
+    ensures capacity { vec_capacity spans.old ≤ vec_capacity spans.new }
 {
     if at < stop {
         spans.push(Span {
@@ -80,7 +84,7 @@ fn put_word(spans: &mut Vec<Span>, at: usize, stop: usize) -> Result<(), Memory>
 }
 
 /// The words of the line that begins at `start`, in place of what was in `spans`; the end of the line is given, which is the next line feed
-/// or the end of the text. Without memory nothing is said of `spans`.
+/// or the end of the text. Without memory nothing is said of `spans`; with room for as many places as the text has bytes none is taken.
 pub fn put_line(spans: &mut Vec<Span>, text: &[u8], start: usize) -> Result<usize, Memory>
     requires within { start ≤ length text.now }
     requires short { length text.now < 2 ^ 32 }
@@ -89,6 +93,8 @@ pub fn put_line(spans: &mut Vec<Span>, text: &[u8], start: usize) -> Result<usiz
     ensures within { IfOk result (λ end. end ≤ length text.now) }
     ensures exact { IfOk result (λ end. map (piece_at text.now) spans.new.items ≡ placed_words_of (record { at = start; bytes = take (end - start) (drop start text.now) })) }
     ensures inside { OnOk result (EndWithin (length text.now) spans.new.items) }
+    ensures room { length text.now ≤ vec_capacity spans.old → IsOk result }
+    ensures capacity { vec_capacity spans.old ≤ vec_capacity spans.new }
 {
     spans.clear();
     let mut at = start;

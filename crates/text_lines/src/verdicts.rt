@@ -1,10 +1,11 @@
 //! The printed texts of verdicts, in lower-case digits. Each call adds to a text; without memory nothing is said of the
-//! text.
+//! text. In room that the text has already none is taken.
 
-ghost use Rattle.std.specs.Prelude.{◌≡◌, ◌≤◌, ◌++◌, length, OnOk};
+ghost use Rattle.std.specs.Prelude.{◌≡◌, ◌≤◌, ◌+◌, ◌*◌, ◌++◌, length, OnOk};
 ghost use Rattle.hex.specs.Hex.{encode_lower};
 ghost use Rattle.secured_pdu.specs.Judged.{outcome_of};
 ghost use Rattle.secured_pdu.specs.Verdict.{Accepted};
+ghost use Rattle.text_lines.specs.Room.{AddsAtMost};
 ghost use Rattle.text_lines.specs.Texts.{line, outcome_text, bad_length_text};
 
 use hex::encode_to_slice;
@@ -14,7 +15,8 @@ use std::alloc::AllocError;
 /// Adds the digits of bytes, two a byte.
 #[tactic(auto, using(crate::proofs::Digits::written_behind))]
 pub fn push_digits(text: &mut Vec<u8>, bytes: &[u8]) -> Result<(), AllocError>
-    ensures { OnOk result (text.new.items ≡ text.old.items ++ encode_lower bytes.now) }
+    ensures digits { OnOk result (text.new.items ≡ text.old.items ++ encode_lower bytes.now) }
+    ensures room { AddsAtMost (2 * length bytes.now) text.old text.new result }
 {
     let before = text.len();
     let Some(after) = before.checked_add(2 * bytes.len()) else {
@@ -40,7 +42,9 @@ pub fn push_outcome(
     payload: &[u8],
     judgement: &Judgement,
 ) -> Result<(), AllocError>
-    ensures { OnOk result (text.new.items ≡ text.old.items ++ outcome_text (outcome_of payload.now judgement.now)) }
+    ensures outcome { OnOk result
+        (text.new.items ≡ text.old.items ++ outcome_text (outcome_of payload.now judgement.now)) }
+    ensures room { AddsAtMost (38 + 2 * length payload.now) text.old text.new result }
 {
     match judgement {
         Judgement::Accepted(freshness) => push_accepted(text, payload, *freshness),
@@ -51,7 +55,8 @@ pub fn push_outcome(
 
 // Adds the text of an accepted PDU.
 fn push_accepted(text: &mut Vec<u8>, payload: &[u8], freshness: u64) -> Result<(), AllocError>
-    ensures { OnOk result (text.new.items ≡ text.old.items ++ outcome_text (Accepted payload.now freshness)) }
+    ensures outcome { OnOk result (text.new.items ≡ text.old.items ++ outcome_text (Accepted payload.now freshness)) }
+    ensures room { AddsAtMost (38 + 2 * length payload.now) text.old text.new result }
 {
     text.extend_from_slice(b"VERIFICATIONSUCCESS ")?;
     push_digits(text, &freshness.to_be_bytes())?;
@@ -63,7 +68,8 @@ fn push_accepted(text: &mut Vec<u8>, payload: &[u8], freshness: u64) -> Result<(
 
 /// Adds the text for a PDU of a length that no frame has.
 pub fn push_bad_length(text: &mut Vec<u8>) -> Result<(), AllocError>
-    ensures { OnOk result (text.new.items ≡ text.old.items ++ bad_length_text) }
+    ensures length { OnOk result (text.new.items ≡ text.old.items ++ bad_length_text) }
+    ensures room { AddsAtMost 10 text.old text.new result }
 {
     text.extend_from_slice(b"BadLength\n")
 }

@@ -1,20 +1,21 @@
 -- An audit goes on by one more line.
 use Rattle.std.proofs.Common.{◌≡◌, ℕ, suc, arith, get_or, ◌<◌, ◌≤◌, ◌+◌, Bool, true, false, List, [], ◌∷◌, ◌++◌, length, map, refl, sym, ap, ◌∙◌, subst}
-use Rattle.std.specs.Prelude.{filter, slice_index, not, take, drop, Some}
+use Rattle.std.specs.Prelude.{filter, slice_index, take, drop, Some}
 use Rattle.std.proofs.Math.Seq.{take-append_seam}
 use Rattle.std.specs.List.{flat_map, slice_get}
 use Rattle.std.proofs.lemmas.List.{length-map, length_push, map-append, take_more, flat_map_more}
 use Rattle.std.proofs.lemmas.Option.{slice_get_within}
-use Rattle.secured_pdu.specs.Verdict.{Verdict}
+use Rattle.secured_pdu.specs.Verdict.{Accepted, FreshnessFailure, VerificationFailure, Verdict}
 use Rattle.text_lines.specs.declared.span.Cut.{Cut}
 use Rattle.text_lines.specs.declared.span.Span.{Span}
 use Rattle.text_lines.specs.Lines.{TextLine, lines_of}
 use Rattle.text_lines.specs.Places.{PlacedLine, texts_of, unplaced, placed_lines_of}
 use Rattle.text_lines.specs.Spans.{word_at, piece_at, line_at}
 use Rattle.trace_audit.specs.declared.map_lines.MapLine.{MapLine}
+use Rattle.trace_audit.specs.declared.auditing.Tally.{Tally}
 use Rattle.counting_receiver.specs.Counting.{next_counter, last_accepted}
 use Rattle.counting_receiver.specs.CountingLaws.{last_accepted-more}
-use Rattle.trace_audit.specs.Auditing.{Finding, other, too_short, verdict, finding_text, is_other, others_in, finding_accepts, first_counters, counter_of_place, Mapped, AuditsLine, AuditsEach, none, more}
+use Rattle.trace_audit.specs.Auditing.{Finding, other, too_short, verdict, finding_text, is_other, is_other_tally, tally_of, others_in, finding_accepts, first_counters, counter_of_place, Mapped, AuditsLine, AuditsEach, none, more}
 use Rattle.trace_audit.specs.Findings.{AddsFinding, Audited}
 
 -- the last finding is the last that a counter is taken from
@@ -50,7 +51,7 @@ AuditsLine-same mapping f g l other same h = h
 AuditsLine-same mapping f g l (too_short n p c) same h = h
 AuditsLine-same mapping f g l (verdict n p c outcome) same (m, mapped, number_is, place_is, can_is, long, judged) =
     let inside : p < length mapping = subst (λ k. k < length mapping) (sym place_is) (slice_get_within mapping m.place m.entry mapped.3) in
-    (m, mapped, number_is, place_is, can_is, long, subst (λ k. Verdict m.entry.key m.entry.id k 256 (take (m.entry.size + 4) m.bytes) outcome) (same p inside) judged)
+    (m, mapped, number_is, place_is, can_is, long, subst (λ k. Verdict m.entry.key m.entry.id k m.entry.window (take (m.entry.size + 4) m.bytes) outcome) (same p inside) judged)
 
 -- before the first line
 pub Audited-none : (mapping : List MapLine) (counters text : List ℕ) → counters ≡ first_counters mapping → text ≡ [] → Audited mapping [] counters text 0
@@ -63,11 +64,19 @@ Audited-none mapping counters text counters_are text_is = record {
   counters_are = λ place inside. ap (λ cs. slice_index cs place) counters_are;
 }
 
+-- a line is an other one exactly where it counts as one
+pub other_as : (finding : Finding) → is_other finding ≡ is_other_tally (tally_of finding)
+other_as other = refl
+other_as (too_short n p c) = refl
+other_as (verdict n p c (Accepted payload v)) = refl
+other_as (verdict n p c FreshnessFailure) = refl
+other_as (verdict n p c VerificationFailure) = refl
+
 -- one more line is audited
 module _ (mapping : List MapLine) (lines : List TextLine) (old new : List ℕ) (l : TextLine) (before after : List ℕ) (others : ℕ) where
-  step : (done : Audited mapping lines old before others) (mapped : Bool) (notes : AddsFinding mapping old new l before after mapped) (count : ℕ)
+  step : (done : Audited mapping lines old before others) (counts : Tally) (notes : AddsFinding mapping old new l before after counts) (count : ℕ)
       → count ≡ others_in (done.findings ++ notes.0 ∷ []) → Audited mapping (lines ++ l ∷ []) new after count
-  step done mapped (finding, finds, after_is, mapped_is, same_length, counters) count count_is =
+  step done counts (finding, finds, after_is, counts_as, same_length, counters) count count_is =
       let here : AuditsLine mapping (counter_of_place mapping done.findings) l finding = AuditsLine-same mapping (slice_index old) (counter_of_place mapping done.findings) l finding done.counters_are finds in
       record {
         findings = done.findings ++ finding ∷ [];
@@ -81,25 +90,17 @@ module _ (mapping : List MapLine) (lines : List TextLine) (old new : List ℕ) (
             ∙ sym (counter_more mapping place done.findings finding);
       }
 
-  not_true : (b : Bool) → true ≡ not b → b ≡ false
-  not_true true e = cc
-  not_true false e = refl
-
-  not_false : (b : Bool) → false ≡ not b → b ≡ true
-  not_false true e = refl
-  not_false false e = cc
-
   -- the map has a line for it
-  pub Audited-mapped : (mapped : Bool) (count : ℕ) → mapped ≡ true → count ≡ others → Audited mapping lines old before others
-      → AddsFinding mapping old new l before after mapped → Audited mapping (lines ++ l ∷ []) new after count
-  Audited-mapped mapped count is count_is done notes = step done mapped notes count
-      (count_is ∙ done.others_is ∙ sym (others_same done.findings notes.0 (not_true (is_other notes.0) (sym is ∙ notes.3))))
+  pub Audited-mapped : (counts : Tally) (count : ℕ) → is_other_tally counts ≡ false → count ≡ others → Audited mapping lines old before others
+      → AddsFinding mapping old new l before after counts → Audited mapping (lines ++ l ∷ []) new after count
+  Audited-mapped counts count is count_is done notes = step done counts notes count
+      (count_is ∙ done.others_is ∙ sym (others_same done.findings notes.0 (other_as notes.0 ∙ ap is_other_tally (sym notes.3) ∙ is)))
 
   -- it is one of the others
-  pub Audited-other : (mapped : Bool) (count : ℕ) → mapped ≡ false → count ≡ others + 1 → Audited mapping lines old before others
-      → AddsFinding mapping old new l before after mapped → Audited mapping (lines ++ l ∷ []) new after count
-  Audited-other mapped count is count_is done notes = step done mapped notes count
-      (count_is ∙ ap (λ n. n + 1) done.others_is ∙ sym (others_more done.findings notes.0 (not_false (is_other notes.0) (sym is ∙ notes.3))))
+  pub Audited-other : (counts : Tally) (count : ℕ) → is_other_tally counts ≡ true → count ≡ others + 1 → Audited mapping lines old before others
+      → AddsFinding mapping old new l before after counts → Audited mapping (lines ++ l ∷ []) new after count
+  Audited-other counts count is count_is done notes = step done counts notes count
+      (count_is ∙ ap (λ n. n + 1) done.others_is ∙ sym (others_more done.findings notes.0 (other_as notes.0 ∙ ap is_other_tally (sym notes.3) ∙ is)))
 
 -- the same by other names of the lines and the counters
 pub Audited-same : (mapping : List MapLine) (lines lines' : List TextLine) (counters counters' text : List ℕ) (others : ℕ) → lines' ≡ lines → counters' ≡ counters

@@ -1,4 +1,7 @@
+pub mod Digits
 pub mod Rising
+pub mod Windows
+pub mod OneFinding
 pub mod Audited
 pub mod Noting
 pub mod Naming

@@ -1,6 +1,6 @@
 -- What is noted of one line, put together.
 use Rattle.std.proofs.Common.{◌≡◌, ℕ, arith, ◌<◌, ◌≤◌, ◌+◌, ◌==◌, Bool, true, false, List, [], ◌∷◌, ◌++◌, length, refl, sym, ap, ◌∙◌, subst, inl, inr, append-nil, append_assoc, set, length-set, get_or-set_same, get_or-set_other}
-use Rattle.std.specs.Prelude.{slice_index, if◌then◌else◌, Option, None, Some}
+use Rattle.std.specs.Prelude.{slice_index, if◌then◌else◌, Option, None, Some, Result, Ok, Err, IfOk}
 use Rattle.std.specs.List.{slice_get}
 use Rattle.std.proofs.lemmas.Bool.Decides.{nat_tests}
 use Rattle.secured_pdu.specs.Verdict.{Outcome, Accepted, FreshnessFailure, VerificationFailure}
@@ -9,9 +9,11 @@ use Rattle.text_lines.specs.Lines.{TextLine}
 use Rattle.text_lines.specs.Texts.{outcome_text, bad_length_text}
 use Rattle.trace_audit.specs.declared.map_lines.MapLine.{MapLine}
 use Rattle.trace_audit.specs.declared.frames.LogFrame.{LogFrame}
-use Rattle.trace_audit.specs.MapLines.{place_of_can}
+use Rattle.trace_audit.specs.declared.auditing.Tally.{Tally}
+use Rattle.trace_audit.specs.declared.auditing.Tally.TheVariants as tally
+use Rattle.trace_audit.specs.MapLines.{place_of_frame}
 use Rattle.trace_audit.specs.Frames.{log_frame_of}
-use Rattle.trace_audit.specs.Auditing.{Finding, other, too_short, verdict, front_text, finding_text, Mapped, IsMapped, IsUnmapped, AuditsLine}
+use Rattle.trace_audit.specs.Auditing.{Finding, other, too_short, verdict, front_text, finding_text, channel_of, Mapped, IsMapped, IsUnmapped, AuditsLine}
 use Rattle.trace_audit.specs.Findings.{AddsDataVerdict, AddsFinding}
 
 put_counter : (counters : List ℕ) (place p v : ℕ) (b : Bool) → (place == p) ≡ b → place < length counters
@@ -41,38 +43,43 @@ noted counters place p v VerificationFailure inside is =
 
 -- nothing is said of a line that the map has no line for
 pub AddsFinding-other : (mapping : List MapLine) (counters : List ℕ) (l : TextLine) (text : List ℕ) → IsUnmapped mapping l.words
-    → AddsFinding mapping counters counters l text text false
+    → AddsFinding mapping counters counters l text text tally.Other
 AddsFinding-other mapping counters l text unmapped = (other, unmapped, sym (append-nil text), refl, refl, λ p inside. refl)
 
 pub Unmapped-none : (mapping : List MapLine) (words : List (List ℕ)) → log_frame_of words ≡ None → IsUnmapped mapping words
 Unmapped-none mapping words none = λ frame some. cc
 
 pub Unmapped-place : (mapping : List MapLine) (words : List (List ℕ)) (frame : LogFrame) → log_frame_of words ≡ Some frame
-    → place_of_can mapping frame.can ≡ None → IsUnmapped mapping words
+    → place_of_frame mapping frame.can (channel_of words) ≡ None → IsUnmapped mapping words
 Unmapped-place mapping words frame is none = λ frame' some.
     let same : frame ≡ frame' = cc in
-    subst (λ (f : LogFrame). place_of_can mapping f.can ≡ None) same none
+    subst (λ (f : LogFrame). place_of_frame mapping f.can (channel_of words) ≡ None) same none
 
 -- a mapped line
-pub AddsFinding-mapped : (mapping : List MapLine) (counters : List ℕ) (l : TextLine) (frame : LogFrame) (place : ℕ) (entry : MapLine) (v : ℕ) (before front after : List ℕ)
-    → log_frame_of l.words ≡ Some frame → place_of_can mapping frame.can ≡ Some place → slice_get mapping place ≡ Some entry → place < length counters
-    → front ≡ before ++ front_text l.number entry.can → AddsDataVerdict entry (slice_index counters place) v frame.bytes front after
-    → AddsFinding mapping counters (set counters place v) l before after true
-AddsFinding-mapped mapping counters l frame place entry v before front after frame_is place_is entry_is inside front_is (inl (short, same, after_is)) =
+pub AddsFinding-mapped : (mapping : List MapLine) (counters : List ℕ) (l : TextLine) (frame : LogFrame) (place : ℕ) (entry : MapLine) (v : ℕ) (before front after : List ℕ) (counts : Tally)
+    → log_frame_of l.words ≡ Some frame → place_of_frame mapping frame.can (channel_of l.words) ≡ Some place → slice_get mapping place ≡ Some entry → place < length counters
+    → front ≡ before ++ front_text l.number entry.can → AddsDataVerdict entry (slice_index counters place) v frame.bytes front after counts
+    → AddsFinding mapping counters (set counters place v) l before after counts
+AddsFinding-mapped mapping counters l frame place entry v before front after counts frame_is place_is entry_is inside front_is (inl (short, same, after_is, counts_as)) =
     let m : Mapped = record { place = place; entry = entry; bytes = frame.bytes } in (
       too_short l.number place entry.can,
       (m, (frame, frame_is, place_is, entry_is, refl), refl, refl, refl, short),
       after_is ∙ ap (λ t. t ++ bad_length_text) front_is ∙ append_assoc before (front_text l.number entry.can) bad_length_text,
-      refl,
+      counts_as,
       length-set counters place v,
       λ p within. put_counter counters place p v (place == p) refl inside ∙ keep counters place p v (place == p) refl same,
     )
-AddsFinding-mapped mapping counters l frame place entry v before front after frame_is place_is entry_is inside front_is (inr (long, (outcome, judged, after_is, new_is))) =
+AddsFinding-mapped mapping counters l frame place entry v before front after counts frame_is place_is entry_is inside front_is (inr (long, (outcome, judged, after_is, new_is, counts_as))) =
     let m : Mapped = record { place = place; entry = entry; bytes = frame.bytes } in (
       verdict l.number place entry.can outcome,
       (m, (frame, frame_is, place_is, entry_is, refl), refl, refl, refl, long, judged),
       after_is ∙ ap (λ t. t ++ outcome_text outcome) front_is ∙ append_assoc before (front_text l.number entry.can) (outcome_text outcome),
-      refl,
+      counts_as,
       length-set counters place v,
       λ p within. noted counters place p v outcome inside new_is,
     )
+
+-- what holds of a value gives what follows from it
+pub if_ok_weaker : {T E : Type 0} {P Q : T → Type 0} (result : Result T E) → ((value : T) → P value → Q value) → IfOk result P → IfOk result Q
+if_ok_weaker (Ok value) gives holds = gives value holds
+if_ok_weaker (Err e) gives holds = tt

@@ -3,6 +3,7 @@ use Rattle.std.proofs.Common.{◌≡◌, ℕ, List, inl, inr, subst, sym}
 use Rattle.std.specs.Prelude.{Result, Ok, Err, Vec, IfOk, IfErr}
 use Rattle.std.specs.declared.alloc.Global.{Global}
 use Rattle.command_edge.specs.declared.input.InputFault.TheVariants as input
+use Rattle.text_lines.specs.Readings.{Fault}
 use Rattle.answer_rows.specs.Rows.{Row}
 use Rattle.answer_rows.specs.Inputs.{Reading, IsUnread, ReadsWhole}
 use Rattle.answer_rows.specs.InputLaws.{Lacks-whole}
@@ -15,14 +16,14 @@ use Rattle.trace_audit.specs.Rows.{AuditInputs, NamesInputs, ComesInAudit, no_in
 use Rattle.trace_audit.specs.Steps.{LacksMap, no_map, refused, ReadsMapSource, PreparesAudit, DoesAudit, found, no_text}
 
 -- the lines of a map that was read whole, or why it has none
-pub ReadsMapSource-read : (map : Reading) (text : List ℕ) (result : Result (Vec MapLine Global) Row) → ReadsWhole map text
-    → IfOk result (λ lines. map_of text ≡ Ok lines.items) → IfErr result (NoLines (map_of text)) → ReadsMapSource map result
-ReadsMapSource-read map text (Ok lines) whole is well = (text, whole, is)
-ReadsMapSource-read map text (Err row) whole ok (inl (fault, is, row_is)) = subst (LacksMap map) (sym row_is) (refused fault (text, whole, is))
-ReadsMapSource-read map text (Err row) whole ok (inr memory) = subst (LacksMap map) (sym memory) (no_map input.Memory (Lacks-whole map text whole))
+pub ReadsMapSource-read : (means : List ℕ → Result (List MapLine) Fault) (map : Reading) (text : List ℕ) (result : Result (Vec MapLine Global) Row) → ReadsWhole map text
+    → IfOk result (λ lines. means text ≡ Ok lines.items) → IfErr result (NoLines (means text)) → ReadsMapSource means map result
+ReadsMapSource-read means map text (Ok lines) whole is well = (text, whole, is)
+ReadsMapSource-read means map text (Err row) whole ok (inl (fault, is, row_is)) = subst (LacksMap means map) (sym row_is) (refused fault (text, whole, is))
+ReadsMapSource-read means map text (Err row) whole ok (inr memory) = subst (LacksMap means map) (sym memory) (no_map input.Memory (Lacks-whole map text whole))
 
 -- there is no map
-pub Comes-no_map : (i : AuditInputs) (row : Row) → NamesInputs i.words → LacksMap i.map row → IsUnread i.log → ComesInAudit i row
+pub Comes-no_map : (i : AuditInputs) (row : Row) → NamesInputs i.words → LacksMap map_of i.map row → IsUnread i.log → ComesInAudit i row
 Comes-no_map i row asks (no_map fault lacks) unread = no_input fault asks (inl (lacks, unread))
 Comes-no_map i row asks (refused fault is) unread = map_fault fault asks is unread
 

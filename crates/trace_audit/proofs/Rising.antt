@@ -11,7 +11,7 @@ use Rattle.trace_audit.specs.declared.map_lines.MapLine.{MapLine}
 use Rattle.trace_audit.specs.Auditing.{Finding, other, too_short, verdict, finding_accepts, first_counters, counter_of_place, AuditsLine, AuditsEach, none, more}
 
 -- what is accepted is above the counter of its place
-above : (mapping : List MapLine) (c : ℕ → ℕ) (l : TextLine) (f : Finding) → AuditsLine mapping c l f
+pub above : (mapping : List MapLine) (c : ℕ → ℕ) (l : TextLine) (f : Finding) → AuditsLine mapping c l f
     → IfSome (finding_accepts f) (λ a. c a.receiver < a.freshness)
 above mapping c l (verdict n p can (Accepted payload v)) h = h.6.0.above
 above mapping c l (verdict n p can FreshnessFailure) h = tt

@@ -3,13 +3,16 @@ use Rattle.std.specs.Prelude.{◌≡◌, ℕ, ◌<◌, ◌≤◌, ◌+◌, Bool,
 use Rattle.std.specs.Prelude.{slice_index, codes, Option, None, Some}
 use Rattle.std.specs.List.{flat_map, slice_get}
 use Rattle.std.specs.Fmt.{decimal}
-use Rattle.secured_pdu.specs.Verdict.{Outcome, Verdict}
+use Rattle.secured_pdu.specs.Verdict.{Outcome, Accepted, FreshnessFailure, VerificationFailure, Verdict}
 use Rattle.counting_receiver.specs.Counting.{Acceptance, accepted_by, last_accepted}
 use Rattle.text_lines.specs.Lines.{TextLine, lines_of}
+use Rattle.text_lines.specs.Readings.{nth_word}
 use Rattle.text_lines.specs.Texts.{line, outcome_text, bad_length_text}
 use Rattle.trace_audit.specs.declared.map_lines.MapLine.{MapLine}
 use Rattle.trace_audit.specs.declared.frames.LogFrame.{LogFrame}
-use Rattle.trace_audit.specs.MapLines.{place_of_can}
+use Rattle.trace_audit.specs.declared.auditing.Tally.{Tally}
+use Rattle.trace_audit.specs.declared.auditing.Tally.TheVariants as tally
+use Rattle.trace_audit.specs.MapLines.{place_of_frame}
 use Rattle.trace_audit.specs.Frames.{log_frame_of}
 
 -- what is found of a line: the map has no line for it; or the number of the line, the place of the map's line, counted
@@ -33,6 +36,23 @@ abbrev pub is_other : Finding → Bool
 is_other other = true
 is_other (too_short number place can) = false
 is_other (verdict number place can outcome) = false
+
+-- what a verdict counts as
+abbrev pub tally_by : Outcome → Tally
+tally_by (Accepted payload freshness) = tally.Accepted
+tally_by FreshnessFailure = tally.Failed
+tally_by VerificationFailure = tally.Failed
+
+-- what a finding counts as
+abbrev pub tally_of : Finding → Tally
+tally_of other = tally.Other
+tally_of (too_short number place can) = tally.Failed
+tally_of (verdict number place can outcome) = tally_by outcome
+
+abbrev pub is_other_tally : Tally → Bool
+is_other_tally tally.Other = true
+is_other_tally tally.Accepted = false
+is_other_tally tally.Failed = false
 
 -- how many lines the map has no line for
 abbrev pub others_in : List Finding → ℕ
@@ -66,18 +86,24 @@ pub record Mapped : Type 0 where
   pub entry : MapLine
   pub bytes : List ℕ
 
--- the words are a data frame, and the map has this line for its CAN identifier
+-- the channel of a line of a log: its second word
+abbrev pub channel_of : List (List ℕ) → List ℕ
+channel_of words = nth_word words 2
+
+-- the words are a data frame, and this is the first line of the map that hears it
 abbrev pub IsMapped : List MapLine → List (List ℕ) → Mapped → Type 0
 IsMapped mapping words m =
-    (frame : LogFrame) × (log_frame_of words ≡ Some frame) × (place_of_can mapping frame.can ≡ Some m.place)
+    (frame : LogFrame) × (log_frame_of words ≡ Some frame)
+    × (place_of_frame mapping frame.can (channel_of words) ≡ Some m.place)
     × (slice_get mapping m.place ≡ Some m.entry) × (m.bytes ≡ frame.bytes)
 
--- the words are no data frame, or the map has no line for it
+-- the words are no data frame, or no line of the map hears it
 abbrev pub IsUnmapped : List MapLine → List (List ℕ) → Type 0
-IsUnmapped mapping words = (frame : LogFrame) → log_frame_of words ≡ Some frame → place_of_can mapping frame.can ≡ None
+IsUnmapped mapping words =
+    (frame : LogFrame) → log_frame_of words ≡ Some frame → place_of_frame mapping frame.can (channel_of words) ≡ None
 
 -- the first bytes of a mapped frame are judged as a Secured I-PDU with a payload of the map's length, by a receiver
--- with the widest window, where `counter` says the counter of each line of the map; the rest is padding
+-- with the window of the map's line, where `counter` says the counter of each line of the map; the rest is padding
 abbrev pub AuditsLine : List MapLine → (ℕ → ℕ) → TextLine → Finding → Type 0
 AuditsLine mapping counter text_line other = IsUnmapped mapping text_line.words
 AuditsLine mapping counter text_line (too_short number place can) =
@@ -88,7 +114,7 @@ AuditsLine mapping counter text_line (verdict number place can outcome) =
     (m : Mapped) × IsMapped mapping text_line.words m
     × (number ≡ text_line.number) × (place ≡ m.place) × (can ≡ m.entry.can)
     × (m.entry.size + 4 ≤ length m.bytes)
-    × Verdict m.entry.key m.entry.id (counter place) 256 (take (m.entry.size + 4) m.bytes) outcome
+    × Verdict m.entry.key m.entry.id (counter place) m.entry.window (take (m.entry.size + 4) m.bytes) outcome
 
 -- ---- the whole log
 

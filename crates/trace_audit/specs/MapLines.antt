@@ -1,5 +1,5 @@
 -- The lines of a map: what stands behind the CAN identifiers of a bus.
-use Rattle.std.specs.Prelude.{ℕ, ◌==◌, ◌&&◌, ◌||◌, Bool, if◌then◌else◌, List, length, map}
+use Rattle.std.specs.Prelude.{ℕ, ◌==◌, ◌&&◌, ◌||◌, Bool, true, if◌then◌else◌, List, length, map}
 use Rattle.std.specs.Prelude.{Option, None, Some, option_and_then, is_some, Result, Ok}
 use Rattle.std.specs.List.{list_all, position}
 use Rattle.std.specs.Char.{is_ascii_hexdigit, to_ascii_lowercase}
@@ -21,20 +21,40 @@ can_form word = if is_can word then Some (map to_ascii_lowercase word) else None
 abbrev pub place_of_can : List MapLine → List ℕ → Option ℕ
 place_of_can mapping can = position (λ l. bytes_eq l.can can) mapping
 
+-- a line hears a channel: its own, or any where it names none
+abbrev pub hears : Option (List ℕ) → List ℕ → Bool
+hears None channel = true
+hears (Some own) channel = bytes_eq own channel
+
+-- a line hears a frame: its CAN identifier, on this channel
+abbrev pub hears_frame : MapLine → List ℕ → List ℕ → Bool
+hears_frame l can channel = bytes_eq l.can can && hears l.channel channel
+
+-- the place of the first line that hears a frame, counted from 0
+abbrev pub place_of_frame : List MapLine → List ℕ → List ℕ → Option ℕ
+place_of_frame mapping can channel = position (λ l. hears_frame l can channel) mapping
+
 -- a CAN identifier that no line before has
 unfoldable pub new_can_form : List MapLine → List ℕ → Option (List ℕ)
 new_can_form before word =
     option_and_then (λ can. if is_some (place_of_can before can) then None else Some can) (can_form word)
 
--- `CANID ID KEY FRESH LEN`, where FRESH is the receiver's counter
-unfoldable pub map_line_of : List MapLine → List (List ℕ) → Result MapLine Cause
-map_line_of before words = with_count 5 words (do
-  can ← field 1 (new_can_form before (nth_word words 1))
+-- the line of `CANID ID KEY FRESH LEN`, where FRESH is the receiver's counter; what its CAN identifier and its window
+-- are, if they are of their forms, and its channel is for each program to say
+unfoldable pub line_with : Option (List ℕ) → Option ℕ → Option (List ℕ) → List (List ℕ) → Result MapLine Cause
+line_with can window channel words = do
+  can ← field 1 can
   id ← field 2 (data_id_form (nth_word words 2))
   key ← field 3 (key_form (nth_word words 3))
   counter ← field 4 (fresh_form (nth_word words 4))
   size ← field 5 (number_form 1 60 (nth_word words 5))
-  Ok (record { can = can; id = id; key = key; counter = counter; size = size }))
+  window ← field 6 window
+  Ok (record { can = can; id = id; key = key; counter = counter; size = size; window = window; channel = channel })
+
+-- a line of the map of an audit: it has the widest window, and hears every channel
+unfoldable pub map_line_of : List MapLine → List (List ℕ) → Result MapLine Cause
+map_line_of before words =
+    with_count 5 words (line_with (new_can_form before (nth_word words 1)) (Some 256) None words)
 
 -- the most lines that a map has
 abbrev pub most_map_lines : ℕ

@@ -1,5 +1,5 @@
 -- The table of answers of `audit`: its rows, and when each comes
-use Rattle.std.specs.Prelude.{◌≡◌, ◌⊎◌, ℕ, List, length, Ok, Err, codes}
+use Rattle.std.specs.Prelude.{◌≡◌, ◌⊎◌, ℕ, List, length, Result, Ok, Err, codes}
 use Rattle.text_lines.specs.Readings.{Fault}
 use Rattle.text_lines.specs.Texts.{line}
 use Rattle.command_edge.specs.declared.input.InputFault.{InputFault}
@@ -25,13 +25,21 @@ NamesInputs words = length words ≡ 2
 abbrev pub audit_usage : List ℕ
 audit_usage = line (codes "usage: audit MAP LOG")
 
--- the map was read whole, and has these lines
-abbrev pub ReadsMap : Reading → List MapLine → Type 0
-ReadsMap map mapping = (text : List ℕ) × ReadsWhole map text × (map_of text ≡ Ok mapping)
+-- the map was read whole, and has these lines, where `means` says which lines a text has
+abbrev pub ReadsMapBy : (List ℕ → Result (List MapLine) Fault) → Reading → List MapLine → Type 0
+ReadsMapBy means map mapping = (text : List ℕ) × ReadsWhole map text × (means text ≡ Ok mapping)
 
 -- the map was read whole, and this is its first fault
+abbrev pub IsMapFaultBy : (List ℕ → Result (List MapLine) Fault) → Reading → Fault → Type 0
+IsMapFaultBy means map fault = (text : List ℕ) × ReadsWhole map text × (means text ≡ Err fault)
+
+-- the map of an audit was read whole, and has these lines
+abbrev pub ReadsMap : Reading → List MapLine → Type 0
+ReadsMap map mapping = ReadsMapBy map_of map mapping
+
+-- the map of an audit was read whole, and this is its first fault
 abbrev pub IsMapFault : Reading → Fault → Type 0
-IsMapFault map fault = (text : List ℕ) × ReadsWhole map text × (map_of text ≡ Err fault)
+IsMapFault map fault = IsMapFaultBy map_of map fault
 
 -- there is no map, and nothing of the log was read; or the map has lines, and there is no log
 abbrev pub LacksInput : AuditInputs → InputFault → Type 0

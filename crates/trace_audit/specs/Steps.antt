@@ -10,17 +10,17 @@ use Rattle.line_rows.specs.LineRows.{line_row}
 use Rattle.trace_audit.specs.declared.map_lines.MapLine.{MapLine}
 use Rattle.trace_audit.specs.declared.run.Audit.{Audit}
 use Rattle.trace_audit.specs.Auditing.{TellsAudit}
-use Rattle.trace_audit.specs.Rows.{AuditInputs, ReadsMap, IsMapFault, OverAudit, ComesInAudit}
+use Rattle.trace_audit.specs.Rows.{AuditInputs, ReadsMapBy, IsMapFaultBy, OverAudit, ComesInAudit}
 
--- why the source of a map gives no lines
-pub data LacksMap (map : Reading) : Row → Type 0 where
-  no_map : (fault : InputFault) → Lacks map fault → LacksMap map (input_row fault)
-  refused : (fault : Fault) → IsMapFault map fault → LacksMap map (line_row fault)
+-- why the source of a map gives no lines, where `means` says which lines a text has
+pub data LacksMap (means : List ℕ → Result (List MapLine) Fault) (map : Reading) : Row → Type 0 where
+  no_map : (fault : InputFault) → Lacks map fault → LacksMap means map (input_row fault)
+  refused : (fault : Fault) → IsMapFaultBy means map fault → LacksMap means map (line_row fault)
 
 -- the lines of the whole map, or why there are none
-abbrev pub ReadsMapSource : Reading → Result (Vec MapLine Global) Row → Type 0
-ReadsMapSource map (Ok lines) = ReadsMap map lines.items
-ReadsMapSource map (Err row) = LacksMap map row
+abbrev pub ReadsMapSource : (List ℕ → Result (List MapLine) Fault) → Reading → Result (Vec MapLine Global) Row → Type 0
+ReadsMapSource means map (Ok lines) = ReadsMapBy means map lines.items
+ReadsMapSource means map (Err row) = LacksMap means map row
 
 -- how the first phase ends: in the lines of the map and the whole log, or in a row that comes
 abbrev pub PreparesAudit : AuditInputs → Result Audit Row → Type 0

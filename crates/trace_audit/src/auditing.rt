@@ -1,11 +1,13 @@
 //! What is found of each line of a log.
-ghost use Rattle.std.specs.Prelude.{◌≡◌, ◌<◌, ◌^◌, ◌++◌, length, map as each, OnOk, IfOk};
-ghost use Rattle.trace_audit.specs.Auditing.{front_text, others_text, TellsAudit};
+ghost use Rattle.std.specs.Prelude.{◌≡◌, ◌<◌, ◌≤◌, ◌^◌, ◌++◌, length, map as each, OnOk, IfOk};
+ghost use Rattle.text_lines.specs.Room.{AddsAtMost};
+ghost use Rattle.trace_audit.specs.Auditing.{front_text, others_text, is_other_tally, TellsAudit};
 ghost use Rattle.trace_audit.specs.Findings.{AddsFinding, AddsDataVerdict};
 
 use crate::frames::log_frame;
-use crate::map_lines::{MapLine, place_of};
-use counting_receiver::{WIDEST_WINDOW, push_verdict};
+use crate::map_lines::{MapLine, place_for};
+use counting_receiver::push_verdict;
+use itoa::Buffer;
 use she_aes::expand;
 use std::alloc::{AllocError, Global};
 use text_lines::Memory;
@@ -13,6 +15,26 @@ use text_lines::forms::cut;
 use text_lines::laws::places_are_those_of_the_words;
 use text_lines::verdicts::push_bad_length;
 use text_lines::words::Words;
+
+/// What a line of a log counts as.
+#[derive(Clone, Copy, Debug, PartialEq, Eq)]
+pub enum Tally {
+    /// One that the map has no line for.
+    Other,
+    /// A mapped frame that was accepted.
+    Accepted,
+    /// A mapped frame that wasn't: it is too short, or its freshness or verification failed.
+    Failed,
+}
+
+impl Tally {
+    /// Whether the map has no line for it.
+    pub fn is_other(self) -> bool
+        ensures { result ≡ is_other_tally self }
+    {
+        matches!(self, Tally::Other)
+    }
+}
 
 /// What is found of all lines, one behind the other, and then the number of those that the map has no line for.
 pub fn audit_text(alloc: Global, map: &[MapLine], log: &[u8]) -> Result<Vec<u8>, Memory>
@@ -26,15 +48,14 @@ pub fn audit_text(alloc: Global, map: &[MapLine], log: &[u8]) -> Result<Vec<u8>,
     let mut others = 0usize;
     for line in cuts.as_slice() {
         let words = Words::of(log, line.words.as_slice());
-        let mapped = push_finding(
-            alloc,
+        let tally = push_finding(
             map,
             counters.as_mut_slice(),
-            line.line,
+            u64::from(line.line),
             &words,
             &mut text,
         )?;
-        if !mapped {
+        if tally.is_other() {
             others += 1;
         }
     }
@@ -43,7 +64,7 @@ pub fn audit_text(alloc: Global, map: &[MapLine], log: &[u8]) -> Result<Vec<u8>,
 }
 
 /// The counters of the lines of the map before the log.
-fn counters_of(alloc: Global, map: &[MapLine]) -> Result<Vec<u64>, AllocError>
+pub fn counters_of(alloc: Global, map: &[MapLine]) -> Result<Vec<u64>, AllocError>
     ensures { IfOk result (λ counters. counters.items ≡ each (λ line. line.counter) map.now) }
 {
     let mut counters = Vec::new(alloc);
@@ -53,64 +74,74 @@ fn counters_of(alloc: Global, map: &[MapLine]) -> Result<Vec<u64>, AllocError>
     Ok(counters)
 }
 
-/// Adds what is found of a line of the log, and tells whether the map has a line for it.
-fn push_finding(
-    alloc: Global,
+/// Adds what is found of a line of the log, and tells what it counts as. In room for 208 bytes it takes no memory.
+pub fn push_finding(
     map: &[MapLine],
     counters: &mut [u64],
-    number: u32,
+    number: u64,
     words: &Words<'_>,
     text: &mut Vec<u8>,
-) -> Result<bool, Memory>
+) -> Result<Tally, AllocError>
     requires { length counters.old ≡ length map.now }
-    ensures { IfOk result (AddsFinding map.now counters.old counters.new (record { number = number; words = words.now })
-        text.old.items text.new.items) }
+    ensures finds { IfOk result (AddsFinding map.now counters.old counters.new
+        (record { number = number; words = words.now }) text.old.items text.new.items) }
+    ensures room { AddsAtMost 208 text.old text.new result }
 {
-    let Some(frame) = log_frame(alloc, words)? else {
-        return Ok(false);
+    let Some(frame) = log_frame(words) else {
+        return Ok(Tally::Other);
     };
-    let Some(place) = place_of(map, frame.can.bytes()) else {
-        return Ok(false);
+    let Some(place) = place_for(map, frame.can.digits(), words.word(2)) else {
+        return Ok(Tally::Other);
     };
     let line = &map[place];
-    push_front(alloc, number, line.can.bytes(), text)?;
-    push_data_verdict(line, &mut counters[place], frame.bytes.bytes(), text)?;
-    Ok(true)
+    push_front(number, line.can.digits(), text)?;
+    push_data_verdict(line, &mut counters[place], frame.bytes.bytes(), text)
 }
 
 /// Adds the number of a line and the CAN identifier of its frame, each with a space behind it.
-fn push_front(alloc: Global, number: u32, can: &[u8], text: &mut Vec<u8>) -> Result<(), AllocError>
-    ensures { OnOk result (text.new.items ≡ text.old.items ++ front_text number can.now) }
+fn push_front(number: u64, can: &[u8], text: &mut Vec<u8>) -> Result<(), AllocError>
+    requires { length can.now ≤ 8 }
+    ensures front { OnOk result (text.new.items ≡ text.old.items ++ front_text number can.now) }
+    ensures room { AddsAtMost 50 text.old text.new result }
 {
-    let number = format!(in alloc; "{number} ")?;
-    text.extend_from_slice(number.as_bytes())?;
+    let mut digits = Buffer::new();
+    text.extend_from_slice(digits.format(number).as_bytes())?;
+    text.push(b' ')?;
     text.extend_from_slice(can)?;
     text.push(b' ')?;
     Ok(())
 }
 
-/// Adds the verdict on the data of a frame without its padding, or its bad length. Where it is accepted, the counter is
-/// its freshness.
+/// Adds the verdict on the data of a frame without its padding, or its bad length, and tells what it counts as. Where
+/// it is accepted, the counter is its freshness: an accepted frame, and no other, moves it.
 fn push_data_verdict(
     line: &MapLine,
     counter: &mut u64,
     bytes: &[u8],
     text: &mut Vec<u8>,
-) -> Result<(), AllocError>
-    ensures { OnOk result (AddsDataVerdict line.now counter.old counter.new bytes.now text.old.items text.new.items) }
+) -> Result<Tally, AllocError>
+    ensures verdict { IfOk result (AddsDataVerdict line.now counter.old counter.new bytes.now
+        text.old.items text.new.items) }
+    ensures room { AddsAtMost 158 text.old text.new result }
 {
     let size = line.size.get() + 4;
     if bytes.len() < size {
-        return push_bad_length(text);
+        push_bad_length(text)?;
+        return Ok(Tally::Failed);
     }
+    let before = *counter;
     push_verdict(
         &expand(&line.key),
         line.id,
-        WIDEST_WINDOW,
+        line.window.get(),
         counter,
         &bytes[..size],
         text,
-    )
+    )?;
+    if *counter == before {
+        return Ok(Tally::Failed);
+    }
+    Ok(Tally::Accepted)
 }
 
 /// Adds the number of the lines that the map has no line for.

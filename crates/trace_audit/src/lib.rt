@@ -12,8 +12,11 @@ mod map_lines;
 mod run;
 mod start;
 
-pub use auditing::audit_text;
-pub use frames::{LogFrame, log_frame};
-pub use map_lines::{MapLine, PayloadSize, can_id, place_of, read_map};
-pub use run::run_audit;
+pub use auditing::{Tally, audit_text, counters_of, push_finding};
+pub use frames::{FrameBytes, LogFrame, log_frame};
+pub use map_lines::{
+    CanId, MOST_MAP_LINES, MapLine, PayloadSize, Window, can_id, line_of_words, place_for,
+    place_of, read_map,
+};
+pub use run::{names_inputs, run_audit};
 pub use start::audit_words;

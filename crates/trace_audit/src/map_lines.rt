@@ -1,24 +1,29 @@
 //! The lines of a map: what stands behind the CAN identifiers of a bus.
-ghost use Rattle.std.specs.Prelude.{◌≡◌, ◌<◌, ◌≤◌, ◌^◌, length, IfOk};
+ghost use Rattle.std.specs.Prelude.{◌≡◌, ◌<◌, ◌≤◌, ◌^◌, length, map as each, true, IfOk};
+ghost use Rattle.std.specs.Char.{to_ascii_lowercase};
+ghost use Rattle.secured_pdu.specs.Frame.{IsWindow};
 ghost use Rattle.text_lines.specs.Readings.{Gives};
-ghost use Rattle.trace_audit.specs.MapLines.{is_can, can_form, new_can_form, place_of_can, map_of};
+ghost use Rattle.trace_audit.specs.MapLines.{is_can, can_form, new_can_form, line_with, place_of_can};
+ghost use Rattle.trace_audit.specs.MapLines.{hears_frame, place_of_frame, map_of};
 
+use arrayvec::ArrayVec;
 use byte_lists::Bytes;
+use counting_receiver::WIDEST_WINDOW;
 use she_aes::Block;
 use std::alloc::Global;
 use std::marker::Model;
 use text_lines::reader::{LineReader, expect_count, read_lines, value_at};
 use text_lines::words::Words;
-use text_lines::{LineFault, Memory, ScriptFault, forms};
+use text_lines::{Cause, LineFault, ScriptFault, forms};
 
 /// The most lines that a map has.
-const MOST_MAP_LINES: usize = 256;
+pub const MOST_MAP_LINES: usize = 256;
 
 /// A line of a map.
 #[derive(Debug, Drop)]
 pub struct MapLine {
-    /// The CAN identifier: its three or eight hexadecimal digits, in lower case.
-    pub can: Bytes,
+    /// The CAN identifier.
+    pub can: CanId,
     /// The Data ID.
     pub id: u16,
     /// The key of the authenticator.
@@ -27,6 +32,69 @@ pub struct MapLine {
     pub counter: u64,
     /// The length of the payload.
     pub size: PayloadSize,
+    /// The window of the receiver.
+    pub window: Window,
+    /// The channel that it hears, as a log names it; every one where there is none.
+    pub channel: Option<Bytes>,
+}
+
+/// A CAN identifier: its three or eight hexadecimal digits, in lower case. A contract sees the list of them.
+#[derive(Debug, Drop)]
+pub struct CanId {
+    digits: ArrayVec<u8, 8>,
+}
+
+impl Model for CanId {
+    ghost use Rattle.std.specs.Prelude.{List, ℕ};
+
+    ghost Value = { List ℕ };
+
+    ghost view = { λ c. c.digits.items };
+}
+
+impl CanId {
+    /// The digits.
+    pub fn digits(&self) -> &[u8]
+        ensures value { result.now ≡ self.now }
+        ensures few { length result.now ≤ 8 }
+    {
+        self.digits.as_slice()
+    }
+}
+
+/// The window of a receiver, 1 to 256.
+#[derive(Debug, Drop)]
+pub struct Window {
+    size: u16,
+}
+
+impl Model for Window {
+    ghost use Rattle.std.specs.Prelude.{ℕ};
+    ghost use Rattle.secured_pdu.specs.Frame.{IsWindow};
+
+    ghost Value = { ℕ };
+
+    ghost view = { λ w. w.size };
+
+    ghost invariant = { λ w. IsWindow w.size };
+}
+
+impl Window {
+    /// This window.
+    pub fn of(size: u16) -> Window
+        requires { IsWindow size }
+        ensures { result ≡ size }
+    {
+        Window { size }
+    }
+
+    /// The window as a number.
+    pub fn get(&self) -> u16
+        ensures value { result ≡ self.now }
+        ensures is_window { IsWindow result }
+    {
+        self.size
+    }
 }
 
 /// The length of a payload in bytes, 1 to 60.
@@ -68,18 +136,33 @@ impl PayloadSize {
 /// A CAN identifier: three or eight hexadecimal digits of either case. Its digits in lower case stand for its length
 /// and value.
 #[tactic(auto, unfolding(crate::specs::MapLines::can_form))]
-pub fn can_id(alloc: Global, word: &[u8]) -> Result<Option<Bytes>, Memory>
-    ensures { IfOk result (λ found. found ≡ can_form word.now) }
+pub fn can_id(word: &[u8]) -> Option<CanId>
+    ensures { result ≡ can_form word.now }
 {
     if !is_can_id(word) {
-        return Ok(None);
+        return None;
     }
-    Ok(Some(Bytes::of(word.to_ascii_lowercase(alloc)?)))
+    Some(CanId {
+        digits: lower_digits(word),
+    })
+}
+
+/// The bytes of a word with letters in lower case.
+fn lower_digits(word: &[u8]) -> ArrayVec<u8, 8>
+    requires { length word.now ≤ 8 }
+    ensures { result.items ≡ each to_ascii_lowercase word.now }
+{
+    let mut digits = ArrayVec::new();
+    for byte in word {
+        digits.push(byte.to_ascii_lowercase());
+    }
+    digits
 }
 
 /// Whether a word is three or eight hexadecimal digits.
 fn is_can_id(word: &[u8]) -> bool
-    ensures { result ≡ is_can word.now }
+    ensures exact { result ≡ is_can word.now }
+    ensures few { result ≡ true → length word.now ≤ 8 }
 {
     if !word.iter().all(u8::is_ascii_hexdigit) {
         return false;
@@ -91,21 +174,67 @@ fn is_can_id(word: &[u8]) -> bool
 pub fn place_of(lines: &[MapLine], can: &[u8]) -> Option<usize>
     ensures { result ≡ place_of_can lines.now can.now }
 {
-    lines.iter().position(|line| line.can.bytes() == can)
+    lines.iter().position(|line| line.can.digits() == can)
+}
+
+/// Whether a line hears a frame of this CAN identifier on this channel.
+fn does_hear(line: &MapLine, can: &[u8], channel: &[u8]) -> bool
+    ensures { result ≡ hears_frame line.now can.now channel.now }
+{
+    if line.can.digits() != can {
+        return false;
+    }
+    match &line.channel {
+        Some(own) => own.bytes() == channel,
+        None => true,
+    }
+}
+
+/// The place of the first line that hears a frame, counted from 0; `None` where none does.
+pub fn place_for(lines: &[MapLine], can: &[u8], channel: &[u8]) -> Option<usize>
+    ensures { result ≡ place_of_frame lines.now can.now channel.now }
+{
+    lines.iter().position(|line| does_hear(line, can, channel))
 }
 
 /// A CAN identifier that no line before has.
 #[tactic(auto, unfolding(crate::specs::MapLines::new_can_form))]
-fn new_can_id(alloc: Global, before: &[MapLine], word: &[u8]) -> Result<Option<Bytes>, Memory>
-    ensures { IfOk result (λ found. found ≡ new_can_form before.now word.now) }
+fn new_can_id(before: &[MapLine], word: &[u8]) -> Option<CanId>
+    ensures { result ≡ new_can_form before.now word.now }
 {
-    let Some(can) = can_id(alloc, word)? else {
-        return Ok(None);
-    };
-    if place_of(before, can.bytes()).is_some() {
-        return Ok(None);
+    let can = can_id(word)?;
+    if place_of(before, can.digits()).is_some() {
+        return None;
     }
-    Ok(Some(can))
+    Some(can)
+}
+
+/// The line of these words, with its CAN identifier and window, if they are of their forms, and its channel.
+#[tactic(auto, unfolding(crate::specs::MapLines::line_with))]
+pub fn line_of_words(
+    words: &Words<'_>,
+    can: Option<CanId>,
+    window: Option<Window>,
+    channel: Option<Bytes>,
+) -> Result<MapLine, Cause>
+    requires { 5 ≤ length words.now }
+    ensures { result ≡ line_with can window channel words.now }
+{
+    let can = value_at(1, can)?;
+    let id = value_at(2, forms::data_id(words.word(2)))?;
+    let key = value_at(3, forms::key(words.word(3)))?;
+    let counter = value_at(4, forms::fresh(words.word(4)))?;
+    let size = value_at(5, forms::number(words.word(5), 1, 60))?;
+    let window = value_at(6, window)?;
+    Ok(MapLine {
+        can,
+        id,
+        key,
+        counter,
+        size: PayloadSize::of(size as u8),
+        window,
+        channel,
+    })
 }
 
 /// Reads a line of a map.
@@ -121,23 +250,13 @@ impl LineReader for MapReader {
     #[tactic(auto, unfolding(crate::specs::MapLines::map_line_of))]
     fn read(
         &self,
-        alloc: Global,
+        _alloc: Global,
         words: &Words<'_>,
         before: &[MapLine],
     ) -> Result<MapLine, LineFault> {
         expect_count(words, 5)?;
-        let can = value_at(1, new_can_id(alloc, before, words.word(1))?)?;
-        let id = value_at(2, forms::data_id(words.word(2)))?;
-        let key = value_at(3, forms::key(words.word(3)))?;
-        let counter = value_at(4, forms::fresh(words.word(4)))?;
-        let size = value_at(5, forms::number(words.word(5), 1, 60))?;
-        Ok(MapLine {
-            can,
-            id,
-            key,
-            counter,
-            size: PayloadSize::of(size as u8),
-        })
+        let can = new_can_id(before, words.word(1));
+        Ok(line_of_words(words, can, Some(Window::of(WIDEST_WINDOW)), None)?)
     }
 }
 

@@ -80,7 +80,7 @@ fn prepare<S: Source, T: Source>(
 }
 
 /// Whether the words, the program's name left out, are the two that name the map and the log.
-fn names_inputs(words: &[String]) -> bool
+pub fn names_inputs(words: &[String]) -> bool
     ensures { IsTrue result ↔ NamesInputs (each string_bytes words.now) }
 {
     words.len() == 2
@@ -88,7 +88,7 @@ fn names_inputs(words: &[String]) -> bool
 
 /// The lines of the map that a source gives, or why there are none.
 fn map_in<S: Source>(alloc: Global, map: &mut S) -> Result<Vec<MapLine>, Refusal>
-    ensures { ReadsMapSource (record { before = S.state map.old; after = S.state map.new }) result }
+    ensures { ReadsMapSource map_of (record { before = S.state map.old; after = S.state map.new }) result }
 {
     let input = read_input(alloc, map)?;
     lines_of_map(alloc, input.as_slice())

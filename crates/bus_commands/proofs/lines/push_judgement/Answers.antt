@@ -11,4 +11,4 @@ returns c =
     (λ d. judged c.args.line.now c.schedule-schedule.result.now c.bytes.result.now (parts.payload.now ++ parts.low ∷ parts.tag)
     (outcome_of parts.payload.now c.judge-judgement.result) c.args.text.now.items c.push_outcome.new.text.items
     c.schedule-schedule.ensures c.bytes.ensures.value c.in-Some.ensures.found c.in-Some.ensures.parts c.judge-judgement.ensures d)
-    c.push_outcome.ensures
+    c.push_outcome.ensures.outcome

@@ -1,7 +1,7 @@
 use Rattle.std.proofs.Common.{arith, rules}
 use Rattle.bus_commands.specs.Steps.{refused_trial}
 use Rattle.bus_commands.proofs.Refusing.{Comes-not_started}
-use Rattle.bus_commands.proofs.Replaying.{as_many_nodes}
+use Rattle.world_runs.specs.TurnLaws.{as_many_nodes}
 use Rattle.bus_commands.proofs.Summing.{summed_turns}
 use Rattle.bus_commands.proofs.Summed.{Comes-summed}
 use Rattle.bus_commands.proofs.trial.trial.Goals as goal
@@ -12,7 +12,7 @@ finish-requires g c =
       arith,
       c.in-Ok.ensures.room,
       c.in-Ok.ensures.started.nodes.count,
-      as_many_nodes c.in-Ok.world c.count_run.new.machine c.count_run.ensures.counted.moments c.count_run.ensures.counted.run,
+      as_many_nodes c.in-Ok.world c.count_run.ensures.counted.moments c.count_run.new.machine c.count_run.ensures.counted.run,
     )
 
 pub returns-in-Err : goal.returns-in-Err
@@ -24,7 +24,7 @@ returns-in-Err g c = record {
 
 pub returns : goal.returns
 returns g c =
-    Comes-summed c.trials_are_runs.ensures c.args.bus.now c.args.events.now _ _ c.count_run.new.tally
+    Comes-summed c.starts_are_set_up.ensures c.turns_leave_disks.ensures c.trials_are_runs.ensures c.args.bus.now c.args.events.now _ _ c.count_run.new.tally
     (record {
       is_bus = c.requires.is_bus;
       start = c.in-Ok.world;

@@ -10,8 +10,8 @@ use Rattle.bus_world.specs.Starts.{cells_in, Opened, NotOpened, fault_of_node}
 use Rattle.bus_world.proofs.OpenLaws.{states_left, first_state, opened_more}
 use Rattle.bus_world.proofs.start.open_all.Goals as goal
 
-pub open_new-requires : goal.open_new-requires
-open_new-requires g c =
+pub open_node-requires : goal.open_node-requires
+open_node-requires g c =
     let place = c.loop-place.place in
     let line = c.node-item.result in
     let st = g.D.Disk.state in
@@ -51,10 +51,10 @@ returns-in-Err-clause-opened g c =
       left = ap (map st) c.put_first.ensures.items ∙ ap (λ ys. disk ∷ ys) (states_left st c.loop-place.disks.items c.remove-disk.new.self.items states place c.loop-place.invariant.1 c.remove-disk.ensures.by_index.2);
       cause = c.in-Err.unopened.fault;
       refused = λ l d.
-          subst (λ y. NotOpened bus.kind bus.version y.config (get_or states place d) disk c.in-Err.unopened.fault) (sym (at l))
-          (subst (λ s. NotOpened bus.kind bus.version line.config s disk c.in-Err.unopened.fault) (here d)
-          (subst (λ k. NotOpened k bus.version line.config (st x) disk c.in-Err.unopened.fault) c.kind.ensures
-          (subst (λ v. NotOpened c.kind.result v line.config (st x) disk c.in-Err.unopened.fault) c.version.ensures c.in-Err.ensures.refused)));
+          subst (λ y. NotOpened c.args.start bus.kind bus.version y.config (get_or states place d) disk c.in-Err.unopened.fault) (sym (at l))
+          (subst (λ s. NotOpened c.args.start bus.kind bus.version line.config s disk c.in-Err.unopened.fault) (here d)
+          (subst (λ k. NotOpened c.args.start k bus.version line.config (st x) disk c.in-Err.unopened.fault) c.kind.ensures
+          (subst (λ v. NotOpened c.args.start c.kind.result v line.config (st x) disk c.in-Err.unopened.fault) c.version.ensures c.in-Err.ensures.refused)));
       fault_is = c.fault_of_node.ensures ∙ ap (λ n. fault_of_node n c.in-Err.unopened.fault) c.number_of.ensures;
     }
 
@@ -70,8 +70,8 @@ loop-place-preserved g c =
     let at = λ (l : NodeLine). get_or_default bus.nodes place l line inside ∙ sym (subst (λ xs. line ≡ get_or xs place line) c.nodes-node-items.ensures.value c.node-item.is) in
     let here = λ (d : DiskState). first_state st c.loop-place.disks.items x states place d c.loop-place.invariant.1
     (omega (arith, length-map c.loop-place.disks.items st, ap length c.loop-place.invariant.1, length-drop place states, c.requires.room.enough, inside)) c.remove-disk.ensures.value in (
-      opened_more place bus states c.loop-place.nodes.items c.keep.new.nodes.items c.in-Ok.node line (st x) c.loop-place.invariant.0 c.keep.ensures.items at here
-          (subst (λ k. Opened k bus.version line.config (st x) c.in-Ok.node) c.kind.ensures (subst (λ v. Opened c.kind.result v line.config (st x) c.in-Ok.node) c.version.ensures c.in-Ok.ensures.opened)),
+      opened_more c.args.start place bus states c.loop-place.nodes.items c.keep.new.nodes.items c.in-Ok.node line (st x) c.loop-place.invariant.0 c.keep.ensures.items at here
+          (subst (λ k. Opened c.args.start k bus.version line.config (st x) c.in-Ok.node) c.kind.ensures (subst (λ v. Opened c.args.start c.kind.result v line.config (st x) c.in-Ok.node) c.version.ensures c.in-Ok.ensures.opened)),
       states_left st c.loop-place.disks.items c.remove-disk.new.self.items states place c.loop-place.invariant.1 c.remove-disk.ensures.by_index.2,
       omega (arith, c.remove-disk.ensures.len, c.loop-place.invariant.2),
       omega (arith, c.remove-disk.ensures.capacity, c.loop-place.invariant.3),

@@ -18,4 +18,5 @@ returns g c = record {
   faults = c.fail_at.ensures.faults;
   image = tt;
   untouched = tt;
+  sound = λ _. c.fail_at.ensures.sound;
 }

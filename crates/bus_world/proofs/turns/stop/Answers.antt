@@ -18,4 +18,5 @@ returns g c = record {
   faults = c.stop_at.ensures.faults;
   image = tt;
   untouched = tt;
+  sound = λ _. c.stop_at.ensures.sound;
 }

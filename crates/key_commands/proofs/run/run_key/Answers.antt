@@ -1,6 +1,25 @@
-use Rattle.std.proofs.Common.{refl}
-use Rattle.key_commands.proofs.Promises.{Keys-row}
+use Rattle.std.proofs.Common.{refl, subst, Ok, map}
+use Rattle.std.specs.Prelude.{string_bytes}
+use Rattle.answer_rows.specs.EndingLaws.{EndsInRow-more}
+use Rattle.key_commands.specs.Rows.{AsksFor}
+use Rattle.key_commands.proofs.Engines.{engine_asked}
+use Rattle.key_commands.proofs.Phases.{asked_row}
+use Rattle.key_commands.proofs.Promises.{Keys-ran, apart, loads}
 use Rattle.key_commands.proofs.run.run_key.Goals as goal
 
+pub load_over-requires : goal.load_over-requires
+load_over-requires g c = engine_asked _ c.in-Load.uid (subst (λ task. AsksFor (map string_bytes c.behind_name.result.now) (Ok task)) c.in-Load.is c.in-Ok.ensures)
+
+pub returns-in-Load : goal.returns-in-Load
+returns-in-Load g c =
+    Keys-ran _ _
+    (loads c.in-Load.uid
+    (rw c.behind_name.ensures at (subst (λ task. AsksFor (map string_bytes c.behind_name.result.now) (Ok task)) c.in-Load.is c.in-Ok.ensures))
+    c.load_over.ensures.ends)
+
+pub returns-in-Ok : goal.returns-in-Ok
+returns-in-Ok g c = Keys-ran _ _ (apart (EndsInRow-more (asked_row _ c.in-Ok.task (rw c.behind_name.ensures at c.in-Ok.ensures)) c.do_job.ensures) refl refl refl refl)
+
 pub returns : goal.returns
-returns g c = Keys-row _ _ refl refl (rw c.behind_name.ensures at c.in_two_phases.ensures)
+returns g c =
+    Keys-ran _ _ (apart (record { row = c.in-Err.refusal; comes = rw c.behind_name.ensures at c.in-Err.ensures; told = c.tell_refusal.ensures }) refl refl refl refl)

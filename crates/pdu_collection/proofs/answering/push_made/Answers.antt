@@ -12,5 +12,5 @@ returns-in_ok-push-in-Some-2 c =
       made c.args.payload.now part,
       (c.in-Some.ensures.some, refl, subst (λ k. IsPartOf k head.id head.place c.args.payload.now c.args.freshness part) c.requires c.in-Some.ensures.part),
       words_added c.args.text.now.items (encode_lower c.args.payload.now) (encode_lower part) _ _ _ _
-          c.in_ok-push_digits-in-Some.ensures c.in_ok-push-in-Some.ensures.items c.in_ok-push_digits-in-Some-2.ensures c.in_ok-push-in-Some-2.ensures.items,
+          c.in_ok-push_digits-in-Some.ensures.digits c.in_ok-push-in-Some.ensures.items c.in_ok-push_digits-in-Some-2.ensures.digits c.in_ok-push-in-Some-2.ensures.items,
     )

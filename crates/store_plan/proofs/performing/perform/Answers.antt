@@ -1,4 +1,4 @@
-use Rattle.std.proofs.Common.{◌∙◌, arith, ◌≤◌, ◌+◌, length}
+use Rattle.std.proofs.Common.{◌∙◌, arith, ◌<◌, ◌≤◌, ◌+◌, length}
 use Rattle.cut_disk.specs.CallLaws.{runs_join, runs_more, rose_after}
 use Rattle.cell_store.proofs.Results.{OnErr-from}
 use Rattle.store_plan.proofs.LeavesLaws.{on_ok_both, on_err_both, first-torn, second-torn, third-torn, all-done, fails-put, puts}
@@ -58,7 +58,7 @@ pub returns-in_err-do_write-clause-cut : goal.returns-in_err-do_write-clause-cut
 returns-in_err-do_write-clause-cut g c x was t told y image =
     let n = (g.met.D.Disk.is_disk c.args.disk.now).bytes_sized (firm x) was in
     let f = c.requires.first.inside in
-    in_first (torn-cut c.args.plan.now.first x _ _ was (omega arith) c.in_err-do_write.ensures.torn t told y image)
+    in_first (torn-cut c.args.plan.now.first x _ _ was (λ some. let g = f some in omega arith) c.in_err-do_write.ensures.torn t told y image)
 
 pub returns-in_err-do_write-2-clause-cut : goal.returns-in_err-do_write-2-clause-cut
 returns-in_err-do_write-2-clause-cut g c x was t told y image =
@@ -67,7 +67,7 @@ returns-in_err-do_write-2-clause-cut g c x was t told y image =
     let n = (g.met.D.Disk.is_disk c.do_write.new.disk).bytes_sized (firm (applied_write plan.first x)) mid in
     let s = c.do_write.ensures.runs.size in
     let f = c.requires.second.inside in
-    in_second (torn-cut plan.second (applied_write plan.first x) _ _ mid (omega arith) c.in_err-do_write-2.ensures.torn t told y image)
+    in_second (torn-cut plan.second (applied_write plan.first x) _ _ mid (λ some. let h = f some in omega arith) c.in_err-do_write-2.ensures.torn t told y image)
 
 pub returns-clause-cut : goal.returns-clause-cut
 returns-clause-cut g c x was =
@@ -78,9 +78,15 @@ returns-clause-cut g c x was =
     let s = c.do_write.ensures.runs.size in
     let r = c.do_write-2.ensures.runs.size in
     let f = c.requires.third.inside in
-    let fits : plan.third.offset + plan.third.size ≤ length (applied_write plan.second (applied_write plan.first x)) = omega arith in
+    let fits : 0 < plan.third.size → plan.third.offset + plan.third.size ≤ length (applied_write plan.second (applied_write plan.first x)) = λ some. (let h = f some in omega arith) in
     let each : EachImage (g.D.Disk.state c.do_write-3.new.disk).told (SameOutside plan.third.offset plan.third.size (applied_write plan.second (applied_write plan.first x))) =
     either-outside c.do_write-3.result _
     (on_ok_weaker c.do_write-3.result (λ whole. done-cut plan.third (applied_write plan.second (applied_write plan.first x)) _ fits (whole (applied_write plan.second (applied_write plan.first x)) late)) c.do_write-3.ensures.whole)
     (on_err_weaker c.do_write-3.result (λ torn. torn-cut plan.third (applied_write plan.second (applied_write plan.first x)) _ _ late fits torn) c.do_write-3.ensures.torn) in
     λ t told y image. in_third (each t told y image)
+
+pub returns-clause-whole : goal.returns-clause-whole
+returns-clause-whole g c =
+    on_ok_weaker c.do_write-3.result
+    (λ third x was. third _ (c.in_ok-do_write-2.ensures.whole _ (c.in_ok-do_write.ensures.whole x was)))
+    c.do_write-3.ensures.whole

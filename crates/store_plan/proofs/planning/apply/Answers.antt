@@ -1,6 +1,9 @@
-use Rattle.std.proofs.Common.{arith, length-take}
-use Rattle.store_plan.proofs.GatedLaws.{put_mid-splice}
+use Rattle.std.proofs.Common.{arith, length-take, sym}
+use Rattle.store_plan.proofs.GatedLaws.{put_mid-splice, splice-empty}
 use Rattle.store_plan.proofs.planning.apply.Goals as goal
+
+pub returns-then-write-eq0 : goal.returns-then-write-eq0
+returns-then-write-eq0 c = sym (splice-empty c.args.write.now c.args.image.now c.if-write-eq0.true)
 
 pub returns : goal.returns
 returns c =

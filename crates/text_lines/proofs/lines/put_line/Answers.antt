@@ -20,6 +20,8 @@ loop-spans-init c =
       behind = omega arith;
       inside = rw none (All-nil (λ (span : Span). span.at + span.len ≤ length text));
       short = omega arith;
+      few = omega (arith, c.clear.ensures.len);
+      room = omega (arith, c.clear.ensures.capacity);
     }
 
 pub loop-spans-preserved : goal.loop-spans-preserved
@@ -39,6 +41,8 @@ loop-spans-preserved c =
       behind = omega (arith, so_far.behind, so_far.word.behind);
       inside = word_ends (length text) at stop _ _ put.word put.none so_far.word.inside so_far.inside;
       short = so_far.short;
+      few = omega (arith, put.few, so_far.few, so_far.word.behind);
+      room = omega (arith, put.capacity, so_far.room);
     }
 
 pub returns-clause-end : goal.returns-clause-end

@@ -1,4 +1,5 @@
-use Rattle.std.proofs.Common.{◌≡◌, ◌-◌, ◌≤◌, ◌++◌, length, map}
+use Rattle.std.proofs.Common.{◌≡◌, ◌-◌, ◌≤◌, ◌++◌, length, map, vec_len}
+use Rattle.std.specs.Prelude.{vec_capacity}
 use Rattle.text_lines.specs.Lines.{is_line_feed, ends_word}
 use Rattle.text_lines.specs.Spans.{piece_at, EndWithin}
 use Rattle.text_lines.proofs.Cuts.{words_between}
@@ -14,6 +15,8 @@ invariant-loop-spans l = record {
   behind : l.start ≤ l.at;
   inside : EndWithin (length l.text) l.spans.items;
   short : length l.text ≤ 4294967295;
+  few : vec_len l.spans ≤ l.at;
+  room : vec_capacity l.initial.spans ≤ vec_capacity l.spans;
 }
 
 abbrev pub decreases-loop-spans : goal.decreases-loop-spans

@@ -9,7 +9,7 @@ use Rattle.trace_audit.specs.Auditing.{finding_text, others_text, AuditsEach}
 use Rattle.trace_audit.specs.Findings.{AddsFinding}
 use Rattle.trace_audit.proofs.Audited.{Audited-none, Audited-mapped, Audited-other, Audited-same, put_back, line_of, line_more, all_lines}
 use Rattle.trace_audit.proofs.auditing.audit_text.Goals as goal
-use Rattle.trace_audit.proofs.auditing.audit_text.Goals.{then-not-mapped, else-not-mapped}
+use Rattle.trace_audit.proofs.auditing.audit_text.Goals.{then-is_other, else-is_other}
 
 pub loop-line-init : goal.loop-line-init
 loop-line-init c =
@@ -29,22 +29,24 @@ loop-line-preserved c =
     let lines_are : map (line_of log) (take (i + 1) cuts) ≡ before ++ line ∷ [] =
     line_more log cuts i c.line-item.result c.of-words.result c.loop-line-test.true c.line-item.is
     (c.of-words.ensures ∙ ap (map (word_at log)) c.as_slice.ensures) in
-    let notes : AddsFinding mapping old new line c.loop-line.text.items c.push_finding.new.text.items c.in_ok-mapped.mapped =
-    subst (λ (counters : List ℕ). AddsFinding mapping counters new line c.loop-line.text.items c.push_finding.new.text.items c.in_ok-mapped.mapped)
-    c.as_mut_slice.ensures.value c.in_ok-mapped.ensures in
+    let notes : AddsFinding mapping old new line c.loop-line.text.items c.push_finding.new.text.items c.in_ok-tally.tally =
+    subst (λ (counters : List ℕ). AddsFinding mapping counters new line c.loop-line.text.items c.push_finding.new.text.items c.in_ok-tally.tally)
+    c.as_mut_slice.ensures.value
+    (subst (λ number. AddsFinding mapping c.as_mut_slice.result.now new (record { number = number; words = c.of-words.result })
+    c.loop-line.text.items c.push_finding.new.text.items c.in_ok-tally.tally) c.from.ensures c.in_ok-tally.ensures.finds) in
     let counters_are : take c.loop-line.counters.len (new ++ drop (length new) old) ≡ new =
     put_back c.loop-line.counters.len old new (omega (arith, notes.4, c.loop-line.counters.ok.0)) in
-    elim c.if-not-mapped.branch [
-      | then-not-mapped w ↦ (
-        Audited-same mapping (before ++ line ∷ []) _ new _ c.push_finding.new.text.items c.if-not-mapped.others lines_are counters_are
+    elim c.if-is_other.branch [
+      | then-is_other w ↦ (
+        Audited-same mapping (before ++ line ∷ []) _ new _ c.push_finding.new.text.items c.if-is_other.others lines_are counters_are
             (Audited-other mapping before old new line c.loop-line.text.items c.push_finding.new.text.items c.loop-line.others
-            c.in_ok-mapped.mapped c.if-not-mapped.others w.if-not-mapped.true w.others-is so_far notes),
+            c.in_ok-tally.tally c.if-is_other.others (sym c.is_other.ensures ∙ w.if-is_other.true) w.others-is so_far notes),
         omega (arith, few, w.others-is),
       )
-      | else-not-mapped w ↦ (
-        Audited-same mapping (before ++ line ∷ []) _ new _ c.push_finding.new.text.items c.if-not-mapped.others lines_are counters_are
+      | else-is_other w ↦ (
+        Audited-same mapping (before ++ line ∷ []) _ new _ c.push_finding.new.text.items c.if-is_other.others lines_are counters_are
             (Audited-mapped mapping before old new line c.loop-line.text.items c.push_finding.new.text.items c.loop-line.others
-            c.in_ok-mapped.mapped c.if-not-mapped.others w.if-not-mapped.false w.others-is so_far notes),
+            c.in_ok-tally.tally c.if-is_other.others (sym c.is_other.ensures ∙ w.if-is_other.false) w.others-is so_far notes),
         omega (arith, few, w.others-is),
       )
     ]

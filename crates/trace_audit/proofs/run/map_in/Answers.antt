@@ -1,4 +1,5 @@
 use Rattle.std.proofs.lemmas.Result.{err_from_is_err_and}
+use Rattle.trace_audit.specs.MapLines.{map_of}
 use Rattle.trace_audit.specs.Steps.{no_map}
 use Rattle.trace_audit.proofs.Phases.{ReadsMapSource-read}
 use Rattle.trace_audit.proofs.run.map_in.Goals as goal
@@ -11,5 +12,5 @@ returns-in_err-input g c =
 pub returns : goal.returns
 returns g c =
     let lines = c.lines_of_map.ensures in
-    ReadsMapSource-read _ c.in_ok-input.input.items c.lines_of_map.result c.in_ok-input.ensures.ok
+    ReadsMapSource-read map_of _ c.in_ok-input.input.items c.lines_of_map.result c.in_ok-input.ensures.ok
     (rw (← c.as_slice.ensures.value) lines.ok) (rw (← c.as_slice.ensures.value) lines.err)

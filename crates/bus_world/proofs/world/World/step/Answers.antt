@@ -24,6 +24,7 @@ returns-clause-turn g c =
       most = ap (λ (h : HistoryState). h.most) c.note.ensures ∙ (noted_counts history line).1 ∙ ap (λ (s : BusState). s.most) c.self.view_is ∙ turned.most;
       sent = ap (λ (h : HistoryState). h.lines) c.note.ensures
           ∙ noted_lines history (world_of old) c.args.event.now line (sym events) (sym sent) (turn_is_send (world_of old) c.args.event.now line turned.one.before turned.one.after turned.one.step);
+      is_line = c.every_line_is_one.ensures;
     }
 
 pub returns-clause-honest : goal.returns-clause-honest

@@ -7,6 +7,7 @@ use Rattle.secoc_node.specs.State.{NodeState}
 use Rattle.bus_world.specs.Turns.{duty_of, NodeTurn, HearsBrought}
 use Rattle.bus_world.specs.Worlds.{BusState, world_of, Turned, NodeHears}
 use Rattle.bus_world.proofs.Stepping.{MemberSteps_at}
+use Rattle.bus_world.proofs.SoundLaws.{sound_there, sound_set}
 use Rattle.bus_world.proofs.world.World.turn.Goals as goal
 
 pub returns-clause-turned : goal.returns-clause-turned
@@ -40,3 +41,13 @@ returns-clause-honest g c =
     (λ old was.
     let same = c.index_mut.ensures.value ∙ get_or_from_slice_get nodes place old c.index_mut.result.now (subst (λ p. slice_get nodes p ≡ Some old) (sym c.node_of-place.ensures) was) in
     subst (λ (n : NodeState). HearsBrought (world_of before) event n.node c.take_turn.result) same (c.take_turn.ensures.honest (world_of before) refl))
+
+pub invariant_of-self : goal.invariant_of-self
+invariant_of-self g c =
+    let nodes = c.self.inside.nodes.items in
+    let history = c.self.inside.history in
+    let before : BusState = record { nodes = nodes; events = history.events; most = history.most; sent = history.lines } in
+    let place = c.node_of-place.result in
+    let inside : place < length nodes = omega (arith, c.node_of-place.ensures, subst (λ s. node_of c.args.event.now < length s.nodes) (sym c.self.view_is) c.requires.of_bus.of_bus) in
+    sound_set (world_of before) (world_of before) nodes place c.take_turn.new.node c.self.invariant inside
+    ((c.take_turn.ensures.turn (world_of before) refl).sound (sound_there (world_of before) nodes place c.index_mut.result.now c.self.invariant inside c.index_mut.ensures.value))

@@ -10,7 +10,7 @@ returns-in-Some c =
     let a = rw (c.in-Ok.is, c.in-Some.is) at arrived in
     said_judged c.args.head.now before c.args.self.now.counter kind pdu c.args.text.now.items place c.args.self.now.joiner c.push_verdict.new.counter _ a.1.0 c.args.joined.now c.in-Some.size a.0 a.1.1
     (subst (λ k. AddsVerdict k c.args.head.now.id 256 c.args.self.now.counter c.push_verdict.new.counter (take c.in-Some.size c.args.joined.now) c.args.text.now.items c.push_verdict.new.text.items) c.requires.key d))
-    c.push_verdict.ensures
+    c.push_verdict.ensures.verdict
 
 pub returns-in-None : goal.returns-in-None
 returns-in-None c =

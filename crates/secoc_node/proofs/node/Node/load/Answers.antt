@@ -95,3 +95,11 @@ returns-in-Err-Faulted-clause-fits g c =
     let why = subst (NotLoaded known.engine c.load_key.new.self store left c.args.request.now) c.in-Err-Faulted.field-0-is c.in-Err-Faulted.ensures.not_loaded in
     let done = load_failed known store c.args.request.now c.load_key.new.self left c.fail.new.self c.self.invariant c.if-not-self.false why c.fail.ensures.down in
     subst (λ s. FitsNow s → FitsNow (state_in c.fail.new.self left)) c.self.view_is done.served.fits
+
+-- ---- it is sound whatever came of it
+
+pub returns-in-Ok-clause-sound : goal.returns-in-Ok-clause-sound
+returns-in-Ok-clause-sound g c = (invariant_of-self g c).sound
+
+pub returns-in-Err-Faulted-clause-sound : goal.returns-in-Err-Faulted-clause-sound
+returns-in-Err-Faulted-clause-sound g c = (invariant_of-self-in-Err-Faulted g c).sound

@@ -83,3 +83,6 @@ returns-clause-fits g c =
     (fits_after known (g.C.Cells.state c.self.inside.cells) c.self.invariant left
     (record { layout = c.power_cut.ensures.layout; count = c.power_cut.ensures.count; cuts_to = c.power_cut.ensures.left; tells = c.power_cut.ensures.runs.tells; now = c.in_default.ensures.stands; whole = c.in_default.ensures.whole })
     c.power_up.new.self c.power_up.result c.power_up.ensures.begins c.power_up.ensures.as_before)
+
+pub returns-clause-sound : goal.returns-clause-sound
+returns-clause-sound g c = (invariant_of-self-2 g c).sound

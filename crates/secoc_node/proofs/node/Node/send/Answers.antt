@@ -131,3 +131,11 @@ returns-in-Err-Faulted-clause-fits g c =
     (c.in-Err-Faulted.ensures.step (node_in c.self.inside.known) (has_sender c.self.inside.known (g.C.Cells.state c.self.inside.cells) c.self.invariant c.if-not-self.false c.args.id c.in-Some.place c.in-Some.route c.in-Some.ensures
     c.index_mut.result.now c.index_mut.ensures.value c.in-Sends.tx c.in-Sends.is)))
     c.fail_at.ensures.down).served.fits
+
+-- ---- it is sound whatever came of it
+
+pub returns-in-Ok-clause-sound : goal.returns-in-Ok-clause-sound
+returns-in-Ok-clause-sound g c = (invariant_of-self g c).sound
+
+pub returns-in-Err-Faulted-clause-sound : goal.returns-in-Err-Faulted-clause-sound
+returns-in-Err-Faulted-clause-sound g c = (invariant_of-self-in-Err-Faulted g c).sound

@@ -1,0 +1,12 @@
+use Rattle.std.specs.Prelude.{map, []}
+use Rattle.bus_machine.specs.Bus.{World}
+use Rattle.bus_world.proofs.SoundLaws.{opened_sound}
+use Rattle.bus_world.proofs.world.World.start.Goals as goal
+
+pub invariant_of-result : goal.invariant_of-result
+invariant_of-result g c =
+    let world : World = record { nodes = []; events = c.in-Ok-new.history.events; sent = c.in-Ok-new.history.lines } in
+    opened_sound world c.args.start c.args.bus.now (map g.D.Disk.state c.args.disks.now.items) c.in-Ok-open_in_room.nodes.items c.in-Ok-open_in_room.ensures.opened
+
+pub returns-in-Ok-open_in_room-clause-sound : goal.returns-in-Ok-open_in_room-clause-sound
+returns-in-Ok-open_in_room-clause-sound g c = invariant_of-result g c

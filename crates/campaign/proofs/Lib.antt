@@ -1,0 +1,2 @@
+pub mod WantsMemory
+pub mod TwoWords

@@ -1,0 +1,185 @@
+-- What a campaign promises that ends in a row of the table, or did its first commands
+use Rattle.std.specs.Prelude.{◌≡◌, ◌≢◌, ◌⊎◌, ℕ, ◌<◌, ◌≤◌, List, [], ◌∷◌, drop, length, Result, Ok, Err}
+use Rattle.std.proofs.Common.{refl, sym, ap, ◌∙◌, subst, arith, inl, inr}
+use Rattle.bus_port.specs.Sink.{SinkState}
+use Rattle.text_lines.specs.Readings.{Fault}
+use Rattle.answer_rows.specs.Rows.{Row, memory_row}
+use Rattle.answer_rows.specs.Inputs.{CountsFault, CountsTooMuch}
+use Rattle.answer_rows.specs.Endings.{Ending, EndsIn, MayEndIn, EndsInRow, PrintsWhole, PrintsFront, SinkFailed, CountsWriteFault}
+use Rattle.answer_rows.specs.EndingLaws.{EndsInRow-at, EndsInRow-front, EndsInRow-rose, EndsInRow-only, EndsInRow-may, EndsInRow-done}
+use Rattle.numbered_run.specs.declared.printing.Unwritten.{Unwritten}
+use Rattle.numbered_run.specs.declared.printing.Unwritten.TheVariants as unwritten
+use Rattle.numbered_run.specs.Printed.{Written, WrittenPart}
+use Rattle.machine_runs.specs.Run.{Moment}
+use Rattle.cut_disk.specs.State.{DiskState}
+use Rattle.campaign_machine.specs.declared.commands.LedgerCommand.{LedgerCommand}
+use Rattle.campaign_machine.specs.declared.lines.LedgerLine.{LedgerLine}
+use Rattle.key_campaign.specs.State.{LedgerState}
+use Rattle.campaign_texts.specs.LedgerTexts.{ledger_line_text}
+use Rattle.campaign_commands.specs.declared.opening.NoLedgerCause.{NoLedgerCause}
+use Rattle.campaign_commands.specs.Opening.{ledger_size}
+use Rattle.campaign_commands.specs.Rows.{CampaignInputs, CampaignDisks, AreTwo, HasCommands, OffersCommands, OffersBadLine, OverFirst, campaign_status, DoneCampaign, ComesBefore, EndsCampaign, in_row, campaigned}
+use Rattle.campaign_commands.specs.Campaigns.{TellsNoLedger, ServesLedger, RanTo, DoneNone, RunsCampaign}
+use Rattle.campaign_commands.proofs.Opened.{opened_or_none}
+use Rattle.campaign_commands.proofs.Told.{bad_or_good, few_or_first, first_or_small, over_both}
+use Rattle.campaign_commands.proofs.RowFacts.{over_first, row_2, row_4, row_5, row_7, row_8, row_9, row_10, row_status, row_unused, row_leaves, row_two, calm_whole, row_rose, row_too_much, row_bad, row_no_room, row_no_ledger, row_serves}
+
+-- ---- where it ended in a row
+
+module _ {same : Type 0} {i : CampaignInputs} {d : CampaignDisks} {e : Ending} where
+  ended_unused : EndsInRow (ComesBefore same i d) e → (e.status ≡ 2) ⊎ (e.status ≡ 4) ⊎ (e.status ≡ 5) ⊎ (e.status ≡ 8) ⊎ (e.status ≡ 9) → same
+  ended_unused ends low = elim ends.told [
+    | inl (status_is, well) ↦
+        row_unused ends.row ends.comes
+        (subst (λ (n : ℕ). (n ≡ 2) ⊎ (n ≡ 4) ⊎ (n ≡ 5) ⊎ (n ≡ 8) ⊎ (n ≡ 9)) status_is low)
+    | inr (six, rose, part) ↦ absurd (let no : ⊥ = omega (arith, low, six) in no)
+  ]
+
+  ended_early : EndsInRow (ComesBefore same i d) e → (e.status ≡ 6) ⊎ (e.status ≡ 7) → (PrintsFront (ComesBefore same i d) e ⊎ PrintsWhole e []) × DoneNone same d
+  ended_early ends (inl six) = (inl (EndsInRow-front ends (λ row comes. (row_status row comes).1) six).1, row_leaves ends.row ends.comes)
+  ended_early ends (inr seven) = (inr (EndsInRow-at ends 7 refl (row_7 e) seven).1, row_leaves ends.row ends.comes)
+
+  promises_in_row : drop 1 d.after ≡ drop 1 d.before → length d.after ≡ length d.before → EndsInRow (ComesBefore same i d) e → RunsCampaign same i d e
+  promises_in_row further as_many ends = record {
+    further = further;
+    as_many = as_many;
+    disks_unused = ended_unused ends;
+    done = EndsInRow-at ends 0 refl (λ row comes zero well. absurd ((row_status row comes).0 zero));
+    usage_told = EndsInRow-at ends 2 refl (row_2 e);
+    usage_only = λ not. EndsInRow-only ends 2 (λ row comes. row_two row comes not);
+    refused = EndsInRow-at ends 4 refl (row_4 e);
+    refused_only = λ fault bad. EndsInRow-may ends 4 (λ row comes. row_bad row fault comes bad);
+    read_fault = EndsInRow-at ends 5 refl (row_5 e);
+    read_fault_only = λ rose. EndsInRow-only ends 5 (λ row comes. row_rose row comes rose);
+    write_fault = λ six. let front = EndsInRow-front ends (λ row comes. (row_status row comes).1) six in (front.0, inl front.1);
+    write_fault_only = EndsInRow-rose ends;
+    no_memory = λ seven. inl (EndsInRow-at ends 7 refl (row_7 e) seven);
+    early_ends = λ either. inr (ended_early ends either);
+    too_long = EndsInRow-at ends 8 refl (row_8 e);
+    too_long_only = λ more. EndsInRow-only ends 8 (λ row comes. row_too_much row comes more);
+    disks_refused = EndsInRow-at ends 9 refl (row_9 e);
+    disks_refused_only = λ commands offers small. EndsInRow-may ends 9 (λ row comes. row_no_room row commands comes offers small);
+    store_refused = EndsInRow-at ends 10 refl (row_10 e);
+    store_refused_only = λ commands cause offers none. EndsInRow-may ends 10 (λ row comes. row_no_ledger row commands cause comes offers none);
+    complete = λ commands offers serves well. EndsInRow-done ends well 0 (λ row comes. row_serves row commands comes offers serves);
+  }
+
+-- ---- where its first commands were done
+
+-- where the sink failed, and where it didn't
+written_rose : (moments : List (Moment LedgerCommand LedgerLine LedgerState)) (before after : SinkState) (commands : List LedgerCommand) (result : Result (Unit {0}) Unwritten)
+    → Written ledger_line_text before after commands result moments → before.faults < after.faults → campaign_status result ≡ 6
+written_rose moments before after commands (Ok done) written rose = absurd (let no : ⊥ = omega (arith, written.1.0, rose) in no)
+written_rose moments before after commands (Err unwritten.SinkFailed) written rose = refl
+written_rose moments before after commands (Err unwritten.Memory) written rose = absurd (let no : ⊥ = omega (arith, written.written.0, rose) in no)
+
+module _ {i : CampaignInputs} {d : CampaignDisks} {e : Ending} (commands : List LedgerCommand) (has : HasCommands i commands) where
+  module _ (result : Result (Unit {0}) Unwritten) (over : OverFirst d (DoneCampaign commands e result)) where
+    status_is : e.status ≡ campaign_status result
+    status_is = over.holds.status_is
+
+    others : drop 1 d.after ≡ drop 1 d.before
+    others = rw (over.was, over.now) refl
+
+    none_lost : length d.after ≡ length d.before
+    none_lost = rw (over.was, over.now) refl
+
+    rose_is_six : CountsWriteFault e → e.status ≡ 6
+    rose_is_six rose = status_is ∙ written_rose over.holds.ran.printed.moments e.before e.after commands result over.holds.ran.printed.holds rose
+
+    two : {A : Type 0} → ¬ AreTwo i.words → A
+    two not = absurd (not has.two)
+
+    room : OverFirst d (λ before after. ledger_size ≤ before.size)
+    room = over_first over (λ before after ran. ran.ran.opened.room)
+
+    no_small : {A : Type 0} → (d.before ≡ []) ⊎ OverFirst d (λ before after. before.size < ledger_size) → A
+    no_small small = absurd (first_or_small d room small)
+
+    no_lack : {A : Type 0} (cause : NoLedgerCause) → OverFirst d (TellsNoLedger cause) → A
+    no_lack cause none = absurd (over_both d _ _ ⊥ over none (λ before after ran lacks. opened_or_none before after ran.ran.start cause ran.ran.opened lacks))
+
+  promises_of : (same : Type 0) (result : Result (Unit {0}) Unwritten) → OverFirst d (DoneCampaign commands e result) → RunsCampaign same i d e
+  promises_of same (Ok done) over =
+      let is : e.status ≡ 0 = status_is (Ok done) over in
+      record {
+        further = others (Ok done) over;
+        as_many = none_lost (Ok done) over;
+        disks_unused = λ low. absurd (let no : ⊥ = omega (arith, low, is) in no);
+        done = λ zero. (commands, has, over);
+        usage_told = λ st. absurd (let no : ⊥ = omega (arith, st, is) in no);
+        usage_only = two (Ok done) over;
+        refused = λ st. absurd (let no : ⊥ = omega (arith, st, is) in no);
+        refused_only = λ fault bad. absurd (bad_or_good i fault commands bad has);
+        read_fault = λ st. absurd (let no : ⊥ = omega (arith, st, is) in no);
+        read_fault_only = λ rose. calm_whole i.script has.text has.whole (inl rose);
+        write_fault = λ st. absurd (let no : ⊥ = omega (arith, st, is) in no);
+        write_fault_only = rose_is_six (Ok done) over;
+        no_memory = λ st. absurd (let no : ⊥ = omega (arith, st, is) in no);
+        early_ends = λ either. absurd (let no : ⊥ = omega (arith, either, is) in no);
+        too_long = λ st. absurd (let no : ⊥ = omega (arith, st, is) in no);
+        too_long_only = λ more. calm_whole i.script has.text has.whole (inr more);
+        disks_refused = λ st. absurd (let no : ⊥ = omega (arith, st, is) in no);
+        disks_refused_only = λ offered offers small. no_small (Ok done) over small;
+        store_refused = λ st. absurd (let no : ⊥ = omega (arith, st, is) in no);
+        store_refused_only = λ offered cause offers none. no_lack (Ok done) over cause none;
+        complete = λ offered offers serves well. inl is;
+      }
+  promises_of same (Err unwritten.SinkFailed) over =
+      let is : e.status ≡ 6 = status_is (Err unwritten.SinkFailed) over in
+      let failed : SinkFailed e = over.holds.ran.printed.holds.written.0 in
+      record {
+        further = others (Err unwritten.SinkFailed) over;
+        as_many = none_lost (Err unwritten.SinkFailed) over;
+        disks_unused = λ low. absurd (let no : ⊥ = omega (arith, low, is) in no);
+        done = λ st. absurd (let no : ⊥ = omega (arith, st, is) in no);
+        usage_told = λ st. absurd (let no : ⊥ = omega (arith, st, is) in no);
+        usage_only = two (Err unwritten.SinkFailed) over;
+        refused = λ st. absurd (let no : ⊥ = omega (arith, st, is) in no);
+        refused_only = λ fault bad. absurd (bad_or_good i fault commands bad has);
+        read_fault = λ st. absurd (let no : ⊥ = omega (arith, st, is) in no);
+        read_fault_only = λ rose. calm_whole i.script has.text has.whole (inl rose);
+        write_fault = λ st. (failed, inr (commands, has, over));
+        write_fault_only = λ rose. is;
+        no_memory = λ st. absurd (let no : ⊥ = omega (arith, st, is) in no);
+        early_ends = λ either. inl (unwritten.SinkFailed, (commands, has, over));
+        too_long = λ st. absurd (let no : ⊥ = omega (arith, st, is) in no);
+        too_long_only = λ more. calm_whole i.script has.text has.whole (inr more);
+        disks_refused = λ st. absurd (let no : ⊥ = omega (arith, st, is) in no);
+        disks_refused_only = λ offered offers small. no_small (Err unwritten.SinkFailed) over small;
+        store_refused = λ st. absurd (let no : ⊥ = omega (arith, st, is) in no);
+        store_refused_only = λ offered cause offers none. no_lack (Err unwritten.SinkFailed) over cause none;
+        complete = λ offered offers serves well. absurd (well failed);
+      }
+  promises_of same (Err unwritten.Memory) over =
+      let is : e.status ≡ 7 = status_is (Err unwritten.Memory) over in
+      record {
+        further = others (Err unwritten.Memory) over;
+        as_many = none_lost (Err unwritten.Memory) over;
+        disks_unused = λ low. absurd (let no : ⊥ = omega (arith, low, is) in no);
+        done = λ st. absurd (let no : ⊥ = omega (arith, st, is) in no);
+        usage_told = λ st. absurd (let no : ⊥ = omega (arith, st, is) in no);
+        usage_only = two (Err unwritten.Memory) over;
+        refused = λ st. absurd (let no : ⊥ = omega (arith, st, is) in no);
+        refused_only = λ fault bad. absurd (bad_or_good i fault commands bad has);
+        read_fault = λ st. absurd (let no : ⊥ = omega (arith, st, is) in no);
+        read_fault_only = λ rose. calm_whole i.script has.text has.whole (inl rose);
+        write_fault = λ st. absurd (let no : ⊥ = omega (arith, st, is) in no);
+        write_fault_only = rose_is_six (Err unwritten.Memory) over;
+        no_memory = λ st. inr (commands, has, over);
+        early_ends = λ either. inl (unwritten.Memory, (commands, has, over));
+        too_long = λ st. absurd (let no : ⊥ = omega (arith, st, is) in no);
+        too_long_only = λ more. calm_whole i.script has.text has.whole (inr more);
+        disks_refused = λ st. absurd (let no : ⊥ = omega (arith, st, is) in no);
+        disks_refused_only = λ offered offers small. no_small (Err unwritten.Memory) over small;
+        store_refused = λ st. absurd (let no : ⊥ = omega (arith, st, is) in no);
+        store_refused_only = λ offered cause offers none. no_lack (Err unwritten.Memory) over cause none;
+        complete = λ offered offers serves well. inr is;
+      }
+
+-- ---- both
+
+pub RunsCampaign-ends : (same : Type 0) (i : CampaignInputs) (d : CampaignDisks) (e : Ending) → drop 1 d.after ≡ drop 1 d.before
+    → length d.after ≡ length d.before → EndsCampaign same i d e → RunsCampaign same i d e
+RunsCampaign-ends same i d e further as_many (in_row ends) = promises_in_row further as_many ends
+RunsCampaign-ends same i d e further as_many (campaigned commands result has over) = promises_of commands has same result over

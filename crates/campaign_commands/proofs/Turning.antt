@@ -1,0 +1,129 @@
+-- The calls of a ledger as turns
+use Rattle.std.specs.Prelude.{◌≡◌, ◌≢◌, ℕ, ◌+◌, Bool, Option, None, Some, option_map, Result, Ok, Err, IfErr, IsErrOf, OnOk, OnErr, List, [], ◌∷◌}
+use Rattle.std.proofs.Common.{refl, sym, ap, subst}
+use Rattle.cut_disk.specs.declared.Torn.{Torn}
+use Rattle.cut_disk.specs.State.{Cut, Stop, Fail}
+use Rattle.cut_disk.specs.Calls.{Rose, Runs}
+use Rattle.cut_disk.specs.CallLaws.{runs_none}
+use Rattle.cut_disk.specs.Images.{CutsTo}
+use Rattle.cell_store.specs.declared.faults.Reread.TheVariants as reread
+use Rattle.cell_store.specs.Cells.{CellsState, StandsNow}
+use Rattle.memory_update.specs.declared.messages.Request.{Request}
+use Rattle.campaign_machine.specs.declared.commands.Confirm.{Confirm}
+use Rattle.campaign_machine.specs.declared.commands.Issue.{Issue}
+use Rattle.campaign_machine.specs.declared.commands.LedgerCommand.{LedgerCommand}
+use Rattle.campaign_machine.specs.declared.commands.LedgerCommand.TheVariants as command
+use Rattle.campaign_machine.specs.declared.lines.LedgerLine.{LedgerLine}
+use Rattle.campaign_machine.specs.declared.lines.LedgerLine.TheVariants as line
+use Rattle.campaign_machine.specs.Entries.{place_count, entry_for}
+use Rattle.campaign_machine.specs.Campaign.{powered_ledger, stays_off}
+use Rattle.campaign_machine.specs.Steps.{told_entry, LedgerStep}
+use Rattle.key_campaign.specs.declared.faults.LedgerCut.{LedgerCut}
+use Rattle.key_campaign.specs.declared.faults.LedgerCut.TheVariants as cut
+use Rattle.key_campaign.specs.declared.faults.LedgerFault.{LedgerFault}
+use Rattle.key_campaign.specs.declared.faults.LedgerFault.TheVariants as fault
+use Rattle.key_campaign.specs.Causes.{LedgerCutCause}
+use Rattle.key_campaign.specs.Cell.{HoldEntries}
+use Rattle.key_campaign.specs.Lines.{ledger_refusal, issued_line, confirmed_line, ledger_cut_line}
+use Rattle.key_campaign.specs.State.{LedgerState, FitsLedger, TellsLedger}
+use Rattle.store_runs.specs.DiskTurns.{CountsFailure}
+use Rattle.campaign_commands.specs.Turns.{tells_disk_failure, LedgerTurn}
+
+-- ---- an issue and a confirmation
+
+-- the count of faults of a call that answers so
+counts_fault : (why : LedgerFault) (old new : LedgerState) → (why ≢ fault.Faulted → new ≡ old) → (why ≡ fault.Faulted → Rose old.store.disk.faults new.store.disk.faults)
+    → CountsFailure (tells_disk_failure (line.Refused (ledger_refusal why))) old.store.disk.faults new.store.disk.faults
+counts_fault fault.Down old new same rose = ap (λ (s : LedgerState). s.store.disk.faults) (same (λ e. cc))
+counts_fault fault.BadPair old new same rose = ap (λ (s : LedgerState). s.store.disk.faults) (same (λ e. cc))
+counts_fault fault.Full old new same rose = ap (λ (s : LedgerState). s.store.disk.faults) (same (λ e. cc))
+counts_fault fault.Spent old new same rose = ap (λ (s : LedgerState). s.store.disk.faults) (same (λ e. cc))
+counts_fault fault.Faulted old new same rose = rose refl
+counts_fault fault.Unknown old new same rose = ap (λ (s : LedgerState). s.store.disk.faults) (same (λ e. cc))
+counts_fault fault.AlreadyConfirmed old new same rose = ap (λ (s : LedgerState). s.store.disk.faults) (same (λ e. cc))
+counts_fault fault.NotConfirmed old new same rose = ap (λ (s : LedgerState). s.store.disk.faults) (same (λ e. cc))
+
+module _ {A : Type 0} (old new : LedgerState) where
+  -- what an issue and a confirmation ensure alike
+  pub record Called (r : Result A LedgerFault) : Type 0 where
+    pub untouched : IfErr r (λ why. why ≢ fault.Faulted → new ≡ old)
+    pub faulted : r ≡ Err fault.Faulted → Rose old.store.disk.faults new.store.disk.faults
+    pub faults : OnOk r (new.store.disk.faults ≡ old.store.disk.faults)
+    pub layout : new.store.layout ≡ old.store.layout
+    pub runs : Runs [] 6 old.store.disk new.store.disk
+    pub fits : FitsLedger old → FitsLedger new
+
+pub turn_of_issue : (i : Issue) (old new : LedgerState) (r : Result (ℕ × Request) LedgerFault) → LedgerStep old.campaign (command.Issue i) (issued_line r) new.campaign
+    → Called old new r → LedgerTurn old (command.Issue i) (issued_line r) new
+turn_of_issue i old new (Ok (counter, request)) step called =
+    record { step = λ known. step; of_cut = tt; disk = record { runs = called.runs; counts = called.faults }; layout = called.layout; fits = called.fits }
+turn_of_issue i old new (Err why) step called = record {
+  step = λ known. step;
+  of_cut = tt;
+  disk = record { runs = called.runs; counts = counts_fault why old new called.untouched (λ is. called.faulted (ap Err is)) };
+  layout = called.layout;
+  fits = called.fits;
+}
+
+pub turn_of_confirm : (k : Confirm) (old new : LedgerState) (r : Result ℕ LedgerFault) → LedgerStep old.campaign (command.Confirm k) (confirmed_line r) new.campaign
+    → Called old new r → LedgerTurn old (command.Confirm k) (confirmed_line r) new
+turn_of_confirm k old new (Ok counter) step called =
+    record { step = λ known. step; of_cut = tt; disk = record { runs = called.runs; counts = called.faults }; layout = called.layout; fits = called.fits }
+turn_of_confirm k old new (Err why) step called = record {
+  step = λ known. step;
+  of_cut = tt;
+  disk = record { runs = called.runs; counts = counts_fault why old new called.untouched (λ is. called.faulted (ap Err is)) };
+  layout = called.layout;
+  fits = called.fits;
+}
+
+-- ---- the other calls
+
+pub turn_of_show : (uid : List ℕ) (id : ℕ) (s : LedgerState) (told : Option (ℕ × Bool)) → told ≡ option_map told_entry (entry_for uid id s.campaign.entries)
+    → LedgerTurn s (command.Show uid id) (line.Shown told) s
+turn_of_show uid id s told is = record {
+  step = λ known. (is, refl);
+  of_cut = tt;
+  disk = record { runs = runs_none s.store.disk; counts = refl };
+  layout = refl;
+  fits = λ fits. fits;
+}
+
+counts_cut : (why : LedgerCut) (old new : CellsState) → LedgerCutCause old new why
+    → CountsFailure (tells_disk_failure (ledger_cut_line (Err why))) old.disk.faults new.disk.faults
+counts_cut (cut.Store reread.DiskFailed) old new cause = cause
+counts_cut (cut.Store reread.NotFormatted) old new cause = cause.faults
+counts_cut (cut.Store (reread.Damaged cell)) old new cause = cause.faults
+counts_cut (cut.BadEntry bad) old new cause = cause.faults
+
+counts_after_cut : (r : Result (Unit {0}) LedgerCut) (old new : CellsState) → OnOk r (new.disk.faults ≡ old.disk.faults) → IfErr r (LedgerCutCause old new)
+    → CountsFailure (tells_disk_failure (ledger_cut_line r)) old.disk.faults new.disk.faults
+counts_after_cut (Ok done) old new faults cause = faults
+counts_after_cut (Err why) old new faults cause = counts_cut why old new cause
+
+pub turn_of_cut : (torn : Torn) (old new : LedgerState) (r : Result (Unit {0}) LedgerCut)
+    → (TellsLedger old → LedgerStep old.campaign (command.Cut torn) (ledger_cut_line r) new.campaign)
+    → OnOk r (new.campaign ≡ powered_ledger new.campaign.entries) → OnOk r (HoldEntries new.store.cells new.campaign.entries) → OnOk r (StandsNow new.store)
+    → OnErr r (new.campaign ≡ stays_off old.campaign) → IfErr r (LedgerCutCause old.store new.store) → CutsTo old.store.disk.told new.store.disk.told
+    → OnOk r (new.store.disk.faults ≡ old.store.disk.faults) → new.store.layout ≡ old.store.layout
+    → Runs (Cut torn ∷ []) (68 + place_count) old.store.disk new.store.disk → (FitsLedger old → FitsLedger new)
+    → LedgerTurn old (command.Cut torn) (ledger_cut_line r) new
+turn_of_cut torn old new r step up held stands down cause image faults layout runs fits = record {
+  step = step;
+  of_cut = record { result = r; line_is = refl; up = up; held = held; stands = stands; down = down; cause = cause; image = image };
+  disk = record { runs = runs; counts = counts_after_cut r old.store new.store faults cause };
+  layout = layout;
+  fits = fits;
+}
+
+pub turn_of_stop : (calls : ℕ) (old new : LedgerState) → LedgerStep old.campaign (command.Stop calls) line.Armed new.campaign
+    → new.store.disk.faults ≡ old.store.disk.faults → new.store.layout ≡ old.store.layout → Runs (Stop calls ∷ []) 1 old.store.disk new.store.disk
+    → (FitsLedger old → FitsLedger new) → LedgerTurn old (command.Stop calls) line.Armed new
+turn_of_stop calls old new step faults layout runs fits =
+    record { step = λ known. step; of_cut = tt; disk = record { runs = runs; counts = faults }; layout = layout; fits = fits }
+
+pub turn_of_fail : (calls : ℕ) (old new : LedgerState) → LedgerStep old.campaign (command.Fail calls) line.Armed new.campaign
+    → new.store.disk.faults ≡ old.store.disk.faults → new.store.layout ≡ old.store.layout → Runs (Fail calls ∷ []) 1 old.store.disk new.store.disk
+    → (FitsLedger old → FitsLedger new) → LedgerTurn old (command.Fail calls) line.Armed new
+turn_of_fail calls old new step faults layout runs fits =
+    record { step = λ known. step; of_cut = tt; disk = record { runs = runs; counts = faults }; layout = layout; fits = fits }

@@ -1,0 +1,74 @@
+-- What holds of a campaign over a disk that tells its bytes: all of it is said of one run of the machine (own)
+use Rattle.std.specs.Prelude.{◌≡◌, ℕ, Bool, Option, Some, List, length, take, All, Result}
+use Rattle.bus_port.specs.Sink.{SinkState}
+use Rattle.cut_disk.specs.State.{DiskState, Told, Entry}
+use Rattle.key_slots.specs.declared.memory.Slot.{Slot}
+use Rattle.machine_runs.specs.Run.{Run, commands_in}
+use Rattle.numbered_run.specs.declared.printing.Unwritten.{Unwritten}
+use Rattle.numbered_run.specs.Printed.{Printed, Written}
+use Rattle.store_runs.specs.Keeping.{Fits}
+use Rattle.store_runs.specs.DiskTurns.{TracedSince, FailuresTold}
+use Rattle.campaign_machine.specs.declared.commands.LedgerCommand.{LedgerCommand}
+use Rattle.campaign_machine.specs.declared.entries.LedgerEntry.{LedgerEntry}
+use Rattle.campaign_machine.specs.declared.lines.LedgerLine.{LedgerLine}
+use Rattle.campaign_machine.specs.Entries.{AreLedgerEntries}
+use Rattle.campaign_machine.specs.Campaign.{Campaign, powered_ledger}
+use Rattle.campaign_machine.specs.Steps.{LedgerStep}
+use Rattle.campaign_machine.specs.Claims.{LedgerMoment, CountersRise, BuildsItsUpdate, IsAllowedIn, KeepsEntries, ConfirmedByReply, FewAreSkipped}
+use Rattle.key_campaign.specs.State.{LedgerState, keeping_of}
+use Rattle.campaign_texts.specs.LedgerTexts.{ledger_line_text}
+use Rattle.campaign_commands.specs.Turns.{LedgerTurn, ledger_mark, ledger_calls, tells_disk_failure}
+use Rattle.campaign_commands.specs.Opening.{ledger_layout, StartsFrom, TellsFirm, LedgerOpened}
+
+-- ---- over disks of any kind
+
+-- a ledger was opened on the disk, and did the first commands, up to the first whose text wasn't written
+pub record RanCampaign (before after : DiskState) (commands : List LedgerCommand)
+    (sink_before sink_after : SinkState) (result : Result (Unit {0}) Unwritten) : Type 0 where
+  pub start : LedgerState
+  pub now : LedgerState
+  pub opened : LedgerOpened before start
+  pub printed : Printed LedgerTurn ledger_line_text start now sink_before sink_after commands result
+  pub disk : after ≡ now.store.disk
+
+-- ---- over a disk that tells its bytes, none of them loose
+
+-- a state of the disk fits a ledger: each image stands for its entries, or for those with the pending change
+abbrev pub FitsCampaign : Campaign → Told → Type 0
+FitsCampaign c told = Fits ledger_layout (keeping_of c) told
+
+-- the disk handed back fits the last ledger; and where it tells its past, what was added is traced
+pub record LedgerDisk (before after : DiskState) (start : Campaign)
+    (moments : List LedgerMoment) (last : Campaign) : Type 0 where
+  pub now : Told
+  pub told : after.told ≡ Some now
+  pub fits : FitsCampaign last now
+  pub traced : (all : List Entry) → after.past ≡ Some all
+      → TracedSince ledger_mark (λ _ cmd. ledger_calls cmd) FitsCampaign start moments before all
+
+-- all of one run
+pub record Campaigned (before after : DiskState) (commands : List LedgerCommand)
+    (sink_before sink_after : SinkState) (result : Result (Unit {0}) Unwritten) : Type 0 where
+  pub entries : List (Option LedgerEntry)
+  pub moments : List LedgerMoment
+  pub last : Campaign
+  pub starts : StartsFrom before entries
+  pub entries_are : AreLedgerEntries entries
+  pub is_a_run : Run LedgerStep (powered_ledger entries) moments last
+  pub first : commands_in moments ≡ take (length moments) commands
+  pub written : Written ledger_line_text sink_before sink_after commands result moments
+  pub disks : LedgerDisk before after (powered_ledger entries) moments last
+  pub failures : FailuresTold ledger_mark (λ _ told. tells_disk_failure told) moments before after
+  pub counters_rise : CountersRise moments
+  pub builds : All (λ m. BuildsItsUpdate m.command m.line) moments
+  pub taken : (slots : List Slot) (good : Bool) → All (λ m. IsAllowedIn slots good m.command m.line) moments
+  pub confirmed_by_a_reply : ConfirmedByReply (powered_ledger entries) moments last
+  pub none_goes : KeepsEntries (powered_ledger entries) last
+  pub few_are_skipped : FewAreSkipped (powered_ledger entries) moments
+
+-- what was done of a campaign over such a disk has all of this
+abbrev pub CampaignsAreRuns : Type 0
+CampaignsAreRuns = (before after : DiskState) (commands : List LedgerCommand)
+    (sink_before sink_after : SinkState) (result : Result (Unit {0}) Unwritten)
+    → RanCampaign before after commands sink_before sink_after result → TellsFirm before
+    → Campaigned before after commands sink_before sink_after result

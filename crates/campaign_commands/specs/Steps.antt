@@ -1,0 +1,72 @@
+-- What the steps of the work say to one another
+use Rattle.std.specs.Prelude.{◌≡◌, ◌⊎◌, ℕ, ◌<◌, ◌≤◌, Some, List, [], length, All, Result, Ok, Err, Vec}
+use Rattle.std.specs.declared.alloc.Global.{Global}
+use Rattle.text_lines.specs.Frames.{most_lines}
+use Rattle.command_edge.specs.declared.input.InputFault.{InputFault}
+use Rattle.text_lines.specs.Readings.{Fault}
+use Rattle.answer_rows.specs.Rows.{Row, row_of, input_row, memory_row}
+use Rattle.answer_rows.specs.Inputs.{IsUnread}
+use Rattle.answer_rows.specs.Endings.{Ending, EndsInRow}
+use Rattle.line_rows.specs.LineRows.{line_row, NoLines}
+use Rattle.numbered_run.specs.declared.printing.Unwritten.{Unwritten}
+use Rattle.cut_disk.specs.State.{DiskState}
+use Rattle.cell_store.specs.declared.faults.StoreFault.TheVariants as store
+use Rattle.campaign_machine.specs.declared.commands.LedgerCommand.{LedgerCommand}
+use Rattle.campaign_texts.specs.CommandForms.{campaign_of}
+use Rattle.campaign_texts.specs.ScriptCommands.{IsScriptCommand}
+use Rattle.campaign_commands.specs.declared.opening.NoLedgerCause.{NoLedgerCause}
+use Rattle.campaign_commands.specs.declared.opening.NoLedgerCause.TheVariants.{Store, BadEntry}
+use Rattle.campaign_commands.specs.Opening.{ledger_size, LacksLedger, LeavesNone}
+use Rattle.campaign_commands.specs.Rows.{CampaignInputs, CampaignDisks, AreTwo, NoCommands, HasBadLine, HasCommands, OverFirst, campaign_usage, too_few_text, too_small_text, no_ledger_text, DoneCampaign}
+
+-- ---- the script
+
+-- such as a script has, at most 65,536 of them
+pub record AreScriptCommands (commands : List LedgerCommand) : Type 0 where
+  pub are : All IsScriptCommand commands
+  pub few : length commands ≤ most_lines
+
+-- the commands of a script, or why there are none
+abbrev pub HasScriptCommands : List ℕ → Result (Vec LedgerCommand Global) Row → Type 0
+HasScriptCommands text (Ok commands) = (campaign_of text ≡ Ok commands.items) × AreScriptCommands commands.items
+HasScriptCommands text (Err row) = NoLines (campaign_of text) row
+
+-- the rows that come before a disk is looked at
+pub data ComesOfScript (i : CampaignInputs) : Row → Type 0 where
+  not_two : ¬ AreTwo i.words → IsUnread i.script → ComesOfScript i (row_of 2 campaign_usage)
+  no_script : (fault : InputFault) → NoCommands i fault → ComesOfScript i (input_row fault)
+  script_refused : (fault : Fault) → HasBadLine i fault → ComesOfScript i (line_row fault)
+
+-- how the first phase ends: in commands, or in a row that comes
+abbrev pub PreparesCampaign : CampaignInputs → Result (Vec LedgerCommand Global) Row → Type 0
+PreparesCampaign i (Ok commands) = HasCommands i commands.items × AreScriptCommands commands.items
+PreparesCampaign i (Err row) = ComesOfScript i row
+
+-- ---- the disk
+
+-- the row of a disk without a ledger: want of room, the text of the cause, or want of memory for the store or the text
+abbrev pub IsNoLedgerRow : NoLedgerCause → Row → Type 0
+IsNoLedgerRow (Store store.TooSmall) row = row ≡ row_of 9 too_small_text
+IsNoLedgerRow (Store store.Memory) row = row ≡ memory_row
+IsNoLedgerRow cause row =
+    ((text : List ℕ) × (no_ledger_text cause ≡ Some text) × (row ≡ row_of 10 text)) ⊎ (row ≡ memory_row)
+
+-- the rows that come where the ledger isn't opened, by what was known of the first disk
+pub data ComesOfDisk (before after : DiskState) : Row → Type 0 where
+  disk_too_small : before.size < ledger_size → after ≡ before → ComesOfDisk before after (row_of 9 too_small_text)
+  disk_without : (cause : NoLedgerCause) (text : List ℕ) → no_ledger_text cause ≡ Some text
+      → LacksLedger before after cause
+      → ComesOfDisk before after (row_of 10 text)
+  disk_unopened : LeavesNone before after → ComesOfDisk before after memory_row
+
+-- how a campaign over the first disk ends: the ledger isn't opened, or the first commands are done
+pub data DoesOnDisk (commands : List LedgerCommand) (before after : DiskState) (e : Ending) : Type 0 where
+  not_opened : EndsInRow (ComesOfDisk before after) e → DoesOnDisk commands before after e
+  first_done : (result : Result (Unit {0}) Unwritten) → DoneCampaign commands e result before after
+      → DoesOnDisk commands before after e
+
+-- how the second phase ends: there is no disk, or the campaign is over the first
+pub data DoesCampaign (commands : List LedgerCommand) (d : CampaignDisks) (e : Ending) : Type 0 where
+  without_disk : d.before ≡ [] → d.after ≡ d.before → EndsInRow (λ row. row ≡ row_of 9 too_few_text) e
+      → DoesCampaign commands d e
+  on_first : OverFirst d (λ before after. DoesOnDisk commands before after e) → DoesCampaign commands d e

@@ -1,0 +1,125 @@
+//! A campaign over disks.
+ghost use Rattle.std.specs.Prelude.{◌≡◌, ◌<◌, ◌≤◌, ◌+◌, ◌∷◌, map};
+ghost use Rattle.std.specs.Vec.{vec_len, vec_capacity};
+ghost use Rattle.cut_disk.specs.State.{DiskState};
+ghost use Rattle.campaign_commands.specs.Opening.{LedgerOpened};
+ghost use Rattle.campaign_commands.specs.Rows.{campaign_status};
+ghost use Rattle.campaign_commands.specs.Steps.{AreScriptCommands, DoesOnDisk, DoesCampaign};
+
+use crate::laws::campaigns_are_runs;
+use crate::opening::open_ledger;
+use crate::refusals::{no_disk_refusal, no_ledger_refusal};
+use crate::station::Station;
+use answer_rows::tell_refusal;
+use any_cells::AnyCells;
+use bus_port::{Memory, Sink};
+use campaign_machine::{LedgerCommand, LedgerLine};
+use campaign_texts::write_ledger_line;
+use cell_store::Cells;
+use command_edge::{DONE, NO_MEMORY, WRITE_FAULT};
+use cut_disk::CutDisk;
+use key_campaign::Ledger;
+use numbered_run::{LineText, Unwritten, print_run};
+use std::alloc::Global;
+
+/// How the lines of a campaign are written.
+struct Texts;
+
+impl LineText<LedgerLine> for Texts {
+    ghost use Rattle.campaign_texts.specs.LedgerTexts.{ledger_line_text};
+
+    ghost text = { ledger_line_text };
+
+    fn append(
+        alloc: Global,
+        number: u32,
+        line: &LedgerLine,
+        out: &mut Vec<u8>,
+    ) -> Result<(), Memory> {
+        match write_ledger_line(alloc, number, line, out) {
+            Ok(()) => Ok(()),
+            Err(_) => Err(Memory),
+        }
+    }
+}
+
+/// The campaign of these commands over the ledger on the first disk, which is then back in its place. After a text that
+/// isn't written no further command is done.
+pub fn campaign<K: Sink, D: CutDisk>(
+    alloc: Global,
+    commands: &[LedgerCommand],
+    sink: &mut K,
+    disks: &mut Vec<D>,
+) -> u8
+    requires { AreScriptCommands commands.now }
+    ensures { DoesCampaign commands.now
+        (record { before = map D.state disks.old.items; after = map D.state disks.new.items })
+        (record { before = K.state sink.old; after = K.state sink.new; status = result }) }
+{
+    if disks.is_empty() {
+        return tell_refusal(sink, &no_disk_refusal());
+    }
+    let disk = disks.remove(0);
+    let (disk, status) = on_disk(alloc, commands, sink, disk);
+    put_back(disks, disk);
+    status
+}
+
+/// Puts a disk at the front of the list, in room that is there.
+fn put_back<D: CutDisk>(disks: &mut Vec<D>, disk: D)
+    requires { vec_len disks.old < vec_capacity disks.old }
+    ensures { disks.new.items ≡ disk ∷ disks.old.items }
+{
+    match disks.insert(0, disk) {
+        Ok(()) => {}
+        Err(_) => unreachable!(),
+    }
+}
+
+/// The campaign over one disk, which is handed back.
+fn on_disk<K: Sink, D: CutDisk>(
+    alloc: Global,
+    commands: &[LedgerCommand],
+    sink: &mut K,
+    disk: D,
+) -> (D, u8)
+    requires { AreScriptCommands commands.now }
+    ensures { DoesOnDisk commands.now (D.state disk) (D.state result.0)
+        (record { before = K.state sink.old; after = K.state sink.new; status = result.1 }) }
+{
+    match open_ledger(alloc, disk) {
+        Ok(ledger) => over_ledger(alloc, commands, sink, ledger),
+        Err(none) => {
+            let refusal = no_ledger_refusal(alloc, none.cause);
+            (none.disk, tell_refusal(sink, &refusal))
+        }
+    }
+}
+
+/// The campaign over a ledger that was opened; its disk is handed back.
+fn over_ledger<K: Sink, D: CutDisk>(
+    alloc: Global,
+    commands: &[LedgerCommand],
+    sink: &mut K,
+    ledger: Ledger<AnyCells<D>>,
+) -> (D, u8)
+    requires { AreScriptCommands commands.now }
+    ensures { (before : DiskState) → LedgerOpened before ledger → DoesOnDisk commands.now before (D.state result.0)
+        (record { before = K.state sink.old; after = K.state sink.new; status = result.1 }) }
+{
+    campaigns_are_runs();
+    let mut station = Station::of(ledger);
+    let printed = print_run::<Station<AnyCells<D>>, Texts, K>(alloc, &mut station, commands, sink);
+    (station.release().release(), status_of_run(printed))
+}
+
+/// The status of a run whose lines were all written, or not.
+fn status_of_run(printed: Result<(), Unwritten>) -> u8
+    ensures { result ≡ campaign_status printed }
+{
+    match printed {
+        Ok(()) => DONE,
+        Err(Unwritten::SinkFailed) => WRITE_FAULT,
+        Err(Unwritten::Memory) => NO_MEMORY,
+    }
+}

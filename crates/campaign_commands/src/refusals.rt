@@ -1,0 +1,55 @@
+//! The refusals of a campaign.
+ghost use Rattle.std.specs.Prelude.{◌≡◌, ◌++◌, codes, string_bytes, IfOk};
+ghost use Rattle.text_lines.specs.Texts.{line};
+ghost use Rattle.any_cells.specs.FaultTexts.{store_fault_text as fault_text};
+ghost use Rattle.campaign_commands.specs.Steps.{IsNoLedgerRow};
+ghost use Rattle.campaign_commands.specs.Rows.{campaign_usage, too_few_text};
+ghost use Rattle.answer_rows.specs.Rows.{row_of};
+
+use crate::opening::NoLedgerCause;
+use answer_rows::Refusal;
+use any_cells::store_fault_text;
+use cell_store::StoreFault;
+use std::alloc::{AllocError, Global};
+
+const USAGE: &str = "usage: campaign F DISK\n";
+
+/// The refusal of words that aren't two.
+pub fn usage_refusal() -> Refusal
+    ensures { result ≡ row_of 2 campaign_usage }
+{
+    Refusal::fixed(2, USAGE)
+}
+
+/// The refusal of no disk.
+pub fn no_disk_refusal() -> Refusal
+    ensures { result ≡ row_of 9 too_few_text }
+{
+    Refusal::fixed(9, "disks: too few\n")
+}
+
+/// The refusal of a disk without a ledger, with the text that names its cause, or want of memory for the text.
+pub fn no_ledger_refusal(alloc: Global, cause: NoLedgerCause) -> Refusal
+    ensures { IsNoLedgerRow cause result }
+{
+    match cause {
+        NoLedgerCause::Store(StoreFault::TooSmall) => Refusal::fixed(9, "disks: too small\n"),
+        NoLedgerCause::Store(StoreFault::Memory) => Refusal::no_memory(),
+        NoLedgerCause::Store(fault) => match store_text(alloc, fault) {
+            Ok(text) => Refusal::made(10, text),
+            Err(AllocError) => Refusal::no_memory(),
+        },
+        NoLedgerCause::BadEntry(bad) => match format!(in alloc; "store: BadEntry {bad}\n") {
+            Ok(text) => Refusal::made(10, text),
+            Err(AllocError) => Refusal::no_memory(),
+        },
+    }
+}
+
+/// The line of a store's fault.
+fn store_text(alloc: Global, fault: StoreFault) -> Result<String, AllocError>
+    ensures { IfOk result (λ text. string_bytes text ≡ line (codes "store: " ++ fault_text fault)) }
+{
+    let fault = store_fault_text(alloc, fault)?;
+    format!(in alloc; "store: {fault}\n")
+}

@@ -1,0 +1,3 @@
+pub mod NoWords
+pub mod CommandValues
+pub mod Added

@@ -1,0 +1,4 @@
+pub mod CommandKinds
+pub mod CommandForms
+pub mod LedgerTexts
+pub mod ScriptCommands

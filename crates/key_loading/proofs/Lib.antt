@@ -1,0 +1,9 @@
+pub mod CountingLaws
+pub mod TextLaws
+pub mod LoadingLaws
+pub mod EndingLaws
+pub mod OpeningLaws
+pub mod SourceLaws
+pub mod EngineLaws
+pub mod AnsweredLaws
+pub mod LoadPromises

@@ -1,0 +1,16 @@
+//! Tests of scripts and trials, of the lines that are printed and looked for, and of disks over files. There is nothing else here: a
+//! crate of tests over several libraries has none of them proved a second time.
+#![tactic(auto)]
+
+#[cfg(test)]
+mod buses;
+#[cfg(test)]
+mod disk_files;
+#[cfg(test)]
+mod histories;
+#[cfg(test)]
+mod printed_lines;
+#[cfg(test)]
+mod scripts;
+#[cfg(test)]
+mod trials;

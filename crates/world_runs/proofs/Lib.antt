@@ -1,0 +1,6 @@
+pub mod AtNode
+pub mod DisksBack
+pub mod Starting
+pub mod Attaching
+pub mod Honesty
+pub mod WholeRun

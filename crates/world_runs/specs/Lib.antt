@@ -1,0 +1,4 @@
+pub mod NodeDisks
+pub mod WorldRuns
+pub mod Turns
+pub mod TurnLaws

@@ -1,0 +1,214 @@
+//! What a start doesn't go on over: each fault with its node, and the disks as they were.
+use crate::attached::{SIZE, pair};
+use crate::bench::{bytes_of, disks, starts};
+use any_cells::AnyCells;
+use bus_world::{Start, StartFault};
+use cell_store::{Kind, Reread, Version};
+use cut_disk::{CutDisk, Disk, MemDisk};
+use key_slots::SlotId;
+use std::alloc::Global;
+use std::process::Abort;
+use std::test::Fail;
+
+/// What is done to the disk of a node that stood before.
+#[derive(Clone, Copy)]
+enum Harm {
+    /// These bytes become this.
+    Bytes(&'static [u64], u8),
+    /// A cell becomes 32 bytes ff, in a fresh store of zeros.
+    Cell(u16),
+    /// Its call of this number fails.
+    Fails(u64),
+}
+
+/// The store that stood, the one that is looked for, the harm to the disk of the node with this number, and the fault.
+struct Row((Kind, Version), (Kind, Version), u8, Harm, Refused);
+
+/// The fault of a node.
+#[derive(Clone, Copy)]
+enum Refused {
+    Store(Reread),
+    Slot(u8),
+    Bound(u16),
+}
+
+const TWIN_ONE: (Kind, Version) = (Kind::Twin, Version::One);
+
+const TWIN_TWO: (Kind, Version) = (Kind::Twin, Version::Two);
+
+const LOG_ONE: (Kind, Version) = (Kind::Log, Version::One);
+
+const LOG_TWO: (Kind, Version) = (Kind::Log, Version::Two);
+
+const FOREIGN: Refused = Refused::Store(Reread::NotFormatted);
+
+const FAILED: Refused = Refused::Store(Reread::DiskFailed);
+
+/// Both copies of the second cell of a twin store, and the gates of the banks of a log store, in version 1 and 2.
+const TWIN_GATES: &[u64] = &[100, 134];
+
+const TWIN_GATES_TWO: &[u64] = &[32_868, 32_902];
+
+const LOG_GATE: &[u64] = &[32];
+
+const LOG_GATE_TWO: &[u64] = &[32_800];
+
+const ROWS: &[Row] = &[
+    Row(TWIN_ONE, TWIN_ONE, 1, Harm::Bytes(&[0], 0), FOREIGN),
+    Row(LOG_ONE, LOG_ONE, 2, Harm::Bytes(&[31], 1), FOREIGN),
+    Row(TWIN_TWO, TWIN_TWO, 1, Harm::Bytes(&[32_768], 0), FOREIGN),
+    Row(LOG_TWO, LOG_TWO, 2, Harm::Bytes(&[32_779], 14), FOREIGN),
+    Row(TWIN_ONE, LOG_ONE, 1, Harm::Bytes(&[], 0), FOREIGN),
+    Row(LOG_ONE, TWIN_TWO, 1, Harm::Bytes(&[], 0), FOREIGN),
+    Row(TWIN_TWO, TWIN_ONE, 1, Harm::Bytes(&[], 0), FOREIGN),
+    Row(LOG_TWO, LOG_ONE, 1, Harm::Bytes(&[], 0), FOREIGN),
+    Row(
+        TWIN_ONE,
+        TWIN_ONE,
+        2,
+        Harm::Bytes(TWIN_GATES, 0),
+        Refused::Store(Reread::Damaged(1)),
+    ),
+    Row(
+        TWIN_ONE,
+        TWIN_TWO,
+        2,
+        Harm::Bytes(TWIN_GATES, 0),
+        Refused::Store(Reread::Damaged(1)),
+    ),
+    Row(
+        TWIN_TWO,
+        TWIN_TWO,
+        1,
+        Harm::Bytes(TWIN_GATES_TWO, 0),
+        Refused::Store(Reread::Damaged(1)),
+    ),
+    Row(
+        LOG_ONE,
+        LOG_ONE,
+        1,
+        Harm::Bytes(LOG_GATE, 0),
+        Refused::Store(Reread::Damaged(0)),
+    ),
+    Row(
+        LOG_ONE,
+        LOG_TWO,
+        1,
+        Harm::Bytes(LOG_GATE, 0),
+        Refused::Store(Reread::Damaged(0)),
+    ),
+    Row(
+        LOG_TWO,
+        LOG_TWO,
+        2,
+        Harm::Bytes(LOG_GATE_TWO, 0),
+        Refused::Store(Reread::Damaged(0)),
+    ),
+    Row(TWIN_ONE, TWIN_ONE, 1, Harm::Cell(5), Refused::Slot(5)),
+    Row(LOG_TWO, LOG_TWO, 2, Harm::Cell(13), Refused::Slot(13)),
+    Row(TWIN_TWO, TWIN_TWO, 2, Harm::Cell(14), Refused::Bound(14)),
+    Row(LOG_ONE, LOG_ONE, 1, Harm::Cell(14), Refused::Bound(14)),
+    Row(TWIN_ONE, TWIN_TWO, 1, Harm::Cell(3), Refused::Slot(3)),
+    Row(TWIN_ONE, TWIN_ONE, 2, Harm::Fails(1), FAILED),
+    Row(LOG_ONE, LOG_ONE, 1, Harm::Fails(2), FAILED),
+    Row(TWIN_TWO, TWIN_TWO, 2, Harm::Fails(3), FAILED),
+    Row(LOG_ONE, LOG_TWO, 2, Harm::Fails(3), FAILED),
+];
+
+/// The disks of the bus, formatted as these stores.
+fn standing(alloc: Global, store: (Kind, Version)) -> Result<Vec<MemDisk>, Fail> {
+    let bus = pair(alloc, store.0, store.1)?;
+    let mut made = disks(alloc, &[SIZE, SIZE])?;
+    match starts(alloc, &bus, &mut made, Start::Format) {
+        None => Ok(made),
+        Some(fault) => Err(Fail::from(fault)),
+    }
+}
+
+/// A disk with fifteen cells, of which this one is 32 bytes ff, and the others are zero.
+fn with_cell(alloc: Global, store: (Kind, Version), cell: u16) -> Result<MemDisk, Fail> {
+    let mut cells = [[0; 32]; 15];
+    if cell < 15 {
+        cells[usize::from(cell)] = [0xff; 32];
+    }
+    match AnyCells::format_as(MemDisk::new(alloc, SIZE)?, store.0, store.1, &cells) {
+        Ok(disk) => Ok(disk),
+        Err(refused) => Err(Fail::from(refused.fault)),
+    }
+}
+
+/// Does this harm to a disk, but for a failure of a call.
+fn harms(
+    alloc: Global,
+    disk: MemDisk,
+    store: (Kind, Version),
+    harm: Harm,
+) -> Result<MemDisk, Fail> {
+    let mut disk = disk;
+    match harm {
+        Harm::Bytes(places, byte) => {
+            for place in places {
+                if *place < disk.size() {
+                    disk.write(*place, &[byte])?;
+                }
+            }
+            disk.sync()?;
+            Ok(disk)
+        }
+        Harm::Cell(cell) => with_cell(alloc, store, cell),
+        Harm::Fails(_) => Ok(disk),
+    }
+}
+
+/// The fault of the node with this number.
+fn fault_of(number: u8, refused: Refused) -> Result<StartFault, Fail> {
+    Ok(match refused {
+        Refused::Store(reread) => StartFault::Store(number, reread),
+        Refused::Slot(slot) => StartFault::BadSlot(number, SlotId::new(slot).ok_or("a slot")?),
+        Refused::Bound(cell) => StartFault::BadBound(number, cell),
+    })
+}
+
+/// The disks of a row, and the bytes of the one that was harmed.
+fn lay(alloc: Global, row: &Row) -> Result<(Vec<MemDisk>, Vec<u8>), Fail> {
+    let Row(stood, _, number, harm, _) = row;
+    let mut made = standing(alloc, *stood)?;
+    let place = usize::from(*number).saturating_sub(1);
+    if place >= made.len() {
+        return Err(Fail::from("a disk"));
+    }
+    let mut disk = harms(alloc, made.remove(place), *stood, *harm)?;
+    let bytes = bytes_of(alloc, &mut disk)?;
+    if let Harm::Fails(call) = harm {
+        if *call >= 1 {
+            disk.fail_at(*call);
+        }
+    }
+    made.insert(place, disk)?;
+    Ok((made, bytes))
+}
+
+/// Bytes are as they were, but where a store was moved before its cells were looked at.
+fn refuses(rt: &impl Abort, alloc: Global, row: &Row) -> Result<(), Fail> {
+    let (mut made, before) = lay(alloc, row)?;
+    let Row(stood, store, number, _, refused) = row;
+    let bus = pair(alloc, store.0, store.1)?;
+    let fault = starts(alloc, &bus, &mut made, Start::Attach);
+    assert_eq!(rt; fault, Some(fault_of(*number, *refused)?));
+    let place = usize::from(*number).saturating_sub(1);
+    if place >= made.len() {
+        return Err(Fail::from("a disk"));
+    }
+    let after = bytes_of(alloc, &mut made[place])?;
+    let is_moved = stood.1 != store.1 && !matches!(refused, Refused::Store(_));
+    assert_eq!(rt; after.as_slice() == before.as_slice(), !is_moved);
+    Ok(())
+}
+
+#[test]
+fn what_is_no_store_of_the_node_is_refused_and_isnt_written(rt: HostRuntime) -> Result<(), Fail> {
+    for row in ROWS {
+        refuses(&rt, rt.alloc(), row)?;
+    }
+    Ok(())
+}
