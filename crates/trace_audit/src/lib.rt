@@ -20,4 +20,4 @@ pub use map_lines::{
 };
 pub use map_source::{read_map, read_map_by};
 pub use run::{names_inputs, run_audit};
-pub use start::audit_words;
+pub use start::{audit_words, open_inputs};
