@@ -23,6 +23,7 @@ Came-more {first} {before} {after} {some} {more} p q = record {
       let one = p.next left told in
       let two = q.next one.0 one.1 in
       (two.0, two.1, one.2 ∙ ap (λ rest. some ++ rest) two.2 ∙ sym (append_assoc some more two.0));
-  counted = rw length-append (RoseBy-more first.taken before.taken after.taken (length some) (length more) p.counted q.counted);
+  counted = rw length-append
+      (RoseBy-more first.taken before.taken after.taken (length some) (length more) p.counted q.counted);
   later = omega (arith, p.later, q.later);
 }

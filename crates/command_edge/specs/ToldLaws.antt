@@ -7,7 +7,8 @@ use Rattle.command_edge.specs.Told.{AppendedWell}
 
 -- nothing was written to a sink that nothing was done to
 pub AppendedWell-nothing : (before after : SinkState) → after ≡ before → AppendedWell before after []
-AppendedWell-nothing before after same = subst (λ t. AppendedWell before t []) (sym same) (refl, Appended-nothing before)
+AppendedWell-nothing before after same =
+    subst (λ t. AppendedWell before t []) (sym same) (refl, Appended-nothing before)
 
 -- what was written first, and then what was written next
 pub AppendedWell-more : (first before after : SinkState) (some more : List ℕ) → AppendedWell first before some
