@@ -40,8 +40,8 @@ fn open_script<O: Opener, I: Source + Drop>(
     }
 }
 
-/// Answers the script that one word names, and gives the status that the program ends with, and the source of the script
-/// as the run left it; without a word it answers the example, and the source is missing.
+/// Answers the script that one word names, and gives the status that the program ends with, and the source of the
+/// script as the run left it; without a word it answers the example, and the source is missing.
 pub fn pair_words<O: Opener, I: Source + Drop, K: Sink>(
     alloc: Global,
     opener: &O,
