@@ -1,8 +1,9 @@
 use Rattle.std.proofs.lemmas.Result.{err_from_is_err_and}
+use Rattle.text_lines.specs.Readings.{read_all}
+use Rattle.trace_audit.specs.MapLines.{most_map_lines}
 use Rattle.trace_audit.specs.Steps.{no_map}
 use Rattle.trace_audit.proofs.Phases.{ReadsMapSource-read}
-use Rattle.log_watch.specs.WatchMaps.{watch_map_of}
-use Rattle.log_watch.proofs.run.map_in.Goals as goal
+use Rattle.trace_audit.proofs.map_source.read_map_by.Goals as goal
 
 pub returns-in_err-input : goal.returns-in_err-input
 returns-in_err-input g c =
@@ -11,6 +12,6 @@ returns-in_err-input g c =
 
 pub returns : goal.returns
 returns g c =
-    let lines = c.lines_of_map.ensures in
-    ReadsMapSource-read watch_map_of _ c.in_ok-input.input.items c.lines_of_map.result c.in_ok-input.ensures.ok
+    let lines = c.lines_by.ensures in
+    ReadsMapSource-read (read_all (g.R.LineReader.means c.args.reader.now) most_map_lines) _ c.in_ok-input.input.items c.lines_by.result c.in_ok-input.ensures.ok
     (rw (← c.as_slice.ensures.value) lines.ok) (rw (← c.as_slice.ensures.value) lines.err)
