@@ -1,5 +1,5 @@
 //! A gateway over a node.
-ghost use Rattle.std.specs.Prelude.{◌≡◌, ◌≢◌, ◌<◌, ◌≤◌, ◌+◌, ◌^◌, ◌∷◌, ◌↔◌, ℕ, [], List, length, drop, not, true, false, Some, Option, IsSome, IfOk, IfErr, OnOk, OnErr, IsErrOf, MatchOption};
+ghost use Rattle.std.specs.Prelude.{◌≡◌, ◌≢◌, ◌<◌, ◌≤◌, ◌+◌, ◌^◌, ◌∷◌, ◌↔◌, ℕ, [], List, length, drop, not, true, false, Some, Option, IsSome, IfOk, IfErr, OnOk, OnErr, IsErrOf, MatchOption, None};
 ghost use Rattle.cut_disk.specs.State.{Told, Cut, Stop, Fail};
 ghost use Rattle.cut_disk.specs.Arming.{with_stop, with_fail};
 ghost use Rattle.cut_disk.specs.Calls.{Rose, Runs, Grows};
@@ -20,18 +20,26 @@ ghost use Rattle.secoc_node.specs.Cells.{CellsOf};
 ghost use Rattle.secoc_node.specs.State.{FitsNow, TellsFitting, IsCovered};
 ghost use Rattle.secoc_node.specs.Causes.{CutCause};
 ghost use Rattle.secoc_node.specs.Lines.{received_line, loaded_line, keyed_line, boot_line, cut_line, IfAcceptedWith, IfLeftAlone};
-ghost use Rattle.gateway_machine.specs.Gateway.{second_of as second_in, EventStep, GatewayStep};
+ghost use Rattle.gateway_machine.specs.Gateway.{second_of as second_in, departs_under, EventStep, GatewayStep};
 ghost use Rattle.secoc_gateway.specs.State.{over};
 ghost use Rattle.secoc_gateway.specs.Pairs.{AreGood, IsLowestBad};
+ghost use Rattle.store_runs.specs.DiskTurns.{DiskTurn};
+ghost use Rattle.bus_world.specs.Turns.{CanBeDone};
+ghost use Rattle.secoc_gateway.specs.Turns.{GatewayTurn, tells_disk_failure};
 ghost use Rattle.secoc_gateway.specs.Arrivals.{arrival_line, IfForwarded, IfNotForwarded, IsReason, IfDropped, IsFaulted, IfNothingDone, CanForward, IsForwardedWith};
 
 use crate::arrival::{Arrival, PairRefused};
+use crate::lines::line_of;
 use crate::pairs::{lowest_bad, second_of};
 use crate::passing::pass_on;
+use bus_machine::Event;
+use bus_world::own_turn;
 use cell_store::{CutCells, Reread};
 use cut_disk::Torn;
 use freshness_manager::Direction;
+use gateway_machine::GatewayLine;
 use memory_update::{Reply, Request};
+use numbered_run::Machine;
 use secoc_node::{CutFault, Node, NodeFault};
 use secoc_receiver::Reception;
 use std::marker::Model;
@@ -53,7 +61,7 @@ impl<C: CutCells> Model for Gateway<C> {
 
     ghost view = { λ g. record { node = g.node.node; store = g.node.store; pairs = g.pairs.items } };
 
-    ghost invariant = { λ g. AreGood g.node.node g.pairs.items };
+    ghost invariant = { λ g. AreGood g.node.node.config.routes g.pairs.items };
 }
 
 impl<C: CutCells> Gateway<C> {
@@ -62,12 +70,12 @@ impl<C: CutCells> Gateway<C> {
     pub fn new(node: Node<C>, pairs: Vec<(u16, u16)>) -> Result<Gateway<C>, PairRefused<C>>
         ensures over { IfOk result (λ g. over g ≡ node) }
         ensures pairs { IfOk result (λ g. g.pairs ≡ pairs.items) }
-        ensures good { OnOk result (AreGood node.node pairs.items) }
+        ensures good { OnOk result (AreGood node.node.config.routes pairs.items) }
         ensures lowest { IfErr result (λ r. (place : ℕ) × (r.pair ≡ place + 1)
-            × IsLowestBad node.node pairs.items place) }
+            × IsLowestBad node.node.config.routes pairs.items place) }
         ensures handed_back { IfErr result (λ r. r.node ≡ node) }
     {
-        match lowest_bad(&node, pairs.as_slice()) {
+        match lowest_bad(node.routes(), pairs.as_slice()) {
             None => Ok(Gateway { node, pairs }),
             Some(place) => Err(PairRefused {
                 node,
@@ -111,6 +119,52 @@ impl<C: CutCells> Gateway<C> {
             unreachable!();
         };
         pass_on(&mut self.node, id, second, pdu, out)
+    }
+
+    /// Does an event of the node, and gives its line: a PDU that is injected under the first Data ID of a pair arrives as at
+    /// [`Gateway::arrive`], and any other event is the node's own. It takes no memory.
+    pub fn turn(&mut self, event: &Event) -> GatewayLine
+        requires { CanBeDone event.now }
+        ensures { GatewayTurn self.old event.now result self.new }
+    {
+        match event {
+            Event::Inject { id, pdu, .. } => match self.second(*id) {
+                Some(second) => self.pass(*id, second, pdu.bytes()),
+                None => self.own(event),
+            },
+            Event::Send { .. } => self.own(event),
+            Event::Deliver { .. } => self.own(event),
+            Event::Load { .. } => self.own(event),
+            Event::Key { .. } => self.own(event),
+            Event::Boot { .. } => self.own(event),
+            Event::Cut { .. } => self.own(event),
+            Event::Stop { .. } => self.own(event),
+            Event::Fail { .. } => self.own(event),
+        }
+    }
+
+    // What comes of an event of which nothing is to depart.
+    fn own(&mut self, event: &Event) -> GatewayLine
+        requires fields { CanBeDone event.now }
+        requires own { departs_under self.old.pairs event.now ≡ None }
+        ensures { GatewayTurn self.old event.now result self.new }
+    {
+        GatewayLine::OfNode(own_turn(&mut self.node, event))
+    }
+
+    // What comes of an arrival under the first Data ID of a pair, whose second one this is.
+    fn pass(&mut self, id: u16, second: u16, pdu: &[u8]) -> GatewayLine
+        requires { second_in self.old.pairs id ≡ Some second }
+        ensures step { (place : ℕ) → GatewayStep EventStep self.old.pairs self.old.node (Inject place id pdu.now) result
+            self.new.node }
+        ensures pairs { self.new.pairs ≡ self.old.pairs }
+        ensures layout { self.new.store.layout ≡ self.old.store.layout }
+        ensures disk { DiskTurn None 12 (tells_disk_failure result) self.old.store.disk self.new.store.disk }
+        ensures fits { FitsNow (over self.old) → FitsNow (over self.new) }
+    {
+        let mut out = [0; 64];
+        let answer = self.arrive(id, pdu, &mut out);
+        line_of(id, second, &answer, &out)
     }
 
     /// Receives a PDU of 5 to 64 bytes under a Data ID. An accepted payload is a front of the PDU. Errors, in their order: `Down`,
@@ -260,5 +314,26 @@ impl<C: CutCells> Gateway<C> {
         ensures { result ≡ over self }
     {
         self.node
+    }
+}
+
+impl<C: CutCells> Machine for Gateway<C> {
+    ghost use Rattle.secoc_gateway.specs.State.{GatewayState};
+    ghost use Rattle.secoc_gateway.specs.Turns.{GatewayTurn, AreReady};
+
+    type Command = Event;
+
+    type Line = GatewayLine;
+
+    ghost State = { GatewayState };
+
+    ghost state = { λ gateway. gateway };
+
+    ghost steps = { GatewayTurn };
+
+    ghost ready = { AreReady };
+
+    fn step(&mut self, command: &Event) -> GatewayLine {
+        self.turn(command)
     }
 }

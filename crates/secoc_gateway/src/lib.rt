@@ -2,15 +2,18 @@
 //! payload anew under the second, with that route's key and freshness (AUTOSAR SecOC, profile 1).
 //!
 //! The freshness of an arrival is in the store before its payload departs, so whatever a power cut leaves, no freshness of one Data ID is
-//! forwarded twice. What holds over all its runs are the laws of `gateway_machine`; each call here is a step of that machine.
+//! forwarded twice. What holds over all its runs are the laws of `gateway_machine`; each call here is a step of that machine, and
+//! [`Gateway::turn`] does an event of a script as one.
 //!
 //! No call takes memory.
 #![tactic(auto)]
 
 mod arrival;
 mod gateway;
+mod lines;
 mod pairs;
 mod passing;
 
 pub use arrival::{Arrival, PairRefused};
 pub use gateway::Gateway;
+pub use pairs::lowest_bad;

@@ -13,8 +13,8 @@ use cell_store::Cells;
 use secoc_node::{Node, NodeFault};
 use secoc_receiver::Reception;
 
-// The first bytes, so many of them.
-fn front(bytes: &[u8], len: u8) -> &[u8]
+/// The first bytes, so many of them.
+pub fn front(bytes: &[u8], len: u8) -> &[u8]
     requires { len ≤ length bytes.now }
     ensures { result.now ≡ take len bytes.now }
 {

@@ -26,7 +26,7 @@ use crate::faults::{AttachFault, CutFault, NodeFault, NodeRefused};
 use crate::known::Known;
 use cell_store::{Cells, CutCells, Reread};
 use cut_disk::Torn;
-use freshness_manager::{Direction, NodeConfig};
+use freshness_manager::{Direction, NodeConfig, Route};
 use memory_update::{Reply, Request};
 use secoc_receiver::{ReceiveFault, Reception, receive};
 use secoc_sender::{SendFault, Sent, send};
@@ -218,6 +218,14 @@ impl<C: Cells> Node<C> {
     {
         let (place, _route) = self.known.route(id, direction)?;
         Some(self.known.counters[place].freshness())
+    }
+
+    /// The routes of the node in their order, at most 256.
+    pub fn routes(&self) -> &[Route]
+        ensures value { result.now ≡ self.now.node.config.routes }
+        ensures few { length result.now ≤ 256 }
+    {
+        self.known.config.routes.as_slice()
     }
 
     /// Whether the node serves no call until its power is cut: a call of its disk failed, or a power cut was refused, since it was last

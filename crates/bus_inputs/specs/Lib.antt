@@ -1,0 +1,3 @@
+pub mod BusFiles
+pub mod Scripts
+pub mod BusFileLaws
