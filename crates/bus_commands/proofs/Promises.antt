@@ -26,8 +26,8 @@ use Rattle.bus_commands.specs.Tasks.{Task, frame, judge, check, replay}
 use Rattle.bus_commands.specs.Texts.{usage, Prints, fault_of}
 use Rattle.bus_commands.specs.Inputs.{BusInputs, AsksOverBus, AsksWorld, IsConfigFault, NoConfig, NoScript, Over, OverWorld, OffersTask, OffersTrial}
 use Rattle.bus_commands.specs.Replays.{written_status}
-use Rattle.bus_world.specs.StartRows.{StoreCause, LeavesEach}
-use Rattle.bus_commands.specs.StartRows.{CommandDisks, start_fault_text, ComesOfStart, disks_refused, store_refused, start_without_memory, BusHasDisks}
+use Rattle.bus_world.specs.StartRows.{start_row, StoreCause, LeavesEach}
+use Rattle.bus_commands.specs.StartRows.{CommandDisks, ComesOfStart, disks_refused, store_refused, start_without_memory, BusHasDisks}
 use Rattle.bus_commands.specs.Rows.{ReplaysScript, ComesOfInputs, no_form, no_config, config_refused, no_script, script_refused, done, ComesInRun, without_disks, not_started, tried, tried_without_memory, EndsCommand, in_row, replayed}
 use Rattle.bus_commands.specs.Commands.{PrintsThe, PrintsAnswers, PrintsSummary, LeavesDisks, as_before, by_refused_start, by_replay, by_trial, TaskHasDisks, RunsCommand}
 use Rattle.bus_commands.proofs.Asking.{apart}
@@ -68,8 +68,8 @@ not_low n low high = omega (arith, low, high)
 
 -- the status of a bus that doesn't start
 start_status : {V : Type 0} (i : BusInputs) (d : CommandDisks V) (e : Ending) (bus : NamedBus) (row : Row) → ComesOfStart bus d.states row → (row.status ≡ 0) ⊎ ((row.status ≡ 6) ⊎ ((row.status ≡ 7) ⊎ ((row.status ≡ 9) ⊎ (row.status ≡ 10))))
-start_status i d e bus row (disks_refused fault text finds same is) = inr (inr (inr (inl refl)))
-start_status i d e bus row (store_refused fault text room cause left is) = inr (inr (inr (inr refl)))
+start_status i d e bus row (disks_refused fault finds same) = inr (inr (inr (inl refl)))
+start_status i d e bus row (store_refused fault room cause left) = inr (inr (inr (inr refl)))
 start_status i d e bus row (start_without_memory fault refused) = inr (inr (inl refl))
 
 row_disks : {V : Type 0} (i : BusInputs) (d : CommandDisks V) (e : Ending) (row : Row) → ComesInRun i d row → ¬ AsksWorld i.words → d.new ≡ d.old
@@ -238,30 +238,30 @@ row_8 i d e row (tried_without_memory summary ran) is well = absurd (let no : �
 -- a bus that doesn't start
 
 start_not_0 : {V : Type 0} (i : BusInputs) (d : CommandDisks V) (e : Ending) (bus : NamedBus) (row : Row) → ComesOfStart bus d.states row → row.status ≡ 0 → ⊥
-start_not_0 i d e bus row (disks_refused fault text finds same told) is = omega (arith, is)
-start_not_0 i d e bus row (store_refused fault text room cause left told) is = omega (arith, is)
+start_not_0 i d e bus row (disks_refused fault finds same) is = omega (arith, is)
+start_not_0 i d e bus row (store_refused fault room cause left) is = omega (arith, is)
 start_not_0 i d e bus row (start_without_memory fault refused) is = omega (arith, is)
 
 start_not_6 : {V : Type 0} (i : BusInputs) (d : CommandDisks V) (e : Ending) (bus : NamedBus) (row : Row) → ComesOfStart bus d.states row → row.status ≢ 6
-start_not_6 i d e bus row (disks_refused fault text finds same told) is = omega (arith, is)
-start_not_6 i d e bus row (store_refused fault text room cause left told) is = omega (arith, is)
+start_not_6 i d e bus row (disks_refused fault finds same) is = omega (arith, is)
+start_not_6 i d e bus row (store_refused fault room cause left) is = omega (arith, is)
 start_not_6 i d e bus row (start_without_memory fault refused) is = omega (arith, is)
 
 start_9 : {V : Type 0} (i : BusInputs) (d : CommandDisks V) (e : Ending) (bus : NamedBus) (row : Row) → ComesOfStart bus d.states row → row.status ≡ 9 → PrintsWhole e row.text
-    → (d.states.after ≡ d.states.before) × ((fault : StartFault) × FindsRoom bus d.states.before fault × PrintsThe e (start_fault_text fault))
-start_9 i d e bus row (disks_refused fault text finds same told) is well = (same, (fault, finds, (text, told, well)))
-start_9 i d e bus row (store_refused fault text room cause left told) is well = absurd (let no : ⊥ = omega (arith, is) in no)
+    → (d.states.after ≡ d.states.before) × ((fault : StartFault) × FindsRoom bus d.states.before fault × PrintsWhole e (start_row fault).text)
+start_9 i d e bus row (disks_refused fault finds same) is well = (same, (fault, finds, well))
+start_9 i d e bus row (store_refused fault room cause left) is well = absurd (let no : ⊥ = omega (arith, is) in no)
 start_9 i d e bus row (start_without_memory fault refused) is well = absurd (let no : ⊥ = omega (arith, is) in no)
 
 start_10 : {V : Type 0} (i : BusInputs) (d : CommandDisks V) (e : Ending) (bus : NamedBus) (row : Row) → ComesOfStart bus d.states row → row.status ≡ 10 → PrintsWhole e row.text
-    → LeavesEach Format bus d.states.before d.states.after × ((fault : StartFault) × StoreCause Format bus d.states.before d.states.after fault × PrintsThe e (start_fault_text fault))
-start_10 i d e bus row (disks_refused fault text finds same told) is well = absurd (let no : ⊥ = omega (arith, is) in no)
-start_10 i d e bus row (store_refused fault text room cause left told) is well = (left, (fault, cause, (text, told, well)))
+    → LeavesEach Format bus d.states.before d.states.after × ((fault : StartFault) × StoreCause Format bus d.states.before d.states.after fault × PrintsWhole e (start_row fault).text)
+start_10 i d e bus row (disks_refused fault finds same) is well = absurd (let no : ⊥ = omega (arith, is) in no)
+start_10 i d e bus row (store_refused fault room cause left) is well = (left, (fault, cause, well))
 start_10 i d e bus row (start_without_memory fault refused) is well = absurd (let no : ⊥ = omega (arith, is) in no)
 
 start_7 : {V : Type 0} (i : BusInputs) (d : CommandDisks V) (e : Ending) (bus : NamedBus) (row : Row) → ComesOfStart bus d.states row → row.status ≡ 7 → PrintsWhole e row.text → ComesOfStart bus d.states memory_row × PrintsWhole e []
-start_7 i d e bus row (disks_refused fault text finds same told) is well = absurd (let no : ⊥ = omega (arith, is) in no)
-start_7 i d e bus row (store_refused fault text room cause left told) is well = absurd (let no : ⊥ = omega (arith, is) in no)
+start_7 i d e bus row (disks_refused fault finds same) is well = absurd (let no : ⊥ = omega (arith, is) in no)
+start_7 i d e bus row (store_refused fault room cause left) is well = absurd (let no : ⊥ = omega (arith, is) in no)
 start_7 i d e bus row (start_without_memory fault refused) is well = (start_without_memory fault refused, well)
 
 row_0 : {V : Type 0} (i : BusInputs) (d : CommandDisks V) (e : Ending) (row : Row) → ComesInRun i d row → row.status ≡ 0 → PrintsWhole e row.text
@@ -280,14 +280,14 @@ row_7 i d e row (tried summary ran) is well = absurd (let no : ⊥ = omega (arit
 row_7 i d e row (tried_without_memory summary ran) is well = (tried_without_memory summary ran, well)
 
 row_9 : {V : Type 0} (i : BusInputs) (d : CommandDisks V) (e : Ending) (row : Row) → ComesInRun i d row → row.status ≡ 9 → PrintsWhole e row.text
-    → OverWorld i (λ bus events. IsNamedBus bus × (d.states.after ≡ d.states.before) × ((fault : StartFault) × FindsRoom bus d.states.before fault × PrintsThe e (start_fault_text fault)))
+    → OverWorld i (λ bus events. IsNamedBus bus × (d.states.after ≡ d.states.before) × ((fault : StartFault) × FindsRoom bus d.states.before fault × PrintsWhole e (start_row fault).text))
 row_9 i d e row (without_disks _ comes same) is well = absurd (let no : ⊥ = omega (arith, (inputs_not i d e row comes).0, is) in no)
 row_9 i d e row (not_started _ (c, bus, events, set, comes)) is well = let at = start_9 i d e bus row comes.1 is well in (c, bus, events, set, (comes.0, at.0, at.1))
 row_9 i d e row (tried summary ran) is well = absurd (let no : ⊥ = omega (arith, is) in no)
 row_9 i d e row (tried_without_memory summary ran) is well = absurd (let no : ⊥ = omega (arith, is) in no)
 
 row_10 : {V : Type 0} (i : BusInputs) (d : CommandDisks V) (e : Ending) (row : Row) → ComesInRun i d row → row.status ≡ 10 → PrintsWhole e row.text
-    → OverWorld i (λ bus events. LeavesEach Format bus d.states.before d.states.after × ((fault : StartFault) × StoreCause Format bus d.states.before d.states.after fault × PrintsThe e (start_fault_text fault)))
+    → OverWorld i (λ bus events. LeavesEach Format bus d.states.before d.states.after × ((fault : StartFault) × StoreCause Format bus d.states.before d.states.after fault × PrintsWhole e (start_row fault).text))
 row_10 i d e row (without_disks _ comes same) is well = absurd (let no : ⊥ = omega (arith, (inputs_not i d e row comes).0, is) in no)
 row_10 i d e row (not_started _ (c, bus, events, set, comes)) is well = (c, bus, events, set, start_10 i d e bus row comes.1 is well)
 row_10 i d e row (tried summary ran) is well = absurd (let no : ⊥ = omega (arith, is) in no)

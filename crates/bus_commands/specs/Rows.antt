@@ -15,7 +15,8 @@ use Rattle.bus_machine.specs.Bus.{First}
 use Rattle.bus_commands.specs.declared.summary.Summary.{Summary}
 use Rattle.bus_commands.specs.Words.{AsksNothing}
 use Rattle.bus_commands.specs.Texts.{usage, Prints, fault_of}
-use Rattle.bus_commands.specs.Inputs.{BusInputs, AsksOverBus, IsConfigFault, NoConfig, NoScript, Over, OverReplay, OverTrial, OverWorld}
+use Rattle.bus_commands.specs.Inputs.{BusInputs, AsksOverBus, IsConfigFault, NoConfig, NoScript, Over, OverReplay}
+use Rattle.bus_commands.specs.Inputs.{OverTrial, OverWorld}
 use Rattle.bus_commands.specs.StartRows.{DiskStates, CommandDisks, ComesOfStart}
 use Rattle.bus_commands.specs.Summaries.{summary_text}
 use Rattle.bus_commands.specs.Replays.{ReplayTurns, written_status}

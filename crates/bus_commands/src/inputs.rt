@@ -1,6 +1,7 @@
 //! What the sources of a command have, or why they have it not.
 ghost use Rattle.std.specs.Prelude.{◌<◌, ◌≤◌, ◌^◌, length};
-ghost use Rattle.bus_commands.specs.Steps.{FindsBus, HasBus, IsConfigRow, FindsLines, FindsScript, HasScript, DrawsEvents};
+ghost use Rattle.bus_commands.specs.Steps.{FindsBus, HasBus, IsConfigRow, FindsLines, FindsScript, HasScript};
+ghost use Rattle.bus_commands.specs.Steps.{DrawsEvents};
 
 use crate::questions::{Question, questions};
 use crate::trial_words::TrialWords;

@@ -3,8 +3,9 @@ use crate::events::canonical;
 use crate::questions::answers;
 use crate::words::WorldCommand;
 use bus_nodes::BusConfig;
-use bus_script::{Event, FrameLine, JudgeLine};
+use bus_script::Event;
 use std::alloc::{AllocError, Global};
+use text_lines::{FrameLine, JudgeLine};
 
 /// What is to be done.
 #[derive(Drop)]

@@ -4,8 +4,8 @@ ghost use Rattle.bus_commands.specs.TrialRuns.{TrialsAreRuns};
 
 use world_runs::{starts_are_set_up, starts_begin_at_the_first_world, turns_are_world_runs};
 
-/// What was done of a replay over disks that tell their bytes is one run of the machine from the first world of the bus,
-/// and all of `Replayed` holds of it.
+/// What was done of a replay over disks that tell their bytes is one run of the machine from the first world of the
+/// bus, and all of `Replayed` holds of it.
 pub fn replays_are_runs()
     ensures { ReplaysAreRuns }
 {

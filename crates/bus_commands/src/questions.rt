@@ -9,10 +9,10 @@ use crate::lines::{
     KeptSchedule, most_frame_bytes, most_judgement_bytes, push_frame, push_judgement,
 };
 use answer_rows::Refusal;
-use bus_script::{FrameLine, JudgeLine, ScriptFault, read_frames, read_judges};
 use line_rows::line_refusal;
 use she_aes::Block;
 use std::alloc::{AllocError, Global};
+use text_lines::{FrameLine, JudgeLine, ScriptFault, read_frames, read_judges};
 
 /// A kind of line that a command reads, each of which has an answer.
 pub trait Question: Sized + Drop {

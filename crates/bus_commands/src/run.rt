@@ -1,9 +1,9 @@
 //! The commands of the program.
 ghost use Rattle.std.specs.Prelude.{◌≡◌, ◌≤◌, map, string_bytes};
 ghost use Rattle.answer_rows.specs.Endings.{EndsInRow};
-ghost use Rattle.bus_commands.specs.Rows.{EndsCommand};
-ghost use Rattle.bus_commands.specs.Commands.{RunsCommand};
-ghost use Rattle.bus_commands.specs.Steps.{Prepares, PreparesLines, PreparesWorld, HasFewEvents, FindsEvents, IsWholeLines, IsWholeWorld, AnswersLines, AnswersWorld};
+ghost use Rattle.bus_commands.specs.Commands.{RunsCommand, RunsMachine};
+ghost use Rattle.bus_commands.specs.Steps.{Prepares, PreparesLines, PreparesWorld, HasFewEvents, FindsEvents};
+ghost use Rattle.bus_commands.specs.Steps.{IsWholeLines, IsWholeWorld, AnswersLines, AnswersWorld};
 ghost use Rattle.bus_nodes.specs.Buses.{NamedBus};
 
 use crate::inputs::{bus_from, drawn_events, questions_from, script_from};
@@ -50,11 +50,10 @@ pub fn run<S: Source, T: Source, K: Sink, D: CutDisk>(
         })
         (record { before = K.state sink.old; after = K.state sink.new; status = result }) }
 
-    // A row of the table of answers comes; or a replay of valid inputs did its first events. Over disks that tell
-    // their bytes the events of a replay and of a trial are one run of the machine from the first world of the bus,
-    // and one record has all that holds of it: `is_a_run`, `are_lines`, `rising`, `authentic`, `single`, `keys_kept`,
-    // `cuts_skip_little`, `covered`, `disks`, `failures` and `honest`.
-    ensures replayed { EndsCommand
+    // The headline: over disks that tell their bytes a replay is one run of the machine from the first world of the
+    // bus, and so is a trial. `Replayed` and `Tried` have all that holds of it: `is_a_run`, `are_lines`, `rising`,
+    // `authentic`, `single`, `keys_kept`, `cuts_skip_little`, `covered`, `disks`, `failures` and `honest`.
+    ensures replayed { RunsMachine
         (record {
           words = map string_bytes words.now;
           config = record { before = S.state config.old; after = S.state config.new };

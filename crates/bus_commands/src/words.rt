@@ -1,6 +1,7 @@
 //! The words of the command line.
 ghost use Rattle.std.specs.Prelude.{◌≡◌, ℕ, List, map, string_bytes, IfSome, IfNone};
-ghost use Rattle.bus_commands.specs.Words.{Asks, NamesCommand, NamesBusCommand, NamesTrialCommand, AsksNothing, NamesConfig, NamesScript, AreInput};
+ghost use Rattle.bus_commands.specs.Words.{Asks, NamesCommand, NamesBusCommand, NamesTrialCommand, AsksNothing};
+ghost use Rattle.bus_commands.specs.Words.{NamesConfig, NamesScript, AreInput};
 ghost use Rattle.bus_commands.specs.declared.words.Command.{Command};
 
 use crate::trial_words::{TrialWords, trial_of};

@@ -1,6 +1,6 @@
-//! The world of a bus: its nodes over their disks, and what was sent on it so far. Its parts stand alone, too: the nodes of
-//! a bus ([`open_nodes`], [`close_nodes`]), the turn of a node ([`own_turn`]), and the row of a start that is refused
-//! ([`start_refusal`]).
+//! The world of a bus: its nodes over their disks, and what was sent on it so far. Its parts stand alone, too: the
+//! nodes of a bus ([`open_nodes`], [`close_nodes`]), the turn of a node ([`own_turn`]), and the row of a start that is
+//! refused ([`start_refusal`]).
 #![tactic(auto)]
 
 mod laws;

@@ -12,8 +12,8 @@ use sent_lines::History;
 use std::marker::Model;
 
 /// The nodes of a bus over their disks, and the lines that were sent on it. Contracts see the states of the nodes and
-/// their disks, how many events there were and may be, and the lines that were sent. Each node is always sound, also over
-/// a disk that doesn't tell its bytes.
+/// their disks, how many events there were and may be, and the lines that were sent. Each node is always sound, also
+/// over a disk that doesn't tell its bytes.
 ///
 /// A step takes no memory. It finds the line that a `deliver` names by halving, and the event that sent what is
 /// accepted along links, of which few are needed (measured, and no clause).
