@@ -1,6 +1,6 @@
 -- A start that is refused: which row comes, and what that says of the disks
 use Rattle.std.specs.Prelude.{◌≡◌, ◌⊎◌}
-use Rattle.std.proofs.Common.{refl, sym, subst, inl, inr}
+use Rattle.std.proofs.Common.{refl, sym, subst, inl, inr, arith}
 use Rattle.answer_rows.specs.Rows.{Row, row_of, memory_row}
 use Rattle.bus_nodes.specs.Buses.{NamedBus}
 use Rattle.bus_world.specs.declared.start.Start.{Start}
@@ -47,12 +47,19 @@ Comes-leaves start bus d row (start_without_memory fault refused) = start_leaves
 
 -- ---- the status
 
--- it is 9, 10 or 7, and 7 is that of want of memory
+-- it is 9, 10 or 7
 pub start_status : (start : Start) (bus : NamedBus) (d : DiskStates) (row : Row) → ComesOfStart start bus d row
-    → (row.status ≡ 9) ⊎ ((row.status ≡ 10) ⊎ ((row.status ≡ 7) × (row ≡ memory_row)))
+    → (row.status ≡ 9) ⊎ ((row.status ≡ 10) ⊎ (row.status ≡ 7))
 start_status start bus d row (disks_refused fault finds same) = inl refl
 start_status start bus d row (store_refused fault room cause left) = inr (inl refl)
-start_status start bus d row (start_without_memory fault refused) = inr (inr (refl, refl))
+start_status start bus d row (start_without_memory fault refused) = inr (inr refl)
+
+-- 7 is that of want of memory
+pub start_memory : (start : Start) (bus : NamedBus) (d : DiskStates) (row : Row) → ComesOfStart start bus d row
+    → row.status ≡ 7 → row ≡ memory_row
+start_memory start bus d row (disks_refused fault finds same) is = absurd (let no : ⊥ = omega (arith, is) in no)
+start_memory start bus d row (store_refused fault room cause left) is = absurd (let no : ⊥ = omega (arith, is) in no)
+start_memory start bus d row (start_without_memory fault refused) is = refl
 
 -- without room it is 9, or 7
 pub start_without_room : (start : Start) (bus : NamedBus) (d : DiskStates) (row : Row) → ComesOfStart start bus d row
