@@ -35,7 +35,7 @@ use Rattle.gateway_machine.specs.declared.lines.GatewayLine.{GatewayLine}
 use Rattle.gateway_machine.specs.Gateway.{departs_under, EventStep, GatewayStep, GatewayMoments, GatewayRun}
 use Rattle.gateway_machine.specs.Laws.{RunsForwardWhatArrived, ArrivalsRise, DeparturesRise}
 use Rattle.secoc_gateway.specs.State.{GatewayState, over}
-use Rattle.secoc_gateway.specs.Turns.{calls_under, most_gateway_calls, tells_disk_failure, GatewayTurn}
+use Rattle.secoc_gateway.specs.Turns.{calls_under, most_gateway_calls, tells_gateway_failure, GatewayTurn}
 use Rattle.gateway_commands.specs.Texts.{gateway_text}
 use Rattle.gateway_commands.specs.Inputs.{gate_config, gate_node}
 use Rattle.gateway_commands.specs.Runs.{RanGateway}
@@ -117,9 +117,9 @@ module _ (l : Layout) (pairs : List (ℕ × ℕ)) where
       ∙ ap (λ (c : Config). calls_under (departs_under pairs e) (most_calls (14 + length c.routes) (mark_of e))) (sym config)
 
   turn_disk : (s : GatewayState) (e : Event) (line : GatewayLine) (t : GatewayState) → Holds l pairs s → GatewayTurn s e line t
-      → DiskTurn (mark_of e) (most_gateway_calls pairs t.node e) (tells_disk_failure line) s.store.disk t.store.disk × Holds l pairs t
+      → DiskTurn (mark_of e) (most_gateway_calls pairs t.node e) (tells_gateway_failure line) s.store.disk t.store.disk × Holds l pairs t
   turn_disk s e line t h turn = (
-    subst (λ (n : ℕ). DiskTurn (mark_of e) n (tells_disk_failure line) s.store.disk t.store.disk) (same_calls s t e h.pairs_are turn.config) turn.disk,
+    subst (λ (n : ℕ). DiskTurn (mark_of e) n (tells_gateway_failure line) s.store.disk t.store.disk) (same_calls s t e h.pairs_are turn.config) turn.disk,
     turn_holds s e line t h turn,
   )
 
@@ -200,15 +200,15 @@ module _ (laws : Laws) (bus : NamedBus) (pairs : List (ℕ × ℕ)) (before afte
   traced d all told =
       subst (λ (n : Node). TracedSince mark_of (most_gateway_calls pairs) (FitsNode l) n (seen ms) (get_or before 0 d) all) starts_first
       (traced_since GatewayTurn (λ (g : GatewayState). g.node) (λ (g : GatewayState). g.store.disk) mark_of (most_gateway_calls pairs)
-      (λ (e : Event) (line : GatewayLine). tells_disk_failure line) (Holds l pairs) (turn_disk l pairs) (FitsNode l) (tells_bytes l pairs)
+      (λ (e : Event) (line : GatewayLine). tells_gateway_failure line) (Holds l pairs) (turn_disk l pairs) (FitsNode l) (tells_bytes l pairs)
       (start_calls Format bus.kind (gate_config bus)) (get_or before 0 d) ran.start ms ran.now (opened_disk bus (get_or before 0 d) (over ran.start) (ran.opened d))
       starts ran.printed.run all (ap (λ (disk : DiskState). disk.past) (sym (disk_back d)) ∙ told))
 
   failures : FailuresAreCounted before after (seen ms)
   failures d =
-      subst (λ (disk : DiskState). FailuresTold mark_of (λ (e : Event) (line : GatewayLine). tells_disk_failure line) (seen ms) (get_or before 0 d) disk) (sym (disk_back d))
+      subst (λ (disk : DiskState). FailuresTold mark_of (λ (e : Event) (line : GatewayLine). tells_gateway_failure line) (seen ms) (get_or before 0 d) disk) (sym (disk_back d))
       (failures_told GatewayTurn (λ (g : GatewayState). g.node) (λ (g : GatewayState). g.store.disk) mark_of (most_gateway_calls pairs)
-      (λ (e : Event) (line : GatewayLine). tells_disk_failure line) (Holds l pairs) (turn_disk l pairs)
+      (λ (e : Event) (line : GatewayLine). tells_gateway_failure line) (Holds l pairs) (turn_disk l pairs)
       (start_calls Format bus.kind (gate_config bus)) (get_or before 0 d) ran.start ms ran.now (opened_disk bus (get_or before 0 d) (over ran.start) (ran.opened d))
       starts ran.printed.run)
 

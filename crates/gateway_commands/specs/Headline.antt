@@ -15,7 +15,7 @@ use Rattle.bus_nodes.specs.Buses.{NamedBus}
 use Rattle.secoc_node.specs.Fits.{FitsNode}
 use Rattle.gateway_machine.specs.Gateway.{GatewayMoments, GatewayRun}
 use Rattle.gateway_machine.specs.Claims.{AllForwardRight, FreshnessRises}
-use Rattle.secoc_gateway.specs.Turns.{most_gateway_calls, tells_disk_failure}
+use Rattle.secoc_gateway.specs.Turns.{most_gateway_calls, tells_gateway_failure}
 use Rattle.gateway_commands.specs.Texts.{gateway_text}
 use Rattle.gateway_commands.specs.Inputs.{gate_node}
 use Rattle.gateway_commands.specs.Runs.{RanGateway}
@@ -42,7 +42,7 @@ pub record DiskFollows (bus : NamedBus) (pairs : List (ℕ × ℕ)) (before afte
 abbrev pub FailuresAreCounted : List DiskState → List DiskState → GatewayMoments → Type 0
 FailuresAreCounted before after moments =
     (d : DiskState)
-    → FailuresTold mark_of (λ event line. tells_disk_failure line) moments (get_or before 0 d) (get_or after 0 d)
+    → FailuresTold mark_of (λ event line. tells_gateway_failure line) moments (get_or before 0 d) (get_or after 0 d)
 
 pub record OneGatewayRun (bus : NamedBus) (pairs : List (ℕ × ℕ)) (before after : List DiskState) (events : List Event)
     (sink_before sink_after : SinkState) (result : Result (Unit {0}) Unwritten) : Type 0 where

@@ -24,12 +24,12 @@ use Rattle.secoc_gateway.specs.declared.arrival.Arrival.{Arrival}
 use Rattle.secoc_gateway.specs.declared.arrival.Arrival.TheVariants as arrival
 use Rattle.secoc_gateway.specs.Arrivals.{arrival_line, IsFaulted}
 use Rattle.secoc_gateway.specs.State.{GatewayState, over}
-use Rattle.secoc_gateway.specs.Turns.{tells_disk_failure, calls_under, most_gateway_calls, GatewayTurn}
+use Rattle.secoc_gateway.specs.Turns.{tells_gateway_failure, calls_under, most_gateway_calls, GatewayTurn}
 use Rattle.secoc_gateway.proofs.Paired.{passes_config}
 
 -- ---- what a line tells
 
-refusal_counts : (r : Refusal) (before after : ℕ) → TellsFaults (line.Refused r) before after → CountsFailure (tells_disk_failure (OfNode (line.Refused r))) before after
+refusal_counts : (r : Refusal) (before after : ℕ) → TellsFaults (line.Refused r) before after → CountsFailure (tells_gateway_failure (OfNode (line.Refused r))) before after
 refusal_counts refusal.Down before after told = told
 refusal_counts refusal.NoRoute before after told = told
 refusal_counts refusal.BadLength before after told = told
@@ -41,7 +41,7 @@ refusal_counts (refusal.Damaged place) before after told = told
 refusal_counts (refusal.BadSlot slot) before after told = told
 refusal_counts (refusal.BadBound cell) before after told = told
 
-line_counts : (l : Line) (before after : ℕ) → TellsFaults l before after → CountsFailure (tells_disk_failure (OfNode l)) before after
+line_counts : (l : Line) (before after : ℕ) → TellsFaults l before after → CountsFailure (tells_gateway_failure (OfNode l)) before after
 line_counts (line.Sent id v pdu) before after told = told
 line_counts (line.Accepted id v payload source) before after told = told
 line_counts line.FreshnessFailure before after told = told
@@ -95,7 +95,7 @@ some_not_none o out some none = cc
 
 pub pair_gateway_turn : (before after : GatewayState) (place id out : ℕ) (pdu : List ℕ) (told : GatewayLine) → second_of before.pairs id ≡ Some out
     → GatewayStep EventStep before.pairs before.node (Inject place id pdu) told after.node → after.pairs ≡ before.pairs → after.store.layout ≡ before.store.layout
-    → DiskTurn None 12 (tells_disk_failure told) before.store.disk after.store.disk → (FitsNow (over before) → FitsNow (over after))
+    → DiskTurn None 12 (tells_gateway_failure told) before.store.disk after.store.disk → (FitsNow (over before) → FitsNow (over after))
     → GatewayTurn before (Inject place id pdu) told after
 pair_gateway_turn before after place id out pdu told is step same layout disk fits = record {
   step = λ _. step;
@@ -104,14 +104,14 @@ pair_gateway_turn before after place id out pdu told is step same layout disk fi
   config = passes_config out before.node (Inject place id pdu) told after.node
       (subst (λ (o : Option ℕ). StepUnder EventStep o before.node (Inject place id pdu) told after.node) is step);
   layout = layout;
-  disk = subst (λ (n : ℕ). DiskTurn None n (tells_disk_failure told) before.store.disk after.store.disk)
+  disk = subst (λ (n : ℕ). DiskTurn None n (tells_gateway_failure told) before.store.disk after.store.disk)
       (ap (λ (o : Option ℕ). calls_under o (most_calls (cell_count before.node) None)) (sym is)) disk;
   fits = fits;
 }
 
 -- the line of an arrival tells that the disk failed where its answer is that fault
 pub arrival_counts : (id out : ℕ) (bytes : List ℕ) (answer : Result Arrival NodeFault) (before after : ℕ) → (IsFaulted answer → Rose before after)
-    → ((¬ IsFaulted answer) → after ≡ before) → CountsFailure (tells_disk_failure (arrival_line id out bytes answer)) before after
+    → ((¬ IsFaulted answer) → after ≡ before) → CountsFailure (tells_gateway_failure (arrival_line id out bytes answer)) before after
 arrival_counts id out bytes (Ok (arrival.Forwarded v sent)) before after faulted calm = calm (λ no. no)
 arrival_counts id out bytes (Ok (arrival.Dropped v fault.Down)) before after faulted calm = calm (λ no. no)
 arrival_counts id out bytes (Ok (arrival.Dropped v fault.NoRoute)) before after faulted calm = calm (λ no. no)

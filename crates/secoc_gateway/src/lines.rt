@@ -10,7 +10,8 @@ use byte_lists::Pdu;
 use gateway_machine::GatewayLine;
 use secoc_node::NodeFault;
 
-/// The line of an arrival under the first Data ID of a pair: what departs under the second stands at the front of `out`.
+/// The line of an arrival under the first Data ID of a pair: what departs under the second stands at the front of
+/// `out`.
 pub fn line_of(
     id: u16,
     second: u16,

@@ -86,6 +86,9 @@ impl<C: Cells> Node<C> {
         ensures within { IfOk result (λ sent. sent.len ≤ 64) }
         ensures rest { IfOk result (λ sent. drop sent.len out.new ≡ drop sent.len out.old) }
         ensures covered { IfOk result (λ sent. IsCovered self.new id Sends sent.freshness) }
+        // what is covered of the routes that receive stays so, whatever came of the send
+        ensures others { (other freshness : ℕ) → IsCovered self.old other Receives freshness
+            → IsCovered self.new other Receives freshness }
         ensures untouched { IfErr result (λ fault. fault ≢ NodeFault.Faulted → self.new ≡ self.old) }
         ensures unwritten { OnErr result (out.new ≡ out.old) }
         ensures down { IsErrOf result NodeFault.Down ↔ self.old.node.up ≡ false }

@@ -36,7 +36,15 @@ returns-in-Ok-clause-runs g c = runs_join c.receive.ensures.runs c.send.ensures.
 pub returns-in-Ok-clause-fits : goal.returns-in-Ok-clause-fits
 returns-in-Ok-clause-fits g c = λ fits. c.send.ensures.fits (c.receive.ensures.fits fits)
 
+pub returns-in-Ok-clause-arrival_covered : goal.returns-in-Ok-clause-arrival_covered
+returns-in-Ok-clause-arrival_covered g c =
+    c.send.ensures.others c.args.id c.in-Ok-Accepted.freshness (rw c.in-Ok-Accepted.field-0-is at c.in-Ok-Accepted.ensures.covered)
+
 -- ---- it didn't
+
+pub returns-in-Err-send-clause-arrival_covered : goal.returns-in-Err-send-clause-arrival_covered
+returns-in-Err-send-clause-arrival_covered g c =
+    c.send.ensures.others c.args.id c.in-Ok-Accepted.freshness (rw c.in-Ok-Accepted.field-0-is at c.in-Ok-Accepted.ensures.covered)
 
 pub returns-in-Err-send-clause-step : goal.returns-in-Err-send-clause-step
 returns-in-Err-send-clause-step g c place = record {
@@ -116,3 +124,6 @@ returns-in-Err-clause-forwards g c payload v can =
 
 pub returns-in-Err-clause-runs : goal.returns-in-Err-clause-runs
 returns-in-Err-clause-runs g c = runs_more 12 (omega arith) c.receive.ensures.runs
+
+pub returns-in-Err-clause-routed : goal.returns-in-Err-clause-routed
+returns-in-Err-clause-routed g c none = (c.in-Err.ensures.no_route.0 none).1 c.requires.receives
