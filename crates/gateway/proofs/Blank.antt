@@ -19,7 +19,7 @@ use Rattle.bus_script.specs.EventForms.{no_node}
 use Rattle.freshness_routes.specs.Config.{Config}
 use Rattle.bus_world.specs.declared.start.Start.TheVariants.{Format}
 use Rattle.bus_world.specs.Starts.{FindsRoom, OfNumber}
-use Rattle.bus_world.specs.StartRows.{LeavesEach, StoreCause}
+use Rattle.bus_world.specs.StartRows.{StoreCause}
 use Rattle.bus_world.specs.declared.start.StartFault.{StartFault}
 use Rattle.bus_world.specs.declared.start.StartFault.TheVariants.{TooFew, TooSmall, Store, BadSlot, BadBound, Memory}
 use Rattle.gateway.specs.Given.{IsOneBlank}
@@ -76,10 +76,10 @@ only_disk bus after number P one of =
 
 no_cause : (bus : NamedBus) (after : List DiskState) (fault : StartFault) → length bus.nodes ≡ 1 → StoreCause Format bus (blank_state ∷ []) after fault → ⊥
 no_cause bus after (Store number DiskFailed) one of = (only_disk bus after number _ one of).1 blank_quiet
-no_cause bus after (Store number NotFormatted) one of = let none = only_disk bus after number _ one of in cc
-no_cause bus after (Store number (Damaged place)) one of = let none = only_disk bus after number _ one of in cc
-no_cause bus after (BadSlot number slot) one of = let none = only_disk bus after number _ one of in cc
-no_cause bus after (BadBound number cell) one of = let none = only_disk bus after number _ one of in cc
+no_cause bus after (Store number NotFormatted) one of = let none = (only_disk bus after number _ one of).0 in cc
+no_cause bus after (Store number (Damaged place)) one of = let none = (only_disk bus after number _ one of).0 in cc
+no_cause bus after (BadSlot number slot) one of = let none = (only_disk bus after number _ one of).0 in cc
+no_cause bus after (BadBound number cell) one of = let none = (only_disk bus after number _ one of).0 in cc
 no_cause bus after TooFew one of = of
 no_cause bus after (TooSmall number) one of = of
 no_cause bus after Memory one of = of

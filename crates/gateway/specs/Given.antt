@@ -1,5 +1,5 @@
 -- The disk that the program makes for a gateway
-use Rattle.std.specs.Prelude.{◌≡◌, ℕ, List, [], ◌∷◌, replicate}
+use Rattle.std.specs.Prelude.{◌≡◌, ◌⊎◌, ℕ, List, [], ◌∷◌, replicate}
 use Rattle.cut_disk.specs.declared.mem_disk.MemDisk.{MemDisk}
 use Rattle.cut_disk.specs.Memory.{fresh}
 use Rattle.cut_disk.specs.MemDisk.{contents}
@@ -14,3 +14,7 @@ pub record IsOneBlank (disks : List MemDisk) : Type 0 where
 -- for a gateway, and for the example, which has no words
 abbrev pub DisksAreGiven : List (List ℕ) → List MemDisk → Type 0
 DisksAreGiven words disks = (AsksSomeGateway words → IsOneBlank disks) × (words ≡ [] → IsOneBlank disks)
+
+-- the words ask for a gateway, or there are none
+abbrev pub AsksOrNone : List (List ℕ) → Type 0
+AsksOrNone words = AsksSomeGateway words ⊎ (words ≡ [])

@@ -27,6 +27,7 @@ use Rattle.bus_world.specs.StartAnswerLaws.{Comes-leaves, start_status, start_me
 use Rattle.bus_inputs.specs.Statuses.{unwritten_status}
 use Rattle.bus_inputs.specs.BusFiles.{OffersBus}
 use Rattle.bus_inputs.specs.BusFileLaws.{same_bus, told_fault, told_too_much, bus_or_fault}
+use Rattle.gateway_commands.specs.Headline.{TellsFirst, OneGatewayRun}
 use Rattle.gateway_commands.specs.Words.{AsksGateway, AsksNoGateway}
 use Rattle.gateway_commands.specs.Texts.{gateway_usage}
 use Rattle.gateway_commands.specs.Inputs.{GatewayInputs, RefusesPairs, RefusesConfig, NoGatewayConfig, NoGatewayScript, SetsGateway, OverGateway, OffersGateway}
@@ -200,10 +201,22 @@ module _ (same : Type 0) (i : GatewayInputs) (d : DiskStates) (e : Ending) where
     | inr (is, rose, part) ↦ absurd (let no : ⊥ = omega (arith, is, low) in no)
   ]
 
+  abbrev Ended : Result (Unit {0}) Unwritten → Type 0
+  Ended result = OverGateway i (λ bus pairs events. DoneGateway bus pairs events d e result)
+
+  one_of : Ended (Ok tt) → TellsFirst d.before
+      → OverGateway i (λ bus pairs events. OneGatewayRun bus pairs d.before d.after events e.before e.after (Ok tt))
+  one_of (bus, pairs, events, set, done) tells = (bus, pairs, events, set, done.one_run tells)
+
+  row_done : EndsInRow Comes e → e.status ≡ 0 → Ended (Ok tt)
+  row_done ends = EndsInRow-at ends 0 refl (λ row comes is well. absurd (row_not_0 row comes is))
+
   of_row : EndsInRow Comes e → RunsGateway same i d e
   of_row ends = record {
+    ends = in_row ends;
     disks_unused = unused ends;
-    done = EndsInRow-at ends 0 refl (λ row comes is well. absurd (row_not_0 row comes is));
+    done = row_done ends;
+    is_a_run = λ is. one_of (row_done ends is);
     usage_told = EndsInRow-at ends 2 refl row_2;
     usage_only = λ nothing. EndsInRow-only ends 2 (λ row comes. row_asks same i d row comes nothing);
     config_refused = EndsInRow-at ends 3 refl row_3;
@@ -228,9 +241,6 @@ module _ (same : Type 0) (i : GatewayInputs) (d : DiskStates) (e : Ending) where
   }
 
   -- ---- where the first events were done
-
-  abbrev Ended : Result (Unit {0}) Unwritten → Type 0
-  Ended result = OverGateway i (λ bus pairs events. DoneGateway bus pairs events d e result)
 
   done_status : (result : Result (Unit {0}) Unwritten) → e.status ≡ unwritten_status result → (e.status ≡ 0) ⊎ ((e.status ≡ 6) ⊎ (e.status ≡ 7))
   done_status (Ok _) is = inl is
@@ -295,8 +305,10 @@ module _ (same : Type 0) (i : GatewayInputs) (d : DiskStates) (e : Ending) where
 
   of_run : (result : Result (Unit {0}) Unwritten) → Ended result → RunsGateway same i d e
   of_run result over = record {
+    ends = ran result over;
     disks_unused = λ low. absurd (let no : ⊥ = omega (arith, status_of result over, low) in no);
     done = done_0 result over;
+    is_a_run = λ is. one_of (done_0 result over is);
     usage_told = λ is. absurd (let no : ⊥ = omega (arith, status_of result over, is) in no);
     usage_only = λ nothing. absurd (asked result over nothing);
     config_refused = λ is. absurd (let no : ⊥ = omega (arith, status_of result over, is) in no);

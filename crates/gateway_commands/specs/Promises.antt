@@ -22,7 +22,8 @@ use Rattle.bus_inputs.specs.BusFiles.{OffersBus}
 use Rattle.gateway_commands.specs.Words.{AsksGateway, AsksNoGateway}
 use Rattle.gateway_commands.specs.Texts.{gateway_usage}
 use Rattle.gateway_commands.specs.Inputs.{GatewayInputs, NoGatewayConfig, NoGatewayScript, RefusesPairs, RefusesConfig, OverGateway, OffersGateway}
-use Rattle.gateway_commands.specs.Rows.{ScriptHasFault, RowOfInputs, DoneGateway}
+use Rattle.gateway_commands.specs.Headline.{TellsFirst, OneGatewayRun}
+use Rattle.gateway_commands.specs.Rows.{ScriptHasFault, RowOfInputs, DoneGateway, EndsGateway}
 
 -- a proper front was written of the text of a row that comes, as the sink failed; or nothing, as there was no memory
 abbrev pub CutShort : (Row → Type 0) → Ending → Unwritten → Type 0
@@ -41,10 +42,16 @@ pub data EndsEarly (same : Type 0) (i : GatewayInputs) (d : DiskStates) (e : End
 -- what a gateway promises that has these inputs and disks and ends so, in the order of the table of answers; `same` is that
 -- every disk is as before
 pub record RunsGateway (same : Type 0) (i : GatewayInputs) (d : DiskStates) (e : Ending) : Type 0 where
+  -- A row of the table comes; or of valid inputs the first events were done.
+  pub ends : EndsGateway same i d e
   -- Every disk is as before at the status 2, 3, 4, 5 and 8.
   pub disks_unused : (e.status ≡ 2) ⊎ (e.status ≡ 3) ⊎ (e.status ≡ 4) ⊎ (e.status ≡ 5) ⊎ (e.status ≡ 8) → same
   -- 0: the inputs were read whole, and all events were done, with the text of each line.
   pub done : e.status ≡ 0 → OverGateway i (λ bus pairs events. DoneGateway bus pairs events d e (Ok tt))
+  -- Over a disk that tells its bytes they are one run of the machine from the first node of the bus, and one record has all
+  -- that holds of it.
+  pub is_a_run : e.status ≡ 0 → TellsFirst d.before
+      → OverGateway i (λ bus pairs events. OneGatewayRun bus pairs d.before d.after events e.before e.after (Ok tt))
   -- 2: exactly where the words are of another form; nothing was read.
   pub usage_told : e.status ≡ 2 → AsksNoGateway i.words × IsUnread i.config × IsUnread i.script × PrintsWhole e gateway_usage
   pub usage_only : AsksNoGateway i.words → EndsIn 2 e

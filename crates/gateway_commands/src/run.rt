@@ -1,7 +1,6 @@
 //! The command of the program.
 ghost use Rattle.std.specs.Prelude.{◌≡◌, map, string_bytes};
 ghost use Rattle.gateway_commands.specs.Promises.{RunsGateway};
-ghost use Rattle.gateway_commands.specs.Rows.{EndsGateway};
 ghost use Rattle.gateway_commands.specs.Steps.{PreparesGateway};
 
 use crate::inputs::{check_pairs, own_script_from};
@@ -30,20 +29,10 @@ pub fn run_gateway<S: Source, T: Source, K: Sink, D: CutDisk>(
     sink: &mut K,
     disks: &mut Vec<D>,
 ) -> u8
-    // `RunsGateway` of specs/Promises.antt has a member for each promise, in the order of the table of answers.
-    ensures promises { RunsGateway (disks.new ≡ disks.old)
-        (record {
-          words = map string_bytes words.now;
-          config = record { before = S.state config.old; after = S.state config.new };
-          script = record { before = T.state script.old; after = T.state script.new };
-        })
-        (record { before = map D.state disks.old.items; after = map D.state disks.new.items })
-        (record { before = K.state sink.old; after = K.state sink.new; status = result }) }
-
-    // A row of the table of answers comes; or of valid inputs the first events were done. Over a disk that tells its bytes they are one
-    // run of the machine from the first node of the bus, and one record has all that holds of it: `is_a_run`, `forwards_what_arrived`,
-    // `arrivals_rise`, `departures_rise`, `disks` and `failures`.
-    ensures runs { EndsGateway (disks.new ≡ disks.old)
+    // `RunsGateway` of specs/Promises.antt has a member for each promise, in the order of the table of answers. Over a disk
+    // that tells its bytes what was done is one run of the machine, and one record has all that holds of it: `is_a_run`,
+    // `forwards_what_arrived`, `arrivals_rise`, `departures_rise`, `disks` and `failures`.
+    ensures { RunsGateway (disks.new ≡ disks.old)
         (record {
           words = map string_bytes words.now;
           config = record { before = S.state config.old; after = S.state config.new };

@@ -17,7 +17,7 @@ returns-in-Ok g c =
         config = Offers-clean config BUS.now (ap (λ (s : CleanSourceState). Some s.left) c.new-config.ensures ∙ ap Some c.in-Ok.ensures.bus) short_bus refl;
         script = Offers-clean script SCRIPT.now (ap (λ (s : CleanSourceState). Some s.left) c.new-script.ensures ∙ ap Some c.in-Ok.ensures.script) short_script refl;
       },
-      c.run_gateway.ensures.promises,
+      c.run_gateway.ensures,
     )
 
 pub returns-in-Err : goal.returns-in-Err

@@ -14,7 +14,7 @@ returns-then-not-is_asked-clause-named g c some =
       config = record { before = missing_source c.new-config.result; after = missing_source c.run_gateway.new.config };
       script = record { before = missing_source c.new-script.result; after = missing_source c.run_gateway.new.script };
     } in
-    (i, none_named (g.O.Opener.opens c.args.opener.now) (g.I.Source.state c.args.bus_input) (g.I.Source.state c.args.script_input) i c.if-not-is_asked.ensures, c.run_gateway.ensures.promises)
+    (i, none_named (g.O.Opener.opens c.args.opener.now) (g.I.Source.state c.args.bus_input) (g.I.Source.state c.args.script_input) i c.if-not-is_asked.ensures, c.run_gateway.ensures)
 
 pub returns-clause-named : goal.returns-clause-named
 returns-clause-named g c some =
@@ -39,5 +39,5 @@ returns-clause-named g c some =
           (λ free. subst (λ w. IsNamed opens (input c.args.script_input) w i.script.before) script_word
           (c.open_second-script.ensures.named (λ both. free (sym bus_word ∙ both.0, sym script_word ∙ both.1))))
           (λ both. c.open_second-script.ensures.missing (bus_word ∙ both.0, script_word ∙ both.1)),
-      c.run_gateway.ensures.promises,
+      c.run_gateway.ensures,
     )
