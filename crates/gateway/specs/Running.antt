@@ -19,8 +19,8 @@ RunsMade made left i e = RunsGateway (left ≡ made) i
       after = map (λ disk. disk_of (contents disk)) left.items;
     }) e
 
--- all of that was had of these words, over the sources that they name, and of the example where there are none, over the
--- disk that is made for them
+-- all of that was had of these words, over the sources that they name, and of the example where there are none, over
+-- the disk that is made for them
 pub record RunsOverOne (opens : List ℕ → SourceState → Type 0) (bus_input script_input : SourceState)
     (words : List (List ℕ)) (e : Ending) : Type 0 where
   pub inputs : GatewayInputs

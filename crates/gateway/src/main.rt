@@ -1,8 +1,8 @@
-//! `gateway`: a re-authenticating gateway (AUTOSAR SecOC, profile 1): PDUs that arrive under one Data ID are verified, and
-//! their payloads depart anew under another, through stops and power cuts.
+//! `gateway`: a re-authenticating gateway (AUTOSAR SecOC, profile 1): PDUs that arrive under one Data ID are verified,
+//! and their payloads depart anew under another, through stops and power cuts.
 //!
-//! [`gateway_commands::gateway_words`] is the program; its clauses say what each status means and what is printed. Here it
-//! is handed the words, the files, standard input, standard output, and a disk in memory.
+//! [`gateway_commands::gateway_words`] is the program; its clauses say what each status means and what is printed. Here
+//! it is handed the words, the files, standard input, standard output, and a disk in memory.
 #![tactic(auto)]
 
 ghost use Rattle.std.specs.Prelude.{◌≡◌, ◌≢◌, ◌⊎◌, [], drop, map, string_bytes, IfOk, IfErr, IsOk};
@@ -75,8 +75,8 @@ fn run_words<O: Opener, I: Source + Drop, K: Sink>(
     words: &[String],
     sink: &mut K,
 ) -> u8
-    // All that a gateway promises, of these words, over the sources that they name, or the example's, and the disk that is
-    // made for it; or there was no memory for the disk, and nothing was written.
+    // All that a gateway promises, of these words, over the sources that they name, or the example's, and the disk that
+    // is made for it; or there was no memory for the disk, and nothing was written.
     ensures words {
         RunsOverOne (O.opens opener.now) (I.state bus_input) (I.state script_input) (map string_bytes words.now)
         (record { before = K.state sink.old; after = K.state sink.new; status = result })
@@ -101,8 +101,8 @@ fn run_words<O: Opener, I: Source + Drop, K: Sink>(
     }
 }
 
-/// A blank disk of 65,536 bytes for a gateway, and for the example, which has no words; and none, without taking memory,
-/// for words of another form.
+/// A blank disk of 65,536 bytes for a gateway, and for the example, which has no words; and none, without taking
+/// memory, for words of another form.
 fn disks_for(alloc: Global, words: &[String]) -> Result<Vec<MemDisk>, AllocError>
     ensures given { IfOk result (λ disks. DisksAreGiven (map string_bytes words.now) disks.items) }
     ensures wanted { IfErr result (λ _. AsksOrNone (map string_bytes words.now)) }

@@ -46,7 +46,8 @@ pub data RefusesConfig (config : Reading) (pairs : List (ℕ × ℕ)) : List ℕ
       → RefusesConfig config pairs text
   of_bus : (bus : NamedBus) (text : List ℕ) → ReadsBus config bus → RefusesPairs bus pairs text → RefusesConfig config pairs text
 
--- the words ask for a gateway with these pairs, and there is no bus file, for this cause; of the script nothing was read
+-- the words ask for a gateway with these pairs, and there is no bus file, for this cause; of the script nothing was
+-- read
 abbrev pub NoGatewayConfig : GatewayInputs → InputFault → Type 0
 NoGatewayConfig i fault = (pairs : List (ℕ × ℕ)) × AsksGateway i.words pairs × Lacks i.config fault × IsUnread i.script
 

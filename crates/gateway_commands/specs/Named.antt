@@ -7,8 +7,8 @@ use Rattle.gateway_commands.specs.Words.{AsksSomeGateway}
 use Rattle.gateway_commands.specs.Inputs.{GatewayInputs}
 use Rattle.gateway_commands.specs.declared.example.TheConstants.{WORDS, BUS, SCRIPT}
 
--- where the words are of the form, the sources are those that the first two name, the bus file's first. The input is handed in
--- once for each: where both are `-`, the bus file has it, and the script is missing
+-- where the words are of the form, the sources are those that the first two name, the bus file's first. The input is
+-- handed in once for each: where both are `-`, the bus file has it, and the script is missing
 pub record SourcesAreNamed (opens : List ℕ → SourceState → Type 0) (bus_input script_input : SourceState)
     (words : List (List ℕ)) (i : GatewayInputs) : Type 0 where
   pub words_are : i.words ≡ words

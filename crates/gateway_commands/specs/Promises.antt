@@ -21,7 +21,8 @@ use Rattle.bus_world.specs.StartAnswers.{DiskStates, ComesOfStart, BusHasDisks}
 use Rattle.bus_inputs.specs.BusFiles.{OffersBus}
 use Rattle.gateway_commands.specs.Words.{AsksGateway, AsksNoGateway}
 use Rattle.gateway_commands.specs.Texts.{gateway_usage}
-use Rattle.gateway_commands.specs.Inputs.{GatewayInputs, NoGatewayConfig, NoGatewayScript, RefusesPairs, RefusesConfig, OverGateway, OffersGateway}
+use Rattle.gateway_commands.specs.Inputs.{GatewayInputs, NoGatewayConfig, NoGatewayScript, RefusesPairs, RefusesConfig}
+use Rattle.gateway_commands.specs.Inputs.{OverGateway, OffersGateway}
 use Rattle.gateway_commands.specs.Headline.{TellsFirst, OneGatewayRun}
 use Rattle.gateway_commands.specs.Rows.{ScriptHasFault, RowOfInputs, DoneGateway, EndsGateway}
 
@@ -30,17 +31,18 @@ abbrev pub CutShort : (Row → Type 0) → Ending → Unwritten → Type 0
 CutShort Comes e unwritten.SinkFailed = PrintsFront Comes e
 CutShort Comes e unwritten.Memory = Comes memory_row × PrintsWhole e []
 
--- what is told and done where the sink fails, or memory is wanting: an input isn't valid or wasn't read to its end, and every
--- disk is as before; or no event was done, and the disk is as before, or stands in every image for the first node's cells, or
--- its count rose; or the first events were done, with the texts of all their lines but the last, and a front of this one
+-- what is told and done where the sink fails, or memory is wanting: an input isn't valid or wasn't read to its end, and
+-- every disk is as before; or no event was done, and the disk is as before, or stands in every image for the first
+-- node's cells, or its count rose; or the first events were done, with the texts of all their lines but the last, and a
+-- front of this one
 pub data EndsEarly (same : Type 0) (i : GatewayInputs) (d : DiskStates) (e : Ending) (cause : Unwritten) : Type 0 where
   unprepared : same → CutShort (RowOfInputs i) e cause → EndsEarly same i d e cause
   unstarted : OverGateway i (λ bus pairs events. LeavesEach Format bus d.before d.after × CutShort (ComesOfStart Format bus d) e cause)
       → EndsEarly same i d e cause
   begun : OverGateway i (λ bus pairs events. DoneGateway bus pairs events d e (Err cause)) → EndsEarly same i d e cause
 
--- what a gateway promises that has these inputs and disks and ends so, in the order of the table of answers; `same` is that
--- every disk is as before
+-- what a gateway promises that has these inputs and disks and ends so, in the order of the table of answers; `same` is
+-- that every disk is as before
 pub record RunsGateway (same : Type 0) (i : GatewayInputs) (d : DiskStates) (e : Ending) : Type 0 where
   -- A row of the table comes; or of valid inputs the first events were done.
   pub ends : EndsGateway same i d e
@@ -48,15 +50,15 @@ pub record RunsGateway (same : Type 0) (i : GatewayInputs) (d : DiskStates) (e :
   pub disks_unused : (e.status ≡ 2) ⊎ (e.status ≡ 3) ⊎ (e.status ≡ 4) ⊎ (e.status ≡ 5) ⊎ (e.status ≡ 8) → same
   -- 0: the inputs were read whole, and all events were done, with the text of each line.
   pub done : e.status ≡ 0 → OverGateway i (λ bus pairs events. DoneGateway bus pairs events d e (Ok tt))
-  -- Over a disk that tells its bytes they are one run of the machine from the first node of the bus, and one record has all
-  -- that holds of it.
+  -- Over a disk that tells its bytes they are one run of the machine from the first node of the bus, and one record has
+  -- all that holds of it.
   pub is_a_run : e.status ≡ 0 → TellsFirst d.before
       → OverGateway i (λ bus pairs events. OneGatewayRun bus pairs d.before d.after events e.before e.after (Ok tt))
   -- 2: exactly where the words are of another form; nothing was read.
   pub usage_told : e.status ≡ 2 → AsksNoGateway i.words × IsUnread i.config × IsUnread i.script × PrintsWhole e gateway_usage
   pub usage_only : AsksNoGateway i.words → EndsIn 2 e
-  -- 3: the bus file was read whole, and is refused for its first fault, or its number of nodes, or the lowest pair that isn't
-  -- taken; of the script nothing was read.
+  -- 3: the bus file was read whole, and is refused for its first fault, or its number of nodes, or the lowest pair that
+  -- isn't taken; of the script nothing was read.
   pub config_refused : e.status ≡ 3 → IsUnread i.script × ((pairs : List (ℕ × ℕ)) × AsksGateway i.words pairs
       × ((text : List ℕ) × RefusesConfig i.config pairs text × PrintsWhole e text))
   pub config_refused_only : (pairs : List (ℕ × ℕ)) (file : List ℕ) (fault : ConfigFault) → AsksGateway i.words pairs

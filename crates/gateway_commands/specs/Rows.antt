@@ -16,7 +16,8 @@ use Rattle.bus_world.specs.StartAnswers.{DiskStates, ComesOfStart}
 use Rattle.bus_inputs.specs.Statuses.{unwritten_status}
 use Rattle.gateway_commands.specs.Words.{AsksGateway, AsksNoGateway}
 use Rattle.gateway_commands.specs.Texts.{gateway_usage}
-use Rattle.gateway_commands.specs.Inputs.{GatewayInputs, NoGatewayConfig, NoGatewayScript, RefusesConfig, SetsPairs, OverGateway}
+use Rattle.gateway_commands.specs.Inputs.{GatewayInputs, NoGatewayConfig, NoGatewayScript, RefusesConfig, SetsPairs}
+use Rattle.gateway_commands.specs.Inputs.{OverGateway}
 use Rattle.gateway_commands.specs.Runs.{RanGateway}
 use Rattle.gateway_commands.specs.Headline.{TellsFirst, OneGatewayRun}
 
@@ -43,8 +44,8 @@ pub data RowOfGateway (same : Type 0) (i : GatewayInputs) (d : DiskStates) : Row
   without_disks : (row : Row) → RowOfInputs i row → same → RowOfGateway same i d row
   not_started : (row : Row) → OverGateway i (λ bus pairs events. ComesOfStart Format bus d row) → RowOfGateway same i d row
 
--- the first events were done, up to the first whose text wasn't written, and the status says so; over a disk that tells its
--- bytes they are one run of the machine, and all of `OneGatewayRun` holds of it
+-- the first events were done, up to the first whose text wasn't written, and the status says so; over a disk that tells
+-- its bytes they are one run of the machine, and all of `OneGatewayRun` holds of it
 pub record DoneGateway (bus : NamedBus) (pairs : List (ℕ × ℕ)) (events : List Event) (d : DiskStates) (e : Ending)
     (result : Result (Unit {0}) Unwritten) : Type 0 where
   pub ran : RanGateway bus pairs d.before d.after events e.before e.after result

@@ -1,5 +1,6 @@
 -- What the steps of the work say to one another
-use Rattle.std.specs.Prelude.{◌≡◌, ◌⊎◌, ℕ, ◌<◌, ◌≤◌, Bool, true, false, None, Some, List, [], length, slice_index_or, All, Result, Ok, Err, Vec}
+use Rattle.std.specs.Prelude.{◌≡◌, ◌⊎◌, ℕ, ◌<◌, ◌≤◌, Bool, true, false, None, Some, List, [], length, slice_index_or}
+use Rattle.std.specs.Prelude.{All, Result, Ok, Err, Vec}
 use Rattle.std.specs.declared.alloc.Global.{Global}
 use Rattle.answer_rows.specs.Rows.{Row, row_of, memory_row}
 use Rattle.answer_rows.specs.Inputs.{Reading}

@@ -1,5 +1,6 @@
 -- The words of the command line, and which pairs they give
-use Rattle.std.specs.Prelude.{◌≡◌, ℕ, ◌≤◌, ◌==◌, ◌&&◌, if◌then◌else◌, Option, None, Some, List, [], ◌∷◌, length, map, take, drop, slice_index}
+use Rattle.std.specs.Prelude.{◌≡◌, ℕ, ◌≤◌, ◌==◌, ◌&&◌, if◌then◌else◌, Option, None, Some, List, [], ◌∷◌, length, map}
+use Rattle.std.specs.Prelude.{take, drop, slice_index}
 use Rattle.text_lines.specs.Forms.{data_id_form}
 
 -- two Data IDs, if each is one

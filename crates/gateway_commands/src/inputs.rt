@@ -13,7 +13,8 @@ use line_rows::line_refusal;
 use secoc_gateway::lowest_bad;
 use std::alloc::{AllocError, Global};
 
-/// Whether the bus has one node, and a gateway over it takes these pairs; or the refusal that names the lowest that isn't taken.
+/// Whether the bus has one node, and a gateway over it takes these pairs; or the refusal that names the lowest that
+/// isn't taken.
 pub fn check_pairs(alloc: Global, bus: &BusConfig, pairs: &[(u16, u16)]) -> Result<(), Refusal>
     ensures { ChecksPairs bus.now pairs.now result }
 {

@@ -5,7 +5,8 @@ use bus_laws::buses_begin_first;
 use bus_nodes::named_buses_are_buses;
 use gateway_machine::{arrivals_rise, departures_rise, forwards_what_arrived};
 
-/// What was done of a gateway over a disk that tells its bytes is one run of its machine, and all of `OneGatewayRun` holds of it.
+/// What was done of a gateway over a disk that tells its bytes is one run of its machine, and all of `OneGatewayRun`
+/// holds of it.
 pub fn gateways_are_runs()
     ensures { GatewaysAreRuns }
 {

@@ -19,8 +19,8 @@ use secoc_gateway::Gateway;
 use secoc_node::Node;
 use std::alloc::Global;
 
-/// Opens the node over the first disk, which is formatted, steps a gateway over it through the events and writes the line of each, and
-/// hands the disk back. After a text that isn't written no further event is done.
+/// Opens the node over the first disk, which is formatted, steps a gateway over it through the events and writes the
+/// line of each, and hands the disk back. After a text that isn't written no further event is done.
 pub fn do_job<K: Sink, D: CutDisk>(
     alloc: Global,
     job: GatewayJob,

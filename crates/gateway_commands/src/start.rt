@@ -1,5 +1,5 @@
-//! The words of the command line, the program's name left out: a gateway runs over the sources that two of them name, and without a
-//! word the example.
+//! The words of the command line, the program's name left out: a gateway runs over the sources that two of them name,
+//! and without a word the example.
 ghost use Rattle.std.specs.Prelude.{◌≡◌, ◌<◌, length, map, string_bytes};
 ghost use Rattle.gateway_commands.specs.Inputs.{GatewayInputs};
 ghost use Rattle.gateway_commands.specs.Named.{SourcesAreNamed, IsExampleGateway};
@@ -13,9 +13,10 @@ use cut_disk::CutDisk;
 use named_sources::{MissingSource, Opener, open_second, open_word};
 use std::alloc::Global;
 
-/// Runs a gateway over the bus file and the script that the first two words name, as [`run_gateway`] does, and gives the status that the
-/// program ends with; without a word it runs the example. `-` is the input, which is handed in once for each; where both are `-`,
-/// the bus file has it, and the script is missing. For words of another form nothing is opened.
+/// Runs a gateway over the bus file and the script that the first two words name, as [`run_gateway`] does, and gives
+/// the status that the program ends with; without a word it runs the example. `-` is the input, which is handed in once
+/// for each; where both are `-`, the bus file has it, and the script is missing. For words of another form nothing is
+/// opened.
 pub fn gateway_words<O: Opener, I: Source + Drop, K: Sink, D: CutDisk>(
     alloc: Global,
     opener: &O,

@@ -17,8 +17,8 @@ pub fn is_asked(words: &[String]) -> bool
     read_pairs(words, &mut room).is_some()
 }
 
-/// The pairs that the words give behind the names of the bus file and of the script, the program's name left out; or the refusal of
-/// words of another form, or want of memory.
+/// The pairs that the words give behind the names of the bus file and of the script, the program's name left out; or
+/// the refusal of words of another form, or want of memory.
 pub fn asked_pairs(alloc: Global, words: &[String]) -> Result<Vec<(u16, u16)>, Refusal>
     ensures { FindsPairs (map string_bytes words.now) result }
 {
@@ -32,7 +32,8 @@ pub fn asked_pairs(alloc: Global, words: &[String]) -> Result<Vec<(u16, u16)>, R
     }
 }
 
-// Puts the pairs that the words give at the front of the room, and tells how many they are; None where the words are of another form.
+// Puts the pairs that the words give at the front of the room, and tells how many they are; None where the words are of
+// another form.
 fn read_pairs(words: &[String], room: &mut [(u16, u16); 32]) -> Option<usize>
     ensures { MatchOption result (AsksNoGateway (map string_bytes words.now))
         (λ count. (count ≤ 32) × AsksGateway (map string_bytes words.now) (take count room.new)) }
