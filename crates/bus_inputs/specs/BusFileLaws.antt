@@ -32,16 +32,19 @@ same_bus config one other (read, whole, is) (file, offers, ok) =
     same_Ok (bus_of file) one other (sym (ap bus_of (Offers-whole config file read offers whole)) ∙ is) ok
 
 -- it has a bus or a fault
-pub bus_or_fault : (config : Reading) (bus : NamedBus) (file : List ℕ) (fault : ConfigFault) → ReadsBus config bus → Offers config file → bus_of file ≡ Err fault → ⊥
+pub bus_or_fault : (config : Reading) (bus : NamedBus) (file : List ℕ) (fault : ConfigFault) → ReadsBus config bus
+    → Offers config file → bus_of file ≡ Err fault → ⊥
 bus_or_fault config bus file fault (read, whole, is) offers err =
     Ok_not_Err (bus_of file) bus fault (sym (ap bus_of (Offers-whole config file read offers whole)) ∙ is) err
 
-pub offered_no_fault : (config : Reading) (bus : NamedBus) (fault : ConfigFault) → OffersBus config bus → IsConfigFault config fault → ⊥
+pub offered_no_fault : (config : Reading) (bus : NamedBus) (fault : ConfigFault) → OffersBus config bus
+    → IsConfigFault config fault → ⊥
 offered_no_fault config bus fault (file, offers, ok) (read, whole, is) =
     Ok_not_Err (bus_of file) bus fault ok (sym (ap bus_of (Offers-whole config file read offers whole)) ∙ is)
 
 -- no source that is offered gives nothing but for want of memory
-pub memory_status : (r : Reading) (text : List ℕ) (fault : InputFault) → Offers r text → Lacks r fault → input_fault_status fault ≡ 7
+pub memory_status : (r : Reading) (text : List ℕ) (fault : InputFault) → Offers r text → Lacks r fault
+    → input_fault_status fault ≡ 7
 memory_status r text fault offers lacks = ap input_fault_status (Offers-is r text fault offers lacks)
 
 -- ---- the sources
@@ -69,15 +72,19 @@ calm_whole r text whole = (whole.no_fault, within_came r (text, whole.within, wh
 -- a row of a source that gave nothing, or no fault was counted and no byte too many
 abbrev pub RowTells : Row → Reading → Reading → Type 0
 RowTells row config script = ((row.status ≡ 5) × (Within config × Within script))
-    ⊎ (((row.status ≡ 8) × ((config.after.faults ≡ config.before.faults) × (script.after.faults ≡ script.before.faults)))
+    ⊎ (((row.status ≡ 8)
+    × ((config.after.faults ≡ config.before.faults) × (script.after.faults ≡ script.before.faults)))
     ⊎ (ReadsCalmly config × ReadsCalmly script))
 
-lacking : (r : Reading) (fault : InputFault) → Lacks r fault → ((input_fault_status fault ≡ 5) × Within r) ⊎ (((input_fault_status fault ≡ 8) × (r.after.faults ≡ r.before.faults)) ⊎ ReadsCalmly r)
+lacking : (r : Reading) (fault : InputFault) → Lacks r fault
+    → ((input_fault_status fault ≡ 5) × Within r)
+    ⊎ (((input_fault_status fault ≡ 8) × (r.after.faults ≡ r.before.faults)) ⊎ ReadsCalmly r)
 lacking r input.ReadFault lacks = inl (refl, within_came r lacks.1)
 lacking r input.TooLong lacks = inr (inl (refl, lacks.0))
 lacking r input.Memory lacks = inr (inr (lacks.0, within_came r lacks.1))
 
-pub told_first : (fault : InputFault) (text : List ℕ) (config script : Reading) → Lacks config fault → ReadsCalmly script
+pub told_first : (fault : InputFault) (text : List ℕ) (config script : Reading) → Lacks config fault
+    → ReadsCalmly script
     → RowTells (record { status = input_fault_status fault; text = text }) config script
 told_first fault text config script lacks calm = elim (lacking config fault lacks) [
   | inl five ↦ inl (five.0, (five.1, calm.1))
@@ -85,7 +92,8 @@ told_first fault text config script lacks calm = elim (lacking config fault lack
   | inr (inr also) ↦ inr (inr (also, calm))
 ]
 
-pub told_second : (fault : InputFault) (text : List ℕ) (config script : Reading) → ReadsCalmly config → Lacks script fault
+pub told_second : (fault : InputFault) (text : List ℕ) (config script : Reading) → ReadsCalmly config
+    → Lacks script fault
     → RowTells (record { status = input_fault_status fault; text = text }) config script
 told_second fault text config script calm lacks = elim (lacking script fault lacks) [
   | inl five ↦ inl (five.0, (calm.1, five.1))
@@ -93,7 +101,8 @@ told_second fault text config script calm lacks = elim (lacking script fault lac
   | inr (inr also) ↦ inr (inr (calm, also))
 ]
 
-pub told_fault : (row : Row) (config script : Reading) → RowTells row config script → CountsFault config ⊎ CountsFault script → row.status ≡ 5
+pub told_fault : (row : Row) (config script : Reading) → RowTells row config script
+    → CountsFault config ⊎ CountsFault script → row.status ≡ 5
 told_fault row config script (inl five) rose = five.0
 told_fault row config script (inr (inl eight)) (inl rose) = absurd (let no : ⊥ = omega (arith, eight.1.0, rose) in no)
 told_fault row config script (inr (inl eight)) (inr rose) = absurd (let no : ⊥ = omega (arith, eight.1.1, rose) in no)
@@ -103,7 +112,8 @@ told_fault row config script (inr (inr calm)) (inr rose) = absurd (let no : ⊥ 
 beyond_within : (r : Reading) → Within r → CountsTooMuch r → ⊥
 beyond_within r within more = omega (arith, within more.0, more.1)
 
-pub told_too_much : (row : Row) (config script : Reading) → RowTells row config script → CountsTooMuch config ⊎ CountsTooMuch script → row.status ≡ 8
+pub told_too_much : (row : Row) (config script : Reading) → RowTells row config script
+    → CountsTooMuch config ⊎ CountsTooMuch script → row.status ≡ 8
 told_too_much row config script (inl five) (inl more) = absurd (beyond_within config five.1.0 more)
 told_too_much row config script (inl five) (inr more) = absurd (beyond_within script five.1.1 more)
 told_too_much row config script (inr (inl eight)) more = eight.0
@@ -113,7 +123,8 @@ told_too_much row config script (inr (inr calm)) (inr more) = absurd (beyond_wit
 -- ---- lines
 
 -- lines that were read whole, and have no meaning
-pub LacksLines-read : {A : Type 0} (meaning : List ℕ → Result (List A) Fault) (script : Reading) (text : List ℕ) (row : Row) → ReadsWhole script text
+pub LacksLines-read : {A : Type 0} (meaning : List ℕ → Result (List A) Fault) (script : Reading) (text : List ℕ)
+    (row : Row) → ReadsWhole script text
     → NoLines (meaning text) row → LacksLines meaning script row
 LacksLines-read meaning script text row whole (inl (fault, is, row_is)) =
     subst (LacksLines meaning script) (sym row_is) (lines_refused fault text whole is)

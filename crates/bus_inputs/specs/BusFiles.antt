@@ -33,7 +33,8 @@ HasBus file (Err row) = ((fault : ConfigFault) × (bus_of file ≡ Err fault) ×
 -- why the source of a bus file gives none
 pub data LacksBus (config : Reading) : Row → Type 0 where
   no_file : (fault : InputFault) → Lacks config fault → LacksBus config (input_row fault)
-  file_refused : (fault : ConfigFault) (text : List ℕ) → IsConfigFault config fault → config_fault_text fault ≡ Some text
+  file_refused : (fault : ConfigFault) (text : List ℕ) → IsConfigFault config fault
+      → config_fault_text fault ≡ Some text
       → LacksBus config (row_of 3 text)
 
 -- the bus of a bus file that was read whole, or why there is none

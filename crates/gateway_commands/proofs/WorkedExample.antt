@@ -57,5 +57,5 @@ no_example same d sink as_before =
         script = Offers-clean i.script SCRIPT.now refl short_script refl;
       },
       RunsGateway-ends same i d _ (in_row (EndsInRow-memory (RowOfGateway same i d) sink
-      (without_disks _ (no_config input.Memory ((0x6bc2, 0x6bc1) ∷ [], asks, Lacks-unread i.config refl, refl)) as_before))),
+          (without_disks _ (no_config input.Memory ((0x6bc2, 0x6bc1) ∷ [], asks, Lacks-unread i.config refl, refl)) as_before))),
     )

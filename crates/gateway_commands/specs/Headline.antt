@@ -27,7 +27,8 @@ TellsFirst disks = (d : DiskState) → (told : Told) × ((get_or disks 0 d).told
 -- the disk handed back fits the last node; the others are as before; and where it tells its past, what was added is
 -- traced: without a mark until the first event, then each event's, with at most 12 entries for a PDU that is injected
 -- under a pair's first Data ID, 68 and the number of cells for a cut, and 6 for another event
-pub record DiskFollows (bus : NamedBus) (pairs : List (ℕ × ℕ)) (before after : List DiskState) (moments : GatewayMoments)
+pub record DiskFollows (bus : NamedBus) (pairs : List (ℕ × ℕ)) (before after : List DiskState)
+    (moments : GatewayMoments)
     (last : Node) : Type 0 where
   pub fit : (d : DiskState)
       → (told : Told) × ((get_or after 0 d).told ≡ Some told) × FitsNode (layout bus.kind bus.version) last told
@@ -35,7 +36,7 @@ pub record DiskFollows (bus : NamedBus) (pairs : List (ℕ × ℕ)) (before afte
   pub rest : drop 1 after ≡ drop 1 before
   pub traced : (d : DiskState) (all : List Entry) → (get_or after 0 d).past ≡ Some all
       → TracedSince mark_of (most_gateway_calls pairs) (FitsNode (layout bus.kind bus.version)) (gate_node bus) moments
-          (get_or before 0 d) all
+      (get_or before 0 d) all
 
 -- the lines that tell that the disk failed are at most the rise of its count, or that stands at its last value; a disk
 -- that was quiet at the call gives none before the first event that stops it or lets it fail, and stays as quiet where

@@ -44,7 +44,8 @@ pub data RefusesPairs (bus : NamedBus) (pairs : List (ℕ × ℕ)) : List ℕ �
 pub data RefusesConfig (config : Reading) (pairs : List (ℕ × ℕ)) : List ℕ → Type 0 where
   of_file : (fault : ConfigFault) (text : List ℕ) → IsConfigFault config fault → config_fault_text fault ≡ Some text
       → RefusesConfig config pairs text
-  of_bus : (bus : NamedBus) (text : List ℕ) → ReadsBus config bus → RefusesPairs bus pairs text → RefusesConfig config pairs text
+  of_bus : (bus : NamedBus) (text : List ℕ) → ReadsBus config bus → RefusesPairs bus pairs text
+      → RefusesConfig config pairs text
 
 -- the words ask for a gateway with these pairs, and there is no bus file, for this cause; of the script nothing was
 -- read
@@ -74,7 +75,8 @@ pub record SetsGateway (i : GatewayInputs) (bus : NamedBus) (pairs : List (ℕ �
 -- all inputs are valid, and were read whole; this holds of what they mean
 abbrev pub OverGateway : GatewayInputs → (NamedBus → List (ℕ × ℕ) → List Event → Type 0) → Type 0
 OverGateway i P =
-    (bus : NamedBus) × (pairs : List (ℕ × ℕ)) × (events : List Event) × SetsGateway i bus pairs events × P bus pairs events
+    (bus : NamedBus) × (pairs : List (ℕ × ℕ)) × (events : List Event) × SetsGateway i bus pairs events
+    × P bus pairs events
 
 -- the words ask for a gateway with these pairs over the bus that the source of the bus file tells, which takes them
 pub record OffersGateway (i : GatewayInputs) (bus : NamedBus) (pairs : List (ℕ × ℕ)) : Type 0 where

@@ -12,11 +12,14 @@ use Rattle.gateway_commands.specs.declared.example.TheConstants.{WORDS, BUS, SCR
 pub record SourcesAreNamed (opens : List ℕ → SourceState → Type 0) (bus_input script_input : SourceState)
     (words : List (List ℕ)) (i : GatewayInputs) : Type 0 where
   pub words_are : i.words ≡ words
-  pub config_named : (bus script : List ℕ) (given : List (List ℕ)) → words ≡ bus ∷ script ∷ given → AsksSomeGateway words
+  pub config_named : (bus script : List ℕ) (given : List (List ℕ)) → words ≡ bus ∷ script ∷ given
+      → AsksSomeGateway words
       → IsNamed opens bus_input bus i.config.before
-  pub script_named : (bus script : List ℕ) (given : List (List ℕ)) → words ≡ bus ∷ script ∷ given → AsksSomeGateway words
+  pub script_named : (bus script : List ℕ) (given : List (List ℕ)) → words ≡ bus ∷ script ∷ given
+      → AsksSomeGateway words
       → ¬ AreBothDashes bus script → IsNamed opens script_input script i.script.before
-  pub script_missing : (bus script : List ℕ) (given : List (List ℕ)) → words ≡ bus ∷ script ∷ given → AsksSomeGateway words
+  pub script_missing : (bus script : List ℕ) (given : List (List ℕ)) → words ≡ bus ∷ script ∷ given
+      → AsksSomeGateway words
       → AreBothDashes bus script → i.script.before ≡ missing_source 0
 
 -- the worked example: its words, over sources that tell its bus file and its script, and don't fail

@@ -37,7 +37,8 @@ CutShort Comes e unwritten.Memory = Comes memory_row × PrintsWhole e []
 -- front of this one
 pub data EndsEarly (same : Type 0) (i : GatewayInputs) (d : DiskStates) (e : Ending) (cause : Unwritten) : Type 0 where
   unprepared : same → CutShort (RowOfInputs i) e cause → EndsEarly same i d e cause
-  unstarted : OverGateway i (λ bus pairs events. LeavesEach Format bus d.before d.after × CutShort (ComesOfStart Format bus d) e cause)
+  unstarted : OverGateway i
+      (λ bus pairs events. LeavesEach Format bus d.before d.after × CutShort (ComesOfStart Format bus d) e cause)
       → EndsEarly same i d e cause
   begun : OverGateway i (λ bus pairs events. DoneGateway bus pairs events d e (Err cause)) → EndsEarly same i d e cause
 
@@ -55,7 +56,8 @@ pub record RunsGateway (same : Type 0) (i : GatewayInputs) (d : DiskStates) (e :
   pub is_a_run : e.status ≡ 0 → TellsFirst d.before
       → OverGateway i (λ bus pairs events. OneGatewayRun bus pairs d.before d.after events e.before e.after (Ok tt))
   -- 2: exactly where the words are of another form; nothing was read.
-  pub usage_told : e.status ≡ 2 → AsksNoGateway i.words × IsUnread i.config × IsUnread i.script × PrintsWhole e gateway_usage
+  pub usage_told : e.status ≡ 2
+      → AsksNoGateway i.words × IsUnread i.config × IsUnread i.script × PrintsWhole e gateway_usage
   pub usage_only : AsksNoGateway i.words → EndsIn 2 e
   -- 3: the bus file was read whole, and is refused for its first fault, or its number of nodes, or the lowest pair that
   -- isn't taken; of the script nothing was read.
@@ -67,7 +69,8 @@ pub record RunsGateway (same : Type 0) (i : GatewayInputs) (d : DiskStates) (e :
       → OffersBus i.config bus → RefusesPairs bus pairs text → MayEndIn 3 e
   -- 4: the inputs were read whole, and the first fault of the script is printed.
   pub refused : e.status ≡ 4 → (fault : Fault) × ScriptHasFault i fault × PrintsWhole e (fault_text_of fault)
-  pub refused_only : (bus : NamedBus) (pairs : List (ℕ × ℕ)) (input : List ℕ) (fault : Fault) → OffersGateway i bus pairs
+  pub refused_only : (bus : NamedBus) (pairs : List (ℕ × ℕ)) (input : List ℕ) (fault : Fault)
+      → OffersGateway i bus pairs
       → Offers i.script input → own_events_of bus.nodes input ≡ Err fault → MayEndIn 4 e
   -- 5: exactly where the count of faults rose of the source that was read.
   pub read_fault : e.status ≡ 5

@@ -34,7 +34,8 @@ pub record ScriptHasFault (i : GatewayInputs) (fault : Fault) : Type 0 where
 pub data RowOfInputs (i : GatewayInputs) : Row → Type 0 where
   no_form : AsksNoGateway i.words → IsUnread i.config → IsUnread i.script → RowOfInputs i (row_of 2 gateway_usage)
   no_config : (fault : InputFault) → NoGatewayConfig i fault → RowOfInputs i (input_row fault)
-  config_refused : (pairs : List (ℕ × ℕ)) (text : List ℕ) → AsksGateway i.words pairs → RefusesConfig i.config pairs text
+  config_refused : (pairs : List (ℕ × ℕ)) (text : List ℕ) → AsksGateway i.words pairs
+      → RefusesConfig i.config pairs text
       → IsUnread i.script → RowOfInputs i (row_of 3 text)
   no_script : (fault : InputFault) → NoGatewayScript i fault → RowOfInputs i (input_row fault)
   script_refused : (fault : Fault) → ScriptHasFault i fault → RowOfInputs i (line_row fault)
@@ -42,7 +43,8 @@ pub data RowOfInputs (i : GatewayInputs) : Row → Type 0 where
 -- the table: when each row comes, and what the disks are then; `same` is that every disk is as before
 pub data RowOfGateway (same : Type 0) (i : GatewayInputs) (d : DiskStates) : Row → Type 0 where
   without_disks : (row : Row) → RowOfInputs i row → same → RowOfGateway same i d row
-  not_started : (row : Row) → OverGateway i (λ bus pairs events. ComesOfStart Format bus d row) → RowOfGateway same i d row
+  not_started : (row : Row) → OverGateway i (λ bus pairs events. ComesOfStart Format bus d row)
+      → RowOfGateway same i d row
 
 -- the first events were done, up to the first whose text wasn't written, and the status says so; over a disk that tells
 -- its bytes they are one run of the machine, and all of `OneGatewayRun` holds of it

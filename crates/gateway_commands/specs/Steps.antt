@@ -86,7 +86,8 @@ PreparesGateway i (Err row) = RowOfInputs i row
 -- ---- the second phase
 
 -- a gateway over this node with these pairs took the turns of the first events, and its node is handed back
-pub record PrintsTurns (before : NodeState) (pairs : List (ℕ × ℕ)) (events : List Event) (sink_before sink_after : SinkState)
+pub record PrintsTurns (before : NodeState) (pairs : List (ℕ × ℕ)) (events : List Event)
+    (sink_before sink_after : SinkState)
     (after : NodeState) (result : Result (Unit {0}) Unwritten) : Type 0 where
   pub start : GatewayState
   pub now : GatewayState
@@ -96,7 +97,8 @@ pub record PrintsTurns (before : NodeState) (pairs : List (ℕ × ℕ)) (events 
   pub handed_back : over now ≡ after
 
 -- how a job ends: it isn't started, or it did its first events
-pub data DoesGateway (bus : NamedBus) (pairs : List (ℕ × ℕ)) (events : List Event) (d : DiskStates) (e : Ending) : Type 0 where
+pub data DoesGateway (bus : NamedBus) (pairs : List (ℕ × ℕ)) (events : List Event) (d : DiskStates)
+    (e : Ending) : Type 0 where
   refused_start : EndsInRow (ComesOfStart Format bus d) e → DoesGateway bus pairs events d e
   first_done : (result : Result (Unit {0}) Unwritten) → DoneGateway bus pairs events d e result
       → DoesGateway bus pairs events d e

@@ -5,7 +5,7 @@ use Rattle.text_lines.specs.Forms.{data_id_form}
 
 -- two Data IDs, if each is one
 abbrev pub both_ids : Option ℕ → Option ℕ → Option (ℕ × ℕ)
-both_ids (Some first) (Some second) = Some (first , second)
+both_ids (Some first) (Some second) = Some (first, second)
 both_ids (Some first) None = None
 both_ids None _ = None
 

@@ -47,7 +47,14 @@ pub fn run_example<K: Sink, D: CutDisk>(alloc: Global, sink: &mut K, disks: &mut
         Ok((words, bus, events)) => {
             let mut config = CleanSource::new(bus);
             let mut script = CleanSource::new(events);
-            run_gateway(alloc, words.as_slice(), &mut config, &mut script, sink, disks)
+            run_gateway(
+                alloc,
+                words.as_slice(),
+                &mut config,
+                &mut script,
+                sink,
+                disks,
+            )
         }
         Err(AllocError) => NO_MEMORY,
     }

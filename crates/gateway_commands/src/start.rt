@@ -27,7 +27,8 @@ pub fn gateway_words<O: Opener, I: Source + Drop, K: Sink, D: CutDisk>(
     disks: &mut Vec<D>,
 ) -> u8
     // All that a gateway promises, over the example's texts.
-    ensures example { length words.now ≡ 0 → (i : GatewayInputs) × IsExampleGateway i × RunsGateway (disks.new ≡ disks.old) i
+    ensures example { length words.now ≡ 0 → (i : GatewayInputs) × IsExampleGateway i
+        × RunsGateway (disks.new ≡ disks.old) i
         (record { before = map D.state disks.old.items; after = map D.state disks.new.items })
         (record { before = K.state sink.old; after = K.state sink.new; status = result }) }
 
@@ -35,8 +36,8 @@ pub fn gateway_words<O: Opener, I: Source + Drop, K: Sink, D: CutDisk>(
     ensures named { 0 < length words.now → (i : GatewayInputs)
         × SourcesAreNamed (O.opens opener.now) (I.state bus_input) (I.state script_input) (map string_bytes words.now) i
         × RunsGateway (disks.new ≡ disks.old) i
-          (record { before = map D.state disks.old.items; after = map D.state disks.new.items })
-          (record { before = K.state sink.old; after = K.state sink.new; status = result }) }
+        (record { before = map D.state disks.old.items; after = map D.state disks.new.items })
+        (record { before = K.state sink.old; after = K.state sink.new; status = result }) }
 {
     if words.is_empty() {
         return run_example(alloc, sink, disks);

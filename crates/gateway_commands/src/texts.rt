@@ -103,7 +103,8 @@ fn push_dropped(
     freshness: u64,
     refusal: &Refusal,
 ) -> Result<(), AllocError>
-    ensures { OnOk result (text.new.items ≡ text.old.items ++ spaced (gateway_words (Dropped id freshness refusal.now))) }
+    ensures { OnOk result (text.new.items
+        ≡ text.old.items ++ spaced (gateway_words (Dropped id freshness refusal.now))) }
 {
     push_arrival(text, b"dropped", id, freshness)?;
     push_refusal(text, refusal)

@@ -30,8 +30,7 @@ returns-clause-named g c some =
     let two : 2 ≤ length c.args.words.now = omega (arith, asks_count (map string_bytes c.args.words.now) asked.0 asked.1, length-map c.args.words.now string_bytes) in
     let words_are = texts_of string_bytes c.args.words.now c.index-words-0.result c.index-words-1.result two c.index-words-0.is c.index-words-1.is in
     let bus_word = c.as_str-bus.ensures.value in
-    let script_word = c.as_str-events.ensures.value in
-    (
+    let script_word = c.as_str-events.ensures.value in (
       i,
       are_named opens (input c.args.bus_input) (input c.args.script_input) i (string_bytes c.index-words-0.result) (string_bytes c.index-words-1.result)
           (map string_bytes (drop 2 c.args.words.now)) words_are
