@@ -45,9 +45,8 @@ fn start<O: Opener, I: Source + Drop, K: Sink>(
     words: &[String],
     sink: &mut K,
 ) -> u8
-    ensures words {
-        RunsGiven (O.opens opener.now) (I.state config_input) (I.state script_input)
-            (drop 1 (map string_bytes words.now))
+    ensures words { RunsGiven (O.opens opener.now) (I.state config_input) (I.state script_input)
+        (drop 1 (map string_bytes words.now))
         (record { before = K.state sink.old; after = K.state sink.new; status = result })
         ⊎ WantsDisks (drop 1 (map string_bytes words.now))
         (record { before = K.state sink.old; after = K.state sink.new; status = result }) }
@@ -78,8 +77,8 @@ fn run_words<O: Opener, I: Source + Drop, K: Sink>(
 ) -> u8
     // All that a command promises, of these words, over the sources that they name and the disks that are made for
     // them; or these were wanted, there was no memory for them, and nothing was written.
-    ensures words {
-        RunsGiven (O.opens opener.now) (I.state config_input) (I.state script_input) (map string_bytes words.now)
+    ensures words { RunsGiven (O.opens opener.now) (I.state config_input) (I.state script_input)
+        (map string_bytes words.now)
         (record { before = K.state sink.old; after = K.state sink.new; status = result })
         ⊎ WantsDisks (map string_bytes words.now)
         (record { before = K.state sink.old; after = K.state sink.new; status = result }) }
