@@ -24,3 +24,6 @@ returns-in-Ok g c =
 
 pub returns-in-Err-clause-words : goal.returns-in-Err-clause-words
 returns-in-Err-clause-words g c = inr (record { asks = c.in-Err.ensures.wanted; status_is = refl; unwritten = refl })
+
+pub returns-in-Err-clause-usage_only : goal.returns-in-Err-clause-usage_only
+returns-in-Err-clause-usage_only g c = λ some nothing. absurd (c.in-Err.ensures.usage some nothing)
