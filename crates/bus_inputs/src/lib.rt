@@ -1,14 +1,17 @@
-//! The bus file of a program that runs over a bus, and the rows for want of it: 3, and the text that names its first fault, beside those
-//! for want of any input.
+//! What the programs that run over a bus share: the bus file and the rows for want of it, which are 3 and the text that
+//! names its first fault, beside those for want of any input; and the status of a run whose lines are written.
 #![tactic(auto)]
 
+ghost use Rattle.std.specs.Prelude.{◌≡◌};
 ghost use Rattle.bus_inputs.specs.BusFiles.{FindsBus, HasBus, IsConfigRow};
+ghost use Rattle.bus_inputs.specs.Statuses.{unwritten_status};
 
 use answer_rows::Refusal;
 use bus_config::{ConfigFault, Memory as NoMemory, config_fault_text, read_config};
 use bus_nodes::BusConfig;
 use bus_port::Source;
-use command_edge::read_input;
+use command_edge::{DONE, NO_MEMORY, WRITE_FAULT, read_input};
+use numbered_run::Unwritten;
 use std::alloc::Global;
 
 /// The bus of the bus file that a source gives, or its refusal.
@@ -36,5 +39,16 @@ fn config_refusal(alloc: Global, fault: &ConfigFault) -> Refusal
     match config_fault_text(alloc, fault) {
         Ok(text) => Refusal::made(3, text),
         Err(NoMemory) => Refusal::no_memory(),
+    }
+}
+
+/// The status of a run whose lines were all written, or not.
+pub fn status_of_run(printed: Result<(), Unwritten>) -> u8
+    ensures { result ≡ unwritten_status printed }
+{
+    match printed {
+        Ok(()) => DONE,
+        Err(Unwritten::SinkFailed) => WRITE_FAULT,
+        Err(Unwritten::Memory) => NO_MEMORY,
     }
 }

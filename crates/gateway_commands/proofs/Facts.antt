@@ -14,16 +14,13 @@ use Rattle.bus_config.specs.BusFile.{bus_of}
 use Rattle.bus_machine.specs.declared.events.Event.{Event}
 use Rattle.bus_nodes.specs.Buses.{NamedBus}
 use Rattle.bus_script.specs.EventForms.{own_events_of}
-use Rattle.bus_world.specs.declared.start.StartFault.{StartFault}
-use Rattle.bus_world.specs.declared.start.StartFault.TheVariants.{Memory}
-use Rattle.bus_world.specs.StartRows.{start_row}
-use Rattle.bus_world.specs.StartRowLaws.{start_statuses}
+use Rattle.bus_world.specs.declared.start.Start.TheVariants.{Format}
+use Rattle.bus_world.specs.StartAnswers.{DiskStates, ComesOfStart}
 use Rattle.bus_inputs.specs.BusFiles.{ReadsBus, OffersBus}
 use Rattle.bus_inputs.specs.BusFileLaws.{same_bus, ReadsCalmly, calm_unread, calm_whole, RowTells, told_first, told_second, bus_or_fault, offered_no_fault, memory_status}
-use Rattle.gateway_commands.specs.Runs.{GatewayDisks}
 use Rattle.gateway_commands.specs.Words.{pair_form, AsksGateway, AsksNoGateway}
 use Rattle.gateway_commands.specs.Inputs.{GatewayInputs, TakesPairs, RefusesPairs, other_number, bad_pair, RefusesConfig, of_file, of_bus, SetsPairs, SetsGateway, OffersGateway}
-use Rattle.gateway_commands.specs.Rows.{ScriptHasFault, RowOfInputs, no_form, no_config, config_refused, no_script, script_refused, RowOfStart, RowOfGateway, without_disks, not_started}
+use Rattle.gateway_commands.specs.Rows.{ScriptHasFault, RowOfInputs, no_form, no_config, config_refused, no_script, script_refused, RowOfGateway, without_disks, not_started}
 
 -- ---- the words
 
@@ -61,7 +58,7 @@ inputs_tell i row (config_refused pairs text asks refuses unread) = inr (inr (re
 inputs_tell i row (no_script fault (bus, pairs, set, lacks)) = told_second fault (input_fault_text fault) i.config i.script (set_calm i bus pairs set) lacks
 inputs_tell i row (script_refused fault f) = inr (inr (set_calm i f.bus f.pairs f.set, calm_whole i.script f.text f.whole))
 
-pub row_tells : (same : Type 0) (i : GatewayInputs) (d : GatewayDisks) (row : Row) → RowOfGateway same i d row → RowTells row i.config i.script
+pub row_tells : (same : Type 0) (i : GatewayInputs) (d : DiskStates) (row : Row) → RowOfGateway same i d row → RowTells row i.config i.script
 row_tells same i d row (without_disks _ comes as_before) = inputs_tell i row comes
 row_tells same i d row (not_started _ (bus, pairs, events, set, start)) = inr (inr (calm_gateway i bus pairs events set))
 
@@ -74,22 +71,9 @@ inputs_ask i row (config_refused pairs text asks refuses unread) nothing = absur
 inputs_ask i row (no_script fault (bus, pairs, set, lacks)) nothing = absurd (nothing pairs set.asks)
 inputs_ask i row (script_refused fault f) nothing = absurd (nothing f.pairs f.set.asks)
 
-pub row_asks : (same : Type 0) (i : GatewayInputs) (d : GatewayDisks) (row : Row) → RowOfGateway same i d row → AsksNoGateway i.words → row.status ≡ 2
+pub row_asks : (same : Type 0) (i : GatewayInputs) (d : DiskStates) (row : Row) → RowOfGateway same i d row → AsksNoGateway i.words → row.status ≡ 2
 row_asks same i d row (without_disks _ comes as_before) nothing = inputs_ask i row comes nothing
 row_asks same i d row (not_started _ (bus, pairs, events, set, start)) nothing = absurd (nothing pairs set.set.asks)
-
--- ---- a start that is refused
-
-pub start_memory : (fault : StartFault) (row : Row) → fault ≡ Memory → row ≡ start_row fault → row ≡ memory_row
-start_memory fault row memory is = is ∙ ap start_row memory
-
-pub start_status : (bus : NamedBus) (d : GatewayDisks) (row : Row) → RowOfStart bus d row → (row.status ≡ 9) ⊎ ((row.status ≡ 10) ⊎ (row.status ≡ 7))
-start_status bus d row (fault, refused, inl is) = elim (start_statuses fault) [
-  | inl nine ↦ inl (ap (λ (r : Row). r.status) is ∙ nine)
-  | inr (inl ten) ↦ inr (inl (ap (λ (r : Row). r.status) is ∙ ten))
-  | inr (inr memory) ↦ inr (inr (ap (λ (r : Row). r.status) (start_memory fault row memory is)))
-]
-start_status bus d row (fault, refused, inr memory) = inr (inr (ap (λ (r : Row). r.status) memory))
 
 -- ---- a bus file that is offered, and has a fault
 
@@ -101,7 +85,7 @@ inputs_refuse i row file fault pairs (config_refused p text also refuses unread)
 inputs_refuse i row file fault pairs (no_script other (bus, p, set, lacks)) asks offers err = absurd (bus_or_fault i.config bus file fault set.of_bus offers err)
 inputs_refuse i row file fault pairs (script_refused other f) asks offers err = absurd (bus_or_fault i.config f.bus file fault f.set.of_bus offers err)
 
-pub row_refuses : (same : Type 0) (i : GatewayInputs) (d : GatewayDisks) (row : Row) (file : List ℕ) (fault : ConfigFault) (pairs : List (ℕ × ℕ)) → RowOfGateway same i d row
+pub row_refuses : (same : Type 0) (i : GatewayInputs) (d : DiskStates) (row : Row) (file : List ℕ) (fault : ConfigFault) (pairs : List (ℕ × ℕ)) → RowOfGateway same i d row
     → AsksGateway i.words pairs → Offers i.config file → bus_of file ≡ Err fault → (row.status ≡ 3) ⊎ (row.status ≡ 7)
 row_refuses same i d row file fault pairs (without_disks _ comes as_before) asks offers err = inputs_refuse i row file fault pairs comes asks offers err
 row_refuses same i d row file fault pairs (not_started _ (bus, p, events, set, start)) asks offers err =
@@ -128,7 +112,7 @@ inputs_refuse_pairs i row bus pairs text (config_refused p told also why unread)
 inputs_refuse_pairs i row bus pairs text (no_script other (over, p, set, lacks)) asks offers refuses = absurd (set_not_refused i bus over pairs p text set asks offers refuses)
 inputs_refuse_pairs i row bus pairs text (script_refused other f) asks offers refuses = absurd (set_not_refused i bus f.bus pairs f.pairs text f.set asks offers refuses)
 
-pub row_refuses_pairs : (same : Type 0) (i : GatewayInputs) (d : GatewayDisks) (row : Row) (bus : NamedBus) (pairs : List (ℕ × ℕ)) (text : List ℕ) → RowOfGateway same i d row
+pub row_refuses_pairs : (same : Type 0) (i : GatewayInputs) (d : DiskStates) (row : Row) (bus : NamedBus) (pairs : List (ℕ × ℕ)) (text : List ℕ) → RowOfGateway same i d row
     → AsksGateway i.words pairs → OffersBus i.config bus → RefusesPairs bus pairs text → (row.status ≡ 3) ⊎ (row.status ≡ 7)
 row_refuses_pairs same i d row bus pairs text (without_disks _ comes as_before) asks offers refuses = inputs_refuse_pairs i row bus pairs text comes asks offers refuses
 row_refuses_pairs same i d row bus pairs text (not_started _ (over, p, events, set, start)) asks offers refuses =
@@ -152,13 +136,13 @@ offered_events i bus over pairs p text input meaning set same is offers =
     (subst (λ (t : List ℕ). own_events_of over.nodes t ≡ meaning) same is)
 
 -- want of memory; or the script's first fault; or the bus doesn't start
-abbrev pub OfOffered : GatewayDisks → Row → NamedBus → List ℕ → Type 0
+abbrev pub OfOffered : DiskStates → Row → NamedBus → List ℕ → Type 0
 OfOffered d row bus input =
     (row.status ≡ 7)
     ⊎ (((fault : Fault) × (row.status ≡ 4) × (own_events_of bus.nodes input ≡ Err fault))
-    ⊎ ((events : List Event) × (own_events_of bus.nodes input ≡ Ok events) × RowOfStart bus d row))
+    ⊎ ((events : List Event) × (own_events_of bus.nodes input ≡ Ok events) × ComesOfStart Format bus d row))
 
-inputs_offered : (i : GatewayInputs) (d : GatewayDisks) (row : Row) (bus : NamedBus) (pairs : List (ℕ × ℕ)) (input : List ℕ) → RowOfInputs i row → OffersGateway i bus pairs
+inputs_offered : (i : GatewayInputs) (d : DiskStates) (row : Row) (bus : NamedBus) (pairs : List (ℕ × ℕ)) (input : List ℕ) → RowOfInputs i row → OffersGateway i bus pairs
     → Offers i.script input → OfOffered d row bus input
 inputs_offered i d row bus pairs input (no_form none config script) offers lines = absurd (none pairs offers.asks)
 inputs_offered i d row bus pairs input (no_config other (p, also, lacks, unread)) offers lines = inl (memory_status i.config offers.of_bus.0 other offers.of_bus.1 lacks)
@@ -167,12 +151,12 @@ inputs_offered i d row bus pairs input (no_script other (over, p, set, lacks)) o
 inputs_offered i d row bus pairs input (script_refused fault f) offers lines =
     inr (inl (fault, refl, offered_events i bus f.bus pairs f.pairs f.text input (Err fault) f.set (Offers-whole i.script input f.text lines f.whole) f.is offers))
 
-pub row_offered : (same : Type 0) (i : GatewayInputs) (d : GatewayDisks) (row : Row) (bus : NamedBus) (pairs : List (ℕ × ℕ)) (input : List ℕ) → RowOfGateway same i d row
+pub row_offered : (same : Type 0) (i : GatewayInputs) (d : DiskStates) (row : Row) (bus : NamedBus) (pairs : List (ℕ × ℕ)) (input : List ℕ) → RowOfGateway same i d row
     → OffersGateway i bus pairs → Offers i.script input → OfOffered d row bus input
 row_offered same i d row bus pairs input (without_disks _ comes as_before) offers lines = inputs_offered i d row bus pairs input comes offers lines
 row_offered same i d row bus pairs input (not_started _ (over, p, events, set, start)) offers lines =
     inr (inr (
       events,
       offered_events i bus over pairs p set.text input (Ok events) set.set (Offers-whole i.script input set.text lines set.whole) set.has offers,
-      subst (λ (b : NamedBus). RowOfStart b d row) (same_bus i.config over bus set.set.of_bus offers.of_bus) start,
+      subst (λ (b : NamedBus). ComesOfStart Format b d row) (same_bus i.config over bus set.set.of_bus offers.of_bus) start,
     ))

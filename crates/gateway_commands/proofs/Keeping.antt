@@ -20,23 +20,24 @@ use Rattle.bus_nodes.specs.Buses.{NamedBus}
 use Rattle.bus_script.specs.EventForms.{own_events_of}
 use Rattle.bus_world.specs.declared.start.Start.TheVariants.{Format}
 use Rattle.bus_world.specs.declared.start.StartFault.{StartFault}
-use Rattle.bus_world.specs.Starts.{HasRoom, FindsRoom, NotStarted}
-use Rattle.bus_world.specs.StartRows.{start_row, StoreCause, LeavesEach, DisksDo}
-use Rattle.bus_world.specs.StartRowLaws.{refused_at_9, refused_at_10, start_statuses, start_leaves, start_without_room, start_wants_memory}
+use Rattle.bus_world.specs.Starts.{HasRoom, FindsRoom}
+use Rattle.bus_world.specs.StartRows.{start_row, StoreCause, LeavesEach}
+use Rattle.bus_world.specs.StartAnswers.{DiskStates, ComesOfStart, disks_refused, store_refused, start_without_memory, BusHasDisks}
+use Rattle.bus_world.specs.StartAnswerLaws.{Comes-leaves, start_status, start_memory, start_without_room, start_complete}
+use Rattle.bus_inputs.specs.Statuses.{unwritten_status}
 use Rattle.bus_inputs.specs.BusFiles.{OffersBus}
 use Rattle.bus_inputs.specs.BusFileLaws.{same_bus, told_fault, told_too_much, bus_or_fault}
-use Rattle.gateway_commands.specs.Runs.{GatewayDisks, unwritten_status}
 use Rattle.gateway_commands.specs.Words.{AsksGateway, AsksNoGateway}
 use Rattle.gateway_commands.specs.Texts.{gateway_usage}
 use Rattle.gateway_commands.specs.Inputs.{GatewayInputs, RefusesPairs, RefusesConfig, NoGatewayConfig, NoGatewayScript, SetsGateway, OverGateway, OffersGateway}
-use Rattle.gateway_commands.specs.Rows.{ScriptHasFault, RowOfInputs, no_form, no_config, config_refused, no_script, script_refused, RowOfStart, RowOfGateway, without_disks, not_started, DoneGateway, EndsGateway, in_row, ran}
+use Rattle.gateway_commands.specs.Rows.{ScriptHasFault, RowOfInputs, no_form, no_config, config_refused, no_script, script_refused, RowOfGateway, without_disks, not_started, DoneGateway, EndsGateway, in_row, ran}
 use Rattle.gateway_commands.specs.Promises.{CutShort, EndsEarly, unprepared, unstarted, begun, RunsGateway}
-use Rattle.gateway_commands.proofs.Facts.{calm_gateway, row_tells, row_asks, start_memory, start_status, row_refuses, set_not_refused, row_refuses_pairs, OfOffered, offered_events, row_offered}
+use Rattle.gateway_commands.proofs.Facts.{calm_gateway, row_tells, row_asks, row_refuses, set_not_refused, row_refuses_pairs, OfOffered, offered_events, row_offered}
 
 Ok_not_Err : (r : Result (List Event) Fault) (events : List Event) (fault : Fault) → r ≡ Ok events → r ≡ Err fault → ⊥
 Ok_not_Err r events fault ok err = cc
 
-module _ (same : Type 0) (i : GatewayInputs) (d : GatewayDisks) (e : Ending) where
+module _ (same : Type 0) (i : GatewayInputs) (d : DiskStates) (e : Ending) where
   abbrev Comes : Row → Type 0
   Comes = RowOfGateway same i d
 
@@ -53,7 +54,7 @@ module _ (same : Type 0) (i : GatewayInputs) (d : GatewayDisks) (e : Ending) whe
   row_2 row (without_disks _ (config_refused pairs text asks why unread) as_before) is well = absurd (let no : ⊥ = omega (arith, is) in no)
   row_2 row (without_disks _ (no_script fault lack) as_before) is well = absurd (let no : ⊥ = omega (arith, fault_is fault, is) in no)
   row_2 row (without_disks _ (script_refused fault f) as_before) is well = absurd (let no : ⊥ = omega (arith, is) in no)
-  row_2 row (not_started _ (bus, pairs, events, set, start)) is well = absurd (let no : ⊥ = omega (arith, start_status bus d row start, is) in no)
+  row_2 row (not_started _ (bus, pairs, events, set, start)) is well = absurd (let no : ⊥ = omega (arith, start_status Format bus d row start, is) in no)
 
   abbrev ConfigTold : Type 0
   ConfigTold = IsUnread i.script × ((pairs : List (ℕ × ℕ)) × AsksGateway i.words pairs × ((text : List ℕ) × RefusesConfig i.config pairs text × PrintsWhole e text))
@@ -64,7 +65,7 @@ module _ (same : Type 0) (i : GatewayInputs) (d : GatewayDisks) (e : Ending) whe
   row_3 row (without_disks _ (config_refused pairs text asks why unread) as_before) is well = (unread, (pairs, asks, (text, why, well)))
   row_3 row (without_disks _ (no_script fault lack) as_before) is well = absurd (let no : ⊥ = omega (arith, fault_is fault, is) in no)
   row_3 row (without_disks _ (script_refused fault f) as_before) is well = absurd (let no : ⊥ = omega (arith, is) in no)
-  row_3 row (not_started _ (bus, pairs, events, set, start)) is well = absurd (let no : ⊥ = omega (arith, start_status bus d row start, is) in no)
+  row_3 row (not_started _ (bus, pairs, events, set, start)) is well = absurd (let no : ⊥ = omega (arith, start_status Format bus d row start, is) in no)
 
   row_4 : (row : Row) → Comes row → row.status ≡ 4 → PrintsWhole e row.text → (fault : Fault) × ScriptHasFault i fault × PrintsWhole e (fault_text_of fault)
   row_4 row (without_disks _ (no_form none config script) as_before) is well = absurd (let no : ⊥ = omega (arith, is) in no)
@@ -72,7 +73,7 @@ module _ (same : Type 0) (i : GatewayInputs) (d : GatewayDisks) (e : Ending) whe
   row_4 row (without_disks _ (config_refused pairs text asks why unread) as_before) is well = absurd (let no : ⊥ = omega (arith, is) in no)
   row_4 row (without_disks _ (no_script fault lack) as_before) is well = absurd (let no : ⊥ = omega (arith, fault_is fault, is) in no)
   row_4 row (without_disks _ (script_refused fault f) as_before) is well = (fault, f, well)
-  row_4 row (not_started _ (bus, pairs, events, set, start)) is well = absurd (let no : ⊥ = omega (arith, start_status bus d row start, is) in no)
+  row_4 row (not_started _ (bus, pairs, events, set, start)) is well = absurd (let no : ⊥ = omega (arith, start_status Format bus d row start, is) in no)
 
   abbrev NoInput : InputFault → Type 0
   NoInput fault = NoGatewayConfig i fault ⊎ NoGatewayScript i fault
@@ -87,7 +88,7 @@ module _ (same : Type 0) (i : GatewayInputs) (d : GatewayDisks) (e : Ending) whe
   row_5 row (without_disks _ (no_script input.TooLong lack) as_before) is well = absurd (let no : ⊥ = omega (arith, is) in no)
   row_5 row (without_disks _ (no_script input.Memory lack) as_before) is well = absurd (let no : ⊥ = omega (arith, is) in no)
   row_5 row (without_disks _ (script_refused fault f) as_before) is well = absurd (let no : ⊥ = omega (arith, is) in no)
-  row_5 row (not_started _ (bus, pairs, events, set, start)) is well = absurd (let no : ⊥ = omega (arith, start_status bus d row start, is) in no)
+  row_5 row (not_started _ (bus, pairs, events, set, start)) is well = absurd (let no : ⊥ = omega (arith, start_status Format bus d row start, is) in no)
 
   row_8 : (row : Row) → Comes row → row.status ≡ 8 → PrintsWhole e row.text → NoInput input.TooLong × PrintsWhole e (codes "input too long\n")
   row_8 row (without_disks _ (no_form none config script) as_before) is well = absurd (let no : ⊥ = omega (arith, is) in no)
@@ -99,7 +100,7 @@ module _ (same : Type 0) (i : GatewayInputs) (d : GatewayDisks) (e : Ending) whe
   row_8 row (without_disks _ (no_script input.TooLong lack) as_before) is well = (inr lack, well)
   row_8 row (without_disks _ (no_script input.Memory lack) as_before) is well = absurd (let no : ⊥ = omega (arith, is) in no)
   row_8 row (without_disks _ (script_refused fault f) as_before) is well = absurd (let no : ⊥ = omega (arith, is) in no)
-  row_8 row (not_started _ (bus, pairs, events, set, start)) is well = absurd (let no : ⊥ = omega (arith, start_status bus d row start, is) in no)
+  row_8 row (not_started _ (bus, pairs, events, set, start)) is well = absurd (let no : ⊥ = omega (arith, start_status Format bus d row start, is) in no)
 
   -- ---- a start that is refused
 
@@ -113,11 +114,10 @@ module _ (same : Type 0) (i : GatewayInputs) (d : GatewayDisks) (e : Ending) whe
   abbrev DisksTold : NamedBus → Type 0
   DisksTold bus = (d.after ≡ d.before) × ((fault : StartFault) × FindsRoom bus d.before fault × PrintsWhole e (start_row fault).text)
 
-  start_9 : (bus : NamedBus) (row : Row) → RowOfStart bus d row → row.status ≡ 9 → PrintsWhole e row.text → DisksTold bus
-  start_9 bus row (fault, refused, inl row_is) is well =
-      let at = refused_at_9 Format bus d.before d.after fault refused (ap (λ (r : Row). r.status) (sym row_is) ∙ is) in
-      (at.1, (fault, at.0, subst (λ (r : Row). PrintsWhole e r.text) row_is well))
-  start_9 bus row (fault, refused, inr memory) is well = absurd (let no : ⊥ = omega (arith, ap (λ (r : Row). r.status) memory, is) in no)
+  start_9 : (bus : NamedBus) (row : Row) → ComesOfStart Format bus d row → row.status ≡ 9 → PrintsWhole e row.text → DisksTold bus
+  start_9 bus row (disks_refused fault finds as_before) is well = (as_before, (fault, finds, well))
+  start_9 bus row (store_refused fault room cause left) is well = absurd (let no : ⊥ = omega (arith, is) in no)
+  start_9 bus row (start_without_memory fault refused) is well = absurd (let no : ⊥ = omega (arith, is) in no)
 
   row_9 : (row : Row) → Comes row → row.status ≡ 9 → PrintsWhole e row.text → OverGateway i (λ bus pairs events. DisksTold bus)
   row_9 row (without_disks _ comes as_before) is well = absurd (let no : ⊥ = omega (arith, inputs_low row comes, is) in no)
@@ -126,16 +126,10 @@ module _ (same : Type 0) (i : GatewayInputs) (d : GatewayDisks) (e : Ending) whe
   abbrev StoreTold : NamedBus → Type 0
   StoreTold bus = LeavesEach Format bus d.before d.after × ((fault : StartFault) × StoreCause Format bus d.before d.after fault × PrintsWhole e (start_row fault).text)
 
-  start_10 : (bus : NamedBus) (row : Row) → RowOfStart bus d row → row.status ≡ 10 → PrintsWhole e row.text → StoreTold bus
-  start_10 bus row (fault, refused, inl row_is) is well = (
-    start_leaves Format bus d.before d.after fault refused,
-    (
-      fault,
-      refused_at_10 Format bus d.before d.after fault refused (ap (λ (r : Row). r.status) (sym row_is) ∙ is),
-      subst (λ (r : Row). PrintsWhole e r.text) row_is well,
-    ),
-  )
-  start_10 bus row (fault, refused, inr memory) is well = absurd (let no : ⊥ = omega (arith, ap (λ (r : Row). r.status) memory, is) in no)
+  start_10 : (bus : NamedBus) (row : Row) → ComesOfStart Format bus d row → row.status ≡ 10 → PrintsWhole e row.text → StoreTold bus
+  start_10 bus row (disks_refused fault finds as_before) is well = absurd (let no : ⊥ = omega (arith, is) in no)
+  start_10 bus row (store_refused fault room cause left) is well = (left, (fault, cause, well))
+  start_10 bus row (start_without_memory fault refused) is well = absurd (let no : ⊥ = omega (arith, is) in no)
 
   row_10 : (row : Row) → Comes row → row.status ≡ 10 → PrintsWhole e row.text → OverGateway i (λ bus pairs events. StoreTold bus)
   row_10 row (without_disks _ comes as_before) is well = absurd (let no : ⊥ = omega (arith, inputs_low row comes, is) in no)
@@ -143,16 +137,13 @@ module _ (same : Type 0) (i : GatewayInputs) (d : GatewayDisks) (e : Ending) whe
 
   row_not_0 : (row : Row) → Comes row → row.status ≢ 0
   row_not_0 row (without_disks _ comes as_before) = λ is. omega (arith, inputs_low row comes, is)
-  row_not_0 row (not_started _ (bus, pairs, events, set, start)) = λ is. omega (arith, start_status bus d row start, is)
+  row_not_0 row (not_started _ (bus, pairs, events, set, start)) = λ is. omega (arith, start_status Format bus d row start, is)
 
   row_not_6 : (row : Row) → Comes row → row.status ≢ 6
   row_not_6 row (without_disks _ comes as_before) = λ is. omega (arith, inputs_low row comes, is)
-  row_not_6 row (not_started _ (bus, pairs, events, set, start)) = λ is. omega (arith, start_status bus d row start, is)
+  row_not_6 row (not_started _ (bus, pairs, events, set, start)) = λ is. omega (arith, start_status Format bus d row start, is)
 
   -- ---- 6 and 7
-
-  left_of : (bus : NamedBus) (row : Row) → RowOfStart bus d row → LeavesEach Format bus d.before d.after
-  left_of bus row (fault, refused, is) = start_leaves Format bus d.before d.after fault refused
 
   inputs_memory : (row : Row) → RowOfInputs i row → row.status ≡ 7 → row ≡ memory_row
   inputs_memory row (no_form none config script) is = absurd (let no : ⊥ = omega (arith, is) in no)
@@ -165,28 +156,17 @@ module _ (same : Type 0) (i : GatewayInputs) (d : GatewayDisks) (e : Ending) whe
   inputs_memory row (no_script input.Memory lack) is = refl
   inputs_memory row (script_refused fault f) is = absurd (let no : ⊥ = omega (arith, is) in no)
 
-  abbrev StatusIs : Row → ℕ → Type 0
-  StatusIs row n = row.status ≡ n
-
-  start_7 : (bus : NamedBus) (row : Row) → RowOfStart bus d row → row.status ≡ 7 → row ≡ memory_row
-  start_7 bus row (fault, refused, inl row_is) is = elim (start_statuses fault) [
-    | inl nine ↦ absurd (let no : ⊥ = omega (arith, nine, ap (λ (r : Row). r.status) row_is, is) in no)
-    | inr (inl ten) ↦ absurd (let no : ⊥ = omega (arith, ten, ap (λ (r : Row). r.status) row_is, is) in no)
-    | inr (inr memory) ↦ start_memory fault row memory row_is
-  ]
-  start_7 bus row (fault, refused, inr memory) is = memory
-
   cut_to : (P : Row → Type 0) (row : Row) → P row → row ≡ memory_row → PrintsWhole e row.text → CutShort P e unwritten.Memory
   cut_to P row comes is well = (subst P is comes, subst (λ (r : Row). PrintsWhole e r.text) is well)
 
   row_7 : (row : Row) → Comes row → row.status ≡ 7 → PrintsWhole e row.text → EndsEarly same i d e unwritten.Memory
   row_7 row (without_disks _ comes as_before) is well = unprepared as_before (cut_to (RowOfInputs i) row comes (inputs_memory row comes is) well)
   row_7 row (not_started _ (bus, pairs, events, set, start)) is well =
-      unstarted (bus, pairs, events, set, (left_of bus row start, cut_to (RowOfStart bus d) row start (start_7 bus row start is) well))
+      unstarted (bus, pairs, events, set, (Comes-leaves Format bus d row start, cut_to (ComesOfStart Format bus d) row start (start_memory Format bus d row start is) well))
 
   front_early : PrintsFront Comes e → EndsEarly same i d e unwritten.SinkFailed
   front_early (row, without_disks _ comes as_before, part) = unprepared as_before (row, comes, part)
-  front_early (row, not_started _ (bus, pairs, events, set, start), part) = unstarted (bus, pairs, events, set, (left_of bus row start, (row, start, part)))
+  front_early (row, not_started _ (bus, pairs, events, set, start), part) = unstarted (bus, pairs, events, set, (Comes-leaves Format bus d row start, (row, start, part)))
 
   -- ---- what makes a row come
 
@@ -195,33 +175,24 @@ module _ (same : Type 0) (i : GatewayInputs) (d : GatewayDisks) (e : Ending) whe
   refused_of row bus text fault is (inr (inl (other, four, also))) = inl four
   refused_of row bus text fault is (inr (inr (events, ok, start))) = absurd (Ok_not_Err (own_events_of bus.nodes text) events fault ok is)
 
-  start_no_room : (bus : NamedBus) (row : Row) → ¬ HasRoom bus d.before → RowOfStart bus d row → (row.status ≡ 9) ⊎ (row.status ≡ 7)
-  start_no_room bus row lacks (fault, refused, inl is) = inl (ap (λ (r : Row). r.status) is ∙ start_without_room Format bus d.before d.after fault refused lacks)
-  start_no_room bus row lacks (fault, refused, inr memory) = inr (ap (λ (r : Row). r.status) memory)
-
   without_room_of : (row : Row) (bus : NamedBus) (text : List ℕ) (events : List Event) → own_events_of bus.nodes text ≡ Ok events → ¬ HasRoom bus d.before → OfOffered d row bus text
       → (row.status ≡ 9) ⊎ (row.status ≡ 7)
   without_room_of row bus text events is lacks (inl seven) = inr seven
   without_room_of row bus text events is lacks (inr (inl (fault, four, err))) = absurd (Ok_not_Err (own_events_of bus.nodes text) events fault is err)
-  without_room_of row bus text events is lacks (inr (inr (also, ok, start))) = start_no_room bus row lacks start
+  without_room_of row bus text events is lacks (inr (inr (also, ok, start))) = start_without_room Format bus d row start lacks
 
-  start_does : (bus : NamedBus) (row : Row) → HasRoom bus d.before → DisksDo Format bus d.before d.after → RowOfStart bus d row → row.status ≡ 7
-  start_does bus row room able (fault, refused, inl is) =
-      ap (λ (r : Row). r.status) (start_memory fault row (start_wants_memory Format bus d.before d.after fault refused room able) is)
-  start_does bus row room able (fault, refused, inr memory) = ap (λ (r : Row). r.status) memory
-
-  complete_of : (row : Row) (bus : NamedBus) (text : List ℕ) (events : List Event) → own_events_of bus.nodes text ≡ Ok events → HasRoom bus d.before
-      → DisksDo Format bus d.before d.after → OfOffered d row bus text → (row.status ≡ 0) ⊎ (row.status ≡ 7)
-  complete_of row bus text events is room able (inl seven) = inr seven
-  complete_of row bus text events is room able (inr (inl (fault, four, err))) = absurd (Ok_not_Err (own_events_of bus.nodes text) events fault is err)
-  complete_of row bus text events is room able (inr (inr (also, ok, start))) = inr (start_does bus row room able start)
+  complete_of : (row : Row) (bus : NamedBus) (text : List ℕ) (events : List Event) → own_events_of bus.nodes text ≡ Ok events
+      → BusHasDisks Format bus d → OfOffered d row bus text → (row.status ≡ 0) ⊎ (row.status ≡ 7)
+  complete_of row bus text events is able (inl seven) = inr seven
+  complete_of row bus text events is able (inr (inl (fault, four, err))) = absurd (Ok_not_Err (own_events_of bus.nodes text) events fault is err)
+  complete_of row bus text events is able (inr (inr (also, ok, start))) = inr (start_complete Format bus d row start able)
 
   -- ---- a row that comes
 
   row_low : (row : Row) → Comes row
       → (row.status ≡ 2) ⊎ (row.status ≡ 3) ⊎ (row.status ≡ 4) ⊎ (row.status ≡ 5) ⊎ (row.status ≡ 8) → same
   row_low row (without_disks _ comes as_before) low = as_before
-  row_low row (not_started _ (bus, pairs, events, set, start)) low = absurd (let no : ⊥ = omega (arith, start_status bus d row start, low) in no)
+  row_low row (not_started _ (bus, pairs, events, set, start)) low = absurd (let no : ⊥ = omega (arith, start_status Format bus d row start, low) in no)
 
   unused : EndsInRow Comes e → (e.status ≡ 2) ⊎ (e.status ≡ 3) ⊎ (e.status ≡ 4) ⊎ (e.status ≡ 5) ⊎ (e.status ≡ 8) → same
   unused ends low = elim ends.told [
@@ -252,8 +223,8 @@ module _ (same : Type 0) (i : GatewayInputs) (d : GatewayDisks) (e : Ending) whe
     disks_refused_only = λ bus pairs text events offers lines is lacks.
         EndsInRow-may ends 9 (λ row comes. without_room_of row bus text events is lacks (row_offered same i d row bus pairs text comes offers lines));
     store_refused = EndsInRow-at ends 10 refl row_10;
-    complete = λ bus pairs text events offers lines is room able well.
-        EndsInRow-done ends well 0 (λ row comes. complete_of row bus text events is room able (row_offered same i d row bus pairs text comes offers lines));
+    complete = λ bus pairs text events offers lines is able well.
+        EndsInRow-done ends well 0 (λ row comes. complete_of row bus text events is able (row_offered same i d row bus pairs text comes offers lines));
   }
 
   -- ---- where the first events were done
@@ -343,7 +314,7 @@ module _ (same : Type 0) (i : GatewayInputs) (d : GatewayDisks) (e : Ending) whe
     disks_refused = λ is. absurd (let no : ⊥ = omega (arith, status_of result over, is) in no);
     disks_refused_only = λ bus pairs text events offers lines is lacks. absurd (lacks (ran_room result over bus pairs offers));
     store_refused = λ is. absurd (let no : ⊥ = omega (arith, status_of result over, is) in no);
-    complete = λ bus pairs text events offers lines is room able well. done_well result over well;
+    complete = λ bus pairs text events offers lines is able well. done_well result over well;
   }
 
   pub RunsGateway-ends : EndsGateway same i d e → RunsGateway same i d e

@@ -1,5 +1,5 @@
--- The second phase: the one node, and the events
-use Rattle.std.specs.Prelude.{◌≡◌, ℕ, ◌<◌, ◌≤◌, List, [], ◌∷◌, ◌++◌, length, drop, get_or, All, Result}
+-- The second phase: the one node
+use Rattle.std.specs.Prelude.{◌≡◌, ℕ, List, [], ◌∷◌, ◌++◌, length, drop, get_or, Result}
 use Rattle.std.proofs.Common.{refl, sym, ap, ◌∙◌, subst, arith}
 use Rattle.std.proofs.lemmas.List.{length-append}
 use Rattle.bus_port.specs.Sink.{SinkState}
@@ -8,36 +8,16 @@ use Rattle.freshness_routes.specs.Config.{Config}
 use Rattle.numbered_run.specs.declared.printing.Unwritten.{Unwritten}
 use Rattle.bus_machine.specs.Node.{Node}
 use Rattle.bus_machine.specs.declared.events.Event.{Event}
-use Rattle.bus_machine.specs.declared.events.Event.TheVariants as event
-use Rattle.bus_nodes.specs.declared.nodes.NodeLine.{NodeLine}
 use Rattle.bus_nodes.specs.Buses.{NamedBus, IsNamedBus}
 use Rattle.bus_script.specs.EventForms.{no_node}
-use Rattle.bus_script.specs.ScriptEvents.{HasFields, IsScriptEvent}
 use Rattle.secoc_node.specs.State.{NodeState}
 use Rattle.bus_world.specs.declared.start.Start.TheVariants.{Format}
-use Rattle.bus_world.specs.Turns.{CanBeDone}
 use Rattle.bus_world.specs.Starts.{OpensNodes, Opened, disks_of}
 use Rattle.secoc_gateway.specs.Pairs.{AreGood}
 use Rattle.secoc_gateway.specs.State.{over}
 use Rattle.gateway_commands.specs.Inputs.{TakesPairs, gate_config}
 use Rattle.gateway_commands.specs.Runs.{RanGateway}
 use Rattle.gateway_commands.specs.Steps.{PrintsTurns}
-
--- ---- events
-
-can_be_done : (e : Event) → HasFields e → CanBeDone e
-can_be_done (event.Send node id payload) has = tt
-can_be_done (event.Deliver node number) has = tt
-can_be_done (event.Inject node id pdu) has = tt
-can_be_done (event.Load node request) has = tt
-can_be_done (event.Key node update authkey) has = tt
-can_be_done (event.Boot node image) has = (has.0, has.1)
-can_be_done (event.Cut node torn) has = tt
-can_be_done (event.Stop node calls) has = has.0
-can_be_done (event.Fail node calls) has = has.0
-
-pub all_can_be_done : (nodes : List NodeLine) (events : List Event) → All (IsScriptEvent nodes) events → All CanBeDone events
-all_can_be_done nodes events are k d inside = can_be_done (get_or events k d) (are k d inside).fields
 
 -- ---- the one node
 

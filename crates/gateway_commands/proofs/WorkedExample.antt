@@ -9,7 +9,7 @@ use Rattle.answer_rows.specs.EndingLaws.{EndsInRow-memory}
 use Rattle.byte_lists.specs.Numbers.{number_of}
 use Rattle.hex.specs.Hex.{decode_pairs}
 use Rattle.text_lines.specs.Forms.{data_id_form}
-use Rattle.gateway_commands.specs.Runs.{GatewayDisks}
+use Rattle.bus_world.specs.StartAnswers.{DiskStates}
 use Rattle.gateway_commands.specs.Words.{pair_form, AsksGateway}
 use Rattle.gateway_commands.specs.Inputs.{GatewayInputs}
 use Rattle.gateway_commands.specs.Named.{IsExampleGateway}
@@ -46,7 +46,7 @@ unread_example = record {
 }
 
 -- there was no memory for the example
-pub no_example : (same : Type 0) (d : GatewayDisks) (sink : SinkState) → same
+pub no_example : (same : Type 0) (d : DiskStates) (sink : SinkState) → same
     → (i : GatewayInputs) × IsExampleGateway i × RunsGateway same i d (record { before = sink; after = sink; status = 7 })
 no_example same d sink as_before =
     let i : GatewayInputs = unread_example in (

@@ -16,13 +16,13 @@ use Rattle.bus_script.specs.EventForms.{own_events_of}
 use Rattle.bus_world.specs.declared.start.Start.TheVariants.{Format}
 use Rattle.bus_world.specs.declared.start.StartFault.{StartFault}
 use Rattle.bus_world.specs.Starts.{HasRoom, FindsRoom}
-use Rattle.bus_world.specs.StartRows.{start_row, StoreCause, LeavesEach, DisksDo}
+use Rattle.bus_world.specs.StartRows.{start_row, StoreCause, LeavesEach}
+use Rattle.bus_world.specs.StartAnswers.{DiskStates, ComesOfStart, BusHasDisks}
 use Rattle.bus_inputs.specs.BusFiles.{OffersBus}
-use Rattle.gateway_commands.specs.Runs.{GatewayDisks}
 use Rattle.gateway_commands.specs.Words.{AsksGateway, AsksNoGateway}
 use Rattle.gateway_commands.specs.Texts.{gateway_usage}
 use Rattle.gateway_commands.specs.Inputs.{GatewayInputs, NoGatewayConfig, NoGatewayScript, RefusesPairs, RefusesConfig, OverGateway, OffersGateway}
-use Rattle.gateway_commands.specs.Rows.{ScriptHasFault, RowOfInputs, RowOfStart, DoneGateway}
+use Rattle.gateway_commands.specs.Rows.{ScriptHasFault, RowOfInputs, DoneGateway}
 
 -- a proper front was written of the text of a row that comes, as the sink failed; or nothing, as there was no memory
 abbrev pub CutShort : (Row → Type 0) → Ending → Unwritten → Type 0
@@ -32,15 +32,15 @@ CutShort Comes e unwritten.Memory = Comes memory_row × PrintsWhole e []
 -- what is told and done where the sink fails, or memory is wanting: an input isn't valid or wasn't read to its end, and every
 -- disk is as before; or no event was done, and the disk is as before, or stands in every image for the first node's cells, or
 -- its count rose; or the first events were done, with the texts of all their lines but the last, and a front of this one
-pub data EndsEarly (same : Type 0) (i : GatewayInputs) (d : GatewayDisks) (e : Ending) (cause : Unwritten) : Type 0 where
+pub data EndsEarly (same : Type 0) (i : GatewayInputs) (d : DiskStates) (e : Ending) (cause : Unwritten) : Type 0 where
   unprepared : same → CutShort (RowOfInputs i) e cause → EndsEarly same i d e cause
-  unstarted : OverGateway i (λ bus pairs events. LeavesEach Format bus d.before d.after × CutShort (RowOfStart bus d) e cause)
+  unstarted : OverGateway i (λ bus pairs events. LeavesEach Format bus d.before d.after × CutShort (ComesOfStart Format bus d) e cause)
       → EndsEarly same i d e cause
   begun : OverGateway i (λ bus pairs events. DoneGateway bus pairs events d e (Err cause)) → EndsEarly same i d e cause
 
 -- what a gateway promises that has these inputs and disks and ends so, in the order of the table of answers; `same` is that
 -- every disk is as before
-pub record RunsGateway (same : Type 0) (i : GatewayInputs) (d : GatewayDisks) (e : Ending) : Type 0 where
+pub record RunsGateway (same : Type 0) (i : GatewayInputs) (d : DiskStates) (e : Ending) : Type 0 where
   -- Every disk is as before at the status 2, 3, 4, 5 and 8.
   pub disks_unused : (e.status ≡ 2) ⊎ (e.status ≡ 3) ⊎ (e.status ≡ 4) ⊎ (e.status ≡ 5) ⊎ (e.status ≡ 8) → same
   -- 0: the inputs were read whole, and all events were done, with the text of each line.
@@ -85,4 +85,4 @@ pub record RunsGateway (same : Type 0) (i : GatewayInputs) (d : GatewayDisks) (e
   -- What is valid is done, where no port failed and there was memory.
   pub complete : (bus : NamedBus) (pairs : List (ℕ × ℕ)) (input : List ℕ) (events : List Event)
       → OffersGateway i bus pairs → Offers i.script input → own_events_of bus.nodes input ≡ Ok events
-      → HasRoom bus d.before → DisksDo Format bus d.before d.after → ¬ SinkFailed e → (e.status ≡ 0) ⊎ (e.status ≡ 7)
+      → BusHasDisks Format bus d → ¬ SinkFailed e → (e.status ≡ 0) ⊎ (e.status ≡ 7)

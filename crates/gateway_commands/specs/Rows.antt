@@ -9,16 +9,15 @@ use Rattle.text_lines.specs.Readings.{Fault}
 use Rattle.numbered_run.specs.declared.printing.Unwritten.{Unwritten}
 use Rattle.answer_rows.specs.Inputs.{ReadsWhole}
 use Rattle.bus_machine.specs.declared.events.Event.{Event}
-use Rattle.bus_nodes.specs.Buses.{NamedBus, IsNamedBus}
+use Rattle.bus_nodes.specs.Buses.{NamedBus}
 use Rattle.bus_script.specs.EventForms.{own_events_of}
 use Rattle.bus_world.specs.declared.start.Start.TheVariants.{Format}
-use Rattle.bus_world.specs.declared.start.StartFault.{StartFault}
-use Rattle.bus_world.specs.Starts.{NotStarted}
-use Rattle.bus_world.specs.StartRows.{IsStartRow}
+use Rattle.bus_world.specs.StartAnswers.{DiskStates, ComesOfStart}
+use Rattle.bus_inputs.specs.Statuses.{unwritten_status}
 use Rattle.gateway_commands.specs.Words.{AsksGateway, AsksNoGateway}
 use Rattle.gateway_commands.specs.Texts.{gateway_usage}
 use Rattle.gateway_commands.specs.Inputs.{GatewayInputs, NoGatewayConfig, NoGatewayScript, RefusesConfig, SetsPairs, OverGateway}
-use Rattle.gateway_commands.specs.Runs.{GatewayDisks, unwritten_status, RanGateway}
+use Rattle.gateway_commands.specs.Runs.{RanGateway}
 use Rattle.gateway_commands.specs.Headline.{TellsFirst, OneGatewayRun}
 
 -- all was read whole up to the script's last byte, and this is the script's first fault
@@ -39,25 +38,21 @@ pub data RowOfInputs (i : GatewayInputs) : Row → Type 0 where
   no_script : (fault : InputFault) → NoGatewayScript i fault → RowOfInputs i (input_row fault)
   script_refused : (fault : Fault) → ScriptHasFault i fault → RowOfInputs i (line_row fault)
 
--- the rows of a start that is refused
-abbrev pub RowOfStart : NamedBus → GatewayDisks → Row → Type 0
-RowOfStart bus d row = (fault : StartFault) × NotStarted Format bus d.before d.after fault × IsStartRow fault row
-
 -- the table: when each row comes, and what the disks are then; `same` is that every disk is as before
-pub data RowOfGateway (same : Type 0) (i : GatewayInputs) (d : GatewayDisks) : Row → Type 0 where
+pub data RowOfGateway (same : Type 0) (i : GatewayInputs) (d : DiskStates) : Row → Type 0 where
   without_disks : (row : Row) → RowOfInputs i row → same → RowOfGateway same i d row
-  not_started : (row : Row) → OverGateway i (λ bus pairs events. RowOfStart bus d row) → RowOfGateway same i d row
+  not_started : (row : Row) → OverGateway i (λ bus pairs events. ComesOfStart Format bus d row) → RowOfGateway same i d row
 
 -- the first events were done, up to the first whose text wasn't written, and the status says so; over a disk that tells its
 -- bytes they are one run of the machine, and all of `OneGatewayRun` holds of it
-pub record DoneGateway (bus : NamedBus) (pairs : List (ℕ × ℕ)) (events : List Event) (d : GatewayDisks) (e : Ending)
+pub record DoneGateway (bus : NamedBus) (pairs : List (ℕ × ℕ)) (events : List Event) (d : DiskStates) (e : Ending)
     (result : Result (Unit {0}) Unwritten) : Type 0 where
   pub ran : RanGateway bus pairs d.before d.after events e.before e.after result
   pub status_is : e.status ≡ unwritten_status result
   pub one_run : TellsFirst d.before → OneGatewayRun bus pairs d.before d.after events e.before e.after result
 
 -- how a gateway ends: a row of the table comes, and is told; or it did its first events
-pub data EndsGateway (same : Type 0) (i : GatewayInputs) (d : GatewayDisks) (e : Ending) : Type 0 where
+pub data EndsGateway (same : Type 0) (i : GatewayInputs) (d : DiskStates) (e : Ending) : Type 0 where
   in_row : EndsInRow (RowOfGateway same i d) e → EndsGateway same i d e
   ran : (result : Result (Unit {0}) Unwritten)
       → OverGateway i (λ bus pairs events. DoneGateway bus pairs events d e result) → EndsGateway same i d e

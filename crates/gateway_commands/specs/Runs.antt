@@ -1,9 +1,8 @@
 -- A gateway that was started: the turns of its first events, over a disk of any kind
-use Rattle.std.specs.Prelude.{◌≡◌, ℕ, List, ◌∷◌, length, drop, get_or, Result, Ok, Err}
+use Rattle.std.specs.Prelude.{◌≡◌, ℕ, List, ◌∷◌, drop, get_or, Result}
 use Rattle.bus_port.specs.Sink.{SinkState}
 use Rattle.cut_disk.specs.State.{DiskState}
 use Rattle.numbered_run.specs.declared.printing.Unwritten.{Unwritten}
-use Rattle.numbered_run.specs.declared.printing.Unwritten.TheVariants.{SinkFailed, Memory}
 use Rattle.numbered_run.specs.Printed.{Printed}
 use Rattle.bus_machine.specs.declared.events.Event.{Event}
 use Rattle.bus_nodes.specs.Buses.{NamedBus, IsNamedBus}
@@ -13,17 +12,6 @@ use Rattle.secoc_gateway.specs.State.{GatewayState, over}
 use Rattle.secoc_gateway.specs.Turns.{GatewayTurn}
 use Rattle.gateway_commands.specs.Texts.{gateway_text}
 use Rattle.gateway_commands.specs.Inputs.{TakesPairs, gate_config}
-
--- what was known of the disks before and after a gateway ran
-pub record GatewayDisks : Type 0 where
-  pub before : List DiskState
-  pub after : List DiskState
-
--- the status of a run whose lines were all written, or not
-abbrev pub unwritten_status : Result (Unit {0}) Unwritten → ℕ
-unwritten_status (Ok _) = 0
-unwritten_status (Err SinkFailed) = 6
-unwritten_status (Err Memory) = 7
 
 -- the first disk was formatted for the node, and a gateway over it took the turns of the first events, up to the first
 -- whose text wasn't written; the disk is back in its place

@@ -13,17 +13,18 @@ use Rattle.bus_machine.specs.declared.events.Event.{Event}
 use Rattle.bus_nodes.specs.Buses.{NamedBus, IsNamedBus}
 use Rattle.bus_script.specs.EventForms.{own_events_of}
 use Rattle.bus_script.specs.ScriptEvents.{IsScriptEvent}
+use Rattle.bus_world.specs.declared.start.Start.TheVariants.{Format}
+use Rattle.bus_world.specs.StartAnswers.{DiskStates, ComesOfStart}
 use Rattle.bus_inputs.specs.Scripts.{LacksLines, ReadsLinesAs}
 use Rattle.secoc_node.specs.State.{NodeState}
 use Rattle.secoc_gateway.specs.State.{GatewayState, over}
 use Rattle.secoc_gateway.specs.Pairs.{pair_in}
 use Rattle.secoc_gateway.specs.Turns.{GatewayTurn}
-use Rattle.gateway_commands.specs.Runs.{GatewayDisks}
 use Rattle.gateway_commands.specs.declared.job.GatewayJob.{GatewayJob}
 use Rattle.gateway_commands.specs.Words.{pair_form, AsksGateway, AsksNoGateway}
 use Rattle.gateway_commands.specs.Texts.{gateway_usage, gateway_text, pair_text}
 use Rattle.gateway_commands.specs.Inputs.{GatewayInputs, TakesPairs, RefusesPairs, SetsGateway}
-use Rattle.gateway_commands.specs.Rows.{RowOfInputs, RowOfStart, DoneGateway}
+use Rattle.gateway_commands.specs.Rows.{RowOfInputs, DoneGateway}
 
 -- ---- the words
 
@@ -94,7 +95,7 @@ pub record PrintsTurns (before : NodeState) (pairs : List (ℕ × ℕ)) (events 
   pub handed_back : over now ≡ after
 
 -- how a job ends: it isn't started, or it did its first events
-pub data DoesGateway (bus : NamedBus) (pairs : List (ℕ × ℕ)) (events : List Event) (d : GatewayDisks) (e : Ending) : Type 0 where
-  refused_start : EndsInRow (RowOfStart bus d) e → DoesGateway bus pairs events d e
+pub data DoesGateway (bus : NamedBus) (pairs : List (ℕ × ℕ)) (events : List Event) (d : DiskStates) (e : Ending) : Type 0 where
+  refused_start : EndsInRow (ComesOfStart Format bus d) e → DoesGateway bus pairs events d e
   first_done : (result : Result (Unit {0}) Unwritten) → DoneGateway bus pairs events d e result
       → DoesGateway bus pairs events d e

@@ -1,5 +1,6 @@
 //! What the sources of a gateway have, or why they have it not.
-ghost use Rattle.std.specs.Prelude.{◌≡◌, ◌<◌, ◌+◌, ◌≤◌, ◌^◌, length};
+ghost use Rattle.std.specs.Prelude.{◌≡◌, ◌<◌, ◌≤◌, ◌^◌, length, MatchOption};
+ghost use Rattle.secoc_gateway.specs.Pairs.{AreGood, IsLowestBad};
 ghost use Rattle.gateway_commands.specs.Steps.{IsPairRow, ChecksPairs, HasOwnScript, FindsOwnScript};
 
 use answer_rows::Refusal;
@@ -7,6 +8,7 @@ use bus_nodes::BusConfig;
 use bus_port::Source;
 use bus_script::{Event, read_own_script};
 use command_edge::read_input;
+use freshness_routes::NodeConfig;
 use line_rows::line_refusal;
 use secoc_gateway::lowest_bad;
 use std::alloc::{AllocError, Global};
@@ -20,10 +22,19 @@ pub fn check_pairs(alloc: Global, bus: &BusConfig, pairs: &[(u16, u16)]) -> Resu
         return Err(Refusal::fixed(3, "config: nodes\n"));
     }
     let node = &nodes[0];
-    match lowest_bad(node.config.routes.as_slice(), pairs) {
+    match bad_pair(&node.config, pairs) {
         None => Ok(()),
         Some(place) => Err(pair_refusal(alloc, place + 1)),
     }
+}
+
+// The place of the lowest pair that a gateway over a node with this configuration doesn't take, counted from 0.
+fn bad_pair(config: &NodeConfig, pairs: &[(u16, u16)]) -> Option<u16>
+    ensures lowest { MatchOption result (AreGood config.now.routes pairs.now)
+        (IsLowestBad config.now.routes pairs.now) }
+    ensures within { MatchOption result (Unit {0}) (λ place. place ≤ 256) }
+{
+    lowest_bad(config.routes.as_slice(), pairs)
 }
 
 // The refusal of the pair with this number, from 1.

@@ -2,18 +2,17 @@
 ghost use Rattle.std.specs.Prelude.{◌≡◌, ◌≤◌, ◌∷◌, ◌^◌, ◌<◌, length, map, All};
 ghost use Rattle.bus_world.specs.Turns.{CanBeDone};
 ghost use Rattle.secoc_gateway.specs.Pairs.{AreGood};
-ghost use Rattle.gateway_commands.specs.Runs.{unwritten_status};
 ghost use Rattle.gateway_commands.specs.Steps.{IsWholeJob, PrintsTurns, DoesGateway};
 
 use crate::job::GatewayJob;
 use crate::laws::gateways_are_runs;
 use crate::texts::GatewayTexts;
 use answer_rows::tell_refusal;
+use bus_inputs::status_of_run;
 use bus_port::Sink;
 use bus_script::Event;
 use bus_world::{close_nodes, open_nodes, start_refusal};
 use cell_store::CutCells;
-use command_edge::{DONE, NO_MEMORY, WRITE_FAULT};
 use cut_disk::CutDisk;
 use numbered_run::{Unwritten, print_run};
 use secoc_gateway::Gateway;
@@ -48,7 +47,7 @@ pub fn do_job<K: Sink, D: CutDisk>(
         Err(_) => unreachable!(),
     }
     close_nodes(nodes, disks);
-    status_of(printed)
+    status_of_run(printed)
 }
 
 // Steps a gateway over this node through the events, and writes the line of each. The node is handed back.
@@ -70,15 +69,4 @@ fn print_turns<C: CutCells, K: Sink>(
     };
     let printed = print_run::<Gateway<C>, GatewayTexts, K>(alloc, &mut gateway, events, sink);
     (gateway.release(), printed)
-}
-
-// The status of a run whose lines were all written, or not.
-fn status_of(printed: Result<(), Unwritten>) -> u8
-    ensures { result ≡ unwritten_status printed }
-{
-    match printed {
-        Ok(()) => DONE,
-        Err(Unwritten::SinkFailed) => WRITE_FAULT,
-        Err(Unwritten::Memory) => NO_MEMORY,
-    }
 }
