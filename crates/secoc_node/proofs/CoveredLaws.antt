@@ -51,7 +51,8 @@ module _ (known : Known) (store : CellsState) (is : IsNode known store) (up : kn
       → (other v : ℕ) → IsCovered (state_in known store) other Receives v → IsCovered (state_in (with_counter_at known place counter) left) other Receives v
   covered_past counter change left made other v covered =
       let k : ℕ = place_of (node_in known) other Receives in
-      let inside : k < length known.config.routes = omega (arith, covered.kept.inside, is.count) in
+      let below : 14 + k < length store.cells = covered.kept.inside in
+      let inside : k < length known.config.routes = omega (arith, below, is.count) in
       record {
         bound = covered.bound;
         kept = keeps_other (14 + place) id (14 + k) other covered.bound change store left made (places_differ other inside) covered.kept;
