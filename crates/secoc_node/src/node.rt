@@ -26,7 +26,7 @@ use crate::faults::{AttachFault, CutFault, NodeFault, NodeRefused};
 use crate::known::Known;
 use cell_store::{Cells, CutCells, Reread};
 use cut_disk::Torn;
-use freshness_manager::{Direction, NodeConfig};
+use freshness_manager::{Direction, NodeConfig, Route};
 use memory_update::{Reply, Request};
 use secoc_receiver::{ReceiveFault, Reception, receive};
 use secoc_sender::{SendFault, Sent, send};
@@ -86,6 +86,9 @@ impl<C: Cells> Node<C> {
         ensures within { IfOk result (λ sent. sent.len ≤ 64) }
         ensures rest { IfOk result (λ sent. drop sent.len out.new ≡ drop sent.len out.old) }
         ensures covered { IfOk result (λ sent. IsCovered self.new id Sends sent.freshness) }
+        // what is covered of the routes that receive stays so, whatever came of the send
+        ensures others { (other freshness : ℕ) → IsCovered self.old other Receives freshness
+            → IsCovered self.new other Receives freshness }
         ensures untouched { IfErr result (λ fault. fault ≢ NodeFault.Faulted → self.new ≡ self.old) }
         ensures unwritten { OnErr result (out.new ≡ out.old) }
         ensures down { IsErrOf result NodeFault.Down ↔ self.old.node.up ≡ false }
@@ -218,6 +221,14 @@ impl<C: Cells> Node<C> {
     {
         let (place, _route) = self.known.route(id, direction)?;
         Some(self.known.counters[place].freshness())
+    }
+
+    /// The routes of the node in their order, at most 256.
+    pub fn routes(&self) -> &[Route]
+        ensures value { result.now ≡ self.now.node.config.routes }
+        ensures few { length result.now ≤ 256 }
+    {
+        self.known.config.routes.as_slice()
     }
 
     /// Whether the node serves no call until its power is cut: a call of its disk failed, or a power cut was refused, since it was last
