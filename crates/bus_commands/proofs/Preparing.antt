@@ -141,15 +141,15 @@ world_no_bus asked config script row unread lacks = λ words asks.
 
 pub world_no_events : (asked : WorldCommand) (config script : Reading) (bus : NamedBus) (row : Row) → ReadsBus config bus
     → FindsEvents asked bus script (Err row) → PreparesWorld asked config script (Err row)
-world_no_events Replay config script bus row reads lacks = λ words asks.
-    Comes-no_lines (given words config script) (replay bus) (events_of bus.nodes) row (asks, reads) (λ text. refl) lacks
+world_no_events (Replay start) config script bus row reads lacks = λ words asks.
+    Comes-no_lines (given words config script) (replay start bus) (events_of bus.nodes) row (asks, reads) (λ text. refl) lacks
 world_no_events (Trial trial) config script bus row reads lacks = λ words asks.
     subst (ComesOfInputs (given words config script)) (sym lacks.1)
     (no_config input.Memory ((command.World (Trial trial), asks, tt), Lacks-whole config reads.0 reads.1, lacks.0))
 
 pub world_ok : (asked : WorldCommand) (config script : Reading) (bus : NamedBus) (found : Vec Event Global) → IsNamedBus bus → ReadsBus config bus
     → FindsEvents asked bus script (Ok found) → PreparesWorld asked config script (Ok (record { command = asked; bus = bus; events = found }))
-world_ok Replay config script bus found named reads finds = λ words asks.
+world_ok (Replay start) config script bus found named reads finds = λ words asks.
     ((named, finds.1), record { asks = asks; of_bus = reads; has = finds.0 })
 world_ok (Trial trial) config script bus found named reads finds = λ words asks.
     ((named, finds.1.1), record { asks = asks; of_bus = reads; has = (finds.0, finds.1.0) })

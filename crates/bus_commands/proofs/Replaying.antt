@@ -10,7 +10,7 @@ use Rattle.cut_disk.specs.State.{DiskState}
 use Rattle.bus_world.specs.Turns.{CanBeDone}
 use Rattle.bus_world.specs.Worlds.{BusState, IsEventOf, IsReady}
 use Rattle.bus_world.specs.Starts.{Started}
-use Rattle.bus_world.specs.declared.start.Start.TheVariants.{Format}
+use Rattle.bus_world.specs.declared.start.Start.{Start}
 
 can_be_done : (e : Event) → HasFields e → CanBeDone e
 can_be_done (event.Send node id payload) has = tt
@@ -28,9 +28,9 @@ pub event_of_nodes : (nodes : List NodeLine) (e : Event) → IsScriptEvent nodes
 event_of_nodes nodes e is = record { of_bus = is.node; fields = can_be_done e is.fields }
 
 -- a world that was started may be given the events of a script
-pub ready_for : (bus : NamedBus) (events : List Event) (most : ℕ) (before : List DiskState) (world : BusState) → Started Format bus most before world → length events ≤ most
+pub ready_for : (how : Start) (bus : NamedBus) (events : List Event) (most : ℕ) (before : List DiskState) (world : BusState) → Started how bus most before world → length events ≤ most
     → All (IsScriptEvent bus.nodes) events → IsReady world events
-ready_for bus events most before world started few are = record {
+ready_for how bus events most before world started few are = record {
   of_bus = λ k d inside. subst (λ n. IsEventOf n (get_or events k d)) (sym started.nodes.count) (event_of_nodes bus.nodes (get_or events k d) (are k d inside));
   room = omega (arith, started.no_event, started.most_is, few);
 }

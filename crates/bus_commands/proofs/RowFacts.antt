@@ -17,6 +17,8 @@ use Rattle.bus_config.specs.BusFile.{bus_of}
 use Rattle.bus_nodes.specs.Buses.{NamedBus}
 use Rattle.bus_machine.specs.declared.events.Event.{Event}
 use Rattle.bus_world.specs.Starts.{HasRoom}
+use Rattle.bus_world.specs.declared.start.Start.{Start}
+use Rattle.bus_world.specs.declared.start.Start.TheVariants.{Format}
 use Rattle.bus_commands.specs.declared.words.Command.TheVariants.{Lines, World}
 use Rattle.bus_commands.specs.declared.words.LineCommand.TheVariants as lines
 use Rattle.bus_commands.specs.declared.words.WorldCommand.{WorldCommand}
@@ -24,10 +26,10 @@ use Rattle.bus_commands.specs.declared.words.WorldCommand.TheVariants.{Replay, T
 use Rattle.bus_commands.specs.Words.{AsksNothing}
 use Rattle.bus_commands.specs.Tasks.{Task, frame, judge, check, replay}
 use Rattle.bus_commands.specs.Texts.{Prints, fault_of}
-use Rattle.bus_commands.specs.Inputs.{BusInputs, ReadsBus, IsConfigFault, OffersBus, AsksOverBus, SetsTask, OffersTask, Over, HasEvents, SetsWorld, OffersTrial}
+use Rattle.bus_commands.specs.Inputs.{BusInputs, ReadsBus, IsConfigFault, OffersBus, AsksOverBus, SetsTask, OffersTask, Over, HasEvents, SetsWorld, start_of, OffersTrial}
 use Rattle.bus_commands.specs.StartRows.{DiskStates, CommandDisks, ComesOfStart}
 use Rattle.bus_commands.specs.Rows.{ComesOfInputs, no_form, no_config, config_refused, no_script, script_refused, done, ComesInRun, without_disks, not_started, tried, tried_without_memory}
-use Rattle.bus_commands.proofs.Asking.{needs_bus, command_for, set_asks, offered_asks, no_trial, same_bus, same_task, replay_task}
+use Rattle.bus_commands.proofs.Asking.{apart, needs_bus, command_for, set_asks, offered_asks, no_trial, same_bus, same_task, replay_task}
 
 -- ---- the sources
 
@@ -55,10 +57,10 @@ calm_set : (i : BusInputs) (task : Task) → SetsTask i task → IsCalm i.config
 calm_set i frame set = calm_unread i.config set.1
 calm_set i judge set = calm_unread i.config set.1
 calm_set i (check bus) set = calm_whole i.config set.1.0 set.1.1
-calm_set i (replay bus) set = calm_whole i.config set.1.0 set.1.1
+calm_set i (replay start bus) set = calm_whole i.config set.1.0 set.1.1
 
 calm_events : (c : WorldCommand) (bus : NamedBus) (script : Reading) (events : List Event) → HasEvents c bus script events → IsCalm script
-calm_events Replay bus script events has = calm_whole script has.0 has.1
+calm_events (Replay start) bus script events has = calm_whole script has.0 has.1
 calm_events (Trial trial) bus script events has = calm_unread script has.0
 
 pub calm_world : (i : BusInputs) (c : WorldCommand) (bus : NamedBus) (events : List Event) → SetsWorld i c bus events → IsCalm i.config × IsCalm i.script
@@ -163,7 +165,7 @@ set_has_bus : (i : BusInputs) (task : Task) (file : List ℕ) (fault : ConfigFau
 set_has_bus i frame file fault set over offers err = needs_bus i.words (Lines lines.Frame) set.0 over
 set_has_bus i judge file fault set over offers err = needs_bus i.words (Lines lines.Judge) set.0 over
 set_has_bus i (check bus) file fault set over offers err = bus_or_fault i.config bus file fault set.1 offers err
-set_has_bus i (replay bus) file fault set over offers err = bus_or_fault i.config bus file fault set.1 offers err
+set_has_bus i (replay start bus) file fault set over offers err = bus_or_fault i.config bus file fault set.1 offers err
 
 inputs_refuse : (i : BusInputs) (row : Row) (file : List ℕ) (fault : ConfigFault) → ComesOfInputs i row → AsksOverBus i.words → Offers i.config file → bus_of file ≡ Err fault
     → (row.status ≡ 3) ⊎ (row.status ≡ 7)
@@ -190,7 +192,7 @@ offered_bus : (i : BusInputs) (task : Task) → OffersTask i task → AsksOverBu
 offered_bus i frame offers over = absurd (needs_bus i.words (Lines lines.Frame) offers over)
 offered_bus i judge offers over = absurd (needs_bus i.words (Lines lines.Judge) offers over)
 offered_bus i (check bus) offers over = (bus, offers.1)
-offered_bus i (replay bus) offers over = (bus, offers.1)
+offered_bus i (replay start bus) offers over = (bus, offers.1)
 
 -- what was read holds of what was offered
 of_offered : (i : BusInputs) (P : Task → List ℕ → Type 0) (task : Task) (input : List ℕ) → OffersTask i task → Offers i.script input → Over i P → P task input
@@ -204,7 +206,7 @@ OfTask d row task input =
     (row.status ≡ 7)
     ⊎ (((fault : Fault) × (row.status ≡ 4) × (fault_of task input ≡ Some fault))
     ⊎ (((text : List ℕ) × (row.status ≡ 0) × Prints task input text)
-    ⊎ ((bus : NamedBus) × (task ≡ replay bus) × (fault_of task input ≡ None) × ComesOfStart bus d row)))
+    ⊎ ((start : Start) × (bus : NamedBus) × (task ≡ replay start bus) × (fault_of task input ≡ None) × ComesOfStart start bus d row)))
 
 inputs_offered : (i : BusInputs) (d : DiskStates) (row : Row) (task : Task) (input : List ℕ) → ComesOfInputs i row → OffersTask i task → Offers i.script input → OfTask d row task input
 inputs_offered i d row task input (no_form none config script) offers lines = absurd (none (command_for task) (offered_asks i task offers))
@@ -221,19 +223,19 @@ inputs_offered i d row task input (done text over) offers lines =
     inr (inr (inl (text, refl, of_offered i (λ task input. Prints task input text) task input offers lines over)))
 
 -- a replay that was set is the task that is offered, and its script has no fault
-pub replay_offered : (i : BusInputs) (bus : NamedBus) (events : List Event) (task : Task) (input : List ℕ) → SetsWorld i Replay bus events → OffersTask i task → Offers i.script input
-    → (task ≡ replay bus) × (fault_of task input ≡ None)
-replay_offered i bus events task input set offers lines =
-    let one : replay bus ≡ task = same_task i (replay bus) task (replay_task i bus events set) offers in
+pub replay_offered : (i : BusInputs) (start : Start) (bus : NamedBus) (events : List Event) (task : Task) (input : List ℕ) → SetsWorld i (Replay start) bus events → OffersTask i task → Offers i.script input
+    → (task ≡ replay start bus) × (fault_of task input ≡ None)
+replay_offered i start bus events task input set offers lines =
+    let one : replay start bus ≡ task = same_task i (replay start bus) task (replay_task i start bus events set) offers in
     let read : set.has.0 ≡ input = Offers-whole i.script input set.has.0 lines set.has.1 in
-    let none : fault_of (replay bus) set.has.0 ≡ None = ap (λ (r : Result (List Event) Fault). result_err r) set.has.2 in
-    (sym one, subst (λ (t : Task). fault_of t input ≡ None) one (subst (λ (l : List ℕ). fault_of (replay bus) l ≡ None) read none))
+    let none : fault_of (replay start bus) set.has.0 ≡ None = ap (λ (r : Result (List Event) Fault). result_err r) set.has.2 in
+    (sym one, subst (λ (t : Task). fault_of t input ≡ None) one (subst (λ (l : List ℕ). fault_of (replay start bus) l ≡ None) read none))
 
 start_offered : (i : BusInputs) (d : DiskStates) (row : Row) (task : Task) (input : List ℕ) (c : WorldCommand) (bus : NamedBus) (events : List Event) → SetsWorld i c bus events
-    → ComesOfStart bus d row → OffersTask i task → Offers i.script input → OfTask d row task input
-start_offered i d row task input Replay bus events set comes offers lines =
-    let one = replay_offered i bus events task input set offers lines in
-    inr (inr (inr (bus, one.0, one.1, comes)))
+    → ComesOfStart (start_of c) bus d row → OffersTask i task → Offers i.script input → OfTask d row task input
+start_offered i d row task input (Replay start) bus events set comes offers lines =
+    let one = replay_offered i start bus events task input set offers lines in
+    inr (inr (inr (start, bus, one.0, one.1, comes)))
 start_offered i d row task input (Trial trial) bus events set comes offers lines = no_trial i.words task trial (offered_asks i task offers) set.asks
 
 module _ {V : Type 0} where
@@ -248,7 +250,7 @@ module _ {V : Type 0} where
 
 -- the rows that come then: want of memory, those of a bus that doesn't start, or the summary
 abbrev pub OfTrial : DiskStates → Row → NamedBus → Type 0
-OfTrial d row bus = (row.status ≡ 7) ⊎ (ComesOfStart bus d row ⊎ ((row.status ≡ 0) × HasRoom bus d.before))
+OfTrial d row bus = (row.status ≡ 7) ⊎ (ComesOfStart Format bus d row ⊎ ((row.status ≡ 0) × HasRoom bus d.before))
 
 inputs_tried : (i : BusInputs) (d : DiskStates) (row : Row) (bus : NamedBus) → ComesOfInputs i row → OffersTrial i bus → OfTrial d row bus
 inputs_tried i d row bus (no_form none config script) (trial, asks, of_bus) = absurd (none (World (Trial trial)) asks)
@@ -258,11 +260,17 @@ inputs_tried i d row bus (no_script fault (task, set, lacks)) (trial, asks, of_b
 inputs_tried i d row bus (script_refused fault (task, set, over)) (trial, asks, of_bus) = no_trial i.words task trial (set_asks i task set) asks
 inputs_tried i d row bus (done text (task, set, over)) (trial, asks, of_bus) = no_trial i.words task trial (set_asks i task set) asks
 
+-- a trial formats its disks, and words that ask for one ask for no replay
+start_tried : (i : BusInputs) (d : DiskStates) (row : Row) (c : WorldCommand) (over bus : NamedBus) (events : List Event) → SetsWorld i c over events → ComesOfStart (start_of c) over d row
+    → OffersTrial i bus → OfTrial d row bus
+start_tried i d row (Replay start) over bus events set comes (trial, asks, of_bus) = apart i.words (World (Replay start)) (World (Trial trial)) set.asks asks (λ e. cc)
+start_tried i d row (Trial drawn) over bus events set comes offers =
+    inr (inl (subst (λ (b : NamedBus). ComesOfStart Format b d row) (same_bus i.config over bus set.of_bus offers.2) comes))
+
 module _ {V : Type 0} where
   pub row_tried : (i : BusInputs) (d : CommandDisks V) (row : Row) (bus : NamedBus) → ComesInRun i d row → OffersTrial i bus → OfTrial d.states row bus
   row_tried i d row bus (without_disks _ comes as_before) offers = inputs_tried i d.states row bus comes offers
-  row_tried i d row bus (not_started _ (c, over, events, set, comes)) offers =
-      inr (inl (subst (λ (b : NamedBus). ComesOfStart b d.states row) (same_bus i.config over bus set.of_bus offers.2) comes.1))
+  row_tried i d row bus (not_started _ (c, over, events, set, comes)) offers = start_tried i d.states row c over bus events set comes.1 offers
   row_tried i d row bus (tried summary (trial, over, events, set, ran)) offers =
       inr (inr (refl, subst (λ (b : NamedBus). HasRoom b d.states.before) (same_bus i.config over bus set.of_bus offers.2) ran.ran.started.room))
   row_tried i d row bus (tried_without_memory summary (trial, over, events, set, ran)) offers = inl refl

@@ -10,7 +10,7 @@ use Rattle.bus_nodes.specs.Buses.{NamedBus, IsNamedBus}
 use Rattle.bus_texts.specs.LineTexts.{line_text}
 use Rattle.bus_world.specs.Worlds.{BusState, BusTurn}
 use Rattle.bus_world.specs.Starts.{Started, disks_of}
-use Rattle.bus_world.specs.declared.start.Start.TheVariants.{Format}
+use Rattle.bus_world.specs.declared.start.Start.{Start}
 
 abbrev pub written_status : Result (Unit {0}) Unwritten → ℕ
 written_status (Ok _) = 0
@@ -19,11 +19,11 @@ written_status (Err Memory) = 7
 
 -- the bus was started, and took the turns of the first events, up to the first whose text wasn't written; the disks
 -- are back in their order
-pub record ReplayTurns (bus : NamedBus) (before after : List DiskState) (events : List Event)
+pub record ReplayTurns (how : Start) (bus : NamedBus) (before after : List DiskState) (events : List Event)
     (sink_before sink_after : SinkState) (result : Result (Unit {0}) Unwritten) : Type 0 where
   pub is_bus : IsNamedBus bus
   pub start : BusState
   pub now : BusState
-  pub started : Started Format bus (length events) before start
+  pub started : Started how bus (length events) before start
   pub printed : Printed BusTurn line_text start now sink_before sink_after events result
   pub disks : after ≡ disks_of now.nodes ++ drop (length bus.nodes) before

@@ -39,6 +39,8 @@ use Rattle.bus_commands.specs.Words.{Asks}
 use Rattle.bus_commands.specs.Inputs.{BusInputs, ReadsBus, IsConfigFault, Over, SetsWorld}
 use Rattle.bus_commands.specs.Summaries.{summary_text}
 use Rattle.bus_commands.specs.StartRows.{DiskStates, ComesOfStart}
+use Rattle.bus_world.specs.declared.start.Start.{Start}
+use Rattle.bus_world.specs.declared.start.Start.TheVariants.{Format}
 use Rattle.bus_commands.specs.Rows.{ComesOfInputs, DoneTrial, DoneReplay}
 
 -- the line's payload has 1 to 60 bytes
@@ -158,12 +160,12 @@ PreparesWorld asked config script (Err row) = (words : List (List ℕ)) → Asks
 
 -- the number of events of a trial is one that its words may have
 abbrev pub HasFewEvents : WorldCommand → Type 0
-HasFewEvents Replay = Unit {0}
+HasFewEvents (Replay start) = Unit {0}
 HasFewEvents (Trial trial) = (1 ≤ trial.count) × (trial.count ≤ 60000)
 
 -- the events of a run of this bus, or why there are none; for a trial nothing is read
 abbrev pub FindsEvents : WorldCommand → NamedBus → Reading → Result (Vec Event Global) Row → Type 0
-FindsEvents Replay bus script result = FindsScript bus script result
+FindsEvents (Replay start) bus script result = FindsScript bus script result
 FindsEvents (Trial trial) bus script result = IsUnread script × DrawsEvents bus trial result
 
 -- ---- the second phase
@@ -182,7 +184,7 @@ pub data AnswersLines (job : LineJob) : Row → Type 0 where
 -- what a trial ends in: it isn't started, or all its events are done, and its seven lines are told, or there was no
 -- memory for them
 pub data AnswersTrial (bus : NamedBus) (events : List Event) (d : DiskStates) : Row → Type 0 where
-  refused_trial : (row : Row) → ComesOfStart bus d row → AnswersTrial bus events d row
+  refused_trial : (row : Row) → ComesOfStart Format bus d row → AnswersTrial bus events d row
   summed : (summary : Summary) → DoneTrial bus events d summary
       → AnswersTrial bus events d (row_of 0 (summary_text summary))
   no_summary : (summary : Summary) → DoneTrial bus events d summary → AnswersTrial bus events d memory_row
@@ -193,11 +195,13 @@ pub data TellsSummary (summary : Summary) : Row → Type 0 where
   no_lines_told : TellsSummary summary memory_row
 
 -- how a replay ends: it isn't started, or it did its first events
-pub data AnswersReplay (bus : NamedBus) (events : List Event) (d : DiskStates) (e : Ending) : Type 0 where
-  refused_replay : EndsInRow (ComesOfStart bus d) e → AnswersReplay bus events d e
-  first_done : (result : Result (Unit {0}) Unwritten) → DoneReplay bus events d e result → AnswersReplay bus events d e
+pub data AnswersReplay (start : Start) (bus : NamedBus) (events : List Event) (d : DiskStates) (e : Ending)
+    : Type 0 where
+  refused_replay : EndsInRow (ComesOfStart start bus d) e → AnswersReplay start bus events d e
+  first_done : (result : Result (Unit {0}) Unwritten) → DoneReplay start bus events d e result
+      → AnswersReplay start bus events d e
 
 -- how the run of a bus ends, by what is asked of it
 abbrev pub AnswersWorld : WorldCommand → NamedBus → List Event → DiskStates → Ending → Type 0
-AnswersWorld Replay bus events d e = AnswersReplay bus events d e
+AnswersWorld (Replay start) bus events d e = AnswersReplay start bus events d e
 AnswersWorld (Trial trial) bus events d e = EndsInRow (AnswersTrial bus events d) e

@@ -33,25 +33,26 @@ impl LineText<Line> for Texts {
     }
 }
 
-/// Starts the bus over formatted disks, steps through the events and writes the line of each, and hands the disks
+/// Starts the bus over its disks, steps through the events and writes the line of each, and hands the disks
 /// back. After a text that isn't written no further event is done.
 pub fn replay<K: Sink, D: CutDisk>(
     alloc: Global,
     bus: &BusConfig,
     events: &[Event],
+    start: Start,
     sink: &mut K,
     disks: &mut Vec<D>,
 ) -> u8
     requires is_bus { IsNamedBus bus.now }
     requires are_events { AreEvents bus.now events.now }
-    ensures { AnswersReplay bus.now events.now
+    ensures { AnswersReplay start bus.now events.now
         (record { before = map D.state disks.old.items; after = map D.state disks.new.items })
         (record { before = K.state sink.old; after = K.state sink.new; status = result }) }
 {
     replays_are_runs();
     starts_are_set_up();
     turns_leave_disks();
-    let started = World::start(alloc, bus, disks, events.len() as u32, Start::Format);
+    let started = World::start(alloc, bus, disks, events.len() as u32, start);
     let mut world = match started {
         Ok(world) => world,
         Err(fault) => return tell_refusal(sink, &start_refusal(alloc, &fault)),
