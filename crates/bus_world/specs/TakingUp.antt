@@ -162,7 +162,7 @@ NoNodes kind version config x (open_fault.BadSlot slot) =
     HasNodeStore kind version (cells_in config) x × StandsSo kind (cells_in config) x (λ cells. FirstBadSlot cells slot)
 NoNodes kind version config x (open_fault.BadBound place) =
     HasNodeStore kind version (cells_in config) x
-        × StandsSo kind (cells_in config) x (λ cells. SlotsButNoBound config.routes cells place)
+    × StandsSo kind (cells_in config) x (λ cells. SlotsButNoBound config.routes cells place)
 NoNodes kind version config x open_fault.TooSmall = ⊥
 NoNodes kind version config x open_fault.Memory = ⊥
 
