@@ -3,7 +3,7 @@ use Rattle.std.proofs.Common.{◌≡◌, ℕ, ◌<◌, true, false, List, [], �
 use Rattle.std.specs.Prelude.{string_bytes, IfSome, IfNone}
 use Rattle.std.specs.Option.{is_some}
 use Rattle.bus_commands.specs.declared.words.Command.{Command}
-use Rattle.bus_commands.specs.Words.{NamesConfig}
+use Rattle.bus_commands.specs.Words.{NamesConfig, NamesScript, NamesDisk}
 
 pub three_texts : (words : List (String Global)) (a b c : String Global) → length words ≡ 3
     → a ≡ get_or words 0 a → b ≡ get_or words 1 b → c ≡ get_or words 2 c
@@ -38,6 +38,30 @@ many_name_none (w ∷ x ∷ []) many name names = names
 many_name_none (w ∷ x ∷ y ∷ []) many name names = omega (arith, many)
 many_name_none (w ∷ x ∷ y ∷ z ∷ []) many name names = omega (arith, many)
 many_name_none (w ∷ x ∷ y ∷ z ∷ v ∷ more) many name names = names
+
+-- fewer than four words name no disk; more than four neither a disk nor lines
+pub few_name_no_disk : (words : List (String Global)) → length words < 4 → (name : List ℕ) → NamesDisk (map string_bytes words) name → ⊥
+few_name_no_disk [] few name names = names
+few_name_no_disk (w ∷ []) few name names = names
+few_name_no_disk (w ∷ x ∷ []) few name names = names
+few_name_no_disk (w ∷ x ∷ y ∷ []) few name names = names
+few_name_no_disk (w ∷ x ∷ y ∷ z ∷ more) few name names = omega (arith, few)
+
+pub many_name_no_disk : (words : List (String Global)) → 4 < length words → (name : List ℕ) → NamesDisk (map string_bytes words) name → ⊥
+many_name_no_disk [] many name names = names
+many_name_no_disk (w ∷ []) many name names = names
+many_name_no_disk (w ∷ x ∷ []) many name names = names
+many_name_no_disk (w ∷ x ∷ y ∷ []) many name names = names
+many_name_no_disk (w ∷ x ∷ y ∷ z ∷ []) many name names = omega (arith, many)
+many_name_no_disk (w ∷ x ∷ y ∷ z ∷ v ∷ more) many name names = names
+
+pub many_name_no_lines : (words : List (String Global)) → 4 < length words → (name : List ℕ) → NamesScript (map string_bytes words) name → ⊥
+many_name_no_lines [] many name names = omega (arith, many)
+many_name_no_lines (w ∷ []) many name names = names
+many_name_no_lines (w ∷ x ∷ []) many name names = omega (arith, many)
+many_name_no_lines (w ∷ x ∷ y ∷ []) many name names = omega (arith, many)
+many_name_no_lines (w ∷ x ∷ y ∷ z ∷ []) many name names = omega (arith, many)
+many_name_no_lines (w ∷ x ∷ y ∷ z ∷ v ∷ more) many name names = names
 
 -- what is said of a command that is there, and of none
 pub found_one : (found : Option Command) (P : Command → Type 0) → is_some found ≡ true → IfSome found P → (c : Command) × P c

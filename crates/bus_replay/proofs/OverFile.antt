@@ -17,7 +17,7 @@ use Rattle.bus_commands.specs.Rows.{ComesInRun, without_disks, not_started, trie
 use Rattle.bus_commands.specs.Commands.{RunsCommand, RunsBus}
 use Rattle.bus_commands.proofs.Promises.{RunsCommand-ends}
 use Rattle.bus_commands.proofs.OneRun.{RunsMachine-command}
-use Rattle.bus_replay.specs.Running.{file_states, IsOneFile, known_disks, RunsWords, ran_over_file}
+use Rattle.bus_replay.specs.Running.{file_states, IsOneFile, known_disks, RunsNamed, ran_over_file}
 use Rattle.bus_replay.proofs.Given.{RunsOver}
 
 -- ---- what is promised of disks, of what is known of them
@@ -49,7 +49,7 @@ made_files old new = record { old = old; new = new; states = record { before = f
 
 pub runs_file : {F : Type 0} {g : Ghosts F} (opens : List ℕ → SourceState → Type 0) (config_input script_input : SourceState) (words : List (List ℕ)) (e : Ending) (name : List ℕ)
     (made left : Vec (FileDisk F g) Global) → NamesDisk words name → IsOneFile made.items → RunsOver opens config_input script_input words (made_files made left) e
-    → RunsWords opens config_input script_input words e
+    → RunsNamed opens config_input script_input words e
 runs_file {F} {g} opens config_input script_input words e name made left names (file, fresh, one) (i, named, runs) =
     ran_over_file (record {
       disk_named = (name, names);

@@ -80,9 +80,9 @@ pub record WantsDisks (words : List (List ℕ)) (e : Ending) : Type 0 where
   pub unwritten : e.after ≡ e.before
 
 -- what comes of the words behind the program's name
-pub data RunsWords (opens : List ℕ → SourceState → Type 0) (config_input script_input : SourceState)
+pub data RunsNamed (opens : List ℕ → SourceState → Type 0) (config_input script_input : SourceState)
     (words : List (List ℕ)) (e : Ending) : Type 0 where
   ran_in_memory : RunsGiven opens config_input script_input words e
-      → RunsWords opens config_input script_input words e
-  ran_over_file : RunsFile opens config_input script_input words e → RunsWords opens config_input script_input words e
-  wanted_disks : WantsDisks words e → RunsWords opens config_input script_input words e
+      → RunsNamed opens config_input script_input words e
+  ran_over_file : RunsFile opens config_input script_input words e → RunsNamed opens config_input script_input words e
+  wanted_disks : WantsDisks words e → RunsNamed opens config_input script_input words e

@@ -12,7 +12,7 @@ ghost use Rattle.bus_commands.specs.declared.words.WorldCommand.TheVariants.{Rep
 ghost use Rattle.bus_commands.specs.Words.{Asks, AsksNothing, NamesDisk};
 ghost use Rattle.bus_commands.specs.Inputs.{AsksWorld};
 ghost use Rattle.bus_replay.specs.Blank.{AreBlank, AreGiven};
-ghost use Rattle.bus_replay.specs.Running.{IsOneFile, RunsWords};
+ghost use Rattle.bus_replay.specs.Running.{IsOneFile, RunsNamed};
 
 use bus_commands::start::bus_words;
 use bus_commands::words::{Command, command_of, disk_word};
@@ -51,7 +51,7 @@ fn start<O: Opener, I: Source + Drop, K: Sink>(
     words: &[String],
     sink: &mut K,
 ) -> u8
-    ensures words { RunsWords (O.opens opener.now) (I.state config_input) (I.state script_input)
+    ensures words { RunsNamed (O.opens opener.now) (I.state config_input) (I.state script_input)
         (drop 1 (map string_bytes words.now))
         (record { before = K.state sink.old; after = K.state sink.new; status = result }) }
     ensures usage { result ≡ 2 → AsksNothing (drop 1 (map string_bytes words.now)) }
@@ -81,7 +81,7 @@ fn run_words<O: Opener, I: Source + Drop, K: Sink>(
     words: &[String],
     sink: &mut K,
 ) -> u8
-    ensures { RunsWords (O.opens opener.now) (I.state config_input) (I.state script_input) (map string_bytes words.now)
+    ensures { RunsNamed (O.opens opener.now) (I.state config_input) (I.state script_input) (map string_bytes words.now)
         (record { before = K.state sink.old; after = K.state sink.new; status = result }) }
 {
     match disk_word(words) {
@@ -101,7 +101,7 @@ fn over_file<O: Opener, I: Source + Drop, K: Sink>(
     sink: &mut K,
 ) -> u8
     requires { NamesDisk (map string_bytes words.now) path.now }
-    ensures { RunsWords (O.opens opener.now) (I.state config_input) (I.state script_input) (map string_bytes words.now)
+    ensures { RunsNamed (O.opens opener.now) (I.state config_input) (I.state script_input) (map string_bytes words.now)
         (record { before = K.state sink.old; after = K.state sink.new; status = result }) }
 {
     match file_disks(rt, path) {
@@ -137,7 +137,7 @@ fn in_memory<O: Opener, I: Source + Drop, K: Sink>(
     sink: &mut K,
 ) -> u8
     requires { (name : List ℕ) → ¬ NamesDisk (map string_bytes words.now) name }
-    ensures { RunsWords (O.opens opener.now) (I.state config_input) (I.state script_input) (map string_bytes words.now)
+    ensures { RunsNamed (O.opens opener.now) (I.state config_input) (I.state script_input) (map string_bytes words.now)
         (record { before = K.state sink.old; after = K.state sink.new; status = result }) }
 {
     match disks_of(alloc, words) {
