@@ -14,5 +14,5 @@ pub use laws::{turns_are_runs, turns_are_steps, turns_keep_sound};
 pub use opening::close_nodes;
 pub use refusing::start_refusal;
 pub use start::{Start, StartFault, open_nodes};
-pub use turns::own_turn;
+pub use turns::{own_turn, refusal_of};
 pub use world::World;

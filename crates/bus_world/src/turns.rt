@@ -226,8 +226,8 @@ fn fail<C: CutCells>(node: &mut Node<C>, calls: u32) -> Line
     Line::Armed
 }
 
-/// Why a node refused.
-fn refusal_of(fault: NodeFault) -> Refusal
+/// The refusal that a line tells of this fault of a node.
+pub fn refusal_of(fault: NodeFault) -> Refusal
     ensures { result ≡ refusal_of_fault fault }
 {
     match fault {
