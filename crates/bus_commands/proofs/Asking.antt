@@ -1,16 +1,13 @@
 -- Words ask for one command, and it sets one task
-use Rattle.std.specs.Prelude.{◌≡◌, ℕ, ◌≤◌, ◌&&◌, nat_le, Bool, cond, List, [], ◌∷◌, get_or, Option, None, Some, Result, Ok, codes}
+use Rattle.std.specs.Prelude.{◌≡◌, ℕ, ◌≤◌, ◌&&◌, nat_le, Bool, cond, List, [], ◌∷◌, get_or, Option, None, Some, codes}
 use Rattle.std.specs.Str.Parse.{digits_value}
 use Rattle.std.proofs.Common.{refl, sym, ap, ◌∙◌, subst, arith}
 use Rattle.text_lines.specs.Forms.{is_number, number_form}
-use Rattle.answer_rows.specs.Inputs.{Reading}
-use Rattle.answer_rows.specs.InputLaws.{Offers-whole}
-use Rattle.bus_config.specs.declared.fault.ConfigFault.{ConfigFault}
-use Rattle.bus_config.specs.BusFile.{bus_of}
 use Rattle.bus_nodes.specs.Buses.{NamedBus}
 use Rattle.bus_machine.specs.declared.events.Event.{Event}
 use Rattle.bus_world.specs.declared.start.Start.{Start}
 use Rattle.bus_world.specs.declared.start.Start.TheVariants.{Format, Attach}
+use Rattle.bus_inputs.specs.BusFileLaws.{same_bus}
 use Rattle.bus_commands.specs.declared.trial_words.TrialWords.{TrialWords}
 use Rattle.bus_commands.specs.TrialWords.{NamesTrial}
 use Rattle.bus_commands.specs.declared.words.Command.{Command}
@@ -20,7 +17,7 @@ use Rattle.bus_commands.specs.declared.words.WorldCommand.{WorldCommand}
 use Rattle.bus_commands.specs.declared.words.WorldCommand.TheVariants.{Replay, Trial}
 use Rattle.bus_commands.specs.Words.{Asks, IsDefault, NamesCommand, NamesBusCommand, NamesCommandOfFour}
 use Rattle.bus_commands.specs.Tasks.{Task, frame, judge, check, replay}
-use Rattle.bus_commands.specs.Inputs.{BusInputs, ReadsBus, OffersBus, NeedsBus, AsksOverBus, SetsTask, OffersTask, SetsWorld}
+use Rattle.bus_commands.specs.Inputs.{BusInputs, NeedsBus, AsksOverBus, SetsTask, OffersTask, SetsWorld}
 use Rattle.bus_commands.specs.Steps.{HasFewEvents}
 
 -- ---- the number of events
@@ -153,16 +150,6 @@ no_trial words frame trial one other = apart words (Lines lines.Frame) (World (T
 no_trial words judge trial one other = apart words (Lines lines.Judge) (World (Trial trial)) one other (λ e. cc)
 no_trial words (check bus) trial one other = apart words (Lines lines.Check) (World (Trial trial)) one other (λ e. cc)
 no_trial words (replay start bus) trial one other = apart words (World (Replay start)) (World (Trial trial)) one other (λ e. cc)
-
--- ---- the bus of a bus file
-
-same_Ok : (r : Result NamedBus ConfigFault) (one other : NamedBus) → r ≡ Ok one → r ≡ Ok other → one ≡ other
-same_Ok r one other is also = cc
-
--- the bus that was read is the one that is offered
-pub same_bus : (config : Reading) (one other : NamedBus) → ReadsBus config one → OffersBus config other → one ≡ other
-same_bus config one other (read, whole, is) (file, offers, also) =
-    same_Ok (bus_of file) one other (sym (ap bus_of (Offers-whole config file read offers whole)) ∙ is) also
 
 same_start : (one other : Start) → World (Replay one) ≡ World (Replay other) → one ≡ other
 same_start one other is = cc

@@ -21,7 +21,8 @@ use Rattle.bus_commands.specs.declared.words.WorldCommand.TheVariants.{Replay, T
 use Rattle.bus_commands.specs.Tasks.{Task, frame, judge, check, replay}
 use Rattle.bus_commands.specs.Texts.{Prints}
 use Rattle.bus_commands.specs.Inputs.{BusInputs, Over, SetsWorld}
-use Rattle.bus_commands.specs.StartRows.{DiskStates, CommandDisks}
+use Rattle.bus_world.specs.StartAnswers.{DiskStates}
+use Rattle.bus_commands.specs.StartRows.{CommandDisks}
 use Rattle.bus_commands.specs.Rows.{ComesOfInputs, no_script, done, ComesInRun, without_disks, not_started, tried, tried_without_memory, EndsCommand, in_row, replayed}
 use Rattle.bus_commands.specs.Steps.{IsJobOf, Prepares, TellsLines, AnswersLines, told, no_text, AnswersTrial, refused_trial, summed, no_summary, AnswersReplay, refused_replay, first_done, AnswersWorld}
 

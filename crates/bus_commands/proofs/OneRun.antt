@@ -18,13 +18,14 @@ use Rattle.bus_commands.specs.Texts.{Prints}
 use Rattle.bus_commands.specs.Inputs.{BusInputs, SetsTask, start_of, OverReplayOf}
 use Rattle.world_runs.specs.Turns.{TellFirm}
 use Rattle.bus_commands.specs.Headline.{AttachedRun}
-use Rattle.bus_commands.specs.Replays.{written_status}
+use Rattle.bus_inputs.specs.Statuses.{unwritten_status}
 use Rattle.bus_commands.specs.Summaries.{summary_text}
-use Rattle.bus_commands.specs.StartRows.{DiskStates, CommandDisks}
+use Rattle.bus_world.specs.StartAnswers.{DiskStates}
+use Rattle.bus_commands.specs.StartRows.{CommandDisks}
 use Rattle.bus_commands.specs.Rows.{ReplaysScript, TriesEvents, ComesInRun, without_disks, not_started, tried, tried_without_memory}
 use Rattle.bus_commands.specs.Commands.{PrintsAnswers, PrintsSummary, RunsCommand, ReplayIsRun, TrialIsRun, DoesNothing, PrintsEarly, RunsMachine}
 use Rattle.bus_commands.proofs.Asking.{apart, asks_one, same_start, no_trial, set_asks}
-use Rattle.bus_commands.proofs.Refusing.{Comes-leaves}
+use Rattle.bus_world.specs.StartAnswerLaws.{Comes-leaves}
 
 -- ---- one run
 
@@ -75,7 +76,7 @@ replay_7 i d e start asks (inl (comes, well)) = inl (replay_row i d memory_row s
 replay_7 i d e start asks (inr over) = inr (replay_is_run i d.states e start (Err unwritten.Memory) asks over)
 
 replay_early : {V : Type 0} (i : BusInputs) (d : CommandDisks V) (e : Ending) → RunsCommand i d e → (start : Start) (cause : Unwritten) → Asks i.words (World (Replay start))
-    → e.status ≡ written_status (Err cause) → (DoesNothing i d × PrintsEarly cause i d e) ⊎ ReplayIsRun start i d.states e (Err cause)
+    → e.status ≡ unwritten_status (Err cause) → (DoesNothing i d × PrintsEarly cause i d e) ⊎ ReplayIsRun start i d.states e (Err cause)
 replay_early i d e runs start unwritten.SinkFailed asks is = replay_6 i d e start asks (runs.write_fault is).1
 replay_early i d e runs start unwritten.Memory asks is = replay_7 i d e start asks (runs.no_memory is)
 

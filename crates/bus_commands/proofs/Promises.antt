@@ -20,20 +20,24 @@ use Rattle.bus_world.specs.declared.start.Start.{Start}
 use Rattle.bus_world.specs.declared.start.Start.TheVariants.{Format, Attach}
 use Rattle.bus_world.specs.Starts.{HasRoom, FindsRoom, Started}
 use Rattle.bus_world.specs.declared.start.StartFault.{StartFault}
+use Rattle.bus_inputs.specs.BusFileLaws.{told_fault, told_too_much, bus_or_fault}
 use Rattle.bus_commands.specs.declared.words.Command.TheVariants.{World}
 use Rattle.bus_commands.specs.declared.words.WorldCommand.TheVariants.{Replay, Trial}
 use Rattle.bus_commands.specs.Words.{AsksNothing}
 use Rattle.bus_commands.specs.Tasks.{Task, frame, judge, check, replay}
 use Rattle.bus_commands.specs.Texts.{usage, Prints, fault_of}
-use Rattle.bus_commands.specs.Inputs.{BusInputs, AsksOverBus, AsksWorld, IsConfigFault, NoConfig, NoScript, Over, OverWorld, OffersTask, OffersTrial, start_of}
-use Rattle.bus_commands.specs.Replays.{written_status}
+use Rattle.bus_inputs.specs.BusFiles.{IsConfigFault}
+use Rattle.bus_commands.specs.Inputs.{BusInputs, AsksOverBus, AsksWorld, NoConfig, NoScript, Over, OverWorld, OffersTask, OffersTrial, start_of}
+use Rattle.bus_inputs.specs.Statuses.{unwritten_status}
 use Rattle.bus_world.specs.StartRows.{start_row, StoreCause, LeavesEach}
-use Rattle.bus_commands.specs.StartRows.{CommandDisks, ComesOfStart, disks_refused, store_refused, start_without_memory, BusHasDisks, HoldsNoNode}
+use Rattle.bus_world.specs.StartAnswers.{ComesOfStart, disks_refused, store_refused, start_without_memory, BusHasDisks}
+use Rattle.bus_commands.specs.StartRows.{CommandDisks, HoldsNoNode}
 use Rattle.bus_commands.specs.Rows.{ReplaysScript, ComesOfInputs, no_form, no_config, config_refused, no_script, script_refused, done, ComesInRun, without_disks, not_started, tried, tried_without_memory, EndsCommand, in_row, replayed}
 use Rattle.bus_commands.specs.Commands.{PrintsThe, PrintsAnswers, PrintsSummary, LeavesDisks, as_before, by_refused_start, by_replay, by_trial, TaskHasDisks, RunsCommand}
 use Rattle.bus_commands.proofs.Asking.{apart}
-use Rattle.bus_commands.proofs.RowFacts.{row_tells, told_fault, told_too_much, row_asks, row_refuses, OfTask, row_offered, replay_offered, OfTrial, row_tried, calm_world, bus_or_fault}
-use Rattle.bus_commands.proofs.Refusing.{Comes-leaves, start_without_room, start_complete, start_in_room}
+use Rattle.bus_commands.proofs.RowFacts.{row_tells, row_asks, row_refuses, OfTask, row_offered, replay_offered, OfTrial, row_tried, calm_world}
+use Rattle.bus_world.specs.StartAnswerLaws.{Comes-leaves, start_without_room, start_complete}
+use Rattle.bus_commands.proofs.Refusing.{start_in_room}
 use Rattle.world_runs.proofs.DisksBack.{no_node}
 use Rattle.world_runs.proofs.Starting.{no_disk, no_line}
 use Rattle.bus_world.specs.Worlds.{BusState}
@@ -355,7 +359,7 @@ trial_without_room_of i d e row bus lacks (inr (inr (zero, room))) = absurd (lac
 
 -- ---- where it did the first events of a replay
 
-done_status : {V : Type 0} (i : BusInputs) (d : CommandDisks V) (e : Ending) → (result : Result (Unit {0}) Unwritten) → e.status ≡ written_status result → (e.status ≡ 0) ⊎ ((e.status ≡ 6) ⊎ (e.status ≡ 7))
+done_status : {V : Type 0} (i : BusInputs) (d : CommandDisks V) (e : Ending) → (result : Result (Unit {0}) Unwritten) → e.status ≡ unwritten_status result → (e.status ≡ 0) ⊎ ((e.status ≡ 6) ⊎ (e.status ≡ 7))
 done_status i d e (Ok _) is = inl is
 done_status i d e (Err unwritten.SinkFailed) is = inr (inl is)
 done_status i d e (Err unwritten.Memory) is = inr (inr is)

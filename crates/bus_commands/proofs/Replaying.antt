@@ -1,27 +1,16 @@
 -- A world that is started, given the events of a script, and finished
-use Rattle.std.specs.Prelude.{◌≡◌, ℕ, ◌≤◌, List, [], ◌∷◌, length, get_or, All}
-use Rattle.std.proofs.Common.{sym, ap, ◌∙◌, subst, arith}
+use Rattle.std.specs.Prelude.{ℕ, ◌≤◌, List, length, get_or, All}
+use Rattle.std.proofs.Common.{sym, subst, arith}
 use Rattle.bus_machine.specs.declared.events.Event.{Event}
 use Rattle.bus_machine.specs.declared.events.Event.TheVariants as event
 use Rattle.bus_nodes.specs.declared.nodes.NodeLine.{NodeLine}
 use Rattle.bus_nodes.specs.Buses.{NamedBus}
-use Rattle.bus_script.specs.ScriptEvents.{HasFields, IsScriptEvent}
+use Rattle.bus_script.specs.ScriptEvents.{IsScriptEvent}
 use Rattle.cut_disk.specs.State.{DiskState}
-use Rattle.bus_world.specs.Turns.{CanBeDone}
 use Rattle.bus_world.specs.Worlds.{BusState, IsEventOf, IsReady}
 use Rattle.bus_world.specs.Starts.{Started}
 use Rattle.bus_world.specs.declared.start.Start.{Start}
-
-can_be_done : (e : Event) → HasFields e → CanBeDone e
-can_be_done (event.Send node id payload) has = tt
-can_be_done (event.Deliver node number) has = tt
-can_be_done (event.Inject node id pdu) has = tt
-can_be_done (event.Load node request) has = tt
-can_be_done (event.Key node update authkey) has = tt
-can_be_done (event.Boot node image) has = (has.0, has.1)
-can_be_done (event.Cut node torn) has = tt
-can_be_done (event.Stop node calls) has = has.0
-can_be_done (event.Fail node calls) has = has.0
+use Rattle.bus_inputs.specs.EventLaws.{can_be_done}
 
 -- an event of a script over the nodes of a bus is one of them
 pub event_of_nodes : (nodes : List NodeLine) (e : Event) → IsScriptEvent nodes e → IsEventOf (length nodes) e

@@ -23,16 +23,18 @@ use Rattle.bus_commands.specs.declared.words.WorldCommand.TheVariants.{Replay, T
 use Rattle.bus_commands.specs.Words.{Asks, AsksNothing}
 use Rattle.bus_commands.specs.Tasks.{Task, replay}
 use Rattle.bus_commands.specs.Texts.{usage, Prints, fault_of}
-use Rattle.bus_commands.specs.Inputs.{BusInputs, AsksOverBus, AsksWorld, IsConfigFault, NoConfig, NoScript}
+use Rattle.bus_inputs.specs.BusFiles.{IsConfigFault}
+use Rattle.bus_commands.specs.Inputs.{BusInputs, AsksOverBus, AsksWorld, NoConfig, NoScript}
 use Rattle.bus_commands.specs.Inputs.{Over, OverReplayOf, OverTrial, OverWorld, OffersTask, OffersTrial}
 use Rattle.bus_commands.specs.Summaries.{summary_text}
 use Rattle.world_runs.specs.NodeDisks.{TellEach}
 use Rattle.world_runs.specs.Turns.{TellFirm}
-use Rattle.bus_commands.specs.Replays.{written_status}
+use Rattle.bus_inputs.specs.Statuses.{unwritten_status}
 use Rattle.bus_commands.specs.Headline.{TellFor, ReplayedOver, AttachedRun}
 use Rattle.bus_commands.specs.TrialRuns.{Tried}
 use Rattle.bus_world.specs.StartRows.{start_row, StoreCause, LeavesEach}
-use Rattle.bus_commands.specs.StartRows.{DiskStates, CommandDisks, BusHasDisks, HoldsNoNode}
+use Rattle.bus_world.specs.StartAnswers.{DiskStates, BusHasDisks}
+use Rattle.bus_commands.specs.StartRows.{CommandDisks, HoldsNoNode}
 use Rattle.bus_commands.specs.Rows.{ReplaysScript, TriesEvents, ComesInRun, EndsCommand}
 
 -- this text, where there is one, was written whole
@@ -160,7 +162,7 @@ pub record RunsMachine {V : Type 0} (i : BusInputs) (d : CommandDisks V) (e : En
   -- 6, 7: no event was done, and a front of a row was written, or nothing; or the first events, at least one, are one
   -- run, of which the sink has the texts of the lines before the last, and of that one a front, or nothing.
   pub early_ends : (start : Start) (cause : Unwritten) → Asks i.words (World (Replay start))
-      → e.status ≡ written_status (Err cause)
+      → e.status ≡ unwritten_status (Err cause)
       → (DoesNothing i d × PrintsEarly cause i d e) ⊎ ReplayIsRun start i d.states e (Err cause)
   -- 0: a trial is one run of all its events, and the sink has the seven numbers over its lines.
   pub tried : (trial : TrialWords) → Asks i.words (World (Trial trial)) → e.status ≡ 0

@@ -1,13 +1,12 @@
 -- What goes into a command, and what of it is read
-use Rattle.std.specs.Prelude.{◌≡◌, ℕ, List, Ok, Err}
+use Rattle.std.specs.Prelude.{◌≡◌, ℕ, List, Ok}
 use Rattle.command_edge.specs.declared.input.InputFault.{InputFault}
-use Rattle.answer_rows.specs.Inputs.{Reading, IsUnread, ReadsWhole, Lacks, Offers}
-use Rattle.bus_config.specs.declared.fault.ConfigFault.{ConfigFault}
-use Rattle.bus_config.specs.BusFile.{bus_of}
+use Rattle.answer_rows.specs.Inputs.{Reading, IsUnread, ReadsWhole, Lacks}
 use Rattle.bus_nodes.specs.Buses.{NamedBus}
 use Rattle.bus_machine.specs.declared.events.Event.{Event}
 use Rattle.bus_script.specs.EventForms.{events_of}
 use Rattle.bus_trials.specs.Trials.{trial_events}
+use Rattle.bus_inputs.specs.BusFiles.{ReadsBus, OffersBus}
 use Rattle.bus_commands.specs.declared.trial_words.TrialWords.{TrialWords}
 use Rattle.bus_commands.specs.declared.words.Command.{Command}
 use Rattle.bus_commands.specs.declared.words.Command.TheVariants.{Lines, World}
@@ -26,18 +25,6 @@ pub record BusInputs : Type 0 where
   pub script : Reading
 
 -- ---- the bus file
-
--- the bus file was read whole, and has this bus
-abbrev pub ReadsBus : Reading → NamedBus → Type 0
-ReadsBus config bus = (file : List ℕ) × ReadsWhole config file × (bus_of file ≡ Ok bus)
-
--- the bus file was read whole, and this is its first fault
-abbrev pub IsConfigFault : Reading → ConfigFault → Type 0
-IsConfigFault config fault = (file : List ℕ) × ReadsWhole config file × (bus_of file ≡ Err fault)
-
--- the source of the bus file tells one with this bus, and didn't fail
-abbrev pub OffersBus : Reading → NamedBus → Type 0
-OffersBus config bus = (file : List ℕ) × Offers config file × (bus_of file ≡ Ok bus)
 
 -- the command reads a bus file
 abbrev pub NeedsBus : Command → Type 0

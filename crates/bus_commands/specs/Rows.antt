@@ -14,12 +14,15 @@ use Rattle.bus_machine.specs.declared.events.Event.{Event}
 use Rattle.bus_commands.specs.declared.summary.Summary.{Summary}
 use Rattle.bus_commands.specs.Words.{AsksNothing}
 use Rattle.bus_commands.specs.Texts.{usage, Prints, fault_of}
-use Rattle.bus_commands.specs.Inputs.{BusInputs, AsksOverBus, IsConfigFault, NoConfig, NoScript, Over, OverReplay}
+use Rattle.bus_inputs.specs.BusFiles.{IsConfigFault}
+use Rattle.bus_commands.specs.Inputs.{BusInputs, AsksOverBus, NoConfig, NoScript, Over, OverReplay}
 use Rattle.bus_commands.specs.Inputs.{OverTrial, OverWorld}
-use Rattle.bus_commands.specs.StartRows.{DiskStates, CommandDisks, ComesOfStart}
+use Rattle.bus_world.specs.StartAnswers.{DiskStates, ComesOfStart}
+use Rattle.bus_commands.specs.StartRows.{CommandDisks}
 use Rattle.bus_commands.specs.Summaries.{summary_text}
 use Rattle.bus_world.specs.declared.start.Start.{Start}
-use Rattle.bus_commands.specs.Replays.{ReplayTurns, written_status}
+use Rattle.bus_inputs.specs.Statuses.{unwritten_status}
+use Rattle.bus_commands.specs.Replays.{ReplayTurns}
 use Rattle.world_runs.specs.NodeDisks.{TellEach, DisksStay}
 use Rattle.world_runs.specs.Turns.{seen}
 use Rattle.bus_commands.specs.Headline.{TellFor, ReplayedOver}
@@ -47,7 +50,7 @@ pub record DoneTrial (bus : NamedBus) (events : List Event) (d : DiskStates) (su
 pub record DoneReplay (start : Start) (bus : NamedBus) (events : List Event) (d : DiskStates) (e : Ending)
     (result : Result (Unit {0}) Unwritten) : Type 0 where
   pub ran : ReplayTurns start bus d.before d.after events e.before e.after result
-  pub status_is : e.status ≡ written_status result
+  pub status_is : e.status ≡ unwritten_status result
   pub stay : DisksStay bus d.before d.after (seen ran.printed.moments)
   pub one_run : TellFor start bus d.before → ReplayedOver start bus d.before d.after events e.before e.after result
 

@@ -1,19 +1,18 @@
 //! The replay of a script over disks.
-ghost use Rattle.std.specs.Prelude.{◌≡◌, map};
+ghost use Rattle.std.specs.Prelude.{map};
 ghost use Rattle.bus_nodes.specs.Buses.{IsNamedBus};
-ghost use Rattle.bus_commands.specs.Replays.{written_status};
 ghost use Rattle.bus_commands.specs.Steps.{AreEvents, AnswersReplay};
 
 use crate::laws::replays_are_runs;
 use answer_rows::tell_refusal;
+use bus_inputs::status_of_run;
 use bus_machine::{Event, Line};
 use bus_nodes::BusConfig;
 use bus_port::{Memory, Sink};
 use bus_texts::write_line;
 use bus_world::{Start, World, start_refusal};
-use command_edge::{DONE, NO_MEMORY, WRITE_FAULT};
 use cut_disk::CutDisk;
-use numbered_run::{LineText, Unwritten, print_run};
+use numbered_run::{LineText, print_run};
 use std::alloc::Global;
 use world_runs::{starts_are_set_up, turns_leave_disks};
 
@@ -60,15 +59,4 @@ pub fn replay<K: Sink, D: CutDisk>(
     let printed = print_run::<World<D>, Texts, K>(alloc, &mut world, events, sink);
     world.finish(disks);
     status_of_run(printed)
-}
-
-/// The status of a run whose lines were all written, or not.
-fn status_of_run(printed: Result<(), Unwritten>) -> u8
-    ensures { result ≡ written_status printed }
-{
-    match printed {
-        Ok(()) => DONE,
-        Err(Unwritten::SinkFailed) => WRITE_FAULT,
-        Err(Unwritten::Memory) => NO_MEMORY,
-    }
 }

@@ -6,12 +6,13 @@ ghost use Rattle.bus_commands.specs.Steps.{Prepares, PreparesLines, PreparesWorl
 ghost use Rattle.bus_commands.specs.Steps.{IsWholeLines, IsWholeWorld, AnswersLines, AnswersWorld};
 ghost use Rattle.bus_nodes.specs.Buses.{NamedBus};
 
-use crate::inputs::{bus_from, drawn_events, questions_from, script_from};
+use crate::inputs::{drawn_events, questions_from, script_from};
 use crate::job::{Job, LineJob, WorldJob};
 use crate::replay::replay;
 use crate::trial::trial;
 use crate::words::{Command, LineCommand, WorldCommand, command_of};
 use answer_rows::{Refusal, tell_refusal};
+use bus_inputs::bus_from;
 use bus_nodes::BusConfig;
 use bus_port::{Sink, Source};
 use bus_script::Event;
