@@ -151,7 +151,7 @@ no_trial words judge trial one other = apart words (Lines lines.Judge) (World (T
 no_trial words (check bus) trial one other = apart words (Lines lines.Check) (World (Trial trial)) one other (λ e. cc)
 no_trial words (replay start bus) trial one other = apart words (World (Replay start)) (World (Trial trial)) one other (λ e. cc)
 
-same_start : (one other : Start) → World (Replay one) ≡ World (Replay other) → one ≡ other
+pub same_start : (one other : Start) → World (Replay one) ≡ World (Replay other) → one ≡ other
 same_start one other is = cc
 
 -- the task that is set is the one that is offered

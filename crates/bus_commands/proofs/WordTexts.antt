@@ -1,14 +1,9 @@
 -- The texts of three and of four words, and what a look-up by their first says of them
 use Rattle.std.proofs.Common.{◌≡◌, ℕ, ◌<◌, true, false, List, [], ◌∷◌, Option, None, Some, length, map, get_or, String, Global, arith}
-use Rattle.std.specs.Prelude.{string_bytes, codes, IfSome, IfNone}
+use Rattle.std.specs.Prelude.{string_bytes, IfSome, IfNone}
 use Rattle.std.specs.Option.{is_some}
-use Rattle.bus_world.specs.declared.start.Start.TheVariants.{Format, Attach}
-use Rattle.bus_commands.specs.declared.trial_words.TrialWords.{TrialWords}
-use Rattle.bus_commands.specs.TrialWords.{NamesTrial}
 use Rattle.bus_commands.specs.declared.words.Command.{Command}
-use Rattle.bus_commands.specs.declared.words.Command.TheVariants.{Lines, World}
-use Rattle.bus_commands.specs.declared.words.WorldCommand.TheVariants.{Replay, Trial}
-use Rattle.bus_commands.specs.Words.{NamesConfig, NamesScript, NamesDisk, NamesCommandOfFour}
+use Rattle.bus_commands.specs.Words.{NamesConfig}
 
 pub three_texts : (words : List (String Global)) (a b c : String Global) → length words ≡ 3
     → a ≡ get_or words 0 a → b ≡ get_or words 1 b → c ≡ get_or words 2 c
@@ -43,38 +38,6 @@ many_name_none (w ∷ x ∷ []) many name names = names
 many_name_none (w ∷ x ∷ y ∷ []) many name names = omega (arith, many)
 many_name_none (w ∷ x ∷ y ∷ z ∷ []) many name names = omega (arith, many)
 many_name_none (w ∷ x ∷ y ∷ z ∷ v ∷ more) many name names = names
-
--- fewer than four words name no disk; more than four neither a disk nor lines
-pub few_name_no_disk : (words : List (String Global)) → length words < 4 → (name : List ℕ) → NamesDisk (map string_bytes words) name → ⊥
-few_name_no_disk [] few name names = names
-few_name_no_disk (w ∷ []) few name names = names
-few_name_no_disk (w ∷ x ∷ []) few name names = names
-few_name_no_disk (w ∷ x ∷ y ∷ []) few name names = names
-few_name_no_disk (w ∷ x ∷ y ∷ z ∷ more) few name names = omega (arith, few)
-
-pub many_name_no_disk : (words : List (String Global)) → 4 < length words → (name : List ℕ) → NamesDisk (map string_bytes words) name → ⊥
-many_name_no_disk [] many name names = names
-many_name_no_disk (w ∷ []) many name names = names
-many_name_no_disk (w ∷ x ∷ []) many name names = names
-many_name_no_disk (w ∷ x ∷ y ∷ []) many name names = names
-many_name_no_disk (w ∷ x ∷ y ∷ z ∷ []) many name names = omega (arith, many)
-many_name_no_disk (w ∷ x ∷ y ∷ z ∷ v ∷ more) many name names = names
-
-pub many_name_no_lines : (words : List (String Global)) → 4 < length words → (name : List ℕ) → NamesScript (map string_bytes words) name → ⊥
-many_name_no_lines [] many name names = omega (arith, many)
-many_name_no_lines (w ∷ []) many name names = names
-many_name_no_lines (w ∷ x ∷ []) many name names = omega (arith, many)
-many_name_no_lines (w ∷ x ∷ y ∷ []) many name names = omega (arith, many)
-many_name_no_lines (w ∷ x ∷ y ∷ z ∷ []) many name names = omega (arith, many)
-many_name_no_lines (w ∷ x ∷ y ∷ z ∷ v ∷ more) many name names = names
-
--- four words of which the first is neither `node` nor that of a trial ask for nothing
-pub none_of_four : (word third fourth : List ℕ) → (word ≡ codes "node" → ⊥) → ((trial : TrialWords) → NamesTrial word third fourth trial → ⊥)
-    → (c : Command) → NamesCommandOfFour word third fourth c → ⊥
-none_of_four word third fourth other none (Lines c) names = names
-none_of_four word third fourth other none (World (Replay Format)) names = names
-none_of_four word third fourth other none (World (Replay Attach)) names = other names
-none_of_four word third fourth other none (World (Trial trial)) names = none trial names
 
 -- what is said of a command that is there, and of none
 pub found_one : (found : Option Command) (P : Command → Type 0) → is_some found ≡ true → IfSome found P → (c : Command) × P c
