@@ -16,4 +16,5 @@ script_once [] one other is also = is ∙ sym also
 script_once (word ∷ []) one other is also = absurd is
 script_once (word ∷ file ∷ []) one other is also = is.1 ∙ sym also.1
 script_once (word ∷ bus ∷ file ∷ []) one other is also = is.1 ∙ sym also.1
-script_once (word ∷ bus ∷ file ∷ more ∷ words) one other is also = absurd is
+script_once (word ∷ bus ∷ file ∷ disk ∷ []) one other is also = is.1 ∙ sym also.1
+script_once (word ∷ bus ∷ file ∷ disk ∷ more ∷ words) one other is also = absurd is

@@ -42,11 +42,11 @@ Prints frame input text = (lines : List FrameLine) × (frames_of input ≡ Ok li
 Prints judge input text = (lines : List JudgeLine) × (judges_of input ≡ Ok lines) × TellsEach TellsJudgement lines text
 Prints (check bus) input text =
     (events : List Event) × (events_of bus.nodes input ≡ Ok events) × (text ≡ flat_map (canon bus.nodes) events)
-Prints (replay bus) input text = ⊥
+Prints (replay start bus) input text = ⊥
 
 -- the first fault of an input, if it has one
 abbrev pub fault_of : Task → List ℕ → Option Fault
 fault_of frame input = result_err (frames_of input)
 fault_of judge input = result_err (judges_of input)
 fault_of (check bus) input = result_err (events_of bus.nodes input)
-fault_of (replay bus) input = result_err (events_of bus.nodes input)
+fault_of (replay start bus) input = result_err (events_of bus.nodes input)

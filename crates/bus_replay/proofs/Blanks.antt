@@ -19,13 +19,18 @@ use Rattle.bus_nodes.specs.Buses.{NamedBus, IsNamedBus, most_routes}
 use Rattle.bus_world.specs.Starts.{FindsRoom, OfNumber}
 use Rattle.bus_world.specs.declared.start.StartFault.{StartFault}
 use Rattle.bus_world.specs.declared.start.StartFault.TheVariants.{TooFew, TooSmall, Store, BadSlot, BadBound, Memory}
-use Rattle.bus_commands.specs.Inputs.{BusInputs, OverWorld}
+use Rattle.bus_commands.specs.Inputs.{BusInputs, start_of, OverWorld}
 use Rattle.bus_world.specs.StartRows.{LeavesEach, StoreCause}
 use Rattle.bus_replay.specs.Blank.{AreBlank, AreGiven}
 use Rattle.bus_replay.specs.Running.{disk_states}
 use Rattle.bus_machine.specs.Bus.{no_config}
 use Rattle.bus_nodes.specs.declared.nodes.NodeLine.{NodeLine}
-use Rattle.bus_world.specs.declared.start.Start.TheVariants.{Format}
+use Rattle.bus_world.specs.declared.start.Start.{Start}
+use Rattle.bus_world.specs.declared.start.Start.TheVariants.{Format, Attach}
+use Rattle.bus_commands.specs.declared.words.Command.TheVariants.{World}
+use Rattle.bus_commands.specs.declared.words.WorldCommand.{WorldCommand}
+use Rattle.bus_commands.specs.declared.words.WorldCommand.TheVariants.{Replay, Trial}
+use Rattle.bus_commands.specs.Words.{Asks, NamesDisk}
 
 -- whatever stands where no node is
 no_line : NodeLine
@@ -94,12 +99,28 @@ finds_room count size disks bus Memory enough large are is room = room
 
 -- ---- both
 
+-- words that name no disk ask for no `node`
+pub node_names : (words : List (List ℕ)) → Asks words (World (Replay Attach)) → (name : List ℕ) × NamesDisk words name
+node_names [] asks = absurd asks
+node_names (word ∷ []) asks = absurd asks
+node_names (word ∷ file ∷ []) asks = absurd asks
+node_names (word ∷ bus ∷ file ∷ []) asks = absurd asks
+node_names (word ∷ bus ∷ file ∷ disk ∷ []) asks = (disk, (asks, refl))
+node_names (word ∷ bus ∷ file ∷ disk ∷ more ∷ words) asks = absurd asks
+
+-- so each run over disks formats them
+formats : (words : List (List ℕ)) (c : WorldCommand) → Asks words (World c) → ((name : List ℕ) → ¬ NamesDisk words name) → start_of c ≡ Format
+formats words (Replay Format) asks none = refl
+formats words (Replay Attach) asks none = let node = node_names words asks in absurd (none node.0 node.1)
+formats words (Trial trial) asks none = refl
+
 pub never_9 : (i : BusInputs) (disks : List MemDisk) (after : List DiskState) (P : StartFault → Type 0) → AreGiven i.words disks
-    → OverWorld i (λ bus events. IsNamedBus bus × (after ≡ disk_states disks) × ((fault : StartFault) × FindsRoom bus (disk_states disks) fault × P fault)) → ⊥
+    → OverWorld i (λ start bus events. IsNamedBus bus × (after ≡ disk_states disks) × ((fault : StartFault) × FindsRoom bus (disk_states disks) fault × P fault)) → ⊥
 never_9 i disks after P given (c, bus, events, set, (is, same, (fault, finds, told))) =
     finds_room 8 65536 disks bus fault (omega arith) (omega arith) (given.0 (c, set.asks)) is finds
 
-pub never_10 : (i : BusInputs) (disks : List MemDisk) (after : List DiskState) (P : StartFault → Type 0) → AreGiven i.words disks
-    → OverWorld i (λ bus events. LeavesEach Format bus (disk_states disks) after × ((fault : StartFault) × StoreCause Format bus (disk_states disks) after fault × P fault)) → ⊥
-never_10 i disks after P given (c, bus, events, set, (left, (fault, cause, told))) =
-    no_store_cause 65536 disks bus after fault (given.0 (c, set.asks)).blank cause
+pub never_10 : (i : BusInputs) (disks : List MemDisk) (after : List DiskState) (P : StartFault → Type 0) → AreGiven i.words disks → ((name : List ℕ) → ¬ NamesDisk i.words name)
+    → OverWorld i (λ start bus events. LeavesEach start bus (disk_states disks) after × ((fault : StartFault) × StoreCause start bus (disk_states disks) after fault × P fault)) → ⊥
+never_10 i disks after P given none (c, bus, events, set, (left, (fault, cause, told))) =
+    no_store_cause 65536 disks bus after fault (given.0 (c, set.asks)).blank
+    (subst (λ (s : Start). StoreCause s bus (disk_states disks) after fault) (formats i.words c set.asks none) cause)

@@ -1,3 +1,4 @@
 pub mod Blanks
-pub mod Given
 pub mod Wanting
+pub mod Given
+pub mod OverFile

@@ -1,20 +1,25 @@
 //! `bus_replay`: Secured I-PDUs and verdicts (AUTOSAR SecOC, profile 1) from lines of text, and scripts of a bus.
 //!
 //! `bus_words` of the crate `bus_commands` is the program; its clauses, and those of `run`, say what each status means
-//! and what is printed. Here it is handed the words, the files, standard input, standard output and the disks.
+//! and what is printed. Here it is handed the words, the files, standard input, standard output and the disks: those
+//! that are made in memory for a replay or a trial, and for `node` the one over its file.
 #![tactic(auto)]
 
-ghost use Rattle.std.specs.Prelude.{◌≡◌, ◌≢◌, ◌⊎◌, ◌^◌, ◌≤◌, drop, map, string_bytes, IfOk, IfErr, IsOk};
-ghost use Rattle.bus_commands.specs.Words.{AsksNothing};
+ghost use Rattle.std.specs.Prelude.{◌≡◌, ◌⊎◌, ℕ, List, ◌^◌, ◌≤◌, drop, map, string_bytes, IfOk, IfErr, IsOk};
+ghost use Rattle.bus_world.specs.declared.start.Start.TheVariants.{Attach};
+ghost use Rattle.bus_commands.specs.declared.words.Command.TheVariants.{World};
+ghost use Rattle.bus_commands.specs.declared.words.WorldCommand.TheVariants.{Replay};
+ghost use Rattle.bus_commands.specs.Words.{Asks, AsksNothing, NamesDisk};
 ghost use Rattle.bus_commands.specs.Inputs.{AsksWorld};
 ghost use Rattle.bus_replay.specs.Blank.{AreBlank, AreGiven};
-ghost use Rattle.bus_replay.specs.Running.{RunsGiven, WantsDisks};
+ghost use Rattle.bus_replay.specs.Running.{IsOneFile, RunsNamed};
 
 use bus_commands::start::bus_words;
-use bus_commands::words::{Command, command_of};
+use bus_commands::words::{Command, command_of, disk_word};
 use bus_port::{Sink, Source, StdSink, StdSource};
 use command_edge::{NO_MEMORY, behind_name, words_of};
 use cut_disk::MemDisk;
+use file_disk::{FileDisk, SystemFile};
 use named_sources::{Opener, Paths};
 use std::alloc::{AllocError, Global};
 use std::process::ExitCode;
@@ -23,7 +28,7 @@ fn main(rt: HostRuntime) -> ExitCode {
     let mut sink = StdSink::new(rt.stdout());
     let status = match words_of(&rt) {
         Ok(words) => start(
-            rt.alloc(),
+            &rt,
             &Paths::of(&rt),
             StdSource::new(rt.stdin()),
             StdSource::new(rt.stdin()),
@@ -36,28 +41,29 @@ fn main(rt: HostRuntime) -> ExitCode {
 }
 
 /// Runs the words of the command line, the program's name first, over the sources that they name, and over the disks
-/// that are made for them. No file is opened before the words are known to ask for a command.
+/// that are made for them. No file is opened before the words are known to ask for a command. That of a disk is opened,
+/// and made where it isn't there, before the bus file is read.
 fn start<O: Opener, I: Source + Drop, K: Sink>(
-    alloc: Global,
+    rt: &HostRuntime,
     opener: &O,
     config_input: I,
     script_input: I,
     words: &[String],
     sink: &mut K,
 ) -> u8
-    ensures words { RunsGiven (O.opens opener.now) (I.state config_input) (I.state script_input)
+    ensures words { RunsNamed (O.opens opener.now) (I.state config_input) (I.state script_input)
         (drop 1 (map string_bytes words.now))
-        (record { before = K.state sink.old; after = K.state sink.new; status = result })
-        ⊎ WantsDisks (drop 1 (map string_bytes words.now))
         (record { before = K.state sink.old; after = K.state sink.new; status = result }) }
     ensures usage { result ≡ 2 → AsksNothing (drop 1 (map string_bytes words.now)) }
     ensures usage_only { AsksNothing (drop 1 (map string_bytes words.now)) → (result ≡ 2) ⊎ (result ≡ 6) }
 
-    // The disks that it makes for a replay or a trial are enough, and don't fail as the bus starts.
-    ensures starts { (result ≢ 9) × (result ≢ 10) }
+    // The disks that are made for a replay or a trial are enough, and don't fail as the bus starts: 9 and 10 come for
+    // `node` alone.
+    ensures starts { (result ≡ 9) ⊎ (result ≡ 10)
+        → Asks (drop 1 (map string_bytes words.now)) (World (Replay Attach)) }
 {
     run_words(
-        alloc,
+        rt,
         opener,
         config_input,
         script_input,
@@ -68,6 +74,61 @@ fn start<O: Opener, I: Source + Drop, K: Sink>(
 
 /// The same of the words behind the program's name.
 fn run_words<O: Opener, I: Source + Drop, K: Sink>(
+    rt: &HostRuntime,
+    opener: &O,
+    config_input: I,
+    script_input: I,
+    words: &[String],
+    sink: &mut K,
+) -> u8
+    ensures { RunsNamed (O.opens opener.now) (I.state config_input) (I.state script_input) (map string_bytes words.now)
+        (record { before = K.state sink.old; after = K.state sink.new; status = result }) }
+{
+    match disk_word(words) {
+        Some(path) => over_file(rt, opener, config_input, script_input, words, path, sink),
+        None => in_memory(rt.alloc(), opener, config_input, script_input, words, sink),
+    }
+}
+
+/// Runs `node`, over the disk of the file that its last word names.
+fn over_file<O: Opener, I: Source + Drop, K: Sink>(
+    rt: &HostRuntime,
+    opener: &O,
+    config_input: I,
+    script_input: I,
+    words: &[String],
+    path: &str,
+    sink: &mut K,
+) -> u8
+    requires { NamesDisk (map string_bytes words.now) path.now }
+    ensures { RunsNamed (O.opens opener.now) (I.state config_input) (I.state script_input) (map string_bytes words.now)
+        (record { before = K.state sink.old; after = K.state sink.new; status = result }) }
+{
+    match file_disks(rt, path) {
+        Ok(mut disks) => bus_words(
+            rt.alloc(),
+            opener,
+            config_input,
+            script_input,
+            words,
+            sink,
+            &mut disks,
+        ),
+        Err(AllocError) => NO_MEMORY,
+    }
+}
+
+/// One disk, over the file at this path, which is made where it isn't there. Room is asked for before it is opened.
+fn file_disks(rt: &HostRuntime, path: &str) -> Result<Vec<FileDisk<SystemFile>>, AllocError>
+    ensures { IfOk result (λ disks. IsOneFile disks.items) }
+{
+    let mut disks = Vec::with_capacity(rt.alloc(), 1)?;
+    disks.push(FileDisk::on(rt, path))?;
+    Ok(disks)
+}
+
+/// Runs words that name no disk, over those that are made in memory for them.
+fn in_memory<O: Opener, I: Source + Drop, K: Sink>(
     alloc: Global,
     opener: &O,
     config_input: I,
@@ -75,16 +136,9 @@ fn run_words<O: Opener, I: Source + Drop, K: Sink>(
     words: &[String],
     sink: &mut K,
 ) -> u8
-    // All that a command promises, of these words, over the sources that they name and the disks that are made for
-    // them; or these were wanted, there was no memory for them, and nothing was written.
-    ensures words { RunsGiven (O.opens opener.now) (I.state config_input) (I.state script_input)
-        (map string_bytes words.now)
-        (record { before = K.state sink.old; after = K.state sink.new; status = result })
-        ⊎ WantsDisks (map string_bytes words.now)
+    requires { (name : List ℕ) → ¬ NamesDisk (map string_bytes words.now) name }
+    ensures { RunsNamed (O.opens opener.now) (I.state config_input) (I.state script_input) (map string_bytes words.now)
         (record { before = K.state sink.old; after = K.state sink.new; status = result }) }
-    ensures usage { result ≡ 2 → AsksNothing (map string_bytes words.now) }
-    ensures usage_only { AsksNothing (map string_bytes words.now) → (result ≡ 2) ⊎ (result ≡ 6) }
-    ensures starts { (result ≢ 9) × (result ≢ 10) }
 {
     match disks_of(alloc, words) {
         Ok(mut disks) => bus_words(
