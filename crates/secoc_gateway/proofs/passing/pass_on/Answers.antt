@@ -1,7 +1,9 @@
-use Rattle.std.specs.Prelude.{None, Err}
+use Rattle.std.specs.Prelude.{◌≡◌, None, Err}
 use Rattle.std.proofs.Common.{refl, ap, arith, take}
+use Rattle.std.proofs.lemmas.Result.{IfErr-at_err}
 use Rattle.cut_disk.specs.CallLaws.{runs_join, runs_more}
 use Rattle.bus_machine.specs.declared.lines.Line.TheVariants.{Sent, Accepted, FreshnessFailure, VerificationFailure, Refused}
+use Rattle.secoc_node.specs.declared.faults.NodeFault.{NodeFault}
 use Rattle.secoc_node.specs.Lines.{refusal_of_fault}
 use Rattle.secoc_gateway.proofs.Arriving.{reason_of, brought_line, in_time, forwards_right, drops_not, refuses_not}
 use Rattle.secoc_gateway.proofs.passing.pass_on.Goals as goal
@@ -126,4 +128,6 @@ pub returns-in-Err-clause-runs : goal.returns-in-Err-clause-runs
 returns-in-Err-clause-runs g c = runs_more 12 (omega arith) c.receive.ensures.runs
 
 pub returns-in-Err-clause-routed : goal.returns-in-Err-clause-routed
-returns-in-Err-clause-routed g c none = (c.in-Err.ensures.no_route.0 none).1 c.requires.receives
+returns-in-Err-clause-routed g c none =
+    let same = IfErr-at_err (λ (e : NodeFault). c.in-Err.fault ≡ e) none refl in
+    (c.in-Err.ensures.no_route.0 (ap Err same)).1 c.requires.receives
