@@ -9,9 +9,9 @@ use Rattle.answer_rows.specs.Rows.{Row}
 use Rattle.answer_rows.specs.Inputs.{Reading, IsUnread, ReadsWhole}
 use Rattle.answer_rows.specs.InputLaws.{Lacks-whole}
 use Rattle.bus_nodes.specs.Buses.{NamedBus, IsNamedBus}
-use Rattle.text_lines.specs.declared.frames.FrameLine.{FrameLine}
-use Rattle.text_lines.specs.declared.judges.JudgeLine.{JudgeLine}
-use Rattle.text_lines.specs.Frames.{frames_of, judges_of}
+use Rattle.secoc_words.specs.declared.frames.FrameLine.{FrameLine}
+use Rattle.secoc_words.specs.declared.judges.JudgeLine.{JudgeLine}
+use Rattle.secoc_words.specs.Frames.{frames_of, judges_of}
 use Rattle.bus_config.specs.declared.fault.ConfigFault.TheVariants as config
 use Rattle.bus_machine.specs.declared.events.Event.{Event}
 use Rattle.bus_script.specs.EventForms.{events_of}

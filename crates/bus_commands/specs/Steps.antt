@@ -3,10 +3,10 @@ use Rattle.std.specs.Prelude.{◌≡◌, ℕ, ◌≤◌, List, ◌++◌, length,
 use Rattle.std.specs.List.{flat_map}
 use Rattle.std.specs.declared.alloc.Global.{Global}
 use Rattle.secured_pdu.specs.Frame.{IsPayload}
-use Rattle.text_lines.specs.declared.frames.FrameLine.{FrameLine}
-use Rattle.text_lines.specs.declared.judges.JudgeLine.{JudgeLine}
-use Rattle.text_lines.specs.Frames.{frames_of, judges_of, most_lines}
-use Rattle.text_lines.specs.Readings.{Fault}
+use Rattle.secoc_words.specs.declared.frames.FrameLine.{FrameLine}
+use Rattle.secoc_words.specs.declared.judges.JudgeLine.{JudgeLine}
+use Rattle.secoc_words.specs.Frames.{frames_of, judges_of}
+use Rattle.text_lines.specs.Readings.{most_lines, Fault}
 use Rattle.answer_rows.specs.Rows.{Row, row_of, memory_row}
 use Rattle.answer_rows.specs.Inputs.{Reading, IsUnread}
 use Rattle.answer_rows.specs.Endings.{Ending, EndsInRow}

@@ -5,11 +5,12 @@ use Rattle.std.specs.Result.{result_err}
 use Rattle.hex.specs.Hex.{encode_lower}
 use Rattle.secured_pdu.specs.Frame.{Secured, IsFrame}
 use Rattle.secured_pdu.specs.Verdict.{Outcome, Verdict}
-use Rattle.text_lines.specs.declared.frames.FrameLine.{FrameLine}
-use Rattle.text_lines.specs.declared.judges.JudgeLine.{JudgeLine}
-use Rattle.text_lines.specs.Frames.{frames_of, judges_of}
+use Rattle.secoc_words.specs.declared.frames.FrameLine.{FrameLine}
+use Rattle.secoc_words.specs.declared.judges.JudgeLine.{JudgeLine}
+use Rattle.secoc_words.specs.Frames.{frames_of, judges_of}
 use Rattle.text_lines.specs.Readings.{Fault}
-use Rattle.text_lines.specs.Texts.{line, outcome_text, bad_length_text}
+use Rattle.secoc_words.specs.Texts.{outcome_text, bad_length_text}
+use Rattle.text_lines.specs.Texts.{line}
 use Rattle.bus_machine.specs.declared.events.Event.{Event}
 use Rattle.bus_script.specs.EventForms.{events_of}
 use Rattle.bus_script.specs.Canon.{canon}

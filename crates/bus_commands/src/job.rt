@@ -4,8 +4,8 @@ use crate::questions::answers;
 use crate::words::WorldCommand;
 use bus_nodes::BusConfig;
 use bus_script::Event;
+use secoc_words::{FrameLine, JudgeLine};
 use std::alloc::{AllocError, Global};
-use text_lines::{FrameLine, JudgeLine};
 
 /// What is to be done.
 #[derive(Drop)]

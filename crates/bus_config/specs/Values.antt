@@ -9,8 +9,8 @@ use Rattle.cell_store.specs.declared.kinds.Version.{Version}
 use Rattle.cell_store.specs.declared.kinds.Version.TheVariants.{One, Two}
 use Rattle.freshness_routes.specs.declared.routes.Direction.{Direction}
 use Rattle.freshness_routes.specs.declared.routes.Direction.TheVariants.{Sends, Receives}
-use Rattle.text_lines.specs.Forms.{data_id_form, fresh_form}
-use Rattle.text_lines.specs.KeyForms.{engine_uid_form}
+use Rattle.secoc_words.specs.Forms.{data_id_form, fresh_form}
+use Rattle.secoc_words.specs.KeyForms.{engine_uid_form}
 use Rattle.bus_nodes.specs.Names.{is_name}
 
 -- `store`: the text `twin` or `log`

@@ -14,7 +14,7 @@ use byte_lists::Pdu;
 use memory_update::Reply;
 use std::alloc::{AllocError, Global};
 use text_lines::Memory;
-use text_lines::verdicts::push_digits;
+use text_lines::pushing::push_digits;
 
 /// Appends the text of the line with this number, from 1: the number in decimal digits, the words of the line with a
 /// space before each, and a line feed.

@@ -8,7 +8,7 @@ use Rattle.answer_rows.specs.InputLaws.{Lacks-unread, Offers-clean}
 use Rattle.answer_rows.specs.EndingLaws.{EndsInRow-memory}
 use Rattle.byte_lists.specs.Numbers.{number_of}
 use Rattle.hex.specs.Hex.{decode_pairs}
-use Rattle.text_lines.specs.Forms.{data_id_form}
+use Rattle.secoc_words.specs.Forms.{data_id_form}
 use Rattle.bus_world.specs.StartAnswers.{DiskStates}
 use Rattle.gateway_commands.specs.Words.{pair_form, AsksGateway}
 use Rattle.gateway_commands.specs.Inputs.{GatewayInputs}

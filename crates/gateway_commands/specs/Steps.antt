@@ -6,7 +6,7 @@ use Rattle.answer_rows.specs.Rows.{Row, row_of, memory_row}
 use Rattle.answer_rows.specs.Inputs.{Reading}
 use Rattle.answer_rows.specs.Endings.{Ending, EndsInRow}
 use Rattle.line_rows.specs.LineRows.{NoLines}
-use Rattle.text_lines.specs.Frames.{most_lines}
+use Rattle.text_lines.specs.Readings.{most_lines}
 use Rattle.bus_port.specs.Sink.{SinkState}
 use Rattle.numbered_run.specs.declared.printing.Unwritten.{Unwritten}
 use Rattle.numbered_run.specs.Printed.{Printed}

@@ -1,7 +1,7 @@
 -- The words of the command line, and which pairs they give
 use Rattle.std.specs.Prelude.{◌≡◌, ℕ, ◌≤◌, ◌==◌, ◌&&◌, if◌then◌else◌, Option, None, Some, List, [], ◌∷◌, length, map}
 use Rattle.std.specs.Prelude.{take, drop, slice_index}
-use Rattle.text_lines.specs.Forms.{data_id_form}
+use Rattle.secoc_words.specs.Forms.{data_id_form}
 
 -- two Data IDs, if each is one
 abbrev pub both_ids : Option ℕ → Option ℕ → Option (ℕ × ℕ)

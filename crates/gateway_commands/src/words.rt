@@ -5,7 +5,6 @@ ghost use Rattle.gateway_commands.specs.Steps.{HasPairs, FindsPairs};
 
 use answer_rows::Refusal;
 use std::alloc::{AllocError, Global};
-use text_lines::forms;
 
 const USAGE: &str = "usage: gateway B F IN=OUT ..\n";
 
@@ -74,7 +73,7 @@ fn pair_of(word: &str) -> Option<(u16, u16)>
     if bytes.len() != 9 || bytes[4] != b'=' {
         return None;
     }
-    let first = forms::data_id(&bytes[..4])?;
-    let second = forms::data_id(&bytes[5..])?;
+    let first = secoc_words::data_id(&bytes[..4])?;
+    let second = secoc_words::data_id(&bytes[5..])?;
     Some((first, second))
 }

@@ -7,7 +7,7 @@ use Rattle.command_edge.specs.declared.input.InputFault.TheVariants.{ReadFault, 
 use Rattle.key_slots.specs.declared.memory.Slot.{Slot}
 use Rattle.memory_update.specs.declared.messages.Request.{Request}
 use Rattle.memory_update.specs.declared.messages.Update.{Update}
-use Rattle.text_lines.specs.Frames.{loads_of}
+use Rattle.secoc_words.specs.Frames.{loads_of}
 use Rattle.text_lines.specs.Readings.{Fault}
 use Rattle.text_lines.specs.Texts.{fault_text_of}
 use Rattle.cell_store.specs.Store.{SameBesides, Stands}

@@ -39,6 +39,10 @@ abbrev pub at_line : {A : Type 0} → ℕ → Result A Cause → Result A Fault
 at_line number (Ok x) = Ok x
 at_line number (Err cause) = Err (record { line = number; cause = cause })
 
+-- the most lines that a text may have where a program names no other number
+abbrev pub most_lines : ℕ
+most_lines = 65536
+
 -- what a line gives behind this number of others, where at most `most` are read
 abbrev pub limited : {A : Type 0} → ℕ → ℕ → Result A Cause → Result A Cause
 limited most before meaning = if nat_le most before then Err TooMany else meaning

@@ -220,9 +220,9 @@ pub fn line_of_words(
     ensures { result ≡ line_with can window channel words.now }
 {
     let can = value_at(1, can)?;
-    let id = value_at(2, forms::data_id(words.word(2)))?;
-    let key = value_at(3, forms::key(words.word(3)))?;
-    let counter = value_at(4, forms::fresh(words.word(4)))?;
+    let id = value_at(2, secoc_words::data_id(words.word(2)))?;
+    let key = value_at(3, secoc_words::key(words.word(3)))?;
+    let counter = value_at(4, secoc_words::fresh(words.word(4)))?;
     let size = value_at(5, forms::number(words.word(5), 1, 60))?;
     let window = value_at(6, window)?;
     Ok(MapLine {

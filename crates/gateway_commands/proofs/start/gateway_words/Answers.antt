@@ -13,9 +13,12 @@ returns-then-not-is_asked-clause-named g c some =
       words = map string_bytes c.args.words.now;
       config = record { before = missing_source c.new-config.result; after = missing_source c.run_gateway.new.config };
       script = record { before = missing_source c.new-script.result; after = missing_source c.run_gateway.new.script };
-    } in
-    (i, none_named (g.O.Opener.opens c.args.opener.now) (g.I.Source.state c.args.bus_input) (g.I.Source.state c.args.script_input) i
-        (λ asks. let same : false ≡ true = c.if-not-is_asked.ensures.1 asks in cc), c.run_gateway.ensures)
+    } in (
+      i,
+      none_named (g.O.Opener.opens c.args.opener.now) (g.I.Source.state c.args.bus_input) (g.I.Source.state c.args.script_input) i
+          (λ asks. let same : false ≡ true = c.if-not-is_asked.ensures.1 asks in cc),
+      c.run_gateway.ensures,
+    )
 
 pub returns-clause-named : goal.returns-clause-named
 returns-clause-named g c some =
