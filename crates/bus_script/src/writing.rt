@@ -116,7 +116,8 @@ fn push_fields(alloc: Global, line: &mut Vec<u8>, event: &Event) -> Result<(), A
 /// Adds a Data ID and bytes.
 #[tactic(auto, using(crate::proofs::BigEndian::two_bytes))]
 fn push_pdu(line: &mut Vec<u8>, id: u16, bytes: &[u8]) -> Result<(), AllocError>
-    ensures { OnOk result (AddsWords line.old.items line.new.items (encode_lower (bytes_of 2 id) ∷ bytes_word bytes.now ∷ [])) }
+    ensures { OnOk result
+        (AddsWords line.old.items line.new.items (encode_lower (bytes_of 2 id) ∷ bytes_word bytes.now ∷ [])) }
 {
     push_hex(line, &id.to_be_bytes())?;
     push_bytes(line, bytes)

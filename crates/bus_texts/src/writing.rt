@@ -72,7 +72,8 @@ fn push_accepted(
     payload: &Pdu,
     from: Option<u32>,
 ) -> Result<(), AllocError>
-    ensures { OnOk result (text.new.items ≡ text.old.items ++ spaced (told_words (Accepted id freshness payload.now from))) }
+    ensures { OnOk result
+        (text.new.items ≡ text.old.items ++ spaced (told_words (Accepted id freshness payload.now from))) }
 {
     push_word(text, b"accepted")?;
     push_id(text, id)?;

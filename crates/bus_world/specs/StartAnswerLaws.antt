@@ -18,7 +18,8 @@ store_row : (start : Start) (bus : NamedBus) (d : DiskStates) (fault : StartFaul
     → NotStarted start bus d.before d.after fault → HasRoom bus d.before → (start_row fault).status ≡ 10
     → ComesOfStart start bus d (row_of 10 (start_row fault).text)
 store_row start bus d fault refused room ten =
-    store_refused fault room (refused_at_10 start bus d.before d.after fault refused ten) (start_leaves start bus d.before d.after fault refused)
+    store_refused fault room (refused_at_10 start bus d.before d.after fault refused ten)
+    (start_leaves start bus d.before d.after fault refused)
 
 -- the row of a start that is refused comes
 row_comes : (start : Start) (bus : NamedBus) (d : DiskStates) (fault : StartFault)
@@ -27,7 +28,8 @@ row_comes start bus d TooFew refused = disks_refused TooFew refused.0 refused.1
 row_comes start bus d (TooSmall node) refused = disks_refused (TooSmall node) refused.0 refused.1
 row_comes start bus d (Store node cause) refused = store_row start bus d (Store node cause) refused refused.room refl
 row_comes start bus d (BadSlot node slot) refused = store_row start bus d (BadSlot node slot) refused refused.room refl
-row_comes start bus d (BadBound node cell) refused = store_row start bus d (BadBound node cell) refused refused.room refl
+row_comes start bus d (BadBound node cell) refused =
+    store_row start bus d (BadBound node cell) refused refused.room refl
 row_comes start bus d Memory refused = start_without_memory Memory refused
 
 -- a start that is refused ends in a row that comes
@@ -43,7 +45,8 @@ pub Comes-leaves : (start : Start) (bus : NamedBus) (d : DiskStates) (row : Row)
     → LeavesEach start bus d.before d.after
 Comes-leaves start bus d row (disks_refused fault finds same) = leaves_same start bus d.before d.after same
 Comes-leaves start bus d row (store_refused fault room cause left) = left
-Comes-leaves start bus d row (start_without_memory fault refused) = start_leaves start bus d.before d.after fault refused
+Comes-leaves start bus d row (start_without_memory fault refused) =
+    start_leaves start bus d.before d.after fault refused
 
 -- ---- the status
 
@@ -71,7 +74,8 @@ start_without_room start bus d row (start_without_memory fault refused) none = i
 -- over disks that do, it is 7
 pub start_complete : (start : Start) (bus : NamedBus) (d : DiskStates) (row : Row) → ComesOfStart start bus d row
     → BusHasDisks start bus d → row.status ≡ 7
-start_complete start bus d row (disks_refused fault finds same) able = absurd (no_room_fault bus d.before fault able.0 finds)
+start_complete start bus d row (disks_refused fault finds same) able =
+    absurd (no_room_fault bus d.before fault able.0 finds)
 start_complete start bus d row (store_refused fault room cause left) able =
     absurd (no_store_cause start bus d.before d.after fault able.1 cause left)
 start_complete start bus d row (start_without_memory fault refused) able = refl

@@ -55,7 +55,8 @@ pub refused_at_10 : (start : Start) (bus : NamedBus) (before after : List DiskSt
     → NotStarted start bus before after f → (start_row f).status ≡ 10 → StoreCause start bus before after f
 refused_at_10 start bus before after fault.TooFew refused is = absurd (let no : ⊥ = omega (arith, is) in no)
 refused_at_10 start bus before after (fault.TooSmall node) refused is = absurd (let no : ⊥ = omega (arith, is) in no)
-refused_at_10 start bus before after (fault.Store node reread.DiskFailed) refused is = loud_at start bus before after (fault.Store node reread.DiskFailed) node refused refused.cause
+refused_at_10 start bus before after (fault.Store node reread.DiskFailed) refused is =
+    loud_at start bus before after (fault.Store node reread.DiskFailed) node refused refused.cause
 refused_at_10 start bus before after (fault.Store node reread.NotFormatted) refused is = refused.cause
 refused_at_10 start bus before after (fault.Store node (reread.Damaged place)) refused is = refused.cause
 refused_at_10 start bus before after (fault.BadSlot node slot) refused is = refused.cause
@@ -64,7 +65,8 @@ refused_at_10 start bus before after fault.Memory refused is = absurd (let no : 
 
 left_of : (start : Start) (bus : NamedBus) (before after : List DiskState) (f : StartFault)
     → Broken start bus before after f → LeavesEach start bus before after
-left_of start bus before after f broken = record { count = broken.count; each = broken.left; rest = broken.rest; leaves = broken.leaves }
+left_of start bus before after f broken =
+    record { count = broken.count; each = broken.left; rest = broken.rest; leaves = broken.leaves }
 
 untouched_left : (start : Start) (kind : Kind) (version : Version) (config : Config) (before : DiskState)
     → LeftOver start kind version config before before
@@ -79,24 +81,29 @@ untouched_leaves Attach kind version config before = λ t told. inl (inl told, r
 -- disks that are as before
 pub leaves_same : (start : Start) (bus : NamedBus) (before after : List DiskState) → after ≡ before
     → LeavesEach start bus before after
-leaves_same start bus before after same = subst (λ (disks : List DiskState). LeavesEach start bus before disks) (sym same) (record {
-  count = refl;
-  each = λ i l d inside. (
-    runs_more (start_calls start bus.kind (get_or bus.nodes i l).config) (omega arith) (runs_none (get_or before i d)),
-    untouched_left start bus.kind bus.version (get_or bus.nodes i l).config (get_or before i d),
-  );
-  rest = refl;
-  leaves = λ i l d inside. untouched_leaves start bus.kind bus.version (get_or bus.nodes i l).config (get_or before i d);
-})
+leaves_same start bus before after same =
+    subst (λ (disks : List DiskState). LeavesEach start bus before disks) (sym same) (record {
+      count = refl;
+      each = λ i l d inside. (
+        runs_more (start_calls start bus.kind (get_or bus.nodes i l).config) (omega arith) (runs_none (get_or before i d)),
+        untouched_left start bus.kind bus.version (get_or bus.nodes i l).config (get_or before i d),
+      );
+      rest = refl;
+      leaves =
+          λ i l d inside. untouched_leaves start bus.kind bus.version (get_or bus.nodes i l).config (get_or before i d);
+    })
 
 -- what a start that is refused leaves, whatever its cause
 pub start_leaves : (start : Start) (bus : NamedBus) (before after : List DiskState) (f : StartFault)
     → NotStarted start bus before after f → LeavesEach start bus before after
 start_leaves start bus before after fault.TooFew refused = leaves_same start bus before after refused.1
 start_leaves start bus before after (fault.TooSmall node) refused = leaves_same start bus before after refused.1
-start_leaves start bus before after (fault.Store node cause) refused = left_of start bus before after (fault.Store node cause) refused
-start_leaves start bus before after (fault.BadSlot node slot) refused = left_of start bus before after (fault.BadSlot node slot) refused
-start_leaves start bus before after (fault.BadBound node cell) refused = left_of start bus before after (fault.BadBound node cell) refused
+start_leaves start bus before after (fault.Store node cause) refused =
+    left_of start bus before after (fault.Store node cause) refused
+start_leaves start bus before after (fault.BadSlot node slot) refused =
+    left_of start bus before after (fault.BadSlot node slot) refused
+start_leaves start bus before after (fault.BadBound node cell) refused =
+    left_of start bus before after (fault.BadBound node cell) refused
 start_leaves start bus before after fault.Memory refused = left_of start bus before after fault.Memory refused
 
 -- ---- disks that do
@@ -125,7 +132,8 @@ told_at : (start : Start) (bus : NamedBus) (before after : List DiskState) (numb
     → RefusedAt start bus before after number f → DisksDo start bus before after → ⊥
 told_at start bus before after number f of able =
     let has = able (number - 1) no_line no_disk (omega (arith, of.least, of.most)) in
-    able_at start bus.kind bus.version (get_or bus.nodes (number - 1) no_line).config (get_or before (number - 1) no_disk).told f has.0.0 has.0.1 has.0.2 (of.disk no_line no_disk).0
+    able_at start bus.kind bus.version (get_or bus.nodes (number - 1) no_line).config
+    (get_or before (number - 1) no_disk).told f has.0.0 has.0.1 has.0.2 (of.disk no_line no_disk).0
 
 -- a start over them is refused for no store
 pub no_store_cause : (start : Start) (bus : NamedBus) (before after : List DiskState) (f : StartFault)
@@ -133,14 +141,17 @@ pub no_store_cause : (start : Start) (bus : NamedBus) (before after : List DiskS
     → LeavesEach start bus before after → ⊥
 no_store_cause start bus before after (fault.Store node reread.DiskFailed) able cause left =
     let inside : node - 1 < length bus.nodes = omega (arith, cause.least, cause.most) in
-    does_not_fail _ (get_or before (node - 1) no_disk) (get_or after (node - 1) no_disk) (left.each (node - 1) no_line no_disk inside).0
+    does_not_fail _ (get_or before (node - 1) no_disk) (get_or after (node - 1) no_disk)
+    (left.each (node - 1) no_line no_disk inside).0
     (cause.disk no_line no_disk).0 (able (node - 1) no_line no_disk inside).1
 no_store_cause start bus before after (fault.Store node reread.NotFormatted) able cause left =
     told_at start bus before after node (open_fault.Store reread.NotFormatted) cause able
 no_store_cause start bus before after (fault.Store node (reread.Damaged place)) able cause left =
     told_at start bus before after node (open_fault.Store (reread.Damaged place)) cause able
-no_store_cause start bus before after (fault.BadSlot node slot) able cause left = told_at start bus before after node (open_fault.BadSlot slot) cause able
-no_store_cause start bus before after (fault.BadBound node cell) able cause left = told_at start bus before after node (open_fault.BadBound cell) cause able
+no_store_cause start bus before after (fault.BadSlot node slot) able cause left =
+    told_at start bus before after node (open_fault.BadSlot slot) cause able
+no_store_cause start bus before after (fault.BadBound node cell) able cause left =
+    told_at start bus before after node (open_fault.BadBound cell) cause able
 no_store_cause start bus before after fault.TooFew able cause left = cause
 no_store_cause start bus before after (fault.TooSmall node) able cause left = cause
 no_store_cause start bus before after fault.Memory able cause left = cause
@@ -150,7 +161,11 @@ pub no_room_fault : (bus : NamedBus) (disks : List DiskState) (f : StartFault) �
     → FindsRoom bus disks f → ⊥
 no_room_fault bus disks fault.TooFew room finds = omega (arith, finds, room.enough)
 no_room_fault bus disks (fault.TooSmall node) room finds =
-    omega (arith, finds.small no_line no_disk, room.room (node - 1) no_line no_disk (omega (arith, finds.least, finds.most)))
+    omega (
+      arith,
+      finds.small no_line no_disk,
+      room.room (node - 1) no_line no_disk (omega (arith, finds.least, finds.most)),
+    )
 no_room_fault bus disks (fault.Store node cause) room finds = finds
 no_room_fault bus disks (fault.BadSlot node slot) room finds = finds
 no_room_fault bus disks (fault.BadBound node cell) room finds = finds

@@ -28,7 +28,8 @@ impl<D: CutDisk> Model for World<D> {
 
     ghost Value = { BusState };
 
-    ghost view = { λ w. record { nodes = w.nodes.items; events = w.history.events; most = w.history.most; sent = w.history.lines } };
+    ghost view = { λ w. record
+        { nodes = w.nodes.items; events = w.history.events; most = w.history.most; sent = w.history.lines } };
 
     ghost use Rattle.std.specs.Prelude.{map};
     ghost use Rattle.bus_machine.specs.Bus.{SoundBus};

@@ -77,7 +77,8 @@ fn run_words<O: Opener, I: Source + Drop, K: Sink>(
 ) -> u8
     // All that a gateway promises, of these words, over the sources that they name, or the example's, and the disk that
     // is made for it; or there was no memory for the disk, and nothing was written.
-    ensures words { RunsOverOne (O.opens opener.now) (I.state bus_input) (I.state script_input) (map string_bytes words.now)
+    ensures words { RunsOverOne (O.opens opener.now) (I.state bus_input) (I.state script_input)
+        (map string_bytes words.now)
         (record { before = K.state sink.old; after = K.state sink.new; status = result })
         ⊎ WantsItsDisk (map string_bytes words.now)
         (record { before = K.state sink.old; after = K.state sink.new; status = result }) }

@@ -39,7 +39,8 @@ LeftToNext left found = (found.told ≡ left.told) ⊎ CutsTo left.told found.to
 
 -- a life goes on where the disks stand that the one before it left
 pub record Follows (bus : NamedBus) (life next : Life) : Type 0 where
-  pub disks : (i : ℕ) (d : DiskState) → i < length bus.nodes → LeftToNext (get_or life.after i d) (get_or next.before i d)
+  pub disks : (i : ℕ) (d : DiskState) → i < length bus.nodes
+      → LeftToNext (get_or life.after i d) (get_or next.before i d)
   pub goes_on : StartsOver bus next.before next.first
 
 -- the first of them begins at the first world of the bus, over formatted disks, or goes on where its disks stand
@@ -136,7 +137,8 @@ AllLivesGoOn = (bus : NamedBus) (lives : List Life) → LivesOf bus lives → Li
 -- ---- where they come from
 
 -- the life of turns of a bus
-abbrev pub life_of : List DiskState → List DiskState → List Event → BusState → List (Moment Event Line BusState) → BusState → Life
+abbrev pub life_of : List DiskState → List DiskState → List Event → BusState → List (Moment Event Line BusState)
+    → BusState → Life
 life_of before after events start moments now = record {
   before = before;
   first = world_of start;

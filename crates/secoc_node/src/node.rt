@@ -94,7 +94,8 @@ impl<C: Cells> Node<C> {
         ensures down { IsErrOf result NodeFault.Down ↔ self.old.node.up ≡ false }
         ensures no_route { IsErrOf result NodeFault.NoRoute
             ↔ ((self.old.node.up ≡ true) × (¬ HasRoute self.old.node id Sends)) }
-        ensures faulted { IsErrOf result NodeFault.Faulted → Rose self.old.store.disk.faults self.new.store.disk.faults }
+        ensures faulted { IsErrOf result NodeFault.Faulted
+            → Rose self.old.store.disk.faults self.new.store.disk.faults }
         ensures faults { OnOk result (self.new.store.disk.faults ≡ self.old.store.disk.faults) }
         ensures layout { self.new.store.layout ≡ self.old.store.layout }
         ensures runs { Runs [] 6 self.old.store.disk self.new.store.disk }
@@ -141,7 +142,8 @@ impl<C: Cells> Node<C> {
         ensures down { IsErrOf result NodeFault.Down ↔ self.old.node.up ≡ false }
         ensures no_route { IsErrOf result NodeFault.NoRoute
             ↔ ((self.old.node.up ≡ true) × (¬ HasRoute self.old.node id Receives)) }
-        ensures faulted { IsErrOf result NodeFault.Faulted → Rose self.old.store.disk.faults self.new.store.disk.faults }
+        ensures faulted { IsErrOf result NodeFault.Faulted
+            → Rose self.old.store.disk.faults self.new.store.disk.faults }
         ensures faults { OnOk result (self.new.store.disk.faults ≡ self.old.store.disk.faults) }
         ensures layout { self.new.store.layout ≡ self.old.store.layout }
         ensures runs { Runs [] 6 self.old.store.disk self.new.store.disk }
@@ -175,7 +177,8 @@ impl<C: Cells> Node<C> {
             → NodeStep self.old.node (keys update authkey) (keyed_line update.id result) self.new.node }
         ensures untouched { IfErr result (λ fault. fault ≢ NodeFault.Faulted → self.new ≡ self.old) }
         ensures down { IsErrOf result NodeFault.Down ↔ self.old.node.up ≡ false }
-        ensures faulted { IsErrOf result NodeFault.Faulted → Rose self.old.store.disk.faults self.new.store.disk.faults }
+        ensures faulted { IsErrOf result NodeFault.Faulted
+            → Rose self.old.store.disk.faults self.new.store.disk.faults }
         ensures faults { OnOk result (self.new.store.disk.faults ≡ self.old.store.disk.faults) }
         ensures layout { self.new.store.layout ≡ self.old.store.layout }
         ensures runs { Runs [] 6 self.old.store.disk self.new.store.disk }
@@ -216,7 +219,8 @@ impl<C: Cells> Node<C> {
     /// began. `None` exactly where there is no such route. Whatever was called before and answered, the node is sound.
     pub fn counter(&self, id: u16, direction: Direction) -> Option<u64>
         ensures value { MatchOption result (¬ HasRoute self.now.node id direction)
-            (λ v. HasRoute self.now.node id direction × (v ≡ counter_at self.now.node (place_of self.now.node id direction))) }
+            (λ v. HasRoute self.now.node id direction
+            × (v ≡ counter_at self.now.node (place_of self.now.node id direction))) }
         ensures sound { Sound self.now.node }
     {
         let (place, _route) = self.known.route(id, direction)?;

@@ -31,7 +31,8 @@ load_words request = encode_lower request.m1 ∷ flat_map encode_lower request.m
 -- five digits 0 or 1, in the order WRITE_PROTECTION, BOOT_PROTECTION, DEBUGGER_PROTECTION, KEY_USAGE, WILDCARD
 abbrev pub flags_text : Flags → List ℕ
 flags_text f =
-    decimal (bit f.write) ++ (decimal (bit f.boot) ++ (decimal (bit f.debugger) ++ (decimal (bit f.usage) ++ decimal (bit f.wildcard))))
+    decimal (bit f.write)
+    ++ (decimal (bit f.boot) ++ (decimal (bit f.debugger) ++ (decimal (bit f.usage) ++ decimal (bit f.wildcard))))
 
 -- a line of `frame`: a key of 16 bytes, numbers that fit their types, and a payload of 1 to 60 bytes
 pub record IsFrameLine (line : FrameLine) : Type 0 where

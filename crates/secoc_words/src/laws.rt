@@ -13,15 +13,18 @@ ghost use Rattle.text_lines.specs.Written.{written};
 /// Law: each list of at most 65,536 lines of `frame` is what some text gives, namely its lines in lower-case digits with
 /// single spaces.
 pub fn written_frames_are_read()
-    ensures { (lines : List FrameLine) → All IsFrameLine lines → length lines ≤ most_lines → frames_of (flat_map written (map frame_words lines)) ≡ Ok lines }
+    ensures { (lines : List FrameLine) → All IsFrameLine lines → length lines ≤ most_lines
+        → frames_of (flat_map written (map frame_words lines)) ≡ Ok lines }
 {}
 
 /// Law: the same of lines of `judge`, where a PDU without bytes is written as `-`.
 pub fn written_judges_are_read()
-    ensures { (lines : List JudgeLine) → All IsJudgeLine lines → length lines ≤ most_lines → judges_of (flat_map written (map judge_words lines)) ≡ Ok lines }
+    ensures { (lines : List JudgeLine) → All IsJudgeLine lines → length lines ≤ most_lines
+        → judges_of (flat_map written (map judge_words lines)) ≡ Ok lines }
 {}
 
 /// Law: the same of lines of `load`.
 pub fn written_loads_are_read()
-    ensures { (requests : List Request) → All IsLoad requests → length requests ≤ most_lines → loads_of (flat_map written (map load_words requests)) ≡ Ok requests }
+    ensures { (requests : List Request) → All IsLoad requests → length requests ≤ most_lines
+        → loads_of (flat_map written (map load_words requests)) ≡ Ok requests }
 {}

@@ -8,7 +8,8 @@ use Rattle.hex.specs.Hex.{decode_of}
 
 -- decimal digits without sign; only the number 0 begins with 0
 abbrev pub is_number : List ℕ → Bool
-is_number word = nat_lt 0 (length word) && list_all is_ascii_digit word && (length word == 1 || not (slice_index word 0 == 48))
+is_number word =
+    nat_lt 0 (length word) && list_all is_ascii_digit word && (length word == 1 || not (slice_index word 0 == 48))
 
 -- a number from `least` to `most`
 unfoldable pub number_form : ℕ → ℕ → List ℕ → Option ℕ

@@ -17,18 +17,21 @@ pub fn places_are_those_of_the_words()
 /// Law: values come exactly where they are as many as the lines, at most as many as are read, and each is what its line
 /// gives behind the values before it.
 pub fn values_are_those_of_the_lines<R: LineReader>()
-    ensures { (reader : R) (most : ℕ) (text : List ℕ) (values : List R.Item) → (read_all (R.means reader) most text ≡ Ok values)
+    ensures { (reader : R) (most : ℕ) (text : List ℕ) (values : List R.Item)
+        → (read_all (R.means reader) most text ≡ Ok values)
         ↔ (AreValues (R.means reader) (lines_of text) values × (length values ≤ most)) }
 {}
 
 /// Law: a fault comes exactly where all lines before its line give values and either these are as many as are read and
 /// the cause is `TooMany`, or they are fewer and its line gives the cause.
 pub fn a_fault_is_the_first<R: LineReader>()
-    ensures { (reader : R) (most : ℕ) (text : List ℕ) (fault : Fault) → (read_all (R.means reader) most text ≡ Err fault)
+    ensures { (reader : R) (most : ℕ) (text : List ℕ) (fault : Fault)
+        → (read_all (R.means reader) most text ≡ Err fault)
         ↔ IsFirstFault (R.means reader) most (lines_of text) fault }
 {}
 
 /// Law: lines that are written with single spaces between plain words are read again as they were.
 pub fn written_lines_are_read()
-    ensures { (lines : List (List (List ℕ))) → list_all is_writable lines ≡ true → map (λ line. line.words) (lines_of (flat_map written lines)) ≡ lines }
+    ensures { (lines : List (List (List ℕ))) → list_all is_writable lines ≡ true
+        → map (λ line. line.words) (lines_of (flat_map written lines)) ≡ lines }
 {}
