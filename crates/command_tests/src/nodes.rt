@@ -29,11 +29,7 @@ const FOREIGN: &str = "store: node 1: NotFormatted\n";
 /// The layout of the stores in version 1, that of the other kind, and that in version 2.
 const LAYOUTS: [(&str, &str, &str); 2] = [
     ("", "store = \"log\"\n", "version = 2\n"),
-    (
-        "store = \"log\"\n",
-        "",
-        "store = \"log\"\nversion = 2\n",
-    ),
+    ("store = \"log\"\n", "", "store = \"log\"\nversion = 2\n"),
 ];
 
 /// A run of the bus with stores of this layout over these disks.
