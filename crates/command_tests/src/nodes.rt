@@ -27,9 +27,9 @@ const SENT_LINE: &str = "1 sent 6bc1 e93d7e117393172e bee22e409f962e567e86\n";
 const FOREIGN: &str = "store: node 1: NotFormatted\n";
 
 /// The layout of the stores in version 1, that of the other kind, and that in version 2.
-const LAYOUTS: [[&str; 3]; 2] = [
-    ["", "store = \"log\"\n", "version = 2\n"],
-    ["store = \"log\"\n", "", "store = \"log\"\nversion = 2\n"],
+const LAYOUTS: [(&str, &str, &str); 2] = [
+    ("", "store = \"log\"\n", "version = 2\n"),
+    ("store = \"log\"\n", "", "store = \"log\"\nversion = 2\n"),
 ];
 
 /// A run of the bus with stores of this layout over these disks.
@@ -50,7 +50,7 @@ fn goes_on<D: CutDisk>(
 
 #[test]
 fn a_bus_goes_on_where_its_disks_stand(rt: HostRuntime) -> Result<(), Fail> {
-    for [own, other, newer] in LAYOUTS {
+    for (own, other, newer) in LAYOUTS {
         let mut disks = disks_of(rt.alloc(), &[65_536, 65_536])?;
         for (layout, script, status, output) in [
             (own, KEYED, 0, KEYED_LINES),
