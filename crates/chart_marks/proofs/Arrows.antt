@@ -12,6 +12,7 @@ use Rattle.bus_machine.specs.Bus.{World, Instant, Moments, Step, node_of, state_
 use Rattle.bus_machine.specs.Authentic.{SentAs, RightLine, Authentic}
 use Rattle.bus_laws.specs.Laws.{IsFirst}
 use Rattle.chart_marks.specs.declared.marks.Origin.TheVariants.{EventRow}
+use Rattle.chart_marks.specs.declared.marks.MarkKind.{MarkKind}
 use Rattle.chart_marks.specs.declared.marks.MarkKind.TheVariants.{Arrow}
 use Rattle.chart_marks.specs.declared.marks.RowMark.{RowMark}
 use Rattle.chart_marks.specs.Marks.{origin_at, refused_mark, mark_kind, row_mark, marks_from}
@@ -145,6 +146,10 @@ no_other_arrow ms front rest mark number node whole kind =
       accepts = a.line_is;
     }
 
+-- one mark alone
+abbrev one_mark : ℕ → ℕ → MarkKind → List RowMark
+one_mark node row kind = record { node = node; row = row; kind = kind } ∷ []
+
 -- what was sent, seen from the whole run: the event before the acceptance, and its place
 one_arrow : (start : World) (ms : Moments) (last : World) → IsFirst start → Run Step start ms last → Authentic start ms
     → (front rest : Moments) (m : Instant) (id v number : ℕ) (payload : List ℕ) → ms ≡ front ++ m ∷ rest
@@ -181,7 +186,7 @@ one_arrow start ms last first run authentic front rest m id v number payload who
       only = subst (λ (xs : Moments). filter (λ (mark : RowMark). mark.row == length front + 1)
           (marks_from (commands_in ms) 1 (commands_in xs) (lines_in xs)) ≡ row_mark (commands_in ms) (length front + 1) m.command m.line ∷ [])
           (sym whole) (one_there (commands_in ms) 1 (length front + 1) front m rest (omega arith))
-          ∙ ap (λ kind. record { node = node_of m.command; row = length front + 1; kind = kind } ∷ []) kind;
+          ∙ ap (one_mark (node_of m.command) (length front + 1)) kind;
     }
 
 pub arrows_of : (start : World) (ms : Moments) (last : World) → IsFirst start → Run Step start ms last → Authentic start ms → ArrowsOf ms

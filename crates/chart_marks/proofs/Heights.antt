@@ -16,7 +16,10 @@ pub axis_gap : (row : ℕ) → 1 ≤ row → row_axis row + 28 ≤ row_axis (row
 axis_gap row least = omega arith
 
 axis_more : (row more : ℕ) → 1 ≤ row → row_axis row ≤ row_axis (row + more)
-axis_more row zero least = subst (λ (r : ℕ). row_axis row ≤ row_axis r) (omega arith) (omega arith)
+axis_more row zero least =
+    let same : row ≡ row + 0 = omega arith in
+    let here : row_axis row ≤ row_axis row = omega arith in
+    subst (λ (r : ℕ). row_axis row ≤ row_axis r) same here
 axis_more row (suc more) least =
     let next = axis_gap row least in
     let rest = axis_more (row + 1) more (omega arith) in
