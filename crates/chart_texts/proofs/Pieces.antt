@@ -143,3 +143,10 @@ six_added text a b c d e f t1 t2 t3 t4 t5 t6 p q r s t u =
 pub some_path : (style strokes : List ℕ) → (length strokes == 0) ≡ false → life_path style strokes ≡ path_text style strokes
 some_path style [] some = cc
 some_path style (stroke ∷ strokes) some = refl
+
+-- a path whose class and strokes stand between texts that are the same in every chart
+pub path_added : (text a k b s e t1 t2 t3 : List ℕ) → t1 ≡ text ++ (a ++ (k ++ b)) → t2 ≡ t1 ++ s → t3 ≡ t2 ++ e
+    → t3 ≡ text ++ (a ++ (k ++ (b ++ (s ++ e))))
+path_added text a k b s e t1 t2 t3 p q r =
+    three_added text (a ++ (k ++ b)) s e t1 t2 t3 p q r
+    ∙ ap (λ (xs : List ℕ). text ++ xs) (append_assoc a (k ++ b) (s ++ e) ∙ ap (λ (xs : List ℕ). a ++ xs) (append_assoc k b (s ++ e)))

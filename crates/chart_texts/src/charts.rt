@@ -160,5 +160,6 @@ fn push_numbers(
     let numbers = format!(in alloc;
         "events {events}, sent {sent}, accepted {accepted}, failures {failures}, keyed {keyed}, cuts {cuts}, refused {refused}"
     )?;
-    text.extend_from_slice(numbers.as_bytes())
+    text.extend_from_slice(numbers.as_bytes())?;
+    Ok(())
 }

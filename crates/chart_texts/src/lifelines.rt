@@ -76,7 +76,8 @@ fn push_strokes(
     let open = format!(in alloc; "<path class=\"{class}\" d=\"")?;
     text.extend_from_slice(open.as_bytes())?;
     text.extend_from_slice(strokes)?;
-    text.extend_from_slice(b"\"/>")
+    text.extend_from_slice(b"\"/>")?;
+    Ok(())
 }
 
 // The strokes of the stretches of a node's lifeline that are down, or of those that are up.

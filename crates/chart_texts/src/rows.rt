@@ -1,7 +1,9 @@
 //! The rows of a chart.
 ghost use Rattle.std.specs.Prelude.{◌≡◌, ◌+◌, ◌<◌, ◌^◌, ◌++◌, nat_lt, length, OnOk};
 ghost use Rattle.std.specs.List.{flat_map};
-ghost use Rattle.chart_marks.specs.Places.{sign, edge, wait, arrow, places_of as places_of_mark, lifeline_x as x_of_lifeline, row_axis as axis_of_row, gutter as gutter_of, arrow_end as end_of_arrow, arrow_head as head_of_arrow};
+ghost use Rattle.chart_marks.specs.Places.{sign, edge, wait, arrow, places_for, places_of as places_of_mark, lifeline_x as x_of_lifeline, row_axis as axis_of_row, gutter as gutter_of, arrow_end as end_of_arrow, arrow_head as head_of_arrow};
+ghost use Rattle.chart_marks.specs.declared.marks.Origin.TheVariants.{EventRow};
+ghost use Rattle.chart_marks.specs.declared.marks.MarkKind.TheVariants.{Arrow};
 ghost use Rattle.chart_texts.specs.ChartTexts.{class_name as name_of_class, sign_strokes as strokes_of_sign, head_strokes as strokes_of_head, place_text, title_of_row, band_text, number_text, front_of_row, label_of_row, marked_row, row_text, rows_text};
 
 use crate::labels::push_label;
@@ -145,12 +147,28 @@ fn push_places(alloc: Global, text: &mut Vec<u8>, mark: &RowMark) -> Result<(), 
         MarkKind::Arrow {
             from: Origin::EventRow { number, node },
             accepted,
-        } => {
-            push_waiting(alloc, text, row, number, node)?;
-            push_led(alloc, text, mark.node, row, accepted, number, node)
-        }
+        } => push_led(alloc, text, mark.node, row, accepted, number, node),
         kind => push_sign(alloc, text, lifeline_x(mark.node), axis, kind),
     }
+}
+
+// Adds what is drawn of an arrow to a node, which leads from the row of the event with this number, of the node
+// `sender`: the way of what waits, and the arrow.
+fn push_led(
+    alloc: Global,
+    text: &mut Vec<u8>,
+    node: u8,
+    row: u32,
+    accepted: bool,
+    number: u32,
+    sender: u8,
+) -> Result<(), AllocError>
+    ensures { OnOk result (text.new.items ≡ text.old.items
+        ++ flat_map place_text (places_for node row (Arrow (EventRow number sender) accepted))) }
+{
+    push_waiting(alloc, text, row, number, sender)?;
+    push_led_arrow(alloc, text, node, row, accepted, number, sender)?;
+    Ok(())
 }
 
 // Adds the way of what waits: from the row of the event with this number, of the node `sender`, to a row.
@@ -177,7 +195,7 @@ fn push_waiting(
 }
 
 // Adds the arrow from there to a node.
-fn push_led(
+fn push_led_arrow(
     alloc: Global,
     text: &mut Vec<u8>,
     node: u8,

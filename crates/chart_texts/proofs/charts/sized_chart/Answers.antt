@@ -18,7 +18,7 @@ returns c =
     (flat_map (lifeline_text events lines) (range_with_len 0 (length nodes))) (rows_text events 1 events lines)
     (flat_map (header_text nodes) (range_with_len 0 (head_count (length events)))) (codes "</svg>\n") _ _ _ _ _ _
     opened c.in_ok-push_page.ensures
-    (c.in_ok-push_lifelines.ensures ∙ ap (λ n. c.push_page.new.text.items ++ flat_map (lifeline_text events lines) (range_with_len 0 n)) (ap length c.nodes.ensures.value))
+    (c.in_ok-push_lifelines.ensures ∙ ap (λ n. c.push_page.new.text.items ++ flat_map (lifeline_text events lines) (range_with_len 0 n)) (ap length c.nodes-nodes.ensures.value))
     c.in_ok-push_rows.ensures
-    (c.in_ok-push_headers.ensures ∙ ap (λ ns. c.push_rows.new.text.items ++ flat_map (header_text ns) (range_with_len 0 (head_count (length events)))) c.nodes.ensures.value)
+    (c.in_ok-push_headers.ensures ∙ ap (λ ns. c.push_rows.new.text.items ++ flat_map (header_text ns) (range_with_len 0 (head_count (length events)))) c.nodes-nodes.ensures.value)
     c.in_ok-extend_from_slice.ensures.items
