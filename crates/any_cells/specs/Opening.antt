@@ -32,7 +32,8 @@ FoundWhereNot version before s =
     (t : Told) → before.told ≡ Some t → (IsBlank version t.bytes → ⊥)
     → (s.disk.told ≡ Some t) × Stands s.layout t.bytes s.cells × (t ≡ firm t.bytes → Settled s)
 
-pub record StoreOpened (kind : Kind) (version : Version) (cells : List (List ℕ)) (before : DiskState) (s : CellsState) : Type 0 where
+pub record StoreOpened (kind : Kind) (version : Version) (cells : List (List ℕ)) (before : DiskState)
+    (s : CellsState) : Type 0 where
   pub laid_out : s.layout ≡ layout kind version
   pub whole : s.broken ≡ false
   pub count : length s.cells ≡ length cells
@@ -47,7 +48,8 @@ pub record StoreOpened (kind : Kind) (version : Version) (cells : List (List ℕ
 -- told bytes were blank the store was made; or told bytes aren't blank and have another header, or the store's own and
 -- are damaged. Or a call of the disk failed.
 abbrev pub NoStoreCause : Layout → List (List ℕ) → DiskState → DiskState → StoreFault → Type 0
-NoStoreCause layout cells before after store.TooSmall = (before.size < store_size layout (length cells)) × (after ≡ before)
+NoStoreCause layout cells before after store.TooSmall =
+    (before.size < store_size layout (length cells)) × (after ≡ before)
 NoStoreCause layout cells before after store.Memory =
     (after.faults ≡ before.faults)
     × ((t : Told) → before.told ≡ Some t → IsBlank layout.version t.bytes → FreshOn layout cells t after.told)
@@ -63,7 +65,8 @@ NoStoreCause layout cells before after (store.Damaged i) =
 
 -- no store is open: there was room but for `TooSmall`, told bytes that weren't blank are as they were, and of blank ones a
 -- format was begun at most
-pub record NoStoreOpened (layout : Layout) (cells : List (List ℕ)) (before after : DiskState) (fault : StoreFault) : Type 0 where
+pub record NoStoreOpened (layout : Layout) (cells : List (List ℕ)) (before after : DiskState)
+    (fault : StoreFault) : Type 0 where
   pub room : fault ≢ store.TooSmall → store_size layout (length cells) ≤ before.size
   pub runs : Runs [] (open_calls layout.kind (length cells)) before after
   pub cause : NoStoreCause layout cells before after fault

@@ -8,9 +8,9 @@ use Rattle.hex.proofs.HexLemmas.{length-encode_with}
 use Rattle.secured_pdu.specs.Frame.{IsFrame}
 use Rattle.secured_pdu.specs.FrameLaws.{length-secured_frame}
 use Rattle.secured_pdu.specs.Verdict.{Outcome, Accepted, FreshnessFailure, VerificationFailure, Verdict}
-use Rattle.text_lines.specs.declared.frames.FrameLine.{FrameLine}
-use Rattle.text_lines.specs.declared.judges.JudgeLine.{JudgeLine}
-use Rattle.text_lines.specs.Texts.{outcome_text, bad_length_text}
+use Rattle.secoc_words.specs.declared.frames.FrameLine.{FrameLine}
+use Rattle.secoc_words.specs.declared.judges.JudgeLine.{JudgeLine}
+use Rattle.secoc_words.specs.Texts.{outcome_text, bad_length_text}
 use Rattle.bus_commands.specs.Texts.{TellsFrame, TellsJudgement, TellsEach}
 
 two_digits_each : (bytes : List ℕ) → length (encode_lower bytes) ≡ 2 * length bytes

@@ -10,6 +10,7 @@ use Rattle.answer_rows.specs.InputLaws.{Lacks-whole}
 use Rattle.bus_nodes.specs.Buses.{NamedBus, IsNamedBus}
 use Rattle.bus_machine.specs.declared.events.Event.{Event}
 use Rattle.bus_script.specs.Canon.{canon}
+use Rattle.bus_world.specs.declared.start.Start.{Start}
 use Rattle.bus_commands.specs.declared.trial_words.TrialWords.{TrialWords}
 use Rattle.bus_commands.specs.declared.job.Job.TheVariants.{Lines, World}
 use Rattle.bus_commands.specs.declared.job.LineJob.{LineJob}
@@ -20,7 +21,8 @@ use Rattle.bus_commands.specs.declared.words.WorldCommand.TheVariants.{Replay, T
 use Rattle.bus_commands.specs.Tasks.{Task, frame, judge, check, replay}
 use Rattle.bus_commands.specs.Texts.{Prints}
 use Rattle.bus_commands.specs.Inputs.{BusInputs, Over, SetsWorld}
-use Rattle.bus_commands.specs.StartRows.{DiskStates, CommandDisks}
+use Rattle.bus_world.specs.StartAnswers.{DiskStates}
+use Rattle.bus_commands.specs.StartRows.{CommandDisks}
 use Rattle.bus_commands.specs.Rows.{ComesOfInputs, no_script, done, ComesInRun, without_disks, not_started, tried, tried_without_memory, EndsCommand, in_row, replayed}
 use Rattle.bus_commands.specs.Steps.{IsJobOf, Prepares, TellsLines, AnswersLines, told, no_text, AnswersTrial, refused_trial, summed, no_summary, AnswersReplay, refused_replay, first_done, AnswersWorld}
 
@@ -38,9 +40,9 @@ Prints-job (check bus) read (Frames lines) text is tells = absurd is
 Prints-job (check bus) read (Judgements lines) text is tells = absurd is
 Prints-job (check bus) read (Events over events) text is tells =
     (events.items, is.1, subst (λ (b : NamedBus). text ≡ flat_map (canon b.nodes) events.items) is.0 tells)
-Prints-job (replay bus) read (Frames lines) text is tells = absurd is
-Prints-job (replay bus) read (Judgements lines) text is tells = absurd is
-Prints-job (replay bus) read (Events over events) text is tells = absurd is
+Prints-job (replay start bus) read (Frames lines) text is tells = absurd is
+Prints-job (replay start bus) read (Judgements lines) text is tells = absurd is
+Prints-job (replay start bus) read (Events over events) text is tells = absurd is
 
 -- what was prepared, and then told
 Comes-lines : (i : BusInputs) (job : LineJob) → Over i (λ task input. IsJobOf task input job) → (row : Row) → AnswersLines job row → ComesOfInputs i row
@@ -67,9 +69,9 @@ module _ {V : Type 0} where
 
   ends_asked : (i : BusInputs) (d : CommandDisks V) (e : Ending) (c : WorldCommand) (bus : NamedBus) (events : List Event) → IsNamedBus bus → SetsWorld i c bus events
       → AnswersWorld c bus events d.states e → EndsCommand i d e
-  ends_asked i d e Replay bus events is set (refused_replay ends) =
-      in_row (EndsInRow-more (λ row comes. not_started row (Replay, bus, events, set, (is, comes))) ends)
-  ends_asked i d e Replay bus events is set (first_done result ran) = replayed result (bus, events, set, ran)
+  ends_asked i d e (Replay start) bus events is set (refused_replay ends) =
+      in_row (EndsInRow-more (λ row comes. not_started row (Replay start, bus, events, set, (is, comes))) ends)
+  ends_asked i d e (Replay start) bus events is set (first_done result ran) = replayed result (start, bus, events, set, ran)
   ends_asked i d e (Trial trial) bus events is set ends = in_row (EndsInRow-more (Comes-trial i d bus events trial is set) ends)
 
   pub ends_world : (i : BusInputs) (d : CommandDisks V) (e : Ending) (job : WorldJob) → Prepares i (Ok (World job)) → AnswersWorld job.command job.bus job.events.items d.states e
@@ -77,6 +79,6 @@ module _ {V : Type 0} where
   ends_world i d e job prepared does = ends_asked i d e job.command job.bus job.events.items prepared.0.0 prepared.1 does
 
 -- where a replay is asked for
-pub does_replay : (job : WorldJob) (d : DiskStates) (e : Ending) → job.command ≡ Replay → AnswersReplay job.bus job.events.items d e
+pub does_replay : (job : WorldJob) (start : Start) (d : DiskStates) (e : Ending) → job.command ≡ Replay start → AnswersReplay start job.bus job.events.items d e
     → AnswersWorld job.command job.bus job.events.items d e
-does_replay job d e is does = subst (λ (c : WorldCommand). AnswersWorld c job.bus job.events.items d e) (sym is) does
+does_replay job start d e is does = subst (λ (c : WorldCommand). AnswersWorld c job.bus job.events.items d e) (sym is) does

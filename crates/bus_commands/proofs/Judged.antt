@@ -2,8 +2,8 @@
 use Rattle.std.proofs.Common.{◌≡◌, ℕ, List, ◌++◌, refl, inr, subst, sym, ◌∙◌}
 use Rattle.secured_pdu.specs.Frame.{IsFrame}
 use Rattle.secured_pdu.specs.Verdict.{Outcome, Verdict}
-use Rattle.text_lines.specs.declared.judges.JudgeLine.{JudgeLine}
-use Rattle.text_lines.specs.Texts.{outcome_text}
+use Rattle.secoc_words.specs.declared.judges.JudgeLine.{JudgeLine}
+use Rattle.secoc_words.specs.Texts.{outcome_text}
 use Rattle.bus_commands.specs.Texts.{TellsJudgement}
 use Rattle.bus_commands.specs.Steps.{Adds}
 

@@ -7,10 +7,12 @@ pub mod Replaying
 pub mod WholeRun
 pub mod WholeTrial
 pub mod WordTexts
+pub mod Naming
 pub mod Asking
 pub mod Preparing
 pub mod Refusing
 pub mod RowFacts
 pub mod Promises
+pub mod OneRun
 pub mod Doing
 pub mod Summed

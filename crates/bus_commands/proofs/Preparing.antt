@@ -1,23 +1,18 @@
 -- The first phase, put together
-use Rattle.std.proofs.Common.{◌≡◌, ◌∙◌, ℕ, List, refl, inl, inr, ap, sym, subst}
-use Rattle.std.specs.Prelude.{Some, Result, Ok, Err, Vec}
+use Rattle.std.proofs.Common.{◌≡◌, ◌∙◌, ℕ, List, refl, ap, sym, subst}
+use Rattle.std.specs.Prelude.{Result, Ok, Err, Vec}
 use Rattle.std.specs.Result.{result_err}
 use Rattle.std.specs.declared.alloc.Global.{Global}
 use Rattle.command_edge.specs.declared.input.InputFault.TheVariants as input
 use Rattle.text_lines.specs.Readings.{Fault}
-use Rattle.answer_rows.specs.Rows.{Row, memory_row}
+use Rattle.answer_rows.specs.Rows.{Row}
 use Rattle.answer_rows.specs.Inputs.{Reading, IsUnread, ReadsWhole}
 use Rattle.answer_rows.specs.InputLaws.{Lacks-whole}
-use Rattle.line_rows.specs.LineRows.{NoLines}
 use Rattle.bus_nodes.specs.Buses.{NamedBus, IsNamedBus}
-use Rattle.text_lines.specs.declared.frames.FrameLine.{FrameLine}
-use Rattle.text_lines.specs.declared.judges.JudgeLine.{JudgeLine}
-use Rattle.text_lines.specs.Frames.{frames_of, judges_of}
-use Rattle.bus_config.specs.declared.fault.ConfigFault.{ConfigFault}
+use Rattle.secoc_words.specs.declared.frames.FrameLine.{FrameLine}
+use Rattle.secoc_words.specs.declared.judges.JudgeLine.{JudgeLine}
+use Rattle.secoc_words.specs.Frames.{frames_of, judges_of}
 use Rattle.bus_config.specs.declared.fault.ConfigFault.TheVariants as config
-use Rattle.bus_config.specs.BusFile.{bus_of}
-use Rattle.bus_config.specs.FaultTexts.{config_fault_text}
-use Rattle.bus_config.specs.Answers.{IsFaultOf}
 use Rattle.bus_machine.specs.declared.events.Event.{Event}
 use Rattle.bus_script.specs.EventForms.{events_of}
 use Rattle.bus_commands.specs.declared.words.Command.TheVariants as command
@@ -29,35 +24,15 @@ use Rattle.bus_commands.specs.declared.job.LineJob.TheVariants.{Frames, Judgemen
 use Rattle.bus_commands.specs.Words.{Asks}
 use Rattle.bus_commands.specs.Tasks.{Task, frame, judge, check, replay}
 use Rattle.bus_commands.specs.Texts.{fault_of}
-use Rattle.bus_commands.specs.Inputs.{BusInputs, ReadsBus, AsksOverBus, SetsTask}
+use Rattle.bus_inputs.specs.BusFileLaws.{LacksLines-read}
+use Rattle.bus_inputs.specs.BusFiles.{ReadsBus}
+use Rattle.bus_commands.specs.Inputs.{BusInputs, AsksOverBus, SetsTask}
 use Rattle.bus_commands.specs.Rows.{ComesOfInputs, no_config, config_refused, no_script, script_refused}
-use Rattle.bus_commands.specs.Steps.{IsConfigRow, HasBus, LacksBus, no_file, file_refused, FindsBus, LacksLines, no_lines, lines_refused, ReadsLines, FindsLines, HasScript, FindsScript, FindsEvents, HasPayload, IsAny, PreparesLines, PreparesWorld}
+use Rattle.bus_inputs.specs.BusFiles.{LacksBus, no_file, file_refused}
+use Rattle.bus_inputs.specs.Scripts.{LacksLines, no_lines, lines_refused}
+use Rattle.bus_commands.specs.Steps.{ReadsLines, FindsLines, HasScript, FindsScript, FindsEvents, HasPayload, IsAny, PreparesLines, PreparesWorld}
 
 -- ---- the bus file
-
--- a fault that has a text is the definition's
-told_fault : (meaning : Result NamedBus ConfigFault) (fault : ConfigFault) (text : List ℕ) → IsFaultOf meaning fault → config_fault_text fault ≡ Some text → meaning ≡ Err fault
-told_fault meaning config.Toml text is told = is
-told_fault meaning config.Root text is told = is
-told_fault meaning (config.Node i) text is told = is
-told_fault meaning (config.Route i j) text is told = is
-told_fault meaning (config.Sender id) text is told = is
-told_fault meaning config.Memory text is told = cc told
-
-pub HasBus-refused : (file : List ℕ) (fault : ConfigFault) (row : Row) → IsFaultOf (bus_of file) fault → IsConfigRow fault row → HasBus file (Err row)
-HasBus-refused file fault row is (inl (text, told, row_is)) = inl (fault, told_fault (bus_of file) fault text is told, inl (text, told, row_is))
-HasBus-refused file fault row is (inr memory) = inr memory
-
-LacksBus-memory : (config : Reading) (file : List ℕ) (row : Row) → ReadsWhole config file → row ≡ memory_row → LacksBus config row
-LacksBus-memory config file row whole memory = subst (LacksBus config) (sym memory) (no_file input.Memory (Lacks-whole config file whole))
-
--- a bus file that was read whole
-pub FindsBus-read : (config : Reading) (file : List ℕ) (result : Result NamedBus Row) → ReadsWhole config file → HasBus file result → FindsBus config result
-FindsBus-read config file (Ok bus) whole is = (file, whole, is)
-FindsBus-read config file (Err row) whole (inl (fault, is, inl (text, told, row_is))) =
-    subst (LacksBus config) (sym row_is) (file_refused fault text (file, whole, is) told)
-FindsBus-read config file (Err row) whole (inl (fault, is, inr memory)) = LacksBus-memory config file row whole memory
-FindsBus-read config file (Err row) whole (inr memory) = LacksBus-memory config file row whole memory
 
 -- there is no bus
 pub Comes-no_bus : (i : BusInputs) (row : Row) → AsksOverBus i.words → LacksBus i.config row → IsUnread i.script → ComesOfInputs i row
@@ -67,13 +42,6 @@ Comes-no_bus i row asks (file_refused fault text is told) unread = config_refuse
 -- ---- the lines
 
 -- lines that were read whole
-pub LacksLines-read : {A : Type 0} (meaning : List ℕ → Result (List A) Fault) (script : Reading) (text : List ℕ) (row : Row) → ReadsWhole script text
-    → NoLines (meaning text) row → LacksLines meaning script row
-LacksLines-read meaning script text row whole (inl (fault, is, row_is)) =
-    subst (LacksLines meaning script) (sym row_is) (lines_refused fault text whole is)
-LacksLines-read meaning script text row whole (inr memory) =
-    subst (LacksLines meaning script) (sym memory) (no_lines input.Memory (Lacks-whole script text whole))
-
 pub FindsLines-read : {A : Type 0} (meaning : List ℕ → Result (List A) Fault) (P : A → Type 0) (script : Reading) (text : List ℕ) (result : Result (Vec A Global) Row)
     → ReadsWhole script text → ReadsLines P (meaning text) result → FindsLines meaning P script result
 FindsLines-read meaning P script text (Ok lines) whole is = ((text, whole, is.0), is.1)
@@ -141,15 +109,15 @@ world_no_bus asked config script row unread lacks = λ words asks.
 
 pub world_no_events : (asked : WorldCommand) (config script : Reading) (bus : NamedBus) (row : Row) → ReadsBus config bus
     → FindsEvents asked bus script (Err row) → PreparesWorld asked config script (Err row)
-world_no_events Replay config script bus row reads lacks = λ words asks.
-    Comes-no_lines (given words config script) (replay bus) (events_of bus.nodes) row (asks, reads) (λ text. refl) lacks
+world_no_events (Replay start) config script bus row reads lacks = λ words asks.
+    Comes-no_lines (given words config script) (replay start bus) (events_of bus.nodes) row (asks, reads) (λ text. refl) lacks
 world_no_events (Trial trial) config script bus row reads lacks = λ words asks.
     subst (ComesOfInputs (given words config script)) (sym lacks.1)
     (no_config input.Memory ((command.World (Trial trial), asks, tt), Lacks-whole config reads.0 reads.1, lacks.0))
 
 pub world_ok : (asked : WorldCommand) (config script : Reading) (bus : NamedBus) (found : Vec Event Global) → IsNamedBus bus → ReadsBus config bus
     → FindsEvents asked bus script (Ok found) → PreparesWorld asked config script (Ok (record { command = asked; bus = bus; events = found }))
-world_ok Replay config script bus found named reads finds = λ words asks.
+world_ok (Replay start) config script bus found named reads finds = λ words asks.
     ((named, finds.1), record { asks = asks; of_bus = reads; has = finds.0 })
 world_ok (Trial trial) config script bus found named reads finds = λ words asks.
     ((named, finds.1.1), record { asks = asks; of_bus = reads; has = (finds.0, finds.1.0) })

@@ -1,5 +1,5 @@
 -- What a command promises that ends in a row of the table, or did the first events of a replay
-use Rattle.std.specs.Prelude.{◌≡◌, ◌≢◌, ◌⊎◌, ℕ, ◌<◌, List, [], None, Some, Option, Result, Ok, Err, codes}
+use Rattle.std.specs.Prelude.{◌≡◌, ◌≢◌, ◌⊎◌, ℕ, ◌<◌, List, [], length, get_or, None, Some, Option, Result, Ok, Err, codes}
 use Rattle.std.specs.Result.{result_err}
 use Rattle.std.proofs.Common.{refl, sym, ap, subst, arith, inl, inr}
 use Rattle.command_edge.specs.declared.input.InputFault.TheVariants as input
@@ -16,23 +16,32 @@ use Rattle.bus_config.specs.FaultTexts.{config_fault_text}
 use Rattle.cell_store.specs.declared.kinds.Kind.TheVariants.{Twin}
 use Rattle.cell_store.specs.declared.kinds.Version.TheVariants.{One}
 use Rattle.bus_nodes.specs.Buses.{NamedBus, IsNamedBus}
-use Rattle.bus_world.specs.declared.start.Start.TheVariants.{Format}
-use Rattle.bus_world.specs.Starts.{HasRoom, FindsRoom}
+use Rattle.bus_world.specs.declared.start.Start.{Start}
+use Rattle.bus_world.specs.declared.start.Start.TheVariants.{Format, Attach}
+use Rattle.bus_world.specs.Starts.{HasRoom, FindsRoom, Started}
 use Rattle.bus_world.specs.declared.start.StartFault.{StartFault}
+use Rattle.bus_inputs.specs.BusFileLaws.{told_fault, told_too_much, bus_or_fault}
 use Rattle.bus_commands.specs.declared.words.Command.TheVariants.{World}
 use Rattle.bus_commands.specs.declared.words.WorldCommand.TheVariants.{Replay, Trial}
 use Rattle.bus_commands.specs.Words.{AsksNothing}
 use Rattle.bus_commands.specs.Tasks.{Task, frame, judge, check, replay}
 use Rattle.bus_commands.specs.Texts.{usage, Prints, fault_of}
-use Rattle.bus_commands.specs.Inputs.{BusInputs, AsksOverBus, AsksWorld, IsConfigFault, NoConfig, NoScript, Over, OverWorld, OffersTask, OffersTrial}
-use Rattle.bus_commands.specs.Replays.{written_status}
-use Rattle.bus_world.specs.StartRows.{StoreCause, LeavesEach}
-use Rattle.bus_commands.specs.StartRows.{CommandDisks, start_fault_text, ComesOfStart, disks_refused, store_refused, start_without_memory, BusHasDisks}
+use Rattle.bus_inputs.specs.BusFiles.{IsConfigFault}
+use Rattle.bus_commands.specs.Inputs.{BusInputs, AsksOverBus, AsksWorld, NoConfig, NoScript, Over, OverWorld, OffersTask, OffersTrial, start_of}
+use Rattle.bus_inputs.specs.Statuses.{unwritten_status}
+use Rattle.bus_world.specs.StartRows.{start_row, StoreCause, LeavesEach}
+use Rattle.bus_world.specs.StartAnswers.{ComesOfStart, disks_refused, store_refused, start_without_memory, BusHasDisks}
+use Rattle.bus_commands.specs.StartRows.{CommandDisks, HoldsNoNode}
 use Rattle.bus_commands.specs.Rows.{ReplaysScript, ComesOfInputs, no_form, no_config, config_refused, no_script, script_refused, done, ComesInRun, without_disks, not_started, tried, tried_without_memory, EndsCommand, in_row, replayed}
 use Rattle.bus_commands.specs.Commands.{PrintsThe, PrintsAnswers, PrintsSummary, LeavesDisks, as_before, by_refused_start, by_replay, by_trial, TaskHasDisks, RunsCommand}
 use Rattle.bus_commands.proofs.Asking.{apart}
-use Rattle.bus_commands.proofs.RowFacts.{row_tells, told_fault, told_too_much, row_asks, row_refuses, OfTask, row_offered, replay_offered, OfTrial, row_tried, calm_world, bus_or_fault}
-use Rattle.bus_commands.proofs.Refusing.{Comes-leaves, start_without_room, start_complete}
+use Rattle.bus_commands.proofs.RowFacts.{row_tells, row_asks, row_refuses, OfTask, row_offered, replay_offered, OfTrial, row_tried, calm_world}
+use Rattle.bus_world.specs.StartAnswerLaws.{Comes-leaves, start_without_room, start_complete}
+use Rattle.bus_commands.proofs.Refusing.{start_in_room}
+use Rattle.world_runs.proofs.DisksBack.{no_node}
+use Rattle.world_runs.proofs.Starting.{no_disk, no_line}
+use Rattle.bus_world.specs.Worlds.{BusState}
+use Rattle.cut_disk.specs.State.{DiskState}
 
 None_not_Some : (o : Option Fault) (fault : Fault) → o ≡ None → o ≡ Some fault → ⊥
 None_not_Some o fault none some = cc
@@ -42,7 +51,7 @@ prints_no_fault : (task : Task) (input text : List ℕ) → Prints task input te
 prints_no_fault frame input text prints = ap (λ r. result_err r) prints.1
 prints_no_fault judge input text prints = ap (λ r. result_err r) prints.1
 prints_no_fault (check bus) input text prints = ap (λ r. result_err r) prints.1
-prints_no_fault (replay bus) input text prints = absurd prints
+prints_no_fault (replay start bus) input text prints = absurd prints
 
 abbrev no_bus : NamedBus
 no_bus = record { nodes = []; kind = Twin; version = One }
@@ -50,8 +59,13 @@ no_bus = record { nodes = []; kind = Twin; version = One }
 -- the bus of a task that has one
 abbrev bus_in_task : Task → NamedBus
 bus_in_task (check bus) = bus
-bus_in_task (replay bus) = bus
+bus_in_task (replay start bus) = bus
 bus_in_task task = no_bus
+
+-- the start of a task that has one
+abbrev start_in_task : Task → Start
+start_in_task (replay start bus) = start
+start_in_task task = Format
 
 high_status : (n : ℕ) → (n ≡ 0) ⊎ ((n ≡ 6) ⊎ (n ≡ 7)) → (n ≡ 0) ⊎ ((n ≡ 6) ⊎ ((n ≡ 7) ⊎ ((n ≡ 9) ⊎ (n ≡ 10))))
 high_status n (inl zero) = inl zero
@@ -67,10 +81,10 @@ not_low : (n : ℕ) → LowStatus n → (n ≡ 0) ⊎ ((n ≡ 6) ⊎ ((n ≡ 7) 
 not_low n low high = omega (arith, low, high)
 
 -- the status of a bus that doesn't start
-start_status : {V : Type 0} (i : BusInputs) (d : CommandDisks V) (e : Ending) (bus : NamedBus) (row : Row) → ComesOfStart bus d.states row → (row.status ≡ 0) ⊎ ((row.status ≡ 6) ⊎ ((row.status ≡ 7) ⊎ ((row.status ≡ 9) ⊎ (row.status ≡ 10))))
-start_status i d e bus row (disks_refused fault text finds same is) = inr (inr (inr (inl refl)))
-start_status i d e bus row (store_refused fault text room cause left is) = inr (inr (inr (inr refl)))
-start_status i d e bus row (start_without_memory fault refused) = inr (inr (inl refl))
+start_status : {V : Type 0} (i : BusInputs) (d : CommandDisks V) (e : Ending) (start : Start) (bus : NamedBus) (row : Row) → ComesOfStart start bus d.states row → (row.status ≡ 0) ⊎ ((row.status ≡ 6) ⊎ ((row.status ≡ 7) ⊎ ((row.status ≡ 9) ⊎ (row.status ≡ 10))))
+start_status i d e start bus row (disks_refused fault finds same) = inr (inr (inr (inl refl)))
+start_status i d e start bus row (store_refused fault room cause left) = inr (inr (inr (inr refl)))
+start_status i d e start bus row (start_without_memory fault refused) = inr (inr (inl refl))
 
 row_disks : {V : Type 0} (i : BusInputs) (d : CommandDisks V) (e : Ending) (row : Row) → ComesInRun i d row → ¬ AsksWorld i.words → d.new ≡ d.old
 row_disks i d e row (without_disks _ comes same) lacks = same
@@ -80,7 +94,7 @@ row_disks i d e row (tried_without_memory summary (trial, bus, events, set, ran)
 
 row_unused : {V : Type 0} (i : BusInputs) (d : CommandDisks V) (e : Ending) (row : Row) → ComesInRun i d row → LowStatus row.status → d.new ≡ d.old
 row_unused i d e row (without_disks _ comes same) low = same
-row_unused i d e row (not_started _ (c, bus, events, set, comes)) low = absurd (not_low row.status low (start_status i d e bus row comes.1))
+row_unused i d e row (not_started _ (c, bus, events, set, comes)) low = absurd (not_low row.status low (start_status i d e (start_of c) bus row comes.1))
 row_unused i d e row (tried summary (trial, bus, events, set, ran)) low = absurd (not_low 0 low (inl refl))
 row_unused i d e row (tried_without_memory summary (trial, bus, events, set, ran)) low = absurd (not_low 7 low (inr (inr (inl refl))))
 
@@ -92,7 +106,7 @@ unused i d e ends low = elim ends.told [
 
 row_leaves : {V : Type 0} (i : BusInputs) (d : CommandDisks V) (e : Ending) (row : Row) → ComesInRun i d row → LeavesDisks i d e
 row_leaves i d e row (without_disks _ comes same) = as_before same
-row_leaves i d e row (not_started _ (c, bus, events, set, comes)) = by_refused_start (c, bus, events, set, Comes-leaves bus d.states row comes.1)
+row_leaves i d e row (not_started _ (c, bus, events, set, comes)) = by_refused_start (c, bus, events, set, Comes-leaves (start_of c) bus d.states row comes.1)
 row_leaves i d e row (tried summary ran) = by_trial summary ran
 row_leaves i d e row (tried_without_memory summary ran) = by_trial summary ran
 
@@ -203,99 +217,99 @@ inputs_not i d e row (done text of) = (omega arith, λ six. omega (arith, six))
 row_2 : {V : Type 0} (i : BusInputs) (d : CommandDisks V) (e : Ending) (row : Row) → ComesInRun i d row → row.status ≡ 2 → PrintsWhole e row.text
     → AsksNothing i.words × IsUnread i.config × IsUnread i.script × PrintsWhole e usage
 row_2 i d e row (without_disks _ comes same) is well = inputs_2 i d e row comes is well
-row_2 i d e row (not_started _ (c, bus, events, set, comes)) is well = absurd (let no : ⊥ = omega (arith, start_status i d e bus row comes.1, is) in no)
+row_2 i d e row (not_started _ (c, bus, events, set, comes)) is well = absurd (let no : ⊥ = omega (arith, start_status i d e (start_of c) bus row comes.1, is) in no)
 row_2 i d e row (tried summary ran) is well = absurd (let no : ⊥ = omega (arith, is) in no)
 row_2 i d e row (tried_without_memory summary ran) is well = absurd (let no : ⊥ = omega (arith, is) in no)
 
 row_3 : {V : Type 0} (i : BusInputs) (d : CommandDisks V) (e : Ending) (row : Row) → ComesInRun i d row → row.status ≡ 3 → PrintsWhole e row.text
     → AsksOverBus i.words × IsUnread i.script × ((fault : ConfigFault) × IsConfigFault i.config fault × PrintsThe e (config_fault_text fault))
 row_3 i d e row (without_disks _ comes same) is well = inputs_3 i d e row comes is well
-row_3 i d e row (not_started _ (c, bus, events, set, comes)) is well = absurd (let no : ⊥ = omega (arith, start_status i d e bus row comes.1, is) in no)
+row_3 i d e row (not_started _ (c, bus, events, set, comes)) is well = absurd (let no : ⊥ = omega (arith, start_status i d e (start_of c) bus row comes.1, is) in no)
 row_3 i d e row (tried summary ran) is well = absurd (let no : ⊥ = omega (arith, is) in no)
 row_3 i d e row (tried_without_memory summary ran) is well = absurd (let no : ⊥ = omega (arith, is) in no)
 
 row_4 : {V : Type 0} (i : BusInputs) (d : CommandDisks V) (e : Ending) (row : Row) → ComesInRun i d row → row.status ≡ 4 → PrintsWhole e row.text
     → Over i (λ task input. (fault : Fault) × (fault_of task input ≡ Some fault) × PrintsWhole e (fault_text_of fault))
 row_4 i d e row (without_disks _ comes same) is well = inputs_4 i d e row comes is well
-row_4 i d e row (not_started _ (c, bus, events, set, comes)) is well = absurd (let no : ⊥ = omega (arith, start_status i d e bus row comes.1, is) in no)
+row_4 i d e row (not_started _ (c, bus, events, set, comes)) is well = absurd (let no : ⊥ = omega (arith, start_status i d e (start_of c) bus row comes.1, is) in no)
 row_4 i d e row (tried summary ran) is well = absurd (let no : ⊥ = omega (arith, is) in no)
 row_4 i d e row (tried_without_memory summary ran) is well = absurd (let no : ⊥ = omega (arith, is) in no)
 
 row_5 : {V : Type 0} (i : BusInputs) (d : CommandDisks V) (e : Ending) (row : Row) → ComesInRun i d row → row.status ≡ 5 → PrintsWhole e row.text
     → (NoConfig i input.ReadFault ⊎ NoScript i input.ReadFault) × PrintsWhole e (codes "read fault\n")
 row_5 i d e row (without_disks _ comes same) is well = inputs_5 i d e row comes is well
-row_5 i d e row (not_started _ (c, bus, events, set, comes)) is well = absurd (let no : ⊥ = omega (arith, start_status i d e bus row comes.1, is) in no)
+row_5 i d e row (not_started _ (c, bus, events, set, comes)) is well = absurd (let no : ⊥ = omega (arith, start_status i d e (start_of c) bus row comes.1, is) in no)
 row_5 i d e row (tried summary ran) is well = absurd (let no : ⊥ = omega (arith, is) in no)
 row_5 i d e row (tried_without_memory summary ran) is well = absurd (let no : ⊥ = omega (arith, is) in no)
 
 row_8 : {V : Type 0} (i : BusInputs) (d : CommandDisks V) (e : Ending) (row : Row) → ComesInRun i d row → row.status ≡ 8 → PrintsWhole e row.text
     → (NoConfig i input.TooLong ⊎ NoScript i input.TooLong) × PrintsWhole e (codes "input too long\n")
 row_8 i d e row (without_disks _ comes same) is well = inputs_8 i d e row comes is well
-row_8 i d e row (not_started _ (c, bus, events, set, comes)) is well = absurd (let no : ⊥ = omega (arith, start_status i d e bus row comes.1, is) in no)
+row_8 i d e row (not_started _ (c, bus, events, set, comes)) is well = absurd (let no : ⊥ = omega (arith, start_status i d e (start_of c) bus row comes.1, is) in no)
 row_8 i d e row (tried summary ran) is well = absurd (let no : ⊥ = omega (arith, is) in no)
 row_8 i d e row (tried_without_memory summary ran) is well = absurd (let no : ⊥ = omega (arith, is) in no)
 
 -- a bus that doesn't start
 
-start_not_0 : {V : Type 0} (i : BusInputs) (d : CommandDisks V) (e : Ending) (bus : NamedBus) (row : Row) → ComesOfStart bus d.states row → row.status ≡ 0 → ⊥
-start_not_0 i d e bus row (disks_refused fault text finds same told) is = omega (arith, is)
-start_not_0 i d e bus row (store_refused fault text room cause left told) is = omega (arith, is)
-start_not_0 i d e bus row (start_without_memory fault refused) is = omega (arith, is)
+start_not_0 : {V : Type 0} (i : BusInputs) (d : CommandDisks V) (e : Ending) (start : Start) (bus : NamedBus) (row : Row) → ComesOfStart start bus d.states row → row.status ≡ 0 → ⊥
+start_not_0 i d e start bus row (disks_refused fault finds same) is = omega (arith, is)
+start_not_0 i d e start bus row (store_refused fault room cause left) is = omega (arith, is)
+start_not_0 i d e start bus row (start_without_memory fault refused) is = omega (arith, is)
 
-start_not_6 : {V : Type 0} (i : BusInputs) (d : CommandDisks V) (e : Ending) (bus : NamedBus) (row : Row) → ComesOfStart bus d.states row → row.status ≢ 6
-start_not_6 i d e bus row (disks_refused fault text finds same told) is = omega (arith, is)
-start_not_6 i d e bus row (store_refused fault text room cause left told) is = omega (arith, is)
-start_not_6 i d e bus row (start_without_memory fault refused) is = omega (arith, is)
+start_not_6 : {V : Type 0} (i : BusInputs) (d : CommandDisks V) (e : Ending) (start : Start) (bus : NamedBus) (row : Row) → ComesOfStart start bus d.states row → row.status ≢ 6
+start_not_6 i d e start bus row (disks_refused fault finds same) is = omega (arith, is)
+start_not_6 i d e start bus row (store_refused fault room cause left) is = omega (arith, is)
+start_not_6 i d e start bus row (start_without_memory fault refused) is = omega (arith, is)
 
-start_9 : {V : Type 0} (i : BusInputs) (d : CommandDisks V) (e : Ending) (bus : NamedBus) (row : Row) → ComesOfStart bus d.states row → row.status ≡ 9 → PrintsWhole e row.text
-    → (d.states.after ≡ d.states.before) × ((fault : StartFault) × FindsRoom bus d.states.before fault × PrintsThe e (start_fault_text fault))
-start_9 i d e bus row (disks_refused fault text finds same told) is well = (same, (fault, finds, (text, told, well)))
-start_9 i d e bus row (store_refused fault text room cause left told) is well = absurd (let no : ⊥ = omega (arith, is) in no)
-start_9 i d e bus row (start_without_memory fault refused) is well = absurd (let no : ⊥ = omega (arith, is) in no)
+start_9 : {V : Type 0} (i : BusInputs) (d : CommandDisks V) (e : Ending) (start : Start) (bus : NamedBus) (row : Row) → ComesOfStart start bus d.states row → row.status ≡ 9 → PrintsWhole e row.text
+    → (d.states.after ≡ d.states.before) × ((fault : StartFault) × FindsRoom bus d.states.before fault × PrintsWhole e (start_row fault).text)
+start_9 i d e start bus row (disks_refused fault finds same) is well = (same, (fault, finds, well))
+start_9 i d e start bus row (store_refused fault room cause left) is well = absurd (let no : ⊥ = omega (arith, is) in no)
+start_9 i d e start bus row (start_without_memory fault refused) is well = absurd (let no : ⊥ = omega (arith, is) in no)
 
-start_10 : {V : Type 0} (i : BusInputs) (d : CommandDisks V) (e : Ending) (bus : NamedBus) (row : Row) → ComesOfStart bus d.states row → row.status ≡ 10 → PrintsWhole e row.text
-    → LeavesEach Format bus d.states.before d.states.after × ((fault : StartFault) × StoreCause Format bus d.states.before d.states.after fault × PrintsThe e (start_fault_text fault))
-start_10 i d e bus row (disks_refused fault text finds same told) is well = absurd (let no : ⊥ = omega (arith, is) in no)
-start_10 i d e bus row (store_refused fault text room cause left told) is well = (left, (fault, cause, (text, told, well)))
-start_10 i d e bus row (start_without_memory fault refused) is well = absurd (let no : ⊥ = omega (arith, is) in no)
+start_10 : {V : Type 0} (i : BusInputs) (d : CommandDisks V) (e : Ending) (start : Start) (bus : NamedBus) (row : Row) → ComesOfStart start bus d.states row → row.status ≡ 10 → PrintsWhole e row.text
+    → LeavesEach start bus d.states.before d.states.after × ((fault : StartFault) × StoreCause start bus d.states.before d.states.after fault × PrintsWhole e (start_row fault).text)
+start_10 i d e start bus row (disks_refused fault finds same) is well = absurd (let no : ⊥ = omega (arith, is) in no)
+start_10 i d e start bus row (store_refused fault room cause left) is well = (left, (fault, cause, well))
+start_10 i d e start bus row (start_without_memory fault refused) is well = absurd (let no : ⊥ = omega (arith, is) in no)
 
-start_7 : {V : Type 0} (i : BusInputs) (d : CommandDisks V) (e : Ending) (bus : NamedBus) (row : Row) → ComesOfStart bus d.states row → row.status ≡ 7 → PrintsWhole e row.text → ComesOfStart bus d.states memory_row × PrintsWhole e []
-start_7 i d e bus row (disks_refused fault text finds same told) is well = absurd (let no : ⊥ = omega (arith, is) in no)
-start_7 i d e bus row (store_refused fault text room cause left told) is well = absurd (let no : ⊥ = omega (arith, is) in no)
-start_7 i d e bus row (start_without_memory fault refused) is well = (start_without_memory fault refused, well)
+start_7 : {V : Type 0} (i : BusInputs) (d : CommandDisks V) (e : Ending) (start : Start) (bus : NamedBus) (row : Row) → ComesOfStart start bus d.states row → row.status ≡ 7 → PrintsWhole e row.text → ComesOfStart start bus d.states memory_row × PrintsWhole e []
+start_7 i d e start bus row (disks_refused fault finds same) is well = absurd (let no : ⊥ = omega (arith, is) in no)
+start_7 i d e start bus row (store_refused fault room cause left) is well = absurd (let no : ⊥ = omega (arith, is) in no)
+start_7 i d e start bus row (start_without_memory fault refused) is well = (start_without_memory fault refused, well)
 
 row_0 : {V : Type 0} (i : BusInputs) (d : CommandDisks V) (e : Ending) (row : Row) → ComesInRun i d row → row.status ≡ 0 → PrintsWhole e row.text
     → PrintsAnswers i e ⊎ (ReplaysScript i d.states e (Ok tt) ⊎ PrintsSummary i d.states e)
 row_0 i d e row (without_disks _ comes same) is well = inl (inputs_0 i d e row comes is well)
-row_0 i d e row (not_started _ (c, bus, events, set, comes)) is well = absurd (start_not_0 i d e bus row comes.1 is)
+row_0 i d e row (not_started _ (c, bus, events, set, comes)) is well = absurd (start_not_0 i d e (start_of c) bus row comes.1 is)
 row_0 i d e row (tried summary ran) is well = inr (inr (summary, ran, well))
 row_0 i d e row (tried_without_memory summary ran) is well = absurd (let no : ⊥ = omega (arith, is) in no)
 
 row_7 : {V : Type 0} (i : BusInputs) (d : CommandDisks V) (e : Ending) (row : Row) → ComesInRun i d row → row.status ≡ 7 → PrintsWhole e row.text → ComesInRun i d memory_row × PrintsWhole e []
 row_7 i d e row (without_disks _ comes same) is well = let at = inputs_7 i d e row comes is well in (without_disks memory_row at.0 same, at.1)
 row_7 i d e row (not_started _ (c, bus, events, set, comes)) is well =
-    let at = start_7 i d e bus row comes.1 is well in
+    let at = start_7 i d e (start_of c) bus row comes.1 is well in
     (not_started memory_row (c, bus, events, set, (comes.0, at.0)), at.1)
 row_7 i d e row (tried summary ran) is well = absurd (let no : ⊥ = omega (arith, is) in no)
 row_7 i d e row (tried_without_memory summary ran) is well = (tried_without_memory summary ran, well)
 
 row_9 : {V : Type 0} (i : BusInputs) (d : CommandDisks V) (e : Ending) (row : Row) → ComesInRun i d row → row.status ≡ 9 → PrintsWhole e row.text
-    → OverWorld i (λ bus events. IsNamedBus bus × (d.states.after ≡ d.states.before) × ((fault : StartFault) × FindsRoom bus d.states.before fault × PrintsThe e (start_fault_text fault)))
+    → OverWorld i (λ start bus events. IsNamedBus bus × (d.states.after ≡ d.states.before) × ((fault : StartFault) × FindsRoom bus d.states.before fault × PrintsWhole e (start_row fault).text))
 row_9 i d e row (without_disks _ comes same) is well = absurd (let no : ⊥ = omega (arith, (inputs_not i d e row comes).0, is) in no)
-row_9 i d e row (not_started _ (c, bus, events, set, comes)) is well = let at = start_9 i d e bus row comes.1 is well in (c, bus, events, set, (comes.0, at.0, at.1))
+row_9 i d e row (not_started _ (c, bus, events, set, comes)) is well = let at = start_9 i d e (start_of c) bus row comes.1 is well in (c, bus, events, set, (comes.0, at.0, at.1))
 row_9 i d e row (tried summary ran) is well = absurd (let no : ⊥ = omega (arith, is) in no)
 row_9 i d e row (tried_without_memory summary ran) is well = absurd (let no : ⊥ = omega (arith, is) in no)
 
 row_10 : {V : Type 0} (i : BusInputs) (d : CommandDisks V) (e : Ending) (row : Row) → ComesInRun i d row → row.status ≡ 10 → PrintsWhole e row.text
-    → OverWorld i (λ bus events. LeavesEach Format bus d.states.before d.states.after × ((fault : StartFault) × StoreCause Format bus d.states.before d.states.after fault × PrintsThe e (start_fault_text fault)))
+    → OverWorld i (λ start bus events. LeavesEach start bus d.states.before d.states.after × ((fault : StartFault) × StoreCause start bus d.states.before d.states.after fault × PrintsWhole e (start_row fault).text))
 row_10 i d e row (without_disks _ comes same) is well = absurd (let no : ⊥ = omega (arith, (inputs_not i d e row comes).0, is) in no)
-row_10 i d e row (not_started _ (c, bus, events, set, comes)) is well = (c, bus, events, set, start_10 i d e bus row comes.1 is well)
+row_10 i d e row (not_started _ (c, bus, events, set, comes)) is well = (c, bus, events, set, start_10 i d e (start_of c) bus row comes.1 is well)
 row_10 i d e row (tried summary ran) is well = absurd (let no : ⊥ = omega (arith, is) in no)
 row_10 i d e row (tried_without_memory summary ran) is well = absurd (let no : ⊥ = omega (arith, is) in no)
 
 row_not_6 : {V : Type 0} (i : BusInputs) (d : CommandDisks V) (e : Ending) (row : Row) → ComesInRun i d row → row.status ≢ 6
 row_not_6 i d e row (without_disks _ comes same) = (inputs_not i d e row comes).1
-row_not_6 i d e row (not_started _ (c, bus, events, set, comes)) = start_not_6 i d e bus row comes.1
+row_not_6 i d e row (not_started _ (c, bus, events, set, comes)) = start_not_6 i d e (start_of c) bus row comes.1
 row_not_6 i d e row (tried summary ran) = λ six. omega (arith, six)
 row_not_6 i d e row (tried_without_memory summary ran) = λ six. omega (arith, six)
 
@@ -305,90 +319,122 @@ refused_of : {V : Type 0} (i : BusInputs) (d : CommandDisks V) (e : Ending) (row
 refused_of i d e row task input fault is (inl seven) = inr seven
 refused_of i d e row task input fault is (inr (inl (other, four, found))) = inl four
 refused_of i d e row task input fault is (inr (inr (inl (text, zero, prints)))) = absurd (None_not_Some (fault_of task input) fault (prints_no_fault task input text prints) is)
-refused_of i d e row task input fault is (inr (inr (inr (bus, replays, none, comes)))) = absurd (None_not_Some (fault_of task input) fault none is)
+refused_of i d e row task input fault is (inr (inr (inr (start, bus, replays, none, comes)))) = absurd (None_not_Some (fault_of task input) fault none is)
 
 complete_of : {V : Type 0} (i : BusInputs) (d : CommandDisks V) (e : Ending) (row : Row) (task : Task) (input : List ℕ) → fault_of task input ≡ None → TaskHasDisks task d.states → OfTask d.states row task input → (row.status ≡ 0) ⊎ (row.status ≡ 7)
 complete_of i d e row task input none able (inl seven) = inr seven
 complete_of i d e row task input none able (inr (inl (fault, four, found))) = absurd (None_not_Some (fault_of task input) fault none found)
 complete_of i d e row task input none able (inr (inr (inl (text, zero, prints)))) = inl zero
-complete_of i d e row task input none able (inr (inr (inr (bus, replays, also, comes)))) =
-    inr (start_complete bus d.states row comes (subst (λ (t : Task). TaskHasDisks t d.states) replays able))
+complete_of i d e row task input none able (inr (inr (inr (start, bus, replays, also, comes)))) =
+    inr (start_complete start bus d.states row comes (subst (λ (t : Task). TaskHasDisks t d.states) replays able))
 
-without_room_of : {V : Type 0} (i : BusInputs) (d : CommandDisks V) (e : Ending) (row : Row) (bus : NamedBus) (input : List ℕ) → fault_of (replay bus) input ≡ None → ¬ HasRoom bus d.states.before → OfTask d.states row (replay bus) input
+without_room_of : {V : Type 0} (i : BusInputs) (d : CommandDisks V) (e : Ending) (row : Row) (start : Start) (bus : NamedBus) (input : List ℕ) → fault_of (replay start bus) input ≡ None → ¬ HasRoom bus d.states.before → OfTask d.states row (replay start bus) input
     → (row.status ≡ 9) ⊎ (row.status ≡ 7)
-without_room_of i d e row bus input none lacks (inl seven) = inr seven
-without_room_of i d e row bus input none lacks (inr (inl (fault, four, found))) = absurd (None_not_Some (fault_of (replay bus) input) fault none found)
-without_room_of i d e row bus input none lacks (inr (inr (inl (text, zero, prints)))) = absurd prints
-without_room_of i d e row bus input none lacks (inr (inr (inr (over, replays, also, comes)))) =
+without_room_of i d e row start bus input none lacks (inl seven) = inr seven
+without_room_of i d e row start bus input none lacks (inr (inl (fault, four, found))) = absurd (None_not_Some (fault_of (replay start bus) input) fault none found)
+without_room_of i d e row start bus input none lacks (inr (inr (inl (text, zero, prints)))) = absurd prints
+without_room_of i d e row start bus input none lacks (inr (inr (inr (how, over, replays, also, comes)))) =
     let one : bus ≡ over = ap bus_in_task replays in
-    start_without_room bus d.states row (subst (λ (b : NamedBus). ComesOfStart b d.states row) (sym one) comes) lacks
+    start_without_room how bus d.states row (subst (λ (b : NamedBus). ComesOfStart how b d.states row) (sym one) comes) lacks
 
-trial_complete_of : {V : Type 0} (i : BusInputs) (d : CommandDisks V) (e : Ending) (row : Row) (bus : NamedBus) → BusHasDisks bus d.states → OfTrial d.states row bus → (row.status ≡ 0) ⊎ (row.status ≡ 7)
+-- with room, a bus of whose disks one is no node's doesn't start
+in_room_of : {V : Type 0} (i : BusInputs) (d : CommandDisks V) (e : Ending) (row : Row) (start : Start) (bus : NamedBus) (input : List ℕ) → fault_of (replay start bus) input ≡ None
+    → HasRoom bus d.states.before → OfTask d.states row (replay start bus) input → (row.status ≡ 10) ⊎ (row.status ≡ 7)
+in_room_of i d e row start bus input none room (inl seven) = inr seven
+in_room_of i d e row start bus input none room (inr (inl (fault, four, found))) = absurd (None_not_Some (fault_of (replay start bus) input) fault none found)
+in_room_of i d e row start bus input none room (inr (inr (inl (text, zero, prints)))) = absurd prints
+in_room_of i d e row start bus input none room (inr (inr (inr (how, over, replays, also, comes)))) =
+    let one : bus ≡ over = ap bus_in_task replays in
+    start_in_room how bus d.states row (subst (λ (b : NamedBus). ComesOfStart how b d.states row) (sym one) comes) room
+
+trial_complete_of : {V : Type 0} (i : BusInputs) (d : CommandDisks V) (e : Ending) (row : Row) (bus : NamedBus) → BusHasDisks Format bus d.states → OfTrial d.states row bus → (row.status ≡ 0) ⊎ (row.status ≡ 7)
 trial_complete_of i d e row bus able (inl seven) = inr seven
-trial_complete_of i d e row bus able (inr (inl comes)) = inr (start_complete bus d.states row comes able)
+trial_complete_of i d e row bus able (inr (inl comes)) = inr (start_complete Format bus d.states row comes able)
 trial_complete_of i d e row bus able (inr (inr (zero, room))) = inl zero
 
 trial_without_room_of : {V : Type 0} (i : BusInputs) (d : CommandDisks V) (e : Ending) (row : Row) (bus : NamedBus) → ¬ HasRoom bus d.states.before → OfTrial d.states row bus → (row.status ≡ 9) ⊎ (row.status ≡ 7)
 trial_without_room_of i d e row bus lacks (inl seven) = inr seven
-trial_without_room_of i d e row bus lacks (inr (inl comes)) = start_without_room bus d.states row comes lacks
+trial_without_room_of i d e row bus lacks (inr (inl comes)) = start_without_room Format bus d.states row comes lacks
 trial_without_room_of i d e row bus lacks (inr (inr (zero, room))) = absurd (lacks room)
 
 -- ---- where it did the first events of a replay
 
-done_status : {V : Type 0} (i : BusInputs) (d : CommandDisks V) (e : Ending) → (result : Result (Unit {0}) Unwritten) → e.status ≡ written_status result → (e.status ≡ 0) ⊎ ((e.status ≡ 6) ⊎ (e.status ≡ 7))
+done_status : {V : Type 0} (i : BusInputs) (d : CommandDisks V) (e : Ending) → (result : Result (Unit {0}) Unwritten) → e.status ≡ unwritten_status result → (e.status ≡ 0) ⊎ ((e.status ≡ 6) ⊎ (e.status ≡ 7))
 done_status i d e (Ok _) is = inl is
 done_status i d e (Err unwritten.SinkFailed) is = inr (inl is)
 done_status i d e (Err unwritten.Memory) is = inr (inr is)
 
 status_of : {V : Type 0} (i : BusInputs) (d : CommandDisks V) (e : Ending) → (result : Result (Unit {0}) Unwritten) → ReplaysScript i d.states e result → (e.status ≡ 0) ⊎ ((e.status ≡ 6) ⊎ (e.status ≡ 7))
-status_of i d e result over = done_status i d e result over.3.status_is
+status_of i d e result over = done_status i d e result over.4.status_is
 
 done_0 : {V : Type 0} (i : BusInputs) (d : CommandDisks V) (e : Ending) → (result : Result (Unit {0}) Unwritten) → ReplaysScript i d.states e result → e.status ≡ 0 → ReplaysScript i d.states e (Ok tt)
 done_0 i d e (Ok tt) over is = over
-done_0 i d e (Err unwritten.SinkFailed) over is = absurd (let no : ⊥ = omega (arith, over.3.status_is, is) in no)
-done_0 i d e (Err unwritten.Memory) over is = absurd (let no : ⊥ = omega (arith, over.3.status_is, is) in no)
+done_0 i d e (Err unwritten.SinkFailed) over is = absurd (let no : ⊥ = omega (arith, over.4.status_is, is) in no)
+done_0 i d e (Err unwritten.Memory) over is = absurd (let no : ⊥ = omega (arith, over.4.status_is, is) in no)
 
 done_6 : {V : Type 0} (i : BusInputs) (d : CommandDisks V) (e : Ending) → (result : Result (Unit {0}) Unwritten) → ReplaysScript i d.states e result → e.status ≡ 6 → SinkFailed e × ReplaysScript i d.states e (Err unwritten.SinkFailed)
-done_6 i d e (Ok _) over is = absurd (let no : ⊥ = omega (arith, over.3.status_is, is) in no)
-done_6 i d e (Err unwritten.SinkFailed) over is = (over.3.ran.printed.holds.written.0, over)
-done_6 i d e (Err unwritten.Memory) over is = absurd (let no : ⊥ = omega (arith, over.3.status_is, is) in no)
+done_6 i d e (Ok _) over is = absurd (let no : ⊥ = omega (arith, over.4.status_is, is) in no)
+done_6 i d e (Err unwritten.SinkFailed) over is = (over.4.ran.printed.holds.written.0, over)
+done_6 i d e (Err unwritten.Memory) over is = absurd (let no : ⊥ = omega (arith, over.4.status_is, is) in no)
 
 done_7 : {V : Type 0} (i : BusInputs) (d : CommandDisks V) (e : Ending) → (result : Result (Unit {0}) Unwritten) → ReplaysScript i d.states e result → e.status ≡ 7 → ReplaysScript i d.states e (Err unwritten.Memory)
-done_7 i d e (Ok _) over is = absurd (let no : ⊥ = omega (arith, over.3.status_is, is) in no)
-done_7 i d e (Err unwritten.SinkFailed) over is = absurd (let no : ⊥ = omega (arith, over.3.status_is, is) in no)
+done_7 i d e (Ok _) over is = absurd (let no : ⊥ = omega (arith, over.4.status_is, is) in no)
+done_7 i d e (Err unwritten.SinkFailed) over is = absurd (let no : ⊥ = omega (arith, over.4.status_is, is) in no)
 done_7 i d e (Err unwritten.Memory) over is = over
 
 done_writes : {V : Type 0} (i : BusInputs) (d : CommandDisks V) (e : Ending) → (result : Result (Unit {0}) Unwritten) → ReplaysScript i d.states e result → CountsWriteFault e → e.status ≡ 6
-done_writes i d e (Ok _) over rose = absurd (let no : ⊥ = omega (arith, over.3.ran.printed.holds.1.0, rose) in no)
-done_writes i d e (Err unwritten.SinkFailed) over rose = over.3.status_is
-done_writes i d e (Err unwritten.Memory) over rose = absurd (let no : ⊥ = omega (arith, over.3.ran.printed.holds.written.0, rose) in no)
+done_writes i d e (Ok _) over rose = absurd (let no : ⊥ = omega (arith, over.4.ran.printed.holds.1.0, rose) in no)
+done_writes i d e (Err unwritten.SinkFailed) over rose = over.4.status_is
+done_writes i d e (Err unwritten.Memory) over rose = absurd (let no : ⊥ = omega (arith, over.4.ran.printed.holds.written.0, rose) in no)
 
 done_well : {V : Type 0} (i : BusInputs) (d : CommandDisks V) (e : Ending) → (result : Result (Unit {0}) Unwritten) → ReplaysScript i d.states e result → ¬ SinkFailed e → (e.status ≡ 0) ⊎ (e.status ≡ 7)
-done_well i d e (Ok _) over well = inl over.3.status_is
-done_well i d e (Err unwritten.SinkFailed) over well = absurd (well over.3.ran.printed.holds.written.0)
-done_well i d e (Err unwritten.Memory) over well = inr over.3.status_is
+done_well i d e (Ok _) over well = inl over.4.status_is
+done_well i d e (Err unwritten.SinkFailed) over well = absurd (well over.4.ran.printed.holds.written.0)
+done_well i d e (Err unwritten.Memory) over well = inr over.4.status_is
 
 -- no count of a source rose in it
 replay_calm : {V : Type 0} (i : BusInputs) (d : CommandDisks V) (e : Ending) → (result : Result (Unit {0}) Unwritten) → ReplaysScript i d.states e result → CountsFault i.config ⊎ CountsFault i.script → ⊥
-replay_calm i d e result over (inl rose) = let calm = calm_world i Replay over.0 over.1 over.2 in omega (arith, calm.0.0, rose)
-replay_calm i d e result over (inr rose) = let calm = calm_world i Replay over.0 over.1 over.2 in omega (arith, calm.1.0, rose)
+replay_calm i d e result over (inl rose) = let calm = calm_world i (Replay over.0) over.1 over.2 over.3 in omega (arith, calm.0.0, rose)
+replay_calm i d e result over (inr rose) = let calm = calm_world i (Replay over.0) over.1 over.2 over.3 in omega (arith, calm.1.0, rose)
 
 replay_within : {V : Type 0} (i : BusInputs) (d : CommandDisks V) (e : Ending) → (result : Result (Unit {0}) Unwritten) → ReplaysScript i d.states e result → CountsTooMuch i.config ⊎ CountsTooMuch i.script → ⊥
-replay_within i d e result over (inl more) = let calm = calm_world i Replay over.0 over.1 over.2 in omega (arith, calm.0.1 more.0, more.1)
-replay_within i d e result over (inr more) = let calm = calm_world i Replay over.0 over.1 over.2 in omega (arith, calm.1.1 more.0, more.1)
+replay_within i d e result over (inl more) = let calm = calm_world i (Replay over.0) over.1 over.2 over.3 in omega (arith, calm.0.1 more.0, more.1)
+replay_within i d e result over (inr more) = let calm = calm_world i (Replay over.0) over.1 over.2 over.3 in omega (arith, calm.1.1 more.0, more.1)
 
 replay_refused : {V : Type 0} (i : BusInputs) (d : CommandDisks V) (e : Ending) {A : Type 0} (result : Result (Unit {0}) Unwritten) → ReplaysScript i d.states e result → (task : Task) (input : List ℕ) (fault : Fault) → OffersTask i task → Offers i.script input
     → fault_of task input ≡ Some fault → A
 replay_refused i d e result over task input fault offers lines is =
-    absurd (None_not_Some (fault_of task input) fault (replay_offered i over.0 over.1 task input over.2 offers lines).1 is)
+    absurd (None_not_Some (fault_of task input) fault (replay_offered i over.0 over.1 over.2 task input over.3 offers lines).1 is)
 
-replay_room : {V : Type 0} (i : BusInputs) (d : CommandDisks V) (e : Ending) → (result : Result (Unit {0}) Unwritten) → ReplaysScript i d.states e result → (bus : NamedBus) (input : List ℕ) → OffersTask i (replay bus) → Offers i.script input → HasRoom bus d.states.before
-replay_room i d e result over bus input offers lines =
-    let one : bus ≡ over.0 = ap bus_in_task (replay_offered i over.0 over.1 (replay bus) input over.2 offers lines).0 in
-    subst (λ (b : NamedBus). HasRoom b d.states.before) (sym one) over.3.ran.started.room
+-- what was started is the replay that is offered
+replay_started : {V : Type 0} (i : BusInputs) (d : CommandDisks V) (e : Ending) → (result : Result (Unit {0}) Unwritten) → ReplaysScript i d.states e result
+    → (start : Start) (bus : NamedBus) (input : List ℕ) → OffersTask i (replay start bus) → Offers i.script input
+    → (most : ℕ) × (world : BusState) × Started start bus most d.states.before world
+replay_started i d e result over start bus input offers lines =
+    let one = replay_offered i over.0 over.1 over.2 (replay start bus) input over.3 offers lines in (
+      length over.2,
+      over.4.ran.start,
+      subst (λ (t : Task). Started (start_in_task t) (bus_in_task t) (length over.2) d.states.before over.4.ran.start) (sym one.0) over.4.ran.started,
+    )
+
+replay_room : {V : Type 0} (i : BusInputs) (d : CommandDisks V) (e : Ending) → (result : Result (Unit {0}) Unwritten) → ReplaysScript i d.states e result → (start : Start) (bus : NamedBus) (input : List ℕ) → OffersTask i (replay start bus) → Offers i.script input → HasRoom bus d.states.before
+replay_room i d e result over start bus input offers lines = (replay_started i d e result over start bus input offers lines).2.room
+
+-- no node goes on over a disk that holds none
+holds_none : (bus : NamedBus) (most : ℕ) (before : List DiskState) (world : BusState) → Started Attach bus most before world → HoldsNoNode bus before → ⊥
+holds_none bus most before world started holds =
+    let told = holds.none no_line no_disk in
+    let opened = started.nodes.opened holds.place no_line no_disk (no_node bus no_disk) holds.inside in
+    told.2 ((get_or world.nodes holds.place (no_node bus no_disk)).node.kept, opened.kept told.0 told.1)
+
+replay_taken : {V : Type 0} {A : Type 0} (i : BusInputs) (d : CommandDisks V) (e : Ending) → (result : Result (Unit {0}) Unwritten) → ReplaysScript i d.states e result → (bus : NamedBus) (input : List ℕ) → OffersTask i (replay Attach bus) → Offers i.script input
+    → HoldsNoNode bus d.states.before → A
+replay_taken i d e result over bus input offers lines holds =
+    let started = replay_started i d e result over Attach bus input offers lines in
+    absurd (holds_none bus started.0 d.states.before started.1 started.2 holds)
 
 replay_no_trial : {V : Type 0} (i : BusInputs) (d : CommandDisks V) (e : Ending) {A : Type 0} (result : Result (Unit {0}) Unwritten) → ReplaysScript i d.states e result → (bus : NamedBus) → OffersTrial i bus → A
-replay_no_trial i d e result over bus (trial, asks, of_bus) = apart i.words (World Replay) (World (Trial trial)) over.2.asks asks (λ x. cc)
+replay_no_trial i d e result over bus (trial, asks, of_bus) = apart i.words (World (Replay over.0)) (World (Trial trial)) over.3.asks asks (λ x. cc)
 
 -- ---- put together
 
@@ -414,10 +460,12 @@ of_row i d e ends = record {
   too_long = EndsInRow-at ends 8 refl (row_8 i d e);
   too_long_only = λ more. EndsInRow-only ends 8 (λ row comes. told_too_much row i.config i.script (row_tells i d row comes) more);
   disks_refused = EndsInRow-at ends 9 refl (row_9 i d e);
-  disks_refused_only = λ bus input offers lines none lacks.
-      EndsInRow-may ends 9 (λ row comes. without_room_of i d e row bus input none lacks (row_offered i d row (replay bus) input comes offers lines));
+  disks_refused_only = λ start bus input offers lines none lacks.
+      EndsInRow-may ends 9 (λ row comes. without_room_of i d e row start bus input none lacks (row_offered i d row (replay start bus) input comes offers lines));
   trial_disks_refused_only = λ bus offers lacks. EndsInRow-may ends 9 (λ row comes. trial_without_room_of i d e row bus lacks (row_tried i d row bus comes offers));
   store_refused = EndsInRow-at ends 10 refl (row_10 i d e);
+  store_refused_only = λ bus input offers lines none room holds.
+      EndsInRow-may ends 10 (λ row comes. in_room_of i d e row Attach bus input none room (row_offered i d row (replay Attach bus) input comes offers lines));
   complete = λ task input offers lines none able well.
       EndsInRow-done ends well 0 (λ row comes. complete_of i d e row task input none able (row_offered i d row task input comes offers lines));
   trial_complete = λ bus offers able well. EndsInRow-done ends well 0 (λ row comes. trial_complete_of i d e row bus able (row_tried i d row bus comes offers));
@@ -426,14 +474,14 @@ of_row i d e ends = record {
 of_replay : {V : Type 0} (i : BusInputs) (d : CommandDisks V) (e : Ending) → (result : Result (Unit {0}) Unwritten) → ReplaysScript i d.states e result → RunsCommand i d e
 of_replay i d e result over = record {
   ends = replayed result over;
-  disks = λ lacks. absurd (lacks (Replay, over.2.asks));
+  disks = λ lacks. absurd (lacks (Replay over.0, over.3.asks));
   disks_unused = λ low. absurd (not_low e.status low (high_status e.status (status_of i d e result over)));
   leaves = by_replay result over;
   done = λ is. inr (inl (done_0 i d e result over is));
   usage_told = λ is. absurd (let no : ⊥ = omega (arith, status_of i d e result over, is) in no);
-  usage_only = λ nothing. absurd (nothing (World Replay) over.2.asks);
+  usage_only = λ nothing. absurd (nothing (World (Replay over.0)) over.3.asks);
   config_refused = λ is. absurd (let no : ⊥ = omega (arith, status_of i d e result over, is) in no);
-  config_refused_only = λ file fault asks offers err. absurd (bus_or_fault i.config over.0 file fault over.2.of_bus offers err);
+  config_refused_only = λ file fault asks offers err. absurd (bus_or_fault i.config over.1 file fault over.3.of_bus offers err);
   refused = λ is. absurd (let no : ⊥ = omega (arith, status_of i d e result over, is) in no);
   refused_only = λ task input fault offers lines is. replay_refused i d e result over task input fault offers lines is;
   read_fault = λ is. absurd (let no : ⊥ = omega (arith, status_of i d e result over, is) in no);
@@ -444,9 +492,10 @@ of_replay i d e result over = record {
   too_long = λ is. absurd (let no : ⊥ = omega (arith, status_of i d e result over, is) in no);
   too_long_only = λ more. absurd (replay_within i d e result over more);
   disks_refused = λ is. absurd (let no : ⊥ = omega (arith, status_of i d e result over, is) in no);
-  disks_refused_only = λ bus input offers lines none lacks. absurd (lacks (replay_room i d e result over bus input offers lines));
+  disks_refused_only = λ start bus input offers lines none lacks. absurd (lacks (replay_room i d e result over start bus input offers lines));
   trial_disks_refused_only = λ bus offers lacks. replay_no_trial i d e result over bus offers;
   store_refused = λ is. absurd (let no : ⊥ = omega (arith, status_of i d e result over, is) in no);
+  store_refused_only = λ bus input offers lines none room holds. replay_taken i d e result over bus input offers lines holds;
   complete = λ task input offers lines none able well. done_well i d e result over well;
   trial_complete = λ bus offers able well. replay_no_trial i d e result over bus offers;
 }

@@ -1,22 +1,21 @@
 -- What each row of the table says of the sources and of the words
-use Rattle.std.specs.Prelude.{◌≡◌, ◌⊎◌, ℕ, ◌+◌, ◌<◌, ◌≤◌, List, None, Some, Result, Ok, Err}
+use Rattle.std.specs.Prelude.{◌≡◌, ◌⊎◌, ℕ, List, None, Some, Result, Err}
 use Rattle.std.specs.Result.{result_err}
-use Rattle.std.proofs.Common.{refl, sym, ap, ◌∙◌, subst, arith, inl, inr}
-use Rattle.bus_port.specs.Fault.{last_count}
-use Rattle.bus_port.specs.Source.{SourceState}
-use Rattle.bus_port.specs.Whole.{CameWithin}
-use Rattle.command_edge.specs.Input.{input_limit, input_fault_status, input_fault_text}
-use Rattle.command_edge.specs.declared.input.InputFault.{InputFault}
+use Rattle.std.proofs.Common.{refl, sym, ap, subst, inl, inr}
+use Rattle.command_edge.specs.Input.{input_fault_text}
 use Rattle.command_edge.specs.declared.input.InputFault.TheVariants as input
 use Rattle.text_lines.specs.Readings.{Fault}
 use Rattle.answer_rows.specs.Rows.{Row}
-use Rattle.answer_rows.specs.Inputs.{Reading, IsUnread, ReadsWhole, Lacks, Offers, CountsFault, CountsTooMuch}
-use Rattle.answer_rows.specs.InputLaws.{Offers-whole, Offers-is}
+use Rattle.answer_rows.specs.Inputs.{Reading, Offers}
+use Rattle.answer_rows.specs.InputLaws.{Offers-whole}
 use Rattle.bus_config.specs.declared.fault.ConfigFault.{ConfigFault}
 use Rattle.bus_config.specs.BusFile.{bus_of}
 use Rattle.bus_nodes.specs.Buses.{NamedBus}
 use Rattle.bus_machine.specs.declared.events.Event.{Event}
 use Rattle.bus_world.specs.Starts.{HasRoom}
+use Rattle.bus_world.specs.declared.start.Start.{Start}
+use Rattle.bus_world.specs.declared.start.Start.TheVariants.{Format}
+use Rattle.bus_inputs.specs.BusFileLaws.{ReadsCalmly, calm_unread, calm_whole, RowTells, told_first, told_second, bus_or_fault, offered_no_fault, memory_status, same_bus}
 use Rattle.bus_commands.specs.declared.words.Command.TheVariants.{Lines, World}
 use Rattle.bus_commands.specs.declared.words.LineCommand.TheVariants as lines
 use Rattle.bus_commands.specs.declared.words.WorldCommand.{WorldCommand}
@@ -24,74 +23,29 @@ use Rattle.bus_commands.specs.declared.words.WorldCommand.TheVariants.{Replay, T
 use Rattle.bus_commands.specs.Words.{AsksNothing}
 use Rattle.bus_commands.specs.Tasks.{Task, frame, judge, check, replay}
 use Rattle.bus_commands.specs.Texts.{Prints, fault_of}
-use Rattle.bus_commands.specs.Inputs.{BusInputs, ReadsBus, IsConfigFault, OffersBus, AsksOverBus, SetsTask, OffersTask, Over, HasEvents, SetsWorld, OffersTrial}
-use Rattle.bus_commands.specs.StartRows.{DiskStates, CommandDisks, ComesOfStart}
+use Rattle.bus_inputs.specs.BusFiles.{OffersBus}
+use Rattle.bus_commands.specs.Inputs.{BusInputs, AsksOverBus, SetsTask, OffersTask, Over, HasEvents, SetsWorld, start_of, OffersTrial}
+use Rattle.bus_world.specs.StartAnswers.{DiskStates, ComesOfStart}
+use Rattle.bus_commands.specs.StartRows.{CommandDisks}
 use Rattle.bus_commands.specs.Rows.{ComesOfInputs, no_form, no_config, config_refused, no_script, script_refused, done, ComesInRun, without_disks, not_started, tried, tried_without_memory}
-use Rattle.bus_commands.proofs.Asking.{needs_bus, command_for, set_asks, offered_asks, no_trial, same_bus, same_task, replay_task}
+use Rattle.bus_commands.proofs.Asking.{apart, needs_bus, command_for, set_asks, offered_asks, no_trial, same_task, replay_task}
 
 -- ---- the sources
 
--- at most as many bytes as an input may have were counted
-abbrev pub Within : Reading → Type 0
-Within r = r.before.taken + input_limit < last_count → r.after.taken ≤ r.before.taken + input_limit
-
-within_unread : (r : Reading) → IsUnread r → Within r
-within_unread r same below = omega (arith, ap (λ (s : SourceState). s.taken) same)
-
-within_came : (r : Reading) → CameWithin r.before r.after input_limit → Within r
-within_came r came below = omega (arith, came.1, came.2.counted, below)
-
--- no fault was counted, and no byte too many
-abbrev pub IsCalm : Reading → Type 0
-IsCalm r = (r.after.faults ≡ r.before.faults) × Within r
-
-calm_unread : (r : Reading) → IsUnread r → IsCalm r
-calm_unread r same = (ap (λ (s : SourceState). s.faults) same, within_unread r same)
-
-calm_whole : (r : Reading) (text : List ℕ) → ReadsWhole r text → IsCalm r
-calm_whole r text whole = (whole.no_fault, within_came r (text, whole.within, whole.came))
-
-calm_set : (i : BusInputs) (task : Task) → SetsTask i task → IsCalm i.config
+calm_set : (i : BusInputs) (task : Task) → SetsTask i task → ReadsCalmly i.config
 calm_set i frame set = calm_unread i.config set.1
 calm_set i judge set = calm_unread i.config set.1
 calm_set i (check bus) set = calm_whole i.config set.1.0 set.1.1
-calm_set i (replay bus) set = calm_whole i.config set.1.0 set.1.1
+calm_set i (replay start bus) set = calm_whole i.config set.1.0 set.1.1
 
-calm_events : (c : WorldCommand) (bus : NamedBus) (script : Reading) (events : List Event) → HasEvents c bus script events → IsCalm script
-calm_events Replay bus script events has = calm_whole script has.0 has.1
+calm_events : (c : WorldCommand) (bus : NamedBus) (script : Reading) (events : List Event) → HasEvents c bus script events → ReadsCalmly script
+calm_events (Replay start) bus script events has = calm_whole script has.0 has.1
 calm_events (Trial trial) bus script events has = calm_unread script has.0
 
-pub calm_world : (i : BusInputs) (c : WorldCommand) (bus : NamedBus) (events : List Event) → SetsWorld i c bus events → IsCalm i.config × IsCalm i.script
+pub calm_world : (i : BusInputs) (c : WorldCommand) (bus : NamedBus) (events : List Event) → SetsWorld i c bus events → ReadsCalmly i.config × ReadsCalmly i.script
 calm_world i c bus events set = (calm_whole i.config set.of_bus.0 set.of_bus.1, calm_events c bus i.script events set.has)
 
--- a row of a source that gave nothing, or no fault was counted and no byte too many
-abbrev pub Told : Row → Reading → Reading → Type 0
-Told row config script = ((row.status ≡ 5) × (Within config × Within script))
-    ⊎ (((row.status ≡ 8) × ((config.after.faults ≡ config.before.faults) × (script.after.faults ≡ script.before.faults)))
-    ⊎ (IsCalm config × IsCalm script))
-
-lacking : (r : Reading) (fault : InputFault) → Lacks r fault → ((input_fault_status fault ≡ 5) × Within r) ⊎ (((input_fault_status fault ≡ 8) × (r.after.faults ≡ r.before.faults)) ⊎ IsCalm r)
-lacking r input.ReadFault lacks = inl (refl, within_came r lacks.1)
-lacking r input.TooLong lacks = inr (inl (refl, lacks.0))
-lacking r input.Memory lacks = inr (inr (lacks.0, within_came r lacks.1))
-
-told_first : (fault : InputFault) (text : List ℕ) (config script : Reading) → Lacks config fault → IsCalm script
-    → Told (record { status = input_fault_status fault; text = text }) config script
-told_first fault text config script lacks calm = elim (lacking config fault lacks) [
-  | inl five ↦ inl (five.0, (five.1, calm.1))
-  | inr (inl eight) ↦ inr (inl (eight.0, (eight.1, calm.0)))
-  | inr (inr also) ↦ inr (inr (also, calm))
-]
-
-told_second : (fault : InputFault) (text : List ℕ) (config script : Reading) → IsCalm config → Lacks script fault
-    → Told (record { status = input_fault_status fault; text = text }) config script
-told_second fault text config script calm lacks = elim (lacking script fault lacks) [
-  | inl five ↦ inl (five.0, (calm.1, five.1))
-  | inr (inl eight) ↦ inr (inl (eight.0, (calm.0, eight.1)))
-  | inr (inr also) ↦ inr (inr (calm, also))
-]
-
-inputs_tell : (i : BusInputs) (row : Row) → ComesOfInputs i row → Told row i.config i.script
+inputs_tell : (i : BusInputs) (row : Row) → ComesOfInputs i row → RowTells row i.config i.script
 inputs_tell i row (no_form none config script) = inr (inr (calm_unread i.config config, calm_unread i.script script))
 inputs_tell i row (no_config fault (asks, lacks, unread)) = told_first fault (input_fault_text fault) i.config i.script lacks (calm_unread i.script unread)
 inputs_tell i row (config_refused fault text asks is told unread) = inr (inr (calm_whole i.config is.0 is.1, calm_unread i.script unread))
@@ -100,28 +54,11 @@ inputs_tell i row (script_refused fault (task, set, (text, whole, is))) = inr (i
 inputs_tell i row (done text (task, set, (read, whole, is))) = inr (inr (calm_set i task set, calm_whole i.script read whole))
 
 module _ {V : Type 0} where
-  pub row_tells : (i : BusInputs) (d : CommandDisks V) (row : Row) → ComesInRun i d row → Told row i.config i.script
+  pub row_tells : (i : BusInputs) (d : CommandDisks V) (row : Row) → ComesInRun i d row → RowTells row i.config i.script
   row_tells i d row (without_disks _ comes as_before) = inputs_tell i row comes
   row_tells i d row (not_started _ (c, bus, events, set, comes)) = inr (inr (calm_world i c bus events set))
   row_tells i d row (tried summary (trial, bus, events, set, ran)) = inr (inr (calm_world i (Trial trial) bus events set))
   row_tells i d row (tried_without_memory summary (trial, bus, events, set, ran)) = inr (inr (calm_world i (Trial trial) bus events set))
-
-pub told_fault : (row : Row) (config script : Reading) → Told row config script → CountsFault config ⊎ CountsFault script → row.status ≡ 5
-told_fault row config script (inl five) rose = five.0
-told_fault row config script (inr (inl eight)) (inl rose) = absurd (let no : ⊥ = omega (arith, eight.1.0, rose) in no)
-told_fault row config script (inr (inl eight)) (inr rose) = absurd (let no : ⊥ = omega (arith, eight.1.1, rose) in no)
-told_fault row config script (inr (inr calm)) (inl rose) = absurd (let no : ⊥ = omega (arith, calm.0.0, rose) in no)
-told_fault row config script (inr (inr calm)) (inr rose) = absurd (let no : ⊥ = omega (arith, calm.1.0, rose) in no)
-
-beyond_within : (r : Reading) → Within r → CountsTooMuch r → ⊥
-beyond_within r within more = omega (arith, within more.0, more.1)
-
-pub told_too_much : (row : Row) (config script : Reading) → Told row config script → CountsTooMuch config ⊎ CountsTooMuch script → row.status ≡ 8
-told_too_much row config script (inl five) (inl more) = absurd (beyond_within config five.1.0 more)
-told_too_much row config script (inl five) (inr more) = absurd (beyond_within script five.1.1 more)
-told_too_much row config script (inr (inl eight)) more = eight.0
-told_too_much row config script (inr (inr calm)) (inl more) = absurd (beyond_within config calm.0.1 more)
-told_too_much row config script (inr (inr calm)) (inr more) = absurd (beyond_within script calm.1.1 more)
 
 -- ---- the words
 
@@ -143,27 +80,11 @@ module _ {V : Type 0} where
 
 -- ---- a bus file that is offered
 
-Ok_not_Err : (r : Result NamedBus ConfigFault) (bus : NamedBus) (fault : ConfigFault) → r ≡ Ok bus → r ≡ Err fault → ⊥
-Ok_not_Err r bus fault ok err = cc
-
--- it has a bus or a fault
-pub bus_or_fault : (config : Reading) (bus : NamedBus) (file : List ℕ) (fault : ConfigFault) → ReadsBus config bus → Offers config file → bus_of file ≡ Err fault → ⊥
-bus_or_fault config bus file fault (read, whole, is) offers err =
-    Ok_not_Err (bus_of file) bus fault (sym (ap bus_of (Offers-whole config file read offers whole)) ∙ is) err
-
-offered_no_fault : (config : Reading) (bus : NamedBus) (fault : ConfigFault) → OffersBus config bus → IsConfigFault config fault → ⊥
-offered_no_fault config bus fault (file, offers, ok) (read, whole, is) =
-    Ok_not_Err (bus_of file) bus fault ok (sym (ap bus_of (Offers-whole config file read offers whole)) ∙ is)
-
--- no source that is offered gives nothing but for want of memory
-memory_status : (r : Reading) (text : List ℕ) (fault : InputFault) → Offers r text → Lacks r fault → input_fault_status fault ≡ 7
-memory_status r text fault offers lacks = ap input_fault_status (Offers-is r text fault offers lacks)
-
 set_has_bus : (i : BusInputs) (task : Task) (file : List ℕ) (fault : ConfigFault) → SetsTask i task → AsksOverBus i.words → Offers i.config file → bus_of file ≡ Err fault → ⊥
 set_has_bus i frame file fault set over offers err = needs_bus i.words (Lines lines.Frame) set.0 over
 set_has_bus i judge file fault set over offers err = needs_bus i.words (Lines lines.Judge) set.0 over
 set_has_bus i (check bus) file fault set over offers err = bus_or_fault i.config bus file fault set.1 offers err
-set_has_bus i (replay bus) file fault set over offers err = bus_or_fault i.config bus file fault set.1 offers err
+set_has_bus i (replay start bus) file fault set over offers err = bus_or_fault i.config bus file fault set.1 offers err
 
 inputs_refuse : (i : BusInputs) (row : Row) (file : List ℕ) (fault : ConfigFault) → ComesOfInputs i row → AsksOverBus i.words → Offers i.config file → bus_of file ≡ Err fault
     → (row.status ≡ 3) ⊎ (row.status ≡ 7)
@@ -190,7 +111,7 @@ offered_bus : (i : BusInputs) (task : Task) → OffersTask i task → AsksOverBu
 offered_bus i frame offers over = absurd (needs_bus i.words (Lines lines.Frame) offers over)
 offered_bus i judge offers over = absurd (needs_bus i.words (Lines lines.Judge) offers over)
 offered_bus i (check bus) offers over = (bus, offers.1)
-offered_bus i (replay bus) offers over = (bus, offers.1)
+offered_bus i (replay start bus) offers over = (bus, offers.1)
 
 -- what was read holds of what was offered
 of_offered : (i : BusInputs) (P : Task → List ℕ → Type 0) (task : Task) (input : List ℕ) → OffersTask i task → Offers i.script input → Over i P → P task input
@@ -204,7 +125,7 @@ OfTask d row task input =
     (row.status ≡ 7)
     ⊎ (((fault : Fault) × (row.status ≡ 4) × (fault_of task input ≡ Some fault))
     ⊎ (((text : List ℕ) × (row.status ≡ 0) × Prints task input text)
-    ⊎ ((bus : NamedBus) × (task ≡ replay bus) × (fault_of task input ≡ None) × ComesOfStart bus d row)))
+    ⊎ ((start : Start) × (bus : NamedBus) × (task ≡ replay start bus) × (fault_of task input ≡ None) × ComesOfStart start bus d row)))
 
 inputs_offered : (i : BusInputs) (d : DiskStates) (row : Row) (task : Task) (input : List ℕ) → ComesOfInputs i row → OffersTask i task → Offers i.script input → OfTask d row task input
 inputs_offered i d row task input (no_form none config script) offers lines = absurd (none (command_for task) (offered_asks i task offers))
@@ -221,19 +142,19 @@ inputs_offered i d row task input (done text over) offers lines =
     inr (inr (inl (text, refl, of_offered i (λ task input. Prints task input text) task input offers lines over)))
 
 -- a replay that was set is the task that is offered, and its script has no fault
-pub replay_offered : (i : BusInputs) (bus : NamedBus) (events : List Event) (task : Task) (input : List ℕ) → SetsWorld i Replay bus events → OffersTask i task → Offers i.script input
-    → (task ≡ replay bus) × (fault_of task input ≡ None)
-replay_offered i bus events task input set offers lines =
-    let one : replay bus ≡ task = same_task i (replay bus) task (replay_task i bus events set) offers in
+pub replay_offered : (i : BusInputs) (start : Start) (bus : NamedBus) (events : List Event) (task : Task) (input : List ℕ) → SetsWorld i (Replay start) bus events → OffersTask i task → Offers i.script input
+    → (task ≡ replay start bus) × (fault_of task input ≡ None)
+replay_offered i start bus events task input set offers lines =
+    let one : replay start bus ≡ task = same_task i (replay start bus) task (replay_task i start bus events set) offers in
     let read : set.has.0 ≡ input = Offers-whole i.script input set.has.0 lines set.has.1 in
-    let none : fault_of (replay bus) set.has.0 ≡ None = ap (λ (r : Result (List Event) Fault). result_err r) set.has.2 in
-    (sym one, subst (λ (t : Task). fault_of t input ≡ None) one (subst (λ (l : List ℕ). fault_of (replay bus) l ≡ None) read none))
+    let none : fault_of (replay start bus) set.has.0 ≡ None = ap (λ (r : Result (List Event) Fault). result_err r) set.has.2 in
+    (sym one, subst (λ (t : Task). fault_of t input ≡ None) one (subst (λ (l : List ℕ). fault_of (replay start bus) l ≡ None) read none))
 
 start_offered : (i : BusInputs) (d : DiskStates) (row : Row) (task : Task) (input : List ℕ) (c : WorldCommand) (bus : NamedBus) (events : List Event) → SetsWorld i c bus events
-    → ComesOfStart bus d row → OffersTask i task → Offers i.script input → OfTask d row task input
-start_offered i d row task input Replay bus events set comes offers lines =
-    let one = replay_offered i bus events task input set offers lines in
-    inr (inr (inr (bus, one.0, one.1, comes)))
+    → ComesOfStart (start_of c) bus d row → OffersTask i task → Offers i.script input → OfTask d row task input
+start_offered i d row task input (Replay start) bus events set comes offers lines =
+    let one = replay_offered i start bus events task input set offers lines in
+    inr (inr (inr (start, bus, one.0, one.1, comes)))
 start_offered i d row task input (Trial trial) bus events set comes offers lines = no_trial i.words task trial (offered_asks i task offers) set.asks
 
 module _ {V : Type 0} where
@@ -248,7 +169,7 @@ module _ {V : Type 0} where
 
 -- the rows that come then: want of memory, those of a bus that doesn't start, or the summary
 abbrev pub OfTrial : DiskStates → Row → NamedBus → Type 0
-OfTrial d row bus = (row.status ≡ 7) ⊎ (ComesOfStart bus d row ⊎ ((row.status ≡ 0) × HasRoom bus d.before))
+OfTrial d row bus = (row.status ≡ 7) ⊎ (ComesOfStart Format bus d row ⊎ ((row.status ≡ 0) × HasRoom bus d.before))
 
 inputs_tried : (i : BusInputs) (d : DiskStates) (row : Row) (bus : NamedBus) → ComesOfInputs i row → OffersTrial i bus → OfTrial d row bus
 inputs_tried i d row bus (no_form none config script) (trial, asks, of_bus) = absurd (none (World (Trial trial)) asks)
@@ -258,11 +179,17 @@ inputs_tried i d row bus (no_script fault (task, set, lacks)) (trial, asks, of_b
 inputs_tried i d row bus (script_refused fault (task, set, over)) (trial, asks, of_bus) = no_trial i.words task trial (set_asks i task set) asks
 inputs_tried i d row bus (done text (task, set, over)) (trial, asks, of_bus) = no_trial i.words task trial (set_asks i task set) asks
 
+-- a trial formats its disks, and words that ask for one ask for no replay
+start_tried : (i : BusInputs) (d : DiskStates) (row : Row) (c : WorldCommand) (over bus : NamedBus) (events : List Event) → SetsWorld i c over events → ComesOfStart (start_of c) over d row
+    → OffersTrial i bus → OfTrial d row bus
+start_tried i d row (Replay start) over bus events set comes (trial, asks, of_bus) = apart i.words (World (Replay start)) (World (Trial trial)) set.asks asks (λ e. cc)
+start_tried i d row (Trial drawn) over bus events set comes offers =
+    inr (inl (subst (λ (b : NamedBus). ComesOfStart Format b d row) (same_bus i.config over bus set.of_bus offers.2) comes))
+
 module _ {V : Type 0} where
   pub row_tried : (i : BusInputs) (d : CommandDisks V) (row : Row) (bus : NamedBus) → ComesInRun i d row → OffersTrial i bus → OfTrial d.states row bus
   row_tried i d row bus (without_disks _ comes as_before) offers = inputs_tried i d.states row bus comes offers
-  row_tried i d row bus (not_started _ (c, over, events, set, comes)) offers =
-      inr (inl (subst (λ (b : NamedBus). ComesOfStart b d.states row) (same_bus i.config over bus set.of_bus offers.2) comes.1))
+  row_tried i d row bus (not_started _ (c, over, events, set, comes)) offers = start_tried i d.states row c over bus events set comes.1 offers
   row_tried i d row bus (tried summary (trial, over, events, set, ran)) offers =
       inr (inr (refl, subst (λ (b : NamedBus). HasRoom b d.states.before) (same_bus i.config over bus set.of_bus offers.2) ran.ran.started.room))
   row_tried i d row bus (tried_without_memory summary (trial, over, events, set, ran)) offers = inl refl

@@ -10,7 +10,7 @@ use Rattle.world_runs.specs.Turns.{TurnsLeaveDisks, StartsSetUp}
 use Rattle.bus_commands.specs.declared.summary.Summary.{Summary}
 use Rattle.bus_commands.specs.Summaries.{summary_text}
 use Rattle.bus_commands.specs.TrialRuns.{TrialTurns, TrialsAreRuns}
-use Rattle.bus_commands.specs.StartRows.{DiskStates}
+use Rattle.bus_world.specs.StartAnswers.{DiskStates}
 use Rattle.bus_commands.specs.Rows.{DoneTrial}
 use Rattle.bus_commands.specs.Steps.{TellsSummary, seven_lines, no_lines_told, AnswersTrial, summed, no_summary}
 use Rattle.bus_commands.proofs.WholeTrial.{trial_stays}

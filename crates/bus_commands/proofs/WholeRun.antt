@@ -8,17 +8,18 @@ use Rattle.numbered_run.specs.declared.printing.Unwritten.{Unwritten}
 use Rattle.numbered_run.specs.Printed.{Written}
 use Rattle.bus_machine.specs.declared.events.Event.{Event}
 use Rattle.bus_machine.specs.declared.lines.Line.{Line}
-use Rattle.bus_machine.specs.Bus.{World, Moments}
-use Rattle.bus_nodes.specs.Buses.{NamedBus}
+use Rattle.bus_machine.specs.Bus.{World, First, Moments}
+use Rattle.bus_nodes.specs.Buses.{NamedBus, configs_of}
 use Rattle.bus_texts.specs.LineTexts.{line_text}
-use Rattle.bus_world.specs.declared.start.Start.TheVariants.{Format}
-use Rattle.bus_world.specs.Worlds.{BusState, world_of}
+use Rattle.bus_world.specs.declared.start.Start.{Start}
+use Rattle.bus_world.specs.declared.start.Start.TheVariants.{Format, Attach}
+use Rattle.bus_world.specs.Worlds.{BusState, world_of, EachFits}
 use Rattle.world_runs.specs.NodeDisks.{TellEach, DisksStay}
-use Rattle.world_runs.specs.WorldRuns.{IsFirstOf, WorldRun}
-use Rattle.world_runs.specs.Turns.{seen, TakesTurns, TurnsLeaveDisks, TurnsAreWorldRuns, StartsSetUp, StartsBeginAtFirst}
+use Rattle.world_runs.specs.WorldRuns.{IsFirstOf}
+use Rattle.world_runs.specs.Turns.{seen, TakesTurns, TurnsLeaveDisks, TurnsAreWorldRuns, StartsSetUp, StartsBeginAtFirst, StartsGoOnFirst}
 use Rattle.world_runs.specs.TurnLaws.{same_lines, same_length}
 use Rattle.bus_commands.specs.Replays.{ReplayTurns}
-use Rattle.bus_commands.specs.Headline.{ReplaysAreRuns}
+use Rattle.bus_commands.specs.Headline.{Replayed, ReplaysAreRuns}
 
 -- ---- the texts
 
@@ -40,25 +41,37 @@ written_as text ms events before after (Err cause) written = record {
 
 -- ---- the run
 
-module _ (bus : NamedBus) (before after : List DiskState) (events : List Event) (sink_before sink_after : SinkState) (result : Result (Unit {0}) Unwritten)
-    (ran : ReplayTurns bus before after events sink_before sink_after result) where
+module _ (how : Start) (bus : NamedBus) (before after : List DiskState) (events : List Event) (sink_before sink_after : SinkState) (result : Result (Unit {0}) Unwritten)
+    (ran : ReplayTurns how bus before after events sink_before sink_after result) where
   turns_taken : TakesTurns bus before after events ran.start ran.printed.moments ran.now
   turns_taken = record { run = ran.printed.run; of_events = ran.printed.first; disks = ran.disks }
 
   pub replay_stays : StartsSetUp → TurnsLeaveDisks → DisksStay bus before after (seen ran.printed.moments)
   replay_stays set_up leave =
-      leave bus before after events ran.start ran.printed.moments ran.now (set_up Format bus (length events) before ran.start ran.started) turns_taken
+      leave bus before after events ran.start ran.printed.moments ran.now (set_up how bus (length events) before ran.start ran.started) turns_taken
 
-pub whole_run : StartsSetUp → StartsBeginAtFirst → TurnsAreWorldRuns → ReplaysAreRuns
-whole_run set_up begin runs bus before after events sink_before sink_after result ran tell =
+  -- from where it was set up, over disks that fit
+  run_from : StartsSetUp → TurnsAreWorldRuns → EachFits ran.start → IsFirstOf bus (world_of ran.start) → Replayed (world_of ran.start) bus before after events sink_before sink_after result
+  run_from set_up runs fits is_first = record {
+    moments = seen ran.printed.moments;
+    last = world_of ran.now;
+    run = runs bus before after events ran.start ran.printed.moments ran.now (set_up how bus (length events) before ran.start ran.started) fits is_first turns_taken;
+    written = written_as line_text ran.printed.moments events sink_before sink_after result ran.printed.holds;
+  }
+
+pub whole_run : StartsSetUp → StartsBeginAtFirst → StartsGoOnFirst → TurnsAreWorldRuns → ReplaysAreRuns
+whole_run set_up begin goes_on runs Format bus before after events sink_before sink_after result ran tell =
     let begun = begin bus (length events) before ran.start ran.is_bus ran.started tell in
-    let ms : List (Moment Event Line BusState) = ran.printed.moments in
     record {
-      moments = seen ms;
-      last = world_of ran.now;
-      run = subst (λ (w : World). WorldRun w bus before after events (seen ms) (world_of ran.now)) begun.first
-          (runs bus before after events ran.start ms ran.now (set_up Format bus (length events) before ran.start ran.started) begun.fits
-          (subst (IsFirstOf bus) (sym begun.first) begun.is_first)
-          (turns_taken bus before after events sink_before sink_after result ran));
-      written = written_as line_text ms events sink_before sink_after result ran.printed.holds;
+      first = First (configs_of bus);
+      begins = refl;
+      replayed = subst (λ (w : World). Replayed w bus before after events sink_before sink_after result) begun.first
+          (run_from Format bus before after events sink_before sink_after result ran set_up runs begun.fits (subst (IsFirstOf bus) (sym begun.first) begun.is_first));
+    }
+whole_run set_up begin goes_on runs Attach bus before after events sink_before sink_after result ran tell =
+    let begun = goes_on bus (length events) before ran.start ran.is_bus ran.started tell in
+    record {
+      first = world_of ran.start;
+      begins = begun.goes_on;
+      replayed = run_from Attach bus before after events sink_before sink_after result ran set_up runs begun.fits begun.is_first;
     }

@@ -1,19 +1,20 @@
 -- What goes into a command, and what of it is read
-use Rattle.std.specs.Prelude.{◌≡◌, ℕ, List, Ok, Err}
+use Rattle.std.specs.Prelude.{◌≡◌, ℕ, List, Ok}
 use Rattle.command_edge.specs.declared.input.InputFault.{InputFault}
-use Rattle.answer_rows.specs.Inputs.{Reading, IsUnread, ReadsWhole, Lacks, Offers}
-use Rattle.bus_config.specs.declared.fault.ConfigFault.{ConfigFault}
-use Rattle.bus_config.specs.BusFile.{bus_of}
+use Rattle.answer_rows.specs.Inputs.{Reading, IsUnread, ReadsWhole, Lacks}
 use Rattle.bus_nodes.specs.Buses.{NamedBus}
 use Rattle.bus_machine.specs.declared.events.Event.{Event}
 use Rattle.bus_script.specs.EventForms.{events_of}
 use Rattle.bus_trials.specs.Trials.{trial_events}
+use Rattle.bus_inputs.specs.BusFiles.{ReadsBus, OffersBus}
 use Rattle.bus_commands.specs.declared.trial_words.TrialWords.{TrialWords}
 use Rattle.bus_commands.specs.declared.words.Command.{Command}
 use Rattle.bus_commands.specs.declared.words.Command.TheVariants.{Lines, World}
 use Rattle.bus_commands.specs.declared.words.LineCommand.TheVariants as lines
 use Rattle.bus_commands.specs.declared.words.WorldCommand.{WorldCommand}
 use Rattle.bus_commands.specs.declared.words.WorldCommand.TheVariants.{Replay, Trial}
+use Rattle.bus_world.specs.declared.start.Start.{Start}
+use Rattle.bus_world.specs.declared.start.Start.TheVariants.{Format}
 use Rattle.bus_commands.specs.Words.{Asks}
 use Rattle.bus_commands.specs.Tasks.{Task, frame, judge, check, replay}
 
@@ -24,18 +25,6 @@ pub record BusInputs : Type 0 where
   pub script : Reading
 
 -- ---- the bus file
-
--- the bus file was read whole, and has this bus
-abbrev pub ReadsBus : Reading → NamedBus → Type 0
-ReadsBus config bus = (file : List ℕ) × ReadsWhole config file × (bus_of file ≡ Ok bus)
-
--- the bus file was read whole, and this is its first fault
-abbrev pub IsConfigFault : Reading → ConfigFault → Type 0
-IsConfigFault config fault = (file : List ℕ) × ReadsWhole config file × (bus_of file ≡ Err fault)
-
--- the source of the bus file tells one with this bus, and didn't fail
-abbrev pub OffersBus : Reading → NamedBus → Type 0
-OffersBus config bus = (file : List ℕ) × Offers config file × (bus_of file ≡ Ok bus)
 
 -- the command reads a bus file
 abbrev pub NeedsBus : Command → Type 0
@@ -60,14 +49,14 @@ abbrev pub SetsTask : BusInputs → Task → Type 0
 SetsTask i frame = Asks i.words (Lines lines.Frame) × IsUnread i.config
 SetsTask i judge = Asks i.words (Lines lines.Judge) × IsUnread i.config
 SetsTask i (check bus) = Asks i.words (Lines lines.Check) × ReadsBus i.config bus
-SetsTask i (replay bus) = Asks i.words (World Replay) × ReadsBus i.config bus
+SetsTask i (replay start bus) = Asks i.words (World (Replay start)) × ReadsBus i.config bus
 
 -- the same, of what the source of the bus file tells
 abbrev pub OffersTask : BusInputs → Task → Type 0
 OffersTask i frame = Asks i.words (Lines lines.Frame)
 OffersTask i judge = Asks i.words (Lines lines.Judge)
 OffersTask i (check bus) = Asks i.words (Lines lines.Check) × OffersBus i.config bus
-OffersTask i (replay bus) = Asks i.words (World Replay) × OffersBus i.config bus
+OffersTask i (replay start bus) = Asks i.words (World (Replay start)) × OffersBus i.config bus
 
 -- what is done with the lines was set, and these were read whole; this holds of both
 abbrev pub Over : BusInputs → (Task → List ℕ → Type 0) → Type 0
@@ -82,7 +71,8 @@ NoScript i fault = (task : Task) × SetsTask i task × Lacks i.script fault
 -- a replay has the events of its script, which was read whole; a trial those that its seed gives, and of the lines
 -- nothing was read
 abbrev pub HasEvents : WorldCommand → NamedBus → Reading → List Event → Type 0
-HasEvents Replay bus script events = (text : List ℕ) × ReadsWhole script text × (events_of bus.nodes text ≡ Ok events)
+HasEvents (Replay start) bus script events =
+    (text : List ℕ) × ReadsWhole script text × (events_of bus.nodes text ≡ Ok events)
 HasEvents (Trial trial) bus script events = IsUnread script × (events ≡ trial_events bus.nodes trial.count trial.seed)
 
 -- the words ask for a run over disks; its bus is that of the bus file, which was read whole, and these are its events
@@ -95,9 +85,20 @@ pub record SetsWorld (i : BusInputs) (command : WorldCommand) (bus : NamedBus) (
 abbrev pub AsksWorld : List (List ℕ) → Type 0
 AsksWorld words = (command : WorldCommand) × Asks words (World command)
 
--- a replay is asked for, over this bus, and its script has these events
-abbrev pub OverReplay : BusInputs → (NamedBus → List Event → Type 0) → Type 0
-OverReplay i P = (bus : NamedBus) × (events : List Event) × SetsWorld i Replay bus events × P bus events
+-- how the run of a command starts: a trial formats its disks
+abbrev pub start_of : WorldCommand → Start
+start_of (Replay start) = start
+start_of (Trial trial) = Format
+
+-- a replay is asked for, with this start, over this bus, and its script has these events
+abbrev pub OverReplay : BusInputs → (Start → NamedBus → List Event → Type 0) → Type 0
+OverReplay i P =
+    (start : Start) × (bus : NamedBus) × (events : List Event) × SetsWorld i (Replay start) bus events
+    × P start bus events
+
+-- the same of the replay with this start
+abbrev pub OverReplayOf : Start → BusInputs → (NamedBus → List Event → Type 0) → Type 0
+OverReplayOf start i P = (bus : NamedBus) × (events : List Event) × SetsWorld i (Replay start) bus events × P bus events
 
 -- a trial is asked for, over this bus, and these are the events that its seed gives
 abbrev pub OverTrial : BusInputs → (NamedBus → List Event → Type 0) → Type 0
@@ -105,10 +106,11 @@ OverTrial i P =
     (trial : TrialWords) × (bus : NamedBus) × (events : List Event) × SetsWorld i (Trial trial) bus events
     × P bus events
 
--- a replay or a trial
-abbrev pub OverWorld : BusInputs → (NamedBus → List Event → Type 0) → Type 0
+-- a replay or a trial, with its start
+abbrev pub OverWorld : BusInputs → (Start → NamedBus → List Event → Type 0) → Type 0
 OverWorld i P =
-    (command : WorldCommand) × (bus : NamedBus) × (events : List Event) × SetsWorld i command bus events × P bus events
+    (command : WorldCommand) × (bus : NamedBus) × (events : List Event) × SetsWorld i command bus events
+    × P (start_of command) bus events
 
 -- the words ask for a trial over the bus that the source of the bus file tells
 abbrev pub OffersTrial : BusInputs → NamedBus → Type 0

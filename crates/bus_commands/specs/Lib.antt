@@ -11,4 +11,5 @@ pub mod Headline
 pub mod TrialRuns
 pub mod Rows
 pub mod Commands
+pub mod Named
 pub mod Steps

@@ -9,19 +9,23 @@ use Rattle.text_lines.specs.Readings.{Fault}
 use Rattle.numbered_run.specs.declared.printing.Unwritten.{Unwritten}
 use Rattle.bus_config.specs.declared.fault.ConfigFault.{ConfigFault}
 use Rattle.bus_config.specs.FaultTexts.{config_fault_text}
-use Rattle.bus_nodes.specs.Buses.{NamedBus, IsNamedBus, configs_of}
+use Rattle.bus_nodes.specs.Buses.{NamedBus, IsNamedBus}
 use Rattle.bus_machine.specs.declared.events.Event.{Event}
-use Rattle.bus_machine.specs.Bus.{First}
 use Rattle.bus_commands.specs.declared.summary.Summary.{Summary}
 use Rattle.bus_commands.specs.Words.{AsksNothing}
 use Rattle.bus_commands.specs.Texts.{usage, Prints, fault_of}
-use Rattle.bus_commands.specs.Inputs.{BusInputs, AsksOverBus, IsConfigFault, NoConfig, NoScript, Over, OverReplay, OverTrial, OverWorld}
-use Rattle.bus_commands.specs.StartRows.{DiskStates, CommandDisks, ComesOfStart}
+use Rattle.bus_inputs.specs.BusFiles.{IsConfigFault}
+use Rattle.bus_commands.specs.Inputs.{BusInputs, AsksOverBus, NoConfig, NoScript, Over, OverReplay}
+use Rattle.bus_commands.specs.Inputs.{OverTrial, OverWorld}
+use Rattle.bus_world.specs.StartAnswers.{DiskStates, ComesOfStart}
+use Rattle.bus_commands.specs.StartRows.{CommandDisks}
 use Rattle.bus_commands.specs.Summaries.{summary_text}
-use Rattle.bus_commands.specs.Replays.{ReplayTurns, written_status}
+use Rattle.bus_world.specs.declared.start.Start.{Start}
+use Rattle.bus_inputs.specs.Statuses.{unwritten_status}
+use Rattle.bus_commands.specs.Replays.{ReplayTurns}
 use Rattle.world_runs.specs.NodeDisks.{TellEach, DisksStay}
 use Rattle.world_runs.specs.Turns.{seen}
-use Rattle.bus_commands.specs.Headline.{Replayed}
+use Rattle.bus_commands.specs.Headline.{TellFor, ReplayedOver}
 use Rattle.bus_commands.specs.TrialRuns.{TrialTurns, Tried}
 
 -- the rows for which no disk is used
@@ -42,18 +46,17 @@ pub record DoneTrial (bus : NamedBus) (events : List Event) (d : DiskStates) (su
   pub one_run : TellEach bus d.before → Tried bus d.before d.after events summary
 
 -- a replay did its first events, up to the first whose text wasn't written, and has the status that says so; over
--- disks that tell their bytes they are one run of the machine from the first world of the bus
-pub record DoneReplay (bus : NamedBus) (events : List Event) (d : DiskStates) (e : Ending)
+-- disks that tell their bytes they are one run of the machine from where the replay begins
+pub record DoneReplay (start : Start) (bus : NamedBus) (events : List Event) (d : DiskStates) (e : Ending)
     (result : Result (Unit {0}) Unwritten) : Type 0 where
-  pub ran : ReplayTurns bus d.before d.after events e.before e.after result
-  pub status_is : e.status ≡ written_status result
+  pub ran : ReplayTurns start bus d.before d.after events e.before e.after result
+  pub status_is : e.status ≡ unwritten_status result
   pub stay : DisksStay bus d.before d.after (seen ran.printed.moments)
-  pub one_run : TellEach bus d.before
-      → Replayed (First (configs_of bus)) bus d.before d.after events e.before e.after result
+  pub one_run : TellFor start bus d.before → ReplayedOver start bus d.before d.after events e.before e.after result
 
 -- a replay is asked for, and it did the first events of its script, which ended so
 abbrev pub ReplaysScript : BusInputs → DiskStates → Ending → Result (Unit {0}) Unwritten → Type 0
-ReplaysScript i d e result = OverReplay i (λ bus events. DoneReplay bus events d e result)
+ReplaysScript i d e result = OverReplay i (λ start bus events. DoneReplay start bus events d e result)
 
 -- a trial is asked for, and it did all its events, which have this summary
 abbrev pub TriesEvents : BusInputs → DiskStates → Summary → Type 0
@@ -62,7 +65,7 @@ TriesEvents i d summary = OverTrial i (λ bus events. DoneTrial bus events d sum
 -- the table: when each row comes, and what the disks are then
 pub data ComesInRun {V : Type 0} (i : BusInputs) (d : CommandDisks V) : Row → Type 0 where
   without_disks : (row : Row) → ComesOfInputs i row → d.new ≡ d.old → ComesInRun i d row
-  not_started : (row : Row) → OverWorld i (λ bus events. IsNamedBus bus × ComesOfStart bus d.states row)
+  not_started : (row : Row) → OverWorld i (λ start bus events. IsNamedBus bus × ComesOfStart start bus d.states row)
       → ComesInRun i d row
   tried : (summary : Summary) → TriesEvents i d.states summary → ComesInRun i d (row_of 0 (summary_text summary))
   tried_without_memory : (summary : Summary) → TriesEvents i d.states summary → ComesInRun i d memory_row

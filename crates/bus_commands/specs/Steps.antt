@@ -1,27 +1,24 @@
 -- What the steps of the work say to one another.
-use Rattle.std.specs.Prelude.{◌≡◌, ◌⊎◌, ℕ, ◌≤◌, Some, List, ◌++◌, length, All, Result, Ok, Err, Vec}
+use Rattle.std.specs.Prelude.{◌≡◌, ℕ, ◌≤◌, List, ◌++◌, length, All, Result, Ok, Err, Vec}
 use Rattle.std.specs.List.{flat_map}
 use Rattle.std.specs.declared.alloc.Global.{Global}
-use Rattle.command_edge.specs.declared.input.InputFault.{InputFault}
 use Rattle.secured_pdu.specs.Frame.{IsPayload}
-use Rattle.text_lines.specs.declared.frames.FrameLine.{FrameLine}
-use Rattle.text_lines.specs.declared.judges.JudgeLine.{JudgeLine}
-use Rattle.text_lines.specs.Frames.{frames_of, judges_of, most_lines}
-use Rattle.text_lines.specs.Readings.{Fault}
-use Rattle.answer_rows.specs.Rows.{Row, row_of, input_row, memory_row}
-use Rattle.answer_rows.specs.Inputs.{Reading, IsUnread, ReadsWhole, Lacks}
+use Rattle.secoc_words.specs.declared.frames.FrameLine.{FrameLine}
+use Rattle.secoc_words.specs.declared.judges.JudgeLine.{JudgeLine}
+use Rattle.secoc_words.specs.Frames.{frames_of, judges_of}
+use Rattle.text_lines.specs.Readings.{most_lines, Fault}
+use Rattle.answer_rows.specs.Rows.{Row, row_of, memory_row}
+use Rattle.answer_rows.specs.Inputs.{Reading, IsUnread}
 use Rattle.answer_rows.specs.Endings.{Ending, EndsInRow}
-use Rattle.line_rows.specs.LineRows.{line_row, NoLines}
+use Rattle.line_rows.specs.LineRows.{NoLines}
 use Rattle.numbered_run.specs.declared.printing.Unwritten.{Unwritten}
 use Rattle.bus_nodes.specs.Buses.{NamedBus, IsNamedBus}
-use Rattle.bus_config.specs.declared.fault.ConfigFault.{ConfigFault}
-use Rattle.bus_config.specs.BusFile.{bus_of}
-use Rattle.bus_config.specs.FaultTexts.{config_fault_text}
 use Rattle.bus_machine.specs.declared.events.Event.{Event}
 use Rattle.bus_script.specs.EventForms.{events_of}
 use Rattle.bus_trials.specs.Trials.{trial_events}
 use Rattle.bus_script.specs.ScriptEvents.{IsScriptEvent}
 use Rattle.bus_script.specs.Canon.{canon}
+use Rattle.bus_inputs.specs.Scripts.{LacksLines, ReadsLinesAs}
 use Rattle.bus_commands.specs.declared.trial_words.TrialWords.{TrialWords}
 use Rattle.bus_commands.specs.declared.words.Command.TheVariants as command
 use Rattle.bus_commands.specs.declared.words.LineCommand.{LineCommand}
@@ -36,9 +33,11 @@ use Rattle.bus_commands.specs.declared.summary.Summary.{Summary}
 use Rattle.bus_commands.specs.Tasks.{Task, frame, judge, check}
 use Rattle.bus_commands.specs.Texts.{TellsEach, TellsFrame, TellsJudgement}
 use Rattle.bus_commands.specs.Words.{Asks}
-use Rattle.bus_commands.specs.Inputs.{BusInputs, ReadsBus, IsConfigFault, Over, SetsWorld}
+use Rattle.bus_commands.specs.Inputs.{BusInputs, Over, SetsWorld}
 use Rattle.bus_commands.specs.Summaries.{summary_text}
-use Rattle.bus_commands.specs.StartRows.{DiskStates, ComesOfStart}
+use Rattle.bus_world.specs.StartAnswers.{DiskStates, ComesOfStart}
+use Rattle.bus_world.specs.declared.start.Start.{Start}
+use Rattle.bus_world.specs.declared.start.Start.TheVariants.{Format}
 use Rattle.bus_commands.specs.Rows.{ComesOfInputs, DoneTrial, DoneReplay}
 
 -- the line's payload has 1 to 60 bytes
@@ -59,38 +58,6 @@ ReadsLines P meaning (Ok lines) = (meaning ≡ Ok lines.items) × All P lines.it
 ReadsLines P meaning (Err row) = NoLines meaning row
 
 -- ---- the sources
-
--- the row of a fault of a bus file, or want of memory for its text
-abbrev pub IsConfigRow : ConfigFault → Row → Type 0
-IsConfigRow fault row =
-    ((text : List ℕ) × (config_fault_text fault ≡ Some text) × (row ≡ row_of 3 text)) ⊎ (row ≡ memory_row)
-
--- the bus is the one that a bus file has, or the file is refused
-abbrev pub HasBus : List ℕ → Result NamedBus Row → Type 0
-HasBus file (Ok bus) = bus_of file ≡ Ok bus
-HasBus file (Err row) = ((fault : ConfigFault) × (bus_of file ≡ Err fault) × IsConfigRow fault row) ⊎ (row ≡ memory_row)
-
--- why the source of a bus file gives none
-pub data LacksBus (config : Reading) : Row → Type 0 where
-  no_file : (fault : InputFault) → Lacks config fault → LacksBus config (input_row fault)
-  file_refused : (fault : ConfigFault) (text : List ℕ) → IsConfigFault config fault
-      → config_fault_text fault ≡ Some text
-      → LacksBus config (row_of 3 text)
-
--- the bus of a bus file that was read whole, or why there is none
-abbrev pub FindsBus : Reading → Result NamedBus Row → Type 0
-FindsBus config (Ok bus) = ReadsBus config bus
-FindsBus config (Err row) = LacksBus config row
-
--- why a source gives no lines of this meaning
-pub data LacksLines {A : Type 0} (meaning : List ℕ → Result (List A) Fault) (script : Reading) : Row → Type 0 where
-  no_lines : (fault : InputFault) → Lacks script fault → LacksLines meaning script (input_row fault)
-  lines_refused : (fault : Fault) (text : List ℕ) → ReadsWhole script text → meaning text ≡ Err fault
-      → LacksLines meaning script (line_row fault)
-
--- the source was read whole, and its lines mean these
-abbrev pub ReadsLinesAs : {A : Type 0} → (List ℕ → Result (List A) Fault) → Reading → List A → Type 0
-ReadsLinesAs meaning script lines = (text : List ℕ) × ReadsWhole script text × (meaning text ≡ Ok lines)
 
 -- the lines of a source that was read whole, each of them whole, or why there are none
 abbrev pub FindsLines : {A : Type 0} → (List ℕ → Result (List A) Fault) → (A → Type 0) → Reading
@@ -158,12 +125,12 @@ PreparesWorld asked config script (Err row) = (words : List (List ℕ)) → Asks
 
 -- the number of events of a trial is one that its words may have
 abbrev pub HasFewEvents : WorldCommand → Type 0
-HasFewEvents Replay = Unit {0}
+HasFewEvents (Replay start) = Unit {0}
 HasFewEvents (Trial trial) = (1 ≤ trial.count) × (trial.count ≤ 60000)
 
 -- the events of a run of this bus, or why there are none; for a trial nothing is read
 abbrev pub FindsEvents : WorldCommand → NamedBus → Reading → Result (Vec Event Global) Row → Type 0
-FindsEvents Replay bus script result = FindsScript bus script result
+FindsEvents (Replay start) bus script result = FindsScript bus script result
 FindsEvents (Trial trial) bus script result = IsUnread script × DrawsEvents bus trial result
 
 -- ---- the second phase
@@ -182,7 +149,7 @@ pub data AnswersLines (job : LineJob) : Row → Type 0 where
 -- what a trial ends in: it isn't started, or all its events are done, and its seven lines are told, or there was no
 -- memory for them
 pub data AnswersTrial (bus : NamedBus) (events : List Event) (d : DiskStates) : Row → Type 0 where
-  refused_trial : (row : Row) → ComesOfStart bus d row → AnswersTrial bus events d row
+  refused_trial : (row : Row) → ComesOfStart Format bus d row → AnswersTrial bus events d row
   summed : (summary : Summary) → DoneTrial bus events d summary
       → AnswersTrial bus events d (row_of 0 (summary_text summary))
   no_summary : (summary : Summary) → DoneTrial bus events d summary → AnswersTrial bus events d memory_row
@@ -193,11 +160,13 @@ pub data TellsSummary (summary : Summary) : Row → Type 0 where
   no_lines_told : TellsSummary summary memory_row
 
 -- how a replay ends: it isn't started, or it did its first events
-pub data AnswersReplay (bus : NamedBus) (events : List Event) (d : DiskStates) (e : Ending) : Type 0 where
-  refused_replay : EndsInRow (ComesOfStart bus d) e → AnswersReplay bus events d e
-  first_done : (result : Result (Unit {0}) Unwritten) → DoneReplay bus events d e result → AnswersReplay bus events d e
+pub data AnswersReplay (start : Start) (bus : NamedBus) (events : List Event) (d : DiskStates) (e : Ending)
+    : Type 0 where
+  refused_replay : EndsInRow (ComesOfStart start bus d) e → AnswersReplay start bus events d e
+  first_done : (result : Result (Unit {0}) Unwritten) → DoneReplay start bus events d e result
+      → AnswersReplay start bus events d e
 
 -- how the run of a bus ends, by what is asked of it
 abbrev pub AnswersWorld : WorldCommand → NamedBus → List Event → DiskStates → Ending → Type 0
-AnswersWorld Replay bus events d e = AnswersReplay bus events d e
+AnswersWorld (Replay start) bus events d e = AnswersReplay start bus events d e
 AnswersWorld (Trial trial) bus events d e = EndsInRow (AnswersTrial bus events d) e

@@ -3,7 +3,8 @@ use Rattle.std.specs.Prelude.{ℕ, Bool, true, false, List, ◌++◌, length, co
 use Rattle.std.specs.Fmt.{decimal}
 use Rattle.text_lines.specs.Texts.{line}
 use Rattle.bus_machine.specs.declared.lines.Line.{Line}
-use Rattle.bus_machine.specs.declared.lines.Line.TheVariants.{Sent, Accepted, FreshnessFailure, VerificationFailure, Keyed, Up, Refused}
+use Rattle.bus_machine.specs.declared.lines.Line.TheVariants.{Sent, Accepted, FreshnessFailure, VerificationFailure}
+use Rattle.bus_machine.specs.declared.lines.Line.TheVariants.{Keyed, Up, Refused}
 use Rattle.bus_commands.specs.declared.summary.Summary.{Summary}
 
 -- ---- what a line tells

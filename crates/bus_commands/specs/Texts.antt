@@ -5,11 +5,12 @@ use Rattle.std.specs.Result.{result_err}
 use Rattle.hex.specs.Hex.{encode_lower}
 use Rattle.secured_pdu.specs.Frame.{Secured, IsFrame}
 use Rattle.secured_pdu.specs.Verdict.{Outcome, Verdict}
-use Rattle.text_lines.specs.declared.frames.FrameLine.{FrameLine}
-use Rattle.text_lines.specs.declared.judges.JudgeLine.{JudgeLine}
-use Rattle.text_lines.specs.Frames.{frames_of, judges_of}
+use Rattle.secoc_words.specs.declared.frames.FrameLine.{FrameLine}
+use Rattle.secoc_words.specs.declared.judges.JudgeLine.{JudgeLine}
+use Rattle.secoc_words.specs.Frames.{frames_of, judges_of}
 use Rattle.text_lines.specs.Readings.{Fault}
-use Rattle.text_lines.specs.Texts.{line, outcome_text, bad_length_text}
+use Rattle.secoc_words.specs.Texts.{outcome_text, bad_length_text}
+use Rattle.text_lines.specs.Texts.{line}
 use Rattle.bus_machine.specs.declared.events.Event.{Event}
 use Rattle.bus_script.specs.EventForms.{events_of}
 use Rattle.bus_script.specs.Canon.{canon}
@@ -42,11 +43,11 @@ Prints frame input text = (lines : List FrameLine) × (frames_of input ≡ Ok li
 Prints judge input text = (lines : List JudgeLine) × (judges_of input ≡ Ok lines) × TellsEach TellsJudgement lines text
 Prints (check bus) input text =
     (events : List Event) × (events_of bus.nodes input ≡ Ok events) × (text ≡ flat_map (canon bus.nodes) events)
-Prints (replay bus) input text = ⊥
+Prints (replay start bus) input text = ⊥
 
 -- the first fault of an input, if it has one
 abbrev pub fault_of : Task → List ℕ → Option Fault
 fault_of frame input = result_err (frames_of input)
 fault_of judge input = result_err (judges_of input)
 fault_of (check bus) input = result_err (events_of bus.nodes input)
-fault_of (replay bus) input = result_err (events_of bus.nodes input)
+fault_of (replay start bus) input = result_err (events_of bus.nodes input)

@@ -1,5 +1,6 @@
 -- The words of the command line, and what they ask for.
 use Rattle.std.specs.Prelude.{◌≡◌, ℕ, List, [], ◌∷◌, codes}
+use Rattle.bus_world.specs.declared.start.Start.TheVariants.{Format, Attach}
 use Rattle.bus_commands.specs.TrialWords.{NamesTrial}
 use Rattle.bus_commands.specs.declared.words.Command.{Command}
 use Rattle.bus_commands.specs.declared.words.Command.TheVariants.{Lines, World}
@@ -18,15 +19,17 @@ abbrev pub NamesBusCommand : List ℕ → Command → Type 0
 NamesBusCommand word (Lines Frame) = ⊥
 NamesBusCommand word (Lines Judge) = ⊥
 NamesBusCommand word (Lines Check) = word ≡ codes "check"
-NamesBusCommand word (World Replay) = word ≡ codes "replay"
+NamesBusCommand word (World (Replay Format)) = word ≡ codes "replay"
+NamesBusCommand word (World (Replay Attach)) = ⊥
 NamesBusCommand word (World (Trial trial)) = ⊥
 
--- the first of four words, of which the second names a bus file, the third is a number of events and the fourth a
--- seed, asks for this command
-abbrev pub NamesTrialCommand : List ℕ → List ℕ → List ℕ → Command → Type 0
-NamesTrialCommand word count seed (World (Trial trial)) = NamesTrial word count seed trial
-NamesTrialCommand word count seed (World Replay) = ⊥
-NamesTrialCommand word count seed (Lines command) = ⊥
+-- the first of four words, of which the second names a bus file, asks for this command: the third is a number of events
+-- and the fourth a seed, or they name a script and the file of a disk
+abbrev pub NamesCommandOfFour : List ℕ → List ℕ → List ℕ → Command → Type 0
+NamesCommandOfFour word third fourth (World (Trial trial)) = NamesTrial word third fourth trial
+NamesCommandOfFour word third fourth (World (Replay Attach)) = word ≡ codes "node"
+NamesCommandOfFour word third fourth (World (Replay Format)) = ⊥
+NamesCommandOfFour word third fourth (Lines command) = ⊥
 
 -- with no words it is `frame` over standard input
 abbrev pub IsDefault : Command → Type 0
@@ -41,7 +44,7 @@ Asks [] command = IsDefault command
 Asks (word ∷ []) command = ⊥
 Asks (word ∷ file ∷ []) command = NamesCommand word command
 Asks (word ∷ bus ∷ file ∷ []) command = NamesBusCommand word command
-Asks (word ∷ bus ∷ count ∷ seed ∷ []) command = NamesTrialCommand word count seed command
+Asks (word ∷ bus ∷ count ∷ seed ∷ []) command = NamesCommandOfFour word count seed command
 Asks (word ∷ bus ∷ count ∷ seed ∷ more ∷ words) command = ⊥
 
 -- the words are of no form
@@ -72,4 +75,14 @@ NamesScript [] name = name ≡ codes "-"
 NamesScript (word ∷ []) name = ⊥
 NamesScript (word ∷ file ∷ []) name = AsksSomething (word ∷ file ∷ []) × (name ≡ file)
 NamesScript (word ∷ bus ∷ file ∷ []) name = AsksSomething (word ∷ bus ∷ file ∷ []) × (name ≡ file) × ¬ AreInput bus file
-NamesScript (word ∷ bus ∷ file ∷ more ∷ words) name = ⊥
+NamesScript (word ∷ bus ∷ file ∷ disk ∷ []) name = (word ≡ codes "node") × (name ≡ file) × ¬ AreInput bus file
+NamesScript (word ∷ bus ∷ file ∷ disk ∷ more ∷ words) name = ⊥
+
+-- this word names the file of the disk on which a bus goes on
+abbrev pub NamesDisk : List (List ℕ) → List ℕ → Type 0
+NamesDisk [] name = ⊥
+NamesDisk (word ∷ []) name = ⊥
+NamesDisk (word ∷ bus ∷ []) name = ⊥
+NamesDisk (word ∷ bus ∷ file ∷ []) name = ⊥
+NamesDisk (word ∷ bus ∷ file ∷ disk ∷ []) name = (word ≡ codes "node") × (name ≡ disk)
+NamesDisk (word ∷ bus ∷ file ∷ disk ∷ more ∷ words) name = ⊥

@@ -1,11 +1,11 @@
 //! What the sources of a command have, or why they have it not.
 ghost use Rattle.std.specs.Prelude.{◌<◌, ◌≤◌, ◌^◌, length};
-ghost use Rattle.bus_commands.specs.Steps.{FindsBus, HasBus, IsConfigRow, FindsLines, FindsScript, HasScript, DrawsEvents};
+ghost use Rattle.bus_commands.specs.Steps.{FindsLines, FindsScript, HasScript};
+ghost use Rattle.bus_commands.specs.Steps.{DrawsEvents};
 
 use crate::questions::{Question, questions};
 use crate::trial_words::TrialWords;
 use answer_rows::Refusal;
-use bus_config::{ConfigFault, Memory as NoMemory, config_fault_text, read_config};
 use bus_nodes::BusConfig;
 use bus_port::Source;
 use bus_script::{Event, read_script};
@@ -13,34 +13,6 @@ use bus_trials::make_trial;
 use command_edge::read_input;
 use line_rows::line_refusal;
 use std::alloc::{AllocError, Global};
-
-/// The bus of the bus file that a source gives, or its refusal.
-pub fn bus_from<S: Source>(alloc: Global, config: &mut S) -> Result<BusConfig, Refusal>
-    ensures { FindsBus (record { before = S.state config.old; after = S.state config.new }) result }
-{
-    let input = read_input(alloc, config)?;
-    bus_in(alloc, input.as_slice())
-}
-
-/// The bus of a bus file, or its refusal.
-fn bus_in(alloc: Global, text: &[u8]) -> Result<BusConfig, Refusal>
-    ensures { HasBus text.now result }
-{
-    match read_config(alloc, text) {
-        Ok(bus) => Ok(bus),
-        Err(fault) => Err(config_refusal(alloc, &fault)),
-    }
-}
-
-/// The refusal of a bus file, with the text that names its fault, or want of memory.
-fn config_refusal(alloc: Global, fault: &ConfigFault) -> Refusal
-    ensures { IsConfigRow fault.now result }
-{
-    match config_fault_text(alloc, fault) {
-        Ok(text) => Refusal::made(3, text),
-        Err(NoMemory) => Refusal::no_memory(),
-    }
-}
 
 /// The questions of the lines that a source gives, or the refusal of the source or of a line.
 pub fn questions_from<Q: Question, S: Source>(

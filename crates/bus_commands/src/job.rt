@@ -3,7 +3,8 @@ use crate::events::canonical;
 use crate::questions::answers;
 use crate::words::WorldCommand;
 use bus_nodes::BusConfig;
-use bus_script::{Event, FrameLine, JudgeLine};
+use bus_script::Event;
+use secoc_words::{FrameLine, JudgeLine};
 use std::alloc::{AllocError, Global};
 
 /// What is to be done.

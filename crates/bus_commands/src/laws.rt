@@ -2,15 +2,20 @@
 ghost use Rattle.bus_commands.specs.Headline.{ReplaysAreRuns};
 ghost use Rattle.bus_commands.specs.TrialRuns.{TrialsAreRuns};
 
-use world_runs::{starts_are_set_up, starts_begin_at_the_first_world, turns_are_world_runs};
+use world_runs::{
+    starts_are_set_up, starts_begin_at_the_first_world, starts_go_on_at_a_first_world,
+    turns_are_world_runs,
+};
 
-/// What was done of a replay over disks that tell their bytes is one run of the machine from the first world of the bus,
-/// and all of `Replayed` holds of it.
+/// What was done of a replay over disks that tell their bytes is one run of the machine, and all of `Replayed` holds of
+/// it: from the first world of the bus, or, where its disks were attached and none of their bytes was loose, from one
+/// in which the bus goes on where they stand.
 pub fn replays_are_runs()
     ensures { ReplaysAreRuns }
 {
     starts_are_set_up();
     starts_begin_at_the_first_world();
+    starts_go_on_at_a_first_world();
     turns_are_world_runs();
 }
 

@@ -3,7 +3,7 @@
 //!
 //! [`run::run`] is all of it; its clauses say what each status means and what is printed. [`words::command_of`] tells
 //! which command the words ask for, and [`words::config_word`] and [`words::script_word`] which of them name its
-//! sources.
+//! sources, and [`words::disk_word`] the file of its disk; [`start::bus_words`] opens the sources.
 #![tactic(auto)]
 
 mod events;
@@ -14,6 +14,7 @@ mod lines;
 mod questions;
 mod replay;
 pub mod run;
+pub mod start;
 mod summary;
 mod trial;
 mod trial_words;

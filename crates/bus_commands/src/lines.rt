@@ -3,13 +3,14 @@ ghost use Rattle.std.specs.Prelude.{◌≡◌, ◌≤◌, ℕ, List, length, OnO
 ghost use Rattle.bus_commands.specs.Texts.{TellsFrame, TellsJudgement};
 ghost use Rattle.bus_commands.specs.Steps.{HasPayload, Adds};
 
-use bus_script::{FrameLine, JudgeLine};
 use counting_receiver::WIDEST_WINDOW;
+use secoc_words::verdicts::{push_bad_length, push_outcome};
+use secoc_words::{FrameLine, JudgeLine};
 use secured_pdu::{build, judge, split};
 use she_aes::{Block, Schedule, expand};
 use std::alloc::AllocError;
 use std::marker::Model;
-use text_lines::verdicts::{push_bad_length, push_digits, push_outcome};
+use text_lines::pushing::push_digits;
 
 /// The round keys of the key that a line had last. A contract sees that key.
 #[derive(Drop)]

@@ -1,7 +1,7 @@
 //! The lines of an input as questions, and their answers.
 ghost use Rattle.std.specs.Prelude.{◌≡◌, ◌<◌, ◌≤◌, ◌^◌, length, All, IfOk, OnOk, List, ℕ, Result};
 ghost use Rattle.text_lines.specs.Readings.{Fault, Gives};
-ghost use Rattle.text_lines.specs.Frames.{frames_of, judges_of};
+ghost use Rattle.secoc_words.specs.Frames.{frames_of, judges_of};
 ghost use Rattle.bus_commands.specs.Texts.{TellsEach, TellsFrame, TellsJudgement};
 ghost use Rattle.bus_commands.specs.Steps.{HasPayload, IsAny, Adds, ReadsLines};
 
@@ -9,10 +9,11 @@ use crate::lines::{
     KeptSchedule, most_frame_bytes, most_judgement_bytes, push_frame, push_judgement,
 };
 use answer_rows::Refusal;
-use bus_script::{FrameLine, JudgeLine, ScriptFault, read_frames, read_judges};
 use line_rows::line_refusal;
+use secoc_words::{FrameLine, JudgeLine, read_frames, read_judges};
 use she_aes::Block;
 use std::alloc::{AllocError, Global};
+use text_lines::ScriptFault;
 
 /// A kind of line that a command reads, each of which has an answer.
 pub trait Question: Sized + Drop {

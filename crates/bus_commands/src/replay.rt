@@ -1,19 +1,18 @@
 //! The replay of a script over disks.
-ghost use Rattle.std.specs.Prelude.{◌≡◌, map};
+ghost use Rattle.std.specs.Prelude.{map};
 ghost use Rattle.bus_nodes.specs.Buses.{IsNamedBus};
-ghost use Rattle.bus_commands.specs.Replays.{written_status};
 ghost use Rattle.bus_commands.specs.Steps.{AreEvents, AnswersReplay};
 
 use crate::laws::replays_are_runs;
 use answer_rows::tell_refusal;
+use bus_inputs::status_of_run;
 use bus_machine::{Event, Line};
 use bus_nodes::BusConfig;
 use bus_port::{Memory, Sink};
 use bus_texts::write_line;
 use bus_world::{Start, World, start_refusal};
-use command_edge::{DONE, NO_MEMORY, WRITE_FAULT};
 use cut_disk::CutDisk;
-use numbered_run::{LineText, Unwritten, print_run};
+use numbered_run::{LineText, print_run};
 use std::alloc::Global;
 use world_runs::{starts_are_set_up, turns_leave_disks};
 
@@ -33,25 +32,26 @@ impl LineText<Line> for Texts {
     }
 }
 
-/// Starts the bus over formatted disks, steps through the events and writes the line of each, and hands the disks
+/// Starts the bus over its disks, steps through the events and writes the line of each, and hands the disks
 /// back. After a text that isn't written no further event is done.
 pub fn replay<K: Sink, D: CutDisk>(
     alloc: Global,
     bus: &BusConfig,
     events: &[Event],
+    start: Start,
     sink: &mut K,
     disks: &mut Vec<D>,
 ) -> u8
     requires is_bus { IsNamedBus bus.now }
     requires are_events { AreEvents bus.now events.now }
-    ensures { AnswersReplay bus.now events.now
+    ensures { AnswersReplay start bus.now events.now
         (record { before = map D.state disks.old.items; after = map D.state disks.new.items })
         (record { before = K.state sink.old; after = K.state sink.new; status = result }) }
 {
     replays_are_runs();
     starts_are_set_up();
     turns_leave_disks();
-    let started = World::start(alloc, bus, disks, events.len() as u32, Start::Format);
+    let started = World::start(alloc, bus, disks, events.len() as u32, start);
     let mut world = match started {
         Ok(world) => world,
         Err(fault) => return tell_refusal(sink, &start_refusal(alloc, &fault)),
@@ -59,15 +59,4 @@ pub fn replay<K: Sink, D: CutDisk>(
     let printed = print_run::<World<D>, Texts, K>(alloc, &mut world, events, sink);
     world.finish(disks);
     status_of_run(printed)
-}
-
-/// The status of a run whose lines were all written, or not.
-fn status_of_run(printed: Result<(), Unwritten>) -> u8
-    ensures { result ≡ written_status printed }
-{
-    match printed {
-        Ok(()) => DONE,
-        Err(Unwritten::SinkFailed) => WRITE_FAULT,
-        Err(Unwritten::Memory) => NO_MEMORY,
-    }
 }

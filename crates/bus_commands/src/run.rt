@@ -1,17 +1,18 @@
 //! The commands of the program.
 ghost use Rattle.std.specs.Prelude.{◌≡◌, ◌≤◌, map, string_bytes};
 ghost use Rattle.answer_rows.specs.Endings.{EndsInRow};
-ghost use Rattle.bus_commands.specs.Rows.{EndsCommand};
-ghost use Rattle.bus_commands.specs.Commands.{RunsCommand};
-ghost use Rattle.bus_commands.specs.Steps.{Prepares, PreparesLines, PreparesWorld, HasFewEvents, FindsEvents, IsWholeLines, IsWholeWorld, AnswersLines, AnswersWorld};
+ghost use Rattle.bus_commands.specs.Commands.{RunsCommand, RunsMachine};
+ghost use Rattle.bus_commands.specs.Steps.{Prepares, PreparesLines, PreparesWorld, HasFewEvents, FindsEvents};
+ghost use Rattle.bus_commands.specs.Steps.{IsWholeLines, IsWholeWorld, AnswersLines, AnswersWorld};
 ghost use Rattle.bus_nodes.specs.Buses.{NamedBus};
 
-use crate::inputs::{bus_from, drawn_events, questions_from, script_from};
+use crate::inputs::{drawn_events, questions_from, script_from};
 use crate::job::{Job, LineJob, WorldJob};
 use crate::replay::replay;
 use crate::trial::trial;
 use crate::words::{Command, LineCommand, WorldCommand, command_of};
 use answer_rows::{Refusal, tell_refusal};
+use bus_inputs::bus_from;
 use bus_nodes::BusConfig;
 use bus_port::{Sink, Source};
 use bus_script::Event;
@@ -20,10 +21,11 @@ use cut_disk::CutDisk;
 use std::alloc::{AllocError, Global};
 
 /// Runs the command that the words ask for, the program's name left out, and gives the status that the program ends
-/// with. `config` gives the bus file, which `check`, `replay` and `trial` read, and `script` the lines, which all but
-/// `trial` read. All reading comes before all printing, and every text that is printed ends with a line feed. A
-/// replay and a trial format one disk a node. A replay writes each line as soon as its event is done, a trial its
-/// seven lines after all events.
+/// with. `config` gives the bus file, which `check`, `replay`, `trial` and `node` read, and `script` the lines, which
+/// all but `trial` read. All reading comes before all printing, and every text that is printed ends with a line feed.
+/// A replay and a trial format one disk a node; with `node` each node goes on where its disk stands, and the word that
+/// names a disk isn't looked at. A replay writes each line as soon as its event is done, a trial its seven lines after
+/// all events.
 ///
 /// The statuses are looked for in the order 2, then 5, 8 and 3 of the bus file, then 5, 8 and 4 of the lines, then 9
 /// and 10 of the disks. A sink that fails makes the status 6, whatever was to be printed, and no further event is
@@ -50,11 +52,11 @@ pub fn run<S: Source, T: Source, K: Sink, D: CutDisk>(
         })
         (record { before = K.state sink.old; after = K.state sink.new; status = result }) }
 
-    // A row of the table of answers comes; or a replay of valid inputs did its first events. Over disks that tell
-    // their bytes the events of a replay and of a trial are one run of the machine from the first world of the bus,
-    // and one record has all that holds of it: `is_a_run`, `are_lines`, `rising`, `authentic`, `single`, `keys_kept`,
+    // The headline: over disks that tell their bytes a replay is one run of the machine from the first world of the
+    // bus, and so is a trial; `node` is one from a world in which the bus goes on where its disks stand. `Replayed` and
+    // `Tried` have all that holds of it: `is_a_run`, `are_lines`, `rising`, `authentic`, `single`, `keys_kept`,
     // `cuts_skip_little`, `covered`, `disks`, `failures` and `honest`.
-    ensures replayed { EndsCommand
+    ensures replayed { RunsMachine
         (record {
           words = map string_bytes words.now;
           config = record { before = S.state config.old; after = S.state config.new };
@@ -165,7 +167,7 @@ fn events_for<T: Source>(
     ensures { FindsEvents command bus.now (record { before = T.state script.old; after = T.state script.new }) result }
 {
     match command {
-        WorldCommand::Replay => script_from(alloc, bus, script),
+        WorldCommand::Replay(_) => script_from(alloc, bus, script),
         WorldCommand::Trial(trial) => drawn_events(alloc, bus, trial),
     }
 }
@@ -195,7 +197,9 @@ fn do_world<K: Sink, D: CutDisk>(
         (record { before = K.state sink.old; after = K.state sink.new; status = result }) }
 {
     match job.command {
-        WorldCommand::Replay => replay(alloc, &job.bus, job.events.as_slice(), sink, disks),
+        WorldCommand::Replay(start) => {
+            replay(alloc, &job.bus, job.events.as_slice(), start, sink, disks)
+        }
         WorldCommand::Trial(_) => trial(alloc, &job.bus, job.events.as_slice(), sink, disks),
     }
 }

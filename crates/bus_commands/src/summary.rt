@@ -4,7 +4,7 @@ ghost use Rattle.bus_commands.specs.declared.summary.Summary.{Summary};
 ghost use Rattle.bus_commands.specs.Summaries.{number_line};
 ghost use Rattle.bus_commands.specs.SummarySteps.{summary_with, CountsFew};
 
-use bus_script::Line;
+use bus_machine::Line;
 use numbered_run::Tally;
 use std::alloc::{AllocError, Global};
 

@@ -1,16 +1,18 @@
 //! The words of the command line.
-ghost use Rattle.std.specs.Prelude.{◌≡◌, ℕ, List, map, string_bytes, IfSome, IfNone};
-ghost use Rattle.bus_commands.specs.Words.{Asks, NamesCommand, NamesBusCommand, NamesTrialCommand, AsksNothing, NamesConfig, NamesScript, AreInput};
+ghost use Rattle.std.specs.Prelude.{◌≡◌, ◌↔◌, ℕ, List, map, string_bytes, codes, IsTrue, IfSome, IfNone};
+ghost use Rattle.bus_commands.specs.Words.{Asks, NamesCommand, NamesBusCommand, NamesCommandOfFour, AsksNothing};
+ghost use Rattle.bus_commands.specs.Words.{NamesConfig, NamesScript, NamesDisk, AreInput};
 ghost use Rattle.bus_commands.specs.declared.words.Command.{Command};
 
 use crate::trial_words::{TrialWords, trial_of};
+use bus_world::Start;
 
 /// What the words ask for.
 #[derive(Clone, Copy, Debug, PartialEq, Eq)]
 pub enum Command {
     /// Lines are read, and what they come to is printed.
     Lines(LineCommand),
-    /// A bus runs over formatted disks, and what comes of it is printed.
+    /// A bus runs over disks, and what comes of it is printed.
     World(WorldCommand),
 }
 
@@ -28,8 +30,9 @@ pub enum LineCommand {
 /// A command that runs a bus over disks.
 #[derive(Clone, Copy, Debug, PartialEq, Eq)]
 pub enum WorldCommand {
-    /// `replay B F`: the lines of a script's events.
-    Replay,
+    /// The lines of a script's events: with `replay B F` over disks that are formatted, and with `node B F DISK` where
+    /// the bus goes on over its disk.
+    Replay(Start),
     /// `trial B N SEED`: the summary of a run of the events that a seed gives.
     Trial(TrialWords),
 }
@@ -43,7 +46,7 @@ pub fn command_of(words: &[String]) -> Option<Command>
         [] => Some(Command::Lines(LineCommand::Frame)),
         [name, _file] => over_lines(name.as_str()),
         [name, _bus, _file] => over_a_bus(name.as_str()),
-        [name, _bus, count, seed] => over_a_seed(name.as_str(), count.as_str(), seed.as_str()),
+        [name, _bus, third, fourth] => of_four(name.as_str(), third.as_str(), fourth.as_str()),
         _ => None,
     }
 }
@@ -67,20 +70,30 @@ fn over_a_bus(name: &str) -> Option<Command>
 {
     match name {
         "check" => Some(Command::Lines(LineCommand::Check)),
-        "replay" => Some(Command::World(WorldCommand::Replay)),
+        "replay" => Some(Command::World(WorldCommand::Replay(Start::Format))),
         _ => None,
     }
 }
 
-/// The command of this name that draws so many events from a seed.
-fn over_a_seed(name: &str, count: &str, seed: &str) -> Option<Command>
-    ensures found { IfSome result (NamesTrialCommand name.now count.now seed.now) }
-    ensures none { IfNone result ((command : Command) → ¬ NamesTrialCommand name.now count.now seed.now command) }
+/// The command of this name that reads a bus file, and a script and a disk, or a number of events and a seed.
+fn of_four(name: &str, third: &str, fourth: &str) -> Option<Command>
+    ensures found { IfSome result (NamesCommandOfFour name.now third.now fourth.now) }
+    ensures none { IfNone result ((command : Command) → ¬ NamesCommandOfFour name.now third.now fourth.now command) }
 {
-    match trial_of(name, count, seed) {
+    if is_node(name) {
+        return Some(Command::World(WorldCommand::Replay(Start::Attach)));
+    }
+    match trial_of(name, third, fourth) {
         Some(trial) => Some(Command::World(WorldCommand::Trial(trial))),
         None => None,
     }
+}
+
+/// Whether the command of this name lets a bus go on where its disk stands.
+fn is_node(name: &str) -> bool
+    ensures { IsTrue result ↔ (name.now ≡ codes "node") }
+{
+    name == "node"
 }
 
 /// The word that names the bus file. None where the command reads none, or the words are of no form.
@@ -90,8 +103,8 @@ pub fn config_word(words: &[String]) -> Option<&str>
 {
     match words {
         [name, bus, _file] if over_a_bus(name.as_str()).is_some() => Some(bus.as_str()),
-        [name, bus, count, seed]
-            if over_a_seed(name.as_str(), count.as_str(), seed.as_str()).is_some() => {
+        [name, bus, third, fourth]
+            if of_four(name.as_str(), third.as_str(), fourth.as_str()).is_some() => {
             Some(bus.as_str())
         }
         _ => None,
@@ -111,6 +124,19 @@ pub fn script_word(words: &[String]) -> Option<&str>
             bus.as_str(),
             file.as_str(),
         ),
+        [name, bus, file, _disk] if is_node(name.as_str()) => beside(bus.as_str(), file.as_str()),
+        _ => None,
+    }
+}
+
+/// The word that names the file of the disk on which a bus goes on: `-` is a file of that name, too. None for other
+/// words.
+pub fn disk_word(words: &[String]) -> Option<&str>
+    ensures some { IfSome result (λ word. NamesDisk (map string_bytes words.now) word.now) }
+    ensures none { IfNone result ((word : List ℕ) → ¬ NamesDisk (map string_bytes words.now) word) }
+{
+    match words {
+        [name, _bus, _file, disk] if is_node(name.as_str()) => Some(disk.as_str()),
         _ => None,
     }
 }

@@ -3,7 +3,7 @@ use Rattle.std.proofs.Common.{◌≡◌, ℕ, Bool, true, false, cond, List, Opt
 use Rattle.std.specs.Prelude.{bytes_eq, option_and_then}
 use Rattle.std.proofs.lemmas.Bool.{both_ways}
 use Rattle.std.proofs.lemmas.Slice.Eq.{bytes_eq-Decides}
-use Rattle.text_lines.specs.KeyForms.{uid_form, unless_zero, engine_uid_form}
+use Rattle.secoc_words.specs.KeyForms.{uid_form, unless_zero, engine_uid_form}
 
 some_same : (a b : List ℕ) → Some a ≡ Some b → a ≡ b
 some_same a b e = cc

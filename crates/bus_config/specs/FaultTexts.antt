@@ -12,6 +12,7 @@ abbrev pub config_fault_text : ConfigFault → Option (List ℕ)
 config_fault_text fault.Toml = Some (line (codes "config: toml"))
 config_fault_text fault.Root = Some (line (codes "config: root"))
 config_fault_text (fault.Node node) = Some (codes "config: node " ++ line (decimal node))
-config_fault_text (fault.Route node route) = Some (codes "config: route " ++ (decimal node ++ (codes " " ++ line (decimal route))))
+config_fault_text (fault.Route node route) =
+    Some (codes "config: route " ++ (decimal node ++ (codes " " ++ line (decimal route))))
 config_fault_text (fault.Sender id) = Some (codes "config: sender " ++ line (encode_lower (bytes_of 2 id)))
 config_fault_text fault.Memory = None

@@ -9,13 +9,14 @@ use Rattle.cell_store.specs.declared.kinds.Version.{Version}
 use Rattle.cell_store.specs.declared.kinds.Version.TheVariants.{One, Two}
 use Rattle.freshness_routes.specs.declared.routes.Direction.{Direction}
 use Rattle.freshness_routes.specs.declared.routes.Direction.TheVariants.{Sends, Receives}
-use Rattle.text_lines.specs.Forms.{data_id_form, fresh_form}
-use Rattle.text_lines.specs.KeyForms.{engine_uid_form}
+use Rattle.secoc_words.specs.Forms.{data_id_form, fresh_form}
+use Rattle.secoc_words.specs.KeyForms.{engine_uid_form}
 use Rattle.bus_nodes.specs.Names.{is_name}
 
 -- `store`: the text `twin` or `log`
 abbrev pub kind_form : List ℕ → Option Kind
-kind_form text = if bytes_eq text (codes "twin") then Some Twin else (if bytes_eq text (codes "log") then Some Log else None)
+kind_form text =
+    if bytes_eq text (codes "twin") then Some Twin else (if bytes_eq text (codes "log") then Some Log else None)
 
 abbrev pub kind_in : Data → Option Kind
 kind_in value = option_and_then kind_form (as_str value)
@@ -52,7 +53,9 @@ id_in value = option_and_then data_id_form (as_str value)
 
 -- `direction`: the text `send` or `receive`
 abbrev pub direction_form : List ℕ → Option Direction
-direction_form text = if bytes_eq text (codes "send") then Some Sends else (if bytes_eq text (codes "receive") then Some Receives else None)
+direction_form text =
+    if bytes_eq text (codes "send") then Some Sends
+    else (if bytes_eq text (codes "receive") then Some Receives else None)
 
 abbrev pub direction_in : Data → Option Direction
 direction_in value = option_and_then direction_form (as_str value)

@@ -31,7 +31,8 @@ pub(crate) struct Root<'a> {
 }
 
 fn routes(row: &Table, version: Version) -> Option<&[Value]>
-    ensures value { option_map (λ rows. map view rows.now) result ≡ optional [] (tables_in 0 (routes_at_most version)) (codes "route") (table_view row.now) }
+    ensures value { option_map (λ rows. map view rows.now) result
+        ≡ optional [] (tables_in 0 (routes_at_most version)) (codes "route") (table_view row.now) }
     ensures few { IfSome result (λ rows. length rows.now ≤ routes_at_most version) }
 {
     match member(row, "route") {

@@ -10,7 +10,6 @@ use cell_store::{Kind, Version};
 use freshness_routes::Direction;
 use key_slots::SlotId;
 use memory_update::Uid;
-use text_lines::forms;
 use toml::Value;
 
 // The text `twin` or `log`.
@@ -59,7 +58,7 @@ pub(crate) fn uid(value: &Value) -> Option<Uid>
     ensures is_uid { IfSome result IsUid }
     ensures not_zero { IfSome result (λ uid. uid ≢ replicate 15 0) }
 {
-    let uid = forms::engine_uid(value.as_str()?.as_bytes())?;
+    let uid = secoc_words::engine_uid(value.as_str()?.as_bytes())?;
     let _is_uid = uid.as_slice();
     Some(uid)
 }
@@ -68,7 +67,7 @@ pub(crate) fn uid(value: &Value) -> Option<Uid>
 pub(crate) fn id(value: &Value) -> Option<u16>
     ensures { result ≡ id_in (view value.now) }
 {
-    forms::data_id(value.as_str()?.as_bytes())
+    secoc_words::data_id(value.as_str()?.as_bytes())
 }
 
 // The text `send` or `receive`.
@@ -93,7 +92,7 @@ pub(crate) fn slot(value: &Value) -> Option<SlotId>
 pub(crate) fn start(value: &Value) -> Option<u64>
     ensures { result ≡ start_in (view value.now) }
 {
-    forms::fresh(value.as_str()?.as_bytes())
+    secoc_words::fresh(value.as_str()?.as_bytes())
 }
 
 // An array of `least` to `most` tables.

@@ -32,7 +32,9 @@ pub record IsFirst (world : World) : Type 0 where
 
 -- no Data ID is sent by two nodes
 abbrev pub OneSender : World → Type 0
-OneSender world = (i j id : ℕ) → i < length world.nodes → j < length world.nodes → HasRoute (node_at world i) id Sends → HasRoute (node_at world j) id Sends → i ≡ j
+OneSender world =
+    (i j id : ℕ) → i < length world.nodes → j < length world.nodes → HasRoute (node_at world i) id Sends
+    → HasRoute (node_at world j) id Sends → i ≡ j
 
 -- the first world of a bus is one, with one sender
 abbrev pub BusesBeginFirst : Type 0
@@ -50,12 +52,14 @@ BusesBeginWithTheirNodes = (bus : List Config) → HasNodesOf bus (First bus)
 
 -- each run from a first world has this
 abbrev pub EachRun : (World → Moments → World → Type 0) → Type 0
-EachRun Claim = (start : World) (ms : Moments) (last : World) → IsFirst start → Run Step start ms last → Claim start ms last
+EachRun Claim =
+    (start : World) (ms : Moments) (last : World) → IsFirst start → Run Step start ms last → Claim start ms last
 
 -- ---- the invariants
 
 abbrev pub StepsKeepSound : Type 0
-StepsKeepSound = (node : Node) (act : Act) (line : Line) (after : Node) → Sound node → NodeStep node act line after → Sound after
+StepsKeepSound =
+    (node : Node) (act : Act) (line : Line) (after : Node) → Sound node → NodeStep node act line after → Sound after
 
 abbrev pub RunsAreSound : Type 0
 RunsAreSound = EachRun (λ start ms last. SoundBus last)
@@ -84,7 +88,8 @@ RunsSettleKeys = EachRun (λ start ms last. SettledSlotsStay start ms)
 -- ---- cuts and honest PDUs
 
 abbrev pub CutsSkipLittle : Type 0
-CutsSkipLittle = EachRun (λ start ms last. (m : Instant) → Step last m.command m.line m.after → SkipsLittle start ms last m)
+CutsSkipLittle =
+    EachRun (λ start ms last. (m : Instant) → Step last m.command m.line m.after → SkipsLittle start ms last m)
 
 abbrev pub HonestIsHeard : Type 0
 HonestIsHeard = EachRun (λ start ms last. (i number : ℕ) (line : Line) (after : World) (s : SentLine)
@@ -117,7 +122,8 @@ RunsGoOn = EachRun (λ start ms last. (event : Event) → node_of event < length
 abbrev pub EventsHaveRuns : Type 0
 EventsHaveRuns = (start : World) (events : List Event) → IsFirst start
     → All (λ event. (node_of event < length start.nodes) × IsTypedUpdate event) events
-    → (ms : Moments) × (last : World) × Run Step start ms last × (commands_in ms ≡ events) × All (λ m. NoFailure m.line) ms
+    → (ms : Moments) × (last : World) × Run Step start ms last × (commands_in ms ≡ events)
+    × All (λ m. NoFailure m.line) ms
 
 -- ---- what is determined
 
@@ -134,7 +140,8 @@ Alike before _ _ = ⊥
 
 -- the lines and these choices determine every world of a run
 abbrev pub LinesDetermineWorlds : Type 0
-LinesDetermineWorlds = EachRun (λ start ms last. (ns : Moments) (other : World) → Run Step start ns other → Alike start ms ns → ms ≡ ns)
+LinesDetermineWorlds =
+    EachRun (λ start ms last. (ns : Moments) (other : World) → Run Step start ns other → Alike start ms ns → ms ≡ ns)
 
 -- the event is no cut
 abbrev pub NoCut : Event → Type 0

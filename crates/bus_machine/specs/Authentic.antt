@@ -30,7 +30,8 @@ pub record WasSent (start : World) (done : Moments) (number id v : ℕ) (payload
   pub same : key ≡ receiver_key → sent.pdu ≡ pdu
 
 -- what was received is secured under the key that the receiving route's slot held, usable, just before; `from` is the earliest event that sent the same
-pub record AcceptedRight (start : World) (done : Moments) (before : World) (m : Instant) (node : Node) (route id v : ℕ) (payload : List ℕ) (source : Option ℕ) : Type 0 where
+pub record AcceptedRight (start : World) (done : Moments) (before : World) (m : Instant) (node : Node) (route id v : ℕ)
+    (payload : List ℕ) (source : Option ℕ) : Type 0 where
   pub pdu : List ℕ
   pub received : act_of before m.command ≡ receives id pdu
   pub usable : key_refusal node route ≡ None
@@ -47,4 +48,5 @@ RightLine start done m (Accepted id v payload source) =
 RightLine start done m _ = Unit {0}
 
 abbrev pub Authentic : World → Moments → Type 0
-Authentic start ms = (done : Moments) (m : Instant) (rest : Moments) → ms ≡ done ++ m ∷ rest → RightLine start done m m.line
+Authentic start ms =
+    (done : Moments) (m : Instant) (rest : Moments) → ms ≡ done ++ m ∷ rest → RightLine start done m m.line

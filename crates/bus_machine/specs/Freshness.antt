@@ -41,4 +41,5 @@ pub record Covered (node : Node) (direction : Direction) (id v : ℕ) : Type 0 w
 -- all freshness that was sent or accepted so far is covered, whether the node is up or down
 abbrev pub AllCovered : Moments → World → Type 0
 AllCovered ms now =
-    All (λ m. (direction : Direction) (id v : ℕ) → Tells direction m.line id v → Covered (node_at now (node_of m.command)) direction id v) ms
+    All (λ m. (direction : Direction) (id v : ℕ) → Tells direction m.line id v
+    → Covered (node_at now (node_of m.command)) direction id v) ms

@@ -25,14 +25,16 @@ pub record HonestDelivery (world : World) (node : Node) (number : ℕ) (s : Sent
   pub in_time : IsInTime node s (place_of node s.id Receives)
 
 -- the same, where the receiver's slot holds the key that the sender's slot held at the send: that the key secures the PDU follows
-pub record SameKeyDelivery (start : World) (ms : Moments) (world : World) (node : Node) (number : ℕ) (s : SentLine) : Type 0 where
+pub record SameKeyDelivery (start : World) (ms : Moments) (world : World) (node : Node) (number : ℕ)
+    (s : SentLine) : Type 0 where
   pub found : find (λ s. s.number == number) world.sent ≡ Some s
   pub is_up : node.up ≡ true
   pub has_route : HasRoute node s.id Receives
   pub usable : key_refusal node (place_of node s.id Receives) ≡ None
   pub same_key : AtSome (SentAs s (route_key node (place_of node s.id Receives))) start ms
   pub above : counter_at node (place_of node s.id Receives) < s.freshness
-  pub near : s.freshness ≤ counter_at node (place_of node s.id Receives) + (route_at node (place_of node s.id Receives)).window
+  pub near : s.freshness
+      ≤ counter_at node (place_of node s.id Receives) + (route_at node (place_of node s.id Receives)).window
 
 -- the line's payload is accepted with its freshness, or the disk failed
 abbrev pub IsHeard : SentLine → Line → Type 0

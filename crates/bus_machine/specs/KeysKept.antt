@@ -15,7 +15,8 @@ slot_in world i t = slot_at (node_at world i).kept.slots t
 
 -- the moment's event is an update of slot t of node i to this content
 abbrev pub IsUpdateOf : ℕ → ℕ → Slot → World → Instant → Type 0
-IsUpdateOf i t slot before m = (node_of m.command ≡ i) × Makes (node_at before i) (act_of before m.command) (slot_to t slot)
+IsUpdateOf i t slot before m =
+    (node_of m.command ≡ i) × Makes (node_at before i) (act_of before m.command) (slot_to t slot)
 
 abbrev pub IsTaken : Line → Type 0
 IsTaken (Keyed slot) = Unit {0}

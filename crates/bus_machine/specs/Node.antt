@@ -90,7 +90,8 @@ powered config kept = record {
 
 -- at first each slot is empty, and each bound is its route's start
 abbrev pub first_node : Config → Node
-first_node config = powered config (record { slots = replicate 14 Empty; bounds = map (λ route. route.start) config.routes })
+first_node config =
+    powered config (record { slots = replicate 14 Empty; bounds = map (λ route. route.start) config.routes })
 
 -- the counter of route k became v, and the change, if one was due, was made before
 abbrev pub with_counter : Option Change → ℕ → ℕ → Node → Node

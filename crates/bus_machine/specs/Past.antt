@@ -36,7 +36,8 @@ abbrev pub Begins : (Node → Told → Type 0) → ℕ → World → List Entry 
 Begins fits i world first = (marks_of first ≡ []) × EndsFitting fits (node_at world i) first
 
 -- the entries of one event, and after it the past ends with a state that fits the node
-pub record AddsEntriesOf (fits : Node → Told → Type 0) (i : ℕ) (past : List Entry) (m : Instant) (part : List Entry) : Type 0 where
+pub record AddsEntriesOf (fits : Node → Told → Type 0) (i : ℕ) (past : List Entry) (m : Instant)
+    (part : List Entry) : Type 0 where
   pub others : node_of m.command ≢ i → part ≡ []
   pub marks : node_of m.command ≡ i → marks_of part ≡ option_to_list (mark_of m.command)
   pub few : node_of m.command ≡ i → length part ≤ most_entries (cell_count (node_at m.after i)) m.command

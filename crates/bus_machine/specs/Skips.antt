@@ -28,7 +28,8 @@ ToAccept node _ v = ⊥
 pub record FailedAccept (start : World) (ms : Moments) (i k v : ℕ) : Type 0 where
   pub bound : ℕ
   pub call : FailedCall start ms i (bound_to k bound)
-  pub accepts : ToAccept (node_at (state_after start call.done) i) (act_of (state_after start call.done) call.call.command) v
+  pub accepts : ToAccept (node_at (state_after start call.done) i)
+      (act_of (state_after start call.done) call.call.command) v
 
 -- a sender skips at most its reserve
 abbrev pub SenderSkips : Node → Node → ℕ → Type 0

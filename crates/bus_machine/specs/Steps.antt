@@ -60,7 +60,8 @@ key_refusal node k = mac_refusal node.kept.slots (is_good node.boot) (route_at n
 -- the refusals of a send under a route that is there, and of a PDU that it receives
 abbrev pub sender_refusals : List Slot → Bool → Route → ℕ → List ℕ → List (Option Refusal)
 sender_refusals slots good route counter payload =
-    when (not (has_length 1 60 payload)) BadLength ∷ mac_refusal slots good route ∷ when (counter == last_freshness) Exhausted ∷ []
+    when (not (has_length 1 60 payload)) BadLength ∷ mac_refusal slots good route
+    ∷ when (counter == last_freshness) Exhausted ∷ []
 
 abbrev pub receiver_refusals : List Slot → Bool → Route → List ℕ → List (Option Refusal)
 receiver_refusals slots good route pdu = when (not (has_length 5 64 pdu)) BadLength ∷ mac_refusal slots good route ∷ []
@@ -69,7 +70,8 @@ abbrev pub send_refusal : Node → ℕ → List ℕ → Option Refusal
 send_refusal node id payload = first_of (
     when (not node.up) Down
     ∷ when (not (has_route node id Sends)) NoRoute
-    ∷ sender_refusals node.kept.slots (is_good node.boot) (route_at node (place_of node id Sends)) (counter_at node (place_of node id Sends)) payload)
+    ∷ sender_refusals node.kept.slots (is_good node.boot) (route_at node (place_of node id Sends))
+    (counter_at node (place_of node id Sends)) payload)
 
 abbrev pub receive_refusal : Node → ℕ → List ℕ → Option Refusal
 receive_refusal node id pdu = first_of (
@@ -99,12 +101,14 @@ pub record SendsFrame (node : Node) (id : ℕ) (payload : List ℕ) (v : ℕ) (p
 -- what a node says of a PDU that its route takes
 pub record JudgesFrame (node : Node) (id : ℕ) (pdu : List ℕ) (outcome : verdict.Outcome) : Type 0 where
   pub allowed : receive_refusal node id pdu ≡ None
-  pub verdict_is : verdict.Verdict (route_key node (place_of node id Receives)) id (counter_at node (place_of node id Receives)) (route_at node (place_of node id Receives)).window pdu outcome
+  pub verdict_is : verdict.Verdict (route_key node (place_of node id Receives)) id
+      (counter_at node (place_of node id Receives)) (route_at node (place_of node id Receives)).window pdu outcome
 
 -- the payload is accepted with the freshness that its PDU was secured with
 pub record AcceptsFrame (node : Node) (id : ℕ) (pdu payload : List ℕ) (v : ℕ) (after : Node) : Type 0 where
   pub judged : JudgesFrame node id pdu (verdict.Accepted payload v)
-  pub after_is : after ≡ with_counter (receive_change node (place_of node id Receives) v) (place_of node id Receives) v node
+  pub after_is : after
+      ≡ with_counter (receive_change node (place_of node id Receives) v) (place_of node id Receives) v node
 
 -- the engine takes the update of the request
 pub record TakesUpdate (node : Node) (request : Request) (u : Update) : Type 0 where
@@ -166,14 +170,19 @@ Faults node act after = (change : Change) × Makes node act change × (after ≡
 abbrev pub NodeStep : Node → Act → Line → Node → Type 0
 NodeStep node (sends id payload) (Sent told v pdu) after = (told ≡ id) × SendsFrame node id payload v pdu after
 NodeStep node (sends id payload) (Refused MemoryFailure) after = Faults node (sends id payload) after
-NodeStep node (sends id payload) (Refused refusal) after = (send_refusal node id payload ≡ Some refusal) × (after ≡ node)
-NodeStep node (receives id pdu) (Accepted told v payload source) after = (told ≡ id) × AcceptsFrame node id pdu payload v after
-NodeStep node (receives id pdu) FreshnessFailure after = JudgesFrame node id pdu verdict.FreshnessFailure × (after ≡ node)
-NodeStep node (receives id pdu) VerificationFailure after = JudgesFrame node id pdu verdict.VerificationFailure × (after ≡ node)
+NodeStep node (sends id payload) (Refused refusal) after =
+    (send_refusal node id payload ≡ Some refusal) × (after ≡ node)
+NodeStep node (receives id pdu) (Accepted told v payload source) after =
+    (told ≡ id) × AcceptsFrame node id pdu payload v after
+NodeStep node (receives id pdu) FreshnessFailure after =
+    JudgesFrame node id pdu verdict.FreshnessFailure × (after ≡ node)
+NodeStep node (receives id pdu) VerificationFailure after =
+    JudgesFrame node id pdu verdict.VerificationFailure × (after ≡ node)
 NodeStep node (receives id pdu) (Refused MemoryFailure) after = Faults node (receives id pdu) after
 NodeStep node (receives id pdu) (Refused refusal) after = (receive_refusal node id pdu ≡ Some refusal) × (after ≡ node)
 NodeStep node (loads request) (Loaded reply) after =
-    (u : Update) × TakesUpdate node request u × Confirms reply u node.config.uid × (after ≡ with_slot u.id (slot_of u) node)
+    (u : Update) × TakesUpdate node request u × Confirms reply u node.config.uid
+    × (after ≡ with_slot u.id (slot_of u) node)
 NodeStep node (loads request) (Refused MemoryFailure) after = Faults node (loads request) after
 NodeStep node (loads request) (Refused refusal) after = RefusesUpdate node request refusal × (after ≡ node)
 NodeStep node (keys update authkey) (Keyed slot) after =

@@ -33,7 +33,8 @@ ids_sent nodes = flat_map (λ node. ids_sent_by node.config.routes) nodes
 -- the first of the list that stands before it, be it in the list or among those before
 abbrev pub again_after : List ℕ → List ℕ → Option ℕ
 again_after before [] = None
-again_after before (id ∷ ids) = if list_any (λ one. one == id) before then Some id else again_after (before ++ id ∷ []) ids
+again_after before (id ∷ ids) =
+    if list_any (λ one. one == id) before then Some id else again_after (before ++ id ∷ []) ids
 
 -- the first Data ID in order that is sent by a route and by an earlier one
 abbrev pub sent_again : List NodeLine → Option ℕ

@@ -13,4 +13,5 @@ is_name_byte byte = is_letter byte || is_ascii_digit byte || (byte == 45) || (by
 
 -- at most 16 such bytes, of which the first is there and is a letter
 abbrev pub is_name : List ℕ → Bool
-is_name word = nat_le 1 (length word) && nat_le (length word) 16 && is_letter (slice_index word 0) && list_all is_name_byte word
+is_name word =
+    nat_le 1 (length word) && nat_le (length word) 16 && is_letter (slice_index word 0) && list_all is_name_byte word

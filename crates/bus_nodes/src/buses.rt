@@ -72,7 +72,8 @@ impl BusConfig {
     /// The bus of these nodes; `None` where it is none: there isn't one node to 8, or two have one name, or one has more routes
     /// than the version allows, or two routes send one Data ID. It takes no memory.
     pub fn new(kind: Kind, version: Version, nodes: Vec<NodeLine>) -> Option<BusConfig>
-        ensures { SomeIff result (IsNamedBus (record { kind = kind; version = version; nodes = nodes.items })) (record { kind = kind; version = version; nodes = nodes.items }) }
+        ensures { SomeIff result (IsNamedBus (record { kind = kind; version = version; nodes = nodes.items }))
+            (record { kind = kind; version = version; nodes = nodes.items }) }
     {
         let listed = nodes.as_slice();
         if listed.is_empty() || listed.len() > 8 || !have_own_names(listed) {

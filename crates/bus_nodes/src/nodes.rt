@@ -42,7 +42,9 @@ fn is_sent(nodes: &[NodeLine], id: u16) -> bool
 
 // Whether a route sends a Data ID that one of these nodes or of these routes sends.
 fn sends_again(before: &[NodeLine], earlier: &[Route], route: &Route) -> bool
-    ensures { result ≡ (same_direction route.now.direction Sends && list_any (λ one. one == route.now.id) (ids_sent before.now ++ ids_sent_by earlier.now)) }
+    ensures { result
+        ≡ (same_direction route.now.direction Sends
+        && list_any (λ one. one == route.now.id) (ids_sent before.now ++ ids_sent_by earlier.now)) }
 {
     let Route { id, direction, .. } = *route;
     if direction != Direction::Sends {

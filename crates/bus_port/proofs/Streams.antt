@@ -1,37 +1,14 @@
 -- What came piece by piece, and what was appended piece by piece.
-use Rattle.std.proofs.Common.{◌≡◌, ℕ, ◌+◌, ◌-◌, ◌<◌, ◌≤◌, List, [], ◌++◌, length, take, drop, ◌∙◌, subst, sym, ap, refl, arith, append-nil, append_assoc, length-append}
+use Rattle.std.proofs.Common.{◌≡◌, ℕ, ◌+◌, ◌-◌, ◌<◌, ◌≤◌, List, ◌++◌, length, take, drop, ◌∙◌, subst, sym, ap, arith, append-nil, length-append}
 use Rattle.std.proofs.Math.Seq.{take-add}
 use Rattle.fault_count.specs.CountLaws.{rose_after}
-use Rattle.bus_port.specs.Fault.{RoseBy}
 use Rattle.bus_port.specs.Source.{SourceState, Came}
 use Rattle.bus_port.specs.Sink.{SinkState, Appended, WriteFails}
+use Rattle.bus_port.specs.SourceLaws.{Came-more}
 use Rattle.bus_port.specs.SinkLaws.{Appended-more}
 use Rattle.bus_port.specs.Whole.{ReadsPart, AppendedPart, PieceWritten}
 use Rattle.bus_port.specs.declared.whole_streams.ReadAll.{ReadAll}
 use Rattle.bus_port.specs.declared.whole_streams.ReadAll.TheVariants.{Failed, TooLong, Memory}
-
-RoseBy-more : (first before after m n : ℕ) → RoseBy first before m → RoseBy before after n → RoseBy first after (m + n)
-RoseBy-more first before after m n p q = omega arith
-
--- nothing came from a source that nothing was done to
-pub Came-nothing : (state : SourceState) → Came state state []
-Came-nothing state = record {
-  next = λ left told. (left, told, refl);
-  counted = omega arith;
-  later = omega arith;
-}
-
--- what came first, and then what came next
-pub Came-more : {first before after : SourceState} {some more : List ℕ} → Came first before some → Came before after more
-    → Came first after (some ++ more)
-Came-more {first} {before} {after} {some} {more} p q = record {
-  next = λ left told.
-      let one = p.next left told in
-      let two = q.next one.0 one.1 in
-      (two.0, two.1, one.2 ∙ ap (λ rest. some ++ rest) two.2 ∙ sym (append_assoc some more two.0));
-  counted = rw length-append (RoseBy-more first.taken before.taken after.taken (length some) (length more) p.counted q.counted);
-  later = omega (arith, p.later, q.later);
-}
 
 -- a refusal after these bytes came
 pub ReadsPart-more : {first before : SourceState} {some : List ℕ} (after : SourceState) (limit : ℕ) (cause : ReadAll) → length some ≤ limit

@@ -10,7 +10,8 @@ pub record SourceState : Type 0 where
 
 -- these bytes came from the source, and no others
 pub record Came (before after : SourceState) (bytes : List ℕ) : Type 0 where
-  pub next : (left : List ℕ) → before.told ≡ Some left → (rest : List ℕ) × (after.told ≡ Some rest) × (left ≡ bytes ++ rest)
+  pub next : (left : List ℕ) → before.told ≡ Some left
+      → (rest : List ℕ) × (after.told ≡ Some rest) × (left ≡ bytes ++ rest)
   pub counted : RoseBy before.taken after.taken (length bytes)
   pub later : before.faults ≤ after.faults
 

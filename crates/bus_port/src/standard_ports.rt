@@ -79,7 +79,8 @@ impl<R: Read> Source for StdSource<R> {
 
     fn read(&mut self, out: &mut [u8]) -> Result<usize, PortFailed>
         ensures exactly { StdReads self.old self.new result }
-        ensures reads { Reads (std_source R.remaining self.old) (std_source R.remaining self.new) out.old out.new result }
+        ensures reads { Reads (std_source R.remaining self.old)
+            (std_source R.remaining self.new) out.old out.new result }
     {
         match read_once(&mut self.reader, out) {
             Ok(count) => {

@@ -1,1 +1,4 @@
 pub mod Blanks
+pub mod Wanting
+pub mod Given
+pub mod OverFile

@@ -1,79 +1,168 @@
 //! `bus_replay`: Secured I-PDUs and verdicts (AUTOSAR SecOC, profile 1) from lines of text, and scripts of a bus.
 //!
-//! `run` of the crate `bus_commands` is the program; its clauses say what each status means and what is printed. This file makes the
-//! objects that it works on: standard output, standard input or the files that the words name, and the disks.
+//! `bus_words` of the crate `bus_commands` is the program; its clauses, and those of `run`, say what each status means
+//! and what is printed. Here it is handed the words, the files, standard input, standard output and the disks: those
+//! that are made in memory for a replay or a trial, and for `node` the one over its file.
 #![tactic(auto)]
 
-ghost use Rattle.std.specs.Prelude.{◌≡◌, ◌≢◌, ◌⊎◌, ◌^◌, ◌≤◌, drop, map, string_bytes, codes, IfSome, IfNone, IfOk, IsOk, None};
-ghost use Rattle.command_edge.specs.Named.{IsFreshFile, IsFreshInput};
-ghost use Rattle.command_edge.specs.declared.opening.NamedSource.TheVariants as named;
-ghost use Rattle.bus_commands.specs.Words.{AsksNothing};
+ghost use Rattle.std.specs.Prelude.{◌≡◌, ◌⊎◌, ℕ, List, ◌^◌, ◌≤◌, drop, map, string_bytes, IfOk, IfErr, IsOk};
+ghost use Rattle.bus_world.specs.declared.start.Start.TheVariants.{Attach};
+ghost use Rattle.bus_commands.specs.declared.words.Command.TheVariants.{World};
+ghost use Rattle.bus_commands.specs.declared.words.WorldCommand.TheVariants.{Replay};
+ghost use Rattle.bus_commands.specs.Words.{Asks, AsksNothing, NamesDisk};
+ghost use Rattle.bus_commands.specs.Inputs.{AsksWorld};
 ghost use Rattle.bus_replay.specs.Blank.{AreBlank, AreGiven};
+ghost use Rattle.bus_replay.specs.Running.{IsOneFile, RunsNamed};
 
-use bus_commands::run::run;
-use bus_commands::words::{Command, command_of, config_word, script_word};
-use bus_port::{StdSink, StdSource};
-use command_edge::{NO_MEMORY, NamedSource, behind_name, open_named, words_of};
+use bus_commands::start::bus_words;
+use bus_commands::words::{Command, command_of, disk_word};
+use bus_port::{Sink, Source, StdSink, StdSource};
+use command_edge::{NO_MEMORY, behind_name, words_of};
 use cut_disk::MemDisk;
+use file_disk::{FileDisk, SystemFile};
+use named_sources::{Opener, Paths};
 use std::alloc::{AllocError, Global};
-use std::io::Read;
 use std::process::ExitCode;
-use std::rt::Files;
 
 fn main(rt: HostRuntime) -> ExitCode {
+    let mut sink = StdSink::new(rt.stdout());
     let status = match words_of(&rt) {
-        Ok(words) => start(&rt, words.as_slice()),
+        Ok(words) => start(
+            &rt,
+            &Paths::of(&rt),
+            StdSource::new(rt.stdin()),
+            StdSource::new(rt.stdin()),
+            words.as_slice(),
+            &mut sink,
+        ),
         Err(AllocError) => NO_MEMORY,
     };
     ExitCode::from(status)
 }
 
-/// Runs the words of the command line, the program's name first, over standard output and the sources that they name.
-/// No file is opened before the words are known to ask for a command.
-fn start(rt: &HostRuntime, words: &[String]) -> u8
+/// Runs the words of the command line, the program's name first, over the sources that they name, and over the disks
+/// that are made for them. No file is opened before the words are known to ask for a command. That of a disk is opened,
+/// and made where it isn't there, before the bus file is read.
+fn start<O: Opener, I: Source + Drop, K: Sink>(
+    rt: &HostRuntime,
+    opener: &O,
+    config_input: I,
+    script_input: I,
+    words: &[String],
+    sink: &mut K,
+) -> u8
+    ensures words { RunsNamed (O.opens opener.now) (I.state config_input) (I.state script_input)
+        (drop 1 (map string_bytes words.now))
+        (record { before = K.state sink.old; after = K.state sink.new; status = result }) }
     ensures usage { result ≡ 2 → AsksNothing (drop 1 (map string_bytes words.now)) }
     ensures usage_only { AsksNothing (drop 1 (map string_bytes words.now)) → (result ≡ 2) ⊎ (result ≡ 6) }
 
-    // The disks that it makes for a replay or a trial are enough, and don't fail as the bus starts.
-    ensures starts { (result ≢ 9) × (result ≢ 10) }
+    // The disks that are made for a replay or a trial are enough, and don't fail as the bus starts: 9 and 10 come for
+    // `node` alone.
+    ensures starts { (result ≡ 9) ⊎ (result ≡ 10)
+        → Asks (drop 1 (map string_bytes words.now)) (World (Replay Attach)) }
 {
-    let words = behind_name(words);
-    let mut config = open(rt, rt.stdin(), config_word(words));
-    let mut script = open(rt, rt.stdin(), script_word(words));
-    let mut sink = StdSink::new(rt.stdout());
-    let Ok(mut disks) = disks_of(rt, words) else {
-        return NO_MEMORY;
-    };
-    run(
-        rt.alloc(),
-        words,
-        &mut config,
-        &mut script,
-        &mut sink,
-        &mut disks,
+    run_words(
+        rt,
+        opener,
+        config_input,
+        script_input,
+        behind_name(words),
+        sink,
     )
 }
 
-/// What a word names, from which nothing came yet: standard input for `-`, else a file; or a missing source where there is no word.
-fn open<R: Files, I: Read + Drop>(rt: &R, stdin: I, word: Option<&str>) -> NamedSource<R::File, I>
-    ensures input { IfSome word.entry (λ name. name.now ≡ codes "-" → IsFreshInput stdin result) }
-    ensures file { IfSome word.entry (λ name. ¬ (name.now ≡ codes "-") → IsFreshFile result) }
-    ensures missing { IfNone word.entry (result ≡ named.File (record { reader = None; taken = 0; faults = 0 })) }
+/// The same of the words behind the program's name.
+fn run_words<O: Opener, I: Source + Drop, K: Sink>(
+    rt: &HostRuntime,
+    opener: &O,
+    config_input: I,
+    script_input: I,
+    words: &[String],
+    sink: &mut K,
+) -> u8
+    ensures { RunsNamed (O.opens opener.now) (I.state config_input) (I.state script_input) (map string_bytes words.now)
+        (record { before = K.state sink.old; after = K.state sink.new; status = result }) }
 {
-    match word {
-        Some(word) => open_named(rt, stdin, word),
-        None => NamedSource::File(StdSource::missing()),
+    match disk_word(words) {
+        Some(path) => over_file(rt, opener, config_input, script_input, words, path, sink),
+        None => in_memory(rt.alloc(), opener, config_input, script_input, words, sink),
+    }
+}
+
+/// Runs `node`, over the disk of the file that its last word names.
+fn over_file<O: Opener, I: Source + Drop, K: Sink>(
+    rt: &HostRuntime,
+    opener: &O,
+    config_input: I,
+    script_input: I,
+    words: &[String],
+    path: &str,
+    sink: &mut K,
+) -> u8
+    requires { NamesDisk (map string_bytes words.now) path.now }
+    ensures { RunsNamed (O.opens opener.now) (I.state config_input) (I.state script_input) (map string_bytes words.now)
+        (record { before = K.state sink.old; after = K.state sink.new; status = result }) }
+{
+    match file_disks(rt, path) {
+        Ok(mut disks) => bus_words(
+            rt.alloc(),
+            opener,
+            config_input,
+            script_input,
+            words,
+            sink,
+            &mut disks,
+        ),
+        Err(AllocError) => NO_MEMORY,
+    }
+}
+
+/// One disk, over the file at this path, which is made where it isn't there. Room is asked for before it is opened.
+fn file_disks(rt: &HostRuntime, path: &str) -> Result<Vec<FileDisk<SystemFile>>, AllocError>
+    ensures { IfOk result (λ disks. IsOneFile disks.items) }
+{
+    let mut disks = Vec::with_capacity(rt.alloc(), 1)?;
+    disks.push(FileDisk::on(rt, path))?;
+    Ok(disks)
+}
+
+/// Runs words that name no disk, over those that are made in memory for them.
+fn in_memory<O: Opener, I: Source + Drop, K: Sink>(
+    alloc: Global,
+    opener: &O,
+    config_input: I,
+    script_input: I,
+    words: &[String],
+    sink: &mut K,
+) -> u8
+    requires { (name : List ℕ) → ¬ NamesDisk (map string_bytes words.now) name }
+    ensures { RunsNamed (O.opens opener.now) (I.state config_input) (I.state script_input) (map string_bytes words.now)
+        (record { before = K.state sink.old; after = K.state sink.new; status = result }) }
+{
+    match disks_of(alloc, words) {
+        Ok(mut disks) => bus_words(
+            alloc,
+            opener,
+            config_input,
+            script_input,
+            words,
+            sink,
+            &mut disks,
+        ),
+        Err(AllocError) => NO_MEMORY,
     }
 }
 
 /// Eight blank disks of 65,536 bytes for `replay` and `trial`, and none, without taking memory, for other words.
-fn disks_of(rt: &HostRuntime, words: &[String]) -> Result<Vec<MemDisk>, AllocError>
+fn disks_of(alloc: Global, words: &[String]) -> Result<Vec<MemDisk>, AllocError>
     ensures given { IfOk result (λ disks. AreGiven (map string_bytes words.now) disks.items) }
+    ensures wanted { IfErr result (λ _. AsksWorld (map string_bytes words.now)) }
     ensures usage { AsksNothing (map string_bytes words.now) → IsOk result }
 {
     match command_of(words) {
-        Some(Command::World(_)) => blank_disks(rt.alloc(), 8, 65_536),
-        _ => Ok(Vec::new(rt.alloc())),
+        Some(Command::World(_)) => blank_disks(alloc, 8, 65_536),
+        _ => Ok(Vec::new(alloc)),
     }
 }
 

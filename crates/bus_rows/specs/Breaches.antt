@@ -16,7 +16,8 @@ use Rattle.bus_rows.specs.Buses.{numbered_uid, sending_from, receiving_from, bus
 
 -- an event, its line, and the nodes after it
 abbrev pub instant : Event → Line → List Node → Instant
-instant event line nodes = record { command = event; line = line; after = record { nodes = nodes; events = 1; sent = [] } }
+instant event line nodes =
+    record { command = event; line = line; after = record { nodes = nodes; events = 1; sent = [] } }
 
 -- a replayed frame is accepted twice
 abbrev pub ReplayIsNoRising : Type 0
@@ -37,7 +38,8 @@ keyed_node node uid = with_slot 4 (slot_of (update_of (numbered_uid uid) 4 4 1 f
 
 abbrev pub keyed_bus : World
 keyed_bus = record {
-  nodes = keyed_node (first_node (sending_from 0xe93d7e1173931729)) 1 ∷ keyed_node (first_node (receiving_from 0xe93d7e1173931729)) 2 ∷ [];
+  nodes = keyed_node (first_node (sending_from 0xe93d7e1173931729)) 1
+      ∷ keyed_node (first_node (receiving_from 0xe93d7e1173931729)) 2 ∷ [];
   events = 2;
   sent = [];
 }
@@ -50,13 +52,20 @@ OtherCmacIsNoAuthentic = (nodes : List Node) → ¬ Authentic keyed_bus (
 -- an update is acknowledged, and after a cut the slot is empty again
 abbrev pub UndoneIsNoKept : Type 0
 UndoneIsNoKept = ¬ KeysKept (First bus_a) (
-    instant (Key 0 (update_of (numbered_uid 1) 4 4 1 for_macs bus_key) all_ones) (Keyed 4) (keyed_node (first_node (sending_from 0xe93d7e1173931729)) 1 ∷ first_node (receiving_from 0xe93d7e1173931729) ∷ [])
-    ∷ instant (Cut 0 Keep) Up (first_node (sending_from 0xe93d7e1173931729) ∷ first_node (receiving_from 0xe93d7e1173931729) ∷ []) ∷ [])
+    instant (Key 0 (update_of (numbered_uid 1) 4 4 1 for_macs bus_key) all_ones) (Keyed 4)
+    (keyed_node (first_node (sending_from 0xe93d7e1173931729)) 1 ∷ first_node (receiving_from 0xe93d7e1173931729)
+    ∷ [])
+    ∷ instant (Cut 0 Keep) Up
+    (first_node (sending_from 0xe93d7e1173931729) ∷ first_node (receiving_from 0xe93d7e1173931729) ∷ []) ∷ [])
 
 -- the disk fails while a slot is updated, a cut leaves it empty, and after the next cut it holds the update
 abbrev pub ReturnIsNoSettled : Type 0
 ReturnIsNoSettled = ¬ SettledSlotsStay (First bus_a) (
     instant (Key 0 (update_of (numbered_uid 1) 4 4 1 for_macs bus_key) all_ones) (Refused MemoryFailure)
-    (failed (slot_to 4 (slot_of (update_of (numbered_uid 1) 4 4 1 for_macs bus_key))) (first_node (sending_from 0xe93d7e1173931729)) ∷ first_node (receiving_from 0xe93d7e1173931729) ∷ [])
-    ∷ instant (Cut 0 Old) Up (first_node (sending_from 0xe93d7e1173931729) ∷ first_node (receiving_from 0xe93d7e1173931729) ∷ [])
-    ∷ instant (Cut 0 Keep) Up (keyed_node (first_node (sending_from 0xe93d7e1173931729)) 1 ∷ first_node (receiving_from 0xe93d7e1173931729) ∷ []) ∷ [])
+    (failed (slot_to 4 (slot_of (update_of (numbered_uid 1) 4 4 1 for_macs bus_key)))
+    (first_node (sending_from 0xe93d7e1173931729)) ∷ first_node (receiving_from 0xe93d7e1173931729) ∷ [])
+    ∷ instant (Cut 0 Old) Up
+    (first_node (sending_from 0xe93d7e1173931729) ∷ first_node (receiving_from 0xe93d7e1173931729) ∷ [])
+    ∷ instant (Cut 0 Keep) Up
+    (keyed_node (first_node (sending_from 0xe93d7e1173931729)) 1 ∷ first_node (receiving_from 0xe93d7e1173931729)
+    ∷ []) ∷ [])

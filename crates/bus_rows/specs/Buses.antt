@@ -37,7 +37,15 @@ last_bus = sending_from 0xfffffffffffffffe ∷ receiving_from 0xe93d7e1173931729
 abbrev pub receiving_with : ℕ → ℕ → Config
 receiving_with reserve window = record {
   uid = numbered_uid 2;
-  routes = record { id = 0x6bc1; direction = Receives; slot = 4; reserve = reserve; window = window; start = 0xe93d7e1173931729 } ∷ [];
+  routes =
+      record {
+        id = 0x6bc1;
+        direction = Receives;
+        slot = 4;
+        reserve = reserve;
+        window = window;
+        start = 0xe93d7e1173931729;
+      } ∷ [];
 }
 
 abbrev pub bus_with : ℕ → ℕ → List Config
@@ -59,7 +67,8 @@ master_key = 0 ∷ 1 ∷ 2 ∷ 3 ∷ 4 ∷ 5 ∷ 6 ∷ 7 ∷ 8 ∷ 9 ∷ 10 ∷ 
 
 -- 2b7e151628aed2a6abf7158809cf4f3c
 abbrev pub bus_key : List ℕ
-bus_key = 0x2b ∷ 0x7e ∷ 0x15 ∷ 0x16 ∷ 0x28 ∷ 0xae ∷ 0xd2 ∷ 0xa6 ∷ 0xab ∷ 0xf7 ∷ 0x15 ∷ 0x88 ∷ 0x09 ∷ 0xcf ∷ 0x4f ∷ 0x3c ∷ []
+bus_key =
+    0x2b ∷ 0x7e ∷ 0x15 ∷ 0x16 ∷ 0x28 ∷ 0xae ∷ 0xd2 ∷ 0xa6 ∷ 0xab ∷ 0xf7 ∷ 0x15 ∷ 0x88 ∷ 0x09 ∷ 0xcf ∷ 0x4f ∷ 0x3c ∷ []
 
 abbrev pub clear_flags : Flags
 clear_flags = record { write = false; boot = false; debugger = false; usage = false; wildcard = false }
@@ -78,7 +87,8 @@ no_wildcard = record clear_flags { wildcard = true }
 
 -- UID, slot, authorising slot, counter, flags and key
 abbrev pub update_of : List ℕ → ℕ → ℕ → ℕ → Flags → List ℕ → Update
-update_of uid id auth counter flags key = record { uid = uid; id = id; auth = auth; counter = counter; flags = flags; key = key }
+update_of uid id auth counter flags key =
+    record { uid = uid; id = id; auth = auth; counter = counter; flags = flags; key = key }
 
 -- ---- frames
 

@@ -114,12 +114,18 @@ boot_decided =
 abbrev pub updates : List (Event × Line)
 updates =
     (Key 0 (update_of (numbered_uid 1) 1 1 1 write_protected master_key) all_ones, Keyed 1)
-    ∷ (Key 0 (update_of (numbered_uid 1) 1 1 2 clear_flags master_key) master_key, Refused (refusal.Key KeyWriteProtected))
+    ∷ (
+      Key 0 (update_of (numbered_uid 1) 1 1 2 clear_flags master_key) master_key,
+      Refused (refusal.Key KeyWriteProtected),
+    )
     ∷ (Key 0 (update_of zero_uid 5 5 1 clear_flags bus_key) all_ones, Keyed 5)
     ∷ (Key 0 (update_of zero_uid 5 5 2 no_wildcard master_key) bus_key, Keyed 5)
     ∷ (Key 0 (update_of zero_uid 5 5 3 clear_flags bus_key) master_key, Refused (refusal.Key KeyUpdateError))
     ∷ (Key 0 (update_of (numbered_uid 1) 5 5 3 clear_flags master_key) master_key, Keyed 5)
     ∷ (Key 0 (update_of (numbered_uid 1) 6 6 268435455 clear_flags bus_key) all_ones, Keyed 6)
-    ∷ (Key 0 (update_of (numbered_uid 1) 6 6 268435455 clear_flags master_key) bus_key, Refused (refusal.Key KeyUpdateError))
+    ∷ (
+      Key 0 (update_of (numbered_uid 1) 6 6 268435455 clear_flags master_key) bus_key,
+      Refused (refusal.Key KeyUpdateError),
+    )
     ∷ (Key 0 (update_of (numbered_uid 1) 5 4 1 clear_flags bus_key) bus_key, Refused (refusal.Key KeyInvalid))
     ∷ (Key 0 (update_of (numbered_uid 1) 3 2 1 clear_flags bus_key) all_ones, Refused (refusal.Key KeyEmpty)) ∷ []

@@ -12,12 +12,12 @@ use Rattle.text_lines.specs.declared.fault.Cause.{Cause}
 use Rattle.text_lines.specs.declared.fault.Cause.TheVariants as cause
 use Rattle.text_lines.specs.declared.fault.ScriptFault.{ScriptFault}
 use Rattle.memory_update.specs.Identifier.{IsUid}
-use Rattle.text_lines.specs.DiskForms.{torn_form}
-use Rattle.text_lines.specs.Forms.{key_form, two_form, data_id_form, bytes_form}
-use Rattle.text_lines.specs.Frames.{most_lines}
-use Rattle.text_lines.specs.KeyForms.{slot_form, counter_form, flags_form}
+use Rattle.secoc_words.specs.DiskForms.{torn_form}
+use Rattle.secoc_words.specs.Forms.{key_form, two_form, data_id_form}
+use Rattle.text_lines.specs.Forms.{bytes_form}
+use Rattle.text_lines.specs.Readings.{most_lines, nth_word, field, Gives}
+use Rattle.secoc_words.specs.KeyForms.{slot_form, counter_form, flags_form}
 use Rattle.text_lines.specs.Lines.{lines_of}
-use Rattle.text_lines.specs.Readings.{nth_word, field, Gives}
 use Rattle.text_lines.proofs.Results.{bind_ok, field_ok, counted_ok}
 use Rattle.text_lines.proofs.Sizes.{All-read_from}
 use Rattle.text_lines.proofs.Values.{values_given}

@@ -12,10 +12,12 @@ use Rattle.cut_disk.specs.declared.Torn.{Torn}
 use Rattle.memory_update.specs.declared.messages.Request.{Request}
 use Rattle.memory_update.specs.declared.messages.Update.{Update}
 use Rattle.memory_update.specs.Messages.{IsUpdate}
-use Rattle.text_lines.specs.Frames.{most_lines}
+use Rattle.text_lines.specs.Readings.{most_lines}
 use Rattle.text_lines.specs.Lines.{lines_of}
-use Rattle.text_lines.specs.Written.{written, is_word_byte, is_plain_word, is_writable, bytes_word, IsLoad}
-use Rattle.text_lines.proofs.WrittenKinds.{key_form-encode, data_id_form-encode, bytes_form-word, hex_bytes_form-encode, pair_encode, plain_word, bytes_word-plain, blocks_word, all_writable, read_from-words}
+use Rattle.secoc_words.specs.Written.{IsLoad}
+use Rattle.text_lines.specs.Written.{written, is_word_byte, is_plain_word, is_writable, bytes_word}
+use Rattle.secoc_words.proofs.WrittenKinds.{key_form-encode, data_id_form-encode, pair_encode, blocks_word}
+use Rattle.text_lines.proofs.WrittenDigits.{bytes_form-word, hex_bytes_form-encode, plain_word, bytes_word-plain, all_writable, read_from-words}
 use Rattle.text_lines.proofs.WrittenLines.{words-written}
 use Rattle.bus_nodes.specs.declared.nodes.NodeLine.{NodeLine}
 use Rattle.bus_nodes.specs.Names.{is_name_byte, is_name}

@@ -18,11 +18,12 @@ use Rattle.cut_disk.specs.declared.Torn.{Torn}
 use Rattle.cut_disk.specs.declared.Torn.TheVariants.{Keep, Old, Half, Fill}
 use Rattle.key_slots.specs.Flags.{bit}
 use Rattle.key_slots.specs.declared.memory.Flags.{Flags}
-use Rattle.text_lines.specs.DiskForms.{torn_form}
+use Rattle.secoc_words.specs.DiskForms.{torn_form}
 use Rattle.text_lines.specs.Forms.{is_number, number_form}
-use Rattle.text_lines.specs.KeyForms.{uid_form, flag_form, flags_form}
-use Rattle.text_lines.specs.Written.{is_word_byte, is_plain_word, flags_text}
-use Rattle.text_lines.proofs.WrittenKinds.{sized_encode, plain_word}
+use Rattle.secoc_words.specs.KeyForms.{uid_form, flag_form, flags_form}
+use Rattle.secoc_words.specs.Written.{flags_text}
+use Rattle.text_lines.specs.Written.{is_word_byte, is_plain_word}
+use Rattle.text_lines.proofs.WrittenDigits.{sized_encode, plain_word}
 use Rattle.bus_script.specs.EventForms.{event_uid_form}
 use Rattle.bus_script.specs.Canon.{torn_word}
 use Rattle.bus_script.specs.ScriptEvents.{IsTorn}

@@ -14,9 +14,10 @@ use Rattle.hex.proofs.HexLemmas.{decode_of-ok, decode_sized-ok, decode_sized-twi
 use Rattle.cut_disk.specs.declared.Torn.{Torn}
 use Rattle.cut_disk.specs.declared.Torn.TheVariants.{Keep, Old, Half, Fill}
 use Rattle.memory_update.specs.Identifier.{IsUid}
-use Rattle.text_lines.specs.DiskForms.{torn_form}
-use Rattle.text_lines.specs.Forms.{key_form, both, two_form, data_id_form, is_number, number_form, hex_bytes_form, bytes_form}
-use Rattle.text_lines.specs.KeyForms.{uid_form}
+use Rattle.secoc_words.specs.DiskForms.{torn_form}
+use Rattle.secoc_words.specs.Forms.{key_form, both, two_form, data_id_form}
+use Rattle.text_lines.specs.Forms.{is_number, number_form, hex_bytes_form, bytes_form}
+use Rattle.secoc_words.specs.KeyForms.{uid_form}
 use Rattle.text_lines.proofs.Results.{ok_some, chosen_some}
 use Rattle.text_lines.proofs.Sizes.{hex_bytes_form-sizes}
 use Rattle.bus_script.specs.EventForms.{event_uid_form}

@@ -6,7 +6,8 @@ use Rattle.hex.specs.Hex.{encode_lower}
 use Rattle.cut_disk.specs.declared.Torn.{Torn}
 use Rattle.cut_disk.specs.declared.Torn.TheVariants.{Keep, Old, Half, Fill}
 use Rattle.memory_update.specs.declared.messages.Update.{Update}
-use Rattle.text_lines.specs.Written.{written, bytes_word, load_words, flags_text}
+use Rattle.secoc_words.specs.Written.{load_words, flags_text}
+use Rattle.text_lines.specs.Written.{written, bytes_word}
 use Rattle.bus_nodes.specs.declared.nodes.NodeLine.{NodeLine}
 use Rattle.bus_machine.specs.declared.events.Event.{Event}
 use Rattle.bus_machine.specs.declared.events.Event.TheVariants as event

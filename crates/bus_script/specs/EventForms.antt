@@ -9,11 +9,11 @@ use Rattle.bus_machine.specs.declared.events.Event.{Event}
 use Rattle.bus_machine.specs.declared.events.Event.TheVariants as event
 use Rattle.text_lines.specs.declared.fault.Cause.{Cause}
 use Rattle.text_lines.specs.declared.fault.Cause.TheVariants as cause
-use Rattle.text_lines.specs.DiskForms.{torn_form}
-use Rattle.text_lines.specs.Forms.{key_form, two_form, data_id_form, number_form, bytes_form, hex_bytes_form}
-use Rattle.text_lines.specs.KeyForms.{uid_form, slot_form, counter_form, flags_form}
-use Rattle.text_lines.specs.Readings.{Fault, ◌>>=◌, nth_word, field, with_count, read_all}
-use Rattle.text_lines.specs.Frames.{most_lines}
+use Rattle.secoc_words.specs.DiskForms.{torn_form}
+use Rattle.secoc_words.specs.Forms.{key_form, two_form, data_id_form}
+use Rattle.text_lines.specs.Forms.{number_form, bytes_form, hex_bytes_form}
+use Rattle.secoc_words.specs.KeyForms.{uid_form, slot_form, counter_form, flags_form}
+use Rattle.text_lines.specs.Readings.{Fault, ◌>>=◌, nth_word, field, with_count, read_all, most_lines}
 use Rattle.bus_script.specs.declared.kinds.EventKind.{EventKind}
 use Rattle.bus_script.specs.declared.kinds.EventKind.TheVariants.{Send, Deliver, Inject, Load, Key, Boot, Cut, Stop, Fail}
 use Rattle.bus_script.specs.EventKinds.{kinds, own_kinds, kind_of, kind_words}

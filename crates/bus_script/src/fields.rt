@@ -19,7 +19,7 @@ pub fn event_uid(bus: &BusConfig, place: u8, word: &[u8]) -> Option<Uid>
         let config = &node.config;
         return Some(config.uid);
     }
-    forms::uid(word)
+    secoc_words::uid(word)
 }
 
 /// A number from 1 to `most`.

@@ -16,10 +16,6 @@ mod writing;
 
 pub use crate::reader::{read_own_script, read_script};
 pub use crate::writing::write_event;
-pub use bus_machine::{Event, Line, Refusal};
+pub use bus_machine::Event;
 pub use bus_nodes::BusConfig;
-pub use bus_texts::write_line;
-pub use byte_lists::{Bytes, Pdu};
-pub use text_lines::{
-    Cause, FrameLine, JudgeLine, Memory, ScriptFault, forms, read_frames, read_judges, read_loads,
-};
+pub use text_lines::{Cause, Memory, ScriptFault};

@@ -29,7 +29,7 @@ pub fn read_send(alloc: Global, bus: &BusConfig, words: &Words<'_>) -> Result<Ev
     ensures { GivesLine (send_of bus.now.nodes words.now) result }
 {
     let node = value_at(2, bus.find(words.word(2)))?;
-    let id = value_at(3, forms::data_id(words.word(3)))?;
+    let id = value_at(3, secoc_words::data_id(words.word(3)))?;
     let payload = value_at(4, forms::bytes(alloc, words.word(4))?)?;
     Ok(Event::Send { node, id, payload })
 }
@@ -52,7 +52,7 @@ pub fn read_inject(alloc: Global, bus: &BusConfig, words: &Words<'_>) -> Result<
     ensures { GivesLine (inject_of bus.now.nodes words.now) result }
 {
     let node = value_at(2, bus.find(words.word(2)))?;
-    let id = value_at(3, forms::data_id(words.word(3)))?;
+    let id = value_at(3, secoc_words::data_id(words.word(3)))?;
     let pdu = value_at(4, forms::bytes(alloc, words.word(4))?)?;
     Ok(Event::Inject { node, id, pdu })
 }
@@ -64,9 +64,9 @@ pub fn read_load(bus: &BusConfig, words: &Words<'_>) -> Result<Event, LineFault>
     ensures { GivesLine (load_event_of bus.now.nodes words.now) result }
 {
     let node = value_at(2, bus.find(words.word(2)))?;
-    let m1 = value_at(3, forms::key(words.word(3)))?;
-    let m2 = value_at(4, forms::two(words.word(4)))?;
-    let m3 = value_at(5, forms::key(words.word(5)))?;
+    let m1 = value_at(3, secoc_words::key(words.word(3)))?;
+    let m2 = value_at(4, secoc_words::two(words.word(4)))?;
+    let m3 = value_at(5, secoc_words::key(words.word(5)))?;
     let request = Request { m1, m2, m3 };
     Ok(Event::Load { node, request })
 }
@@ -79,12 +79,12 @@ pub fn read_key(bus: &BusConfig, words: &Words<'_>) -> Result<Event, LineFault>
 {
     let node = value_at(2, bus.find(words.word(2)))?;
     let uid = value_at(3, event_uid(bus, node, words.word(3)))?;
-    let id = value_at(4, forms::slot(words.word(4)))?;
-    let auth = value_at(5, forms::slot(words.word(5)))?;
-    let authkey = value_at(6, forms::key(words.word(6)))?;
-    let counter = value_at(7, forms::counter(words.word(7)))?;
-    let flags = value_at(8, forms::flags(words.word(8)))?;
-    let key = value_at(9, forms::key(words.word(9)))?;
+    let id = value_at(4, secoc_words::slot(words.word(4)))?;
+    let auth = value_at(5, secoc_words::slot(words.word(5)))?;
+    let authkey = value_at(6, secoc_words::key(words.word(6)))?;
+    let counter = value_at(7, secoc_words::counter(words.word(7)))?;
+    let flags = value_at(8, secoc_words::flags(words.word(8)))?;
+    let key = value_at(9, secoc_words::key(words.word(9)))?;
     let update = Update {
         uid,
         id,
@@ -118,7 +118,7 @@ pub fn read_cut(bus: &BusConfig, words: &Words<'_>) -> Result<Event, LineFault>
     ensures { GivesLine (cut_of bus.now.nodes words.now) result }
 {
     let node = value_at(2, bus.find(words.word(2)))?;
-    let torn = value_at(3, forms::torn(words.word(3)))?;
+    let torn = value_at(3, secoc_words::torn(words.word(3)))?;
     Ok(Event::Cut { node, torn })
 }
 

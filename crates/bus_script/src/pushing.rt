@@ -7,7 +7,7 @@ ghost use Rattle.text_lines.specs.Written.{bytes_word};
 ghost use Rattle.bus_script.specs.WordsAdded.{AddsWord};
 
 use std::alloc::{AllocError, Global};
-use text_lines::verdicts::push_digits;
+use text_lines::pushing::push_digits;
 
 /// Adds a word.
 pub fn push_word(line: &mut Vec<u8>, word: &[u8]) -> Result<(), AllocError>

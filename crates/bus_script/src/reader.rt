@@ -1,9 +1,8 @@
 //! Reading a script line by line.
 
 ghost use Rattle.std.specs.Prelude.{◌≡◌, ◌<◌, ◌≤◌, ◌^◌, length, All, IfOk};
-ghost use Rattle.text_lines.specs.Readings.{Gives, GivesLine};
+ghost use Rattle.text_lines.specs.Readings.{Gives, GivesLine, most_lines};
 ghost use Rattle.bus_script.specs.EventKinds.{kind_words};
-ghost use Rattle.text_lines.specs.Frames.{most_lines};
 ghost use Rattle.bus_script.specs.EventForms.{events_among, events_of, own_events_of, fields_of};
 ghost use Rattle.bus_script.specs.ScriptEvents.{IsOwn, IsScriptEvent};
 

@@ -4,7 +4,8 @@ ghost use Rattle.std.specs.Prelude.{◌≡◌, ◌<◌, [], ◌∷◌, ◌++◌,
 ghost use Rattle.byte_lists.specs.Numbers.{bytes_of};
 ghost use Rattle.hex.specs.Hex.{encode_lower};
 ghost use Rattle.bus_machine.specs.Bus.{node_of};
-ghost use Rattle.text_lines.specs.Written.{bytes_word, load_words};
+ghost use Rattle.secoc_words.specs.Written.{load_words};
+ghost use Rattle.text_lines.specs.Written.{bytes_word};
 ghost use Rattle.bus_script.specs.Canon.{canon, event_kind, torn_word, update_words, field_words};
 ghost use Rattle.bus_script.specs.WordsAdded.{AddsWord, AddsWords};
 
@@ -14,11 +15,11 @@ use bus_machine::Event;
 use bus_nodes::BusConfig;
 use cut_disk::Torn;
 use memory_update::{Request, Update};
+use secoc_words::texts::flags_text;
 use she_aes::Block;
 use std::alloc::{AllocError, Global};
 use text_lines::Memory;
-use text_lines::texts::flags_text;
-use text_lines::verdicts::push_digits;
+use text_lines::pushing::push_digits;
 
 /// Adds the canonical line of an event to `out`, with its line feed: single spaces, lower-case digits, the identifier of a
 /// `key` written out, and `-` for no bytes. The event's node is in the bus. Without memory `out` is as before.
@@ -115,7 +116,8 @@ fn push_fields(alloc: Global, line: &mut Vec<u8>, event: &Event) -> Result<(), A
 /// Adds a Data ID and bytes.
 #[tactic(auto, using(crate::proofs::BigEndian::two_bytes))]
 fn push_pdu(line: &mut Vec<u8>, id: u16, bytes: &[u8]) -> Result<(), AllocError>
-    ensures { OnOk result (AddsWords line.old.items line.new.items (encode_lower (bytes_of 2 id) ∷ bytes_word bytes.now ∷ [])) }
+    ensures { OnOk result
+        (AddsWords line.old.items line.new.items (encode_lower (bytes_of 2 id) ∷ bytes_word bytes.now ∷ [])) }
 {
     push_hex(line, &id.to_be_bytes())?;
     push_bytes(line, bytes)

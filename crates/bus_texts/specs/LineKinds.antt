@@ -27,7 +27,8 @@ IsRefusal _ = Unit {0}
 -- numbers that fit, and bytes
 abbrev pub IsLine : Line → Type 0
 IsLine (Sent id v pdu) = (id < 2 ^ 16) × (v < 2 ^ 64) × IsPdu pdu
-IsLine (Accepted id v payload source) = (id < 2 ^ 16) × (v < 2 ^ 64) × IsPdu payload × IfSome source (λ event. event < 2 ^ 32)
+IsLine (Accepted id v payload source) =
+    (id < 2 ^ 16) × (v < 2 ^ 64) × IsPdu payload × IfSome source (λ event. event < 2 ^ 32)
 IsLine (Keyed slot) = slot < 14
 IsLine (Loaded reply) = IsReply reply
 IsLine (Refused refusal) = IsRefusal refusal

@@ -36,7 +36,8 @@ boot_word false = codes "wrong"
 
 -- the words of a line behind its number: a Data ID has four digits, a freshness 16, and bytes two each, in lower case
 abbrev pub told_words : Line → List (List ℕ)
-told_words (Sent id v pdu) = codes "sent" ∷ encode_lower (bytes_of 2 id) ∷ encode_lower (bytes_of 8 v) ∷ encode_lower pdu ∷ []
+told_words (Sent id v pdu) =
+    codes "sent" ∷ encode_lower (bytes_of 2 id) ∷ encode_lower (bytes_of 8 v) ∷ encode_lower pdu ∷ []
 told_words (Accepted id v payload source) =
     codes "accepted" ∷ encode_lower (bytes_of 2 id) ∷ encode_lower (bytes_of 8 v) ∷ encode_lower payload
     ∷ codes "from" ∷ source_word source ∷ []

@@ -9,6 +9,7 @@ join-spaced : (word : List ℕ) (words : List (List ℕ)) → join_with_byte 32 
 join-spaced word [] = sym (append-nil word)
 join-spaced word (next ∷ words) = ap (λ (l : List ℕ). word ++ (32 ∷ l)) (join-spaced next words)
 
-pub written-spaced : (word : List ℕ) (words : List (List ℕ)) → written (word ∷ words) ≡ word ++ (spaced words ++ 10 ∷ [])
+pub written-spaced : (word : List ℕ) (words : List (List ℕ))
+    → written (word ∷ words) ≡ word ++ (spaced words ++ 10 ∷ [])
 written-spaced word words =
     ap (λ (l : List ℕ). l ++ 10 ∷ []) (join-spaced word words) ∙ append_assoc word (spaced words) (10 ∷ [])

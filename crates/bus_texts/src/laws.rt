@@ -6,11 +6,14 @@ ghost use Rattle.bus_texts.specs.LineKinds.{IsLine};
 
 /// Lists of lines are told apart by their texts.
 pub fn texts_are_one_to_one()
-    ensures { (lines others : List Line) → All IsLine lines → All IsLine others → text_of lines ≡ text_of others → lines ≡ others }
+    ensures { (lines others : List Line) → All IsLine lines → All IsLine others → text_of lines ≡ text_of others
+        → lines ≡ others }
 {}
 
 /// Lines and their numbers are told apart by their texts, whatever stands behind them.
 pub fn a_line_is_read_from_its_text()
-    ensures { (number other : ℕ) (line same : Line) (rest tail : List ℕ) → number < 2 ^ 64 → other < 2 ^ 64 → IsLine line → IsLine same
-        → line_text number line ++ rest ≡ line_text other same ++ tail → (number ≡ other) × (line ≡ same) × (rest ≡ tail) }
+    ensures { (number other : ℕ) (line same : Line) (rest tail : List ℕ) → number < 2 ^ 64 → other < 2 ^ 64
+        → IsLine line → IsLine same
+        → line_text number line ++ rest ≡ line_text other same ++ tail
+        → (number ≡ other) × (line ≡ same) × (rest ≡ tail) }
 {}

@@ -12,7 +12,7 @@ ghost use Rattle.bus_texts.specs.Spaced.{spaced};
 use bus_machine::Refusal;
 use itoa::Buffer;
 use std::alloc::{AllocError, Global};
-use text_lines::verdicts::push_digits;
+use text_lines::pushing::push_digits;
 
 /// A new line: its number, in decimal digits.
 pub fn begin_line(alloc: Global, number: u32) -> Result<Vec<u8>, AllocError>

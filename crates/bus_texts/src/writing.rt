@@ -14,7 +14,7 @@ use byte_lists::Pdu;
 use memory_update::Reply;
 use std::alloc::{AllocError, Global};
 use text_lines::Memory;
-use text_lines::verdicts::push_digits;
+use text_lines::pushing::push_digits;
 
 /// Appends the text of the line with this number, from 1: the number in decimal digits, the words of the line with a
 /// space before each, and a line feed.
@@ -72,7 +72,8 @@ fn push_accepted(
     payload: &Pdu,
     from: Option<u32>,
 ) -> Result<(), AllocError>
-    ensures { OnOk result (text.new.items ≡ text.old.items ++ spaced (told_words (Accepted id freshness payload.now from))) }
+    ensures { OnOk result
+        (text.new.items ≡ text.old.items ++ spaced (told_words (Accepted id freshness payload.now from))) }
 {
     push_word(text, b"accepted")?;
     push_id(text, id)?;

@@ -1,6 +1,6 @@
 -- The events of a trial are a script.
 use Rattle.std.proofs.Common.{ℕ, ◌≤◌, length, arith}
-use Rattle.text_lines.specs.Frames.{most_lines}
+use Rattle.text_lines.specs.Readings.{most_lines}
 use Rattle.bus_nodes.specs.Buses.{NamedBus, IsNamedBus}
 use Rattle.bus_trials.specs.Trials.{trial_events}
 use Rattle.bus_trials.specs.TrialLaws.{TrialsAreScripts}

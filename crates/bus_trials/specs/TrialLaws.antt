@@ -1,7 +1,7 @@
 -- What holds of every trial.
 use Rattle.std.specs.Prelude.{◌≡◌, ℕ, ◌%◌, ◌≤◌, List, length, flat_map, All, Ok}
 use Rattle.cut_disk.specs.declared.Torn.TheVariants.{Keep}
-use Rattle.text_lines.specs.Frames.{most_lines}
+use Rattle.text_lines.specs.Readings.{most_lines}
 use Rattle.bus_nodes.specs.declared.nodes.NodeLine.{NodeLine}
 use Rattle.bus_nodes.specs.Buses.{NamedBus, IsNamedBus}
 use Rattle.bus_machine.specs.declared.events.Event.{Event}

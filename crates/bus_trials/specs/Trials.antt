@@ -47,7 +47,15 @@ slot_key slot = replicate 16 slot
 -- a node's slot gets its key, authorised by itself
 abbrev pub key_for : List NodeLine → ℕ → ℕ → ℕ → List ℕ → Event
 key_for nodes node slot counter authkey =
-    event.Key node (record { uid = uid_at nodes node; id = slot; auth = slot; counter = counter; flags = usage_alone; key = slot_key slot }) authkey
+    event.Key node
+    (record {
+      uid = uid_at nodes node;
+      id = slot;
+      auth = slot;
+      counter = counter;
+      flags = usage_alone;
+      key = slot_key slot;
+    }) authkey
 
 -- the slots 4 to 13 of a node get their keys, each while it is empty
 abbrev pub keys_of_node : List NodeLine → ℕ → List Event
@@ -67,7 +75,8 @@ pub record Drawn : Type 0 where
 -- the first draw of an event tells what it is about
 abbrev pub theme_of : ℕ → Theme
 theme_of value =
-    if nat_le value 6 then Send else if nat_le value 12 then Deliver else if value == 13 then Inject else if value == 14 then Key else Disk
+    if nat_le value 6 then Send else if nat_le value 12 then Deliver else if value == 13 then Inject
+    else if value == 14 then Key else Disk
 
 -- in the place of what the bus has no route for: the first event, to the first node, with no draw
 abbrev pub first_delivered : Event
@@ -119,7 +128,8 @@ torn_of value = if value == 0 then Keep else if value == 1 then Old else if valu
 -- what happens to a disk: a power cut, or that its calls stop, or that one fails
 abbrev pub disk_event : ℕ → ℕ → ℕ → Event
 disk_event value node last =
-    if nat_le value 1 then event.Cut node (torn_of (last % 4)) else if value == 2 then event.Stop node (1 + last % 8) else event.Fail node (1 + last % 8)
+    if nat_le value 1 then event.Cut node (torn_of (last % 4)) else if value == 2 then event.Stop node (1 + last % 8)
+    else event.Fail node (1 + last % 8)
 
 -- what happens, to one of so many nodes, and how
 abbrev pub disk_drawn : ℕ → ℕ → Drawn

@@ -58,7 +58,8 @@ impl Draws {
 
 /// So many bytes, each of its own draw.
 pub fn draw_bytes(alloc: Global, draws: &mut Draws, count: usize) -> Result<Vec<u8>, AllocError>
-    ensures { IfOk result (λ bytes. (bytes.items ≡ bytes_drawn draws.old count) × (draws.new ≡ after_draws draws.old count)) }
+    ensures { IfOk result
+        (λ bytes. (bytes.items ≡ bytes_drawn draws.old count) × (draws.new ≡ after_draws draws.old count)) }
 {
     let mut bytes = Vec::with_capacity(alloc, count)?;
     for _done in 0..count {

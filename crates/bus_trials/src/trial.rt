@@ -1,7 +1,7 @@
 //! The events of a trial: load that a seed gives, the same each time.
 
 ghost use Rattle.std.specs.Prelude.{◌≡◌, ℕ, ◌+◌, ◌*◌, ◌<◌, ◌≤◌, ◌++◌, length, All, IfOk, OnOk};
-ghost use Rattle.text_lines.specs.Frames.{most_lines};
+ghost use Rattle.text_lines.specs.Readings.{most_lines};
 ghost use Rattle.bus_nodes.specs.Buses.{ids_sent_by};
 ghost use Rattle.bus_script.specs.ScriptEvents.{IsScriptEvent};
 ghost use Rattle.bus_trials.specs.Trials.{senders_at, senders as senders_of, ids_at, route_ids as ids_of, key_for, keys_of_node, keys_of_bus, trial_events};

@@ -101,8 +101,8 @@ module _ (kind : Kind) (config : Config) (before mid : DiskState) (runs : Runs [
   leaves_moved after (open_fault.Store reread.DiskFailed) same = tt
   leaves_moved after (open_fault.Store reread.NotFormatted) same = λ t told. inr (subst (Migrated kind (cells_in config) t) (sym same) (migrates t told))
   leaves_moved after (open_fault.Store (reread.Damaged i)) same = λ t told. inr (subst (Migrated kind (cells_in config) t) (sym same) (migrates t told))
-  leaves_moved after (open_fault.BadSlot slot) same = λ t told. inr (subst (Migrated kind (cells_in config) t) (sym same) (migrates t told))
-  leaves_moved after (open_fault.BadBound place) same = λ t told. inr (subst (Migrated kind (cells_in config) t) (sym same) (migrates t told))
+  leaves_moved after (open_fault.BadSlot slot) same = λ t told. subst (Migrated kind (cells_in config) t) (sym same) (migrates t told)
+  leaves_moved after (open_fault.BadBound place) same = λ t told. subst (Migrated kind (cells_in config) t) (sym same) (migrates t told)
   leaves_moved after open_fault.TooSmall same = λ t told. inr (subst (Migrated kind (cells_in config) t) (sym same) (migrates t told))
   leaves_moved after open_fault.Memory same = λ t told. inr (subst (Migrated kind (cells_in config) t) (sym same) (migrates t told))
 

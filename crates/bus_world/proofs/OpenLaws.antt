@@ -32,7 +32,7 @@ use Rattle.bus_world.specs.declared.opening.OpenFault.{OpenFault}
 use Rattle.bus_world.specs.declared.opening.OpenFault.TheVariants as open_fault
 use Rattle.bus_world.specs.declared.start.Start.{Start}
 use Rattle.bus_world.specs.declared.start.Start.TheVariants.{Format, Attach}
-use Rattle.bus_world.specs.TakingUp.{cells_in, new_cells, start_calls, KeptOn, LeftOver, LeavesDisk, OpenCause, CountsRefusal}
+use Rattle.bus_world.specs.TakingUp.{cells_in, new_cells, start_calls, KeptOn, LeftOver, LeavesDisk, OpenCause, MovedFirst, CountsRefusal}
 use Rattle.bus_world.specs.Opening.{AttachedTo, AttachCauseOf, NotAttachedTo, of_store}
 use Rattle.bus_world.specs.Starts.{Opened, NotOpened, OpenedFirst}
 use Rattle.bus_world.proofs.AttachLaws.{kept_powered, OnlyDiskOrMemory, of_kept_alone}
@@ -54,6 +54,7 @@ not_opened_none start kind version config before = record {
   left = untouched_left start kind version config before;
   cause = tt;
   leaves = untouched_leaves start kind version config before;
+  moved = tt;
   counts = refl;
 }
 
@@ -69,6 +70,7 @@ not_opened_format kind version config before after store.DiskFailed room h unfor
   left = inr (inr h.1);
   cause = h.1;
   leaves = inr (inr (record { rose = h.1; runs = h.2; unformed = unformed refl }));
+  moved = tt;
   counts = h.1;
 }
 not_opened_format kind version config before after store.NotFormatted room h unformed = absurd h
@@ -135,6 +137,18 @@ open_cause kind version config before mid after (open_fault.BadBound cell) good 
 open_cause kind version config before mid after open_fault.TooSmall good f cause = cause
 open_cause kind version config before mid after open_fault.Memory good f cause = tt
 
+pub none_some : (o : Option Told) (t : Told) → o ≡ None → o ≡ Some t → ⊥
+none_some o t none some = cc
+
+-- bytes that are formatted are refused only where they aren't told
+untold_moved : (kind : Kind) (version : Version) (config : Config) (before after : DiskState) (f : OpenFault) → OpenCause Format kind version config before after f
+    → MovedFirst kind version config before.told after.told f
+untold_moved kind version config before after (open_fault.Store cause) untold = tt
+untold_moved kind version config before after (open_fault.BadSlot slot) untold = λ t told older. absurd (none_some before.told t untold told)
+untold_moved kind version config before after (open_fault.BadBound place) untold = λ t told older. absurd (none_some before.told t untold told)
+untold_moved kind version config before after open_fault.TooSmall untold = tt
+untold_moved kind version config before after open_fault.Memory untold = tt
+
 pub not_opened_attach : (kind : Kind) (version : Version) (config : Config) (before mid after : DiskState) (fault : OpenFault) → IsConfig config
     → IsFormatted kind version config before mid → NotAttachedTo kind version config mid after fault → NotOpened Format kind version config before after fault
 not_opened_attach kind version config before mid after fault good f a = record {
@@ -145,6 +159,7 @@ not_opened_attach kind version config before mid after fault good f a = record {
       fresh_images (layout kind version) (new_cells config) old.0 t (subst (λ o. FreshOn (layout kind version) (new_cells config) old.0 o) now (f.fresh old.0 old.1)) x image));
   cause = open_cause kind version config before mid after fault good f a.cause;
   leaves = inr (inl (subst (λ o. Formats (layout kind version) (new_cells config) before.told o) (sym a.told) f.fresh));
+  moved = untold_moved kind version config before after fault (open_cause kind version config before mid after fault good f a.cause);
   counts = subst (λ n. CountsRefusal fault n after.faults) f.faults a.counts;
 }
 

@@ -1,5 +1,5 @@
 -- A node that is opened over what a look found on its disk
-use Rattle.std.specs.Prelude.{◌≡◌, ◌⊎◌, ℕ, ◌≤◌, Option, None, Some, List, length}
+use Rattle.std.specs.Prelude.{◌≡◌, ◌⊎◌, ℕ, ◌≤◌, Option, Some, List, length}
 use Rattle.std.proofs.Common.{sym, ap, ◌∙◌, subst, arith, inl, inr}
 use Rattle.std.proofs.lemmas.Option.{same_Some}
 use Rattle.cut_disk.specs.State.{DiskState, Told}
@@ -31,10 +31,11 @@ use Rattle.secoc_node.proofs.CellsLaws.{length-CellsOf}
 use Rattle.bus_world.specs.declared.opening.OpenFault.{OpenFault}
 use Rattle.bus_world.specs.declared.opening.OpenFault.TheVariants as open_fault
 use Rattle.bus_world.specs.declared.start.Start.TheVariants.{Format, Attach}
-use Rattle.bus_world.specs.TakingUp.{cells_in, new_cells, start_calls, TakenOver, SameOrRose, MovedOver, TakingFailed, LeftTaken, LeftOver, LeavesDisk, OpenCause, CountsRefusal}
+use Rattle.bus_world.specs.TakingUp.{cells_in, new_cells, start_calls, TakenOver, SameOrRose, MovedOver, TakingFailed, LeftTaken, LeftOver, LeavesDisk, OpenCause, MovedFirst, CountsRefusal}
 use Rattle.bus_world.specs.Opening.{AttachedTo, NotAttachedTo, MovedTo, NotMovedTo}
 use Rattle.bus_world.specs.Starts.{Opened, NotOpened}
 use Rattle.bus_world.proofs.AttachLaws.{kept_powered}
+use Rattle.bus_world.proofs.OpenLaws.{none_some}
 use Rattle.bus_world.proofs.FoundLaws.{same_found, standing_not_blank, standing_not_older, older_not_blank, older_not_foreign, blank_not_foreign, older_one, standing_header, standing_counts, standing_damaged, no_node}
 
 -- ---- what is left of told bytes
@@ -119,9 +120,6 @@ format_few : (kind : Kind) (n : ℕ) → format_calls kind n ≤ move_calls kind
 format_few Twin n = omega arith
 format_few Log n = omega arith
 
-none_some : (o : Option Told) (t : Told) → o ≡ None → o ≡ Some t → ⊥
-none_some o t none some = cc
-
 -- the disk failed while it was looked at
 pub look_failed : (kind : Kind) (version : Version) (config : Config) (before after : DiskState) → ReadFailed 2 before after
     → NotOpened Attach kind version config before after (open_fault.Store reread.DiskFailed)
@@ -132,6 +130,7 @@ look_failed kind version config before after h =
       left = left_of_leaves kind version config before after (inr h.rose) leaves;
       cause = h.rose;
       leaves = leaves;
+      moved = tt;
       counts = h.rose;
     }
 
@@ -146,6 +145,7 @@ module _ (kind : Kind) (version : Version) (config : Config) (good : IsConfig co
         left = left_of_leaves kind version config before mid (inl read.faults) leaves;
         cause = λ t told. no_node kind version config t.bytes (open_fault.Store reread.NotFormatted) good (look t told);
         leaves = leaves;
+        moved = tt;
         counts = read.faults;
       }
 
@@ -192,6 +192,15 @@ module _ (kind : Kind) (version : Version) (config : Config) (good : IsConfig co
     standing_cause after open_fault.TooSmall a = a.cause
     standing_cause after open_fault.Memory a = tt
 
+    standing_moved : (after : DiskState) (fault : OpenFault) → MovedFirst kind version config before.told after.told fault
+    standing_moved after (open_fault.Store cause) = tt
+    standing_moved after (open_fault.BadSlot slot) = λ t told older.
+        absurd (standing_not_older (same_found kind version (cells_in config) t.bytes Standing Older (look t told) older))
+    standing_moved after (open_fault.BadBound place) = λ t told older.
+        absurd (standing_not_older (same_found kind version (cells_in config) t.bytes Standing Older (look t told) older))
+    standing_moved after open_fault.TooSmall = tt
+    standing_moved after open_fault.Memory = tt
+
     pub standing_refused : (after : DiskState) (fault : OpenFault) → NotAttachedTo kind version config mid after fault → NotOpened Attach kind version config before after fault
     standing_refused after fault a =
         let counts : CountsRefusal fault before.faults after.faults = subst (λ k. CountsRefusal fault k after.faults) read.faults a.counts in
@@ -201,6 +210,7 @@ module _ (kind : Kind) (version : Version) (config : Config) (good : IsConfig co
           left = left_of_leaves kind version config before after (same_or_rose before after fault counts) leaves;
           cause = standing_cause after fault a;
           leaves = leaves;
+          moved = standing_moved after fault;
           counts = counts;
         }
 
@@ -273,6 +283,15 @@ module _ (kind : Kind) (version : Version) (config : Config) (good : IsConfig co
     blank_cause after open_fault.TooSmall cause = cause
     blank_cause after open_fault.Memory cause = tt
 
+    blank_moved : (after : DiskState) (fault : OpenFault) → MovedFirst kind version config before.told after.told fault
+    blank_moved after (open_fault.Store cause) = tt
+    blank_moved after (open_fault.BadSlot slot) = λ t told older.
+        absurd (older_not_blank (same_found kind version (cells_in config) t.bytes Older Blank older (look t told)))
+    blank_moved after (open_fault.BadBound place) = λ t told older.
+        absurd (older_not_blank (same_found kind version (cells_in config) t.bytes Older Blank older (look t told)))
+    blank_moved after open_fault.TooSmall = tt
+    blank_moved after open_fault.Memory = tt
+
     pub blank_refused : (after : DiskState) (fault : OpenFault) → NotOpened Format kind version config mid after fault → NotOpened Attach kind version config before after fault
     blank_refused after fault o =
         let counts : CountsRefusal fault before.faults after.faults = subst (λ k. CountsRefusal fault k after.faults) read.faults o.counts in
@@ -282,6 +301,7 @@ module _ (kind : Kind) (version : Version) (config : Config) (good : IsConfig co
           left = left_of_leaves kind version config before after (same_or_rose before after fault counts) leaves;
           cause = blank_cause after fault o.cause;
           leaves = leaves;
+          moved = blank_moved after fault;
           counts = counts;
         }
 
@@ -340,10 +360,17 @@ module _ (kind : Kind) (config : Config) (good : IsConfig config) (before mid : 
   older_leaves after (open_fault.Store reread.DiskFailed) m counts = λ t told. inr (older_failed after (open_fault.Store reread.DiskFailed) m t told counts)
   older_leaves after (open_fault.Store reread.NotFormatted) m counts = λ t told. inl (older_calm after t told (m.leaves t (read.told ∙ told)), counts)
   older_leaves after (open_fault.Store (reread.Damaged i)) m counts = λ t told. inl (older_calm after t told (m.leaves t (read.told ∙ told)), counts)
-  older_leaves after (open_fault.BadSlot slot) m counts = λ t told. inl (older_calm after t told (m.leaves t (read.told ∙ told)), counts)
-  older_leaves after (open_fault.BadBound place) m counts = λ t told. inl (older_calm after t told (m.leaves t (read.told ∙ told)), counts)
+  older_leaves after (open_fault.BadSlot slot) m counts = λ t told. inl (older_calm after t told (inr (m.leaves t (read.told ∙ told))), counts)
+  older_leaves after (open_fault.BadBound place) m counts = λ t told. inl (older_calm after t told (inr (m.leaves t (read.told ∙ told))), counts)
   older_leaves after open_fault.TooSmall m counts = λ t told. inl (older_calm after t told (m.leaves t (read.told ∙ told)), counts)
   older_leaves after open_fault.Memory m counts = λ t told. inl (older_calm after t told (m.leaves t (read.told ∙ told)), counts)
+
+  older_moved : (after : DiskState) (fault : OpenFault) → NotMovedTo kind config mid after fault → MovedFirst kind Two config before.told after.told fault
+  older_moved after (open_fault.Store cause) m = tt
+  older_moved after (open_fault.BadSlot slot) m = λ t told older. m.leaves t (read.told ∙ told)
+  older_moved after (open_fault.BadBound place) m = λ t told older. m.leaves t (read.told ∙ told)
+  older_moved after open_fault.TooSmall m = tt
+  older_moved after open_fault.Memory m = tt
 
   pub older_refused : (after : DiskState) (fault : OpenFault) → NotMovedTo kind config mid after fault → NotOpened Attach kind Two config before after fault
   older_refused after fault m =
@@ -354,6 +381,7 @@ module _ (kind : Kind) (config : Config) (good : IsConfig config) (before mid : 
         left = left_of_leaves kind Two config before after (same_or_rose before after fault counts) leaves;
         cause = older_cause after fault m;
         leaves = leaves;
+        moved = older_moved after fault m;
         counts = counts;
       }
 

@@ -5,3 +5,5 @@ pub mod Opening
 pub mod Starts
 pub mod StartRows
 pub mod StartRowLaws
+pub mod StartAnswers
+pub mod StartAnswerLaws

@@ -29,7 +29,8 @@ use Rattle.bus_world.specs.TakingUp.{cells_in, CountsRefusal, StandsSo}
 
 -- ---- one node over its store
 
-pub record AttachedTo (kind : Kind) (version : Version) (config : Config) (before : DiskState) (n : NodeState) : Type 0 where
+pub record AttachedTo (kind : Kind) (version : Version) (config : Config) (before : DiskState) (n : NodeState)
+    : Type 0 where
   pub just_powered : n.node ≡ powered config n.node.kept
   pub sound : Sound n.node
   pub layout_is : n.store.layout ≡ layout kind version
@@ -54,15 +55,19 @@ AttachCauseOf kind version config before after (open_fault.Store reread.NotForma
     (t : Told) → before.told ≡ Some t → HasHeader (layout kind version) (cells_in config) t.bytes → ⊥
 AttachCauseOf kind version config before after (open_fault.Store (reread.Damaged i)) =
     (t : Told) → before.told ≡ Some t
-    → HasHeader (layout kind version) (cells_in config) t.bytes × FirstDamaged (layout kind version) t.bytes (cells_in config) i
+    → HasHeader (layout kind version) (cells_in config) t.bytes
+    × FirstDamaged (layout kind version) t.bytes (cells_in config) i
 AttachCauseOf kind version config before after (open_fault.BadSlot slot) =
-    (t : Told) → before.told ≡ Some t → StandsAs (layout kind version) (cells_in config) t.bytes (λ cells. FirstBadSlot cells slot)
+    (t : Told) → before.told ≡ Some t
+    → StandsAs (layout kind version) (cells_in config) t.bytes (λ cells. FirstBadSlot cells slot)
 AttachCauseOf kind version config before after (open_fault.BadBound place) =
-    (t : Told) → before.told ≡ Some t → StandsAs (layout kind version) (cells_in config) t.bytes (λ cells. SlotsButNoBound config.routes cells place)
+    (t : Told) → before.told ≡ Some t
+    → StandsAs (layout kind version) (cells_in config) t.bytes (λ cells. SlotsButNoBound config.routes cells place)
 AttachCauseOf kind version config before after open_fault.TooSmall = ⊥
 AttachCauseOf kind version config before after open_fault.Memory = Unit {0}
 
-pub record NotAttachedTo (kind : Kind) (version : Version) (config : Config) (before after : DiskState) (fault : OpenFault) : Type 0 where
+pub record NotAttachedTo (kind : Kind) (version : Version) (config : Config) (before after : DiskState)
+    (fault : OpenFault) : Type 0 where
   pub runs : Runs [] (reads kind (cells_in config)) before after
   pub told : after.told ≡ before.told
   pub cause : AttachCauseOf kind version config before after fault
@@ -70,7 +75,8 @@ pub record NotAttachedTo (kind : Kind) (version : Version) (config : Config) (be
 
 -- ---- one node over a store that is moved to version 2
 
--- the node is open over the store in version 2: told bytes stood for the cells of what it keeps in the version that counts
+-- the node is open over the store in version 2: told bytes stood for the cells of what it keeps in the version that
+-- counts
 pub record MovedTo (kind : Kind) (config : Config) (before : DiskState) (n : NodeState) : Type 0 where
   pub just_powered : n.node ≡ powered config n.node.kept
   pub sound : Sound n.node
@@ -82,7 +88,8 @@ pub record MovedTo (kind : Kind) (config : Config) (before : DiskState) (n : Nod
   pub grows : Grows before n.store.disk
   pub faults : n.store.disk.faults ≡ before.faults
 
--- the disk failed; or told bytes have no header of the store, or the store that counts is damaged, or its cells are no node's
+-- the disk failed; or told bytes have no header of the store, or the store that counts is damaged, or its cells are no
+-- node's
 abbrev pub MoveCauseOf : Kind → Config → DiskState → DiskState → OpenFault → Type 0
 MoveCauseOf kind config before after (open_fault.Store reread.DiskFailed) = Rose before.faults after.faults
 MoveCauseOf kind config before after (open_fault.Store reread.NotFormatted) =
@@ -92,13 +99,16 @@ MoveCauseOf kind config before after (open_fault.Store (reread.Damaged i)) =
 MoveCauseOf kind config before after (open_fault.BadSlot slot) =
     (t : Told) → before.told ≡ Some t → StandsSo kind (cells_in config) t.bytes (λ cells. FirstBadSlot cells slot)
 MoveCauseOf kind config before after (open_fault.BadBound place) =
-    (t : Told) → before.told ≡ Some t → StandsSo kind (cells_in config) t.bytes (λ cells. SlotsButNoBound config.routes cells place)
+    (t : Told) → before.told ≡ Some t
+    → StandsSo kind (cells_in config) t.bytes (λ cells. SlotsButNoBound config.routes cells place)
 MoveCauseOf kind config before after open_fault.TooSmall = ⊥
 MoveCauseOf kind config before after open_fault.Memory = Unit {0}
 
--- where the disk didn't fail, told bytes are as they were, or moved
+-- where the disk didn't fail, told bytes are as they were, or moved; they were moved where its cells are no node's
 abbrev pub LeavesMoved : Kind → ℕ → Option Told → Option Told → OpenFault → Type 0
 LeavesMoved kind n old new (open_fault.Store reread.DiskFailed) = Unit {0}
+LeavesMoved kind n old new (open_fault.BadSlot slot) = Migrates kind n old new
+LeavesMoved kind n old new (open_fault.BadBound place) = Migrates kind n old new
 LeavesMoved kind n old new fault = (t : Told) → old ≡ Some t → (new ≡ Some t) ⊎ Migrated kind n t new
 
 pub record NotMovedTo (kind : Kind) (config : Config) (before after : DiskState) (fault : OpenFault) : Type 0 where

@@ -21,38 +21,22 @@ use Rattle.bus_world.specs.declared.start.Start.{Start}
 use Rattle.bus_world.specs.declared.start.Start.TheVariants.{Format, Attach}
 use Rattle.bus_world.specs.TakingUp.{start_calls, LeftOver, LeavesDisk, RefusedFor}
 use Rattle.bus_world.specs.Starts.{HasRoom, OfNumber, RefusedAt, Broken, NotStarted, FindsRoom}
-use Rattle.bus_world.specs.StartRows.{start_row, StoreCause, LeavesEach, RefusesStart, CanStart, DisksDo}
+use Rattle.bus_world.specs.StartRows.{start_row, StoreCause, LeavesEach, CanStart, DisksDo}
 
 -- something past the last node
 no_line : NodeLine
 no_line = record { name = []; config = no_config }
 
--- a start is refused with 9, with 10, or for want of memory
-pub start_statuses : (f : StartFault) → ((start_row f).status ≡ 9) ⊎ (((start_row f).status ≡ 10) ⊎ (f ≡ fault.Memory))
-start_statuses fault.TooFew = inl refl
-start_statuses (fault.TooSmall node) = inl refl
-start_statuses (fault.Store node cause) = inr (inl refl)
-start_statuses (fault.BadSlot node slot) = inr (inl refl)
-start_statuses (fault.BadBound node cell) = inr (inl refl)
-start_statuses fault.Memory = inr (inr refl)
-
--- 9 comes before any call of a disk
-pub refused_at_9 : (start : Start) (bus : NamedBus) (before after : List DiskState) (f : StartFault) → NotStarted start bus before after f → (start_row f).status ≡ 9
-    → FindsRoom bus before f × (after ≡ before)
-refused_at_9 start bus before after fault.TooFew refused is = refused
-refused_at_9 start bus before after (fault.TooSmall node) refused is = refused
-refused_at_9 start bus before after (fault.Store node cause) refused is = absurd (let no : ⊥ = omega (arith, is) in no)
-refused_at_9 start bus before after (fault.BadSlot node slot) refused is = absurd (let no : ⊥ = omega (arith, is) in no)
-refused_at_9 start bus before after (fault.BadBound node cell) refused is = absurd (let no : ⊥ = omega (arith, is) in no)
-refused_at_9 start bus before after fault.Memory refused is = absurd (let no : ⊥ = omega (arith, is) in no)
-
 -- a quiet disk doesn't fail
-quiet_stays : (n : ℕ) (old new : DiskState) → Runs [] n old new → IsQuiet old → (old.faults < new.faults) ⊎ (last_count ≤ new.faults) → ⊥
+quiet_stays : (n : ℕ) (old new : DiskState) → Runs [] n old new → IsQuiet old
+    → (old.faults < new.faults) ⊎ (last_count ≤ new.faults) → ⊥
 quiet_stays n old new runs quiet (inl more) = omega (arith, (runs.quiet refl quiet).faults, more)
 quiet_stays n old new runs quiet (inr top) = omega (arith, (runs.quiet refl quiet).faults, quiet.below, top)
 
-loud_at : (start : Start) (bus : NamedBus) (before after : List DiskState) (f : StartFault) (number : ℕ) → Broken start bus before after f
-    → OfNumber start bus before after number (λ config old new. Rose old.faults new.faults) → OfNumber start bus before after number (λ config old new. Rose old.faults new.faults × ¬ IsQuiet old)
+loud_at : (start : Start) (bus : NamedBus) (before after : List DiskState) (f : StartFault) (number : ℕ)
+    → Broken start bus before after f
+    → OfNumber start bus before after number (λ config old new. Rose old.faults new.faults)
+    → OfNumber start bus before after number (λ config old new. Rose old.faults new.faults × ¬ IsQuiet old)
 loud_at start bus before after f number broken of = record {
   least = of.least;
   most = of.most;
@@ -67,66 +51,60 @@ loud_at start bus before after f number broken of = record {
 }
 
 -- 10 comes where a store failed, or its disk doesn't tell its bytes
-pub refused_at_10 : (start : Start) (bus : NamedBus) (before after : List DiskState) (f : StartFault) → NotStarted start bus before after f → (start_row f).status ≡ 10 → StoreCause start bus before after f
+pub refused_at_10 : (start : Start) (bus : NamedBus) (before after : List DiskState) (f : StartFault)
+    → NotStarted start bus before after f → (start_row f).status ≡ 10 → StoreCause start bus before after f
 refused_at_10 start bus before after fault.TooFew refused is = absurd (let no : ⊥ = omega (arith, is) in no)
 refused_at_10 start bus before after (fault.TooSmall node) refused is = absurd (let no : ⊥ = omega (arith, is) in no)
-refused_at_10 start bus before after (fault.Store node reread.DiskFailed) refused is = loud_at start bus before after (fault.Store node reread.DiskFailed) node refused refused.cause
+refused_at_10 start bus before after (fault.Store node reread.DiskFailed) refused is =
+    loud_at start bus before after (fault.Store node reread.DiskFailed) node refused refused.cause
 refused_at_10 start bus before after (fault.Store node reread.NotFormatted) refused is = refused.cause
 refused_at_10 start bus before after (fault.Store node (reread.Damaged place)) refused is = refused.cause
 refused_at_10 start bus before after (fault.BadSlot node slot) refused is = refused.cause
 refused_at_10 start bus before after (fault.BadBound node cell) refused is = refused.cause
 refused_at_10 start bus before after fault.Memory refused is = absurd (let no : ⊥ = omega (arith, is) in no)
 
-left_of : (start : Start) (bus : NamedBus) (before after : List DiskState) (f : StartFault) → Broken start bus before after f → LeavesEach start bus before after
-left_of start bus before after f broken = record { count = broken.count; each = broken.left; rest = broken.rest; leaves = broken.leaves }
+left_of : (start : Start) (bus : NamedBus) (before after : List DiskState) (f : StartFault)
+    → Broken start bus before after f → LeavesEach start bus before after
+left_of start bus before after f broken =
+    record { count = broken.count; each = broken.left; rest = broken.rest; leaves = broken.leaves }
 
-untouched_left : (start : Start) (kind : Kind) (version : Version) (config : Config) (before : DiskState) → LeftOver start kind version config before before
+untouched_left : (start : Start) (kind : Kind) (version : Version) (config : Config) (before : DiskState)
+    → LeftOver start kind version config before before
 untouched_left Format kind version config before = inl refl
 untouched_left Attach kind version config before = (inl refl, λ t told. inl (told, refl))
 
-untouched_leaves : (start : Start) (kind : Kind) (version : Version) (config : Config) (before : DiskState) → LeavesDisk start kind version config before before
+untouched_leaves : (start : Start) (kind : Kind) (version : Version) (config : Config) (before : DiskState)
+    → LeavesDisk start kind version config before before
 untouched_leaves Format kind version config before = inl refl
 untouched_leaves Attach kind version config before = λ t told. inl (inl told, refl)
 
 -- disks that are as before
-pub leaves_same : (start : Start) (bus : NamedBus) (before after : List DiskState) → after ≡ before → LeavesEach start bus before after
-leaves_same start bus before after same = subst (λ (disks : List DiskState). LeavesEach start bus before disks) (sym same) (record {
-  count = refl;
-  each = λ i l d inside. (
-    runs_more (start_calls start bus.kind (get_or bus.nodes i l).config) (omega arith) (runs_none (get_or before i d)),
-    untouched_left start bus.kind bus.version (get_or bus.nodes i l).config (get_or before i d),
-  );
-  rest = refl;
-  leaves = λ i l d inside. untouched_leaves start bus.kind bus.version (get_or bus.nodes i l).config (get_or before i d);
-})
+pub leaves_same : (start : Start) (bus : NamedBus) (before after : List DiskState) → after ≡ before
+    → LeavesEach start bus before after
+leaves_same start bus before after same =
+    subst (λ (disks : List DiskState). LeavesEach start bus before disks) (sym same) (record {
+      count = refl;
+      each = λ i l d inside. (
+        runs_more (start_calls start bus.kind (get_or bus.nodes i l).config) (omega arith) (runs_none (get_or before i d)),
+        untouched_left start bus.kind bus.version (get_or bus.nodes i l).config (get_or before i d),
+      );
+      rest = refl;
+      leaves =
+          λ i l d inside. untouched_leaves start bus.kind bus.version (get_or bus.nodes i l).config (get_or before i d);
+    })
 
 -- what a start that is refused leaves, whatever its cause
-pub start_leaves : (start : Start) (bus : NamedBus) (before after : List DiskState) (f : StartFault) → NotStarted start bus before after f → LeavesEach start bus before after
+pub start_leaves : (start : Start) (bus : NamedBus) (before after : List DiskState) (f : StartFault)
+    → NotStarted start bus before after f → LeavesEach start bus before after
 start_leaves start bus before after fault.TooFew refused = leaves_same start bus before after refused.1
 start_leaves start bus before after (fault.TooSmall node) refused = leaves_same start bus before after refused.1
-start_leaves start bus before after (fault.Store node cause) refused = left_of start bus before after (fault.Store node cause) refused
-start_leaves start bus before after (fault.BadSlot node slot) refused = left_of start bus before after (fault.BadSlot node slot) refused
-start_leaves start bus before after (fault.BadBound node cell) refused = left_of start bus before after (fault.BadBound node cell) refused
+start_leaves start bus before after (fault.Store node cause) refused =
+    left_of start bus before after (fault.Store node cause) refused
+start_leaves start bus before after (fault.BadSlot node slot) refused =
+    left_of start bus before after (fault.BadSlot node slot) refused
+start_leaves start bus before after (fault.BadBound node cell) refused =
+    left_of start bus before after (fault.BadBound node cell) refused
 start_leaves start bus before after fault.Memory refused = left_of start bus before after fault.Memory refused
-
--- a start that isn't refused for want of memory is refused for its disks
-pub start_refuses : (start : Start) (bus : NamedBus) (before after : List DiskState) (f : StartFault) → NotStarted start bus before after f → (f ≡ fault.Memory → ⊥) → RefusesStart start bus before after f
-start_refuses start bus before after f refused other = elim (start_statuses f) [
-  | inl nine ↦ inl (refused_at_9 start bus before after f refused nine)
-  | inr more ↦ elim more [
-    | inl ten ↦ inr (refused_at_10 start bus before after f refused ten, start_leaves start bus before after f refused)
-    | inr memory ↦ absurd (other memory)
-  ]
-]
-
--- without room a start is refused with 9
-pub start_without_room : (start : Start) (bus : NamedBus) (before after : List DiskState) (f : StartFault) → NotStarted start bus before after f → (HasRoom bus before → ⊥) → (start_row f).status ≡ 9
-start_without_room start bus before after fault.TooFew refused none = refl
-start_without_room start bus before after (fault.TooSmall node) refused none = refl
-start_without_room start bus before after (fault.Store node cause) refused none = absurd (none refused.room)
-start_without_room start bus before after (fault.BadSlot node slot) refused none = absurd (none refused.room)
-start_without_room start bus before after (fault.BadBound node cell) refused none = absurd (none refused.room)
-start_without_room start bus before after fault.Memory refused none = absurd (none refused.room)
 
 -- ---- disks that do
 
@@ -134,7 +112,8 @@ told_not_none : (o : Option Told) (t : Told) → o ≡ Some t → o ≡ None →
 told_not_none o t told none = cc
 
 -- a disk that is quiet, or doesn't fail, doesn't fail
-does_not_fail : (n : ℕ) (old new : DiskState) → Runs [] n old new → Rose old.faults new.faults → IsQuiet old ⊎ ¬ Rose old.faults new.faults → ⊥
+does_not_fail : (n : ℕ) (old new : DiskState) → Runs [] n old new → Rose old.faults new.faults
+    → IsQuiet old ⊎ ¬ Rose old.faults new.faults → ⊥
 does_not_fail n old new runs rose (inl quiet) = quiet_stays n old new runs quiet rose
 does_not_fail n old new runs rose (inr calm) = calm rose
 
@@ -143,30 +122,51 @@ no_disk : DiskState
 no_disk = record { size = 0; told = None; arms = no_arms; faults = 0; quiet = true; past = None }
 
 -- no disk of them is refused for what it has
-able_at : (start : Start) (kind : Kind) (version : Version) (config : Config) (told : Option Told) (f : OpenFault) (t : Told) → told ≡ Some t
+able_at : (start : Start) (kind : Kind) (version : Version) (config : Config) (told : Option Told) (f : OpenFault)
+    (t : Told) → told ≡ Some t
     → CanStart start kind version config t.bytes → RefusedFor start kind version config told f → ⊥
 able_at Format kind version config told f t is able refused = told_not_none told t is refused
 able_at Attach kind version config told f t is able refused = (refused t is).none able.0 able.1
 
-told_at : (start : Start) (bus : NamedBus) (before after : List DiskState) (number : ℕ) (f : OpenFault) → RefusedAt start bus before after number f → DisksDo start bus before after → ⊥
+told_at : (start : Start) (bus : NamedBus) (before after : List DiskState) (number : ℕ) (f : OpenFault)
+    → RefusedAt start bus before after number f → DisksDo start bus before after → ⊥
 told_at start bus before after number f of able =
     let has = able (number - 1) no_line no_disk (omega (arith, of.least, of.most)) in
-    able_at start bus.kind bus.version (get_or bus.nodes (number - 1) no_line).config (get_or before (number - 1) no_disk).told f has.0.0 has.0.1 has.0.2 (of.disk no_line no_disk)
+    able_at start bus.kind bus.version (get_or bus.nodes (number - 1) no_line).config
+    (get_or before (number - 1) no_disk).told f has.0.0 has.0.1 has.0.2 (of.disk no_line no_disk).0
 
--- a start over them, where there is room, is refused for want of memory alone
-pub start_wants_memory : (start : Start) (bus : NamedBus) (before after : List DiskState) (f : StartFault) → NotStarted start bus before after f → HasRoom bus before → DisksDo start bus before after
-    → f ≡ fault.Memory
-start_wants_memory start bus before after fault.TooFew refused room able = absurd (let no : ⊥ = omega (arith, refused.0, room.enough) in no)
-start_wants_memory start bus before after (fault.TooSmall node) refused room able =
-    absurd (let no : ⊥ = omega (arith, refused.0.small no_line no_disk, room.room (node - 1) no_line no_disk (omega (arith, refused.0.least, refused.0.most))) in no)
-start_wants_memory start bus before after (fault.Store node reread.DiskFailed) refused room able =
-    let inside : node - 1 < length bus.nodes = omega (arith, refused.cause.least, refused.cause.most) in
-    absurd (does_not_fail _ (get_or before (node - 1) no_disk) (get_or after (node - 1) no_disk) (refused.left (node - 1) no_line no_disk inside).0 (refused.cause.disk no_line no_disk)
-    (able (node - 1) no_line no_disk inside).1)
-start_wants_memory start bus before after (fault.Store node reread.NotFormatted) refused room able =
-    absurd (told_at start bus before after node (open_fault.Store reread.NotFormatted) refused.cause able)
-start_wants_memory start bus before after (fault.Store node (reread.Damaged place)) refused room able =
-    absurd (told_at start bus before after node (open_fault.Store (reread.Damaged place)) refused.cause able)
-start_wants_memory start bus before after (fault.BadSlot node slot) refused room able = absurd (told_at start bus before after node (open_fault.BadSlot slot) refused.cause able)
-start_wants_memory start bus before after (fault.BadBound node cell) refused room able = absurd (told_at start bus before after node (open_fault.BadBound cell) refused.cause able)
-start_wants_memory start bus before after fault.Memory refused room able = refl
+-- a start over them is refused for no store
+pub no_store_cause : (start : Start) (bus : NamedBus) (before after : List DiskState) (f : StartFault)
+    → DisksDo start bus before after → StoreCause start bus before after f
+    → LeavesEach start bus before after → ⊥
+no_store_cause start bus before after (fault.Store node reread.DiskFailed) able cause left =
+    let inside : node - 1 < length bus.nodes = omega (arith, cause.least, cause.most) in
+    does_not_fail _ (get_or before (node - 1) no_disk) (get_or after (node - 1) no_disk)
+    (left.each (node - 1) no_line no_disk inside).0
+    (cause.disk no_line no_disk).0 (able (node - 1) no_line no_disk inside).1
+no_store_cause start bus before after (fault.Store node reread.NotFormatted) able cause left =
+    told_at start bus before after node (open_fault.Store reread.NotFormatted) cause able
+no_store_cause start bus before after (fault.Store node (reread.Damaged place)) able cause left =
+    told_at start bus before after node (open_fault.Store (reread.Damaged place)) cause able
+no_store_cause start bus before after (fault.BadSlot node slot) able cause left =
+    told_at start bus before after node (open_fault.BadSlot slot) cause able
+no_store_cause start bus before after (fault.BadBound node cell) able cause left =
+    told_at start bus before after node (open_fault.BadBound cell) cause able
+no_store_cause start bus before after fault.TooFew able cause left = cause
+no_store_cause start bus before after (fault.TooSmall node) able cause left = cause
+no_store_cause start bus before after fault.Memory able cause left = cause
+
+-- where there is room, no disk is missing or too small
+pub no_room_fault : (bus : NamedBus) (disks : List DiskState) (f : StartFault) → HasRoom bus disks
+    → FindsRoom bus disks f → ⊥
+no_room_fault bus disks fault.TooFew room finds = omega (arith, finds, room.enough)
+no_room_fault bus disks (fault.TooSmall node) room finds =
+    omega (
+      arith,
+      finds.small no_line no_disk,
+      room.room (node - 1) no_line no_disk (omega (arith, finds.least, finds.most)),
+    )
+no_room_fault bus disks (fault.Store node cause) room finds = finds
+no_room_fault bus disks (fault.BadSlot node slot) room finds = finds
+no_room_fault bus disks (fault.BadBound node cell) room finds = finds
+no_room_fault bus disks fault.Memory room finds = finds

@@ -18,7 +18,7 @@ use Rattle.bus_world.specs.declared.opening.OpenFault.TheVariants as open_fault
 use Rattle.bus_world.specs.declared.start.Start.{Start}
 use Rattle.bus_world.specs.declared.start.Start.TheVariants.{Format, Attach}
 use Rattle.bus_world.specs.TakingUp.{KeptOn}
-use Rattle.bus_world.specs.Starts.{start_calls, LeftOver, LeavesDisk, FindsRoom, OfNumber, RefusedAt}
+use Rattle.bus_world.specs.Starts.{start_calls, LeftOver, LeavesDisk, OfNumber, RefusedAt}
 
 -- why a node's store isn't read again, with the line feed
 abbrev pub reread_text : Reread → List ℕ
@@ -26,26 +26,34 @@ reread_text reread.DiskFailed = codes "DiskFailed\n"
 reread_text reread.NotFormatted = codes "NotFormatted\n"
 reread_text (reread.Damaged place) = codes "Damaged " ++ (decimal place ++ codes "\n")
 
--- 9 where the disks aren't such as the bus needs, 10 where a store fails, and want of memory; a node is told by its number, from 1
+-- 9 where the disks aren't such as the bus needs, 10 where a store fails, and want of memory; a node is told by its
+-- number, from 1
 abbrev pub start_row : StartFault → Row
 start_row fault.TooFew = row_of 9 (codes "disks: too few\n")
 start_row (fault.TooSmall node) = row_of 9 (codes "disks: node " ++ (decimal node ++ codes " too small\n"))
-start_row (fault.Store node cause) = row_of 10 (codes "store: node " ++ (decimal node ++ (codes ": " ++ reread_text cause)))
-start_row (fault.BadSlot node slot) = row_of 10 (codes "store: node " ++ (decimal node ++ (codes ": BadSlot " ++ (decimal slot ++ codes "\n"))))
-start_row (fault.BadBound node cell) = row_of 10 (codes "store: node " ++ (decimal node ++ (codes ": BadBound " ++ (decimal cell ++ codes "\n"))))
+start_row (fault.Store node cause) =
+    row_of 10 (codes "store: node " ++ (decimal node ++ (codes ": " ++ reread_text cause)))
+start_row (fault.BadSlot node slot) =
+    row_of 10 (codes "store: node " ++ (decimal node ++ (codes ": BadSlot " ++ (decimal slot ++ codes "\n"))))
+start_row (fault.BadBound node cell) =
+    row_of 10 (codes "store: node " ++ (decimal node ++ (codes ": BadBound " ++ (decimal cell ++ codes "\n"))))
 start_row fault.Memory = memory_row
 
 -- that row, or want of memory
 abbrev pub IsStartRow : StartFault → Row → Type 0
 IsStartRow fault row = (row ≡ start_row fault) ⊎ (row ≡ memory_row)
 
--- the disk of the named node failed in the call: its count rose, and it wasn't quiet; or the node is refused for its bytes
+-- the disk of the named node failed in the call: its count rose, and it wasn't quiet; or the node is refused for its
+-- bytes
 abbrev pub StoreCause : Start → NamedBus → List DiskState → List DiskState → StartFault → Type 0
 StoreCause start bus before after (fault.Store number reread.DiskFailed) =
     OfNumber start bus before after number (λ config old new. Rose old.faults new.faults × ¬ IsQuiet old)
-StoreCause start bus before after (fault.Store number cause) = RefusedAt start bus before after number (open_fault.Store cause)
-StoreCause start bus before after (fault.BadSlot number slot) = RefusedAt start bus before after number (open_fault.BadSlot slot)
-StoreCause start bus before after (fault.BadBound number cell) = RefusedAt start bus before after number (open_fault.BadBound cell)
+StoreCause start bus before after (fault.Store number cause) =
+    RefusedAt start bus before after number (open_fault.Store cause)
+StoreCause start bus before after (fault.BadSlot number slot) =
+    RefusedAt start bus before after number (open_fault.BadSlot slot)
+StoreCause start bus before after (fault.BadBound number cell) =
+    RefusedAt start bus before after number (open_fault.BadBound cell)
 StoreCause start bus before after fault = ⊥
 
 -- only calls without a mark were made of the disk of each node, so it tells its bytes where it told them; it is left as
@@ -58,11 +66,6 @@ pub record LeavesEach (start : Start) (bus : NamedBus) (before after : List Disk
   pub rest : drop (length bus.nodes) after ≡ drop (length bus.nodes) before
   pub leaves : (i : ℕ) (l : NodeLine) (d : DiskState) → i < length bus.nodes
       → LeavesDisk start bus.kind bus.version (get_or bus.nodes i l).config (get_or before i d) (get_or after i d)
-
--- why a start is refused with 9 or with 10, and what it leaves of the disks
-abbrev pub RefusesStart : Start → NamedBus → List DiskState → List DiskState → StartFault → Type 0
-RefusesStart start bus before after fault =
-    (FindsRoom bus before fault × (after ≡ before)) ⊎ (StoreCause start bus before after fault × LeavesEach start bus before after)
 
 -- told bytes are such as a node is started over: any where they are formatted
 abbrev pub CanStart : Start → Kind → Version → Config → List ℕ → Type 0

@@ -21,7 +21,8 @@ use Rattle.bus_world.specs.declared.start.Start.{Start}
 use Rattle.bus_world.specs.declared.start.Start.TheVariants.{Format, Attach}
 use Rattle.bus_world.specs.declared.start.StartFault.{StartFault}
 use Rattle.bus_world.specs.declared.start.StartFault.TheVariants as start_fault
-pub use Rattle.bus_world.specs.TakingUp.{cells_in, new_cells, start_calls, KeptOn, LeavesOpened, LeftOver, LeavesDisk, RefusedFor, OpenCause, CountsRefusal}
+pub use Rattle.bus_world.specs.TakingUp.{cells_in, new_cells, start_calls, KeptOn, LeavesOpened, LeftOver, LeavesDisk}
+pub use Rattle.bus_world.specs.TakingUp.{RefusedFor, OpenCause, MovedFirst, CountsRefusal}
 use Rattle.bus_world.specs.Worlds.{BusState}
 
 -- ---- one node
@@ -33,7 +34,8 @@ FitsOpened Attach before n = (b : List ℕ) → before.told ≡ Some (firm b) �
 
 -- A node is open over a disk: it has just powered up and is sound, and where the disk told its bytes, what it keeps is
 -- what a node keeps that is started over them. No mark was added to a past, and at least one entry was.
-pub record Opened (start : Start) (kind : Kind) (version : Version) (config : Config) (before : DiskState) (n : NodeState) : Type 0 where
+pub record Opened (start : Start) (kind : Kind) (version : Version) (config : Config) (before : DiskState)
+    (n : NodeState) : Type 0 where
   pub just_powered : n.node ≡ powered config n.node.kept
   pub sound : Sound n.node
   pub layout_is : n.store.layout ≡ layout kind version
@@ -44,11 +46,13 @@ pub record Opened (start : Start) (kind : Kind) (version : Version) (config : Co
   pub faults : n.store.disk.faults ≡ before.faults
   pub leaves : LeavesOpened start kind version config before.told n.store.disk.told
 
-pub record NotOpened (start : Start) (kind : Kind) (version : Version) (config : Config) (before after : DiskState) (fault : OpenFault) : Type 0 where
+pub record NotOpened (start : Start) (kind : Kind) (version : Version) (config : Config) (before after : DiskState)
+    (fault : OpenFault) : Type 0 where
   pub runs : Runs [] (start_calls start kind config) before after
   pub left : LeftOver start kind version config before after
   pub cause : OpenCause start kind version config before after fault
   pub leaves : LeavesDisk start kind version config before after
+  pub moved : MovedFirst kind version config before.told after.told fault
   pub counts : CountsRefusal fault before.faults after.faults
 
 -- ---- all nodes
@@ -63,7 +67,8 @@ pub record HasRoom (bus : NamedBus) (disks : List DiskState) : Type 0 where
       → store_size (layout bus.kind bus.version) (cells_in (get_or bus.nodes i l).config) ≤ (get_or disks i d).size
 
 -- the first k nodes are open, each over its disk
-pub record OpenedFirst (start : Start) (k : ℕ) (bus : NamedBus) (before : List DiskState) (nodes : List NodeState) : Type 0 where
+pub record OpenedFirst (start : Start) (k : ℕ) (bus : NamedBus) (before : List DiskState) (nodes : List NodeState)
+    : Type 0 where
   pub count : length nodes ≡ k
   pub opened : (i : ℕ) (l : NodeLine) (d : DiskState) (n : NodeState) → i < k
       → Opened start bus.kind bus.version (get_or bus.nodes i l).config (get_or before i d) (get_or nodes i n)
@@ -73,36 +78,44 @@ pub record OpensNodes (start : Start) (bus : NamedBus) (before : List DiskState)
   pub room : HasRoom bus before
   pub opened : OpenedFirst start (length bus.nodes) bus before nodes
 
-pub record Started (start : Start) (bus : NamedBus) (most : ℕ) (before : List DiskState) (world : BusState) : Type 0 where
+pub record Started (start : Start) (bus : NamedBus) (most : ℕ) (before : List DiskState) (world : BusState)
+    : Type 0 where
   pub room : HasRoom bus before
   pub nodes : OpenedFirst start (length bus.nodes) bus before world.nodes
   pub no_event : world.events ≡ 0
   pub most_is : world.most ≡ most
   pub nothing_sent : world.sent ≡ []
 
--- The number, from 1, is that of the node of the bus whose start was refused, and this holds of its configuration and of
--- its disk before and after. Each node before it was taken: its disk didn't fail, and told bytes are such as a node is
--- started over. The disks behind it are as before.
-pub record OfNumber (start : Start) (bus : NamedBus) (before after : List DiskState) (number : ℕ) (P : Config → DiskState → DiskState → Type 0) : Type 0 where
+-- The number, from 1, is that of the node of the bus whose start was refused, and this holds of its configuration and
+-- of its disk before and after. Each node before it was taken: its disk didn't fail, and told bytes are such as a node
+-- is started over. The disks behind it are as before.
+pub record OfNumber (start : Start) (bus : NamedBus) (before after : List DiskState) (number : ℕ)
+    (P : Config → DiskState → DiskState → Type 0) : Type 0 where
   pub least : 1 ≤ number
   pub most : number ≤ length bus.nodes
-  pub disk : (l : NodeLine) (d : DiskState) → P (get_or bus.nodes (number - 1) l).config (get_or before (number - 1) d) (get_or after (number - 1) d)
+  pub disk : (l : NodeLine) (d : DiskState)
+      → P (get_or bus.nodes (number - 1) l).config (get_or before (number - 1) d) (get_or after (number - 1) d)
   pub earlier : (i : ℕ) (d : DiskState) → i < number - 1 → (get_or after i d).faults ≡ (get_or before i d).faults
   pub taken : (i : ℕ) (l : NodeLine) (d : DiskState) (t : Told) → i < number - 1 → (get_or before i d).told ≡ Some t
       → (kept : Kept) × KeptOn start bus.kind bus.version (get_or bus.nodes i l).config t.bytes kept
   pub later : (i : ℕ) (d : DiskState) → number ≤ i → get_or after i d ≡ get_or before i d
 
--- the node of this number is refused for the bytes of its disk
+-- the node of this number is refused for the bytes of its disk, whose count of faults is as it was; a store in version
+-- 1 was moved before its cells were looked at
 abbrev pub RefusedAt : Start → NamedBus → List DiskState → List DiskState → ℕ → OpenFault → Type 0
-RefusedAt start bus before after number fault =
-    OfNumber start bus before after number (λ config old new. RefusedFor start bus.kind bus.version config old.told fault)
+RefusedAt start bus before after number fault = OfNumber start bus before after number
+    (λ config old new. RefusedFor start bus.kind bus.version config old.told fault × (new.faults ≡ old.faults)
+    × MovedFirst bus.kind bus.version config old.told new.told fault)
 
 abbrev pub StartCause : Start → NamedBus → List DiskState → List DiskState → StartFault → Type 0
 StartCause start bus before after (start_fault.Store number reread.DiskFailed) =
     OfNumber start bus before after number (λ config old new. Rose old.faults new.faults)
-StartCause start bus before after (start_fault.Store number fault) = RefusedAt start bus before after number (open_fault.Store fault)
-StartCause start bus before after (start_fault.BadSlot number slot) = RefusedAt start bus before after number (open_fault.BadSlot slot)
-StartCause start bus before after (start_fault.BadBound number cell) = RefusedAt start bus before after number (open_fault.BadBound cell)
+StartCause start bus before after (start_fault.Store number fault) =
+    RefusedAt start bus before after number (open_fault.Store fault)
+StartCause start bus before after (start_fault.BadSlot number slot) =
+    RefusedAt start bus before after number (open_fault.BadSlot slot)
+StartCause start bus before after (start_fault.BadBound number cell) =
+    RefusedAt start bus before after number (open_fault.BadBound cell)
 StartCause start bus before after fault = Unit {0}
 
 -- a start that began, and was refused
@@ -116,7 +129,8 @@ pub record Broken (start : Start) (bus : NamedBus) (before after : List DiskStat
   pub cause : StartCause start bus before after fault
   pub leaves : (i : ℕ) (l : NodeLine) (d : DiskState) → i < length bus.nodes
       → LeavesDisk start bus.kind bus.version (get_or bus.nodes i l).config (get_or before i d) (get_or after i d)
-  pub memory : fault ≡ start_fault.Memory → (i : ℕ) (d : DiskState) → (get_or after i d).faults ≡ (get_or before i d).faults
+  pub memory : fault ≡ start_fault.Memory → (i : ℕ) (d : DiskState)
+      → (get_or after i d).faults ≡ (get_or before i d).faults
 
 -- the disk of this node is the first that is too small
 pub record IsTooSmall (bus : NamedBus) (disks : List DiskState) (number : ℕ) : Type 0 where
@@ -124,7 +138,8 @@ pub record IsTooSmall (bus : NamedBus) (disks : List DiskState) (number : ℕ) :
   pub least : 1 ≤ number
   pub most : number ≤ length bus.nodes
   pub small : (l : NodeLine) (d : DiskState)
-      → (get_or disks (number - 1) d).size < store_size (layout bus.kind bus.version) (cells_in (get_or bus.nodes (number - 1) l).config)
+      → (get_or disks (number - 1) d).size < store_size (layout bus.kind bus.version)
+      (cells_in (get_or bus.nodes (number - 1) l).config)
   pub before : (i : ℕ) (l : NodeLine) (d : DiskState) → i < number - 1
       → store_size (layout bus.kind bus.version) (cells_in (get_or bus.nodes i l).config) ≤ (get_or disks i d).size
 
@@ -147,25 +162,29 @@ fault_of_node number open_fault.TooSmall = start_fault.TooSmall number
 fault_of_node number open_fault.Memory = start_fault.Memory
 
 -- the node behind the first k isn't open: its disk stands first again
-pub record OpensTo (start : Start) (bus : NamedBus) (before after : List DiskState) (nodes : List NodeState) (fault : StartFault) : Type 0 where
+pub record OpensTo (start : Start) (bus : NamedBus) (before after : List DiskState) (nodes : List NodeState)
+    (fault : StartFault) : Type 0 where
   pub place : ℕ
   pub inside : place < length bus.nodes
   pub opened : OpenedFirst start place bus before nodes
   pub disk : DiskState
   pub left : after ≡ disk ∷ drop (place + 1) before
   pub cause : OpenFault
-  pub refused : (l : NodeLine) (d : DiskState) → NotOpened start bus.kind bus.version (get_or bus.nodes place l).config (get_or before place d) disk cause
+  pub refused : (l : NodeLine) (d : DiskState)
+      → NotOpened start bus.kind bus.version (get_or bus.nodes place l).config (get_or before place d) disk cause
   pub fault_is : fault ≡ fault_of_node (place + 1) cause
 
 -- ---- where a bus goes on
 
--- a node of the machine that is started over a disk: it has just powered up, and where the disk tells its bytes, what it
--- keeps is what a node keeps that is attached to them
-pub record NodeGoesOn (kind : Kind) (version : Version) (config : Config) (disk : DiskState) (node : Node) : Type 0 where
+-- a node of the machine that is started over a disk: it has just powered up, and where the disk tells its bytes, what
+-- it keeps is what a node keeps that is attached to them
+pub record NodeGoesOn (kind : Kind) (version : Version) (config : Config) (disk : DiskState) (node : Node)
+    : Type 0 where
   pub just_powered : node ≡ powered config node.kept
   pub kept : (t : Told) → disk.told ≡ Some t → KeptOn Attach kind version config t.bytes node.kept
 
--- a world in which a bus goes on where its disks stand: no event and no sent line yet, and each node goes on over its disk
+-- a world in which a bus goes on where its disks stand: no event and no sent line yet, and each node goes on over its
+-- disk
 pub record StartsOver (bus : NamedBus) (before : List DiskState) (world : World) : Type 0 where
   pub no_event : world.events ≡ 0
   pub nothing_sent : world.sent ≡ []

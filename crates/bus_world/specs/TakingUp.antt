@@ -50,7 +50,8 @@ KeptAs Attach kind version config x kept =
     ⊎ (HasNodeStore kind version (cells_in config) x × StandsAsCounted kind (CellsOf config kept) x)
 
 -- what a node keeps that is started over a disk with the bytes x
-pub record KeptOn (start : Start) (kind : Kind) (version : Version) (config : Config) (x : List ℕ) (kept : Kept) : Type 0 where
+pub record KeptOn (start : Start) (kind : Kind) (version : Version) (config : Config) (x : List ℕ) (kept : Kept)
+    : Type 0 where
   pub is_kept : IsKept config kept
   pub kept_as : KeptAs start kind version config x kept
 
@@ -61,7 +62,8 @@ pub record KeptOn (start : Start) (kind : Kind) (version : Version) (config : Co
 abbrev pub TakenOver : Kind → Version → Config → Told → Option Told → Type 0
 TakenOver kind version config t new =
     (new ≡ Some t)
-    ⊎ ((IsFound kind version (cells_in config) t.bytes found.Blank × FreshOn (layout kind version) (new_cells config) t new)
+    ⊎ ((IsFound kind version (cells_in config) t.bytes found.Blank
+    × FreshOn (layout kind version) (new_cells config) t new)
     ⊎ (IsFound kind version (cells_in config) t.bytes found.Older × Migrated kind (cells_in config) t new))
 
 abbrev pub LeavesOpened : Start → Kind → Version → Config → Option Told → Option Told → Type 0
@@ -74,7 +76,8 @@ LeavesOpened Attach kind version config old new = (t : Told) → old ≡ Some t 
 abbrev pub SameOrRose : DiskState → DiskState → Type 0
 SameOrRose before after = (after.faults ≡ before.faults) ⊎ Rose before.faults after.faults
 
--- the bytes had the store in version 1, and whatever a power cut leaves stands in version 2 for the cells that it stood for
+-- the bytes had the store in version 1, and whatever a power cut leaves stands in version 2 for the cells that it stood
+-- for
 pub record MovedOver (kind : Kind) (version : Version) (n : ℕ) (t : Told) (new : Option Told) : Type 0 where
   pub older : IsFound kind version n t.bytes found.Older
   pub cells : List (List ℕ)
@@ -99,8 +102,8 @@ LeftTaken kind version config before after t =
     ⊎ (MovedOver kind version (cells_in config) t after.told
     ⊎ FailedOver kind version (cells_in config) before after t))
 
--- Of a disk that is formatted: it is as it was, or whatever a power cut leaves of it stands for a new node's cells, or its
--- count of faults rose. Of one that is attached: the count is as it was or rose, and told bytes are left so.
+-- Of a disk that is formatted: it is as it was, or whatever a power cut leaves of it stands for a new node's cells, or
+-- its count of faults rose. Of one that is attached: the count is as it was or rose, and told bytes are left so.
 abbrev pub LeftOver : Start → Kind → Version → Config → DiskState → DiskState → Type 0
 LeftOver Format kind version config before after =
     (after ≡ before)
@@ -108,31 +111,35 @@ LeftOver Format kind version config before after =
 LeftOver Attach kind version config before after =
     SameOrRose before after × ((t : Told) → before.told ≡ Some t → LeftTaken kind version config before after t)
 
--- the disk failed while it was formatted: its count of faults rose within the calls of a format, and whatever a power cut
--- leaves of it is what one that failed may leave
+-- the disk failed while it was formatted: its count of faults rose within the calls of a format, and whatever a power
+-- cut leaves of it is what one that failed may leave
 pub record FormatFailed (kind : Kind) (version : Version) (config : Config) (before after : DiskState) : Type 0 where
   pub rose : Rose before.faults after.faults
   pub runs : Runs [] (format_calls kind (cells_in config)) before after
   pub unformed : LeavesUnformed (layout kind version) (new_cells config) before.told after.told
 
--- the disk failed: blank bytes were formatted, or are what a format that failed may leave, and of the store in version 1
--- all bytes but those of version 2 are as they were
-pub record TakingFailed (kind : Kind) (version : Version) (config : Config) (before after : DiskState) (t : Told) : Type 0 where
+-- the disk failed: blank bytes were formatted, or are what a format that failed may leave, and of the store in version
+-- 1 all bytes but those of version 2 are as they were
+pub record TakingFailed (kind : Kind) (version : Version) (config : Config) (before after : DiskState) (t : Told)
+    : Type 0 where
   pub failed : FailedOver kind version (cells_in config) before after t
   pub blank : IsFound kind version (cells_in config) t.bytes found.Blank
       → FreshOn (layout kind version) (new_cells config) t after.told
       ⊎ LeavesUnformed (layout kind version) (new_cells config) before.told after.told
-  pub besides : IsFound kind version (cells_in config) t.bytes found.Older → LeavesBelow kind (cells_in config) before.told after.told
+  pub besides : IsFound kind version (cells_in config) t.bytes found.Older
+      → LeavesBelow kind (cells_in config) before.told after.told
 
--- The same, byte by byte. A disk that is formatted is as it was, or it was formatted for a new node and written no more,
--- or its format failed. Told bytes that are attached are left as those of an open node, or the disk failed.
+-- The same, byte by byte. A disk that is formatted is as it was, or it was formatted for a new node and written no
+-- more, or its format failed. Told bytes that are attached are left as those of an open node, or the disk failed.
 abbrev pub LeavesDisk : Start → Kind → Version → Config → DiskState → DiskState → Type 0
 LeavesDisk Format kind version config before after =
     (after ≡ before)
-    ⊎ (Formats (layout kind version) (new_cells config) before.told after.told ⊎ FormatFailed kind version config before after)
+    ⊎ (Formats (layout kind version) (new_cells config) before.told after.told
+    ⊎ FormatFailed kind version config before after)
 LeavesDisk Attach kind version config before after =
     (t : Told) → before.told ≡ Some t
-    → (TakenOver kind version config t after.told × (after.faults ≡ before.faults)) ⊎ TakingFailed kind version config before after t
+    → (TakenOver kind version config t after.told × (after.faults ≡ before.faults))
+    ⊎ TakingFailed kind version config before after t
 
 -- ---- why a node isn't opened
 
@@ -147,13 +154,15 @@ pub record StandsSo (kind : Kind) (n : ℕ) (x : List ℕ) (P : List (List ℕ) 
 -- lowest of its cells that isn't a slot or a bound of the node is this one
 abbrev pub NoNodes : Kind → Version → Config → List ℕ → OpenFault → Type 0
 NoNodes kind version config x (open_fault.Store reread.DiskFailed) = ⊥
-NoNodes kind version config x (open_fault.Store reread.NotFormatted) = IsFound kind version (cells_in config) x found.Foreign
+NoNodes kind version config x (open_fault.Store reread.NotFormatted) =
+    IsFound kind version (cells_in config) x found.Foreign
 NoNodes kind version config x (open_fault.Store (reread.Damaged i)) =
     HasNodeStore kind version (cells_in config) x × DamagedAsCounted kind (cells_in config) i x
 NoNodes kind version config x (open_fault.BadSlot slot) =
     HasNodeStore kind version (cells_in config) x × StandsSo kind (cells_in config) x (λ cells. FirstBadSlot cells slot)
 NoNodes kind version config x (open_fault.BadBound place) =
-    HasNodeStore kind version (cells_in config) x × StandsSo kind (cells_in config) x (λ cells. SlotsButNoBound config.routes cells place)
+    HasNodeStore kind version (cells_in config) x
+    × StandsSo kind (cells_in config) x (λ cells. SlotsButNoBound config.routes cells place)
 NoNodes kind version config x open_fault.TooSmall = ⊥
 NoNodes kind version config x open_fault.Memory = ⊥
 
@@ -166,7 +175,8 @@ pub record NoNodeOn (kind : Kind) (version : Version) (config : Config) (x : Lis
 -- bytes are no node's
 abbrev pub RefusedFor : Start → Kind → Version → Config → Option Told → OpenFault → Type 0
 RefusedFor Format kind version config told fault = told ≡ None
-RefusedFor Attach kind version config told fault = (t : Told) → told ≡ Some t → NoNodeOn kind version config t.bytes fault
+RefusedFor Attach kind version config told fault =
+    (t : Told) → told ≡ Some t → NoNodeOn kind version config t.bytes fault
 
 -- the disk failed, or it is refused for its bytes, or there was no memory; there is room on it
 abbrev pub OpenCause : Start → Kind → Version → Config → DiskState → DiskState → OpenFault → Type 0
@@ -174,6 +184,17 @@ OpenCause start kind version config before after (open_fault.Store reread.DiskFa
 OpenCause start kind version config before after open_fault.TooSmall = ⊥
 OpenCause start kind version config before after open_fault.Memory = Unit {0}
 OpenCause start kind version config before after fault = RefusedFor start kind version config before.told fault
+
+-- told bytes that had the store in version 1 were moved to version 2
+abbrev pub MovesOlder : Kind → Version → Config → Option Told → Option Told → Type 0
+MovesOlder kind version config old new = (t : Told) → old ≡ Some t
+    → IsFound kind version (cells_in config) t.bytes found.Older → Migrated kind (cells_in config) t new
+
+-- a store in version 1 is moved before its cells are looked at
+abbrev pub MovedFirst : Kind → Version → Config → Option Told → Option Told → OpenFault → Type 0
+MovedFirst kind version config old new (open_fault.BadSlot slot) = MovesOlder kind version config old new
+MovedFirst kind version config old new (open_fault.BadBound place) = MovesOlder kind version config old new
+MovedFirst kind version config old new fault = Unit {0}
 
 -- the count of faults rose where a refusal tells that the disk failed; else it is as it was
 abbrev pub CountsRefusal : OpenFault → ℕ → ℕ → Type 0

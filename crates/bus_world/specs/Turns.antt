@@ -1,5 +1,6 @@
 -- What one event does to its node and the node's disk
-use Rattle.std.specs.Prelude.{◌≡◌, ℕ, ◌+◌, ◌^◌, ◌<◌, ◌≤◌, ◌==◌, Option, None, Some, Result, OnOk, OnErr, IfErr, List, [], find, option_map}
+use Rattle.std.specs.Prelude.{◌≡◌, ℕ, ◌+◌, ◌^◌, ◌<◌, ◌≤◌, ◌==◌, Option, None, Some, Result, OnOk, OnErr, IfErr, List}
+use Rattle.std.specs.Prelude.{[], find, option_map}
 use Rattle.std.specs.Option.{option_to_list}
 use Rattle.cut_disk.specs.declared.Mark.{Mark}
 use Rattle.cut_disk.specs.declared.Mark.TheVariants as mark
@@ -10,7 +11,8 @@ use Rattle.cell_store.specs.Cells.{StandsNow}
 use Rattle.bus_machine.specs.declared.events.Event.{Event}
 use Rattle.bus_machine.specs.declared.events.Event.TheVariants.{Deliver, Inject, Boot, Stop, Fail}
 use Rattle.bus_machine.specs.declared.lines.Line.{Line}
-use Rattle.bus_machine.specs.declared.lines.Line.TheVariants.{Accepted, FreshnessFailure, VerificationFailure, NoFrame, Refused}
+use Rattle.bus_machine.specs.declared.lines.Line.TheVariants.{Accepted, FreshnessFailure, VerificationFailure, NoFrame}
+use Rattle.bus_machine.specs.declared.lines.Line.TheVariants.{Refused}
 use Rattle.bus_machine.specs.declared.lines.Refusal.TheVariants.{MemoryFailure}
 use Rattle.bus_machine.specs.Steps.{Act, cuts, NodeStep}
 use Rattle.bus_machine.specs.Bus.{World, SentLine, act_of}
@@ -48,7 +50,8 @@ abbrev pub IsCertain : Option Mark → NodeState → Type 0
 IsCertain (Some (mark.Cut torn)) s = TellsFitting s
 IsCertain _ s = Unit {0}
 
--- what a cut leads to over a disk of any kind: the node is up with what its store's cells keep, and bytes that are told stand for these; or it is down, for a cause that such bytes show
+-- what a cut leads to over a disk of any kind: the node is up with what its store's cells keep, and bytes that are told
+-- stand for these; or it is down, for a cause that such bytes show
 pub record AnswersCut (before : NodeState) (line : Line) (after : NodeState) : Type 0 where
   pub result : Result (Unit {0}) CutFault
   pub line_is : line ≡ cut_line result
@@ -72,7 +75,8 @@ CanBeDone event = Unit {0}
 
 -- an accepted line names the earliest of these lines that sent what it accepts
 abbrev pub NamesSourceIn : List SentLine → Line → Type 0
-NamesSourceIn lines (Accepted id v payload source) = source ≡ option_map (λ s. s.number) (find (has_values id payload v) lines)
+NamesSourceIn lines (Accepted id v payload source) =
+    source ≡ option_map (λ s. s.number) (find (has_values id payload v) lines)
 NamesSourceIn lines _ = Unit {0}
 
 -- a power cut leaves of bytes that are told one list that it was allowed to leave, and no write comes behind it
@@ -80,7 +84,8 @@ abbrev pub LeavesCut : Option Mark → DiskState → DiskState → Type 0
 LeavesCut (Some (mark.Cut torn)) before after = CutsTo before.told after.told
 LeavesCut _ before after = Unit {0}
 
--- a line that tells that nothing was done, though the disk didn't fail and no power was cut, leaves the node, its store and its disk as they were
+-- a line that tells that nothing was done, though the disk didn't fail and no power was cut, leaves the node, its store
+-- and its disk as they were
 abbrev pub LeavesAlone : Option Mark → Line → NodeState → NodeState → Type 0
 LeavesAlone (Some mark) line before after = Unit {0}
 LeavesAlone None FreshnessFailure before after = after ≡ before
@@ -100,7 +105,8 @@ pub record NodeTurn (before : NodeState) (duty : Duty) (line : Line) (after : No
   pub of_cut : duty.act ≡ cuts → AnswersCut before line after
   pub config : after.node.config ≡ before.node.config
   pub layout : after.store.layout ≡ before.store.layout
-  pub runs : Runs (option_to_list duty.mark) (most_calls (cell_count before.node) duty.mark) before.store.disk after.store.disk
+  pub runs : Runs (option_to_list duty.mark)
+      (most_calls (cell_count before.node) duty.mark) before.store.disk after.store.disk
   pub fits : FitsNow before → FitsNow after
   pub faults : TellsFaults line before.store.disk.faults after.store.disk.faults
   pub image : LeavesCut duty.mark before.store.disk after.store.disk
@@ -109,10 +115,12 @@ pub record NodeTurn (before : NodeState) (duty : Duty) (line : Line) (after : No
 
 -- ---- honest PDUs
 
--- a PDU of this Data ID that comes in time is accepted with its payload and freshness, or the line tells that the disk failed
+-- a PDU of this Data ID that comes in time is accepted with its payload and freshness, or the line tells that the disk
+-- failed
 abbrev pub HearsPdu : Node → ℕ → List ℕ → Line → Type 0
 HearsPdu node id pdu line =
-    (s : SentLine) → s.id ≡ id → s.pdu ≡ pdu → IsInTime node s (place_of node id Receives) → s.freshness < 2 ^ 64 → IsHeard s line
+    (s : SentLine) → s.id ≡ id → s.pdu ≡ pdu → IsInTime node s (place_of node id Receives) → s.freshness < 2 ^ 64
+    → IsHeard s line
 
 -- what an event brings its node: the line that was sent, or one that may have been, as its bytes are injected
 abbrev pub Brings : World → Event → SentLine → Type 0
@@ -120,6 +128,8 @@ Brings world (Deliver node number) s = find (λ s. s.number == number) world.sen
 Brings world (Inject node id pdu) s = (s.id ≡ id) × (s.pdu ≡ pdu) × (s.freshness < 2 ^ 64)
 Brings world _ s = ⊥
 
--- what an event brings its node in time is accepted with its payload and freshness, or the line tells that the disk failed
+-- what an event brings its node in time is accepted with its payload and freshness, or the line tells that the disk
+-- failed
 abbrev pub HearsBrought : World → Event → Node → Line → Type 0
-HearsBrought world event node line = (s : SentLine) → Brings world event s → IsInTime node s (place_of node s.id Receives) → IsHeard s line
+HearsBrought world event node line =
+    (s : SentLine) → Brings world event s → IsInTime node s (place_of node s.id Receives) → IsHeard s line

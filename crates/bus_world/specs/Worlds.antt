@@ -34,8 +34,8 @@ pub record IsReady (s : BusState) (events : List Event) : Type 0 where
   pub of_bus : All (IsEventOf (length s.nodes)) events
   pub room : s.events + length events ≤ s.most
 
--- the event's node takes its turn over its disk, the other nodes and their disks are as before, and what was sent is put
--- down; the line is one that its type has
+-- the event's node takes its turn over its disk, the other nodes and their disks are as before, and what was sent is
+-- put down; the line is one that its type has
 pub record BusTurn (before : BusState) (event : Event) (line : Line) (after : BusState) : Type 0 where
   pub one : MemberSteps NodeTurn before.nodes (node_of event) (duty_of (world_of before) event) line after.nodes
   pub source : NamesSource (world_of before) line
@@ -44,7 +44,8 @@ pub record BusTurn (before : BusState) (event : Event) (line : Line) (after : Bu
   pub sent : after.sent ≡ sent_after (world_of before) event line
   pub is_line : IsLine line
 
--- what the event brings its node in time is accepted with its payload and freshness; or the disk failed: the line tells so, and the count of faults of this node's disk rose
+-- what the event brings its node in time is accepted with its payload and freshness; or the disk failed: the line tells
+-- so, and the count of faults of this node's disk rose
 abbrev pub HearsInTime : BusState → Event → Line → BusState → Type 0
 HearsInTime before event line after = (s : SentLine) (old new : NodeState)
     → Brings (world_of before) event s
@@ -63,7 +64,8 @@ pub record Turned (before : BusState) (event : Event) (line : Line) (after : Bus
 -- the node at the event's place hears what the event brings it in time
 abbrev pub NodeHears : BusState → Event → Line → Type 0
 NodeHears before event line =
-    (old : NodeState) → slice_get before.nodes (node_of event) ≡ Some old → HearsBrought (world_of before) event old.node line
+    (old : NodeState) → slice_get before.nodes (node_of event) ≡ Some old
+    → HearsBrought (world_of before) event old.node line
 
 -- ---- worlds as those of the machine
 
@@ -71,7 +73,8 @@ NodeHears before event line =
 abbrev pub EachFits : BusState → Type 0
 EachFits s = (i : ℕ) (n : NodeState) → slice_get s.nodes i ≡ Some n → TellsFitting n
 
--- a turn is the machine's step: always where the event is no cut, and where it is one, over a disk that tells its bytes and fits its node
+-- a turn is the machine's step: always where the event is no cut, and where it is one, over a disk that tells its bytes
+-- and fits its node
 abbrev pub TurnsAreSteps : Type 0
 TurnsAreSteps = (before : BusState) (event : Event) (line : Line) (after : BusState) → BusTurn before event line after
     → ((n : NodeState) → slice_get before.nodes (node_of event) ≡ Some n → IsCertain (mark_of event) n)
@@ -79,7 +82,8 @@ TurnsAreSteps = (before : BusState) (event : Event) (line : Line) (after : BusSt
 
 -- turns over disks that tell their bytes and fit are a run of the machine, and leave the disks so
 abbrev pub TurnsAreRuns : Type 0
-TurnsAreRuns = (start now : BusState) (moments : List (Moment Event Line BusState)) → EachFits start → Run BusTurn start moments now
+TurnsAreRuns = (start now : BusState) (moments : List (Moment Event Line BusState)) → EachFits start
+    → Run BusTurn start moments now
     → Run Step (world_of start) (seen_as (λ event. event) world_of moments) (world_of now) × EachFits now
 
 -- a turn leaves each node sound, whatever its disk tells, where each was: so do all turns of a world

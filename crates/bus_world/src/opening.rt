@@ -49,9 +49,11 @@ pub(crate) fn open_node<D: CutDisk>(
     start: Start,
     disk: D,
 ) -> Result<Node<AnyCells<D>>, Unopened<D>>
-    requires { IsConfig config.now × (store_size (layout kind version) (14 + length config.now.routes) ≤ (D.state disk).size) }
+    requires { IsConfig config.now × (store_size (layout kind version) (14 + length config.now.routes) ≤
+        (D.state disk).size) }
     ensures opened { IfOk result (Opened start kind version config.now (D.state disk)) }
-    ensures refused { IfErr result (λ u. NotOpened start kind version config.now (D.state disk) (D.state u.disk) u.fault) }
+    ensures refused { IfErr result (λ u. NotOpened start kind version config.now (D.state disk)
+        (D.state u.disk) u.fault) }
 {
     let Ok(config) = config.copy(alloc) else {
         let fault = OpenFault::Memory;
@@ -193,8 +195,8 @@ fn attach_fault(fault: &AttachFault) -> OpenFault
     }
 }
 
-/// Gives the disks of these nodes back at the front of the list, in their order. There is room for them, and it takes no
-/// memory.
+/// Gives the disks of these nodes back at the front of the list, in their order. There is room for them, and it takes
+/// no memory.
 pub fn close_nodes<D: CutDisk>(nodes: Vec<Node<AnyCells<D>>>, disks: &mut Vec<D>)
     requires { vec_len disks.old + vec_len nodes ≤ vec_capacity disks.old }
     ensures { map D.state disks.new.items ≡ disks_of nodes.items ++ map D.state disks.old.items }

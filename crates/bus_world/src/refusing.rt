@@ -52,7 +52,8 @@ fn start_text(alloc: Global, fault: &StartFault) -> Result<String, AllocError>
 
 /// The text of a store that isn't written, or isn't read again.
 fn store_text(alloc: Global, node: u8, reread: &Reread) -> Result<String, AllocError>
-    ensures { IfOk result (λ text. string_bytes text ≡ codes "store: node " ++ (decimal node ++ (codes ": " ++ reread_text reread.now))) }
+    ensures { IfOk result (λ text. string_bytes text
+        ≡ codes "store: node " ++ (decimal node ++ (codes ": " ++ reread_text reread.now))) }
 {
     match reread {
         Reread::DiskFailed => format!(in alloc; "store: node {node}: DiskFailed\n"),
@@ -63,7 +64,8 @@ fn store_text(alloc: Global, node: u8, reread: &Reread) -> Result<String, AllocE
 
 /// The text of a cell that has no bound of its route.
 fn bound_text(alloc: Global, node: u8, cell: u16) -> Result<String, AllocError>
-    ensures { IfOk result (λ text. string_bytes text ≡ codes "store: node " ++ (decimal node ++ (codes ": BadBound " ++ (decimal cell ++ codes "\n")))) }
+    ensures { IfOk result (λ text. string_bytes text
+        ≡ codes "store: node " ++ (decimal node ++ (codes ": BadBound " ++ (decimal cell ++ codes "\n")))) }
 {
     format!(in alloc; "store: node {node}: BadBound {cell}\n")
 }

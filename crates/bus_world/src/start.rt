@@ -1,10 +1,12 @@
 //! How a world starts, and how it ends.
-ghost use Rattle.std.specs.Prelude.{◌≡◌, ◌+◌, ◌≤◌, ◌<◌, ◌++◌, ◌∷◌, [], length, map, drop, MatchResult, IfOk, IfErr, OnOk};
+ghost use Rattle.std.specs.Prelude.{◌≡◌, ◌+◌, ◌≤◌, ◌<◌, ◌++◌, ◌∷◌, [], length, map, drop, MatchResult, IfOk, IfErr};
+ghost use Rattle.std.specs.Prelude.{OnOk};
 ghost use Rattle.std.specs.Vec.{vec_len, vec_capacity};
 ghost use Rattle.any_cells.specs.Either.{layout};
 ghost use Rattle.cell_store.specs.Store.{store_size as size_of};
 ghost use Rattle.bus_world.specs.declared.start.Start.TheVariants.{Format};
-ghost use Rattle.bus_world.specs.Starts.{cells_in, HasRoom, FindsRoom, OpenedFirst, OpensNodes, OpensTo, NotStarted, fault_of_node as fault_numbered};
+ghost use Rattle.bus_world.specs.Starts.{cells_in, HasRoom, FindsRoom, OpenedFirst, OpensNodes, OpensTo, NotStarted};
+ghost use Rattle.bus_world.specs.Starts.{fault_of_node as fault_numbered};
 
 use crate::opening::{OpenFault, close_nodes, open_node, put_first};
 use crate::world::World;
@@ -23,8 +25,8 @@ use std::alloc::Global;
 pub enum Start {
     /// Each disk is formatted with the first cells of its node.
     Format,
-    /// Each node goes on where its disk stands. A disk that is blank is formatted. A store of the node is attached; one in
-    /// version 1 is first moved to version 2, where the bus has that. Anything else is refused, and isn't written.
+    /// Each node goes on where its disk stands. A disk that is blank is formatted. A store of the node is attached; one
+    /// in version 1 is first moved to version 2, where the bus has that. Anything else is refused, and isn't written.
     Attach,
 }
 
@@ -35,7 +37,8 @@ pub enum StartFault {
     TooFew,
     /// The disk of this node has fewer bytes than its store needs.
     TooSmall(u8),
-    /// The store of this node isn't written or moved, or what stands on its disk isn't read, or is no store of the node.
+    /// The store of this node isn't written or moved, or what stands on its disk isn't read, or is no store of the
+    /// node.
     Store(u8, Reread),
     /// What was read from this node's disk has no slot in this slot's cell.
     BadSlot(u8, SlotId),
@@ -52,12 +55,13 @@ impl<D: CutDisk> World<D> {
     ghost use Rattle.bus_world.specs.Starts.{Started, NotStarted, disks_of};
     ghost use Rattle.bus_world.specs.Worlds.{world_of};
 
-    /// The first world of a bus, over one disk a node from the front of `disks`, with room for the lines of so many events.
+    /// The first world of a bus, over one disk a node from the front of `disks`, with room for the lines of so many
+    /// events.
     ///
-    /// Numbers and sizes of the disks are looked at first: `TooFew`, and `TooSmall` with the first such node, come before
-    /// any call of a disk. Then node after node is opened, as the start says; a store that is moved is moved before its
-    /// cells are looked at. After a refusal all disks are back in `disks`, in their order. After `Ok` there is room in
-    /// `disks` for those that were taken.
+    /// Numbers and sizes of the disks are looked at first: `TooFew`, and `TooSmall` with the first such node, come
+    /// before any call of a disk. Then node after node is opened, as the start says; a store that is moved is moved
+    /// before its cells are looked at. After a refusal all disks are back in `disks`, in their order. After `Ok` there
+    /// is room in `disks` for those that were taken.
     pub fn start(
         alloc: Global,
         bus: &BusConfig,
@@ -67,9 +71,11 @@ impl<D: CutDisk> World<D> {
     ) -> Result<World<D>, StartFault>
         ensures started { IfOk result (Started start bus.now events (map D.state disks.old.items)) }
         ensures sound { IfOk result (λ world. SoundBus (world_of world)) }
-        ensures rest { OnOk result (map D.state disks.new.items ≡ drop (length bus.now.nodes) (map D.state disks.old.items)) }
+        ensures rest { OnOk result (map D.state disks.new.items
+            ≡ drop (length bus.now.nodes) (map D.state disks.old.items)) }
         ensures room { OnOk result (vec_len disks.new + length bus.now.nodes ≤ vec_capacity disks.new) }
-        ensures refused { IfErr result (NotStarted start bus.now (map D.state disks.old.items) (map D.state disks.new.items)) }
+        ensures refused { IfErr result (NotStarted start bus.now (map D.state disks.old.items)
+            (map D.state disks.new.items)) }
     {
         match find_room(bus, disks.as_slice()) {
             Ok(()) => {}
@@ -103,9 +109,11 @@ pub fn open_nodes<D: CutDisk>(
     disks: &mut Vec<D>,
 ) -> Result<Vec<Node<AnyCells<D>>>, StartFault>
     ensures opened { IfOk result (λ nodes. OpensNodes Format bus.now (map D.state disks.old.items) nodes.items) }
-    ensures rest { OnOk result (map D.state disks.new.items ≡ drop (length bus.now.nodes) (map D.state disks.old.items)) }
+    ensures rest { OnOk result (map D.state disks.new.items
+        ≡ drop (length bus.now.nodes) (map D.state disks.old.items)) }
     ensures room { OnOk result (vec_len disks.new + length bus.now.nodes ≤ vec_capacity disks.new) }
-    ensures refused { IfErr result (NotStarted Format bus.now (map D.state disks.old.items) (map D.state disks.new.items)) }
+    ensures refused { IfErr result (NotStarted Format bus.now (map D.state disks.old.items)
+        (map D.state disks.new.items)) }
 {
     match find_room(bus, disks.as_slice()) {
         Ok(()) => open_in_room(alloc, bus, disks, Start::Format),
@@ -122,9 +130,11 @@ fn open_in_room<D: CutDisk>(
 ) -> Result<Vec<Node<AnyCells<D>>>, StartFault>
     requires room { HasRoom bus.now (map D.state disks.old.items) }
     ensures opened { IfOk result (λ nodes. OpensNodes start bus.now (map D.state disks.old.items) nodes.items) }
-    ensures rest { OnOk result (map D.state disks.new.items ≡ drop (length bus.now.nodes) (map D.state disks.old.items)) }
+    ensures rest { OnOk result (map D.state disks.new.items
+        ≡ drop (length bus.now.nodes) (map D.state disks.old.items)) }
     ensures room { OnOk result (vec_len disks.new + length bus.now.nodes ≤ vec_capacity disks.new) }
-    ensures refused { IfErr result (NotStarted start bus.now (map D.state disks.old.items) (map D.state disks.new.items)) }
+    ensures refused { IfErr result (NotStarted start bus.now (map D.state disks.old.items)
+        (map D.state disks.new.items)) }
 {
     let Ok(mut nodes) = Vec::with_capacity(alloc, bus.nodes().len()) else {
         return Err(StartFault::Memory);
@@ -140,7 +150,8 @@ fn open_in_room<D: CutDisk>(
 
 /// Whether there is a disk for each node, with room for its store.
 fn find_room<D: CutDisk>(bus: &BusConfig, disks: &[D]) -> Result<(), StartFault>
-    ensures { MatchResult result (λ _. HasRoom bus.now (map D.state disks.now)) (FindsRoom bus.now (map D.state disks.now)) }
+    ensures { MatchResult result (λ _. HasRoom bus.now (map D.state disks.now))
+        (FindsRoom bus.now (map D.state disks.now)) }
 {
     let nodes = bus.nodes();
     if disks.len() < nodes.len() {
@@ -184,7 +195,8 @@ fn open_all<D: CutDisk>(
     ensures opened { MatchResult result
         (λ _. OpenedFirst start (length bus.now.nodes) bus.now (map D.state disks.old.items) nodes.new.items)
         (OpensTo start bus.now (map D.state disks.old.items) (map D.state disks.new.items) nodes.new.items) }
-    ensures rest { OnOk result (map D.state disks.new.items ≡ drop (length bus.now.nodes) (map D.state disks.old.items)) }
+    ensures rest { OnOk result (map D.state disks.new.items
+        ≡ drop (length bus.now.nodes) (map D.state disks.old.items)) }
     ensures room { vec_len disks.new + vec_len nodes.new ≤ vec_capacity disks.new }
 {
     for (place, node) in bus.nodes().iter().enumerate() {

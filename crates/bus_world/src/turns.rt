@@ -10,7 +10,8 @@ ghost use Rattle.secure_boot.specs.Booting.{IsImage};
 ghost use Rattle.bus_machine.specs.Steps.{sends, receives, loads, keys, boots, cuts, arms};
 ghost use Rattle.secoc_node.specs.Lines.{refusal_of_fault, refusal_of_cut};
 ghost use Rattle.sent_lines.specs.History.{has_values, frame_in};
-ghost use Rattle.bus_world.specs.Turns.{NodeTurn, silent, duty, duty_of, CanBeDone, NamesSourceIn, HearsPdu, HearsBrought};
+ghost use Rattle.bus_world.specs.Turns.{NodeTurn, silent, duty, duty_of, CanBeDone, NamesSourceIn, HearsPdu};
+ghost use Rattle.bus_world.specs.Turns.{HearsBrought};
 
 use bus_machine::{Event, Line, Refusal};
 use byte_lists::Pdu;
@@ -101,7 +102,8 @@ fn deliver<C: Cells>(node: &mut Node<C>, event: u32, history: Option<&History>) 
     ensures turn { let lines = option_map_or (λ h. h.now.lines) history.entry [] in
         NodeTurn node.old (duty (hearing (find (λ s. s.number == event) lines)) None) result node.new }
     ensures source { NamesSourceIn (option_map_or (λ h. h.now.lines) history.entry []) result }
-    ensures honest { (s : SentLine) → find (λ s. s.number == event) (option_map_or (λ h. h.now.lines) history.entry []) ≡ Some s
+    ensures honest { (s : SentLine)
+        → find (λ s. s.number == event) (option_map_or (λ h. h.now.lines) history.entry []) ≡ Some s
         → IsInTime node.old.node s (place_of node.old.node s.id Receives) → IsHeard s result }
 {
     match frame_of(history, event) {
@@ -113,7 +115,8 @@ fn deliver<C: Cells>(node: &mut Node<C>, event: u32, history: Option<&History>) 
 /// What the event of this number sent, if it did.
 fn frame_of(history: Option<&History>, event: u32) -> Option<Frame>
     ensures value { result ≡ frame_in event (option_map_or (λ h. h.now.lines) history.entry []) }
-    ensures bounded { (s : SentLine) → find (λ s. s.number == event) (option_map_or (λ h. h.now.lines) history.entry []) ≡ Some s
+    ensures bounded { (s : SentLine)
+        → find (λ s. s.number == event) (option_map_or (λ h. h.now.lines) history.entry []) ≡ Some s
         → s.freshness < 2 ^ 64 }
 {
     match history {
@@ -223,8 +226,8 @@ fn fail<C: CutCells>(node: &mut Node<C>, calls: u32) -> Line
     Line::Armed
 }
 
-/// Why a node refused.
-fn refusal_of(fault: NodeFault) -> Refusal
+/// The refusal that a line tells of this fault of a node.
+pub fn refusal_of(fault: NodeFault) -> Refusal
     ensures { result ≡ refusal_of_fault fault }
 {
     match fault {

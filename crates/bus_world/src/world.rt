@@ -12,8 +12,8 @@ use sent_lines::History;
 use std::marker::Model;
 
 /// The nodes of a bus over their disks, and the lines that were sent on it. Contracts see the states of the nodes and
-/// their disks, how many events there were and may be, and the lines that were sent. Each node is always sound, also over
-/// a disk that doesn't tell its bytes.
+/// their disks, how many events there were and may be, and the lines that were sent. Each node is always sound, also
+/// over a disk that doesn't tell its bytes.
 ///
 /// A step takes no memory. It finds the line that a `deliver` names by halving, and the event that sent what is
 /// accepted along links, of which few are needed (measured, and no clause).
@@ -28,7 +28,8 @@ impl<D: CutDisk> Model for World<D> {
 
     ghost Value = { BusState };
 
-    ghost view = { λ w. record { nodes = w.nodes.items; events = w.history.events; most = w.history.most; sent = w.history.lines } };
+    ghost view = { λ w. record
+        { nodes = w.nodes.items; events = w.history.events; most = w.history.most; sent = w.history.lines } };
 
     ghost use Rattle.std.specs.Prelude.{map};
     ghost use Rattle.bus_machine.specs.Bus.{SoundBus};

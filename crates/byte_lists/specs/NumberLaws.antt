@@ -25,7 +25,8 @@ All-bytes_of : (n a : ℕ) → All (λ b. b < 256) (bytes_of n a)
 unfolding bytes_of
 All-bytes_of zero a = All-nil (λ b. b < 256)
 All-bytes_of (suc n) a =
-    All-cons (λ b. b < 256) (a / 256 ^ n % 256) (bytes_of n a) (mod_below (a / 256 ^ n) 256 (omega arith)) (All-bytes_of n a)
+    All-cons (λ b. b < 256) (a / 256 ^ n % 256) (bytes_of n a) (mod_below (a / 256 ^ n) 256 (omega arith))
+    (All-bytes_of n a)
 
 -- a list of bytes has a number below the power of its length
 below : (bs : List ℕ) → All (λ b. b < 256) bs → number_of bs < 256 ^ length bs
@@ -33,7 +34,11 @@ unfolding number_of
 below [] all = omega arith
 below (b ∷ bs) all =
     let P : ℕ → Type 0 = λ x. x < 256 in
-    omega (arith, pow-succ' 256 (length bs), mul-add-lt b (256 ^ length bs) (number_of bs) 256 (All-head P b bs all) (below bs (All-tail P b bs all)))
+    omega (
+      arith,
+      pow-succ' 256 (length bs),
+      mul-add-lt b (256 ^ length bs) (number_of bs) 256 (All-head P b bs all) (below bs (All-tail P b bs all)),
+    )
 
 -- what stands above the lowest n bytes does not count for k of them
 bytes_of-low : (k n a b : ℕ) → k ≤ n → bytes_of k (a * 256 ^ n + b) ≡ bytes_of k b
@@ -41,9 +46,16 @@ unfolding bytes_of
 bytes_of-low zero n a b within = refl
 bytes_of-low (suc k) n a b within =
     let j : ℕ = n - suc k in
-    let power : 256 ^ n ≡ 256 ^ j * 256 * 256 ^ k = ap (λ t. 256 ^ t) (let e : n ≡ j + 1 + k = omega arith in e) ∙ pow-add 256 (j + 1) k ∙ ap (λ t. t * 256 ^ k) (pow-add 256 j 1) in
-    let shifted : (a * 256 ^ n + b) / 256 ^ k ≡ a * 256 ^ j * 256 + b / 256 ^ k = ap (λ t. (t + b) / 256 ^ k) (ap (λ t. a * t) power ∙ sym (mul_assoc a (256 ^ j * 256) (256 ^ k)) ∙ ap (λ t. t * 256 ^ k) (sym (mul_assoc a (256 ^ j) 256))) ∙ mul-add-div_right (pow_positive k) (a * 256 ^ j * 256) b in
-    let byte : (a * 256 ^ n + b) / 256 ^ k % 256 ≡ b / 256 ^ k % 256 = ap (λ q. q % 256) shifted ∙ mul-add-mod_self_right (a * 256 ^ j) 256 (b / 256 ^ k) in
+    let power : 256 ^ n ≡ 256 ^ j * 256 * 256 ^ k =
+    ap (λ t. 256 ^ t) (let e : n ≡ j + 1 + k = omega arith in e) ∙ pow-add 256 (j + 1) k
+    ∙ ap (λ t. t * 256 ^ k) (pow-add 256 j 1) in
+    let shifted : (a * 256 ^ n + b) / 256 ^ k ≡ a * 256 ^ j * 256 + b / 256 ^ k =
+    ap (λ t. (t + b) / 256 ^ k)
+    (ap (λ t. a * t) power ∙ sym (mul_assoc a (256 ^ j * 256) (256 ^ k))
+    ∙ ap (λ t. t * 256 ^ k) (sym (mul_assoc a (256 ^ j) 256)))
+    ∙ mul-add-div_right (pow_positive k) (a * 256 ^ j * 256) b in
+    let byte : (a * 256 ^ n + b) / 256 ^ k % 256 ≡ b / 256 ^ k % 256 =
+    ap (λ q. q % 256) shifted ∙ mul-add-mod_self_right (a * 256 ^ j) 256 (b / 256 ^ k) in
     rw (byte, bytes_of-low k n a b (omega arith)) refl
 
 -- the number of the lowest n bytes of a
@@ -51,7 +63,8 @@ pub number_of-bytes_of : (n a : ℕ) → number_of (bytes_of n a) ≡ a % 256 ^ 
 unfolding bytes_of number_of
 number_of-bytes_of zero a = omega arith
 number_of-bytes_of (suc n) a =
-    let cut : a % (256 * 256 ^ n) ≡ a / 256 ^ n % 256 * 256 ^ n + a % 256 ^ n = mod-mul a (omega arith) (pow_positive n) in
+    let cut : a % (256 * 256 ^ n) ≡ a / 256 ^ n % 256 * 256 ^ n + a % 256 ^ n =
+    mod-mul a (omega arith) (pow_positive n) in
     rw (length-bytes_of n a, number_of-bytes_of n a, pow-succ' 256 n) (sym cut)
 
 -- the bytes of the number of these bytes
@@ -63,7 +76,8 @@ again (b ∷ bs) all =
     let rest = All-tail P b bs all in
     let n : ℕ = length bs in
     let whole : (b * 256 ^ n + number_of bs) / 256 ^ n ≡ b = div-mul-add b (256 ^ n) (number_of bs) (below bs rest) in
-    let byte : (b * 256 ^ n + number_of bs) / 256 ^ n % 256 ≡ b = ap (λ q. q % 256) whole ∙ mod-eq_of_lt (All-head P b bs all) in
+    let byte : (b * 256 ^ n + number_of bs) / 256 ^ n % 256 ≡ b =
+    ap (λ q. q % 256) whole ∙ mod-eq_of_lt (All-head P b bs all) in
     rw (byte, bytes_of-low n n b (number_of bs) (omega arith), again bs rest) refl
 
 -- as std counts the bytes of a number
@@ -105,7 +119,9 @@ pub number_of-append : (xs ys : List ℕ) → number_of (xs ++ ys) ≡ number_of
 unfolding number_of
 number_of-append [] ys = omega arith
 number_of-append (x ∷ xs) ys =
-    let power : x * 256 ^ length (xs ++ ys) ≡ x * 256 ^ length xs * 256 ^ length ys = ap (λ t. x * 256 ^ t) (length-append xs ys) ∙ ap (λ t. x * t) (pow-add 256 (length xs) (length ys)) ∙ sym (mul_assoc x (256 ^ length xs) (256 ^ length ys)) in
+    let power : x * 256 ^ length (xs ++ ys) ≡ x * 256 ^ length xs * 256 ^ length ys =
+    ap (λ t. x * 256 ^ t) (length-append xs ys) ∙ ap (λ t. x * t) (pow-add 256 (length xs) (length ys))
+    ∙ sym (mul_assoc x (256 ^ length xs) (256 ^ length ys)) in
     omega (arith, power, number_of-append xs ys)
 
 pub bytes_of-append : (m n a b : ℕ) → b < 256 ^ n → bytes_of (m + n) (a * 256 ^ n + b) ≡ bytes_of m a ++ bytes_of n b
@@ -114,8 +130,11 @@ bytes_of-append zero n a b fits = let e : 0 + n ≡ n = omega arith in rw e (byt
 bytes_of-append (suc m) n a b fits =
     let e : suc m + n ≡ suc (m + n) = omega arith in
     let whole : (a * 256 ^ n + b) / 256 ^ n ≡ a = div-mul-add a (256 ^ n) b fits in
-    let power : 256 ^ (m + n) ≡ 256 ^ n * 256 ^ m = ap (λ t. 256 ^ t) (let f : m + n ≡ n + m = omega arith in f) ∙ pow-add 256 n m in
-    let shifted : (a * 256 ^ n + b) / 256 ^ (m + n) ≡ a / 256 ^ m = ap (λ t. (a * 256 ^ n + b) / t) power ∙ sym (div-div-eq-div-mul (a * 256 ^ n + b) (256 ^ n) (256 ^ m)) ∙ ap (λ t. t / 256 ^ m) whole in
+    let power : 256 ^ (m + n) ≡ 256 ^ n * 256 ^ m =
+    ap (λ t. 256 ^ t) (let f : m + n ≡ n + m = omega arith in f) ∙ pow-add 256 n m in
+    let shifted : (a * 256 ^ n + b) / 256 ^ (m + n) ≡ a / 256 ^ m =
+    ap (λ t. (a * 256 ^ n + b) / t) power ∙ sym (div-div-eq-div-mul (a * 256 ^ n + b) (256 ^ n) (256 ^ m))
+    ∙ ap (λ t. t / 256 ^ m) whole in
     let byte : (a * 256 ^ n + b) / 256 ^ (m + n) % 256 ≡ a / 256 ^ m % 256 = ap (λ q. q % 256) shifted in
     rw e (rw (byte, bytes_of-append m n a b fits) refl)
 

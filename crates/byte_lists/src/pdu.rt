@@ -50,7 +50,8 @@ impl Pdu {
     pub fn filled_by<F: FnOnce(&mut [u8]) -> bool>(len: usize, fill: F) -> Option<Pdu>
         requires { F.IsAlwaysCallable fill }
         ensures too_long { 64 < len → IsNone result }
-        ensures refused { IsNone result → (64 < len) ⊎ ((bytes : List ℕ) × FnOnceReturnsAtMut F.FnOnce fill (replicate len 0) false bytes) }
+        ensures refused { IsNone result
+            → (64 < len) ⊎ ((bytes : List ℕ) × FnOnceReturnsAtMut F.FnOnce fill (replicate len 0) false bytes) }
         ensures size { IfSome result (λ p. length p ≡ len) }
         ensures value { IfSome result (λ p. FnOnceReturnsAtMut F.FnOnce fill (replicate len 0) true p) }
     {

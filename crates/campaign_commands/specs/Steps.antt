@@ -1,9 +1,8 @@
 -- What the steps of the work say to one another
 use Rattle.std.specs.Prelude.{◌≡◌, ◌⊎◌, ℕ, ◌<◌, ◌≤◌, Some, List, [], length, All, Result, Ok, Err, Vec}
 use Rattle.std.specs.declared.alloc.Global.{Global}
-use Rattle.text_lines.specs.Frames.{most_lines}
+use Rattle.text_lines.specs.Readings.{most_lines, Fault}
 use Rattle.command_edge.specs.declared.input.InputFault.{InputFault}
-use Rattle.text_lines.specs.Readings.{Fault}
 use Rattle.answer_rows.specs.Rows.{Row, row_of, input_row, memory_row}
 use Rattle.answer_rows.specs.Inputs.{IsUnread}
 use Rattle.answer_rows.specs.Endings.{Ending, EndsInRow}

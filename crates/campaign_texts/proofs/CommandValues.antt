@@ -12,12 +12,12 @@ use Rattle.std.proofs.lemmas.Bool.{cases_Bool}
 use Rattle.text_lines.specs.declared.fault.Cause.{Cause}
 use Rattle.text_lines.specs.declared.fault.Cause.TheVariants as cause
 use Rattle.text_lines.specs.declared.fault.ScriptFault.{ScriptFault}
-use Rattle.text_lines.specs.Forms.{key_form, is_number, number_form, two_form}
-use Rattle.text_lines.specs.Frames.{most_lines}
-use Rattle.text_lines.specs.DiskForms.{torn_form}
-use Rattle.text_lines.specs.KeyForms.{uid_form, unless_zero, engine_uid_form, slot_form, flags_form}
+use Rattle.secoc_words.specs.Forms.{key_form, two_form}
+use Rattle.text_lines.specs.Forms.{is_number, number_form}
+use Rattle.text_lines.specs.Readings.{most_lines, nth_word, field, Gives}
+use Rattle.secoc_words.specs.DiskForms.{torn_form}
+use Rattle.secoc_words.specs.KeyForms.{uid_form, unless_zero, engine_uid_form, slot_form, flags_form}
 use Rattle.text_lines.specs.Lines.{lines_of}
-use Rattle.text_lines.specs.Readings.{nth_word, field, Gives}
 use Rattle.text_lines.proofs.Results.{bind_ok, ok_some, field_ok, counted_ok}
 use Rattle.text_lines.proofs.Sizes.{All-read_from}
 use Rattle.text_lines.proofs.Values.{values_given}

@@ -5,11 +5,11 @@ use Rattle.campaign_machine.specs.declared.commands.LedgerCommand.{LedgerCommand
 use Rattle.campaign_machine.specs.declared.commands.LedgerCommand.TheVariants as command
 use Rattle.text_lines.specs.declared.fault.Cause.{Cause}
 use Rattle.text_lines.specs.declared.fault.Cause.TheVariants as cause
-use Rattle.text_lines.specs.DiskForms.{torn_form}
-use Rattle.text_lines.specs.Forms.{key_form, two_form, number_form}
-use Rattle.text_lines.specs.KeyForms.{engine_uid_form, slot_form, flags_form}
-use Rattle.text_lines.specs.Readings.{Fault, ◌>>=◌, nth_word, field, with_count, read_all}
-use Rattle.text_lines.specs.Frames.{most_lines}
+use Rattle.secoc_words.specs.DiskForms.{torn_form}
+use Rattle.secoc_words.specs.Forms.{key_form, two_form}
+use Rattle.text_lines.specs.Forms.{number_form}
+use Rattle.secoc_words.specs.KeyForms.{engine_uid_form, slot_form, flags_form}
+use Rattle.text_lines.specs.Readings.{Fault, ◌>>=◌, nth_word, field, with_count, read_all, most_lines}
 use Rattle.campaign_texts.specs.declared.kinds.CommandKind.{CommandKind}
 use Rattle.campaign_texts.specs.declared.kinds.CommandKind.TheVariants.{Issue, Confirm, Show, Cut, Stop, Fail}
 use Rattle.campaign_texts.specs.CommandKinds.{command_kind_of, command_words}

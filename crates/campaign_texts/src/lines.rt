@@ -19,12 +19,12 @@ pub fn read_issue(words: &Words<'_>) -> Result<LedgerCommand, LineFault>
     requires { length words.now ≡ 7 }
     ensures { GivesLine (issue_of words.now) result }
 {
-    let uid = value_at(2, forms::engine_uid(words.word(2)))?;
-    let id = value_at(3, forms::slot(words.word(3)))?;
-    let auth = value_at(4, forms::slot(words.word(4)))?;
-    let flags = value_at(5, forms::flags(words.word(5)))?;
-    let key = value_at(6, forms::key(words.word(6)))?;
-    let authkey = value_at(7, forms::key(words.word(7)))?;
+    let uid = value_at(2, secoc_words::engine_uid(words.word(2)))?;
+    let id = value_at(3, secoc_words::slot(words.word(3)))?;
+    let auth = value_at(4, secoc_words::slot(words.word(4)))?;
+    let flags = value_at(5, secoc_words::flags(words.word(5)))?;
+    let key = value_at(6, secoc_words::key(words.word(6)))?;
+    let authkey = value_at(7, secoc_words::key(words.word(7)))?;
     Ok(LedgerCommand::Issue(Issue {
         uid,
         id,
@@ -41,12 +41,12 @@ pub fn read_confirm(words: &Words<'_>) -> Result<LedgerCommand, LineFault>
     requires { length words.now ≡ 7 }
     ensures { GivesLine (ledger_confirm_of words.now) result }
 {
-    let uid = value_at(2, forms::engine_uid(words.word(2)))?;
-    let id = value_at(3, forms::slot(words.word(3)))?;
-    let auth = value_at(4, forms::slot(words.word(4)))?;
-    let key = value_at(5, forms::key(words.word(5)))?;
-    let m4 = value_at(6, forms::two(words.word(6)))?;
-    let m5 = value_at(7, forms::key(words.word(7)))?;
+    let uid = value_at(2, secoc_words::engine_uid(words.word(2)))?;
+    let id = value_at(3, secoc_words::slot(words.word(3)))?;
+    let auth = value_at(4, secoc_words::slot(words.word(4)))?;
+    let key = value_at(5, secoc_words::key(words.word(5)))?;
+    let m4 = value_at(6, secoc_words::two(words.word(6)))?;
+    let m5 = value_at(7, secoc_words::key(words.word(7)))?;
     let reply = Reply { m4, m5 };
     Ok(LedgerCommand::Confirm(Confirm {
         uid,
@@ -63,8 +63,8 @@ pub fn read_show(words: &Words<'_>) -> Result<LedgerCommand, LineFault>
     requires { length words.now ≡ 3 }
     ensures { GivesLine (show_of words.now) result }
 {
-    let uid = value_at(2, forms::engine_uid(words.word(2)))?;
-    let id = value_at(3, forms::slot(words.word(3)))?;
+    let uid = value_at(2, secoc_words::engine_uid(words.word(2)))?;
+    let id = value_at(3, secoc_words::slot(words.word(3)))?;
     Ok(LedgerCommand::Show { uid, id })
 }
 
@@ -74,7 +74,7 @@ pub fn read_cut(words: &Words<'_>) -> Result<LedgerCommand, LineFault>
     requires { length words.now ≡ 2 }
     ensures { GivesLine (ledger_cut_of words.now) result }
 {
-    let torn = value_at(2, forms::torn(words.word(2)))?;
+    let torn = value_at(2, secoc_words::torn(words.word(2)))?;
     Ok(LedgerCommand::Cut(torn))
 }
 

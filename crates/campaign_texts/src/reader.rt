@@ -1,8 +1,7 @@
 //! Reading a script line by line.
 
 ghost use Rattle.std.specs.Prelude.{◌≡◌, ◌<◌, ◌≤◌, ◌^◌, length, All, IfOk};
-ghost use Rattle.text_lines.specs.Readings.{Gives, GivesLine};
-ghost use Rattle.text_lines.specs.Frames.{most_lines};
+ghost use Rattle.text_lines.specs.Readings.{Gives, GivesLine, most_lines};
 ghost use Rattle.campaign_texts.specs.CommandKinds.{command_words};
 ghost use Rattle.campaign_texts.specs.CommandForms.{campaign_of, command_fields};
 ghost use Rattle.campaign_texts.specs.ScriptCommands.{IsScriptCommand};

@@ -11,7 +11,7 @@ use key_slots::Counter28;
 use memory_update::Request;
 use std::alloc::{AllocError, Global};
 use text_lines::Memory;
-use text_lines::verdicts::push_digits;
+use text_lines::pushing::push_digits;
 
 /// Appends the text of the line with this number, from 1: the number in decimal digits, the words of the line with a
 /// space before each, and a line feed. M1, M2 and M3 have two digits a byte, in lower case. Without memory `out` is as

@@ -27,7 +27,8 @@ pub record Attached (layout : Layout) (reads n : ℕ) (disk : DiskState) (s : Ce
   pub settled : (b : List ℕ) → disk.told ≡ Some (firm b) → Settled s
 
 -- there was room on the disk, and the store couldn't be read
-pub record Unread (layout : Layout) (reads : ℕ) (reads_to : ℕ → ℕ) (n : ℕ) (before after : DiskState) (fault : Reread) : Type 0 where
+pub record Unread (layout : Layout) (reads : ℕ) (reads_to : ℕ → ℕ) (n : ℕ) (before after : DiskState)
+    (fault : Reread) : Type 0 where
   pub room : store_size layout n ≤ before.size
   pub leaves : Leaves reads reads_to before after fault
   pub finds : Finds layout n before.told fault
@@ -36,9 +37,12 @@ pub record Unread (layout : Layout) (reads : ℕ) (reads_to : ℕ → ℕ) (n : 
 abbrev pub NotAttached : Layout → ℕ → (ℕ → ℕ) → ℕ → DiskState → DiskState → StoreFault → Type 0
 NotAttached layout reads reads_to n before after store.TooSmall = (before.size < store_size layout n) × (after ≡ before)
 NotAttached layout reads reads_to n before after store.Memory = (store_size layout n ≤ before.size) × (after ≡ before)
-NotAttached layout reads reads_to n before after store.DiskFailed = Unread layout reads reads_to n before after reread.DiskFailed
-NotAttached layout reads reads_to n before after store.NotFormatted = Unread layout reads reads_to n before after reread.NotFormatted
-NotAttached layout reads reads_to n before after (store.Damaged i) = Unread layout reads reads_to n before after (reread.Damaged i)
+NotAttached layout reads reads_to n before after store.DiskFailed =
+    Unread layout reads reads_to n before after reread.DiskFailed
+NotAttached layout reads reads_to n before after store.NotFormatted =
+    Unread layout reads reads_to n before after reread.NotFormatted
+NotAttached layout reads reads_to n before after (store.Damaged i) =
+    Unread layout reads reads_to n before after (reread.Damaged i)
 
 -- the 32 bytes at the base were read
 pub record Probed (version : Version) (old new : DiskState) (probe : Probe) : Type 0 where
@@ -59,7 +63,8 @@ NotProbed version old new store.Memory = ⊥
 -- why a store of n cells isn't formatted, in at most so many calls
 abbrev pub NotFormed : Layout → ℕ → ℕ → DiskState → DiskState → StoreFault → Type 0
 NotFormed layout most n before after store.TooSmall = (before.size < store_size layout n) × (after ≡ before)
-NotFormed layout most n before after store.DiskFailed = (store_size layout n ≤ before.size) × Rose before.faults after.faults × Runs [] most before after
+NotFormed layout most n before after store.DiskFailed =
+    (store_size layout n ≤ before.size) × Rose before.faults after.faults × Runs [] most before after
 NotFormed layout most n before after store.NotFormatted = ⊥
 NotFormed layout most n before after (store.Damaged i) = ⊥
 NotFormed layout most n before after store.Memory = ⊥

@@ -40,7 +40,8 @@ pub record PutDone (i : ℕ) (c : List ℕ) (old new : CellsState) : Type 0 wher
 
 -- where no byte was loose before, every image has the bytes before and behind the store as they were
 abbrev pub LeavesBesides : CellsState → Option Told → Type 0
-LeavesBesides s new = (b : List ℕ) → s.disk.told ≡ Some (firm b) → EachImage new (SameBesides s.layout (length s.cells) b)
+LeavesBesides s new =
+    (b : List ℕ) → s.disk.told ≡ Some (firm b) → EachImage new (SameBesides s.layout (length s.cells) b)
 
 -- bytes that stand for the list before a put, or for the list after it
 abbrev pub StandsForEither : CellsState → ℕ → List ℕ → List ℕ → Type 0

@@ -7,7 +7,8 @@ use Rattle.cell_store.specs.Twin.{counts, is_live, mark, payload}
 
 -- a copy beside its spare
 abbrev pub held_copy : List ℕ → Side → List ℕ → Held
-held_copy this side that = record { payload = payload this; mark = mark this; side = side; spare_is_live = is_live that }
+held_copy this side that =
+    record { payload = payload this; mark = mark this; side = side; spare_is_live = is_live that }
 
 -- the copy that counts; none where the cell is damaged
 abbrev pub held_of : List ℕ → List ℕ → Option Held

@@ -37,7 +37,8 @@ version_byte Two = 2
 
 -- "SECOCST1", the kind, the version, the number of cells in two bytes (below 2 ^ 16), and zeros
 unfoldable pub header : Layout → ℕ → List ℕ
-header layout n = codes "SECOCST1" ++ (kind_byte layout.kind ∷ version_byte layout.version ∷ (bytes_of 2 n ++ replicate 20 0))
+header layout n =
+    codes "SECOCST1" ++ (kind_byte layout.kind ∷ version_byte layout.version ∷ (bytes_of 2 n ++ replicate 20 0))
 
 -- the layout of this kind and version
 abbrev pub layout : Kind → Version → Layout

@@ -13,7 +13,8 @@ use Rattle.cell_store.specs.Store.{Stands, SameBesides, LogPut}
 
 -- the bytes of a log store have the header of these n cells, and hold them in the bank on this side and its first
 -- places, so many of them
-pub record HoldsInBank (version : Version) (n : ℕ) (store : List ℕ) (cells : List (List ℕ)) (side : Side) (used : ℕ) : Type 0 where
+pub record HoldsInBank (version : Version) (n : ℕ) (store : List ℕ) (cells : List (List ℕ)) (side : Side)
+    (used : ℕ) : Type 0 where
   pub count : length cells ≡ n
   pub room : log_size n ≤ length store
   pub head : part 0 32 store ≡ header (log_layout version) n
@@ -28,7 +29,8 @@ pub record KeepsLog (version : Version) (n : ℕ) (x : List ℕ) (cells : List (
   pub spare : is_live (bank_head n (other bank.side) (from_base version x)) ≡ bank.spare_is_live
 
 -- a put is finished: none of the bytes is loose, and they keep the new cells
-pub record LogPutDone (version : Version) (n i : ℕ) (c : List ℕ) (cells : List (List ℕ)) (bank : Bank) (x : List ℕ) (new : Option Told) : Type 0 where
+pub record LogPutDone (version : Version) (n i : ℕ) (c : List ℕ) (cells : List (List ℕ)) (bank : Bank) (x : List ℕ)
+    (new : Option Told) : Type 0 where
   pub bytes : List ℕ
   pub told : new ≡ Some (firm bytes)
   pub keeps : KeepsLog version n bytes (set cells i c) bank
@@ -39,11 +41,13 @@ PutsLog version n i c cells bank old new = (t : Told) → old ≡ Some t → Log
 
 -- bytes that stand for the cells before a put, or for those after it
 abbrev pub LogStandsForEither : Version → ℕ → List ℕ → List (List ℕ) → List ℕ → Type 0
-LogStandsForEither version i c cells x = Stands (log_layout version) x cells ⊎ Stands (log_layout version) x (set cells i c)
+LogStandsForEither version i c cells x =
+    Stands (log_layout version) x cells ⊎ Stands (log_layout version) x (set cells i c)
 
 -- where no byte was loose, every image stands for one of the two
 abbrev pub LeavesEither : Version → ℕ → List ℕ → List (List ℕ) → Option Told → Option Told → Type 0
-LeavesEither version i c cells old new = (b : List ℕ) → old ≡ Some (firm b) → EachImage new (LogStandsForEither version i c cells)
+LeavesEither version i c cells old new =
+    (b : List ℕ) → old ≡ Some (firm b) → EachImage new (LogStandsForEither version i c cells)
 
 -- and has the bytes before and behind the store as they were
 abbrev pub LogBesides : Version → ℕ → Option Told → Option Told → Type 0

@@ -60,10 +60,12 @@ pub record PlacesSoFar (n : ℕ) (side : Side) (p used : ℕ) (cells : List (Lis
 abbrev pub PlacesFault : Version → ℕ → DiskState → DiskState → Reread → Type 0
 PlacesFault version n old new reread.DiskFailed = ReadFailed 64 old new
 PlacesFault version n old new reread.NotFormatted = ⊥
-PlacesFault version n old new (reread.Damaged i) = (1 ≤ i) × ReadOnly (min 64 i) old new × ToldLog version old.told (λ x. LogDamaged x n i)
+PlacesFault version n old new (reread.Damaged i) =
+    (1 ≤ i) × ReadOnly (min 64 i) old new × ToldLog version old.told (λ x. LogDamaged x n i)
 
 -- the bank that counts isn't read whole: the disk failed, or it is damaged
 abbrev pub CountingFault : Version → ℕ → DiskState → DiskState → Reread → Type 0
 CountingFault version n old new reread.DiskFailed = ReadFailed (66 + n) old new
 CountingFault version n old new reread.NotFormatted = ⊥
-CountingFault version n old new (reread.Damaged i) = ReadOnly (min (66 + n) (bank_reads_to n i)) old new × ToldLog version old.told (λ x. LogDamaged x n i)
+CountingFault version n old new (reread.Damaged i) =
+    ReadOnly (min (66 + n) (bank_reads_to n i)) old new × ToldLog version old.told (λ x. LogDamaged x n i)

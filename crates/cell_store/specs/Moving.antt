@@ -42,7 +42,8 @@ calls_behind Log n = 143 + 2 * n
 -- store they are as they were, and so is the header, or all but the header is a fresh store.
 pub record HeaderLast (laid : Layout) (cells : List (List ℕ)) (b x : List ℕ) : Type 0 where
   pub besides : SameBesides laid (length cells) b x
-  pub within : SameOutside (base laid.version + 32) (behind_header laid.kind (length cells)) b x ⊎ FreshButHeader laid cells b x
+  pub within : SameOutside (base laid.version + 32) (behind_header laid.kind (length cells)) b x
+      ⊎ FreshButHeader laid cells b x
 
 -- every image is so, where no byte was loose before
 abbrev pub LeavesHeaderLast : Layout → List (List ℕ) → Option Told → Option Told → Type 0
@@ -69,12 +70,14 @@ Moves kind cells old new = (t : Told) → old ≡ Some t → Moved kind cells t 
 -- in the version that counts for the image
 abbrev pub KeepsCounted : Kind → ℕ → Option Told → Option Told → Type 0
 KeepsCounted kind n old new =
-    (b : List ℕ) (cells : List (List ℕ)) → old ≡ Some (firm b) → length cells ≡ n → StandsAsCounted kind cells b → EachImage new (StandsAsCounted kind cells)
+    (b : List ℕ) (cells : List (List ℕ)) → old ≡ Some (firm b) → length cells ≡ n → StandsAsCounted kind cells b
+    → EachImage new (StandsAsCounted kind cells)
 
 -- where the bytes stood so, only the disk can have failed
 abbrev pub OnlyDisk : Kind → ℕ → Option Told → Reread → Type 0
 OnlyDisk kind n old fault =
-    (b : List ℕ) (cells : List (List ℕ)) → old ≡ Some (firm b) → length cells ≡ n → StandsAsCounted kind cells b → fault ≡ reread.DiskFailed
+    (b : List ℕ) (cells : List (List ℕ)) → old ≡ Some (firm b) → length cells ≡ n → StandsAsCounted kind cells b
+    → fault ≡ reread.DiskFailed
 
 -- where no byte was loose, every image has all bytes but those of a store of version 2 as they were
 abbrev pub LeavesBelow : Kind → ℕ → Option Told → Option Told → Type 0
@@ -91,5 +94,9 @@ pub record DamagedAsCounted (kind : Kind) (n i : ℕ) (x : List ℕ) : Type 0 wh
 -- the version that counts is damaged.
 abbrev pub Unmoved : Kind → ℕ → DiskState → DiskState → Reread → Type 0
 Unmoved kind n old new reread.DiskFailed = Rose old.faults new.faults
-Unmoved kind n old new reread.NotFormatted = ReadOnly 2 old new × ((t : Told) → old.told ≡ Some t → (HasHeader (layout kind One) n t.bytes → ⊥) × (HasHeader (layout kind Two) n t.bytes → ⊥))
-Unmoved kind n old new (reread.Damaged i) = ReadOnly (1 + reads_to kind n i) old new × ((t : Told) → old.told ≡ Some t → DamagedAsCounted kind n i t.bytes)
+Unmoved kind n old new reread.NotFormatted =
+    ReadOnly 2 old new
+    × ((t : Told) → old.told ≡ Some t
+    → (HasHeader (layout kind One) n t.bytes → ⊥) × (HasHeader (layout kind Two) n t.bytes → ⊥))
+Unmoved kind n old new (reread.Damaged i) =
+    ReadOnly (1 + reads_to kind n i) old new × ((t : Told) → old.told ≡ Some t → DamagedAsCounted kind n i t.bytes)

@@ -51,10 +51,12 @@ ToldKeeps version told i held = (t : Told) → told ≡ Some t → Keeps (from_b
 abbrev pub CellFault : Version → ℕ → DiskState → DiskState → Reread → Type 0
 CellFault version i old new reread.DiskFailed = ReadFailed 1 old new
 CellFault version i old new reread.NotFormatted = ⊥
-CellFault version i old new (reread.Damaged j) = (j ≡ i) × ReadOnly 1 old new × ((t : Told) → old.told ≡ Some t → cell_at (from_base version t.bytes) i ≡ None)
+CellFault version i old new (reread.Damaged j) =
+    (j ≡ i) × ReadOnly 1 old new × ((t : Told) → old.told ≡ Some t → cell_at (from_base version t.bytes) i ≡ None)
 
 -- the header isn't read: the disk failed, or told bytes have another
 abbrev pub HeaderFault : Layout → ℕ → DiskState → DiskState → Reread → Type 0
 HeaderFault layout n old new reread.DiskFailed = ReadFailed 1 old new
-HeaderFault layout n old new reread.NotFormatted = ReadOnly 1 old new × ((t : Told) → old.told ≡ Some t → HasHeader layout n t.bytes → ⊥)
+HeaderFault layout n old new reread.NotFormatted =
+    ReadOnly 1 old new × ((t : Told) → old.told ≡ Some t → HasHeader layout n t.bytes → ⊥)
 HeaderFault layout n old new (reread.Damaged i) = ⊥

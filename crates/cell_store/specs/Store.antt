@@ -96,7 +96,10 @@ pub record LogPut (version : Version) (x : List ℕ) (i : ℕ) (c y : List ℕ) 
   pub used : ℕ
   pub places : Places count side (from_base version x) used
   pub appended : used < 64 → y ≡ splice (base version + place_at count side used) (live_record i c) x
-  pub refilled : 64 ≤ used → y ≡ splice (base version + bank_at count (other side)) (live_bank (next (mark (bank_head count side (from_base version x)))) (set (listed count side (from_base version x) used) i c)) x
+  pub refilled : 64 ≤ used
+      → y ≡ splice (base version + bank_at count (other side))
+      (live_bank (next (mark (bank_head count side (from_base version x))))
+      (set (listed count side (from_base version x) used) i c)) x
 
 -- the same, by the kind of the store
 unfoldable pub PutsAs : Kind → Version → List ℕ → ℕ → List ℕ → List ℕ → Type 0
@@ -110,7 +113,9 @@ Put layout x i c y = PutsAs layout.kind layout.version x i c y
 -- what the 32 bytes at the base of a store of this version are
 abbrev pub Probes : Version → List ℕ → Probe → Type 0
 Probes version head Blank = head ≡ replicate 32 0
-Probes version head Foreign = (head ≢ replicate 32 0) × ((kind : Kind) (n : ℕ) → FewCells n → head ≢ header (record { kind = kind; version = version }) n)
+Probes version head Foreign =
+    (head ≢ replicate 32 0)
+    × ((kind : Kind) (n : ℕ) → FewCells n → head ≢ header (record { kind = kind; version = version }) n)
 Probes version head (Store kind n) = FewCells n × (head ≡ header (record { kind = kind; version = version }) n)
 
 -- a store that was found has 1 to 1024 cells

@@ -30,7 +30,8 @@ next m = (m + 1) % 3
 -- this copy counts beside that one: it is live, and that one is closed or its mark is the one before
 unfoldable pub counts : List ℕ → List ℕ → Bool
 counts this that =
-    is_live this && nat_lt (mark this) 3 && (not (is_live that) || (nat_lt (mark that) 3 && (mark this == next (mark that))))
+    is_live this && nat_lt (mark this) 3
+    && (not (is_live that) || (nat_lt (mark that) 3 && (mark this == next (mark that))))
 
 -- what two copies hold; none where they are damaged
 unfoldable pub cell_of : List ℕ → List ℕ → Option (List ℕ)

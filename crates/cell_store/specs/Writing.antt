@@ -13,7 +13,8 @@ LeavesOutside at n old new = (b : List ℕ) → old ≡ Some (firm b) → EachIm
 -- changed, and what stands there is closed, or as it was, or the new bytes.
 pub record Unfinished (n at : ℕ) (new x y : List ℕ) : Type 0 where
   pub same : SameOutside at (suc n) x y
-  pub spare : (is_live (part at (suc n) y) ≡ false) ⊎ ((part at (suc n) y ≡ part at (suc n) x) ⊎ (part at (suc n) y ≡ new))
+  pub spare : (is_live (part at (suc n) y) ≡ false)
+      ⊎ ((part at (suc n) y ≡ part at (suc n) x) ⊎ (part at (suc n) y ≡ new))
 
 -- the gate at `at` is closed now, nothing else is changed, and nothing is loose that wasn't
 pub record GateClosed (n at : ℕ) (t : Told) (new : Option Told) : Type 0 where

@@ -12,7 +12,7 @@ use Rattle.bus_world.specs.declared.start.Start.TheVariants.{Format}
 use Rattle.bus_world.specs.StartAnswers.{DiskStates, ComesOfStart}
 use Rattle.bus_script.specs.EventForms.{events_of}
 use Rattle.bus_script.specs.ScriptEvents.{IsScriptEvent}
-use Rattle.text_lines.specs.Frames.{most_lines}
+use Rattle.text_lines.specs.Readings.{most_lines}
 use Rattle.bus_inputs.specs.Scripts.{LacksLines, ReadsLinesAs}
 use Rattle.chart_texts.specs.ChartTexts.{chart_text}
 use Rattle.chart_commands.specs.declared.job.ChartJob.{ChartJob}

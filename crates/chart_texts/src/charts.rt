@@ -1,6 +1,6 @@
 //! The whole chart.
 ghost use Rattle.std.specs.Prelude.{◌≡◌, ◌≤◌, ◌++◌, length, IfOk, OnOk};
-ghost use Rattle.text_lines.specs.Frames.{most_lines};
+ghost use Rattle.text_lines.specs.Readings.{most_lines};
 ghost use Rattle.chart_texts.specs.ChartTexts.{chart_text, sized_chart as text_of_size, whole_tag, opening_text, page_rect, page_text, numbers_text, chart_counts};
 
 use crate::constants::{LEGEND, STYLE};

@@ -10,7 +10,7 @@ use bus_machine::{Event, Line};
 use bus_texts::words::{push_id, push_number, push_refusal};
 use cut_disk::Torn;
 use std::alloc::AllocError;
-use text_lines::verdicts::push_digits;
+use text_lines::pushing::push_digits;
 
 /// Adds the label of an event and its line: letters, digits, spaces, `.`, `,` and `_`.
 pub(crate) fn push_label(text: &mut Vec<u8>, event: &Event, line: &Line) -> Result<(), AllocError>

@@ -1,3 +1,4 @@
 pub mod Input
 pub mod Named
 pub mod Told
+pub mod ToldLaws

@@ -18,4 +18,5 @@ ToldFront before after text answer = (answer ≡ 6) × Rose before.faults after.
 
 -- an ending with this text and status was told
 abbrev pub EndingTold : SinkState → SinkState → List ℕ → ℕ → ℕ → Type 0
-EndingTold before after text status answer = ToldWhole before after text status answer ⊎ ToldFront before after text answer
+EndingTold before after text status answer =
+    ToldWhole before after text status answer ⊎ ToldFront before after text answer

@@ -55,7 +55,8 @@ pub fn read_input<S: Source>(alloc: Global, source: &mut S) -> Result<Vec<u8>, I
 
     // Exactly where one byte more came.
     ensures too_long { (S.state source.old).taken + input_limit < last_count
-        → (IsErrOf result InputFault.TooLong ↔ ((S.state source.old).taken + input_limit < (S.state source.new).taken)) }
+        → (IsErrOf result InputFault.TooLong
+        ↔ ((S.state source.old).taken + input_limit < (S.state source.new).taken)) }
     ensures too_long_told { (left : List ℕ) → (S.state source.old).told ≡ Some left
         → IsErrOf result InputFault.TooLong → input_limit < length left }
 {

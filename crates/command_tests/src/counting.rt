@@ -1,7 +1,8 @@
 //! The words of a trial, and the summary of a run.
 use bus_commands::words::{Command, WorldCommand, command_of};
 use bus_commands::{Summary, TrialWords};
-use bus_script::{Line, Pdu, Refusal};
+use bus_machine::{Line, Refusal};
+use byte_lists::Pdu;
 use key_slots::SlotId;
 use numbered_run::Tally;
 use std::alloc::{AllocError, Global};

@@ -7,6 +7,8 @@ mod counting;
 #[cfg(test)]
 mod lines;
 #[cfg(test)]
+mod nodes;
+#[cfg(test)]
 mod replays;
 #[cfg(test)]
 mod trials;

@@ -58,19 +58,19 @@ pub(crate) fn disks_of(alloc: Global, sizes: &[usize]) -> Result<Vec<MemDisk>, A
     Ok(disks)
 }
 
-/// Replays a script over these disks and a sink that takes a byte in a call, and compares the status and the output. Where the sink fails once so
-/// many bytes are written, the status is 6, and these bytes are all of the output.
-fn replays<D: CutDisk>(
+/// Runs these words, which ask for a run over disks, over a bus file and a script, these disks and a sink that takes a byte in a call, and compares
+/// the status and the output. Where the sink fails once so many bytes are written, the status is 6, and these bytes are all of the output.
+pub(crate) fn runs<D: CutDisk>(
     rt: &impl Abort,
     alloc: Global,
     disks: &mut Vec<D>,
-    texts: [&str; 2],
+    texts: [&str; 3],
     fails_behind: Option<usize>,
     status: u8,
     output: &str,
 ) -> Result<(), Fail> {
-    let [bus, script] = texts;
-    let words = words_of(alloc, "replay B F")?;
+    let [line, bus, script] = texts;
+    let words = words_of(alloc, line)?;
     let mut config = CleanSource::new(Vec::from_slice(alloc, bus.as_bytes())?);
     let mut source = CleanSource::new(Vec::from_slice(alloc, script.as_bytes())?);
     let mut sink = sink_of(alloc, fails_behind)?;
@@ -88,6 +88,21 @@ fn replays<D: CutDisk>(
     assert_eq!(rt; sink.bytes(), output, "{script}");
     assert_eq!(rt; disks.len(), number, "every disk is back");
     Ok(())
+}
+
+/// Replays a script over these disks.
+fn replays<D: CutDisk>(
+    rt: &impl Abort,
+    alloc: Global,
+    disks: &mut Vec<D>,
+    texts: [&str; 2],
+    fails_behind: Option<usize>,
+    status: u8,
+    output: &str,
+) -> Result<(), Fail> {
+    let [bus, script] = texts;
+    let texts = ["replay B F", bus, script];
+    runs(rt, alloc, disks, texts, fails_behind, status, output)
 }
 
 #[test]

@@ -2,7 +2,7 @@
 use Rattle.std.specs.Prelude.{◌≡◌, ℕ, ◌<◌, ◌==◌, if◌then◌else◌, List, [], ◌∷◌, ◌++◌, AllPairs}
 use Rattle.std.specs.Prelude.{Option, None, Some, IfSome}
 use Rattle.secured_pdu.specs.Verdict.{Outcome, Accepted, FreshnessFailure, VerificationFailure, Verdict}
-use Rattle.text_lines.specs.Texts.{outcome_text}
+use Rattle.secoc_words.specs.Texts.{outcome_text}
 
 -- the counter behind a verdict: the freshness that was accepted, or the counter of before
 abbrev pub counter_behind : ℕ → Outcome → ℕ

@@ -4,10 +4,10 @@ ghost use Rattle.secured_pdu.specs.Frame.{IsFrame, IsWindow};
 ghost use Rattle.text_lines.specs.Room.{AddsAtMost};
 ghost use Rattle.counting_receiver.specs.Counting.{AddsVerdict};
 
+use secoc_words::verdicts::{push_bad_length, push_outcome};
 use secured_pdu::{Judgement, judge, split};
 use she_aes::Schedule;
 use std::alloc::AllocError;
-use text_lines::verdicts::{push_bad_length, push_outcome};
 
 /// The widest window that a receiver has.
 pub const WIDEST_WINDOW: u16 = 256;

@@ -28,7 +28,8 @@ arms_nothing (Stop calls ∷ marks) = false
 arms_nothing (Fail calls ∷ marks) = false
 
 -- a past gets one more entry, with this mark and the state now
-pub record AddsOne (mark : Option Mark) (before : Option (List Entry)) (now : Option Told) (all : List Entry) : Type 0 where
+pub record AddsOne (mark : Option Mark) (before : Option (List Entry)) (now : Option Told)
+    (all : List Entry) : Type 0 where
   pub earlier : List Entry
   pub state : Told
   pub was : before ≡ Some earlier

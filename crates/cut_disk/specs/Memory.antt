@@ -20,7 +20,8 @@ pub record Contents : Type 0 where
 
 -- nothing is armed, nothing has failed, and no byte is loose
 abbrev pub fresh : List ℕ → Contents
-fresh bytes = record { bytes = bytes; synced = bytes; loose = replicate (length bytes) false; arms = no_arms; faults = 0 }
+fresh bytes =
+    record { bytes = bytes; synced = bytes; loose = replicate (length bytes) false; arms = no_arms; faults = 0 }
 
 -- no call fails until one is armed
 abbrev pub is_calm : Arms → ℕ → Bool
@@ -70,7 +71,9 @@ torn_byte (Fill byte) address read synced = byte
 -- what a power cut leaves of the byte at this address
 abbrev pub left_byte : Torn → List ℕ → List ℕ → List Bool → ℕ → ℕ
 left_byte torn bytes synced loose address =
-    if slice_index_or loose address false then torn_byte torn address (slice_index bytes address) (slice_index synced address) else slice_index bytes address
+    if slice_index_or loose address false
+    then torn_byte torn address (slice_index bytes address) (slice_index synced address)
+    else slice_index bytes address
 
 unfoldable pub left_bytes : Torn → List ℕ → List ℕ → List Bool → List ℕ
 left_bytes torn bytes synced loose = map (left_byte torn bytes synced loose) (range_with_len 0 (length bytes))

@@ -19,7 +19,8 @@ calm_is_below c calm = ltb-true c.faults last_count (both_hold (is_unarmed c.arm
 no_past : {A : Type 0} {all : List Entry} → None ≡ Some all → A
 no_past is = absurd (cc)
 
-pub contents_are_a_disk : (c : Contents) → length c.loose ≡ length c.bytes → length c.bytes ≤ 2 ^ 24 → c.faults ≤ last_count → IsDisk (disk_of c)
+pub contents_are_a_disk : (c : Contents) → length c.loose ≡ length c.bytes → length c.bytes ≤ 2 ^ 24
+    → c.faults ≤ last_count → IsDisk (disk_of c)
 contents_are_a_disk c marked small counted = record {
   sized = omega arith;
   counted = counted;

@@ -18,7 +18,9 @@ past_of over used entries = if over then None else Some (map entry_of (take used
 
 -- there is room for a state in each entry
 abbrev pub AllSized : ℕ → List PastEntry → Type 0
-AllSized size entries = (k : ℕ) (e : PastEntry) → k < length entries → e ≡ slice_index_or entries k e → (length e.bytes.items ≡ size) × (length e.loose.items ≡ size)
+AllSized size entries =
+    (k : ℕ) (e : PastEntry) → k < length entries → e ≡ slice_index_or entries k e
+    → (length e.bytes.items ≡ size) × (length e.loose.items ≡ size)
 
 -- a past gets one more entry where there is room for it, and isn't told any more where there is none
 abbrev pub with_entry : ℕ → Entry → Option (List Entry) → Option (List Entry)

@@ -14,11 +14,13 @@ pub record TapeContents : Type 0 where
 
 -- the past of a new disk is its first state, without a mark
 abbrev pub fresh_tape : ℕ → List ℕ → TapeContents
-fresh_tape room bytes = record { disk = fresh bytes; room = room; past = Some (past_entry (told_of (fresh bytes)) None ∷ []) }
+fresh_tape room bytes =
+    record { disk = fresh bytes; room = room; past = Some (past_entry (told_of (fresh bytes)) None ∷ []) }
 
 -- a call with this mark left the disk in memory like this, and that is the entry that it adds
 abbrev pub noted : Option Mark → Contents → TapeContents → TapeContents
-noted mark left t = record { disk = left; room = t.room; past = with_entry t.room (past_entry (told_of left) mark) t.past }
+noted mark left t =
+    record { disk = left; room = t.room; past = with_entry t.room (past_entry (told_of left) mark) t.past }
 
 -- what the disk means: all that the disk in memory means, and the past
 abbrev pub tape_disk_of : TapeContents → DiskState

@@ -194,7 +194,8 @@ impl CutDisk for MemDisk {
     fn stop_at(&mut self, calls: u64)
         requires first { 1 ≤ calls }
         ensures call { Call (Some (Stop calls)) (disk_of (contents self.old)) (disk_of (contents self.new)) }
-        ensures contents { contents self.new ≡ record (contents self.old) { arms = with_stop calls (contents self.old).arms } }
+        ensures contents { contents self.new
+            ≡ record (contents self.old) { arms = with_stop calls (contents self.old).arms } }
     {
         self.arms.stop_at(calls);
     }
@@ -202,7 +203,8 @@ impl CutDisk for MemDisk {
     fn fail_at(&mut self, calls: u64)
         requires first { 1 ≤ calls }
         ensures call { Call (Some (Fail calls)) (disk_of (contents self.old)) (disk_of (contents self.new)) }
-        ensures contents { contents self.new ≡ record (contents self.old) { arms = with_fail calls (contents self.old).arms } }
+        ensures contents { contents self.new
+            ≡ record (contents self.old) { arms = with_fail calls (contents self.old).arms } }
     {
         self.arms.fail_at(calls);
     }

@@ -58,7 +58,8 @@ impl Model for Tape {
 
     ghost Value = { TapeState };
 
-    ghost view = { λ t. record { size = t.size; room = length t.entries.items; past = past_of t.over t.used t.entries.items } };
+    ghost view = { λ t. record
+        { size = t.size; room = length t.entries.items; past = past_of t.over t.used t.entries.items } };
 
     ghost invariant = { λ t. (t.used ≤ length t.entries.items) × AllSized t.size t.entries.items };
 }
@@ -90,7 +91,11 @@ impl Tape {
     pub fn add(&mut self, bytes: &[u8], loose: &[bool], mark: Option<Mark>)
         requires bytes { length bytes.now ≡ self.old.size }
         requires loose { length loose.now ≡ self.old.size }
-        ensures { self.new ≡ record self.old { past = with_entry self.old.room (past_entry (record { bytes = bytes.now; loose = loose.now }) mark) self.old.past } }
+        ensures { self.new
+            ≡ record self.old {
+              past = with_entry self.old.room
+                  (past_entry (record { bytes = bytes.now; loose = loose.now }) mark) self.old.past;
+            } }
     {
         if self.used == self.entries.len() {
             self.over = true;

@@ -21,7 +21,8 @@ pub struct TapeDisk {
     disk: MemDisk,
     tape: Tape,
     ghost same_size: { tape.size ≡ length (contents disk).bytes },
-    ghost newest: { (all : List Entry) → tape.past ≡ Some all → Some (told_of (contents disk)) ≡ newest (Some (told_of (contents disk))) all },
+    ghost newest: { (all : List Entry) → tape.past ≡ Some all
+        → Some (told_of (contents disk)) ≡ newest (Some (told_of (contents disk))) all },
 }
 
 impl TapeDisk {
@@ -63,8 +64,10 @@ impl Disk for TapeDisk {
         requires inside { at + length out.old ≤ length (tape_contents self.old).disk.bytes }
         ensures call { Call None (tape_disk_of (tape_contents self.old)) (tape_disk_of (tape_contents self.new)) }
         ensures exactly { is_ok result ≡ not (fails (tape_contents self.old).disk.arms) }
-        ensures contents { tape_contents self.new ≡ noted None (called (tape_contents self.old).disk) (tape_contents self.old) }
-        ensures bytes { OnOk result (out.new ≡ slice_range (tape_contents self.old).disk.bytes at (at + length out.old)) }
+        ensures contents { tape_contents self.new
+            ≡ noted None (called (tape_contents self.old).disk) (tape_contents self.old) }
+        ensures bytes { OnOk result
+            (out.new ≡ slice_range (tape_contents self.old).disk.bytes at (at + length out.old)) }
         ensures unread { OnErr result (out.new ≡ out.old) }
     {
         let outcome = self.disk.read(at, out);
@@ -76,7 +79,8 @@ impl Disk for TapeDisk {
         requires inside { at + length bytes.now ≤ length (tape_contents self.old).disk.bytes }
         ensures call { Call None (tape_disk_of (tape_contents self.old)) (tape_disk_of (tape_contents self.new)) }
         ensures exactly { is_ok result ≡ not (fails (tape_contents self.old).disk.arms) }
-        ensures contents { tape_contents self.new ≡ noted None (after_write at bytes.now (called (tape_contents self.old).disk)) (tape_contents self.old) }
+        ensures contents { tape_contents self.new
+            ≡ noted None (after_write at bytes.now (called (tape_contents self.old).disk)) (tape_contents self.old) }
     {
         let outcome = self.disk.write(at, bytes);
         note(&mut self.tape, &self.disk, None);
@@ -86,8 +90,11 @@ impl Disk for TapeDisk {
     fn sync(&mut self) -> Result<(), DiskFailed>
         ensures call { Call None (tape_disk_of (tape_contents self.old)) (tape_disk_of (tape_contents self.new)) }
         ensures exactly { is_ok result ≡ not (fails (tape_contents self.old).disk.arms) }
-        ensures synced { OnOk result (tape_contents self.new ≡ noted None (after_sync (called (tape_contents self.old).disk)) (tape_contents self.old)) }
-        ensures unsynced { OnErr result (tape_contents self.new ≡ noted None (called (tape_contents self.old).disk) (tape_contents self.old)) }
+        ensures synced { OnOk result
+            (tape_contents self.new
+            ≡ noted None (after_sync (called (tape_contents self.old).disk)) (tape_contents self.old)) }
+        ensures unsynced { OnErr result
+            (tape_contents self.new ≡ noted None (called (tape_contents self.old).disk) (tape_contents self.old)) }
     {
         let outcome = self.disk.sync();
         note(&mut self.tape, &self.disk, None);
@@ -101,9 +108,12 @@ impl CutDisk for TapeDisk {
     ghost use Rattle.cut_disk.specs.TapeDisk.{tape_contents, tape_disk_of, noted};
 
     fn power_cut(&mut self, torn: Torn)
-        ensures call { Call (Some (Cut torn)) (tape_disk_of (tape_contents self.old)) (tape_disk_of (tape_contents self.new)) }
-        ensures contents { tape_contents self.new ≡ noted (Some (Cut torn)) (cut torn (tape_contents self.old).disk) (tape_contents self.old) }
-        ensures left { CutsTo (tape_disk_of (tape_contents self.old)).told (tape_disk_of (tape_contents self.new)).told }
+        ensures call { Call (Some (Cut torn)) (tape_disk_of (tape_contents self.old))
+            (tape_disk_of (tape_contents self.new)) }
+        ensures contents { tape_contents self.new
+            ≡ noted (Some (Cut torn)) (cut torn (tape_contents self.old).disk) (tape_contents self.old) }
+        ensures left { CutsTo (tape_disk_of (tape_contents self.old)).told
+            (tape_disk_of (tape_contents self.new)).told }
     {
         self.disk.power_cut(torn);
         note(&mut self.tape, &self.disk, Some(Mark::Cut(torn)));
@@ -111,8 +121,12 @@ impl CutDisk for TapeDisk {
 
     fn stop_at(&mut self, calls: u64)
         requires first { 1 ≤ calls }
-        ensures call { Call (Some (Stop calls)) (tape_disk_of (tape_contents self.old)) (tape_disk_of (tape_contents self.new)) }
-        ensures contents { tape_contents self.new ≡ noted (Some (Stop calls)) (record (tape_contents self.old).disk { arms = with_stop calls (tape_contents self.old).disk.arms }) (tape_contents self.old) }
+        ensures call { Call (Some (Stop calls)) (tape_disk_of (tape_contents self.old))
+            (tape_disk_of (tape_contents self.new)) }
+        ensures contents { tape_contents self.new
+            ≡ noted (Some (Stop calls))
+            (record (tape_contents self.old).disk { arms = with_stop calls (tape_contents self.old).disk.arms })
+            (tape_contents self.old) }
     {
         self.disk.stop_at(calls);
         note(&mut self.tape, &self.disk, Some(Mark::Stop(calls)));
@@ -120,8 +134,12 @@ impl CutDisk for TapeDisk {
 
     fn fail_at(&mut self, calls: u64)
         requires first { 1 ≤ calls }
-        ensures call { Call (Some (Fail calls)) (tape_disk_of (tape_contents self.old)) (tape_disk_of (tape_contents self.new)) }
-        ensures contents { tape_contents self.new ≡ noted (Some (Fail calls)) (record (tape_contents self.old).disk { arms = with_fail calls (tape_contents self.old).disk.arms }) (tape_contents self.old) }
+        ensures call { Call (Some (Fail calls)) (tape_disk_of (tape_contents self.old))
+            (tape_disk_of (tape_contents self.new)) }
+        ensures contents { tape_contents self.new
+            ≡ noted (Some (Fail calls))
+            (record (tape_contents self.old).disk { arms = with_fail calls (tape_contents self.old).disk.arms })
+            (tape_contents self.old) }
     {
         self.disk.fail_at(calls);
         note(&mut self.tape, &self.disk, Some(Mark::Fail(calls)));
@@ -131,7 +149,9 @@ impl CutDisk for TapeDisk {
 /// Adds the state of the disk to its past, with the mark of the call that left it.
 fn note(tape: &mut Tape, disk: &MemDisk, mark: Option<Mark>)
     requires { tape.old.size ≡ length (contents disk.now).bytes }
-    ensures { tape.new ≡ record tape.old { past = with_entry tape.old.room (past_entry (told_of (contents disk.now)) mark) tape.old.past } }
+    ensures { tape.new
+        ≡ record tape.old
+        { past = with_entry tape.old.room (past_entry (told_of (contents disk.now)) mark) tape.old.past } }
 {
     tape.add(disk.bytes(), disk.loose(), mark);
 }

@@ -68,7 +68,8 @@ fn filled(flags: u8) -> Result<[u8; 32], &'static str> {
 }
 
 fn route(number: u8, reserve: u16, window: u16) -> Result<Route, &'static str>
-    ensures { IfOk result (λ r. (r.id ≡ 27585) × (r.direction ≡ Receives) × (r.reserve ≡ reserve) × (r.window ≡ window)) }
+    ensures { IfOk result
+        (λ r. (r.id ≡ 27585) × (r.direction ≡ Receives) × (r.reserve ≡ reserve) × (r.window ≡ window)) }
 {
     Ok(Route {
         id: ID,

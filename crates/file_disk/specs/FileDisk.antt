@@ -23,7 +23,8 @@ file_disk_of c = record { size = c.size; told = None; arms = c.arms; faults = c.
 
 -- nothing is armed, and nothing has failed
 abbrev pub fresh_file_disk : ℕ → Bool → Option (List FileCall) → FileContents
-fresh_file_disk size is_open calls = record { size = size; arms = no_arms; faults = 0; is_open = is_open; calls = calls }
+fresh_file_disk size is_open calls =
+    record { size = size; arms = no_arms; faults = 0; is_open = is_open; calls = calls }
 
 -- one call was counted, and its failure where it was armed to fail
 abbrev pub counted_call : FileContents → FileContents
@@ -43,4 +44,11 @@ pub record Passes (call : FileCall) (ok : Bool) (old new : FileContents) : Type 
 
 -- what a disk over a file holds, by what a file of this kind tells
 abbrev pub file_contents : {F : Type 0} {g : Ghosts F} → FileDisk F g → FileContents
-file_contents {F} {g} disk = record { size = disk.size; arms = disk.arms; faults = disk.faults; is_open = g.is_open disk.file; calls = g.calls disk.file }
+file_contents {F} {g} disk =
+    record {
+      size = disk.size;
+      arms = disk.arms;
+      faults = disk.faults;
+      is_open = g.is_open disk.file;
+      calls = g.calls disk.file;
+    }

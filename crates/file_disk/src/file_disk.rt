@@ -31,7 +31,8 @@ impl FileDisk<SystemFile> {
     /// the file now. A file that can be neither opened nor made is a disk of 65,536 bytes, each of whose reads, writes and
     /// syncs fails.
     pub fn on(rt: &HostRuntime, path: &str) -> FileDisk<SystemFile>
-        ensures fresh { file_contents result ≡ fresh_file_disk (file_contents result).size (file_contents result).is_open None }
+        ensures fresh { file_contents result
+            ≡ fresh_file_disk (file_contents result).size (file_contents result).is_open None }
         ensures missing { (file_contents result).is_open ≡ false → (file_contents result).size ≡ 65536 }
     {
         let file = SystemFile::on(rt, path);
@@ -89,7 +90,8 @@ impl<F: ByteFile> Disk for FileDisk<F> {
     fn read(&mut self, at: u64, out: &mut [u8]) -> Result<(), DiskFailed>
         requires inside { at + length out.old ≤ (file_contents self.old).size }
         ensures call { Call None (file_disk_of (file_contents self.old)) (file_disk_of (file_contents self.new)) }
-        ensures passes { Passes (ReadAt at out.new (is_ok result)) (is_ok result) (file_contents self.old) (file_contents self.new) }
+        ensures passes { Passes (ReadAt at out.new (is_ok result)) (is_ok result) (file_contents self.old)
+            (file_contents self.new) }
     {
         self.count()?;
         let outcome = self.file.read_at(at, out);
@@ -99,7 +101,8 @@ impl<F: ByteFile> Disk for FileDisk<F> {
     fn write(&mut self, at: u64, bytes: &[u8]) -> Result<(), DiskFailed>
         requires inside { at + length bytes.now ≤ (file_contents self.old).size }
         ensures call { Call None (file_disk_of (file_contents self.old)) (file_disk_of (file_contents self.new)) }
-        ensures passes { Passes (WriteAt at bytes.now (is_ok result)) (is_ok result) (file_contents self.old) (file_contents self.new) }
+        ensures passes { Passes (WriteAt at bytes.now (is_ok result)) (is_ok result) (file_contents self.old)
+            (file_contents self.new) }
     {
         self.count()?;
         let outcome = self.file.write_at(at, bytes);
@@ -108,7 +111,8 @@ impl<F: ByteFile> Disk for FileDisk<F> {
 
     fn sync(&mut self) -> Result<(), DiskFailed>
         ensures call { Call None (file_disk_of (file_contents self.old)) (file_disk_of (file_contents self.new)) }
-        ensures passes { Passes (SyncAll (is_ok result)) (is_ok result) (file_contents self.old) (file_contents self.new) }
+        ensures passes { Passes (SyncAll (is_ok result)) (is_ok result) (file_contents self.old)
+            (file_contents self.new) }
     {
         self.count()?;
         let outcome = self.file.sync_all();
@@ -122,24 +126,30 @@ impl<F: ByteFile> CutDisk for FileDisk<F> {
     ghost use Rattle.file_disk.specs.FileDisk.{file_contents, file_disk_of};
 
     fn power_cut(&mut self, _torn: Torn)
-        ensures call { Call (Some (Cut _torn)) (file_disk_of (file_contents self.old)) (file_disk_of (file_contents self.new)) }
-        ensures contents { file_contents self.new ≡ record (file_contents self.old) { arms = after_cut (file_contents self.old).arms } }
+        ensures call { Call (Some (Cut _torn)) (file_disk_of (file_contents self.old))
+            (file_disk_of (file_contents self.new)) }
+        ensures contents { file_contents self.new
+            ≡ record (file_contents self.old) { arms = after_cut (file_contents self.old).arms } }
     {
         self.arms.cut();
     }
 
     fn stop_at(&mut self, calls: u64)
         requires first { 1 ≤ calls }
-        ensures call { Call (Some (Stop calls)) (file_disk_of (file_contents self.old)) (file_disk_of (file_contents self.new)) }
-        ensures contents { file_contents self.new ≡ record (file_contents self.old) { arms = with_stop calls (file_contents self.old).arms } }
+        ensures call { Call (Some (Stop calls)) (file_disk_of (file_contents self.old))
+            (file_disk_of (file_contents self.new)) }
+        ensures contents { file_contents self.new
+            ≡ record (file_contents self.old) { arms = with_stop calls (file_contents self.old).arms } }
     {
         self.arms.stop_at(calls);
     }
 
     fn fail_at(&mut self, calls: u64)
         requires first { 1 ≤ calls }
-        ensures call { Call (Some (Fail calls)) (file_disk_of (file_contents self.old)) (file_disk_of (file_contents self.new)) }
-        ensures contents { file_contents self.new ≡ record (file_contents self.old) { arms = with_fail calls (file_contents self.old).arms } }
+        ensures call { Call (Some (Fail calls)) (file_disk_of (file_contents self.old))
+            (file_disk_of (file_contents self.new)) }
+        ensures contents { file_contents self.new
+            ≡ record (file_contents self.old) { arms = with_fail calls (file_contents self.old).arms } }
     {
         self.arms.fail_at(calls);
     }

@@ -18,7 +18,8 @@ FailsChange place id direction None old new = ⊥
 FailsChange place id direction (Some bound) old new = FailsPut place (bound_cell id direction bound) old new
 
 -- the bytes stand for cells that keep the one bound or the other
-pub record KeepsEither (layout : Layout) (x : List ℕ) (place id : ℕ) (direction : Direction) (bound other : ℕ) : Type 0 where
+pub record KeepsEither (layout : Layout) (x : List ℕ) (place id : ℕ) (direction : Direction)
+    (bound other : ℕ) : Type 0 where
   pub cells : List (List ℕ)
   pub stands : Stands layout x cells
   pub keeps : KeepsBound cells place id direction bound ⊎ KeepsBound cells place id direction other

@@ -10,6 +10,7 @@ ghost use Rattle.freshness_manager.specs.Changing.{FailsChange, KeepsEither};
 /// bound or the new one.
 pub fn a_failed_change_keeps_either_bound()
     ensures { (old new : CellsState) (place id : ℕ) (direction : Direction) (bound moved : ℕ) → moved < 2 ^ 64
-        → Settled old → KeepsBound old.cells place id direction bound → FailsChange place id direction (Some moved) old new
+        → Settled old → KeepsBound old.cells place id direction bound
+        → FailsChange place id direction (Some moved) old new
         → EachImage new.disk.told (λ x. KeepsEither old.layout x place id direction bound moved) }
 {}

@@ -25,7 +25,8 @@ impl Model for Rx {
 
     ghost Value = { ReceiverCounter };
 
-    ghost view = { λ r. record { place = r.place; id = r.id; reserve = r.reserve; window = r.window; counter = r.counter; bound = r.bound } };
+    ghost view = { λ r. record
+        { place = r.place; id = r.id; reserve = r.reserve; window = r.window; counter = r.counter; bound = r.bound } };
 
     ghost invariant = { λ r. IsReceiver r.window r.reserve r.counter r.bound };
 }
@@ -45,7 +46,8 @@ impl Rx {
         requires least { 1 ≤ reserve }
         requires most { reserve ≤ 128 }
         requires window { IsWindow window }
-        ensures { result ≡ record { place = place; id = id; reserve = reserve; window = window; counter = bound; bound = bound } }
+        ensures { result
+            ≡ record { place = place; id = id; reserve = reserve; window = window; counter = bound; bound = bound } }
     {
         Rx {
             place,

@@ -32,7 +32,8 @@ impl Model for Tx {
 
     ghost Value = { SenderCounter };
 
-    ghost view = { λ t. record { place = t.place; id = t.id; reserve = t.reserve; counter = t.counter; bound = t.bound } };
+    ghost view = { λ t. record
+        { place = t.place; id = t.id; reserve = t.reserve; counter = t.counter; bound = t.bound } };
 
     ghost invariant = { λ t. IsReserved t.reserve t.counter t.bound };
 }
@@ -102,7 +103,8 @@ impl Tx {
         ensures whole { OnOk result ((C.state cells.new).broken ≡ false) }
         ensures exhausted { IsErrOf result TxFault.Exhausted ↔ self.old.counter ≡ last_freshness }
         ensures untouched { IsErrOf result TxFault.Exhausted → C.state cells.new ≡ C.state cells.old }
-        ensures failed { IsErrOf result TxFault.PutFailed → (let change = change_of_sender self.old.counter self.old.bound self.old.reserve
+        ensures failed { IsErrOf result TxFault.PutFailed
+            → (let change = change_of_sender self.old.counter self.old.bound self.old.reserve
             in FailsChange self.old.place self.old.id Sends change (C.state cells.old) (C.state cells.new)) }
         ensures as_before { OnErr result (self.new ≡ self.old) }
         ensures kept { KeepsBound (C.state cells.new).cells self.new.place self.new.id Sends self.new.bound }

@@ -12,7 +12,8 @@ pub record Forward (bound in_use most new : ℕ) : Type 0 where
 -- a sender whose counter isn't exhausted, and a receiver
 abbrev pub BoundsMoveForward : Type 0
 BoundsMoveForward = (counter bound reserve v new : ℕ) → 1 ≤ reserve → counter ≤ bound → v < 2 ^ 64
-    → (counter < last_freshness → sender_change counter bound reserve ≡ Some new → Forward bound (counter + 1) (counter + reserve) new)
+    → (counter < last_freshness → sender_change counter bound reserve ≡ Some new
+    → Forward bound (counter + 1) (counter + reserve) new)
     × (receiver_change bound reserve v ≡ Some new → Forward bound v (v + reserve - 1) new)
 
 -- worked values: a bound that suffices, one that doesn't, and the cap

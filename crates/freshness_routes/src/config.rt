@@ -96,7 +96,8 @@ impl NodeConfig {
     /// The configuration of this identifier and these routes; `None` where it isn't one: there are more than
     /// 256 routes, or two with one Data ID, or a number of a route is out of bounds, or the identifier is zero.
     pub fn new(uid: Uid, routes: Vec<Route>) -> Option<NodeConfig>
-        ensures { SomeIff result (IsConfig (record { uid = uid; routes = routes.items })) (record { uid = uid; routes = routes.items }) }
+        ensures { SomeIff result (IsConfig (record { uid = uid; routes = routes.items }))
+            (record { uid = uid; routes = routes.items }) }
     {
         let listed = routes.as_slice();
         if listed.len() > 256 || uid.is_zero() || !are_routes(listed) || !have_own_ids(listed) {

@@ -44,7 +44,8 @@ pub fn put_bound<C: Cells>(
     requires place { place < length (C.state cells.old).cells }
     requires whole { (C.state cells.old).broken ≡ false }
     ensures put { OnOk result (Puts place (bound_cell id direction bound) (C.state cells.old) (C.state cells.new)) }
-    ensures failed { OnErr result (FailsPut place (bound_cell id direction bound) (C.state cells.old) (C.state cells.new)) }
+    ensures failed { OnErr result
+        (FailsPut place (bound_cell id direction bound) (C.state cells.old) (C.state cells.new)) }
 {
     cells.put(place, &bound_bytes(id, direction, bound))
 }

@@ -18,8 +18,10 @@ pub record OwnParts {S : Type 0} (steps : NodeSteps S) (before : S) (m : Moment 
   pub run : Run steps before parts m.after
   pub are : AreParts m parts
 
-departed_parts : {S : Type 0} (steps : NodeSteps S) (out : ℕ) (before between : S) (first : Line) (m : Moment Event GatewayLine S)
-    → steps before m.command first between → Departs steps (node_of m.command) out first between m.line m.after → OwnParts steps before m
+departed_parts : {S : Type 0} (steps : NodeSteps S) (out : ℕ) (before between : S) (first : Line)
+    (m : Moment Event GatewayLine S)
+    → steps before m.command first between → Departs steps (node_of m.command) out first between m.line m.after
+    → OwnParts steps before m
 departed_parts steps out before between (Accepted id v payload source) m arrives departs = record {
   parts =
       record { command = m.command; line = Accepted id v payload source; after = between }
@@ -36,7 +38,8 @@ departed_parts steps out before between first m arrives departs = record {
 
 parts_under : {S : Type 0} (steps : NodeSteps S) (o : Option ℕ) (before : S) (m : Moment Event GatewayLine S)
     → StepUnder steps o before m.command m.line m.after → OwnParts steps before m
-parts_under steps (Some out) before m step = departed_parts steps out before step.between step.first m step.arrives step.departs
+parts_under steps (Some out) before m step =
+    departed_parts steps out before step.between step.first m step.arrives step.departs
 parts_under steps None before m step = record {
   parts = record { command = m.command; line = step.told; after = m.after } ∷ [];
   run = (step.step, refl);
@@ -44,12 +47,14 @@ parts_under steps None before m step = record {
 }
 
 -- the moments of the node that a run of the gateway is made of
-pub record AllParts {S : Type 0} (steps : NodeSteps S) (start : S) (ms : List (Moment Event GatewayLine S)) (now : S) : Type 0 where
+pub record AllParts {S : Type 0} (steps : NodeSteps S) (start : S) (ms : List (Moment Event GatewayLine S))
+    (now : S) : Type 0 where
   pub parts : List (Moment Event Line S)
   pub run : Run steps start parts now
   pub are : AreAllParts ms parts
 
-pub GatewayRun-parts : {S : Type 0} (steps : NodeSteps S) (pairs : List (ℕ × ℕ)) (start : S) (ms : List (Moment Event GatewayLine S)) (now : S)
+pub GatewayRun-parts : {S : Type 0} (steps : NodeSteps S) (pairs : List (ℕ × ℕ)) (start : S)
+    (ms : List (Moment Event GatewayLine S)) (now : S)
     → Run (GatewayStep steps pairs) start ms now → AllParts steps start ms now
 GatewayRun-parts steps pairs start [] now run = record { parts = []; run = run; are = refl }
 GatewayRun-parts steps pairs start (m ∷ ms) now run =

@@ -28,4 +28,5 @@ AreParts m _ = ⊥
 abbrev pub AreAllParts : {S : Type 0} → List (Moment Event GatewayLine S) → List (Moment Event Line S) → Type 0
 AreAllParts [] parts = parts ≡ []
 AreAllParts {S} (m ∷ ms) parts =
-    (own : List (Moment Event Line S)) × (rest : List (Moment Event Line S)) × (parts ≡ own ++ rest) × AreParts m own × AreAllParts ms rest
+    (own : List (Moment Event Line S)) × (rest : List (Moment Event Line S)) × (parts ≡ own ++ rest) × AreParts m own
+    × AreAllParts ms rest

@@ -19,7 +19,8 @@ use std::test::Fail;
 /// What is done to a gateway.
 #[derive(Clone, Copy)]
 pub enum Act {
-    /// The key for slot 4, with this counter and these flags: the first is authorised by the empty slot, later ones by the key itself.
+    /// The key for slot 4, with this counter and these flags: the first is authorised by the empty slot, later ones by
+    /// the key itself.
     Key(u32, u8),
     /// A key for a slot: target, authorising slot and its key, and the new key; its counter is 1, and it has no flags.
     Load(u8, u8, u128, u128),

@@ -100,7 +100,8 @@ fn a_pdu_is_forwarded_once(rt: HostRuntime) -> Result<(), Fail> {
     Ok(())
 }
 
-/// The disk stops in the departure, and its power is cut: the arrival is spent, and the next departs with the freshness that wasn't.
+/// The disk stops in the departure, and its power is cut: the arrival is spent, and the next departs with the freshness
+/// that wasn't.
 const STOPPED: &[Row] = &[
     FIRST_KEY,
     Row(Act::StopThen, Answer::Done, &[]),
@@ -214,7 +215,8 @@ fn other_calls_are_those_of_the_node(rt: HostRuntime) -> Result<(), Fail> {
     Ok(())
 }
 
-/// A key that is there for arrivals and not for departures; then one whose counter of departures stands at the greatest freshness.
+/// A key that is there for arrivals and not for departures; then one whose counter of departures stands at the greatest
+/// freshness.
 const TWO_KEYS: [Way; 2] = [
     ARRIVES,
     Way {

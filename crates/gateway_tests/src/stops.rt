@@ -1,5 +1,5 @@
-//! A disk that stops at each call of an arrival, with each kind of cut: the arrival is spent as soon as it is told, and nothing departs
-//! twice with one freshness.
+//! A disk that stops at each call of an arrival, with each kind of cut: the arrival is spent as soon as it is told, and
+//! nothing departs twice with one freshness.
 ghost use Rattle.std.specs.Prelude.{◌≤◌};
 
 use crate::bench::{Act, Answer, Given, Row, SHAPES, plays};
@@ -98,8 +98,8 @@ const BEHIND_BOTH: &[Row] = &[
     ),
 ];
 
-/// A kind of cut, and whether it leaves a new cell where the disk stopped at the write of the last gate, or at the sync behind it: in a
-/// twin store, and in a log at its second and at its third place.
+/// A kind of cut, and whether it leaves a new cell where the disk stopped at the write of the last gate, or at the sync
+/// behind it: in a twin store, and in a log at its second and at its third place.
 const KINDS_OF_CUTS: [(Torn, bool, bool, bool); 5] = [
     (Torn::Keep, true, true, true),
     (Torn::Old, false, false, false),
@@ -108,7 +108,8 @@ const KINDS_OF_CUTS: [(Torn, bool, bool, bool); 5] = [
     (Torn::Fill(0), false, false, false),
 ];
 
-/// Which rows hold where the disk stops at this call, where a put makes so many calls, of which the last two leave what the cut leaves.
+/// Which rows hold where the disk stops at this call, where a put makes so many calls, of which the last two leave what
+/// the cut leaves.
 fn rows(calls: u64, put: u64, arrived: bool, departed: bool) -> &'static [Row]
     requires { (calls ≤ 13) × (put ≤ 6) }
 {

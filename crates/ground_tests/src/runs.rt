@@ -40,7 +40,8 @@ impl Machine for Adder {
 struct Text;
 
 impl LineText<Option<u32>> for Text {
-    ghost text = { λ number line. decimal number ++ (codes " " ++ (option_map_or decimal line (codes "full") ++ 10 ∷ [])) };
+    ghost text = { λ number line. decimal number
+        ++ (codes " " ++ (option_map_or decimal line (codes "full") ++ 10 ∷ [])) };
 
     fn append(
         alloc: Global,

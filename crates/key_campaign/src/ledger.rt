@@ -119,7 +119,8 @@ impl<C: Cells> Ledger<C> {
     ) -> Result<(Counter28, Request), LedgerFault>
         requires { IsUnit uid }
         ensures step { LedgerStep self.old.campaign
-            (LedgerCommand.Issue (record { uid = uid; id = id; auth = auth; flags = flags; key = key.now; authkey = authkey.now }))
+            (LedgerCommand.Issue
+            (record { uid = uid; id = id; auth = auth; flags = flags; key = key.now; authkey = authkey.now }))
             (issued_line result) self.new.campaign }
         ensures untouched { IfErr result (λ fault. fault ≢ LedgerFault.Faulted → self.new ≡ self.old) }
         ensures down { IsErrOf result LedgerFault.Down ↔ self.old.campaign.up ≡ false }

@@ -4,8 +4,9 @@ use Rattle.std.specs.Option.{option_and_then}
 use Rattle.std.specs.Str.{bytes_eq}
 use Rattle.std.proofs.lemmas.Bool.{false≢true}
 use Rattle.std.proofs.lemmas.Slice.Eq.{bytes_eq-Decides}
-use Rattle.text_lines.specs.KeyForms.{counter_form, engine_uid_form, flags_form, slot_form, uid_form, unless_zero}
-use Rattle.text_lines.specs.Forms.{hex_bytes_form, key_form, two_form}
+use Rattle.secoc_words.specs.KeyForms.{counter_form, engine_uid_form, flags_form, slot_form, uid_form, unless_zero}
+use Rattle.secoc_words.specs.Forms.{key_form, two_form}
+use Rattle.text_lines.specs.Forms.{hex_bytes_form}
 use Rattle.text_lines.specs.Readings.{◌>>=◌, nth_word}
 use Rattle.key_commands.specs.declared.subcommands.Subcommand.{Subcommand}
 use Rattle.key_commands.specs.declared.subcommands.Subcommand.TheVariants as subcommand

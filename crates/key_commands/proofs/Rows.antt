@@ -6,7 +6,7 @@ use Rattle.std.specs.Fmt.{decimal}
 use Rattle.hex.specs.Hex.{encode_lower}
 use Rattle.memory_update.specs.MessageLaws.{list_of_two}
 use Rattle.memory_update.specs.declared.messages.Update.{Update}
-use Rattle.text_lines.specs.Written.{flags_text}
+use Rattle.secoc_words.specs.Written.{flags_text}
 use Rattle.key_commands.specs.Texts.{row, target_rows, content_rows, update_text}
 
 pub two_digits : (blocks : List (List ℕ)) (x y front back : List ℕ) → length blocks ≡ 2

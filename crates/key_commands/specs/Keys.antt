@@ -3,7 +3,7 @@ use Rattle.std.specs.Prelude.{◌≡◌, ◌⊎◌, ◌≤◌, true, ℕ, List, 
 use Rattle.std.specs.List.{list_all}
 use Rattle.command_edge.specs.declared.input.InputFault.TheVariants.{ReadFault, TooLong}
 use Rattle.memory_update.specs.declared.messages.Request.{Request}
-use Rattle.text_lines.specs.Frames.{loads_of}
+use Rattle.secoc_words.specs.Frames.{loads_of}
 use Rattle.text_lines.specs.Readings.{Fault}
 use Rattle.text_lines.specs.Texts.{fault_text_of}
 use Rattle.answer_rows.specs.Inputs.{Lacks, CountsFault, CountsTooMuch, Offers}

@@ -2,8 +2,9 @@
 use Rattle.std.specs.Prelude.{ℕ, List, Option, Result, Ok, false}
 use Rattle.std.specs.Option.{ok_or}
 use Rattle.key_slots.specs.declared.memory.Flags.{Flags}
-use Rattle.text_lines.specs.Forms.{key_form, two_form, hex_bytes_form}
-use Rattle.text_lines.specs.KeyForms.{uid_form, engine_uid_form, slot_form, counter_form, flags_form}
+use Rattle.secoc_words.specs.Forms.{key_form, two_form}
+use Rattle.text_lines.specs.Forms.{hex_bytes_form}
+use Rattle.secoc_words.specs.KeyForms.{uid_form, engine_uid_form, slot_form, counter_form, flags_form}
 use Rattle.text_lines.specs.Readings.{◌>>=◌, nth_word}
 use Rattle.key_commands.specs.declared.tasks.Task.{Task}
 use Rattle.key_commands.specs.declared.tasks.Task.TheVariants as task

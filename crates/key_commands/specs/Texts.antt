@@ -8,7 +8,7 @@ use Rattle.memory_update.specs.declared.messages.Update.{Update}
 use Rattle.memory_update.specs.Messages.{Builds, Carries, Confirms, HasSlots, request_mac}
 use Rattle.secure_boot.specs.Booting.{bootmac}
 use Rattle.text_lines.specs.Texts.{line}
-use Rattle.text_lines.specs.Written.{flags_text}
+use Rattle.secoc_words.specs.Written.{flags_text}
 use Rattle.key_commands.specs.declared.tasks.Task.{Task}
 use Rattle.key_commands.specs.declared.tasks.Task.TheVariants.{Make, Read, Confirm, Bootmac, Load}
 

@@ -15,7 +15,7 @@ use key_slots::Flags;
 use memory_update::{Reply, Request, Uid, Update};
 use she_aes::Block;
 use std::alloc::Global;
-use text_lines::{Memory, forms};
+use text_lines::Memory;
 
 /// What a subcommand is to do.
 #[derive(Debug, Drop)]
@@ -60,13 +60,13 @@ pub fn task_of(
 fn make_of(matches: &ArgMatches<'_>) -> Result<Task, BadValue>
     ensures { result ≡ make_of (values_in (names_of subcommand.Make) (rows_of (found_of matches.now))) }
 {
-    let uid = value_at(1, forms::uid(value_of(matches, "UID")))?;
-    let id = value_at(2, forms::slot(value_of(matches, "ID")))?;
-    let auth = value_at(3, forms::slot(value_of(matches, "AUTH")))?;
-    let counter = value_at(4, forms::counter(value_of(matches, "COUNTER")))?;
-    let flags = value_at(5, forms::flags(value_of(matches, "FLAGS")))?;
-    let key = value_at(6, forms::key(value_of(matches, "NEWKEY")))?;
-    let authkey = value_at(7, forms::key(value_of(matches, "AUTHKEY")))?;
+    let uid = value_at(1, secoc_words::uid(value_of(matches, "UID")))?;
+    let id = value_at(2, secoc_words::slot(value_of(matches, "ID")))?;
+    let auth = value_at(3, secoc_words::slot(value_of(matches, "AUTH")))?;
+    let counter = value_at(4, secoc_words::counter(value_of(matches, "COUNTER")))?;
+    let flags = value_at(5, secoc_words::flags(value_of(matches, "FLAGS")))?;
+    let key = value_at(6, secoc_words::key(value_of(matches, "NEWKEY")))?;
+    let authkey = value_at(7, secoc_words::key(value_of(matches, "AUTHKEY")))?;
     let update = Update {
         uid,
         id,
@@ -82,10 +82,10 @@ fn make_of(matches: &ArgMatches<'_>) -> Result<Task, BadValue>
 fn read_of(matches: &ArgMatches<'_>) -> Result<Task, BadValue>
     ensures { result ≡ read_of (values_in (names_of subcommand.Read) (rows_of (found_of matches.now))) }
 {
-    let authkey = value_at(1, forms::key(value_of(matches, "AUTHKEY")))?;
-    let m1 = value_at(2, forms::key(value_of(matches, "M1")))?;
-    let m2 = value_at(3, forms::two(value_of(matches, "M2")))?;
-    let m3 = value_at(4, forms::key(value_of(matches, "M3")))?;
+    let authkey = value_at(1, secoc_words::key(value_of(matches, "AUTHKEY")))?;
+    let m1 = value_at(2, secoc_words::key(value_of(matches, "M1")))?;
+    let m2 = value_at(3, secoc_words::two(value_of(matches, "M2")))?;
+    let m3 = value_at(4, secoc_words::key(value_of(matches, "M3")))?;
     let request = Request { m1, m2, m3 };
     Ok(Task::Read { request, authkey })
 }
@@ -94,13 +94,13 @@ fn read_of(matches: &ArgMatches<'_>) -> Result<Task, BadValue>
 fn confirm_of(matches: &ArgMatches<'_>) -> Result<Task, BadValue>
     ensures { result ≡ confirm_of (values_in (names_of subcommand.Confirm) (rows_of (found_of matches.now))) }
 {
-    let uid = value_at(1, forms::engine_uid(value_of(matches, "UID")))?;
-    let id = value_at(2, forms::slot(value_of(matches, "ID")))?;
-    let auth = value_at(3, forms::slot(value_of(matches, "AUTH")))?;
-    let counter = value_at(4, forms::counter(value_of(matches, "COUNTER")))?;
-    let key = value_at(5, forms::key(value_of(matches, "NEWKEY")))?;
-    let m4 = value_at(6, forms::two(value_of(matches, "M4")))?;
-    let m5 = value_at(7, forms::key(value_of(matches, "M5")))?;
+    let uid = value_at(1, secoc_words::engine_uid(value_of(matches, "UID")))?;
+    let id = value_at(2, secoc_words::slot(value_of(matches, "ID")))?;
+    let auth = value_at(3, secoc_words::slot(value_of(matches, "AUTH")))?;
+    let counter = value_at(4, secoc_words::counter(value_of(matches, "COUNTER")))?;
+    let key = value_at(5, secoc_words::key(value_of(matches, "NEWKEY")))?;
+    let m4 = value_at(6, secoc_words::two(value_of(matches, "M4")))?;
+    let m5 = value_at(7, secoc_words::key(value_of(matches, "M5")))?;
     let update = Update {
         uid,
         id,
@@ -124,7 +124,7 @@ fn bootmac_of(alloc: Global, matches: &ArgMatches<'_>) -> Result<Result<Task, Ba
     ensures { IfOk result (λ asked. asked
         ≡ bootmac_of (values_in (names_of subcommand.Bootmac) (rows_of (found_of matches.now)))) }
 {
-    let key = forms::key(value_of(matches, "KEY"));
+    let key = secoc_words::key(value_of(matches, "KEY"));
     let image = Image::of_word(alloc, value_of(matches, "IMAGE"))?;
     Ok(boot_task(key, image))
 }
@@ -143,7 +143,7 @@ fn boot_task(key: Option<Block>, image: Option<Image>) -> Result<Task, BadValue>
 fn load_task(matches: &ArgMatches<'_>) -> Result<Task, BadValue>
     ensures { result ≡ load_task (values_in (names_of subcommand.Load) (rows_of (found_of matches.now))) }
 {
-    let uid = value_at(2, forms::engine_uid(value_of(matches, "UID")))?;
+    let uid = value_at(2, secoc_words::engine_uid(value_of(matches, "UID")))?;
     Ok(Task::Load { uid })
 }
 

@@ -8,9 +8,9 @@ ghost use Rattle.key_commands.specs.Texts.{value_text as value_line};
 
 use hex::encode;
 use memory_update::{Request, Update};
+use secoc_words::texts::flags_text;
 use she_aes::Block;
 use std::alloc::{AllocError, Global};
-use text_lines::texts::flags_text;
 
 /// The line that names a value that isn't of its form.
 pub fn value_text(alloc: Global, number: u8) -> Result<String, AllocError>

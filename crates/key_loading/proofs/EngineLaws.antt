@@ -1,4 +1,4 @@
--- One store counts on a disk, and a disk that gives an engine has no cause for which it gives none
+-- One store counts on a disk, and to a disk that gives an engine no cause applies for which it gives none
 use Rattle.std.proofs.Common.{◌≡◌, ◌∙◌, ℕ, ◌<◌, ◌≤◌, List, [], length, get_or, refl, sym, ap, subst, arith, length-take, length-drop}
 use Rattle.std.specs.Prelude.{Option, Some, None}
 use Rattle.std.proofs.lemmas.List.{get_or-map, get_or-take}
@@ -16,7 +16,7 @@ use Rattle.slot_disk.specs.Cell.{slot_cell, FirstBadSlot, HoldsSlot, HoldSlots}
 use Rattle.answer_rows.specs.Rows.{Row}
 use Rattle.key_loading.specs.declared.finding.CountingStore.{CountingStore}
 use Rattle.key_loading.specs.Counting.{HasStore, StoreThatCounts, counting_store, moved_up, not_moved, only_second, no_store}
-use Rattle.key_loading.specs.Opening.{NoEngine, layout_of, no_header, none_counts, too_few, no_room, damaged, bad_slot}
+use Rattle.key_loading.specs.Opening.{NoEngine, NoEngineIn, layout_of, no_header, none_counts, too_few, no_room, damaged, bad_slot, headless, uncounted, too_few_in, no_room_in, damaged_in, bad_slot_in}
 use Rattle.key_loading.specs.Promises.{HasEngine}
 
 -- the bytes at one base are the header of one store
@@ -81,10 +81,18 @@ slot_there cells slots i held low =
 no_bad_slot : (cells : List (List ℕ)) (slots : List Slot) (bad : ℕ) → HoldSlots cells slots → FirstBadSlot cells bad → ⊥
 no_bad_slot cells slots bad held first = first.none (get_or slots bad Empty) (slot_there cells slots bad held first.below)
 
-module _ (disk : DiskState) (t : Told) (is_disk : IsDisk disk) (told : disk.told ≡ Some t) (engine : HasEngine disk) where
-  sized : length t.bytes ≡ disk.size
-  sized = is_disk.bytes_sized t told
+-- a cause for which a disk gives no engine applies to the bytes that it tells
+pub cause_in : (disk : DiskState) (t : Told) (row : Row) → IsDisk disk → disk.told ≡ Some t → NoEngine disk row → NoEngineIn t.bytes
+cause_in disk t row is_disk told (no_header small) = headless (omega (arith, small, is_disk.bytes_sized t told))
+cause_in disk t row is_disk told (none_counts header none) = uncounted (none t told)
+cause_in disk t row is_disk told (too_few found header counts few) = too_few_in found (counts t told) few
+cause_in disk t row is_disk told (no_room found few counts wide small) =
+    no_room_in found (counts t told) (omega (arith, small, is_disk.bytes_sized t told))
+cause_in disk t row is_disk told (damaged found place counts wide enough first) = damaged_in found place (counts t told) (first t told)
+cause_in disk t row is_disk told (bad_slot found cells slot counts wide enough number each first) =
+    bad_slot_in found cells slot (counts t told) (each t told) first
 
+module _ (disk : DiskState) (t : Told) (told : disk.told ≡ Some t) (engine : HasEngine disk) where
   stands : Stands (layout_of engine.found) t.bytes engine.cells
   stands = engine.stands t told
 
@@ -94,28 +102,28 @@ module _ (disk : DiskState) (t : Told) (is_disk : IsDisk disk) (told : disk.told
   is_found : (found : CountingStore) → StoreThatCounts t.bytes (Some found) → engine.found ≡ found
   is_found found counts = same_found t.bytes engine.found found (engine.counts t told) counts
 
-  -- a disk whose told bytes have an engine has it
-  pub engine_there : (row : Row) → NoEngine disk row → ⊥
-  engine_there row (no_header small) = absurd (omega (arith, small, sized, room_of_header engine.found _ t.bytes stands.head))
-  engine_there row (none_counts header none) =
-      let wrong : Some engine.found ≡ None = counts_once t.bytes _ _ (engine.counts t told) (none t told) in
+  -- to told bytes that have an engine no cause applies
+  pub engine_there : NoEngineIn t.bytes → ⊥
+  engine_there (headless small) = absurd (omega (arith, small, room_of_header engine.found _ t.bytes stands.head))
+  engine_there (uncounted none) =
+      let wrong : Some engine.found ≡ None = counts_once t.bytes _ _ (engine.counts t told) none in
       cc wrong
-  engine_there row (too_few found header counts few) =
-      let same = is_found found (counts t told) in
+  engine_there (too_few_in found counts few) =
+      let same = is_found found counts in
       absurd (omega (arith, few, engine.wide, ap (λ (f : CountingStore). f.cells) same))
-  engine_there row (no_room found few counts wide small) =
-      let same = is_found found (counts t told) in
+  engine_there (no_room_in found counts small) =
+      let same = is_found found counts in
       let there : store_size (layout_of found) found.cells ≤ length t.bytes =
       subst (λ (f : CountingStore). store_size (layout_of f) f.cells ≤ length t.bytes) same room in
-      absurd (omega (arith, small, sized, there))
-  engine_there row (damaged found place counts wide enough first) =
-      let same = is_found found (counts t told) in
+      absurd (omega (arith, small, there))
+  engine_there (damaged_in found place counts first) =
+      let same = is_found found counts in
       let place_is : FirstDamaged (layout_of engine.found) t.bytes engine.found.cells place =
-      subst (λ (f : CountingStore). FirstDamaged (layout_of f) t.bytes f.cells place) (sym same) (first t told) in
+      subst (λ (f : CountingStore). FirstDamaged (layout_of f) t.bytes f.cells place) (sym same) first in
       stands-whole (layout_of engine.found) t.bytes engine.cells engine.found.cells place stands engine.number place_is
-  engine_there row (bad_slot found cells slot counts wide enough number each first) =
-      let same = is_found found (counts t told) in
+  engine_there (bad_slot_in found cells slot counts each first) =
+      let same = is_found found counts in
       let other : Stands (layout_of engine.found) t.bytes cells =
-      subst (λ (f : CountingStore). Stands (layout_of f) t.bytes cells) (sym same) (each t told) in
+      subst (λ (f : CountingStore). Stands (layout_of f) t.bytes cells) (sym same) each in
       let cells_same : engine.cells ≡ cells = stands_once (layout_of engine.found) t.bytes engine.cells cells stands other in
       no_bad_slot cells engine.slots slot (subst (λ (c : List (List ℕ)). HoldSlots c engine.slots) cells_same engine.held) first

@@ -7,7 +7,7 @@ use Rattle.cut_disk.specs.CallLaws.{runs_none}
 use Rattle.command_edge.specs.declared.input.InputFault.{InputFault}
 use Rattle.command_edge.specs.declared.input.InputFault.TheVariants as input
 use Rattle.memory_update.specs.declared.messages.Request.{Request}
-use Rattle.text_lines.specs.Frames.{loads_of}
+use Rattle.secoc_words.specs.Frames.{loads_of}
 use Rattle.text_lines.specs.Readings.{Fault}
 use Rattle.text_lines.specs.Texts.{fault_text_of}
 use Rattle.answer_rows.specs.Rows.{Row, input_row}
@@ -22,7 +22,7 @@ use Rattle.key_loading.specs.declared.lines.LoadLine.TheVariants.{Failed}
 use Rattle.key_loading.specs.LoadTexts.{load_text}
 use Rattle.key_loading.specs.Loading.{WritesUpTo, load_texts}
 use Rattle.key_loading.specs.Promises.{AnsweredAll, AnsweredUntilFailed, UpToOne, AnswersNone, HasEngine, HasNoEngine, LeavesImages, LoadsAll, OffersEngine, OffersRequests, RefusesStore, RunsLoad, SameBytes, StopsAtOne}
-use Rattle.key_loading.proofs.EngineLaws.{engine_there}
+use Rattle.key_loading.proofs.EngineLaws.{cause_in, engine_there}
 use Rattle.key_loading.proofs.AnsweredLaws.{EndsAnswered, at_one, ends_answered, ends_runs, engine_of, to_the_end, until_failed}
 
 -- ---- the rows
@@ -240,7 +240,7 @@ no_first_disk a more ds none some =
 -- a disk that has an engine, and whose count didn't rise, lacks none
 lacks_none : (disk after : DiskState) (t : Told) (row : Row) → IsDisk disk → disk.told ≡ Some t → HasEngine disk → ¬ Rose disk.faults after.faults
     → LacksEngine disk after row → ⊥
-lacks_none disk after t row is_disk told engine calm (has_none _ none same) = engine_there disk t is_disk told engine row none
+lacks_none disk after t row is_disk told engine calm (has_none _ none same) = engine_there disk t told engine (cause_in disk t row is_disk told none)
 lacks_none disk after t row is_disk told engine calm (disk_failed rose) = calm rose
 
 source_not_9 : (r : Reading) (row : Row) → LacksRequests r row → row.status ≢ 9
@@ -268,9 +268,8 @@ row_complete i requests offers engine row (without_engine other _ reads first) =
 -- where a cause applies, no engine opens
 no_lines : (i : LoadInputs) (e : Ending) → HasNoEngine i → EndsInLines i e → ⊥
 no_lines i e (inl none) (requests, reads, first) = no_first_disk first.old first.others i.before none first.before_is
-no_lines i e (inr (disk, others, t, row, before_is, told, none)) (requests, reads, first) =
-    engine_there first.old t first.is_disk (ap (λ (d : DiskState). d.told) same ∙ told) (engine_of first.old i.uid first.holds.opened first.holds.opens) row
-    (subst (λ (d : DiskState). NoEngine d row) (sym same) none)
+no_lines i e (inr (disk, others, t, before_is, told, none)) (requests, reads, first) =
+    engine_there first.old t (ap (λ (d : DiskState). d.told) same ∙ told) (engine_of first.old i.uid first.holds.opened first.holds.opens) none
   where
     same : first.old ≡ disk
     same = one_first first.old disk first.others others i.before first.before_is before_is

@@ -7,9 +7,9 @@ use Rattle.cut_disk.specs.Calls.{IsDisk}
 use Rattle.command_edge.specs.declared.input.InputFault.TheVariants as input
 use Rattle.memory_update.specs.declared.messages.Request.{Request}
 use Rattle.text_lines.specs.declared.fault.Cause.{Cause}
-use Rattle.text_lines.specs.Frames.{load_of, loads_of, most_lines}
+use Rattle.secoc_words.specs.Frames.{load_of, loads_of}
+use Rattle.text_lines.specs.Readings.{most_lines, at_line, limited, read_from}
 use Rattle.text_lines.specs.Lines.{TextLine, lines_of}
-use Rattle.text_lines.specs.Readings.{at_line, limited, read_from}
 use Rattle.text_lines.proofs.Results.{bind_ok, at_line_ok, limited_ok}
 use Rattle.answer_rows.specs.Rows.{Row}
 use Rattle.answer_rows.specs.Inputs.{Reading, ReadsWhole}

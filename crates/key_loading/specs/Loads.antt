@@ -5,7 +5,7 @@ use Rattle.cut_disk.specs.State.{DiskState}
 use Rattle.cut_disk.specs.Calls.{IsDisk}
 use Rattle.command_edge.specs.declared.input.InputFault.{InputFault}
 use Rattle.memory_update.specs.declared.messages.Request.{Request}
-use Rattle.text_lines.specs.Frames.{loads_of}
+use Rattle.secoc_words.specs.Frames.{loads_of}
 use Rattle.text_lines.specs.Readings.{Fault}
 use Rattle.answer_rows.specs.Rows.{Row, row_of, input_row}
 use Rattle.answer_rows.specs.Inputs.{Reading, Lacks, ReadsWhole}

@@ -79,6 +79,20 @@ pub data NoEngine (disk : DiskState) : Row → Type 0 where
       → length cells ≡ found.cells → HasCells disk found cells → FirstBadSlot cells slot
       → NoEngine disk (bad_slot_row slot)
 
+-- Why bytes that a disk tells give no engine: a cause that applies, whether or not it is the first. They have no room
+-- for a header, no store counts in them, or the one that counts has too few cells, no room, a damaged place or a cell
+-- that is no slot's.
+pub data NoEngineIn (x : List ℕ) : Type 0 where
+  headless : length x < 32 → NoEngineIn x
+  uncounted : StoreThatCounts x None → NoEngineIn x
+  too_few_in : (found : CountingStore) → StoreThatCounts x (Some found) → found.cells < 14 → NoEngineIn x
+  no_room_in : (found : CountingStore) → StoreThatCounts x (Some found)
+      → length x < store_size (layout_of found) found.cells → NoEngineIn x
+  damaged_in : (found : CountingStore) (place : ℕ) → StoreThatCounts x (Some found)
+      → FirstDamaged (layout_of found) x found.cells place → NoEngineIn x
+  bad_slot_in : (found : CountingStore) (cells : List (List ℕ)) (slot : ℕ) → StoreThatCounts x (Some found)
+      → Stands (layout_of found) x cells → FirstBadSlot cells slot → NoEngineIn x
+
 -- why a disk gave no engine, with the row of 9: the first cause that applies, where no read of it failed, or one failed
 pub data LacksEngine (before after : DiskState) : Row → Type 0 where
   has_none : (row : Row) → NoEngine before row → after.faults ≡ before.faults → LacksEngine before after row

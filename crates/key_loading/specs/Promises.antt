@@ -7,7 +7,7 @@ use Rattle.command_edge.specs.declared.input.InputFault.TheVariants.{ReadFault, 
 use Rattle.key_slots.specs.declared.memory.Slot.{Slot}
 use Rattle.memory_update.specs.declared.messages.Request.{Request}
 use Rattle.memory_update.specs.declared.messages.Update.{Update}
-use Rattle.text_lines.specs.Frames.{loads_of}
+use Rattle.secoc_words.specs.Frames.{loads_of}
 use Rattle.text_lines.specs.Readings.{Fault}
 use Rattle.text_lines.specs.Texts.{fault_text_of}
 use Rattle.cell_store.specs.Store.{SameBesides, Stands}
@@ -20,7 +20,7 @@ use Rattle.key_loading.specs.declared.lines.LoadLine.{LoadLine}
 use Rattle.key_loading.specs.declared.lines.LoadLine.TheVariants.{Failed}
 use Rattle.key_loading.specs.LoadTexts.{load_text}
 use Rattle.key_loading.specs.Answers.{AnswersEach, Takes}
-use Rattle.key_loading.specs.Opening.{HasCounting, HasCells, NoEngine, LacksEngine, layout_of}
+use Rattle.key_loading.specs.Opening.{HasCounting, HasCells, NoEngineIn, LacksEngine, layout_of}
 use Rattle.key_loading.specs.Loading.{NoneFailed, StandsWithOrWithout, WritesUpTo, load_texts, with_slots}
 use Rattle.key_loading.specs.Loads.{LoadInputs, ReadsRequests, IsRequestFault, OnFirstDisk, ComesInLoad, no_disk_row}
 
@@ -129,10 +129,10 @@ RefusesStore i e =
     ⊎ OverRequests i (λ requests old new.
     (row : Row) × LacksEngine old new row × (new.told ≡ old.told) × PrintsWhole e row.text)
 
--- there is no disk, or the told bytes of the first give no engine
+-- there is no disk, or a cause applies to the told bytes of the first
 abbrev pub HasNoEngine : LoadInputs → Type 0
-HasNoEngine i = (i.before ≡ []) ⊎ ((disk : DiskState) × (others : List DiskState) × (t : Told) × (row : Row)
-    × (i.before ≡ disk ∷ others) × (disk.told ≡ Some t) × NoEngine disk row)
+HasNoEngine i = (i.before ≡ []) ⊎ ((disk : DiskState) × (others : List DiskState) × (t : Told)
+    × (i.before ≡ disk ∷ others) × (disk.told ≡ Some t) × NoEngineIn t.bytes)
 
 -- what a load leaves of the disks, at every status
 pub record LeavesOthers (i : LoadInputs) (e : Ending) : Type 0 where
@@ -169,7 +169,8 @@ pub record RunsLoad (i : LoadInputs) (e : Ending) : Type 0 where
   pub images : (e.status ≡ 0) ⊎ (e.status ≡ 10) → LeavesImages i e
   -- 6 and 7: no request was answered; or those up to one were, whose line wasn't written whole.
   pub load_early_ends : (e.status ≡ 6) ⊎ (e.status ≡ 7) → AnswersNone i e ⊎ EndsAtOne i e
-  -- 9: the input was read whole, and there is no disk or no engine; the first cause is named.
+  -- 9: the input was read whole, and there is no disk or no engine; the first cause is named. It comes where a cause
+  -- applies to what the first disk tells.
   pub store_refused : e.status ≡ 9 → RefusesStore i e
   pub store_refused_only : (requests : List Request) → OffersRequests i requests → HasNoEngine i → MayEndIn 9 e
   -- 4: the input was read whole, and its first fault is printed.

@@ -2,7 +2,7 @@
 ghost use Rattle.std.specs.Prelude.{◌≡◌, ◌≢◌, ◌<◌, ◌≤◌, ◌^◌, ◌∷◌, length, map, replicate, IfOk, IfErr};
 ghost use Rattle.std.specs.Prelude.{Ok};
 ghost use Rattle.std.specs.Vec.{vec_len, vec_capacity};
-ghost use Rattle.text_lines.specs.Frames.{loads_of};
+ghost use Rattle.secoc_words.specs.Frames.{loads_of};
 ghost use Rattle.line_rows.specs.LineRows.{NoLines};
 ghost use Rattle.key_loading.specs.Promises.{RunsLoad};
 ghost use Rattle.key_loading.specs.Loads.{EndsLoad, EndsOnDisk, EndsOverDisks, ReadsRequestSource};
@@ -15,8 +15,8 @@ use command_edge::read_input;
 use cut_disk::Disk;
 use line_rows::line_refusal;
 use memory_update::{Request, Uid};
+use secoc_words::read_loads;
 use std::alloc::Global;
-use text_lines::read_loads;
 
 /// Reads the requests of a source whole, and loads them into the engine with this identifier over the store that counts
 /// on the first disk; what comes of each is written before the next is done. The disk is back in its place at every

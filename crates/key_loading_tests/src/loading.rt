@@ -7,10 +7,10 @@ use cell_store::{Kind, Version};
 use cut_disk::{CutDisk, Disk, MemDisk, Torn};
 use key_loading::{load_requests, open_loader};
 use memory_update::Uid;
+use secoc_words::read_loads;
 use std::alloc::Global;
 use std::process::Abort;
 use std::test::Fail;
-use text_lines::read_loads;
 
 /// The request that puts the master key into slot 1 of an engine without keys, and that of the example of the SHE
 /// specification.

@@ -5,7 +5,9 @@ use Rattle.std.specs.List.{list_any}
 -- the pairs of a target slot and a slot whose key may authorise its update
 abbrev pub pairs : List (ℕ × ℕ)
 pairs =
-    (1, 1) ∷ (2, 1) ∷ (2, 2) ∷ (3, 1) ∷ (3, 2) ∷ (4, 1) ∷ (4, 4) ∷ (5, 1) ∷ (5, 5) ∷ (6, 1) ∷ (6, 6) ∷ (7, 1) ∷ (7, 7) ∷ (8, 1) ∷ (8, 8) ∷ (9, 1) ∷ (9, 9) ∷ (10, 1) ∷ (10, 10) ∷ (11, 1) ∷ (11, 11) ∷ (12, 1) ∷ (12, 12) ∷ (13, 1) ∷ (13, 13) ∷ []
+    (1, 1) ∷ (2, 1) ∷ (2, 2) ∷ (3, 1) ∷ (3, 2) ∷ (4, 1) ∷ (4, 4) ∷ (5, 1) ∷ (5, 5) ∷ (6, 1) ∷ (6, 6) ∷ (7, 1) ∷ (7, 7)
+    ∷ (8, 1) ∷ (8, 8) ∷ (9, 1) ∷ (9, 9) ∷ (10, 1) ∷ (10, 10) ∷ (11, 1) ∷ (11, 11) ∷ (12, 1) ∷ (12, 12) ∷ (13, 1)
+    ∷ (13, 13) ∷ []
 
 -- the same by their rule: a target of 1 to 13, and as authority slot 1, or slot 2 for target 3, or the target itself for another target than 3
 abbrev pub Authorises : ℕ → ℕ → Type 0

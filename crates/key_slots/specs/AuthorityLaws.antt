@@ -8,7 +8,8 @@ use Rattle.key_slots.specs.Authority.{pairs, is_pair, same_pair}
 use Rattle.std.proofs.lemmas.Map.Views.{Contains-from_any}
 
 same_self : (target auth : ℕ) → same_pair (target, auth) (target, auth) ≡ true
-same_self target auth = and_from (target == target) (auth == auth) ((Decides-eqb target target).1 refl) ((Decides-eqb auth auth).1 refl)
+same_self target auth =
+    and_from (target == target) (auth == auth) ((Decides-eqb target target).1 refl) ((Decides-eqb auth auth).1 refl)
 
 same_is : (p q : ℕ × ℕ) → same_pair p q ≡ true → p ≡ q
 same_is p q e =
@@ -23,20 +24,23 @@ is_pair_listed target auth e = Contains-from_any same_is (target, auth) pairs e
 pub listed_is_pair : (target auth : ℕ) → Contains pairs (target, auth) → is_pair target auth ≡ true
 unfolding is_pair
 listed_is_pair target auth c =
-    list_any_at (same_pair (target, auth)) pairs c.0 (target, auth) c.1 (ap (same_pair (target, auth)) c.2 ∙ same_self target auth)
+    list_any_at (same_pair (target, auth)) pairs c.0 (target, auth) c.1
+    (ap (same_pair (target, auth)) c.2 ∙ same_self target auth)
 
 not_true : (b : Bool) → (b ≡ true → ⊥) → false ≡ b
 not_true true h = absurd (h refl)
 not_true false h = refl
 
 -- an answer that is true exactly for the listed pairs is the test
-pub answer_is_pair : (answer : Bool) (target auth : ℕ) → (IsTrue answer ↔ Contains pairs (target, auth)) → answer ≡ is_pair target auth
+pub answer_is_pair : (answer : Bool) (target auth : ℕ) → (IsTrue answer ↔ Contains pairs (target, auth))
+    → answer ≡ is_pair target auth
 answer_is_pair true target auth decides = sym (listed_is_pair target auth (decides.0 refl))
 answer_is_pair false target auth decides =
     not_true (is_pair target auth) (λ e. let impossible : false ≡ true = decides.1 (is_pair_listed target auth e) in cc)
 
 -- what a test says of a list's items
-pub passes_at : {X : Type 0} (p : X → Bool) (xs : List X) (i : ℕ) (d : X) → i < length xs → list_all p xs ≡ true → p (get_or xs i d) ≡ true
+pub passes_at : {X : Type 0} (p : X → Bool) (xs : List X) (i : ℕ) (d : X) → i < length xs → list_all p xs ≡ true
+    → p (get_or xs i d) ≡ true
 passes_at p xs i d within all = elim (cases_Bool (p (get_or xs i d))) [
   | inl e ↦ e
   | inr e ↦ absurd (false≢true (sym (list_all_at p xs i d within e) ∙ all))

@@ -24,16 +24,28 @@ pub flags_from-number : (f : Flags) → flags_from (flags_number f) ≡ f
 flags_from-number f =
     let n : ℕ = flags_number f in
     let small : (b : Bool) → bit b < 2 = bit-lt in
-    let a = bit_back f.write (n / 16 % 2) (omega (arith, small f.write, small f.boot, small f.debugger, small f.usage, small f.wildcard)) in
-    let b = bit_back f.boot (n / 8 % 2) (omega (arith, small f.write, small f.boot, small f.debugger, small f.usage, small f.wildcard)) in
-    let c = bit_back f.debugger (n / 4 % 2) (omega (arith, small f.write, small f.boot, small f.debugger, small f.usage, small f.wildcard)) in
-    let d = bit_back f.usage (n / 2 % 2) (omega (arith, small f.write, small f.boot, small f.debugger, small f.usage, small f.wildcard)) in
-    let e = bit_back f.wildcard (n % 2) (omega (arith, small f.write, small f.boot, small f.debugger, small f.usage, small f.wildcard)) in
+    let a = bit_back f.write (n / 16 % 2)
+    (omega (arith, small f.write, small f.boot, small f.debugger, small f.usage, small f.wildcard)) in
+    let b = bit_back f.boot (n / 8 % 2)
+    (omega (arith, small f.write, small f.boot, small f.debugger, small f.usage, small f.wildcard)) in
+    let c = bit_back f.debugger (n / 4 % 2)
+    (omega (arith, small f.write, small f.boot, small f.debugger, small f.usage, small f.wildcard)) in
+    let d = bit_back f.usage (n / 2 % 2)
+    (omega (arith, small f.write, small f.boot, small f.debugger, small f.usage, small f.wildcard)) in
+    let e = bit_back f.wildcard (n % 2)
+    (omega (arith, small f.write, small f.boot, small f.debugger, small f.usage, small f.wildcard)) in
     rw (a, b, c, d, e) refl
 
 pub flags_number-from : (n : ℕ) → n < 32 → flags_number (flags_from n) ≡ n
 flags_number-from n below =
-    omega (arith, bit_of (n / 16 % 2) (omega arith), bit_of (n / 8 % 2) (omega arith), bit_of (n / 4 % 2) (omega arith), bit_of (n / 2 % 2) (omega arith), bit_of (n % 2) (omega arith))
+    omega (
+      arith,
+      bit_of (n / 16 % 2) (omega arith),
+      bit_of (n / 8 % 2) (omega arith),
+      bit_of (n / 4 % 2) (omega arith),
+      bit_of (n / 2 % 2) (omega arith),
+      bit_of (n % 2) (omega arith),
+    )
 
 -- the number tells the flags apart
 pub same_flags : (f g : Flags) → flags_number f ≡ flags_number g → f ≡ g

@@ -22,7 +22,8 @@ usage_differs flags Cipher = flags.usage
 -- the refusals of a call on a slot that serves MACs and ciphers, in their order, each with its test
 abbrev pub slot_refusals : Slot → Bool → Purpose → List (Bool × Erc)
 slot_refusals slot good purpose =
-    (is_empty slot, KeyEmpty) ∷ (usage_differs (flags_of slot) purpose, KeyInvalid) ∷ ((flags_of slot).boot && not good, KeyNotAvailable) ∷ []
+    (is_empty slot, KeyEmpty) ∷ (usage_differs (flags_of slot) purpose, KeyInvalid)
+    ∷ ((flags_of slot).boot && not good, KeyNotAvailable) ∷ []
 
 -- the first refusal of a MAC or cipher call on slot s, or none; good says that a successful boot was made in this life
 unfoldable pub usable : List Slot → ℕ → Bool → Purpose → Option Erc

@@ -10,30 +10,36 @@ use Rattle.key_slots.specs.Slots.{slot_at}
 use Rattle.key_slots.specs.Usage.{first_applying, slot_refusals, usable}
 
 -- slots 0 to 3 serve no MAC and no cipher call
-pub usable_below_four : (slots : List Slot) (s : ℕ) (good : Bool) (purpose : Purpose) → s < 4 → usable slots s good purpose ≡ Some KeyInvalid
+pub usable_below_four : (slots : List Slot) (s : ℕ) (good : Bool) (purpose : Purpose) → s < 4
+    → usable slots s good purpose ≡ Some KeyInvalid
 unfolding usable
 usable_below_four slots s good purpose low = let e : nat_lt s 4 ≡ true = search (rules, nat_tests) in rw e
 
 -- from slot 4 on the slot's own refusals decide
-pub usable_at_slot : (slots : List Slot) (s : ℕ) (slot : Slot) (good : Bool) (purpose : Purpose) (answer : Option Erc) → 4 ≤ s → slot_at slots s ≡ slot → answer ≡ first_applying (slot_refusals slot good purpose) → answer ≡ usable slots s good purpose
+pub usable_at_slot : (slots : List Slot) (s : ℕ) (slot : Slot) (good : Bool) (purpose : Purpose) (answer : Option Erc)
+    → 4 ≤ s → slot_at slots s ≡ slot → answer ≡ first_applying (slot_refusals slot good purpose)
+    → answer ≡ usable slots s good purpose
 unfolding usable
 usable_at_slot slots s slot good purpose answer high at is =
     let e : nat_lt s 4 ≡ false = search (rules, nat_tests) in
     rw (e, at) is
 
 -- where no refusal applies, the first test fails, and none of the rest applies
-pub none_of_first : (test : Bool) (refusal : Erc) (rest : List (Bool × Erc)) → first_applying ((test, refusal) ∷ rest) ≡ None → (test ≡ false) × (first_applying rest ≡ None)
+pub none_of_first : (test : Bool) (refusal : Erc) (rest : List (Bool × Erc))
+    → first_applying ((test, refusal) ∷ rest) ≡ None → (test ≡ false) × (first_applying rest ≡ None)
 none_of_first true refusal rest none = cc
 none_of_first false refusal rest none = (refl, none)
 
 -- where none of the first refusals applies, the others decide
-pub first_applying-append : (first rest : List (Bool × Erc)) → first_applying first ≡ None → first_applying (first ++ rest) ≡ first_applying rest
+pub first_applying-append : (first rest : List (Bool × Erc)) → first_applying first ≡ None
+    → first_applying (first ++ rest) ≡ first_applying rest
 first_applying-append [] rest none = refl
 first_applying-append ((true, refusal) ∷ first) rest none = cc
 first_applying-append ((false, refusal) ∷ first) rest none = first_applying-append first rest none
 
 -- where no refusal of a list applies, none of its first part applies, and none of the rest
-pub none_of_append : (first rest : List (Bool × Erc)) → first_applying (first ++ rest) ≡ None → (first_applying first ≡ None) × (first_applying rest ≡ None)
+pub none_of_append : (first rest : List (Bool × Erc)) → first_applying (first ++ rest) ≡ None
+    → (first_applying first ≡ None) × (first_applying rest ≡ None)
 none_of_append [] rest none = (refl, none)
 none_of_append ((true, refusal) ∷ first) rest none = cc
 none_of_append ((false, refusal) ∷ first) rest none = none_of_append first rest none

@@ -14,13 +14,12 @@ ghost use Rattle.key_commands.specs.declared.subcommands.Subcommand.TheVariants.
 ghost use Rattle.key_commands.specs.Subcommands.{NamesSubcommand};
 ghost use Rattle.keytool.specs.Running.{NamesFile, NamesThis, RunsWords};
 
-use bus_port::{Sink, StdSink, StdSource};
+use bus_port::{Sink, Source, StdSink, StdSource};
 use command_edge::{NO_MEMORY, behind_name, words_of};
 use cut_disk::Disk;
 use file_disk::FileDisk;
 use key_commands::{run_example, run_key};
 use std::alloc::{AllocError, Global};
-use std::io::Read;
 use std::process::ExitCode;
 
 fn main(rt: HostRuntime) -> ExitCode {
@@ -37,8 +36,9 @@ fn run_words<K: Sink>(rt: &HostRuntime, words: &[String], sink: &mut K) -> u8
     // What comes of an input and of a store comes of `load` alone.
     ensures { (result ≡ 4) ⊎ (result ≡ 5) ⊎ (8 ≤ result) → NamesSubcommand (drop 1 (each string_bytes words.now)) Load }
 {
+    let mut request = StdSource::new(rt.stdin());
     match disks_of(rt, behind_name(words)) {
-        Ok(disks) => start(rt.alloc(), rt.stdin(), words, disks, sink),
+        Ok(mut disks) => start(rt.alloc(), words, &mut request, sink, &mut disks),
         Err(AllocError) => NO_MEMORY,
     }
 }
@@ -80,24 +80,25 @@ fn named_behind<'a>(name: &str, file: &'a str) -> Option<&'a str>
 }
 
 /// Runs the words of the command line, the program's name first, or those of the example where there are none behind
-/// it; over this input and these disks.
-fn start<I: Read + Drop, K: Sink, D: Disk + Drop>(
+/// it; over this source of requests and these disks.
+fn start<S: Source, K: Sink, D: Disk>(
     alloc: Global,
-    stdin: I,
     words: &[String],
-    disks: Vec<D>,
+    request: &mut S,
     sink: &mut K,
+    disks: &mut Vec<D>,
 ) -> u8
-    ensures words { 2 ≤ length words.now → RunsWords stdin D.state disks.items (drop 1 (each string_bytes words.now))
+    ensures words { 2 ≤ length words.now → RunsWords S.state D.state (drop 1 (each string_bytes words.now))
+        (record { before = request.old; after = request.new })
+        (record { before = disks.old.items; after = disks.new.items })
         (record { before = K.state sink.old; after = K.state sink.new; status = result }) }
-    ensures example { length words.now < 2
-        → RunsWords stdin D.state disks.items (drop 1 (each (λ text. text.now) EXAMPLE))
+    ensures example { length words.now < 2 → RunsWords S.state D.state (drop 1 (each (λ text. text.now) EXAMPLE))
+        (record { before = request.old; after = request.new })
+        (record { before = disks.old.items; after = disks.new.items })
         (record { before = K.state sink.old; after = K.state sink.new; status = result }) }
 {
-    let mut request = StdSource::new(stdin);
-    let mut disks = disks;
     if words.len() < 2 {
-        return run_example(alloc, &mut request, sink, &mut disks);
+        return run_example(alloc, request, sink, disks);
     }
-    run_key(alloc, words, &mut request, sink, &mut disks)
+    run_key(alloc, words, request, sink, disks)
 }

@@ -3,13 +3,15 @@ use Rattle.std.proofs.Common.{◌≡◌, ℕ, ◌+◌, ◌<◌, ◌≤◌, List,
 use Rattle.std.specs.Prelude.{Some, codes, Result, Ok, Err, OnOk, OnErr}
 use Rattle.std.proofs.lemmas.Grind.{flat_map-append}
 use Rattle.std.proofs.Math.Seq.{take-append-add}
-use Rattle.bus_port.specs.Fault.{Rose, RoseBy}
+use Rattle.bus_port.specs.Fault.{Rose}
 use Rattle.fault_count.specs.CountLaws.{rose_after}
 use Rattle.bus_port.specs.Source.{SourceState, Came, HandsOut, ReadFails}
 use Rattle.bus_port.specs.Sink.{SinkState, Appended}
+use Rattle.bus_port.specs.SourceLaws.{Came-nothing, Came-more}
 use Rattle.bus_port.specs.SinkLaws.{Appended-more, Appended-nothing}
 use Rattle.bus_port.specs.Whole.{AppendedPart}
 use Rattle.command_edge.specs.Told.{AppendedWell, EndingTold}
+use Rattle.command_edge.specs.ToldLaws.{AppendedWell-more}
 use Rattle.answer_rows.specs.Rows.{row_of}
 use Rattle.answer_rows.specs.Inputs.{Reading}
 use Rattle.trace_audit.specs.declared.map_lines.MapLine.{MapLine}
@@ -18,25 +20,6 @@ use Rattle.log_watch.specs.Watching.{found_text, numbers_text, watch_status, Fin
 use Rattle.log_watch.specs.States.{WatchState, Watched, PutsPiece}
 use Rattle.log_watch.specs.Rows.{done, failed, too_long, FailsBoth, EndsLog}
 use Rattle.log_watch.specs.Steps.{Ports, SoFar}
-
--- nothing came from a source that nothing was done to
-Came-nothing : (state : SourceState) → Came state state []
-Came-nothing state = record { next = λ left told. (left, told, refl); counted = omega arith; later = omega arith }
-
-RoseBy-more : (first before after m n : ℕ) → RoseBy first before m → RoseBy before after n → RoseBy first after (m + n)
-RoseBy-more first before after m n p q = omega arith
-
--- what came first, and then what came next
-Came-more : {first before after : SourceState} {some more : List ℕ} → Came first before some → Came before after more
-    → Came first after (some ++ more)
-Came-more {first} {before} {after} {some} {more} p q = record {
-  next = λ left told.
-      let one = p.next left told in
-      let two = q.next one.0 one.1 in
-      (two.0, two.1, one.2 ∙ ap (λ rest. some ++ rest) two.2 ∙ sym (append_assoc some more two.0));
-  counted = rw length-append (RoseBy-more first.taken before.taken after.taken (length some) (length more) p.counted q.counted);
-  later = omega (arith, p.later, q.later);
-}
 
 -- where no fault of the log was counted, its count didn't rise
 never_counted : {A : Type 0} (first later : SourceState) → later.faults ≡ first.faults → first.faults < later.faults → A
@@ -48,11 +31,7 @@ complete_of watch bytes findings w = record { lines = w.lines; rest = w.rest; cu
 
 -- ---- what is printed behind what was printed well
 
-pub printed_more : (first before after : SinkState) (some more : List ℕ) → AppendedWell first before some → AppendedWell before after more
-    → AppendedWell first after (some ++ more)
-printed_more first before after some more (calm, one) (still, two) = (still ∙ calm, Appended-more one two)
-
-pub part_more : (first before after : SinkState) (some more : List ℕ) → Appended first before some → AppendedPart before after more
+part_more : (first before after : SinkState) (some more : List ℕ) → Appended first before some → AppendedPart before after more
     → AppendedPart first after (some ++ more)
 part_more first before after some more one (n, less, two) = (
   length some + n,
@@ -60,9 +39,9 @@ part_more first before after some more one (n, less, two) = (
   subst (Appended first after) (sym (take-append-add some more n)) (Appended-more one two),
 )
 
-pub told_more : (first before after : SinkState) (some text : List ℕ) (status answer : ℕ) → AppendedWell first before some
+told_more : (first before after : SinkState) (some text : List ℕ) (status answer : ℕ) → AppendedWell first before some
     → EndingTold before after text status answer → EndingTold first after (some ++ text) status answer
-told_more first before after some text status answer well (inl (is, told)) = inl (is, printed_more first before after some text well told)
+told_more first before after some text status answer well (inl (is, told)) = inl (is, AppendedWell-more first before after some text well told)
 told_more first before after some text status answer well (inr (six, rose, part)) =
     inr (six, rose_after first.faults before.faults after.faults well.1.later rose, part_more first before after some text well.1 part)
 
@@ -96,7 +75,7 @@ module _ (first log later : SourceState) (start sink next : SinkState) (old new 
     calm = calm ∙ so_far.calm;
     watched = watched;
     prints = subst (AppendedWell start next) (sym (flat_map-append finding_text findings more))
-        (printed_more start sink next (found_text findings) (found_text more) so_far.prints prints);
+        (AppendedWell-more start sink next (found_text findings) (found_text more) so_far.prints prints);
   }
 
   -- a piece came, and the sink failed

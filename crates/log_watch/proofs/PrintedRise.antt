@@ -40,52 +40,80 @@ module _ (i : AuditInputs) (e : Ending) where
   rises_row row (no_form other map log) size part = inl log
   rises_row row (no_map fault asks lacks unread) size part = inl unread
   rises_row row (map_fault fault asks is unread) size part = inl unread
-  rises_row row (of_log _ (asks, (mapping, reads, done bytes findings whole finds))) size part = inr (asks, (mapping, reads, record {
-    bytes = bytes;
-    findings = findings;
-    came = whole.came;
-    finds = inr finds;
-    rise = all_rise mapping (log_lines bytes) findings finds;
-    last = numbers_text findings;
-    last_is = inl refl;
-    size = size;
-    prints = part;
-  }))
-  rises_row row (of_log _ (asks, (mapping, reads, failed bytes findings came finds fails))) size part = inr (asks, (mapping, reads, record {
-    bytes = bytes;
-    findings = findings;
-    came = came;
-    finds = inl finds;
-    rise = all_rise mapping finds.lines findings finds.finds;
-    last = codes "read fault\n";
-    last_is = inr (inl refl);
-    size = size;
-    prints = part;
-  }))
-  rises_row row (of_log _ (asks, (mapping, reads, too_long bytes findings came finds calm long))) size part = inr (asks, (mapping, reads, record {
-    bytes = bytes;
-    findings = findings;
-    came = came;
-    finds = inl finds;
-    rise = all_rise mapping finds.lines findings finds.finds;
-    last = codes "input too long\n";
-    last_is = inr (inr (inl refl));
-    size = size;
-    prints = part;
-  }))
+  rises_row row (of_log _ (asks, (mapping, reads, done bytes findings whole finds))) size part = inr (
+    asks,
+    (
+      mapping,
+      reads,
+      record {
+        bytes = bytes;
+        findings = findings;
+        came = whole.came;
+        finds = inr finds;
+        rise = all_rise mapping (log_lines bytes) findings finds;
+        last = numbers_text findings;
+        last_is = inl refl;
+        size = size;
+        prints = part;
+      },
+    ),
+  )
+  rises_row row (of_log _ (asks, (mapping, reads, failed bytes findings came finds fails))) size part = inr (
+    asks,
+    (
+      mapping,
+      reads,
+      record {
+        bytes = bytes;
+        findings = findings;
+        came = came;
+        finds = inl finds;
+        rise = all_rise mapping finds.lines findings finds.finds;
+        last = codes "read fault\n";
+        last_is = inr (inl refl);
+        size = size;
+        prints = part;
+      },
+    ),
+  )
+  rises_row row (of_log _ (asks, (mapping, reads, too_long bytes findings came finds calm long))) size part = inr (
+    asks,
+    (
+      mapping,
+      reads,
+      record {
+        bytes = bytes;
+        findings = findings;
+        came = came;
+        finds = inl finds;
+        rise = all_rise mapping finds.lines findings finds.finds;
+        last = codes "input too long\n";
+        last_is = inr (inr (inl refl));
+        size = size;
+        prints = part;
+      },
+    ),
+  )
 
   rises_stops : OverMap i (λ mapping. Stops mapping i.log e) → Rises
-  rises_stops (asks, (mapping, reads, stops)) = inr (asks, (mapping, reads, record {
-    bytes = stops.bytes ++ stops.piece;
-    findings = stops.findings ++ stops.more;
-    came = stops.came;
-    finds = inl stops.finds_more;
-    rise = all_rise mapping stops.finds_more.lines (stops.findings ++ stops.more) stops.finds_more.finds;
-    last = [];
-    last_is = inr (inr (inr refl));
-    size = length (found_text stops.findings) + stops.size;
-    prints = subst (Appended e.before e.after) (front_of_all stops.findings stops.more stops.size) stops.prints;
-  }))
+  rises_stops (asks, (mapping, reads, stops)) = inr (
+    asks,
+    (
+      mapping,
+      reads,
+      record {
+        bytes = stops.bytes ++ stops.piece;
+        findings = stops.findings ++ stops.more;
+        came = stops.came;
+        finds = inl stops.finds_more;
+        rise = all_rise mapping stops.finds_more.lines (stops.findings ++ stops.more) stops.finds_more.finds;
+        last = [];
+        last_is = inr (inr (inr refl));
+        size = length (found_text stops.findings) + stops.size;
+        prints = subst (Appended e.before e.after) (front_of_all stops.findings stops.more stops.size) stops.prints;
+      },
+    ),
+  )
 
   pub rises : EndsWatch i e → Rises
   rises (inl ends) =

@@ -1,24 +1,13 @@
 -- The freshness that a line of the map accepts rises from line to line of a log of any length
-use Rattle.std.proofs.Common.{ℕ, ◌<◌, ◌+◌, List, [], ◌∷◌, ◌++◌, length, map, sym, ap, ◌∙◌, subst, append-nil, inl, inr}
-use Rattle.std.specs.Prelude.{slice_index, IfSome}
-use Rattle.std.proofs.lemmas.List.{map-append}
-use Rattle.counting_receiver.specs.Counting.{KeepsCounters, AcceptedRise}
+use Rattle.std.proofs.Common.{ℕ, ◌+◌, List, ◌++◌, length, map, sym, ap, ◌∙◌, subst, append-nil, inl, inr}
+use Rattle.std.specs.Prelude.{slice_index}
+use Rattle.counting_receiver.specs.Counting.{AcceptedRise}
 use Rattle.counting_receiver.specs.Counting as counting
 use Rattle.counting_receiver.specs.CountingLaws.{KeepsCounters-rise}
 use Rattle.trace_audit.specs.declared.map_lines.MapLine.{MapLine}
 use Rattle.trace_audit.specs.Auditing.{Finding, other, finding_accepts, first_counters, counter_of_place}
-use Rattle.trace_audit.proofs.Rising.{above}
+use Rattle.trace_audit.proofs.Rising.{Keeps, keeps_one, above}
 use Rattle.log_watch.specs.Watching.{in_64_bits, WatchesLine, WatchesEach, none, more}
-
-abbrev Keeps : List MapLine → List Finding → Type 0
-Keeps mapping findings = KeepsCounters (slice_index (first_counters mapping)) (map finding_accepts findings)
-
--- one more finding, which accepts what is above the counter of its place
-keeps_one : (mapping : List MapLine) (findings : List Finding) (f : Finding) → Keeps mapping findings
-    → IfSome (finding_accepts f) (λ a. counter_of_place mapping findings a.receiver < a.freshness) → Keeps mapping (findings ++ f ∷ [])
-keeps_one mapping findings f so_far over =
-    subst (KeepsCounters (slice_index (first_counters mapping))) (sym (map-append finding_accepts findings (f ∷ [])))
-    (counting.more (map finding_accepts findings) (finding_accepts f) so_far over)
 
 -- what is found of one more line
 keeps_line : (mapping : List MapLine) (findings : List Finding) (number : ℕ) (bytes : List ℕ) (found : List Finding) → Keeps mapping findings

@@ -13,7 +13,6 @@ mod run;
 mod start;
 mod state;
 
-pub use maps::read_watch_map;
 pub use run::run_watch;
 pub use start::watch_words;
 pub use state::Watch;

@@ -1,16 +1,18 @@
 //! The lines of a map: as for an audit, and then the window and the channel, if the line has them.
-ghost use Rattle.std.specs.Prelude.{◌≡◌, ◌<◌, ◌≤◌, ◌^◌, length, IfOk};
-ghost use Rattle.text_lines.specs.Readings.{Gives};
+ghost use Rattle.std.specs.Prelude.{◌≡◌, IfOk};
+ghost use Rattle.trace_audit.specs.Steps.{ReadsMapSource};
 ghost use Rattle.log_watch.specs.WatchMaps.{own_channel, own_window, hears_all_of, is_shadowed, reached_can_form};
 ghost use Rattle.log_watch.specs.WatchMaps.{watch_map_of};
 
+use answer_rows::Refusal;
+use bus_port::Source;
 use byte_lists::Bytes;
 use counting_receiver::WIDEST_WINDOW;
 use std::alloc::Global;
-use text_lines::reader::{LineReader, read_lines};
+use text_lines::reader::LineReader;
 use text_lines::words::Words;
-use text_lines::{Cause, LineFault, Memory, ScriptFault, forms};
-use trace_audit::{CanId, MOST_MAP_LINES, MapLine, Window, can_id, line_of_words};
+use text_lines::{Cause, LineFault, Memory, forms};
+use trace_audit::{CanId, MapLine, Window, can_id, line_of_words, read_map_by};
 
 /// The channel that a line hears: every one for `-`, and where the word is left out.
 fn channel_of(alloc: Global, words: &Words<'_>) -> Result<Option<Bytes>, Memory>
@@ -91,11 +93,10 @@ impl LineReader for WatchMapReader {
     }
 }
 
-/// The lines of a map: at most 256 that aren't skipped, each of which some frame can reach.
+/// The lines of the map that a source gives, each of which some frame can reach, or why there are none.
 #[tactic(auto, unfolding(crate::specs::WatchMaps::watch_map_of))]
-pub fn read_watch_map(alloc: Global, text: &[u8]) -> Result<Vec<MapLine>, ScriptFault>
-    requires { length text.now < 2 ^ 32 }
-    ensures { Gives (watch_map_of text.now) result }
+pub fn read_watch_map<S: Source>(alloc: Global, map: &mut S) -> Result<Vec<MapLine>, Refusal>
+    ensures { ReadsMapSource watch_map_of (record { before = S.state map.old; after = S.state map.new }) result }
 {
-    read_lines(alloc, text, MOST_MAP_LINES, &WatchMapReader)
+    read_map_by(alloc, &WatchMapReader, map)
 }

@@ -1,12 +1,8 @@
 //! The program's one command.
-ghost use Rattle.std.specs.Prelude.{◌≡◌, ◌<◌, ◌≤◌, ◌^◌, [], length, map as each, List, ℕ, Ok};
-ghost use Rattle.std.specs.Prelude.{string_bytes, IfOk, IfErr};
+ghost use Rattle.std.specs.Prelude.{◌≡◌, [], map as each, List, ℕ, string_bytes};
 ghost use Rattle.bus_port.specs.Source.{SourceState};
 ghost use Rattle.bus_port.specs.Sink.{SinkState};
-ghost use Rattle.line_rows.specs.LineRows.{NoLines};
 ghost use Rattle.trace_audit.specs.Auditing.{Finding};
-ghost use Rattle.trace_audit.specs.Steps.{ReadsMapSource};
-ghost use Rattle.log_watch.specs.WatchMaps.{watch_map_of};
 ghost use Rattle.log_watch.specs.States.{Watched};
 ghost use Rattle.log_watch.specs.Rows.{EndsLog};
 ghost use Rattle.log_watch.specs.Watches.{Watches};
@@ -16,10 +12,9 @@ use crate::maps::read_watch_map;
 use crate::state::{PIECE, Watch};
 use answer_rows::{Refusal, tell_refusal};
 use bus_port::{PortFailed, Sink, Source};
-use command_edge::{InputFault, WRITE_FAULT, read_input};
-use line_rows::line_refusal;
+use command_edge::{InputFault, WRITE_FAULT};
 use std::alloc::{AllocError, Global};
-use trace_audit::{MapLine, names_inputs};
+use trace_audit::names_inputs;
 
 const USAGE: &str = "usage: watch MAP LOG\n";
 
@@ -66,30 +61,10 @@ fn prepare<S: Source>(alloc: Global, words: &[String], map: &mut S) -> Result<Wa
     if !names_inputs(words) {
         return Err(Refusal::fixed(2, USAGE));
     }
-    let map = map_in(alloc, map)?;
+    let map = read_watch_map(alloc, map)?;
     match Watch::new(alloc, map) {
         Ok(watch) => Ok(watch),
         Err(AllocError) => Err(Refusal::no_memory()),
-    }
-}
-
-/// The lines of the map that a source gives, or why there are none.
-fn map_in<S: Source>(alloc: Global, map: &mut S) -> Result<Vec<MapLine>, Refusal>
-    ensures { ReadsMapSource watch_map_of (record { before = S.state map.old; after = S.state map.new }) result }
-{
-    let input = read_input(alloc, map)?;
-    lines_of_map(alloc, input.as_slice())
-}
-
-/// The lines of a map, or the refusal of the first that isn't one.
-fn lines_of_map(alloc: Global, text: &[u8]) -> Result<Vec<MapLine>, Refusal>
-    requires { length text.now < 2 ^ 32 }
-    ensures ok { IfOk result (λ lines. watch_map_of text.now ≡ Ok lines.items) }
-    ensures err { IfErr result (NoLines (watch_map_of text.now)) }
-{
-    match read_watch_map(alloc, text) {
-        Ok(lines) => Ok(lines),
-        Err(fault) => Err(line_refusal(alloc, fault)),
     }
 }
 

@@ -1,17 +1,19 @@
 //! The words of the command line, the program's name left out: what they name is watched.
-ghost use Rattle.std.specs.Prelude.{map as each, string_bytes};
+ghost use Rattle.std.specs.Prelude.{◌≡◌, map as each, string_bytes};
+ghost use Rattle.named_sources.specs.NamedSources.{word_source};
 ghost use Rattle.trace_audit.specs.Rows.{AuditInputs};
 ghost use Rattle.trace_audit.specs.Named.{AreNamed};
 ghost use Rattle.log_watch.specs.Watches.{Watches};
 
 use crate::run::run_watch;
 use bus_port::{Sink, Source};
-use named_sources::{MissingSource, Opener, open_second, open_word};
+use named_sources::{Opener, WordSource};
 use std::alloc::Global;
+use trace_audit::open_inputs;
 
-/// Watches what two words name, the map's word first, and gives the status that the program ends with. `-` is the
-/// input, which is handed in once for each word; where both are `-`, the map has it, and the log is missing. Of other
-/// words nothing is opened.
+/// Watches what two words name, the map's word first, and gives the status that the program ends with, and the sources
+/// of the map and of the log as the watch left them. `-` is the input, which is handed in once for each word; where
+/// both are `-`, the map has it, and the log is missing. Of other words nothing is opened, and both sources are missing.
 pub fn watch_words<O: Opener, I: Source + Drop, K: Sink>(
     alloc: Global,
     opener: &O,
@@ -19,22 +21,15 @@ pub fn watch_words<O: Opener, I: Source + Drop, K: Sink>(
     log_input: I,
     words: &[String],
     sink: &mut K,
-) -> u8
-    // All that a watch promises, of these words, and over the sources that they name.
+) -> (u8, WordSource<O::Opened, I>, WordSource<O::Opened, I>)
+    // All that a watch promises, of these words, over the sources that they name, which are those handed back.
     ensures { (i : AuditInputs)
         × AreNamed (O.opens opener.now) (I.state map_input) (I.state log_input) (each string_bytes words.now) i
-        × Watches i (record { before = K.state sink.old; after = K.state sink.new; status = result }) }
+        × (i.map.after ≡ word_source O.Opened.state I.state result.1)
+        × (i.log.after ≡ word_source O.Opened.state I.state result.2)
+        × Watches i (record { before = K.state sink.old; after = K.state sink.new; status = result.0 }) }
 {
-    match words {
-        [map, log] => {
-            let mut log = open_second(opener, log_input, map.as_str(), log.as_str());
-            let mut map = open_word(opener, map_input, map.as_str());
-            run_watch(alloc, words, &mut map, &mut log, sink)
-        }
-        _ => {
-            let mut map = MissingSource::new();
-            let mut log = MissingSource::new();
-            run_watch(alloc, words, &mut map, &mut log, sink)
-        }
-    }
+    let (mut map, mut log) = open_inputs(opener, map_input, log_input, words);
+    let status = run_watch(alloc, words, &mut map, &mut log, sink);
+    (status, map, log)
 }

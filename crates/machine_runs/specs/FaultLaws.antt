@@ -28,14 +28,19 @@ Run-fails_within steps fails count each start (m ∷ ms) now run =
     let rest = Run-fails_within steps fails count each m.after ms now run.1 in
     record {
       later = omega (arith, step.later, rest.later);
-      within = subst (λ n. (count start + n ≤ count now) ⊎ (last_count ≤ count now)) (sym (count_by-cons fails m.line (lines_in ms)))
-          (counted_on (fails m.line) (count start) (count m.after) (count now) (count_by fails (lines_in ms)) step.later step.rose rest.later rest.within);
+      within =
+          subst (λ n. (count start + n ≤ count now) ⊎ (last_count ≤ count now))
+          (sym (count_by-cons fails m.line (lines_in ms)))
+          (counted_on (fails m.line) (count start) (count m.after) (count now)
+          (count_by fails (lines_in ms)) step.later step.rose rest.later rest.within);
     }
 
 -- where a step from a quiet state that arms nothing stays quiet and doesn't fail, a run from a quiet state is quiet until something is armed
-pub Run-quiet_until_armed : {C L S : Type 0} (steps : S → C → L → S → Type 0) (arms : C → Bool) (fails : L → Bool) (Quiet : S → Type 0)
+pub Run-quiet_until_armed : {C L S : Type 0} (steps : S → C → L → S → Type 0) (arms : C → Bool) (fails : L → Bool)
+    (Quiet : S → Type 0)
     → ((s : S) (c : C) (l : L) (t : S) → Quiet s → arms c ≡ false → steps s c l t → Quiet t × (fails l ≡ false))
-    → (start : S) (ms : List (Moment C L S)) (now : S) → Quiet start → Run steps start ms now → QuietUntilArmed arms fails ms
+    → (start : S) (ms : List (Moment C L S)) (now : S) → Quiet start → Run steps start ms now
+    → QuietUntilArmed arms fails ms
 Run-quiet_until_armed steps arms fails Quiet each start [] now quiet run = tt
 Run-quiet_until_armed steps arms fails Quiet each start (m ∷ ms) now quiet run = λ calm.
     let step = each start m.command m.line m.after quiet calm run.0 in

@@ -9,7 +9,8 @@ pub record Counts {L S : Type 0} (fails : L → Bool) (count : S → ℕ) (befor
   pub rose : fails line ≡ true → Rose (count before) (count after)
 
 -- the failed lines of a run are at most the rise of the count, or it stands at its last value
-pub record FailsWithin {C L S : Type 0} (fails : L → Bool) (count : S → ℕ) (start : S) (moments : List (Moment C L S)) (now : S) : Type 0 where
+pub record FailsWithin {C L S : Type 0} (fails : L → Bool) (count : S → ℕ) (start : S) (moments : List (Moment C L S))
+    (now : S) : Type 0 where
   pub later : count start ≤ count now
   pub within : (count start + count_by fails (lines_in moments) ≤ count now) ⊎ (last_count ≤ count now)
 

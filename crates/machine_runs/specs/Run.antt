@@ -24,6 +24,7 @@ seen_as command state moments =
     map (λ m. record { command = command m.command; line = m.line; after = state m.after }) moments
 
 -- the moments of another machine that these are made of, where each is made of those that `parts` gives
-abbrev pub made_of : {C L S D K T : Type 0} → (S → Moment C L S → List (Moment D K T)) → S → List (Moment C L S) → List (Moment D K T)
+abbrev pub made_of : {C L S D K T : Type 0} → (S → Moment C L S → List (Moment D K T)) → S → List (Moment C L S)
+    → List (Moment D K T)
 made_of parts start [] = []
 made_of parts start (m ∷ ms) = parts start m ++ made_of parts m.after ms

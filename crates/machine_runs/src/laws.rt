@@ -14,7 +14,8 @@ pub fn no_moment_is_a_run<M: Steps>()
 
 /// A run and a further moment is a run.
 pub fn run_and_a_further_moment_is_a_run<M: Steps>()
-    ensures { (start now : M.State) (moments : List (Moment M.Command M.Line M.State)) (m : Moment M.Command M.Line M.State)
+    ensures { (start now : M.State) (moments : List (Moment M.Command M.Line M.State))
+        (m : Moment M.Command M.Line M.State)
         → Run M.steps start moments now → M.steps now m.command m.line m.after
         → Run M.steps start (moments ++ m ∷ []) m.after }
 {}
@@ -61,7 +62,8 @@ pub fn run_is_a_run_of_each_member<M: Members>()
         → ((s : M.State) (c : M.Command) (l : M.Line) (t : M.State) → M.steps s c l t
         → MemberSteps M.member_steps (M.members s) (M.place c) (M.act s c) l (M.members t))
         → i < length (M.members start) → Run M.steps start moments now
-        → Run M.member_steps (get_or (M.members start) i d) (of_member M.members M.place M.act d i start moments) (get_or (M.members now) i d) }
+        → Run M.member_steps (get_or (M.members start) i d) (of_member M.members M.place M.act d i start moments)
+        (get_or (M.members now) i d) }
 {}
 
 /// Where each step counts its failure, the failed lines of a run are at most the rise of the count, or

@@ -74,7 +74,8 @@ pub trait Composite {
     ghost part_steps: { PartState → Self.PartCommand → Self.PartLine → PartState → Type 0 };
 
     /// The moments of the other machine that a moment from this state is made of.
-    ghost parts: { State → Moment Self.Command Self.Line State → List (Moment Self.PartCommand Self.PartLine PartState) };
+    ghost parts: { State → Moment Self.Command Self.Line State
+        → List (Moment Self.PartCommand Self.PartLine PartState) };
 
     /// What a state is for the other machine.
     ghost state: { State → PartState };

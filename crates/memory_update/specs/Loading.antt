@@ -33,7 +33,8 @@ is_meant uid target update_uid =
 abbrev pub is_fit : List ℕ → Slot → List ℕ → Request → Bool
 is_fit uid target authkey request =
     let update = update_in authkey request in
-    bytes_eq request.m3 (request_mac authkey request.m1 request.m2) && is_meant uid target update.uid && nat_lt (counter_of target) update.counter
+    bytes_eq request.m3 (request_mac authkey request.m1 request.m2) && is_meant uid target update.uid
+    && nat_lt (counter_of target) update.counter
 
 -- the first four refusals, by ID and AuthID alone, each with its test; good says that a successful boot was made in this life
 abbrev pub head_refusals : List Slot → Bool → ℕ → ℕ → List (Bool × Erc)
@@ -51,18 +52,22 @@ authorising_key slots request = key_in (slot_at slots (auth_of request.m1))
 abbrev pub load_refusals : List Slot → Bool → List ℕ → Request → List (Bool × Erc)
 load_refusals slots good uid request =
     let target = slot_at slots (id_of request.m1) in
-    head_refusals slots good (id_of request.m1) (auth_of request.m1) ++ (not (is_fit uid target (authorising_key slots request) request), KeyUpdateError) ∷ []
+    head_refusals slots good (id_of request.m1) (auth_of request.m1)
+    ++ (not (is_fit uid target (authorising_key slots request) request), KeyUpdateError) ∷ []
 
 -- the update that the engine with this UID takes, or the first refusal that applies
 abbrev pub Allows : List Slot → Bool → List ℕ → Request → Result Update Erc → Type 0
 Allows slots good uid request (Err refusal) = first_applying (load_refusals slots good uid request) ≡ Some refusal
 Allows slots good uid request (Ok update) =
-    (first_applying (load_refusals slots good uid request) ≡ None) × Carries request (authorising_key slots request) update
+    (first_applying (load_refusals slots good uid request) ≡ None)
+    × Carries request (authorising_key slots request) update
 
 -- what holds where no refusal applies
 pub record NoneRefuses (slots : List Slot) (good : Bool) (uid : List ℕ) (request : Request) : Type 0 where
   pub pair : is_pair (id_of request.m1) (auth_of request.m1) ≡ true
   pub head : first_applying (head_refusals slots good (id_of request.m1) (auth_of request.m1)) ≡ None
   pub mac : request.m3 ≡ request_mac (authorising_key slots request) request.m1 request.m2
-  pub meant : is_meant uid (slot_at slots (id_of request.m1)) (update_in (authorising_key slots request) request).uid ≡ true
-  pub greater : counter_of (slot_at slots (id_of request.m1)) < (update_in (authorising_key slots request) request).counter
+  pub meant : is_meant uid (slot_at slots (id_of request.m1)) (update_in (authorising_key slots request) request).uid
+      ≡ true
+  pub greater : counter_of (slot_at slots (id_of request.m1))
+      < (update_in (authorising_key slots request) request).counter

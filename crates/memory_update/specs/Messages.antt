@@ -117,7 +117,8 @@ sealed_counter u = enc (kdf u.key Enc) (bytes_of 16 (u.counter * 2 ^ 100 + 2 ^ 9
 
 -- M4 and M5 confirm the update to the engine's UID
 pub record Confirms (reply : Reply) (u : Update) (uid : List ℕ) : Type 0 where
-  pub m4_is : reply.m4 ≡ two_blocks (number_of uid * 2 ^ 136 + u.id * 2 ^ 132 + u.auth * 2 ^ 128 + number_of (sealed_counter u))
+  pub m4_is : reply.m4
+      ≡ two_blocks (number_of uid * 2 ^ 136 + u.id * 2 ^ 132 + u.auth * 2 ^ 128 + number_of (sealed_counter u))
   pub m5_is : reply.m5 ≡ cmac (kdf u.key Mac) (concat reply.m4)
 
 -- two confirmed updates are the same as far as a reply tells: the engine's UID, the slots, and under one key the counter

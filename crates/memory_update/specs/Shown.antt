@@ -7,4 +7,9 @@ use Rattle.memory_update.specs.declared.messages.Update.{Update}
 -- nothing of its key
 abbrev pub shown_update : Update → List ℕ
 shown_update u =
-    codes "Update { id: " ++ (decimal u.id ++ (codes ", auth: " ++ (decimal u.auth ++ (codes ", counter: " ++ (decimal u.counter ++ (codes ", flags: " ++ (decimal (flags_number u.flags) ++ codes ", .. }")))))))
+    codes "Update { id: "
+    ++ (decimal u.id
+    ++ (codes ", auth: "
+    ++ (decimal u.auth
+    ++ (codes ", counter: "
+    ++ (decimal u.counter ++ (codes ", flags: " ++ (decimal (flags_number u.flags) ++ codes ", .. }")))))))

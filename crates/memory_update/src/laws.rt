@@ -27,17 +27,21 @@ pub fn a_whole_request_carries_its_update()
 
 /// A request that is built carries its update, names slots, and has the right M3; and one request is built for an update.
 pub fn a_built_request_carries_its_update()
-    ensures carried { (request : Request) (authkey : List ℕ) (u : Update) → Builds request authkey u → Carries request authkey u }
-    ensures slots { (request : Request) (authkey : List ℕ) (u : Update) → Builds request authkey u → HasSlots request.m1 }
+    ensures carried { (request : Request) (authkey : List ℕ) (u : Update) → Builds request authkey u
+        → Carries request authkey u }
+    ensures slots { (request : Request) (authkey : List ℕ) (u : Update) → Builds request authkey u
+        → HasSlots request.m1 }
     ensures mac { (request : Request) (authkey : List ℕ) (u : Update) → Builds request authkey u
         → request.m3 ≡ request_mac authkey request.m1 request.m2 }
-    ensures one { (request other : Request) (authkey : List ℕ) (u : Update) → Builds request authkey u → Builds other authkey u
+    ensures one { (request other : Request) (authkey : List ℕ) (u : Update) → Builds request authkey u
+        → Builds other authkey u
         → request ≡ other }
 {}
 
 /// One reply confirms an update to an engine.
 pub fn one_reply_confirms_an_update()
-    ensures { (reply other : Reply) (u : Update) (uid : List ℕ) → Confirms reply u uid → Confirms other u uid → reply ≡ other }
+    ensures { (reply other : Reply) (u : Update) (uid : List ℕ) → Confirms reply u uid → Confirms other u uid
+        → reply ≡ other }
 {}
 
 /// A reply confirms at most one update of a unit: it tells the unit's UID, the slots, and under one key the counter.
@@ -54,9 +58,11 @@ pub fn a_reply_has_no_flags()
 
 /// At most one answer to a request holds, and one does.
 pub fn one_answer_to_a_load()
-    ensures one { (slots : List Slot) (good : Bool) (uid : List ℕ) (request : Request) (answer other : Result Update Erc)
+    ensures one { (slots : List Slot) (good : Bool) (uid : List ℕ) (request : Request)
+        (answer other : Result Update Erc)
         → IsSlots slots → Allows slots good uid request answer → Allows slots good uid request other → answer ≡ other }
-    ensures some { (slots : List Slot) (good : Bool) (uid : List ℕ) (request : Request) → IsSlots slots → IsRequest request
+    ensures some { (slots : List Slot) (good : Bool) (uid : List ℕ) (request : Request) → IsSlots slots
+        → IsRequest request
         → (answer : Result Update Erc) × Allows slots good uid request answer }
 {}
 

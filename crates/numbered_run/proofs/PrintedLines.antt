@@ -1,23 +1,17 @@
 -- What was driven into a printer is printed.
-use Rattle.std.proofs.Common.{◌≡◌, ℕ, ◌+◌, List, [], ◌∷◌, ◌++◌, length, Result, Err, refl, sym, ◌∙◌, subst}
+use Rattle.std.proofs.Common.{ℕ, ◌+◌, List, [], ◌∷◌, length, Result, Err, sym, subst}
 use Rattle.std.proofs.lemmas.Result.{MatchResult-weaker}
 use Rattle.fault_count.specs.CountLaws.{rose_after}
 use Rattle.bus_port.specs.Sink.{SinkState}
-use Rattle.bus_port.specs.SinkLaws.{Appended-nothing, Appended-more}
+use Rattle.bus_port.specs.SinkLaws.{Appended-more}
 use Rattle.command_edge.specs.Told.{AppendedWell}
+use Rattle.command_edge.specs.ToldLaws.{AppendedWell-nothing, AppendedWell-more}
 use Rattle.machine_runs.specs.Run.{lines_in}
 use Rattle.numbered_run.specs.Driven.{TakenUp, Driven}
 use Rattle.numbered_run.specs.DrivenLaws.{FirstDone-weaker}
 use Rattle.numbered_run.specs.Printed.{texts, WritesLine, WrittenPart, Printed}
 use Rattle.numbered_run.specs.declared.printing.Unwritten.{Unwritten}
 use Rattle.numbered_run.specs.declared.printing.Unwritten.TheVariants.{SinkFailed, Memory}
-
-pub AppendedWell-nothing : (before after : SinkState) → after ≡ before → AppendedWell before after []
-AppendedWell-nothing before after same = subst (λ t. AppendedWell before t []) (sym same) (refl, Appended-nothing before)
-
-pub AppendedWell-more : (first before after : SinkState) (some more : List ℕ) → AppendedWell first before some → AppendedWell before after more
-    → AppendedWell first after (some ++ more)
-AppendedWell-more first before after some more p q = (q.0 ∙ p.0, Appended-more p.1 q.1)
 
 -- lines that were taken up by a printer are in the sink
 pub TakenUp-written : {L : Type 0} (text : ℕ → L → List ℕ) (number : ℕ) (before : SinkState) (lines : List L) (after : SinkState)

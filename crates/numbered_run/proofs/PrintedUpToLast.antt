@@ -4,6 +4,7 @@ use Rattle.std.proofs.lemmas.List.Elements.{All-nil, All-cons}
 use Rattle.std.proofs.lemmas.Result.{MatchResult-weaker}
 use Rattle.bus_port.specs.Sink.{SinkState}
 use Rattle.command_edge.specs.Told.{AppendedWell}
+use Rattle.command_edge.specs.ToldLaws.{AppendedWell-more}
 use Rattle.machine_runs.specs.Run.{lines_in}
 use Rattle.numbered_run.specs.Driven.{TakenUp, Driven}
 use Rattle.numbered_run.specs.DrivenLaws.{FirstDone-weaker}
@@ -11,7 +12,7 @@ use Rattle.numbered_run.specs.Printed.{texts, WritesLine}
 use Rattle.numbered_run.specs.PrintedUntil.{WritesUntil, EndsBy, PrintedUntil}
 use Rattle.numbered_run.specs.declared.last_line.Stop.{Stop}
 use Rattle.numbered_run.specs.declared.last_line.Stop.TheVariants.{Unprinted, Last}
-use Rattle.numbered_run.proofs.PrintedLines.{TakenUp-written, WrittenPart-after, AppendedWell-more}
+use Rattle.numbered_run.proofs.PrintedLines.{TakenUp-written, WrittenPart-after}
 
 -- lines that were taken up were written, and none is a last one
 TakenUp-until : {L : Type 0} (text : ℕ → L → List ℕ) (ends : L → Bool) (number : ℕ) (before : SinkState) (lines : List L) (after : SinkState)

@@ -12,4 +12,5 @@ CountsLine counts before number line after (Err _) = ⊥
 -- all commands were done as a run, and the value is that of all its lines, one after another
 abbrev pub Counted : {C L S T : Type 0} → (S → C → L → S → Type 0) → (T → L → T) → S → S → T → T → List C → Type 0
 Counted steps counts start now before after commands =
-    FirstDone steps start now commands (λ moments. (length moments ≡ length commands) × (after ≡ fold counts before (lines_in moments)))
+    FirstDone steps start now commands
+    (λ moments. (length moments ≡ length commands) × (after ≡ fold counts before (lines_in moments)))

@@ -6,7 +6,8 @@ use Rattle.machine_runs.specs.Run.{Moment, Run, commands_in}
 use Rattle.numbered_run.specs.Driven.{FirstDone}
 
 -- what follows of the moments from what holds of them holds of the same run
-pub FirstDone-weaker : {C L S : Type 0} {steps : S → C → L → S → Type 0} {start now : S} {commands : List C} {P Q : List (Moment C L S) → Type 0}
+pub FirstDone-weaker : {C L S : Type 0} {steps : S → C → L → S → Type 0} {start now : S} {commands : List C}
+    {P Q : List (Moment C L S) → Type 0}
     → FirstDone steps start now commands P
     → ((ms : List (Moment C L S)) → Run steps start ms now → commands_in ms ≡ take (length ms) commands → P ms → Q ms)
     → FirstDone steps start now commands Q
@@ -18,8 +19,10 @@ FirstDone-weaker d follows = record {
 }
 
 -- no more moments than commands
-pub FirstDone-few : {C L S : Type 0} {steps : S → C → L → S → Type 0} {start now : S} {commands : List C} {P : List (Moment C L S) → Type 0}
+pub FirstDone-few : {C L S : Type 0} {steps : S → C → L → S → Type 0} {start now : S} {commands : List C}
+    {P : List (Moment C L S) → Type 0}
     → (d : FirstDone steps start now commands P) → length d.moments ≤ length commands
 FirstDone-few {commands = commands} d =
-    let same : length d.moments ≡ length (take (length d.moments) commands) = sym (length-map d.moments (λ m. m.command)) ∙ ap length d.first in
+    let same : length d.moments ≡ length (take (length d.moments) commands) =
+    sym (length-map d.moments (λ m. m.command)) ∙ ap length d.first in
     omega (arith, same, length-take (length d.moments) commands)

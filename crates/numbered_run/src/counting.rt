@@ -60,7 +60,8 @@ pub fn count_run<M: Machine, T: Tally<M::Line>>(
     requires ready { M.ready machine.old commands.now }
     requires tally_ready { T.ready tally.old 1 }
     ensures borrows { M.borrows machine.new ≡ M.borrows machine.old }
-    ensures counted { Counted M.steps T.counts (M.state machine.old) (M.state machine.new) (T.state tally.old) (T.state tally.new) commands.now }
+    ensures counted { Counted M.steps T.counts (M.state machine.old) (M.state machine.new) (T.state tally.old)
+        (T.state tally.new) commands.now }
 {
     let mut counter = Counter { tally };
     match drive(machine, commands, &mut counter) {

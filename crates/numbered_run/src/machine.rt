@@ -69,7 +69,8 @@ pub fn drive<M: Machine, T: Consumer<M::Line>>(
     requires consumer_ready { T.ready consumer.old 1 }
     ensures machine_borrows { M.borrows machine.new ≡ M.borrows machine.old }
     ensures consumer_borrows { T.borrows consumer.new ≡ T.borrows consumer.old }
-    ensures driven { Driven M.steps T.takes (M.state machine.old) (M.state machine.new) (T.state consumer.old) (T.state consumer.new) commands.now result }
+    ensures driven { Driven M.steps T.takes (M.state machine.old) (M.state machine.new) (T.state consumer.old)
+        (T.state consumer.new) commands.now result }
 {
     let mut number = 0u32;
     for command in commands {

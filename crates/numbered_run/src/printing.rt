@@ -87,7 +87,8 @@ pub fn print_run<M: Machine, W: LineText<M::Line>, K: Sink>(
     requires few { length commands.now < 2 ^ 32 }
     requires ready { M.ready machine.old commands.now }
     ensures borrows { M.borrows machine.new ≡ M.borrows machine.old }
-    ensures printed { Printed M.steps W.text (M.state machine.old) (M.state machine.new) (K.state sink.old) (K.state sink.new) commands.now result }
+    ensures printed { Printed M.steps W.text (M.state machine.old) (M.state machine.new) (K.state sink.old)
+        (K.state sink.new) commands.now result }
 {
     let mut text = Vec::new(alloc);
     let mut printer = Printer {

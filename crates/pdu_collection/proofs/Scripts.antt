@@ -5,8 +5,7 @@ use Rattle.std.proofs.lemmas.List.{map-append}
 use Rattle.text_lines.specs.declared.fault.Cause.{Cause}
 use Rattle.text_lines.specs.declared.fault.Cause.TheVariants.{TooMany}
 use Rattle.text_lines.specs.Lines.{TextLine, lines_of}
-use Rattle.text_lines.specs.Readings.{Fault, ◌>>=◌, at_line, limited, read_from, read_all}
-use Rattle.text_lines.specs.Frames.{most_lines}
+use Rattle.text_lines.specs.Readings.{Fault, ◌>>=◌, at_line, limited, read_from, read_all, most_lines}
 use Rattle.pdu_collection.specs.declared.pair_lines.Head.{Head}
 use Rattle.pdu_collection.specs.declared.pair_lines.Entry.{Entry}
 use Rattle.pdu_collection.specs.declared.pair_lines.PairLine.{PairLine}

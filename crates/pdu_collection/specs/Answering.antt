@@ -4,7 +4,8 @@ use Rattle.std.specs.List.{flat_map}
 use Rattle.hex.specs.Hex.{encode_lower}
 use Rattle.secured_pdu.specs.Verdict.{Outcome, Verdict}
 use Rattle.counting_receiver.specs.Counting.{Acceptance, accepted_by, last_accepted, AcceptedRise}
-use Rattle.text_lines.specs.Texts.{line, outcome_text, bad_length_text}
+use Rattle.secoc_words.specs.Texts.{outcome_text, bad_length_text}
+use Rattle.text_lines.specs.Texts.{line}
 use Rattle.pdu_collection.specs.declared.pair_lines.Head.{Head}
 use Rattle.pdu_collection.specs.declared.pair_lines.Entry.{Entry}
 use Rattle.pdu_collection.specs.declared.pair_lines.Entry.TheVariants.{Authentic, Cryptographic, Secured}

@@ -4,9 +4,9 @@ use Rattle.std.specs.Prelude.{Option, None, Some, option_and_then, Result, Ok, E
 use Rattle.std.specs.Str.{bytes_eq}
 use Rattle.text_lines.specs.declared.fault.Cause.{Cause}
 use Rattle.text_lines.specs.declared.fault.Cause.TheVariants as cause
-use Rattle.text_lines.specs.Forms.{key_form, data_id_form, fresh_form, number_form, bytes_form}
-use Rattle.text_lines.specs.Readings.{Fault, ◌>>=◌, nth_word, field, with_count, read_all}
-use Rattle.text_lines.specs.Frames.{most_lines}
+use Rattle.secoc_words.specs.Forms.{key_form, data_id_form, fresh_form}
+use Rattle.text_lines.specs.Forms.{number_form, bytes_form}
+use Rattle.text_lines.specs.Readings.{Fault, ◌>>=◌, nth_word, field, with_count, read_all, most_lines}
 use Rattle.pdu_collection.specs.Collection.{Place}
 use Rattle.pdu_collection.specs.declared.pair_lines.Head.{Head}
 use Rattle.pdu_collection.specs.declared.pair_lines.Entry.{Entry}

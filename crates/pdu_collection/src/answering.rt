@@ -9,9 +9,10 @@ ghost use Rattle.pdu_collection.specs.Receiving.{IsPairScript, AreEntries, Tells
 use crate::joiner::{BadLength, Joiner};
 use crate::pair_lines::{Entry, Head, PairLine};
 use counting_receiver::{WIDEST_WINDOW, push_verdict};
+use secoc_words::verdicts::push_bad_length;
 use she_aes::{Schedule, expand};
 use std::alloc::{AllocError, Global};
-use text_lines::verdicts::{push_bad_length, push_digits, push_line};
+use text_lines::pushing::{push_digits, push_line};
 
 /// What changes from line to line: the arrivals that wait, and the freshness that was accepted last.
 #[derive(Drop)]

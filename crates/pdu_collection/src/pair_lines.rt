@@ -96,9 +96,9 @@ fn read_head(words: &Words<'_>) -> Result<Head, LineFault>
         return Err(LineFault::Refused(Cause::Event));
     }
     expect_count(words, 6)?;
-    let key = value_at(2, forms::key(words.word(2)))?;
-    let id = value_at(3, forms::data_id(words.word(3)))?;
-    let counter = value_at(4, forms::fresh(words.word(4)))?;
+    let key = value_at(2, secoc_words::key(words.word(2)))?;
+    let id = value_at(3, secoc_words::data_id(words.word(3)))?;
+    let counter = value_at(4, secoc_words::fresh(words.word(4)))?;
     let at = value_at(5, forms::number(words.word(5), 0, 59))? as u8;
     let place = value_at(6, place(at, words.word(6)))?;
     Ok(Head {
@@ -135,7 +135,7 @@ fn read_secured(alloc: Global, words: &Words<'_>) -> Result<Entry, LineFault>
     ensures { GivesLine (secured_of words.now) result }
 {
     expect_count(words, 3)?;
-    let freshness = value_at(2, forms::fresh(words.word(2)))?;
+    let freshness = value_at(2, secoc_words::fresh(words.word(2)))?;
     let payload = value_at(3, forms::bytes(alloc, words.word(3))?)?;
     Ok(Entry::Secured { freshness, payload })
 }

@@ -98,7 +98,7 @@ const NAMED: &[Named] = &[
 fn check_named(rt: &impl Abort, alloc: Global, named: &Named) -> Result<(), Fail> {
     let words = words_of(alloc, named.0)?;
     let mut sink = MemSink::new(alloc, 1024, Vec::new(alloc), 1024)?;
-    let status = audit_words(
+    let (status, _, _) = audit_words(
         alloc,
         &SHELF,
         input(named.1),
@@ -126,7 +126,7 @@ fn a_file_that_is_not_there_is_a_read_fault(rt: HostRuntime) -> Result<(), Fail>
     let mut sink = MemSink::new(alloc, 64, Vec::new(alloc), 64)?;
     let log = CleanSource::new(Vec::new(alloc));
     let map = CleanSource::new(Vec::new(alloc));
-    let status = audit_words(
+    let (status, _, _) = audit_words(
         alloc,
         &Paths::of(&rt),
         map,

@@ -81,7 +81,7 @@ const NAMED: &[Named] = &[
 fn check_named(rt: &impl Abort, alloc: Global, named: &Named) -> Result<(), Fail> {
     let words = words_of(alloc, named.0)?;
     let mut sink = MemSink::new(alloc, 1024, Vec::new(alloc), 1024)?;
-    let status = pair_words(alloc, &SHELF, input(named.1), words.as_slice(), &mut sink);
+    let (status, _) = pair_words(alloc, &SHELF, input(named.1), words.as_slice(), &mut sink);
     assert_eq!(rt; status, named.2);
     assert_eq!(rt; sink.bytes(), named.3.as_bytes());
     Ok(())

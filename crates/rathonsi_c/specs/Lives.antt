@@ -222,7 +222,8 @@ BeginsNone planned powers_up = planned ≡ false
 -- no update of this slot was done or begun: none was planned, or it was dropped before a plan was done or the power went
 abbrev pub NoneBegun : ℕ → Bool → List Deed → Type 0
 NoneBegun slot planned [] = Unit {0}
-NoneBegun slot planned (deed ∷ deeds) = BeginsNone planned deed × NoneBegun slot (planned_behind slot planned deed) deeds
+NoneBegun slot planned (deed ∷ deeds) =
+    BeginsNone planned deed × NoneBegun slot (planned_behind slot planned deed) deeds
 
 -- the update of this slot that is planned is the one that the image holds
 pub record UpdateDone (slot : ℕ) (a : Memory) (image : List ℕ) : Type 0 where

@@ -65,7 +65,8 @@ pub record Opens (r : RathonsiRoute) (image : List ℕ) (opened : RathonsiRoute)
   pub now : opened ≡ at_counter r bound
 
 -- a PDU with this freshness is given out, or accepted: it is above the counter, and becomes it, and a bound covers it
-pub record RouteAdvances (direction : Direction) (r : RathonsiRoute) (image : List ℕ) (freshness : ℕ) (next : RathonsiRoute) : Type 0 where
+pub record RouteAdvances (direction : Direction) (r : RathonsiRoute) (image : List ℕ) (freshness : ℕ)
+    (next : RathonsiRoute) : Type 0 where
   pub ranges : InRanges r direction
   pub above : r.counter < freshness
   pub covered : BoundCovers r image direction freshness
@@ -83,7 +84,8 @@ pub record Reserves (r : RathonsiRoute) (image : List ℕ) (freshness : ℕ) (ol
   pub bound : ℕ
   pub kept : ImageBound image r.cell r.data_id direction bound
   pub enough : wanted r freshness ≤ bound → new ≡ old
-  pub plans : bound < wanted r freshness → PlansPut new image r.cell (bound_cell r.data_id direction (wanted r freshness))
+  pub plans : bound < wanted r freshness
+      → PlansPut new image r.cell (bound_cell r.data_id direction (wanted r freshness))
 
 -- a payload, and room for its PDU
 abbrev pub TakesSend : List ℕ → List ℕ → Type 0
@@ -113,7 +115,8 @@ RouteAnswers {A} tell r direction image rest answer =
 -- of a route that is ready to send
 abbrev pub CounterAnswers : RathonsiRoute → List ℕ → ℤ → Type 0
 CounterAnswers r image status =
-    IfCause (r.counter + 1 ≡ 2 ^ 64) EXHAUSTED (IfCause (BoundBelow r image Sends (r.counter + 1)) RESERVE IsDone) status
+    IfCause (r.counter + 1 ≡ 2 ^ 64) EXHAUSTED
+    (IfCause (BoundBelow r image Sends (r.counter + 1)) RESERVE IsDone) status
 
 abbrev pub status_alone : ℤ → ℤ
 status_alone status = status
@@ -121,7 +124,8 @@ status_alone status = status
 -- what `rathonsi_route_send` answers
 abbrev pub SendAnswers : RathonsiRoute → List ℕ → List ℕ → List ℕ → ℤ → Type 0
 SendAnswers r image payload pdu status =
-    IfCause (¬ TakesSend payload pdu) BAD_LENGTH (RouteAnswers status_alone r Sends image (CounterAnswers r image)) status
+    IfCause (¬ TakesSend payload pdu) BAD_LENGTH
+    (RouteAnswers status_alone r Sends image (CounterAnswers r image)) status
 
 -- the verdict that tells a status alone
 abbrev pub no_verdict : ℤ → RathonsiVerdict
@@ -148,13 +152,15 @@ pub record JudgesPdu (r : RathonsiRoute) (image pdu : List ℕ) (answer : Rathon
 -- what `rathonsi_route_receive` answers
 abbrev pub ReceiveAnswers : RathonsiRoute → List ℕ → List ℕ → RathonsiVerdict → Type 0
 ReceiveAnswers r image pdu answer =
-    IfCause (¬ IsFrame pdu) (no_verdict BAD_LENGTH) (RouteAnswers no_verdict r Receives image (JudgesPdu r image pdu)) answer
+    IfCause (¬ IsFrame pdu) (no_verdict BAD_LENGTH)
+    (RouteAnswers no_verdict r Receives image (JudgesPdu r image pdu)) answer
 
 -- what `rathonsi_route_open` answers
 abbrev pub OpenAnswers : RathonsiRoute → List ℕ → ℤ → Type 0
 OpenAnswers r image status =
     IfCause (OutOfRanges r) BAD_VALUE
-    (IfCause ((direction : Direction) → InRanges r direction → NoBound image r.cell r.data_id direction) DAMAGED IsDone) status
+    (IfCause
+    ((direction : Direction) → InRanges r direction → NoBound image r.cell r.data_id direction) DAMAGED IsDone) status
 
 -- what `rathonsi_route_reserve` answers
 abbrev pub ReserveAnswers : RathonsiRoute → List ℕ → Plan → ℤ → Type 0

@@ -17,7 +17,8 @@ pub record IsSendable (u : RathonsiUpdate) : Type 0 where
 
 -- the update that a struct is
 abbrev pub as_update : RathonsiUpdate → Update
-as_update u = record { uid = u.uid; id = u.id; auth = u.auth; counter = u.counter; flags = flags_from u.flags; key = u.key }
+as_update u =
+    record { uid = u.uid; id = u.id; auth = u.auth; counter = u.counter; flags = flags_from u.flags; key = u.key }
 
 -- M1, M2 and M3
 abbrev pub as_request : RathonsiRequest → Request

@@ -43,13 +43,15 @@ pub fn keys_are_kept_over_all_lives()
         → NoneBegun c.update.id planned deeds → Lives n deeds first last
         → planned_after c.update.id planned deeds ≡ false → (image : List ℕ) → CutWithin last.plan last.image image
         → ImageSlot image c.update.id (slot_of c.update) × ConfirmsSlot uid m1 image reply }
-    ensures either { (n : ℕ) (deeds : List Deed) (first last : Memory) (uid m1 : List ℕ) (reply : Reply) (planned : Bool)
+    ensures either { (n : ℕ) (deeds : List Deed) (first last : Memory) (uid m1 : List ℕ) (reply : Reply)
+        (planned : Bool)
         → (c : ConfirmsSlot uid m1 first.image reply) → PlannedAs c.update.id planned first
         → NoneBegun c.update.id planned deeds → Lives n deeds first last
         → (image : List ℕ) → CutWithin last.plan last.image image
         → ImageSlot image c.update.id (slot_of c.update) ⊎ UpdateDone c.update.id last image }
     ensures filled { (n : ℕ) (deeds : List Deed) (first last : Memory) (slot : ℕ) → PoweredUp n first → slot < 14
-        → SlotFilled first.image slot → Lives n deeds first last → (image : List ℕ) → CutWithin last.plan last.image image
+        → SlotFilled first.image slot → Lives n deeds first last → (image : List ℕ)
+        → CutWithin last.plan last.image image
         → SlotFilled last.image slot × SlotFilled image slot }
 {}
 

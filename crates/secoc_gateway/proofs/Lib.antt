@@ -1,3 +1,4 @@
 pub mod Few
 pub mod Arriving
 pub mod Paired
+pub mod Turning

@@ -6,7 +6,8 @@ use Rattle.bus_machine.specs.declared.events.Event.{Event}
 use Rattle.bus_machine.specs.declared.events.Event.TheVariants.{Inject}
 use Rattle.bus_machine.specs.declared.lines.Line.{Line}
 use Rattle.bus_machine.specs.declared.lines.Line.TheVariants.{Accepted}
-use Rattle.bus_machine.specs.Node.{Node, HasRoute, place_in}
+use Rattle.freshness_routes.specs.Config.{Config}
+use Rattle.bus_machine.specs.Node.{Node, HasRoute}
 use Rattle.bus_machine.specs.Steps.{sends}
 use Rattle.bus_machine.specs.Bus.{node_of, act_of}
 use Rattle.bus_laws.proofs.SoundSteps.{same_some, eq_of_test}
@@ -20,14 +21,8 @@ use Rattle.secoc_gateway.proofs.Arriving.{step_config}
 
 -- ---- good pairs
 
-pub AreGood-same : (node after : Node) (pairs : List (ℕ × ℕ)) → after.config ≡ node.config → AreGood node pairs → AreGood after pairs
-AreGood-same node after pairs same good k inside =
-    let g = good k inside in
-    record {
-      receives = subst (λ c. place_in c.routes (pair_in pairs k).0 Receives < length c.routes) (sym same) g.receives;
-      sends = subst (λ c. place_in c.routes (pair_in pairs k).1 Sends < length c.routes) (sym same) g.sends;
-      is_new = g.is_new;
-    }
+pub AreGood-same : (node after : Node) (pairs : List (ℕ × ℕ)) → after.config ≡ node.config → AreGood node.config.routes pairs → AreGood after.config.routes pairs
+AreGood-same node after pairs same good = subst (λ (c : Config). AreGood c.routes pairs) (sym same) good
 
 -- the pair that was found
 pub record IsPairOf (pairs : List (ℕ × ℕ)) (id out : ℕ) : Type 0 where
@@ -52,7 +47,7 @@ pub record HasBoth (node : Node) (id out : ℕ) : Type 0 where
   pub receives : HasRoute node id Receives
   pub sends : HasRoute node out Sends
 
-pub good_routes : (node : Node) (pairs : List (ℕ × ℕ)) (id out : ℕ) → AreGood node pairs → second_of pairs id ≡ Some out → HasBoth node id out
+pub good_routes : (node : Node) (pairs : List (ℕ × ℕ)) (id out : ℕ) → AreGood node.config.routes pairs → second_of pairs id ≡ Some out → HasBoth node id out
 good_routes node pairs id out good e =
     let p = pair_of pairs id out e in
     let g = good p.place p.inside in

@@ -19,7 +19,8 @@ use Rattle.secoc_gateway.specs.declared.arrival.Arrival.TheVariants as arrival
 
 -- ---- the line of the machine that an answer stands for
 
--- of an arrival under the first of these Data IDs, whose payload departs under the second: its PDU is a front of `bytes`
+-- of an arrival under the first of these Data IDs, whose payload departs under the second: its PDU is a front of
+-- `bytes`
 abbrev pub arrival_line : (id out : ℕ) → List ℕ → Result Arrival NodeFault → GatewayLine
 arrival_line id out bytes (Ok (arrival.Forwarded v sent)) = Forwarded id v out sent.freshness (take sent.len bytes)
 arrival_line id out bytes (Ok (arrival.Dropped v fault)) = Dropped id v (refusal_of_fault fault)
@@ -47,6 +48,12 @@ IsReason _ = ⊥
 abbrev pub IfDropped : Result Arrival NodeFault → (NodeFault → Type 0) → Type 0
 IfDropped (Ok (arrival.Dropped v fault)) P = P fault
 IfDropped _ P = Unit {0}
+
+-- it was accepted with this freshness, whether or not it was forwarded
+abbrev pub IfSpent : Result Arrival NodeFault → (ℕ → Type 0) → Type 0
+IfSpent (Ok (arrival.Forwarded v sent)) P = P v
+IfSpent (Ok (arrival.Dropped v fault)) P = P v
+IfSpent _ P = Unit {0}
 
 -- a call of the disk failed, in the arrival or in the departure
 abbrev pub IsFaulted : Result Arrival NodeFault → Type 0

@@ -1,5 +1,6 @@
 //! A gateway over a node.
-ghost use Rattle.std.specs.Prelude.{◌≡◌, ◌≢◌, ◌<◌, ◌≤◌, ◌+◌, ◌^◌, ◌∷◌, ◌↔◌, ℕ, [], List, length, drop, not, true, false, Some, Option, IsSome, IfOk, IfErr, OnOk, OnErr, IsErrOf, MatchOption};
+ghost use Rattle.std.specs.Prelude.{◌≡◌, ◌≢◌, ◌<◌, ◌≤◌, ◌+◌, ◌^◌, ◌∷◌, ◌↔◌, ℕ, [], List, length, drop, not, true};
+ghost use Rattle.std.specs.Prelude.{false, Some, None, Option, IsSome, IfOk, IfErr, OnOk, OnErr, IsErrOf, MatchOption};
 ghost use Rattle.cut_disk.specs.State.{Told, Cut, Stop, Fail};
 ghost use Rattle.cut_disk.specs.Arming.{with_stop, with_fail};
 ghost use Rattle.cut_disk.specs.Calls.{Rose, Runs, Grows};
@@ -19,25 +20,36 @@ ghost use Rattle.bus_machine.specs.Honest.{IsInTime, IsHeard};
 ghost use Rattle.secoc_node.specs.Cells.{CellsOf};
 ghost use Rattle.secoc_node.specs.State.{FitsNow, TellsFitting, IsCovered};
 ghost use Rattle.secoc_node.specs.Causes.{CutCause};
-ghost use Rattle.secoc_node.specs.Lines.{received_line, loaded_line, keyed_line, boot_line, cut_line, IfAcceptedWith, IfLeftAlone};
-ghost use Rattle.gateway_machine.specs.Gateway.{second_of as second_in, EventStep, GatewayStep};
+ghost use Rattle.secoc_node.specs.Lines.{received_line, loaded_line, keyed_line, boot_line, cut_line};
+ghost use Rattle.secoc_node.specs.Lines.{IfAcceptedWith, IfLeftAlone};
+ghost use Rattle.gateway_machine.specs.Gateway.{second_of as second_in, departs_under, EventStep, GatewayStep};
 ghost use Rattle.secoc_gateway.specs.State.{over};
 ghost use Rattle.secoc_gateway.specs.Pairs.{AreGood, IsLowestBad};
-ghost use Rattle.secoc_gateway.specs.Arrivals.{arrival_line, IfForwarded, IfNotForwarded, IsReason, IfDropped, IsFaulted, IfNothingDone, CanForward, IsForwardedWith};
+ghost use Rattle.store_runs.specs.DiskTurns.{DiskTurn};
+ghost use Rattle.bus_world.specs.Turns.{CanBeDone};
+ghost use Rattle.secoc_gateway.specs.Turns.{GatewayTurn, tells_gateway_failure};
+ghost use Rattle.secoc_gateway.specs.Arrivals.{arrival_line, IfForwarded, IfNotForwarded, IfDropped, IfSpent};
+ghost use Rattle.secoc_gateway.specs.Arrivals.{IsReason, IsFaulted, IfNothingDone, CanForward, IsForwardedWith};
 
 use crate::arrival::{Arrival, PairRefused};
+use crate::lines::line_of;
 use crate::pairs::{lowest_bad, second_of};
 use crate::passing::pass_on;
+use bus_machine::Event;
+use bus_world::own_turn;
 use cell_store::{CutCells, Reread};
 use cut_disk::Torn;
 use freshness_manager::Direction;
+use gateway_machine::GatewayLine;
 use memory_update::{Reply, Request};
+use numbered_run::Machine;
 use secoc_node::{CutFault, Node, NodeFault};
 use secoc_receiver::Reception;
 use std::marker::Model;
 
-/// A gateway: a node, and pairs of Data IDs of which it receives the first and sends the second. Contracts see the state of the node and
-/// the pairs. The pairs are always good: the node has their routes, and no two have one Data ID at one place.
+/// A gateway: a node, and pairs of Data IDs of which it receives the first and sends the second. Contracts see the
+/// state of the node and the pairs. The pairs are always good: the node has their routes, and no two have one Data ID
+/// at one place.
 #[derive(Drop)]
 pub struct Gateway<C: CutCells> {
     node: Node<C>,
@@ -53,21 +65,21 @@ impl<C: CutCells> Model for Gateway<C> {
 
     ghost view = { λ g. record { node = g.node.node; store = g.node.store; pairs = g.pairs.items } };
 
-    ghost invariant = { λ g. AreGood g.node.node g.pairs.items };
+    ghost invariant = { λ g. AreGood g.node.node.config.routes g.pairs.items };
 }
 
 impl<C: CutCells> Gateway<C> {
-    /// The gateway over this node with these pairs. Where one of them isn't good, the lowest that isn't is named, and the node is handed
-    /// back as it was.
+    /// The gateway over this node with these pairs. Where one of them isn't good, the lowest that isn't is named, and
+    /// the node is handed back as it was.
     pub fn new(node: Node<C>, pairs: Vec<(u16, u16)>) -> Result<Gateway<C>, PairRefused<C>>
         ensures over { IfOk result (λ g. over g ≡ node) }
         ensures pairs { IfOk result (λ g. g.pairs ≡ pairs.items) }
-        ensures good { OnOk result (AreGood node.node pairs.items) }
+        ensures good { OnOk result (AreGood node.node.config.routes pairs.items) }
         ensures lowest { IfErr result (λ r. (place : ℕ) × (r.pair ≡ place + 1)
-            × IsLowestBad node.node pairs.items place) }
+            × IsLowestBad node.node.config.routes pairs.items place) }
         ensures handed_back { IfErr result (λ r. r.node ≡ node) }
     {
-        match lowest_bad(&node, pairs.as_slice()) {
+        match lowest_bad(node.routes(), pairs.as_slice()) {
             None => Ok(Gateway { node, pairs }),
             Some(place) => Err(PairRefused {
                 node,
@@ -83,9 +95,10 @@ impl<C: CutCells> Gateway<C> {
         second_of(self.pairs.as_slice(), id)
     }
 
-    /// Receives a PDU of 5 to 64 bytes under the first Data ID of a pair, and where it is accepted sends its payload under the second: the
-    /// PDU that departs stands at the front of `out`, whose rest is as before. Where nothing is forwarded `out` is as before. Errors:
-    /// those of the reception, in their order `Down`, `BadLength`, `Key` and `Faulted`.
+    /// Receives a PDU of 5 to 64 bytes under the first Data ID of a pair, and where it is accepted sends its payload
+    /// under the second: the PDU that departs stands at the front of `out`, whose rest is as before. Where nothing is
+    /// forwarded `out` is as before. Errors: those of the reception, in their order `Down`, `BadLength`, `Key` and
+    /// `Faulted`.
     pub fn arrive(&mut self, id: u16, pdu: &[u8], out: &mut [u8; 64]) -> Result<Arrival, NodeFault>
         requires paired { IsSome (second_in self.old.pairs id) }
         ensures step { (place second : ℕ) → second_in self.old.pairs id ≡ Some second
@@ -95,16 +108,23 @@ impl<C: CutCells> Gateway<C> {
         ensures within { IfForwarded result (λ sent. sent.len ≤ 64) }
         ensures rest { IfForwarded result (λ sent. drop sent.len out.new ≡ drop sent.len out.old) }
         ensures unwritten { IfNotForwarded result (out.new ≡ out.old) }
+        // the freshness of what was accepted is at most the bound in its route's cell, and so is that of what departed
+        ensures arrival_covered { IfSpent result (IsCovered (over self.new) id Receives) }
+        ensures departure_covered { (second : ℕ) → second_in self.old.pairs id ≡ Some second
+            → IfForwarded result (λ sent. IsCovered (over self.new) second Sends sent.freshness) }
         ensures reason { IfDropped result IsReason }
         ensures untouched { IfNothingDone result (self.new ≡ self.old) }
         ensures forwards { (second : ℕ) (payload : List ℕ) (v : ℕ) → second_in self.old.pairs id ≡ Some second
             → CanForward (over self.old) id second pdu.now payload v
             → IsForwardedWith result v (counter_at self.old.node (place_of self.old.node second Sends) + 1) }
+        ensures down { IsErrOf result NodeFault.Down ↔ self.old.node.up ≡ false }
+        ensures routed { ¬ IsErrOf result NodeFault.NoRoute }
         ensures faulted { IsFaulted result → Rose self.old.store.disk.faults self.new.store.disk.faults }
         ensures faults { (¬ IsFaulted result) → self.new.store.disk.faults ≡ self.old.store.disk.faults }
         ensures layout { self.new.store.layout ≡ self.old.store.layout }
         ensures runs { Runs [] 12 self.old.store.disk self.new.store.disk }
         ensures fits { FitsNow (over self.old) → FitsNow (over self.new) }
+        ensures sound { Sound self.new.node }
         ensures pairs { self.new.pairs ≡ self.old.pairs }
     {
         let Some(second) = self.second(id) else {
@@ -113,9 +133,55 @@ impl<C: CutCells> Gateway<C> {
         pass_on(&mut self.node, id, second, pdu, out)
     }
 
-    /// Receives a PDU of 5 to 64 bytes under a Data ID. An accepted payload is a front of the PDU. Errors, in their order: `Down`,
-    /// `NoRoute`, `BadLength`, `Key`, `Faulted`. After each of them but `Faulted`, and after the two failures, all is as before, and no
-    /// call of the disk was made.
+    /// Does an event of the node, and gives its line: a PDU that is injected under the first Data ID of a pair arrives
+    /// as at [`Gateway::arrive`], and any other event is the node's own. It takes no memory.
+    pub fn turn(&mut self, event: &Event) -> GatewayLine
+        requires { CanBeDone event.now }
+        ensures { GatewayTurn self.old event.now result self.new }
+    {
+        match event {
+            Event::Inject { id, pdu, .. } => match self.second(*id) {
+                Some(second) => self.pass(*id, second, pdu.bytes()),
+                None => self.own(event),
+            },
+            Event::Send { .. } => self.own(event),
+            Event::Deliver { .. } => self.own(event),
+            Event::Load { .. } => self.own(event),
+            Event::Key { .. } => self.own(event),
+            Event::Boot { .. } => self.own(event),
+            Event::Cut { .. } => self.own(event),
+            Event::Stop { .. } => self.own(event),
+            Event::Fail { .. } => self.own(event),
+        }
+    }
+
+    // What comes of an event of which nothing is to depart.
+    fn own(&mut self, event: &Event) -> GatewayLine
+        requires fields { CanBeDone event.now }
+        requires own { departs_under self.old.pairs event.now ≡ None }
+        ensures { GatewayTurn self.old event.now result self.new }
+    {
+        GatewayLine::OfNode(own_turn(&mut self.node, event))
+    }
+
+    // What comes of an arrival under the first Data ID of a pair, whose second one this is.
+    fn pass(&mut self, id: u16, second: u16, pdu: &[u8]) -> GatewayLine
+        requires { second_in self.old.pairs id ≡ Some second }
+        ensures step { (place : ℕ) → GatewayStep EventStep self.old.pairs self.old.node (Inject place id pdu.now) result
+            self.new.node }
+        ensures pairs { self.new.pairs ≡ self.old.pairs }
+        ensures layout { self.new.store.layout ≡ self.old.store.layout }
+        ensures disk { DiskTurn None 12 (tells_gateway_failure result) self.old.store.disk self.new.store.disk }
+        ensures fits { FitsNow (over self.old) → FitsNow (over self.new) }
+    {
+        let mut out = [0; 64];
+        let answer = self.arrive(id, pdu, &mut out);
+        line_of(id, second, &answer, &out)
+    }
+
+    /// Receives a PDU of 5 to 64 bytes under a Data ID. An accepted payload is a front of the PDU. Errors, in their
+    /// order: `Down`, `NoRoute`, `BadLength`, `Key`, `Faulted`. After each of them but `Faulted`, and after the two
+    /// failures, all is as before, and no call of the disk was made.
     pub fn receive(&mut self, id: u16, pdu: &[u8]) -> Result<Reception, NodeFault>
         ensures step { (source : Option ℕ)
             → NodeStep self.old.node (receives id pdu.now) (received_line id pdu.now source result) self.new.node }
@@ -134,14 +200,15 @@ impl<C: CutCells> Gateway<C> {
         ensures layout { self.new.store.layout ≡ self.old.store.layout }
         ensures runs { Runs [] 6 self.old.store.disk self.new.store.disk }
         ensures fits { FitsNow (over self.old) → FitsNow (over self.new) }
+        ensures sound { Sound self.new.node }
         ensures pairs { self.new.pairs ≡ self.old.pairs }
     {
         self.node.receive(id, pdu)
     }
 
-    /// Loads the key of a request into its slot, and confirms it (SHE specification, memory update protocol). Errors: `Down`, then
-    /// `Key` with the first refusal that applies, then `Faulted`. After the first two all is as before, and no call of the disk was
-    /// made.
+    /// Loads the key of a request into its slot, and confirms it (SHE specification, memory update protocol). Errors:
+    /// `Down`, then `Key` with the first refusal that applies, then `Faulted`. After the first two all is as before,
+    /// and no call of the disk was made.
     pub fn load(&mut self, request: &Request) -> Result<Reply, NodeFault>
         ensures step { NodeStep self.old.node (loads request.now) (loaded_line result) self.new.node }
         // of the request that was built of an update: what the machine answers to that update
@@ -155,13 +222,14 @@ impl<C: CutCells> Gateway<C> {
         ensures layout { self.new.store.layout ≡ self.old.store.layout }
         ensures runs { Runs [] 6 self.old.store.disk self.new.store.disk }
         ensures fits { FitsNow (over self.old) → FitsNow (over self.new) }
+        ensures sound { Sound self.new.node }
         ensures pairs { self.new.pairs ≡ self.old.pairs }
     {
         self.node.load(request)
     }
 
-    /// Decides the secure boot of this life with an image of 1 to 65,536 bytes (SHE specification, secure booting). Errors: `Down`, then
-    /// `Key`, and then the node is as before. No call of the disk is made.
+    /// Decides the secure boot of this life with an image of 1 to 65,536 bytes (SHE specification, secure booting).
+    /// Errors: `Down`, then `Key`, and then the node is as before. No call of the disk is made.
     pub fn boot(&mut self, image: &[u8]) -> Result<bool, NodeFault>
         requires { IsImage image.now }
         ensures step { NodeStep self.old.node (boots image.now) (boot_line result) self.new.node }
@@ -169,23 +237,26 @@ impl<C: CutCells> Gateway<C> {
         ensures store { self.new.store ≡ self.old.store }
         ensures down { IsErrOf result NodeFault.Down ↔ self.old.node.up ≡ false }
         ensures fits { FitsNow (over self.old) → FitsNow (over self.new) }
+        ensures sound { Sound self.new.node }
         ensures pairs { self.new.pairs ≡ self.old.pairs }
     {
         self.node.boot(image)
     }
 
-    /// The counter of the route with this Data ID and direction: the last freshness that was sent or accepted, or the bound at which it
-    /// began. `None` exactly where there is no such route.
+    /// The counter of the route with this Data ID and direction: the last freshness that was sent or accepted, or the
+    /// bound at which it began. `None` exactly where there is no such route. Whatever was called before and answered,
+    /// the node is sound.
     pub fn counter(&self, id: u16, direction: Direction) -> Option<u64>
-        ensures { MatchOption result (¬ HasRoute self.now.node id direction)
+        ensures value { MatchOption result (¬ HasRoute self.now.node id direction)
             (λ v. HasRoute self.now.node id direction
             × (v ≡ counter_at self.now.node (place_of self.now.node id direction))) }
+        ensures sound { Sound self.now.node }
     {
         self.node.counter(id, direction)
     }
 
-    /// Whether the node serves no call until its power is cut: a call of its disk failed, or a power cut was refused, since it was last
-    /// powered up. Whatever was called before and answered, the node is sound.
+    /// Whether the node serves no call until its power is cut: a call of its disk failed, or a power cut was refused,
+    /// since it was last powered up. Whatever was called before and answered, the node is sound.
     pub fn is_down(&self) -> bool
         ensures down { result ≡ not self.now.node.up }
         ensures sound { Sound self.now.node }
@@ -193,10 +264,10 @@ impl<C: CutCells> Gateway<C> {
         self.node.is_down()
     }
 
-    /// Cuts the power and powers up again, from a node that is up as from one that is down: the cells are read anew, so that the bytes of
-    /// the disk stand for them, each counter is its bound, and no boot was made. Errors: `Store` where the store isn't read, then
-    /// `BadSlot`, then `BadBound`. The node is then down, and what it knows is as before. Over a disk that tells its bytes, and fits the
-    /// node, only the disk itself can fail.
+    /// Cuts the power and powers up again, from a node that is up as from one that is down: the cells are read anew, so
+    /// that the bytes of the disk stand for them, each counter is its bound, and no boot was made. Errors: `Store`
+    /// where the store isn't read, then `BadSlot`, then `BadBound`. The node is then down, and what it knows is as
+    /// before. Over a disk that tells its bytes, and fits the node, only the disk itself can fail.
     pub fn power_cut(&mut self, torn: Torn) -> Result<(), CutFault>
         ensures step { TellsFitting (over self.old) → NodeStep self.old.node cuts (cut_line result) self.new.node }
         ensures up { OnOk result (self.new.node ≡ powered self.old.node.config self.new.node.kept) }
@@ -214,12 +285,14 @@ impl<C: CutCells> Gateway<C> {
             self.new.store.disk }
         ensures grows { OnOk result (Grows self.old.store.disk self.new.store.disk) }
         ensures fits { FitsNow (over self.old) → FitsNow (over self.new) }
+        ensures sound { Sound self.new.node }
         ensures pairs { self.new.pairs ≡ self.old.pairs }
     {
         self.node.power_cut(torn)
     }
 
-    /// Passes on to the disk: from the call of this number on, 1 for the next, each call of the disk fails until the power is cut.
+    /// Passes on to the disk: from the call of this number on, 1 for the next, each call of the disk fails until the
+    /// power is cut.
     pub fn stop_at(&mut self, calls: u64)
         requires { 1 ≤ calls }
         ensures node { self.new.node ≡ self.old.node }
@@ -232,6 +305,7 @@ impl<C: CutCells> Gateway<C> {
         ensures layout { self.new.store.layout ≡ self.old.store.layout }
         ensures runs { Runs (Stop calls ∷ []) 1 self.old.store.disk self.new.store.disk }
         ensures fits { FitsNow (over self.old) → FitsNow (over self.new) }
+        ensures sound { Sound self.new.node }
         ensures pairs { self.new.pairs ≡ self.old.pairs }
     {
         self.node.stop_at(calls);
@@ -250,6 +324,7 @@ impl<C: CutCells> Gateway<C> {
         ensures layout { self.new.store.layout ≡ self.old.store.layout }
         ensures runs { Runs (Fail calls ∷ []) 1 self.old.store.disk self.new.store.disk }
         ensures fits { FitsNow (over self.old) → FitsNow (over self.new) }
+        ensures sound { Sound self.new.node }
         ensures pairs { self.new.pairs ≡ self.old.pairs }
     {
         self.node.fail_at(calls);
@@ -260,5 +335,26 @@ impl<C: CutCells> Gateway<C> {
         ensures { result ≡ over self }
     {
         self.node
+    }
+}
+
+impl<C: CutCells> Machine for Gateway<C> {
+    ghost use Rattle.secoc_gateway.specs.State.{GatewayState};
+    ghost use Rattle.secoc_gateway.specs.Turns.{GatewayTurn, AreReady};
+
+    type Command = Event;
+
+    type Line = GatewayLine;
+
+    ghost State = { GatewayState };
+
+    ghost state = { λ gateway. gateway };
+
+    ghost steps = { GatewayTurn };
+
+    ghost ready = { AreReady };
+
+    fn step(&mut self, command: &Event) -> GatewayLine {
+        self.turn(command)
     }
 }

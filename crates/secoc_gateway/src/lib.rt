@@ -1,16 +1,19 @@
-//! A re-authenticating gateway over a node: it verifies each Secured I-PDU that arrives under the first Data ID of a pair, and sends its
-//! payload anew under the second, with that route's key and freshness (AUTOSAR SecOC, profile 1).
+//! A re-authenticating gateway over a node: it verifies each Secured I-PDU that arrives under the first Data ID of a
+//! pair, and sends its payload anew under the second, with that route's key and freshness (AUTOSAR SecOC, profile 1).
 //!
-//! The freshness of an arrival is in the store before its payload departs, so whatever a power cut leaves, no freshness of one Data ID is
-//! forwarded twice. What holds over all its runs are the laws of `gateway_machine`; each call here is a step of that machine.
+//! The freshness of an arrival is in the store before its payload departs, so whatever a power cut leaves, no freshness
+//! of one Data ID is forwarded twice. What holds over all its runs are the laws of `gateway_machine`; each call here is
+//! a step of that machine, and [`Gateway::turn`] does an event of a script as one.
 //!
 //! No call takes memory.
 #![tactic(auto)]
 
 mod arrival;
 mod gateway;
+mod lines;
 mod pairs;
 mod passing;
 
 pub use arrival::{Arrival, PairRefused};
 pub use gateway::Gateway;
+pub use pairs::lowest_bad;

@@ -3,9 +3,8 @@ ghost use Rattle.std.specs.Prelude.{◌≡◌, ◌≢◌, ◌↔◌, ◌<◌, �
 ghost use Rattle.gateway_machine.specs.Gateway.{second_of as second_in};
 ghost use Rattle.secoc_gateway.specs.Pairs.{pair_in, IsGoodAfter, AreGood, IsLowestBad};
 
-use cell_store::Cells;
-use freshness_manager::Direction;
-use secoc_node::Node;
+use freshness_manager::{Direction, Route};
+use secoc_node::place_of;
 
 /// The second Data ID of the pair with this first one.
 pub fn second_of(pairs: &[(u16, u16)], id: u16) -> Option<u16>
@@ -26,27 +25,27 @@ fn is_new(earlier: &[(u16, u16)], pair: (u16, u16)) -> bool
     true
 }
 
-// Whether the node has both routes of this pair, and no earlier pair has one of them.
-fn is_good_after<C: Cells>(node: &Node<C>, earlier: &[(u16, u16)], pair: (u16, u16)) -> bool
-    ensures good { IsTrue result ↔ IsGoodAfter node.now.node earlier.now pair }
-    ensures few { length node.now.node.config.routes ≤ 256 }
+// Whether these routes receive the first of this pair and send the second, and no earlier pair has one of them.
+fn is_good_after(routes: &[Route], earlier: &[(u16, u16)], pair: (u16, u16)) -> bool
+    ensures { IsTrue result ↔ IsGoodAfter routes.now earlier.now pair }
 {
-    if node.counter(pair.0, Direction::Receives).is_none() {
+    if place_of(routes, pair.0, Direction::Receives).is_none() {
         return false;
     }
-    if node.counter(pair.1, Direction::Sends).is_none() {
+    if place_of(routes, pair.1, Direction::Sends).is_none() {
         return false;
     }
     is_new(earlier, pair)
 }
 
-/// The place of the lowest pair that a gateway over this node doesn't take, counted from 0.
-pub fn lowest_bad<C: Cells>(node: &Node<C>, pairs: &[(u16, u16)]) -> Option<u16>
-    ensures lowest { MatchOption result (AreGood node.now.node pairs.now) (IsLowestBad node.now.node pairs.now) }
+/// The place of the lowest pair that a gateway over a node with these routes doesn't take, counted from 0.
+pub fn lowest_bad(routes: &[Route], pairs: &[(u16, u16)]) -> Option<u16>
+    requires { length routes.now ≤ 256 }
+    ensures lowest { MatchOption result (AreGood routes.now pairs.now) (IsLowestBad routes.now pairs.now) }
     ensures within { MatchOption result (Unit {0}) (λ place. place ≤ 256) }
 {
     for (place, pair) in pairs.iter().enumerate() {
-        if !is_good_after(node, &pairs[..place], *pair) {
+        if !is_good_after(routes, &pairs[..place], *pair) {
             return Some(place as u16);
         }
     }

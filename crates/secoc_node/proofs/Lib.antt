@@ -8,5 +8,6 @@ pub mod MovedLaws
 pub mod CallLaws
 pub mod CutLaws
 pub mod RouteLaws
+pub mod CoveredLaws
 pub mod SendLaws
 pub mod ReceiveLaws

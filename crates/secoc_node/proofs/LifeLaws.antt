@@ -131,4 +131,4 @@ pub refused_for_memory : (config : Config) (cells : List (List ℕ)) (fault : At
     → (kept : Kept) → IsKept config kept → cells ≡ CellsOf config kept → fault ≡ attach.Memory
 refused_for_memory config cells (attach.BadSlot slot) good cause kept is same = absurd (no_bad_slot config kept slot is (subst (λ c. FirstBadSlot c slot) same cause))
 refused_for_memory config cells (attach.BadBound place) good cause kept is same = absurd (no_bad_bound config kept place good is (subst (λ c. SlotsButNoBound config.routes c place) same cause))
-refused_for_memory config cells attach.Memory good cause kept is same = refl
+refused_for_memory config cells attach.Memory good cause those is same = refl

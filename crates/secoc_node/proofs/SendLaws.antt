@@ -2,7 +2,7 @@
 use Rattle.std.proofs.Common.{◌≡◌, ℕ, ◌+◌, ◌<◌, ◌≤◌, true, false, List, length, get_or, take, refl, sym, ap, subst, ◌∙◌}
 use Rattle.std.specs.Prelude.{Option, Some, option_map, unwrap_or}
 use Rattle.cell_store.specs.Cells.{CellsState}
-use Rattle.freshness_routes.specs.declared.routes.Direction.TheVariants.{Sends}
+use Rattle.freshness_routes.specs.declared.routes.Direction.TheVariants.{Sends, Receives}
 use Rattle.freshness_routes.specs.declared.routes.Route.{Route}
 use Rattle.freshness_routes.specs.Changes.{sender_change}
 use Rattle.freshness_manager.specs.Counters.{SenderCounter, KeepsBound}
@@ -20,6 +20,7 @@ use Rattle.secoc_node.specs.Counters.{freshness_in, bound_in, counter_in}
 use Rattle.secoc_node.specs.State.{IsCovered}
 use Rattle.secoc_node.specs.Keeping.{node_in, state_in, IsNode, FindsRoute}
 use Rattle.secoc_node.proofs.CallLaws.{Done}
+use Rattle.secoc_node.proofs.CoveredLaws.{covered_same, covered_past}
 use Rattle.secoc_node.proofs.RouteLaws.{with_counter_at, place_at, route_id, got_here, made_of, keeps_its_bound, counter_is, bound_is, moved_done, failed_done}
 
 -- the sender in a counter
@@ -111,6 +112,13 @@ module _ (known : Known) (store : CellsState) (is : IsNode known store) (up : kn
           covers = covers;
         }
 
+    -- and what was covered of the routes that receive stays so
+    pub sent_others : (tx' : SenderCounter) (left : CellsState) → MakesChange tx.place tx.id Sends (sender_change tx.counter tx.bound tx.reserve) store left
+        → (other v : ℕ) → IsCovered (state_in known store) other Receives v → IsCovered (state_in (with_counter_at known place (of_route.Sends tx')) left) other Receives v
+    sent_others tx' left made =
+        covered_past known store is up id place route finds (of_route.Sends tx') change left
+        (subst (λ i. MakesChange (14 + place) i Sends change store left) tx_id (subst (λ p. MakesChange p tx.id Sends change store left) tx_place made))
+
     -- the disk failed as the bound was put
     pub send_failed : (payload : List ℕ) (bound : ℕ) (tx' : SenderCounter) (left : CellsState) (fallen : Known) → tx' ≡ tx
         → FailsChange tx.place tx.id Sends (Some bound) store left
@@ -127,3 +135,8 @@ module _ (known : Known) (store : CellsState) (is : IsNode known store) (up : kn
         (sends id payload) (Refused MemoryFailure)
         (subst (λ k. NodeStep (node_in known) (sends id payload) (Refused MemoryFailure) (failed (bound_to k bound) (node_in known))) at
         (subst (λ i. NodeStep (node_in known) (sends i payload) (Refused MemoryFailure) (failed (bound_to (place_of (node_in known) i Sends) bound) (node_in known))) r step))
+
+    -- then no cell was changed
+    pub failed_others : (bound : ℕ) (left : CellsState) (fallen : Known) → FailsChange tx.place tx.id Sends (Some bound) store left → fallen.config ≡ known.config
+        → (other v : ℕ) → IsCovered (state_in known store) other Receives v → IsCovered (state_in fallen left) other Receives v
+    failed_others bound left fallen fails same other v = covered_same (state_in known store) (state_in fallen left) same fails.kept other v

@@ -36,7 +36,8 @@ route_in routes k = slice_index_or routes k no_route
 
 -- the cell of the bound of the route at this place holds one
 abbrev pub HoldsSomeBound : List Route → List (List ℕ) → ℕ → Type 0
-HoldsSomeBound routes cells k = (bound : ℕ) × HoldsBound (cell_in cells (14 + k)) (route_in routes k).id (route_in routes k).direction bound
+HoldsSomeBound routes cells k =
+    (bound : ℕ) × HoldsBound (cell_in cells (14 + k)) (route_in routes k).id (route_in routes k).direction bound
 
 -- the cell of each route's bound holds one
 abbrev pub HoldsBounds : List Route → List (List ℕ) → Type 0

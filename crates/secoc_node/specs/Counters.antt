@@ -21,9 +21,18 @@ bound_in (of_route.Receives rx) = rx.bound
 -- the counter of a route whose bound is kept in the cell at this place
 abbrev pub counter_towards : Direction → Route → (place freshness bound : ℕ) → RouteCounter
 counter_towards Sends route place freshness bound =
-    of_route.Sends (record { place = place; id = route.id; reserve = route.reserve; counter = freshness; bound = bound })
+    of_route.Sends
+    (record { place = place; id = route.id; reserve = route.reserve; counter = freshness; bound = bound })
 counter_towards Receives route place freshness bound =
-    of_route.Receives (record { place = place; id = route.id; reserve = route.reserve; window = route.window; counter = freshness; bound = bound })
+    of_route.Receives
+    (record {
+      place = place;
+      id = route.id;
+      reserve = route.reserve;
+      window = route.window;
+      counter = freshness;
+      bound = bound;
+    })
 
 abbrev pub counter_of_route : Route → (place freshness bound : ℕ) → RouteCounter
 counter_of_route route = counter_towards route.direction route

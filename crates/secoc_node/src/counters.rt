@@ -44,7 +44,8 @@ fn counter_at<C: Cells>(cells: &C, cell: u16, route: &Route) -> Result<RouteCoun
     requires inside { cell < length (C.state cells.now).cells }
     requires route { IsRoute route.now }
     ensures begins { IfOk result (BeginsAt (C.state cells.now).cells cell route.now) }
-    ensures none { OnErr result (HoldsNoBound (cell_in (C.state cells.now).cells cell) route.now.id route.now.direction) }
+    ensures none { OnErr result
+        (HoldsNoBound (cell_in (C.state cells.now).cells cell) route.now.id route.now.direction) }
     ensures named { IfErr result (λ bad. bad.0 ≡ cell) }
 {
     match read_bound(cells, cell, route.id, route.direction) {

@@ -95,7 +95,8 @@ impl Known {
 
     /// The route with this Data ID and direction, and its place, if there is one.
     pub fn route(&self, id: u16, direction: Direction) -> Option<(usize, Route)>
-        ensures { let routes = self.now.config.routes in MatchOption result (place_in routes id direction ≡ length routes)
+        ensures { let routes = self.now.config.routes
+            in MatchOption result (place_in routes id direction ≡ length routes)
             (λ found. FindsRoute routes id direction found.0 found.1) }
     {
         let routes = self.config.routes.as_slice();
@@ -117,7 +118,8 @@ impl Known {
     /// The same, with a bound of a route that was to be put.
     pub fn fail_at(&mut self, route: usize, bound: u64) -> NodeFault
         requires { route < 256 }
-        ensures down { self.new ≡ record self.old { up = false; pending = Some (record { route = route; bound = bound }) } }
+        ensures down { self.new
+            ≡ record self.old { up = false; pending = Some (record { route = route; bound = bound }) } }
         ensures fault { result ≡ NodeFault.Faulted }
     {
         self.pending = Some(PendingBound {

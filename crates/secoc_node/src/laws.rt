@@ -16,6 +16,7 @@ pub fn cells_tell_what_is_kept()
 
 /// A disk without a loose byte that stands for what a node keeps fits the node that powers up with it.
 pub fn a_settled_disk_fits_its_node()
-    ensures { (layout : Layout) (config : Config) (kept : Kept) (bytes : List ℕ) → Stands layout bytes (CellsOf config kept)
+    ensures { (layout : Layout) (config : Config) (kept : Kept) (bytes : List ℕ)
+        → Stands layout bytes (CellsOf config kept)
         → FitsNode layout (powered config kept) (firm bytes) }
 {}

@@ -22,3 +22,4 @@ pub use cells::first_cells;
 pub use faults::{AttachFault, CutFault, NodeFault, NodeRefused};
 pub use laws::{a_settled_disk_fits_its_node, cells_tell_what_is_kept};
 pub use node::Node;
+pub use routes::place_of;

@@ -26,7 +26,7 @@ use crate::faults::{AttachFault, CutFault, NodeFault, NodeRefused};
 use crate::known::Known;
 use cell_store::{Cells, CutCells, Reread};
 use cut_disk::Torn;
-use freshness_manager::{Direction, NodeConfig};
+use freshness_manager::{Direction, NodeConfig, Route};
 use memory_update::{Reply, Request};
 use secoc_receiver::{ReceiveFault, Reception, receive};
 use secoc_sender::{SendFault, Sent, send};
@@ -86,12 +86,16 @@ impl<C: Cells> Node<C> {
         ensures within { IfOk result (λ sent. sent.len ≤ 64) }
         ensures rest { IfOk result (λ sent. drop sent.len out.new ≡ drop sent.len out.old) }
         ensures covered { IfOk result (λ sent. IsCovered self.new id Sends sent.freshness) }
+        // what is covered of the routes that receive stays so, whatever came of the send
+        ensures others { (other freshness : ℕ) → IsCovered self.old other Receives freshness
+            → IsCovered self.new other Receives freshness }
         ensures untouched { IfErr result (λ fault. fault ≢ NodeFault.Faulted → self.new ≡ self.old) }
         ensures unwritten { OnErr result (out.new ≡ out.old) }
         ensures down { IsErrOf result NodeFault.Down ↔ self.old.node.up ≡ false }
         ensures no_route { IsErrOf result NodeFault.NoRoute
             ↔ ((self.old.node.up ≡ true) × (¬ HasRoute self.old.node id Sends)) }
-        ensures faulted { IsErrOf result NodeFault.Faulted → Rose self.old.store.disk.faults self.new.store.disk.faults }
+        ensures faulted { IsErrOf result NodeFault.Faulted
+            → Rose self.old.store.disk.faults self.new.store.disk.faults }
         ensures faults { OnOk result (self.new.store.disk.faults ≡ self.old.store.disk.faults) }
         ensures layout { self.new.store.layout ≡ self.old.store.layout }
         ensures runs { Runs [] 6 self.old.store.disk self.new.store.disk }
@@ -138,7 +142,8 @@ impl<C: Cells> Node<C> {
         ensures down { IsErrOf result NodeFault.Down ↔ self.old.node.up ≡ false }
         ensures no_route { IsErrOf result NodeFault.NoRoute
             ↔ ((self.old.node.up ≡ true) × (¬ HasRoute self.old.node id Receives)) }
-        ensures faulted { IsErrOf result NodeFault.Faulted → Rose self.old.store.disk.faults self.new.store.disk.faults }
+        ensures faulted { IsErrOf result NodeFault.Faulted
+            → Rose self.old.store.disk.faults self.new.store.disk.faults }
         ensures faults { OnOk result (self.new.store.disk.faults ≡ self.old.store.disk.faults) }
         ensures layout { self.new.store.layout ≡ self.old.store.layout }
         ensures runs { Runs [] 6 self.old.store.disk self.new.store.disk }
@@ -172,7 +177,8 @@ impl<C: Cells> Node<C> {
             → NodeStep self.old.node (keys update authkey) (keyed_line update.id result) self.new.node }
         ensures untouched { IfErr result (λ fault. fault ≢ NodeFault.Faulted → self.new ≡ self.old) }
         ensures down { IsErrOf result NodeFault.Down ↔ self.old.node.up ≡ false }
-        ensures faulted { IsErrOf result NodeFault.Faulted → Rose self.old.store.disk.faults self.new.store.disk.faults }
+        ensures faulted { IsErrOf result NodeFault.Faulted
+            → Rose self.old.store.disk.faults self.new.store.disk.faults }
         ensures faults { OnOk result (self.new.store.disk.faults ≡ self.old.store.disk.faults) }
         ensures layout { self.new.store.layout ≡ self.old.store.layout }
         ensures runs { Runs [] 6 self.old.store.disk self.new.store.disk }
@@ -213,11 +219,20 @@ impl<C: Cells> Node<C> {
     /// began. `None` exactly where there is no such route. Whatever was called before and answered, the node is sound.
     pub fn counter(&self, id: u16, direction: Direction) -> Option<u64>
         ensures value { MatchOption result (¬ HasRoute self.now.node id direction)
-            (λ v. HasRoute self.now.node id direction × (v ≡ counter_at self.now.node (place_of self.now.node id direction))) }
+            (λ v. HasRoute self.now.node id direction
+            × (v ≡ counter_at self.now.node (place_of self.now.node id direction))) }
         ensures sound { Sound self.now.node }
     {
         let (place, _route) = self.known.route(id, direction)?;
         Some(self.known.counters[place].freshness())
+    }
+
+    /// The routes of the node in their order, at most 256.
+    pub fn routes(&self) -> &[Route]
+        ensures value { result.now ≡ self.now.node.config.routes }
+        ensures few { length result.now ≤ 256 }
+    {
+        self.known.config.routes.as_slice()
     }
 
     /// Whether the node serves no call until its power is cut: a call of its disk failed, or a power cut was refused, since it was last

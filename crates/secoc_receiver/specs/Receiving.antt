@@ -69,14 +69,17 @@ IfUnmoved _ P = P
 -- the bound no longer covers the freshness, and the put of the one that does failed
 abbrev pub FaultedWith : ReceiveFault → ReceiverCounter → ℕ → CellsState → CellsState → Type 0
 FaultedWith (Faulted bound) rx freshness old new =
-    (receiver_change rx.bound rx.reserve freshness ≡ Some bound) × FailsChange rx.place rx.id Receives (Some bound) old new
+    (receiver_change rx.bound rx.reserve freshness ≡ Some bound)
+    × FailsChange rx.place rx.id Receives (Some bound) old new
 FaultedWith _ rx freshness old new = ⊥
 
 -- the PDU is authentic with a freshness ahead, which the bound no longer covers, and the put of the bound that does failed
-pub record FaultedAt (bound : ℕ) (engine : Engine) (rx : ReceiverCounter) (route : Route) (pdu : List ℕ) (old new : CellsState) : Type 0 where
+pub record FaultedAt (bound : ℕ) (engine : Engine) (rx : ReceiverCounter) (route : Route) (pdu : List ℕ)
+    (old new : CellsState) : Type 0 where
   pub payload : List ℕ
   pub freshness : ℕ
-  pub verdict_is : verdict.Verdict (key_in (slot_at engine.slots route.slot)) route.id rx.counter route.window pdu (verdict.Accepted payload freshness)
+  pub verdict_is : verdict.Verdict (key_in (slot_at engine.slots route.slot)) route.id rx.counter route.window pdu
+      (verdict.Accepted payload freshness)
   pub failed : FaultedWith (Faulted bound) rx freshness old new
 
 -- the PDU is accepted with this payload and freshness, or the disk failed
@@ -87,7 +90,8 @@ ComesThrough payload v _ old new = ⊥
 
 -- the line that tells of the verdict on a PDU under this Data ID, which came from this event
 abbrev pub line_of_receive : ℕ → List ℕ → Option ℕ → Result Reception ReceiveFault → line.Line
-line_of_receive id pdu source (Ok (Accepted freshness len)) = line.TheVariants.Accepted id freshness (take len pdu) source
+line_of_receive id pdu source (Ok (Accepted freshness len)) =
+    line.TheVariants.Accepted id freshness (take len pdu) source
 line_of_receive id pdu source (Ok FreshnessFailure) = line.TheVariants.FreshnessFailure
 line_of_receive id pdu source (Ok VerificationFailure) = line.TheVariants.VerificationFailure
 line_of_receive id pdu source (Err BadLength) = Refused refusal.BadLength

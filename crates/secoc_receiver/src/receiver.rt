@@ -72,7 +72,8 @@ pub fn receive<C: Cells>(
     ensures refusal { first_of (receiver_refusals engine.now.slots (is_good engine.now.boot) route.now pdu.now)
         ≡ refusal_of_receive result }
     ensures bad_length { IsErrOf result ReceiveFault.BadLength ↔ (¬ IsFrame pdu.now) }
-    ensures verdict { IfOk result (λ said. Verdict (key_in (slot_at engine.now.slots route.now.slot)) route.now.id rx.old.counter
+    ensures verdict { IfOk result
+        (λ said. Verdict (key_in (slot_at engine.now.slots route.now.slot)) route.now.id rx.old.counter
         route.now.window pdu.now (outcome_in pdu.now said)) }
     ensures length { IfAccepted result (λ v len. len + 4 ≡ length pdu.now) }
     ensures counted { IfAccepted result (λ v len. let change = change_of_receiver rx.old.bound rx.old.reserve v
@@ -90,7 +91,8 @@ pub fn receive<C: Cells>(
         → Rose (C.state cells.old).disk.faults (C.state cells.new).disk.faults }
     ensures kept { KeepsBound (C.state cells.new).cells rx.new.place rx.new.id Receives rx.new.bound }
     ensures runs { Runs [] 6 (C.state cells.old).disk (C.state cells.new).disk }
-    ensures honest { (payload : List ℕ) (v : ℕ) → usable engine.now.slots route.now.slot (is_good engine.now.boot) Mac ≡ None
+    ensures honest { (payload : List ℕ) (v : ℕ)
+        → usable engine.now.slots route.now.slot (is_good engine.now.boot) Mac ≡ None
         → Secured (key_in (slot_at engine.now.slots route.now.slot)) route.now.id payload v pdu.now
         → Ahead rx.old.counter route.now.window (v % 256) v
         → ComesThrough payload v result (C.state cells.old) (C.state cells.new) }
@@ -148,7 +150,8 @@ fn accept<C: Cells>(
         in MakesChange rx.old.place rx.old.id Receives change (C.state cells.old) (C.state cells.new)) }
     ensures faults { OnOk result ((C.state cells.new).disk.faults ≡ (C.state cells.old).disk.faults) }
     ensures whole { OnOk result ((C.state cells.new).broken ≡ false) }
-    ensures failed { IfErr result (λ fault. FaultedWith fault rx.old freshness (C.state cells.old) (C.state cells.new)) }
+    ensures failed { IfErr result
+        (λ fault. FaultedWith fault rx.old freshness (C.state cells.old) (C.state cells.new)) }
     ensures as_before { OnErr result (rx.new ≡ rx.old) }
     ensures kept { KeepsBound (C.state cells.new).cells rx.new.place rx.new.id Receives rx.new.bound }
     ensures runs { Runs [] 6 (C.state cells.old).disk (C.state cells.new).disk }

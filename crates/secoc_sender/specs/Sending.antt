@@ -48,6 +48,7 @@ line_of_send id (Err (Faulted bound)) out = Refused refusal.MemoryFailure
 
 -- the machine's node after the send: its counter rose, and its bound if that was due; or it waits for the bound that was to be put
 abbrev pub after_send : Node → ℕ → Result Sent SendFault → Node
-after_send node id (Ok sent) = with_counter (send_change node (place_of node id Sends)) (place_of node id Sends) sent.freshness node
+after_send node id (Ok sent) =
+    with_counter (send_change node (place_of node id Sends)) (place_of node id Sends) sent.freshness node
 after_send node id (Err (Faulted bound)) = failed (bound_to (place_of node id Sends) bound) node
 after_send node id (Err fault) = node

@@ -61,11 +61,13 @@ pub fn send<C: Cells>(
     requires whole { (C.state cells.old).broken ≡ false }
     requires kept { KeepsBound (C.state cells.old).cells tx.old.place tx.old.id Sends tx.old.bound }
     requires route { IsSenderRoute route.now tx.old }
-    ensures refusal { first_of (sender_refusals engine.now.slots (is_good engine.now.boot) route.now tx.old.counter payload.now)
+    ensures refusal { first_of
+        (sender_refusals engine.now.slots (is_good engine.now.boot) route.now tx.old.counter payload.now)
         ≡ refusal_of_send result }
     ensures next { IfOk result (λ sent. sent.freshness ≡ tx.old.counter + 1) }
     ensures length { IfOk result (λ sent. sent.len ≡ length payload.now + 4) }
-    ensures secured { IfOk result (λ sent. Secured (key_in (slot_at engine.now.slots route.now.slot)) route.now.id payload.now
+    ensures secured { IfOk result
+        (λ sent. Secured (key_in (slot_at engine.now.slots route.now.slot)) route.now.id payload.now
         sent.freshness (take sent.len out.new)) }
     ensures rest { IfOk result (λ sent. drop sent.len out.new ≡ drop sent.len out.old) }
     ensures counted { OnOk result (let change = change_of_sender tx.old.counter tx.old.bound tx.old.reserve

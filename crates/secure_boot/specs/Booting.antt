@@ -20,7 +20,8 @@ bootmac key image = cmac key (replicate 12 0 ++ bytes_of 4 (8 * length image) ++
 
 -- a boot where the first of these slots is for the boot MAC key and the second for the boot MAC: it succeeds exactly where the image has that boot MAC
 abbrev pub BootsBy : Slot → Slot → List ℕ → Result Bool Erc → Type 0
-BootsBy (Filled key counter flags) (Filled mac counter' flags') image answer = IsOkAnd answer (λ good. IsTrue good ↔ (mac ≡ bootmac key image))
+BootsBy (Filled key counter flags) (Filled mac counter' flags') image answer =
+    IsOkAnd answer (λ good. IsTrue good ↔ (mac ≡ bootmac key image))
 BootsBy _ _ image answer = answer ≡ Err NoSecureBoot
 
 -- slot 2 is BOOT_MAC_KEY and slot 3 BOOT_MAC; flags play no part

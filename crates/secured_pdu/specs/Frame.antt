@@ -13,7 +13,8 @@ assembled payload freshness mac = payload ++ (freshness % 256) ∷ take 3 mac
 
 -- the one frame of this payload and freshness
 unfoldable pub secured_frame : List ℕ → ℕ → List ℕ → ℕ → List ℕ
-secured_frame key id payload freshness = assembled payload freshness (cmac key (authenticated_input id payload freshness))
+secured_frame key id payload freshness =
+    assembled payload freshness (cmac key (authenticated_input id payload freshness))
 
 abbrev pub IsPayload : List ℕ → Type 0
 IsPayload payload = (1 ≤ length payload) × (length payload ≤ 60)

@@ -13,7 +13,8 @@ pub fn input_is_one_to_one()
 
 /// At most one freshness with a given low byte is ahead of a counter.
 pub fn one_freshness_is_ahead()
-    ensures { (counter window low u v : ℕ) → IsWindow window → Ahead counter window low u → Ahead counter window low v → u ≡ v }
+    ensures { (counter window low u v : ℕ) → IsWindow window → Ahead counter window low u → Ahead counter window low v
+        → u ≡ v }
 {}
 
 /// At most one frame is the Secured I-PDU of a payload and a freshness.
@@ -31,7 +32,8 @@ pub fn a_secured_frame_is_a_frame()
 /// At most one verdict on a frame holds.
 pub fn one_verdict_holds()
     ensures { (key : List ℕ) (id counter window : ℕ) (frame : List ℕ) (outcome outcome' : Outcome) → IsWindow window
-        → Verdict key id counter window frame outcome → Verdict key id counter window frame outcome' → outcome ≡ outcome' }
+        → Verdict key id counter window frame outcome → Verdict key id counter window frame outcome'
+        → outcome ≡ outcome' }
 {}
 
 /// On every frame of 5 to 64 bytes a verdict holds.

@@ -39,7 +39,8 @@ abbrev pub has_values : ℕ → List ℕ → ℕ → SentLine → Bool
 has_values id payload v s = (s.id == id) && bytes_eq s.payload payload && (s.freshness == v)
 
 -- the records of so many events, of at most so many, in room for so many lines, and the places of the latest ones by Data ID
-pub record WellKept (events most room : ℕ) (records : List Record) (latest : List (Option ℕ)) (rising : Bool) : Type 0 where
+pub record WellKept (events most room : ℕ) (records : List Record) (latest : List (Option ℕ))
+    (rising : Bool) : Type 0 where
   pub within : events ≤ most
   pub reserved : most ≤ room
   pub few : length records ≤ events

@@ -15,7 +15,8 @@ NoneWithin records id least bound = (k : ℕ) (d : Record) → least ≤ k → k
 abbrev pub IsLatest : List Record → ℕ → ℕ → Option ℕ → Type 0
 IsLatest records id bound None = NoneWithin records id 0 bound
 IsLatest records id bound (Some j) =
-    (j < bound) × ((d : Record) → (get_or records j d).id ≡ id) × ((k : ℕ) (d : Record) → j < k → k < bound → (get_or records k d).id ≢ id)
+    (j < bound) × ((d : Record) → (get_or records j d).id ≡ id)
+    × ((k : ℕ) (d : Record) → j < k → k < bound → (get_or records k d).id ≢ id)
 
 -- links of a record of this Data ID at this place: to the latest earlier record of the Data ID, and to any earlier one of it
 pub record LinkedAt (records : List Record) (place id : ℕ) (links : Option Links) : Type 0 where
@@ -23,7 +24,8 @@ pub record LinkedAt (records : List Record) (place id : ℕ) (links : Option Lin
   pub far : (l : Links) → links ≡ Some l → (l.far < place) × ((d : Record) → (get_or records l.far d).id ≡ id)
 
 abbrev pub Linked : List Record → Type 0
-Linked records = (i : ℕ) (d : Record) → i < length records → LinkedAt records i (get_or records i d).id (get_or records i d).links
+Linked records =
+    (i : ℕ) (d : Record) → i < length records → LinkedAt records i (get_or records i d).id (get_or records i d).links
 
 -- under each Data ID freshness rises
 abbrev pub RisesByID : List Record → Type 0
@@ -64,11 +66,13 @@ UpTo records id v (Some next) =
 -- of the records before this place and of its Data ID, one with the freshness stands at or before `next`, if it stands anywhere
 abbrev pub BelowNext : List Record → ℕ → ℕ → Option ℕ → Type 0
 BelowNext records place v None =
-    (k : ℕ) (d : Record) → k < place → (get_or records k d).id ≡ (get_or records place d).id → (get_or records k d).freshness ≢ v
+    (k : ℕ) (d : Record) → k < place → (get_or records k d).id ≡ (get_or records place d).id
+    → (get_or records k d).freshness ≢ v
 BelowNext records place v (Some next) =
     (next < place)
     × SameID records next place
-    × ((k : ℕ) (d : Record) → next < k → k < place → (get_or records k d).id ≡ (get_or records place d).id → (get_or records k d).freshness ≢ v)
+    × ((k : ℕ) (d : Record) → next < k → k < place → (get_or records k d).id ≡ (get_or records place d).id
+    → (get_or records k d).freshness ≢ v)
 
 -- the freshness is above that of the record at this place
 abbrev pub IsAbove : List Record → ℕ → Option ℕ → Type 0

@@ -41,7 +41,8 @@ impl Model for History {
 
     ghost view = { λ h. record { events = h.events; most = h.most; lines = map line_of h.records.items } };
 
-    ghost invariant = { λ h. WellKept h.events h.most (vec_capacity h.records) h.records.items h.latest.items h.rising };
+    ghost invariant = { λ h. WellKept h.events h.most
+        (vec_capacity h.records) h.records.items h.latest.items h.rising };
 }
 
 /// How many Data IDs there are.
@@ -81,7 +82,8 @@ impl History {
     /// What the event of this number sent, if it did.
     pub fn frame(&self, number: u32) -> Option<Frame>
         ensures value { result ≡ frame_in number self.now.lines }
-        ensures bounded { (s : SentLine) → find (λ s. s.number == number) self.now.lines ≡ Some s → s.freshness < 2 ^ 64 }
+        ensures bounded { (s : SentLine) → find (λ s. s.number == number) self.now.lines ≡ Some s
+            → s.freshness < 2 ^ 64 }
     {
         let records = self.records.as_slice();
         match place_numbered(records, number) {

@@ -201,7 +201,8 @@ pub(crate) fn source_among(
     payload: &[u8],
     freshness: u64,
 ) -> Option<u32>
-    ensures { result ≡ option_map (λ s. s.number) (find (has_values id payload.now freshness) (map line_of records.now)) }
+    ensures { result
+        ≡ option_map (λ s. s.number) (find (has_values id payload.now freshness) (map line_of records.now)) }
 {
     for record in records {
         if is_of(record, id, payload, freshness) {

@@ -44,7 +44,8 @@ shift_rows s = block_of (λ i. cell s (i % 4) (i / 4 + i % 4))
 -- a column times the circulant matrix whose first row is a b c d
 unfoldable pub circulant : ℕ → ℕ → ℕ → ℕ → List ℕ → List ℕ
 circulant a b c d column =
-    word_of (λ row. bit_xor (bit_xor (mul a (slice_index column row)) (mul b (slice_index column ((row + 1) % 4)))) (bit_xor (mul c (slice_index column ((row + 2) % 4))) (mul d (slice_index column ((row + 3) % 4)))))
+    word_of (λ row. bit_xor (bit_xor (mul a (slice_index column row)) (mul b (slice_index column ((row + 1) % 4))))
+    (bit_xor (mul c (slice_index column ((row + 2) % 4))) (mul d (slice_index column ((row + 3) % 4)))))
 
 -- the column with this number
 abbrev pub column : List ℕ → ℕ → List ℕ
@@ -138,7 +139,8 @@ inv_mix_columns s = on_columns (circulant 0x0e 0x0b 0x0d 0x09) s
 unfoldable pub undone_rounds : List (List ℕ) → List ℕ → ℕ → List ℕ
 undone_rounds words block zero = inv_sub_bytes (inv_shift_rows (add_round_key (round_key words 10) block))
 undone_rounds words block (suc n) =
-    inv_sub_bytes (inv_shift_rows (inv_mix_columns (add_round_key (round_key words (9 - n)) (undone_rounds words block n))))
+    inv_sub_bytes
+    (inv_shift_rows (inv_mix_columns (add_round_key (round_key words (9 - n)) (undone_rounds words block n))))
 
 -- the inverse cipher with these 44 words
 unfoldable pub inverse_cipher : List (List ℕ) → List ℕ → List ℕ

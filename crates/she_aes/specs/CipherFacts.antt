@@ -27,7 +27,8 @@ made_bytes : (n : ℕ) (f : ℕ → ℕ) → ((i : ℕ) → f i < 256) → Reads
 made_bytes n f each i =
     elim (cases_lt i n) [
       | inl h ↦ rw (get_or-map-range_with_len f 0 n i i 0 h (omega arith)) (each i)
-      | inr h ↦ rw (get_or_past (map f (range_with_len 0 n)) i 0 (omega (arith, length-map-range_with_len f 0 n))) (lit< tt)
+      | inr h ↦ rw (get_or_past (map f (range_with_len 0 n)) i 0 (omega (arith, length-map-range_with_len f 0 n)))
+          (lit< tt)
     ]
 
 -- a block, byte by byte
@@ -47,7 +48,8 @@ length-xor_blocks a b = refl
 pub xor_blocks-bytes : (a b : List ℕ) → ReadsBytes a → ReadsBytes b → ReadsBytes (xor_blocks a b)
 unfolding xor_blocks
 xor_blocks-bytes a b h k =
-    made_bytes 16 (λ i. bit_xor (slice_index a i) (slice_index b i)) (λ i. xor_lt 8 (slice_index a i) (slice_index b i) (h i) (k i))
+    made_bytes 16 (λ i. bit_xor (slice_index a i) (slice_index b i))
+    (λ i. xor_lt 8 (slice_index a i) (slice_index b i) (h i) (k i))
 
 pub IsBlock-xor_blocks : (a b : List ℕ) → IsBlock a → IsBlock b → IsBlock (xor_blocks a b)
 unfolding xor_blocks
@@ -79,13 +81,15 @@ inv_shift_rows-bytes s h =
 -- the byte of on_columns (circulant a b c d) s in a row and a column
 mixed : ℕ → ℕ → ℕ → ℕ → List ℕ → ℕ → ℕ → ℕ
 mixed a b c d s row col =
-    bit_xor (bit_xor (mul a (cell s row col)) (mul b (cell s ((row + 1) % 4) col))) (bit_xor (mul c (cell s ((row + 2) % 4) col)) (mul d (cell s ((row + 3) % 4) col)))
+    bit_xor (bit_xor (mul a (cell s row col)) (mul b (cell s ((row + 1) % 4) col)))
+    (bit_xor (mul c (cell s ((row + 2) % 4) col)) (mul d (cell s ((row + 3) % 4) col)))
 
 mixed-lt : (a b c d : ℕ) (s : List ℕ) → ReadsBytes s → (row col : ℕ) → mixed a b c d s row col < 256
 unfolding mixed
 mixed-lt a b c d s h row col =
     let byte = λ (k : ℕ) (r : ℕ). mul-lt k (cell s r col) (h (r + 4 * (col % 4))) in
-    xor_lt 8 _ _ (xor_lt 8 _ _ (byte a row) (byte b ((row + 1) % 4))) (xor_lt 8 _ _ (byte c ((row + 2) % 4)) (byte d ((row + 3) % 4)))
+    xor_lt 8 _ _ (xor_lt 8 _ _ (byte a row) (byte b ((row + 1) % 4)))
+    (xor_lt 8 _ _ (byte c ((row + 2) % 4)) (byte d ((row + 3) % 4)))
 
 on_columns-bytes : (a b c d : ℕ) (s : List ℕ) → ReadsBytes s → ReadsBytes (on_columns (circulant a b c d) s)
 unfolding circulant mixed
@@ -105,7 +109,8 @@ inv_mix_columns-bytes s h = on_columns-bytes 14 11 13 9 s h
 xor_words-bytes : (v w : List ℕ) → ReadsBytes v → ReadsBytes w → ReadsBytes (xor_words v w)
 unfolding xor_words
 xor_words-bytes v w h k =
-    made_bytes 4 (λ i. bit_xor (slice_index v i) (slice_index w i)) (λ i. xor_lt 8 (slice_index v i) (slice_index w i) (h i) (k i))
+    made_bytes 4 (λ i. bit_xor (slice_index v i) (slice_index w i))
+    (λ i. xor_lt 8 (slice_index v i) (slice_index w i) (h i) (k i))
 
 sub_word-bytes : (w : List ℕ) → ReadsBytes (sub_word w)
 unfolding sub_word
@@ -127,7 +132,9 @@ rcon-bytes i (suc (suc (suc (suc j)))) = lit< tt
 added_word-bytes : (i : ℕ) (w : List ℕ) → ReadsBytes w → ReadsBytes (added_word i w)
 unfolding added_word
 added_word-bytes i w h =
-    cond_both (i % 4 == 0) (xor_words (sub_word (rot_word w)) (rcon (i / 4))) w ReadsBytes (λ _. xor_words-bytes (sub_word (rot_word w)) (rcon (i / 4)) (sub_word-bytes (rot_word w)) (rcon-bytes (i / 4))) (λ _. h)
+    cond_both (i % 4 == 0) (xor_words (sub_word (rot_word w)) (rcon (i / 4))) w ReadsBytes
+    (λ _. xor_words-bytes (sub_word (rot_word w)) (rcon (i / 4)) (sub_word-bytes (rot_word w)) (rcon-bytes (i / 4)))
+    (λ _. h)
 
 word-bytes : (ws : List (List ℕ)) → All ReadsBytes ws → (i : ℕ) → ReadsBytes (word ws i)
 word-bytes ws h i =
@@ -139,36 +146,46 @@ word-bytes ws h i =
 next_word-bytes : (ws : List (List ℕ)) → All ReadsBytes ws → ReadsBytes (next_word ws)
 unfolding next_word
 next_word-bytes ws h =
-    xor_words-bytes (word ws (length ws - 4)) (added_word (length ws) (word ws (length ws - 1))) (word-bytes ws h (length ws - 4)) (added_word-bytes (length ws) (word ws (length ws - 1)) (word-bytes ws h (length ws - 1)))
+    xor_words-bytes (word ws (length ws - 4)) (added_word (length ws) (word ws (length ws - 1)))
+    (word-bytes ws h (length ws - 4))
+    (added_word-bytes (length ws) (word ws (length ws - 1)) (word-bytes ws h (length ws - 1)))
 
 words_up_to-bytes : (key : List ℕ) (n : ℕ) → ReadsBytes key → All ReadsBytes (words_up_to key n)
 unfolding words_up_to
 words_up_to-bytes key zero h =
-    λ k d l. rw (get_or-map-range_with_len (λ i. word_of (λ j. slice_index key (4 * i + j))) 0 4 k k d l (omega arith)) (made_bytes 4 (λ j. slice_index key (4 * k + j)) (λ j. h (4 * k + j)))
+    λ k d l. rw (get_or-map-range_with_len (λ i. word_of (λ j. slice_index key (4 * i + j))) 0 4 k k d l (omega arith))
+    (made_bytes 4 (λ j. slice_index key (4 * k + j)) (λ j. h (4 * k + j)))
 words_up_to-bytes key (suc n) h =
     let so_far = words_up_to-bytes key n h in
-    All-push ReadsBytes (words_up_to key n) (next_word (words_up_to key n)) so_far (next_word-bytes (words_up_to key n) so_far)
+    All-push ReadsBytes (words_up_to key n) (next_word (words_up_to key n)) so_far
+    (next_word-bytes (words_up_to key n) so_far)
 
 pub round_key-bytes : (key : List ℕ) (round : ℕ) → ReadsBytes key → ReadsBytes (round_key (key_words key) round)
 unfolding round_key key_words
 round_key-bytes key round h =
-    made_bytes 16 (λ i. slice_index (word (words_up_to key 40) (4 * round + i / 4)) (i % 4)) (λ i. word-bytes (words_up_to key 40) (words_up_to-bytes key 40 h) (4 * round + i / 4) (i % 4))
+    made_bytes 16 (λ i. slice_index (word (words_up_to key 40) (4 * round + i / 4)) (i % 4))
+    (λ i. word-bytes (words_up_to key 40) (words_up_to-bytes key 40 h) (4 * round + i / 4) (i % 4))
 
 -- ---- the cipher
 
-pub after_rounds-bytes : (key block : List ℕ) (n : ℕ) → ReadsBytes key → ReadsBytes block → ReadsBytes (after_rounds (key_words key) block n)
+pub after_rounds-bytes : (key block : List ℕ) (n : ℕ) → ReadsBytes key → ReadsBytes block
+    → ReadsBytes (after_rounds (key_words key) block n)
 unfolding after_rounds
-after_rounds-bytes key block zero k b = add_round_key-bytes (round_key (key_words key) 0) block (round_key-bytes key 0 k) b
+after_rounds-bytes key block zero k b =
+    add_round_key-bytes (round_key (key_words key) 0) block (round_key-bytes key 0 k) b
 after_rounds-bytes key block (suc n) k b =
     let words = key_words key in
     let s = shift_rows (sub_bytes (after_rounds words block n)) in
-    add_round_key-bytes (round_key words (suc n)) (mix_columns s) (round_key-bytes key (suc n) k) (mix_columns-bytes s (shift_rows-bytes (sub_bytes (after_rounds words block n)) (sub_bytes-bytes (after_rounds words block n))))
+    add_round_key-bytes (round_key words (suc n)) (mix_columns s) (round_key-bytes key (suc n) k)
+    (mix_columns-bytes s
+    (shift_rows-bytes (sub_bytes (after_rounds words block n)) (sub_bytes-bytes (after_rounds words block n))))
 
 enc-bytes : (key block : List ℕ) → ReadsBytes key → ReadsBytes (enc key block)
 unfolding enc cipher
 enc-bytes key block k =
     let s = after_rounds (key_words key) block 9 in
-    add_round_key-bytes (round_key (key_words key) 10) (shift_rows (sub_bytes s)) (round_key-bytes key 10 k) (shift_rows-bytes (sub_bytes s) (sub_bytes-bytes s))
+    add_round_key-bytes (round_key (key_words key) 10) (shift_rows (sub_bytes s)) (round_key-bytes key 10 k)
+    (shift_rows-bytes (sub_bytes s) (sub_bytes-bytes s))
 
 pub length-enc : (key block : List ℕ) → length (enc key block) ≡ 16
 unfolding enc cipher add_round_key xor_blocks
@@ -192,4 +209,6 @@ undone_rounds-bytes words block (suc n) = inv_sub_bytes-bytes _
 pub IsBlock-dec : (key block : List ℕ) → IsBlock key → IsBlock (dec key block)
 unfolding dec inverse_cipher add_round_key xor_blocks
 IsBlock-dec key block k =
-    IsBlock-from (dec key block) refl (add_round_key-bytes (round_key (key_words key) 0) (undone_rounds (key_words key) block 9) (round_key-bytes key 0 (IsBlock-bytes key k)) (undone_rounds-bytes (key_words key) block 9))
+    IsBlock-from (dec key block) refl
+    (add_round_key-bytes (round_key (key_words key) 0) (undone_rounds (key_words key) block 9)
+    (round_key-bytes key 0 (IsBlock-bytes key k)) (undone_rounds-bytes (key_words key) block 9))

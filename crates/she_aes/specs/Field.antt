@@ -39,7 +39,8 @@ byte_of_bits bit = sum_below 8 (λ i. bit i * 2 ^ i)
 -- bit i of the affine map of the S-box
 abbrev pub affine_bit : ℕ → ℕ → ℕ
 affine_bit b i =
-    (bit_at b i + bit_at b ((i + 4) % 8) + bit_at b ((i + 5) % 8) + bit_at b ((i + 6) % 8) + bit_at b ((i + 7) % 8) + bit_at 0x63 i) % 2
+    (bit_at b i + bit_at b ((i + 4) % 8) + bit_at b ((i + 5) % 8) + bit_at b ((i + 6) % 8) + bit_at b ((i + 7) % 8)
+    + bit_at 0x63 i) % 2
 
 -- the affine map of the S-box
 unfoldable pub affine : ℕ → ℕ

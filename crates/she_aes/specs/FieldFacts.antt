@@ -15,7 +15,9 @@ use Rattle.she_aes.specs.Field.{product, modulus, cancelled, remainder, mul, inv
 
 pub xor_swap : (a b c d : ℕ) → bit_xor (bit_xor a b) (bit_xor c d) ≡ bit_xor (bit_xor a c) (bit_xor b d)
 xor_swap a b c d =
-    xor_assoc a b (bit_xor c d) ∙ ap (λ t. bit_xor a t) (sym (xor_assoc b c d) ∙ ap (λ t. bit_xor t d) (xor_comm b c) ∙ xor_assoc c b d) ∙ sym (xor_assoc a c (bit_xor b d))
+    xor_assoc a b (bit_xor c d)
+    ∙ ap (λ t. bit_xor a t) (sym (xor_assoc b c d) ∙ ap (λ t. bit_xor t d) (xor_comm b c) ∙ xor_assoc c b d)
+    ∙ sym (xor_assoc a c (bit_xor b d))
 
 xor-mul_pow : (x y k : ℕ) → bit_xor (x * 2 ^ k) (y * 2 ^ k) ≡ bit_xor x y * 2 ^ k
 xor-mul_pow x y k = simp add-zero at (xor_block k x y 0 0 (pow_pos k) (pow_pos k))
@@ -62,23 +64,31 @@ bit-lt (suc (suc t)) x n h l = absurd (omega arith)
 
 -- ---- products are linear
 
-fold-xor : (f g h : ℕ → ℕ) → ((i : ℕ) → h i ≡ bit_xor (f i) (g i)) → (xs : List ℕ) (p q : ℕ) → fold bit_xor (bit_xor p q) (map h xs) ≡ bit_xor (fold bit_xor p (map f xs)) (fold bit_xor q (map g xs))
+fold-xor : (f g h : ℕ → ℕ) → ((i : ℕ) → h i ≡ bit_xor (f i) (g i)) → (xs : List ℕ) (p q : ℕ)
+    → fold bit_xor (bit_xor p q) (map h xs) ≡ bit_xor (fold bit_xor p (map f xs)) (fold bit_xor q (map g xs))
 fold-xor f g h each [] p q = refl
 fold-xor f g h each (x ∷ xs) p q =
-    ap (λ t. fold bit_xor t (map h xs)) (ap (λ t. bit_xor (bit_xor p q) t) (each x) ∙ xor_swap p q (f x) (g x)) ∙ fold-xor f g h each xs (bit_xor p (f x)) (bit_xor q (g x))
+    ap (λ t. fold bit_xor t (map h xs)) (ap (λ t. bit_xor (bit_xor p q) t) (each x) ∙ xor_swap p q (f x) (g x))
+    ∙ fold-xor f g h each xs (bit_xor p (f x)) (bit_xor q (g x))
 
 product-xor : (a x y : ℕ) → product a (bit_xor x y) ≡ bit_xor (product a x) (product a y)
 unfolding product
 product-xor a x y =
-    fold-xor (λ i. bit_at a i * (x * 2 ^ i)) (λ i. bit_at a i * (y * 2 ^ i)) (λ i. bit_at a i * (bit_xor x y * 2 ^ i)) (λ i. ap (λ t. bit_at a i * t) (sym (xor-mul_pow x y i)) ∙ bit-xor (bit_at a i) (x * 2 ^ i) (y * 2 ^ i) (bit_at-lt a i)) (range_with_len 0 8) 0 0
+    fold-xor (λ i. bit_at a i * (x * 2 ^ i)) (λ i. bit_at a i * (y * 2 ^ i)) (λ i. bit_at a i * (bit_xor x y * 2 ^ i))
+    (λ i. ap (λ t. bit_at a i * t) (sym (xor-mul_pow x y i))
+    ∙ bit-xor (bit_at a i) (x * 2 ^ i) (y * 2 ^ i) (bit_at-lt a i)) (range_with_len 0 8) 0 0
 
 cancelled-xor : (p q k : ℕ) → cancelled (bit_xor p q) k ≡ bit_xor (cancelled p k) (cancelled q k)
 unfolding cancelled
 cancelled-xor p q k =
     let m = modulus * 2 ^ k in
-    ap (λ t. bit_xor (bit_xor p q) (t * m)) (bit_at_xor p q (k + 8)) ∙ ap (λ t. bit_xor (bit_xor p q) t) (bits-mul (bit_at p (k + 8)) (bit_at q (k + 8)) m (bit_at-lt p (k + 8)) (bit_at-lt q (k + 8))) ∙ xor_swap p q (bit_at p (k + 8) * m) (bit_at q (k + 8) * m)
+    ap (λ t. bit_xor (bit_xor p q) (t * m)) (bit_at_xor p q (k + 8))
+    ∙ ap (λ t. bit_xor (bit_xor p q) t)
+    (bits-mul (bit_at p (k + 8)) (bit_at q (k + 8)) m (bit_at-lt p (k + 8)) (bit_at-lt q (k + 8)))
+    ∙ xor_swap p q (bit_at p (k + 8) * m) (bit_at q (k + 8) * m)
 
-fold-cancelled-xor : (ks : List ℕ) (p q : ℕ) → fold cancelled (bit_xor p q) ks ≡ bit_xor (fold cancelled p ks) (fold cancelled q ks)
+fold-cancelled-xor : (ks : List ℕ) (p q : ℕ)
+    → fold cancelled (bit_xor p q) ks ≡ bit_xor (fold cancelled p ks) (fold cancelled q ks)
 fold-cancelled-xor [] p q = refl
 fold-cancelled-xor (k ∷ ks) p q =
     ap (λ t. fold cancelled t ks) (cancelled-xor p q k) ∙ fold-cancelled-xor ks (cancelled p k) (cancelled q k)
@@ -91,15 +101,19 @@ mul-xor a x y =
 -- ---- products are bytes
 
 -- a sum of numbers below a power of 2 is below it
-sum_below-lt : (k : ℕ) (f : ℕ → ℕ) (a n start : ℕ) → start < 2 ^ k → ((i : ℕ) → i < a + n → f i < 2 ^ k) → fold bit_xor start (map f (range_with_len a n)) < 2 ^ k
+sum_below-lt : (k : ℕ) (f : ℕ → ℕ) (a n start : ℕ) → start < 2 ^ k → ((i : ℕ) → i < a + n → f i < 2 ^ k)
+    → fold bit_xor start (map f (range_with_len a n)) < 2 ^ k
 sum_below-lt k f a zero start h each = h
 sum_below-lt k f a (suc n) start h each =
-    sum_below-lt k f (a + 1) n (bit_xor start (f a)) (xor_lt k start (f a) h (each a (omega arith))) (λ i l. each i (omega arith))
+    sum_below-lt k f (a + 1) n (bit_xor start (f a)) (xor_lt k start (f a) h (each a (omega arith)))
+    (λ i l. each i (omega arith))
 
 product-lt : (a b : ℕ) → b < 256 → product a b < 2 ^ 15
 unfolding product
 product-lt a b h =
-    sum_below-lt 15 (λ i. bit_at a i * (b * 2 ^ i)) 0 8 0 (pow_pos 15) (λ i l. bit-lt (bit_at a i) (b * 2 ^ i) (2 ^ 15) (bit_at-lt a i) (lt_of_lt_of_le (shl_below b 8 i h) (pow_mono {i = 8 + i} {j = 15} (omega arith))))
+    sum_below-lt 15 (λ i. bit_at a i * (b * 2 ^ i)) 0 8 0 (pow_pos 15)
+    (λ i l. bit-lt (bit_at a i) (b * 2 ^ i) (2 ^ 15) (bit_at-lt a i)
+    (lt_of_lt_of_le (shl_below b 8 i h) (pow_mono {i = 8 + i} {j = 15} (omega arith))))
 
 -- the step of the division, where j is the place of the term that is cancelled
 step-lt : (j hi lo r : ℕ) → hi < 2 → lo < 2 ^ j → r < 2 ^ j → bit_xor (hi * 2 ^ j + lo) (hi * (2 ^ j + r)) < 2 ^ j
@@ -131,7 +145,9 @@ cancelled-lt p k h =
 remainder-lt : (p : ℕ) → p < 2 ^ 15 → remainder p < 2 ^ 8
 unfolding remainder
 remainder-lt p h =
-    cancelled-lt _ 0 (cancelled-lt _ 1 (cancelled-lt _ 2 (cancelled-lt _ 3 (cancelled-lt _ 4 (cancelled-lt _ 5 (cancelled-lt p 6 h))))))
+    cancelled-lt _ 0
+    (cancelled-lt _ 1
+    (cancelled-lt _ 2 (cancelled-lt _ 3 (cancelled-lt _ 4 (cancelled-lt _ 5 (cancelled-lt p 6 h))))))
 
 pub mul-lt : (a b : ℕ) → b < 256 → mul a b < 256
 unfolding mul
@@ -142,12 +158,14 @@ mul-lt a b h = remainder-lt (product a b) (product-lt a b h)
 pub affine-lt : (b : ℕ) → affine b < 256
 unfolding affine
 affine-lt b =
-    sum_below-lt 8 (λ i. affine_bit b i * 2 ^ i) 0 8 0 (pow_pos 8) (λ i l. bit-lt (affine_bit b i) (2 ^ i) (2 ^ 8) (mod_below _ 2 (lit< tt)) (pow_below i 8 l))
+    sum_below-lt 8 (λ i. affine_bit b i * 2 ^ i) 0 8 0 (pow_pos 8)
+    (λ i l. bit-lt (affine_bit b i) (2 ^ i) (2 ^ 8) (mod_below _ 2 (lit< tt)) (pow_below i 8 l))
 
 pub inv_affine-lt : (b : ℕ) → inv_affine b < 256
 unfolding inv_affine
 inv_affine-lt b =
-    sum_below-lt 8 (λ i. inv_affine_bit b i * 2 ^ i) 0 8 0 (pow_pos 8) (λ i l. bit-lt (inv_affine_bit b i) (2 ^ i) (2 ^ 8) (mod_below _ 2 (lit< tt)) (pow_below i 8 l))
+    sum_below-lt 8 (λ i. inv_affine_bit b i * 2 ^ i) 0 8 0 (pow_pos 8)
+    (λ i l. bit-lt (inv_affine_bit b i) (2 ^ i) (2 ^ 8) (mod_below _ 2 (lit< tt)) (pow_below i 8 l))
 
 pub sub_byte-lt : (a : ℕ) → sub_byte a < 256
 unfolding sub_byte
@@ -158,7 +176,8 @@ sub_byte-lt a = affine-lt (inv a)
 found-lt : (n : ℕ) (p : ℕ → Bool) (xs : List ℕ) → 0 < n → All (λ b. b < n) xs → unwrap_or (find p xs) 0 < n
 found-lt n p [] pos below = pos
 found-lt n p (x ∷ xs) pos below =
-    cond_both (p x) (Some x) (find p xs) (λ o. unwrap_or o 0 < n) (λ _. below 0 0 (omega arith)) (λ _. found-lt n p xs pos (λ k d h. below (suc k) d (omega arith)))
+    cond_both (p x) (Some x) (find p xs) (λ o. unwrap_or o 0 < n) (λ _. below 0 0 (omega arith))
+    (λ _. found-lt n p xs pos (λ k d h. below (suc k) d (omega arith)))
 
 range-lt : (n : ℕ) → All (λ b. b < n) (range_with_len 0 n)
 range-lt n k d h =

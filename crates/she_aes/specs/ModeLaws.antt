@@ -11,9 +11,11 @@ use Rattle.she_aes.specs.Modes.{ecb, ecb_inverse, cbc, cbc_inverse}
 
 -- ---- the exclusive or
 
-pub get_or-xor_blocks : (a b : List ℕ) (i d : ℕ) → i < 16 → get_or (xor_blocks a b) i d ≡ bit_xor (get_or a i 0) (get_or b i 0)
+pub get_or-xor_blocks : (a b : List ℕ) (i d : ℕ) → i < 16
+    → get_or (xor_blocks a b) i d ≡ bit_xor (get_or a i 0) (get_or b i 0)
 unfolding xor_blocks
-get_or-xor_blocks a b i d within = get_or-map-range_with_len (λ k. bit_xor (slice_index a k) (slice_index b k)) 0 16 i i d within (omega arith)
+get_or-xor_blocks a b i d within =
+    get_or-map-range_with_len (λ k. bit_xor (slice_index a k) (slice_index b k)) 0 16 i i d within (omega arith)
 
 -- ---- ECB
 
@@ -33,7 +35,8 @@ All-ecb key (x ∷ xs) k = All-cons IsBlock (enc key x) (ecb key xs) (IsBlock-en
 pub All-ecb_inverse : (key : List ℕ) (text : List (List ℕ)) → IsBlock key → All IsBlock (ecb_inverse key text)
 unfolding ecb_inverse
 All-ecb_inverse key [] k = All-nil IsBlock
-All-ecb_inverse key (x ∷ xs) k = All-cons IsBlock (dec key x) (ecb_inverse key xs) (IsBlock-dec key x k) (All-ecb_inverse key xs k)
+All-ecb_inverse key (x ∷ xs) k =
+    All-cons IsBlock (dec key x) (ecb_inverse key xs) (IsBlock-dec key x k) (All-ecb_inverse key xs k)
 
 -- ---- CBC
 
@@ -55,9 +58,12 @@ All-cbc key iv (x ∷ xs) k =
     let is_block = IsBlock-enc key (xor_blocks x iv) k in
     All-cons IsBlock cipher (cbc key cipher xs) is_block (All-cbc key cipher xs k)
 
-pub All-cbc_inverse : (key iv : List ℕ) (text : List (List ℕ)) → IsBlock key → IsBlock iv → All IsBlock text → All IsBlock (cbc_inverse key iv text)
+pub All-cbc_inverse : (key iv : List ℕ) (text : List (List ℕ)) → IsBlock key → IsBlock iv → All IsBlock text
+    → All IsBlock (cbc_inverse key iv text)
 unfolding cbc_inverse
 All-cbc_inverse key iv [] k i all = All-nil IsBlock
 All-cbc_inverse key iv (x ∷ xs) k i all =
     let head = All-head IsBlock x xs all in
-    All-cons IsBlock (xor_blocks (dec key x) iv) (cbc_inverse key x xs) (IsBlock-xor_blocks (dec key x) iv (IsBlock-dec key x k) i) (All-cbc_inverse key x xs k head (All-tail IsBlock x xs all))
+    All-cons IsBlock (xor_blocks (dec key x) iv) (cbc_inverse key x xs)
+    (IsBlock-xor_blocks (dec key x) iv (IsBlock-dec key x k) i)
+    (All-cbc_inverse key x xs k head (All-tail IsBlock x xs all))

@@ -43,7 +43,8 @@ fn shift_rows(state: u8x16) -> u8x16
 // MixColumns in pairs, of a state that comes once and doubled.
 #[inline(always)]
 fn mix_columns(once: u8x16, doubled: u8x16) -> u8x16
-    ensures { (s : List ℕ) → IsBlock s → once ≡ in_pairs s → doubled ≡ in_pairs (map (mul 2) s) → result ≡ in_pairs (mix_columns s) }
+    ensures { (s : List ℕ) → IsBlock s → once ≡ in_pairs s → doubled ≡ in_pairs (map (mul 2) s)
+        → result ≡ in_pairs (mix_columns s) }
 {
     let below = once.swizzle([1, 2, 3, 0, 5, 6, 7, 4, 9, 10, 11, 8, 13, 14, 15, 12]);
     let above = once.swizzle([3, 0, 1, 2, 7, 4, 5, 6, 11, 8, 9, 10, 15, 12, 13, 14]);

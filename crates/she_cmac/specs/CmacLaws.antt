@@ -7,7 +7,8 @@ use Rattle.she_aes.specs.CipherFacts.{length-enc, IsBlock-enc}
 use Rattle.she_cmac.specs.Cmac.{front_blocks, last_piece, last_block, chained, cmac}
 
 -- a CMAC is the last encrypted block
-pub cmac_is : (key message : List ℕ) → cmac key message ≡ enc key (xor_blocks (chained key (front_blocks message)) (last_block key (last_piece message)))
+pub cmac_is : (key message : List ℕ)
+    → cmac key message ≡ enc key (xor_blocks (chained key (front_blocks message)) (last_block key (last_piece message)))
 unfolding cmac chained
 cmac_is key message =
     let next : List ℕ → List ℕ → List ℕ = λ c x. enc key (xor_blocks c x) in

@@ -92,7 +92,8 @@ fn parts(cell: &[u8; 32]) -> Option<Slot>
 /// The same of a filled slot.
 fn filled_parts(cell: &[u8; 32]) -> Option<Slot>
     ensures slot { IfSome result IsSlot }
-    ensures whole { (key : List ℕ) (counter : ℕ) (flags : Flags) → HoldsSlot cell.now (Slot.Filled key counter flags) → result ≡ Some (Slot.Filled key counter flags) }
+    ensures whole { (key : List ℕ) (counter : ℕ) (flags : Flags) → HoldsSlot cell.now (Slot.Filled key counter flags)
+        → result ≡ Some (Slot.Filled key counter flags) }
 {
     let [_, number, a, b, c, d, ..] = *cell;
     if number > 31 {

@@ -13,5 +13,6 @@ pub fn a_slot_has_a_cell_of_32_bytes()
 /// A cell is the cell of at most one slot, and fourteen cells are those of at most one list of slots.
 pub fn a_cell_is_one_slot()
     ensures cell { (cell : List ℕ) (slot other : Slot) → HoldsSlot cell slot → HoldsSlot cell other → slot ≡ other }
-    ensures cells { (cells : List (List ℕ)) (slots others : List Slot) → HoldSlots cells slots → HoldSlots cells others → slots ≡ others }
+    ensures cells { (cells : List (List ℕ)) (slots others : List Slot) → HoldSlots cells slots → HoldSlots cells others
+        → slots ≡ others }
 {}

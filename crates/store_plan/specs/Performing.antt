@@ -13,7 +13,8 @@ use Rattle.store_plan.specs.Plans.{PlansPut, WritesAt, CutWithin, applied, appli
 -- the write is done, and durable
 pub record WriteDone (w : Write) (old new : Option Told) : Type 0 where
   pub none : w.size ≡ 0 → new ≡ old
-  pub lasts : (at : ℕ) (new-bytes : List ℕ) → 0 < length new-bytes → WritesAt w at new-bytes → Lasts at new-bytes old new
+  pub lasts : (at : ℕ) (new-bytes : List ℕ) → 0 < length new-bytes → WritesAt w at new-bytes
+      → Lasts at new-bytes old new
 
 -- it failed
 pub record WriteTorn (w : Write) (old new : Option Told) : Type 0 where

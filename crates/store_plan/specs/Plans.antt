@@ -61,7 +61,9 @@ pub record PlansPut (plan : Plan) (x : List ℕ) (i : ℕ) (c : List ℕ) : Type
 
 -- what the writes of a plan make of x
 abbrev pub applied : Plan → List ℕ → List ℕ
-applied plan x = splice plan.third.offset (bytes_written plan.third) (splice plan.second.offset (bytes_written plan.second) (splice plan.first.offset (bytes_written plan.first) x))
+applied plan x =
+    splice plan.third.offset (bytes_written plan.third)
+    (splice plan.second.offset (bytes_written plan.second) (splice plan.first.offset (bytes_written plan.first) x))
 
 -- what one write makes of x
 abbrev pub applied_write : Write → List ℕ → List ℕ
@@ -72,7 +74,8 @@ applied_write w x = splice w.offset (bytes_written w) x
 pub data CutWithin (plan : Plan) (x y : List ℕ) : Type 0 where
   in_first : SameOutside plan.first.offset plan.first.size x y → CutWithin plan x y
   in_second : SameOutside plan.second.offset plan.second.size (applied_write plan.first x) y → CutWithin plan x y
-  in_third : SameOutside plan.third.offset plan.third.size (applied_write plan.second (applied_write plan.first x)) y → CutWithin plan x y
+  in_third : SameOutside plan.third.offset plan.third.size (applied_write plan.second (applied_write plan.first x)) y
+      → CutWithin plan x y
 
 -- no write of a plan has a byte
 pub record IsEmptyPlan (plan : Plan) : Type 0 where

@@ -70,7 +70,8 @@ arms_later mark = not (arms_nothing (option_to_list mark))
 pub record FailuresTold {C L T : Type 0} (mark : C → Option Mark) (fails : C → L → Bool)
     (moments : List (Moment C L T)) (before after : DiskState) : Type 0 where
   pub later : before.faults ≤ after.faults
-  pub within : (before.faults + count_by (λ m. fails m.command m.line) moments ≤ after.faults) ⊎ (last_count ≤ after.faults)
+  pub within : (before.faults + count_by (λ m. fails m.command m.line) moments ≤ after.faults)
+      ⊎ (last_count ≤ after.faults)
   pub quiet : IsQuiet before → (front rest : List (Moment C L T)) (m : Moment C L T) → moments ≡ front ++ m ∷ rest
       → count_by (λ n. arms_later (mark n.command)) (front ++ m ∷ []) ≡ 0 → fails m.command m.line ≡ false
   pub still : IsQuiet before → count_by (λ n. arms_later (mark n.command)) moments ≡ 0 → StaysQuiet before after

@@ -13,7 +13,8 @@ use Rattle.cell_store.proofs.CellsLaws.{settled_tells}
 use Rattle.store_runs.specs.Keeping.{Keeping, MayKeep, StandsForKept, Fits, put_failed, stays_down, FitsStore, TellsKept, HoldsKept}
 
 -- bytes were told before, where they are told after
-pub told_before : (old new : Option Told) → is_some new ≡ is_some old → (t : Told) → new ≡ Some t → (u : Told) × (old ≡ Some u)
+pub told_before : (old new : Option Told) → is_some new ≡ is_some old → (t : Told) → new ≡ Some t
+    → (u : Told) × (old ≡ Some u)
 told_before None new same t is = let e : true ≡ false = sym (ap is_some is) ∙ same in absurd (true≢false e)
 told_before (Some u) new same t is = (u, refl)
 
@@ -28,14 +29,17 @@ firm_fits layout keeping told bytes is stands = record {
 }
 
 -- what the list that is kept stands for
-pub kept_stands : (layout : Layout) (keeping : Keeping) (x : List ℕ) → Stands layout x keeping.cells → StandsForKept layout keeping x
+pub kept_stands : (layout : Layout) (keeping : Keeping) (x : List ℕ) → Stands layout x keeping.cells
+    → StandsForKept layout keeping x
 kept_stands layout keeping x stands = record { cells = keeping.cells; kept = inl refl; stands = stands }
 
 -- a settled store fits what it holds
-pub fits_settled : (keeping : Keeping) (store : CellsState) → Settled store → store.cells ≡ keeping.cells → FitsStore keeping store
+pub fits_settled : (keeping : Keeping) (store : CellsState) → Settled store → store.cells ≡ keeping.cells
+    → FitsStore keeping store
 fits_settled keeping store settled cells told is =
     firm_fits store.layout keeping told settled.bytes (same_Some told (firm settled.bytes) (sym is ∙ settled.told))
-    (kept_stands store.layout keeping settled.bytes (subst (λ (c : List (List ℕ)). Stands store.layout settled.bytes c) cells settled.stands))
+    (kept_stands store.layout keeping settled.bytes
+    (subst (λ (c : List (List ℕ)). Stands store.layout settled.bytes c) cells settled.stands))
 
 -- a disk that tells bytes that fit fits
 pub fits_store : (keeping : Keeping) (store : CellsState) → TellsKept keeping store → FitsStore keeping store
@@ -43,16 +47,19 @@ fits_store keeping store fits = λ told is.
     subst (λ (t : Told). Fits store.layout keeping t) (same_Some fits.now told (sym fits.told ∙ is)) fits.fits
 
 -- and one that fits tells bytes that do, where it tells any
-pub tells_kept : (keeping : Keeping) (store : CellsState) → FitsStore keeping store → (t : Told) → store.disk.told ≡ Some t → TellsKept keeping store
+pub tells_kept : (keeping : Keeping) (store : CellsState) → FitsStore keeping store → (t : Told)
+    → store.disk.told ≡ Some t → TellsKept keeping store
 tells_kept keeping store fits t told = record { now = t; told = told; fits = fits t told }
 
 -- a list that may be there is the one that is kept, where nothing is pending
-pub only_kept : (keeping : Keeping) (cells : List (List ℕ)) → keeping.pending ≡ None → MayKeep keeping cells → cells ≡ keeping.cells
+pub only_kept : (keeping : Keeping) (cells : List (List ℕ)) → keeping.pending ≡ None → MayKeep keeping cells
+    → cells ≡ keeping.cells
 only_kept keeping cells none (inl same) = same
 only_kept keeping cells none (inr pending) = absurd (none-some cells (sym none ∙ pending))
 
 -- the store of an owner that is up is settled, where its disk tells and fits
-pub settled_of : (keeping : Keeping) (store : CellsState) → FitsStore keeping store → keeping.up ≡ true → keeping.pending ≡ None
+pub settled_of : (keeping : Keeping) (store : CellsState) → FitsStore keeping store → keeping.up ≡ true
+    → keeping.pending ≡ None
     → HoldsKept keeping store → (t : Told) → store.disk.told ≡ Some t → Settled store
 settled_of keeping store fits up none holds t told =
     let f = fits t told in
@@ -68,7 +75,8 @@ settled_of keeping store fits up none holds t told =
 -- ---- puts
 
 module _ (keeping : Keeping) (old new : CellsState) (i : ℕ) (c : List ℕ)
-    (fits : FitsStore keeping old) (up : keeping.up ≡ true) (none : keeping.pending ≡ None) (holds : HoldsKept keeping old) where
+    (fits : FitsStore keeping old) (up : keeping.up ≡ true) (none : keeping.pending ≡ None)
+    (holds : HoldsKept keeping old) where
   -- a put that was done leaves a disk that fits what the store then holds
   pub fits_put : (later : Keeping) → Puts i c old new → new.cells ≡ later.cells → FitsStore later new
   fits_put later puts cells told is =
@@ -77,7 +85,8 @@ module _ (keeping : Keeping) (old new : CellsState) (i : ℕ) (c : List ℕ)
       fits_settled later new settled cells told is
 
   -- one that failed leaves a disk on which the change is pending
-  pub fits_failed_put : (cells : List (List ℕ)) → FailsPut i c old new → cells ≡ set keeping.cells i c → FitsStore (put_failed cells keeping) new
+  pub fits_failed_put : (cells : List (List ℕ)) → FailsPut i c old new → cells ≡ set keeping.cells i c
+      → FitsStore (put_failed cells keeping) new
   fits_failed_put cells fails made told is =
       let was = told_before old.disk.told new.disk.told fails.runs.tells told is in
       let settled = settled_of keeping old fits up none holds was.0 was.1 in
@@ -93,7 +102,8 @@ module _ (keeping : Keeping) (old new : CellsState) (i : ℕ) (c : List ℕ)
             cells = cells;
             kept = inr refl;
             stands = subst (λ (layout : Layout). Stands layout x cells) (sym fails.layout)
-                (subst (λ (l : List (List ℕ)). Stands old.layout x l) (ap (λ (l : List (List ℕ)). set l i c) holds.cells ∙ sym made) stands);
+                (subst (λ (l : List (List ℕ)). Stands old.layout x l)
+                (ap (λ (l : List (List ℕ)). set l i c) holds.cells ∙ sym made) stands);
           }
         ];
         firm_up = λ up. absurd (true≢false (sym up));
@@ -102,16 +112,19 @@ module _ (keeping : Keeping) (old new : CellsState) (i : ℕ) (c : List ℕ)
 -- ---- power cuts
 
 -- what is read anew after a cut is a list that may be there
-pub found_kept : (keeping : Keeping) (old new : CellsState) → TellsKept keeping old → CutsTo old.disk.told new.disk.told → StandsNow new
+pub found_kept : (keeping : Keeping) (old new : CellsState) → TellsKept keeping old → CutsTo old.disk.told new.disk.told
+    → StandsNow new
     → new.layout ≡ old.layout → MayKeep keeping new.cells
 found_kept keeping old new fitting cuts now layout =
     let left = cuts fitting.now fitting.told in
-    let mine : Stands old.layout left.left new.cells = subst (λ (l : Layout). Stands l left.left new.cells) layout (now (firm left.left) left.now) in
+    let mine : Stands old.layout left.left new.cells =
+    subst (λ (l : Layout). Stands l left.left new.cells) layout (now (firm left.left) left.now) in
     let found = fitting.fits.images left.left left.image in
     subst (MayKeep keeping) (stands_once old.layout left.left found.cells new.cells found.stands mine) found.kept
 
 -- each image stands for a list of the store's number of cells, where each list that may be there has it
-pub each_stands : (keeping : Keeping) (store : CellsState) → ((cells : List (List ℕ)) → MayKeep keeping cells → length cells ≡ length store.cells)
+pub each_stands : (keeping : Keeping) (store : CellsState)
+    → ((cells : List (List ℕ)) → MayKeep keeping cells → length cells ≡ length store.cells)
     → TellsKept keeping store → EachImageStands store
 each_stands keeping store count fitting = record {
   told = fitting.now;
@@ -124,23 +137,27 @@ each_stands keeping store count fitting = record {
 }
 
 -- after a cut that was refused the disk fits what it fitted
-pub fits_refused : (keeping : Keeping) (old new : CellsState) → FitsStore keeping old → CutsTo old.disk.told new.disk.told
+pub fits_refused : (keeping : Keeping) (old new : CellsState) → FitsStore keeping old
+    → CutsTo old.disk.told new.disk.told
     → is_some new.disk.told ≡ is_some old.disk.told → new.layout ≡ old.layout → FitsStore (stays_down keeping) new
 fits_refused keeping old new fits cuts tells layout told is =
     let was = told_before old.disk.told new.disk.told tells told is in
     let left = cuts was.0 was.1 in
     let stands = (fits was.0 was.1).images left.left left.image in
-    firm_fits new.layout (stays_down keeping) told left.left (same_Some told (firm left.left) (sym is ∙ left.now)) (record {
+    firm_fits new.layout (stays_down keeping) told left.left (same_Some told (firm left.left) (sym is ∙ left.now))
+    (record {
       cells = stands.cells;
       kept = stands.kept;
       stands = subst (λ (l : Layout). Stands l left.left stands.cells) (sym layout) stands.stands;
     })
 
 -- after one that was done it fits what was found
-pub fits_up : (keeping : Keeping) (old new : CellsState) → CutsTo old.disk.told new.disk.told → is_some new.disk.told ≡ is_some old.disk.told
+pub fits_up : (keeping : Keeping) (old new : CellsState) → CutsTo old.disk.told new.disk.told
+    → is_some new.disk.told ≡ is_some old.disk.told
     → StandsNow new → new.cells ≡ keeping.cells → FitsStore keeping new
 fits_up keeping old new cuts tells now cells told is =
     let was = told_before old.disk.told new.disk.told tells told is in
     let left = cuts was.0 was.1 in
     firm_fits new.layout keeping told left.left (same_Some told (firm left.left) (sym is ∙ left.now))
-    (kept_stands new.layout keeping left.left (subst (λ (c : List (List ℕ)). Stands new.layout left.left c) cells (now (firm left.left) left.now)))
+    (kept_stands new.layout keeping left.left
+    (subst (λ (c : List (List ℕ)). Stands new.layout left.left c) cells (now (firm left.left) left.now)))

@@ -12,20 +12,23 @@ pub fn settled_store_fits_what_it_holds()
 
 /// While its owner is up, a store whose disk tells its bytes and fits is settled.
 pub fn store_that_fits_is_settled_while_its_owner_is_up()
-    ensures { (keeping : Keeping) (store : CellsState) → TellsKept keeping store → keeping.up ≡ true → keeping.pending ≡ None
+    ensures { (keeping : Keeping) (store : CellsState) → TellsKept keeping store → keeping.up ≡ true
+        → keeping.pending ≡ None
         → HoldsKept keeping store → Settled store }
 {}
 
 /// A put that was done leaves a disk that fits the list with the cell.
 pub fn put_leaves_what_is_kept()
-    ensures { (keeping : Keeping) (old new : CellsState) (i : ℕ) (c : List ℕ) → FitsStore keeping old → keeping.up ≡ true
+    ensures { (keeping : Keeping) (old new : CellsState) (i : ℕ) (c : List ℕ) → FitsStore keeping old
+        → keeping.up ≡ true
         → keeping.pending ≡ None → HoldsKept keeping old → Puts i c old new
         → FitsStore (keeps_cells (set keeping.cells i c)) new × HoldsKept (keeps_cells (set keeping.cells i c)) new }
 {}
 
 /// A put that failed leaves a disk that fits the old list, with the new one pending.
 pub fn failed_put_leaves_its_change_pending()
-    ensures { (keeping : Keeping) (old new : CellsState) (i : ℕ) (c : List ℕ) → FitsStore keeping old → keeping.up ≡ true
+    ensures { (keeping : Keeping) (old new : CellsState) (i : ℕ) (c : List ℕ) → FitsStore keeping old
+        → keeping.up ≡ true
         → keeping.pending ≡ None → HoldsKept keeping old → FailsPut i c old new
         → FitsStore (put_failed (set keeping.cells i c) keeping) new }
 {}
@@ -38,7 +41,8 @@ pub fn cut_finds_what_may_be_kept()
 
 /// A store that was read anew after a power cut has a disk that fits what was found.
 pub fn store_that_was_read_anew_fits_what_it_holds()
-    ensures { (old new : CellsState) → CutsTo old.disk.told new.disk.told → is_some new.disk.told ≡ is_some old.disk.told
+    ensures { (old new : CellsState) → CutsTo old.disk.told new.disk.told
+        → is_some new.disk.told ≡ is_some old.disk.told
         → StandsNow new → FitsStore (keeps_cells new.cells) new }
 {}
 

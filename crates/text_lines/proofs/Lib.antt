@@ -1,9 +1,7 @@
-pub mod BigEndian
 pub mod Cuts
 pub mod Digits
 pub mod FirstFault
 pub mod Folds
-pub mod Identifiers
 pub mod Numbers
 pub mod Pieces
 pub mod Results
@@ -12,5 +10,5 @@ pub mod Sizes
 pub mod Stops
 pub mod Unplaced
 pub mod Values
-pub mod WrittenKinds
+pub mod WrittenDigits
 pub mod WrittenLines

@@ -1,22 +1,18 @@
 -- How many bytes a form of hexadecimal digits gives.
-use Rattle.std.proofs.Common.{◌≡◌, ℕ, ◌+◌, ◌*◌, ◌<◌, ◌≤◌, true, List, [], ◌∷◌, ◌++◌, length, Some, Result, Ok, Err, refl, ap, subst, arith}
-use Rattle.std.specs.Prelude.{All, IfOk, ◌/◌, ◌%◌, ◌==◌, ◌&&◌, nat_le, Vec}
+use Rattle.std.proofs.Common.{◌≡◌, ℕ, ◌+◌, ◌*◌, ◌≤◌, true, List, [], ◌∷◌, ◌++◌, length, Some, Result, Ok, Err, refl, ap, subst, arith}
+use Rattle.std.specs.Prelude.{All, ◌/◌, ◌%◌, ◌==◌, ◌&&◌, nat_le}
 use Rattle.std.specs.Result.{result_ok}
-use Rattle.std.specs.declared.alloc.Global.{Global}
 use Rattle.std.proofs.lemmas.Bool.{and_parts}
-use Rattle.std.proofs.lemmas.List.Elements.{All-nil, All-push}
+use Rattle.std.proofs.lemmas.List.Elements.{All-push}
 use Rattle.hex.specs.Hex.{decode_of, decode_pairs, pair_value}
 use Rattle.hex.specs.Hex as hex
 use Rattle.hex.specs.declared.error.FromHexError.{FromHexError}
 use Rattle.hex.specs.declared.error.FromHexError.TheVariants.{OddLength}
 use Rattle.text_lines.specs.declared.fault.Cause.{Cause}
-use Rattle.text_lines.specs.declared.fault.ScriptFault.{ScriptFault}
-use Rattle.text_lines.specs.declared.frames.FrameLine.{FrameLine}
-use Rattle.text_lines.specs.Forms.{key_form, data_id_form, fresh_form, hex_bytes_form}
-use Rattle.text_lines.specs.Frames.{frame_of, frames_of, most_lines}
-use Rattle.text_lines.specs.Lines.{TextLine, lines_of}
-use Rattle.text_lines.specs.Readings.{nth_word, field, at_line, limited, read_from, Gives}
-use Rattle.text_lines.proofs.Results.{bind_ok, ok_some, field_ok, chosen_ok, chosen_some, counted_ok, at_line_ok, limited_ok}
+use Rattle.text_lines.specs.Forms.{hex_bytes_form}
+use Rattle.text_lines.specs.Readings.{at_line, limited, read_from}
+use Rattle.text_lines.specs.Lines.{TextLine}
+use Rattle.text_lines.proofs.Results.{bind_ok, ok_some, chosen_ok, chosen_some, at_line_ok, limited_ok}
 
 -- what an `Ok` behind a step of `hex` shows
 hex_ok : {A B : Type 0} (r : Result A FromHexError) (f : A → Result B FromHexError) (y : B) → hex.◌>>=◌ r f ≡ Ok y → (x : A) × (r ≡ Ok x) × (f x ≡ Ok y)
@@ -48,23 +44,6 @@ hex_bytes_form-sizes least most word bytes h =
     let pairs = length-decode_pairs 0 word bytes (chosen_ok (length word % 2 == 1) OddLength (decode_pairs 0 word) bytes (ok_some (decode_of word) bytes chosen.1)).1 in
     within_bounds least most (length word) (length bytes) chosen.0 pairs
 
--- 1 to 60 bytes
-abbrev pub IsSized : FrameLine → Type 0
-IsSized line = (0 < length line.payload) × (length line.payload ≤ 60)
-
--- a frame line's payload
-frame_of-sizes : (words : List (List ℕ)) (line : FrameLine) → frame_of words ≡ Ok line → IsSized line
-unfolding frame_of
-frame_of-sizes words line h =
-    let fields = counted_ok (length words == 4) _ line h in
-    let key = bind_ok (field 1 (key_form (nth_word words 1))) _ line fields in
-    let id = bind_ok (field 2 (data_id_form (nth_word words 2))) _ line key.2 in
-    let fresh = bind_ok (field 3 (fresh_form (nth_word words 3))) _ line id.2 in
-    let payload = bind_ok (field 4 (hex_bytes_form 1 60 (nth_word words 4))) _ line fresh.2 in
-    let same : payload.0 ≡ line.payload = cc payload.2 in
-    let sizes = hex_bytes_form-sizes 1 60 (nth_word words 4) payload.0 (field_ok 4 (hex_bytes_form 1 60 (nth_word words 4)) payload.0 payload.1) in
-    rw (← same) (omega arith, sizes.1)
-
 -- what holds of each line's value holds of all that is read
 pub All-read_from : {A : Type 0} (P : A → Type 0) (means : List A → List (List ℕ) → Result A Cause)
     → ((seen : List A) (words : List (List ℕ)) (x : A) → means seen words ≡ Ok x → P x)
@@ -76,14 +55,3 @@ All-read_from P means holds most seen (line ∷ lines) xs before h =
     let value = first.0 in
     let one = limited_ok most (length seen) (means seen line.words) value (at_line_ok line.number _ value first.1) in
     All-read_from P means holds most (seen ++ value ∷ []) lines xs (All-push P seen value before (holds seen line.words value one.1)) first.2
-
--- the payloads of the frames that a text has
-frames_of-sizes : (text : List ℕ) (lines : List FrameLine) → frames_of text ≡ Ok lines → All IsSized lines
-unfolding frames_of
-frames_of-sizes text lines h =
-    All-read_from IsSized (λ _ words. frame_of words) (λ seen words x e. frame_of-sizes words x e) most_lines [] (lines_of text) lines (All-nil IsSized) h
-
--- and of the answer that gives them
-pub sizes_from_gives : (text : List ℕ) (r : Result (Vec FrameLine Global) ScriptFault) → Gives (frames_of text) r → IfOk r (λ v. All IsSized v.items)
-sizes_from_gives text (Ok v) h = frames_of-sizes text v.items h
-sizes_from_gives text (Err fault) h = tt

@@ -1,37 +1,15 @@
 -- What a word of a line means by its form: the value, or none where it isn't of the form.
-use Rattle.std.specs.Prelude.{ℕ, ◌/◌, ◌==◌, ◌&&◌, ◌||◌, not, nat_lt, nat_le, Bool, if◌then◌else◌, List, [], ◌∷◌, length, take, drop, slice_index, Option, Some, None, option_map}
+use Rattle.std.specs.Prelude.{ℕ, ◌/◌, ◌==◌, ◌&&◌, ◌||◌, not, nat_lt, nat_le, Bool, if◌then◌else◌, List, [], ◌∷◌, length, slice_index, Option, Some, None}
 use Rattle.std.specs.List.{list_all}
 use Rattle.std.specs.Result.{result_ok}
 use Rattle.std.specs.Str.Parse.{digits_value}
 use Rattle.std.specs.Char.{is_ascii_digit}
-use Rattle.byte_lists.specs.Numbers.{number_of}
-use Rattle.hex.specs.Hex.{decode_of, decode_sized}
-
--- KEY, M1, M3, M5: 32 hexadecimal digits of either case
-unfoldable pub key_form : List ℕ → Option (List ℕ)
-key_form word = result_ok (decode_sized word 16)
-
--- two blocks, if each is one
-abbrev pub both : Option (List ℕ) → Option (List ℕ) → Option (List (List ℕ))
-both (Some first) (Some second) = Some (first ∷ second ∷ [])
-both (Some first) None = None
-both None _ = None
-
--- M2, M4: 64 hexadecimal digits, two blocks one behind the other
-unfoldable pub two_form : List ℕ → Option (List (List ℕ))
-two_form word = if length word == 64 then both (key_form (take 32 word)) (key_form (drop 32 word)) else None
-
--- ID: four hexadecimal digits, the higher byte first
-unfoldable pub data_id_form : List ℕ → Option ℕ
-data_id_form word = option_map number_of (result_ok (decode_sized word 2))
-
--- FRESH: 16 hexadecimal digits, the highest byte first
-unfoldable pub fresh_form : List ℕ → Option ℕ
-fresh_form word = option_map number_of (result_ok (decode_sized word 8))
+use Rattle.hex.specs.Hex.{decode_of}
 
 -- decimal digits without sign; only the number 0 begins with 0
 abbrev pub is_number : List ℕ → Bool
-is_number word = nat_lt 0 (length word) && list_all is_ascii_digit word && (length word == 1 || not (slice_index word 0 == 48))
+is_number word =
+    nat_lt 0 (length word) && list_all is_ascii_digit word && (length word == 1 || not (slice_index word 0 == 48))
 
 -- a number from `least` to `most`
 unfoldable pub number_form : ℕ → ℕ → List ℕ → Option ℕ

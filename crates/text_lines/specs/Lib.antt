@@ -1,7 +1,4 @@
-pub mod DiskForms
 pub mod Forms
-pub mod Frames
-pub mod KeyForms
 pub mod Lines
 pub mod Places
 pub mod Readings

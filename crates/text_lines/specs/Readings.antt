@@ -39,12 +39,17 @@ abbrev pub at_line : {A : Type 0} → ℕ → Result A Cause → Result A Fault
 at_line number (Ok x) = Ok x
 at_line number (Err cause) = Err (record { line = number; cause = cause })
 
+-- the most lines that a text may have where a program names no other number
+abbrev pub most_lines : ℕ
+most_lines = 65536
+
 -- what a line gives behind this number of others, where at most `most` are read
 abbrev pub limited : {A : Type 0} → ℕ → ℕ → Result A Cause → Result A Cause
 limited most before meaning = if nat_le most before then Err TooMany else meaning
 
 -- the values that lines give in their order, behind those that were given before, or the first fault
-unfoldable pub read_from : {A : Type 0} → (List A → List (List ℕ) → Result A Cause) → ℕ → List A → List TextLine → Result (List A) Fault
+unfoldable pub read_from : {A : Type 0} → (List A → List (List ℕ) → Result A Cause) → ℕ → List A → List TextLine
+    → Result (List A) Fault
 read_from means most values [] = Ok values
 read_from means most values (line ∷ lines) = do
   value ← at_line line.number (limited most (length values) (means values line.words))
@@ -68,7 +73,8 @@ GivesLine meaning (Err (Refused cause)) = meaning ≡ Err cause
 GivesLine meaning (Err OutOfMemory) = Unit {0}
 
 -- what a line of this number and these words adds to the values before it, or the fault that it is; want of memory is free
-abbrev pub ReadsOne : {A : Type 0} → (List A → List (List ℕ) → Result A Cause) → ℕ → ℕ → List (List ℕ) → List A → List A → Result (Unit {0}) ScriptFault → Type 0
+abbrev pub ReadsOne : {A : Type 0} → (List A → List (List ℕ) → Result A Cause) → ℕ → ℕ → List (List ℕ) → List A → List A
+    → Result (Unit {0}) ScriptFault → Type 0
 ReadsOne {A} means most number words before after (Ok done) =
     (value : A) × (limited most (length before) (means before words) ≡ Ok value) × (after ≡ before ++ value ∷ [])
 ReadsOne means most number words before after (Err (At line cause)) =
@@ -76,14 +82,16 @@ ReadsOne means most number words before after (Err (At line cause)) =
 ReadsOne means most number words before after (Err Memory) = Unit {0}
 
 -- these are the values of the lines: as many, and each is what its line gives behind the values before it
-pub record AreValues {A : Type 0} (means : List A → List (List ℕ) → Result A Cause) (lines : List TextLine) (values : List A) : Type 0 where
+pub record AreValues {A : Type 0} (means : List A → List (List ℕ) → Result A Cause) (lines : List TextLine)
+    (values : List A) : Type 0 where
   pub as_many : length values ≡ length lines
   pub each : (i : ℕ) (line : TextLine) (value : A) → slice_get lines i ≡ Some line → slice_get values i ≡ Some value
       → means (take i values) line.words ≡ Ok value
 
 -- the fault is that of a line before which all lines give values: one that is too many behind as many as are read, or
 -- one behind fewer that gives the cause
-pub record IsFirstFault {A : Type 0} (means : List A → List (List ℕ) → Result A Cause) (most : ℕ) (lines : List TextLine) (fault : Fault) : Type 0 where
+pub record IsFirstFault {A : Type 0} (means : List A → List (List ℕ) → Result A Cause) (most : ℕ)
+    (lines : List TextLine) (fault : Fault) : Type 0 where
   pub before : List TextLine
   pub here : TextLine
   pub behind : List TextLine

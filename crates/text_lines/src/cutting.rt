@@ -45,7 +45,11 @@ fn cut_line(
     ensures behind { IfOk result (λ found. at ≤ found.1) }
     ensures within { IfOk result (λ found. found.1 ≤ length text.now) }
     ensures exact { IfOk result (λ found. map (line_at text.now) (option_to_list found.0)
-        ≡ placed_kept (record { number = number; words = placed_words_of (record { at = at; bytes = take (found.1 - at) (drop at text.now) }) })) }
+        ≡ placed_kept
+        (record {
+          number = number;
+          words = placed_words_of (record { at = at; bytes = take (found.1 - at) (drop at text.now) });
+        })) }
     ensures inside { IfOk result (λ found. IfSome found.0 (λ cut. EndWithin (length text.now) cut.words)) }
 {
     let mut words = Vec::new(alloc);

@@ -1,15 +1,11 @@
 //! What holds of every text that is read.
 
-ghost use Rattle.std.specs.Prelude.{◌≡◌, ◌≤◌, ◌↔◌, ℕ, true, List, length, map, All, Ok, Err};
+ghost use Rattle.std.specs.Prelude.{◌≡◌, ◌≤◌, ◌↔◌, ℕ, true, List, length, map, Ok, Err};
 ghost use Rattle.std.specs.List.{list_all, flat_map};
-ghost use Rattle.memory_update.specs.declared.messages.Request.{Request};
-ghost use Rattle.text_lines.specs.declared.frames.FrameLine.{FrameLine};
-ghost use Rattle.text_lines.specs.declared.judges.JudgeLine.{JudgeLine};
-ghost use Rattle.text_lines.specs.Frames.{frames_of, judges_of, loads_of, most_lines};
+ghost use Rattle.text_lines.specs.Readings.{Fault, AreValues, IsFirstFault, read_all};
 ghost use Rattle.text_lines.specs.Lines.{lines_of};
 ghost use Rattle.text_lines.specs.Places.{placed_lines_of, unplaced};
-ghost use Rattle.text_lines.specs.Readings.{Fault, AreValues, IsFirstFault, read_all};
-ghost use Rattle.text_lines.specs.Written.{written, is_writable, frame_words, judge_words, load_words, IsFrameLine, IsJudgeLine, IsLoad};
+ghost use Rattle.text_lines.specs.Written.{written, is_writable};
 
 use crate::reader::LineReader;
 
@@ -21,34 +17,21 @@ pub fn places_are_those_of_the_words()
 /// Law: values come exactly where they are as many as the lines, at most as many as are read, and each is what its line
 /// gives behind the values before it.
 pub fn values_are_those_of_the_lines<R: LineReader>()
-    ensures { (reader : R) (most : ℕ) (text : List ℕ) (values : List R.Item) → (read_all (R.means reader) most text ≡ Ok values)
+    ensures { (reader : R) (most : ℕ) (text : List ℕ) (values : List R.Item)
+        → (read_all (R.means reader) most text ≡ Ok values)
         ↔ (AreValues (R.means reader) (lines_of text) values × (length values ≤ most)) }
 {}
 
 /// Law: a fault comes exactly where all lines before its line give values and either these are as many as are read and
 /// the cause is `TooMany`, or they are fewer and its line gives the cause.
 pub fn a_fault_is_the_first<R: LineReader>()
-    ensures { (reader : R) (most : ℕ) (text : List ℕ) (fault : Fault) → (read_all (R.means reader) most text ≡ Err fault)
+    ensures { (reader : R) (most : ℕ) (text : List ℕ) (fault : Fault)
+        → (read_all (R.means reader) most text ≡ Err fault)
         ↔ IsFirstFault (R.means reader) most (lines_of text) fault }
 {}
 
 /// Law: lines that are written with single spaces between plain words are read again as they were.
 pub fn written_lines_are_read()
-    ensures { (lines : List (List (List ℕ))) → list_all is_writable lines ≡ true → map (λ line. line.words) (lines_of (flat_map written lines)) ≡ lines }
-{}
-
-/// Law: each list of at most 65,536 lines of `frame` is what some text gives, namely its lines in lower-case digits with
-/// single spaces.
-pub fn written_frames_are_read()
-    ensures { (lines : List FrameLine) → All IsFrameLine lines → length lines ≤ most_lines → frames_of (flat_map written (map frame_words lines)) ≡ Ok lines }
-{}
-
-/// Law: the same of lines of `judge`, where a PDU without bytes is written as `-`.
-pub fn written_judges_are_read()
-    ensures { (lines : List JudgeLine) → All IsJudgeLine lines → length lines ≤ most_lines → judges_of (flat_map written (map judge_words lines)) ≡ Ok lines }
-{}
-
-/// Law: the same of lines of `load`.
-pub fn written_loads_are_read()
-    ensures { (requests : List Request) → All IsLoad requests → length requests ≤ most_lines → loads_of (flat_map written (map load_words requests)) ≡ Ok requests }
+    ensures { (lines : List (List (List ℕ))) → list_all is_writable lines ≡ true
+        → map (λ line. line.words) (lines_of (flat_map written lines)) ≡ lines }
 {}

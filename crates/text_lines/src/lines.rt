@@ -68,7 +68,8 @@ fn content_end(text: &[u8], at: usize, end: usize) -> usize
 // Adds the word between two places, if any byte stands there.
 fn put_word(spans: &mut Vec<Span>, at: usize, stop: usize) -> Result<(), Memory>
     requires { stop < 2 ^ 32 }
-    ensures word { OnOk result (at < stop → spans.new.items ≡ spans.old.items ++ record { at = at; len = stop - at } ∷ []) }
+    ensures word { OnOk result
+        (at < stop → spans.new.items ≡ spans.old.items ++ record { at = at; len = stop - at } ∷ []) }
     ensures none { OnOk result (stop ≤ at → spans.new.items ≡ spans.old.items) }
     ensures few { vec_len spans.new ≤ vec_len spans.old + 1 }
     ensures room { (stop ≤ at) ⊎ (vec_len spans.old < vec_capacity spans.old) → IsOk result }
@@ -91,7 +92,9 @@ pub fn put_line(spans: &mut Vec<Span>, text: &[u8], start: usize) -> Result<usiz
     ensures end { IfOk result (λ end. end ≡ start + position_or_len is_line_feed (drop start text.now)) }
     ensures behind { IfOk result (λ end. start ≤ end) }
     ensures within { IfOk result (λ end. end ≤ length text.now) }
-    ensures exact { IfOk result (λ end. map (piece_at text.now) spans.new.items ≡ placed_words_of (record { at = start; bytes = take (end - start) (drop start text.now) })) }
+    ensures exact { IfOk result
+        (λ end. map (piece_at text.now) spans.new.items
+        ≡ placed_words_of (record { at = start; bytes = take (end - start) (drop start text.now) })) }
     ensures inside { OnOk result (EndWithin (length text.now) spans.new.items) }
     ensures room { length text.now ≤ vec_capacity spans.old → IsOk result }
     ensures capacity { vec_capacity spans.old ≤ vec_capacity spans.new }

@@ -8,7 +8,7 @@ use crate::lines;
 use crate::words::Words;
 use std::alloc::Global;
 
-/// The most lines that a text of `frame`, `judge` or `load` may have, without those that are skipped.
+/// The most lines that a text may have where a program names no other number, without those that are skipped.
 pub const MOST_LINES: usize = 65_536;
 
 /// Reads the words of one line. It sees what the lines before gave: a later line may depend on the first, or may not

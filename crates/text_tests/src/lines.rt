@@ -1,15 +1,16 @@
 use byte_lists::Bytes;
 use cut_disk::Torn;
+use secoc_words::frames::{FrameReader, read_frames};
+use secoc_words::judges::{JudgeReader, read_judges};
+use secoc_words::loads::{LoadReader, read_loads};
+use secoc_words::verdicts::{push_bad_length, push_outcome};
 use secured_pdu::Judgement;
 use std::alloc::{AllocError, Global};
 use std::test::Fail;
 use text_lines::fault::{Cause, LineFault, Memory, ScriptFault};
-use text_lines::frames::{FrameReader, read_frames};
-use text_lines::judges::{JudgeReader, read_judges};
-use text_lines::loads::{LoadReader, read_loads};
+use text_lines::pushing::{push_digits, push_line};
 use text_lines::reader::{LineReader, MOST_LINES, read_lines};
 use text_lines::texts::fault_text;
-use text_lines::verdicts::{push_bad_length, push_digits, push_line, push_outcome};
 use text_lines::words::Words;
 use text_lines::{forms, laws};
 
@@ -353,14 +354,14 @@ fn a_kind_of_line_is_read_through_its_reader(rt: HostRuntime) -> Result<(), Fail
 #[test]
 fn words_are_read_by_their_forms(rt: HostRuntime) -> Result<(), Fail> {
     let alloc = rt.alloc();
-    assert_eq!(rt; forms::data_id(b"6BC1"), Some(0x6bc1));
-    assert_eq!(rt; forms::data_id(b"6bc"), None);
+    assert_eq!(rt; secoc_words::data_id(b"6BC1"), Some(0x6bc1));
+    assert_eq!(rt; secoc_words::data_id(b"6bc"), None);
     assert_eq!(rt;
-        forms::fresh(b"e93d7e117393172a"),
+        secoc_words::fresh(b"e93d7e117393172a"),
         Some(0xe93d_7e11_7393_172a)
     );
     let digits = b"000102030405060708090a0b0c0d0e0f0F0E0D0C0B0A09080706050403020100";
-    let [first, second] = forms::two(digits).ok_or("no two blocks")?;
+    let [first, second] = secoc_words::two(digits).ok_or("no two blocks")?;
     assert_eq!(rt;
         first.bytes(),
         b"\x00\x01\x02\x03\x04\x05\x06\x07\x08\x09\x0a\x0b\x0c\x0d\x0e\x0f"
@@ -369,7 +370,7 @@ fn words_are_read_by_their_forms(rt: HostRuntime) -> Result<(), Fail> {
         second.bytes(),
         b"\x0f\x0e\x0d\x0c\x0b\x0a\x09\x08\x07\x06\x05\x04\x03\x02\x01\x00"
     );
-    assert_eq!(rt; forms::key(digits), None);
+    assert_eq!(rt; secoc_words::key(digits), None);
     let numbers: [(&[u8], Option<u64>); 9] = [
         (b"0", Some(0)),
         (b"65536", Some(65_536)),
@@ -417,7 +418,7 @@ fn bytes_are_of_a_least_and_a_most_number(rt: HostRuntime) -> Result<(), Fail> {
         let found: Option<Bytes> = forms::hex_bytes(rt.alloc(), word, least, most)?;
         assert_eq!(rt; found.map(|bytes| bytes.bytes().len()), len, "{word:?}");
         assert!(rt; most <= 64);
-        let pdu = forms::pdu(word, least, most);
+        let pdu = secoc_words::pdu(word, least, most);
         assert_eq!(rt; pdu.map(|bytes| bytes.bytes().len()), len, "{word:?}");
     }
     Ok(())
@@ -448,27 +449,27 @@ fn an_unknown_event_has_its_text(rt: HostRuntime) -> Result<(), Memory> {
 
 #[test]
 fn words_of_a_key_update_are_read_by_their_forms(rt: HostRuntime) -> Result<(), Fail> {
-    let uid = forms::uid(b"0000000000000000000000000000fF").ok_or("no identifier")?;
+    let uid = secoc_words::uid(b"0000000000000000000000000000fF").ok_or("no identifier")?;
     assert_eq!(rt; uid.bytes()[14], 255);
     assert_eq!(rt;
-        forms::uid(b"0000000000000000000000000000f").is_none(),
+        secoc_words::uid(b"0000000000000000000000000000f").is_none(),
         true
     );
-    let engine = forms::engine_uid(b"000000000000000000000000000001").ok_or("no engine")?;
+    let engine = secoc_words::engine_uid(b"000000000000000000000000000001").ok_or("no engine")?;
     assert_eq!(rt; engine.bytes()[14], 1);
     let zero = b"000000000000000000000000000000";
-    assert_eq!(rt; forms::engine_uid(zero).is_none(), true);
-    assert_eq!(rt; forms::uid(zero).is_some(), true);
-    let slot = forms::slot(b"13").ok_or("no slot")?;
+    assert_eq!(rt; secoc_words::engine_uid(zero).is_none(), true);
+    assert_eq!(rt; secoc_words::uid(zero).is_some(), true);
+    let slot = secoc_words::slot(b"13").ok_or("no slot")?;
     assert_eq!(rt; slot.number(), 13);
-    assert_eq!(rt; forms::slot(b"14").is_none(), true);
-    let counter = forms::counter(b"268435455").ok_or("no counter")?;
+    assert_eq!(rt; secoc_words::slot(b"14").is_none(), true);
+    let counter = secoc_words::counter(b"268435455").ok_or("no counter")?;
     assert_eq!(rt; counter.number(), 268_435_455);
-    assert_eq!(rt; forms::counter(b"268435456").is_none(), true);
-    let flags = forms::flags(b"10010").ok_or("no flags")?;
+    assert_eq!(rt; secoc_words::counter(b"268435456").is_none(), true);
+    let flags = secoc_words::flags(b"10010").ok_or("no flags")?;
     assert_eq!(rt; flags.number(), 0b10010);
-    assert_eq!(rt; forms::flags(b"10012").is_none(), true);
-    assert_eq!(rt; forms::flags(b"1001").is_none(), true);
+    assert_eq!(rt; secoc_words::flags(b"10012").is_none(), true);
+    assert_eq!(rt; secoc_words::flags(b"1001").is_none(), true);
     Ok(())
 }
 
@@ -553,6 +554,6 @@ fn what_a_power_cut_leaves_is_read(rt: HostRuntime) {
         (b"0a7", None),
     ];
     for (word, torn) in words {
-        assert_eq!(rt; forms::torn(word), torn, "{word:?}");
+        assert_eq!(rt; secoc_words::torn(word), torn, "{word:?}");
     }
 }

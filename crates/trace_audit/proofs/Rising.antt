@@ -1,5 +1,5 @@
 -- The freshness that a line of the map accepts rises from line to line of the log
-use Rattle.std.proofs.Common.{◌≡◌, ℕ, ◌<◌, List, [], ◌∷◌, map, sym, subst}
+use Rattle.std.proofs.Common.{ℕ, ◌<◌, List, [], ◌∷◌, ◌++◌, map, sym, subst}
 use Rattle.std.specs.Prelude.{slice_index, IfSome}
 use Rattle.std.proofs.lemmas.List.{map-append}
 use Rattle.secured_pdu.specs.Verdict.{Accepted, FreshnessFailure, VerificationFailure}
@@ -20,13 +20,20 @@ above mapping c l other h = tt
 above mapping c l (too_short n p can) h = tt
 
 -- each line of the map keeps its counter
-keeps : (mapping : List MapLine) (lines : List TextLine) (findings : List Finding) → AuditsEach mapping lines findings
-    → KeepsCounters (slice_index (first_counters mapping)) (map finding_accepts findings)
+abbrev pub Keeps : List MapLine → List Finding → Type 0
+Keeps mapping findings = KeepsCounters (slice_index (first_counters mapping)) (map finding_accepts findings)
+
+-- one more finding, which accepts what is above the counter of its place
+pub keeps_one : (mapping : List MapLine) (findings : List Finding) (f : Finding) → Keeps mapping findings
+    → IfSome (finding_accepts f) (λ a. counter_of_place mapping findings a.receiver < a.freshness) → Keeps mapping (findings ++ f ∷ [])
+keeps_one mapping findings f so_far over =
+    subst (KeepsCounters (slice_index (first_counters mapping))) (sym (map-append finding_accepts findings (f ∷ [])))
+    (counting.more (map finding_accepts findings) (finding_accepts f) so_far over)
+
+keeps : (mapping : List MapLine) (lines : List TextLine) (findings : List Finding) → AuditsEach mapping lines findings → Keeps mapping findings
 keeps mapping lines findings none = counting.none
 keeps mapping lines findings (more before so_far l f each finds) =
-    subst (KeepsCounters (slice_index (first_counters mapping))) (sym (map-append finding_accepts so_far (f ∷ [])))
-    (counting.more (map finding_accepts so_far) (finding_accepts f) (keeps mapping before so_far each)
-    (above mapping (counter_of_place mapping so_far) l f finds))
+    keeps_one mapping so_far f (keeps mapping before so_far each) (above mapping (counter_of_place mapping so_far) l f finds)
 
 pub all_rise : (mapping : List MapLine) (lines : List TextLine) (findings : List Finding) → AuditsEach mapping lines findings
     → AcceptedRise (map finding_accepts findings)

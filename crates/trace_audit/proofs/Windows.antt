@@ -6,7 +6,8 @@ use Rattle.std.proofs.lemmas.Option.{same_Some, get_or_from_slice_get, slice_get
 use Rattle.std.proofs.lemmas.List.Elements.{All-nil, All-get_or}
 use Rattle.secured_pdu.specs.Frame.{IsWindow}
 use Rattle.text_lines.specs.declared.fault.Cause.{Cause}
-use Rattle.text_lines.specs.Forms.{key_form, data_id_form, fresh_form, number_form}
+use Rattle.secoc_words.specs.Forms.{key_form, data_id_form, fresh_form}
+use Rattle.text_lines.specs.Forms.{number_form}
 use Rattle.text_lines.specs.Lines.{lines_of}
 use Rattle.text_lines.specs.Readings.{nth_word, field}
 use Rattle.text_lines.proofs.Results.{bind_ok, field_ok, counted_ok}

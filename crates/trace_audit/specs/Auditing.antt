@@ -7,7 +7,8 @@ use Rattle.secured_pdu.specs.Verdict.{Outcome, Accepted, FreshnessFailure, Verif
 use Rattle.counting_receiver.specs.Counting.{Acceptance, accepted_by, last_accepted}
 use Rattle.text_lines.specs.Lines.{TextLine, lines_of}
 use Rattle.text_lines.specs.Readings.{nth_word}
-use Rattle.text_lines.specs.Texts.{line, outcome_text, bad_length_text}
+use Rattle.secoc_words.specs.Texts.{outcome_text, bad_length_text}
+use Rattle.text_lines.specs.Texts.{line}
 use Rattle.trace_audit.specs.declared.map_lines.MapLine.{MapLine}
 use Rattle.trace_audit.specs.declared.frames.LogFrame.{LogFrame}
 use Rattle.trace_audit.specs.declared.auditing.Tally.{Tally}

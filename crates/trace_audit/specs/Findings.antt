@@ -2,7 +2,7 @@
 use Rattle.std.specs.Prelude.{◌≡◌, ◌⊎◌, ℕ, ◌<◌, ◌≤◌, ◌+◌, List, ◌++◌, length, take, slice_index}
 use Rattle.std.specs.List.{flat_map}
 use Rattle.text_lines.specs.Lines.{TextLine}
-use Rattle.text_lines.specs.Texts.{outcome_text, bad_length_text}
+use Rattle.secoc_words.specs.Texts.{outcome_text, bad_length_text}
 use Rattle.secured_pdu.specs.Verdict.{Outcome, Verdict}
 use Rattle.counting_receiver.specs.Counting.{counter_behind, next_counter}
 use Rattle.trace_audit.specs.declared.map_lines.MapLine.{MapLine}

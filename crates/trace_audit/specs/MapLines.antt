@@ -5,7 +5,8 @@ use Rattle.std.specs.List.{list_all, position}
 use Rattle.std.specs.Char.{is_ascii_hexdigit, to_ascii_lowercase}
 use Rattle.std.specs.Str.{bytes_eq}
 use Rattle.text_lines.specs.declared.fault.Cause.{Cause}
-use Rattle.text_lines.specs.Forms.{key_form, data_id_form, fresh_form, number_form}
+use Rattle.secoc_words.specs.Forms.{key_form, data_id_form, fresh_form}
+use Rattle.text_lines.specs.Forms.{number_form}
 use Rattle.text_lines.specs.Readings.{Fault, ◌>>=◌, nth_word, field, with_count, read_all}
 use Rattle.trace_audit.specs.declared.map_lines.MapLine.{MapLine}
 

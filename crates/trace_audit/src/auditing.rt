@@ -8,12 +8,12 @@ use crate::frames::log_frame;
 use crate::map_lines::{MapLine, place_for};
 use counting_receiver::push_verdict;
 use itoa::Buffer;
+use secoc_words::verdicts::push_bad_length;
 use she_aes::expand;
 use std::alloc::{AllocError, Global};
 use text_lines::Memory;
 use text_lines::forms::cut;
 use text_lines::laws::places_are_those_of_the_words;
-use text_lines::verdicts::push_bad_length;
 use text_lines::words::Words;
 
 /// What a line of a log counts as.

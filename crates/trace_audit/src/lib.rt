@@ -9,14 +9,15 @@ mod auditing;
 mod frames;
 pub mod laws;
 mod map_lines;
+mod map_source;
 mod run;
 mod start;
 
 pub use auditing::{Tally, audit_text, counters_of, push_finding};
 pub use frames::{FrameBytes, LogFrame, log_frame};
 pub use map_lines::{
-    CanId, MOST_MAP_LINES, MapLine, PayloadSize, Window, can_id, line_of_words, place_for,
-    place_of, read_map,
+    CanId, MOST_MAP_LINES, MapLine, PayloadSize, Window, can_id, line_of_words, place_for, place_of,
 };
+pub use map_source::{read_map, read_map_by};
 pub use run::{names_inputs, run_audit};
-pub use start::audit_words;
+pub use start::{audit_words, open_inputs};

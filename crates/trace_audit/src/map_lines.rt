@@ -1,10 +1,9 @@
 //! The lines of a map: what stands behind the CAN identifiers of a bus.
-ghost use Rattle.std.specs.Prelude.{◌≡◌, ◌<◌, ◌≤◌, ◌^◌, length, map as each, true, IfOk};
+ghost use Rattle.std.specs.Prelude.{◌≡◌, ◌≤◌, length, map as each, true};
 ghost use Rattle.std.specs.Char.{to_ascii_lowercase};
 ghost use Rattle.secured_pdu.specs.Frame.{IsWindow};
-ghost use Rattle.text_lines.specs.Readings.{Gives};
 ghost use Rattle.trace_audit.specs.MapLines.{is_can, can_form, new_can_form, line_with, place_of_can};
-ghost use Rattle.trace_audit.specs.MapLines.{hears_frame, place_of_frame, map_of};
+ghost use Rattle.trace_audit.specs.MapLines.{hears_frame, place_of_frame};
 
 use arrayvec::ArrayVec;
 use byte_lists::Bytes;
@@ -12,9 +11,9 @@ use counting_receiver::WIDEST_WINDOW;
 use she_aes::Block;
 use std::alloc::Global;
 use std::marker::Model;
-use text_lines::reader::{LineReader, expect_count, read_lines, value_at};
+use text_lines::reader::{LineReader, expect_count, value_at};
 use text_lines::words::Words;
-use text_lines::{Cause, LineFault, ScriptFault, forms};
+use text_lines::{Cause, LineFault, forms};
 
 /// The most lines that a map has.
 pub const MOST_MAP_LINES: usize = 256;
@@ -221,9 +220,9 @@ pub fn line_of_words(
     ensures { result ≡ line_with can window channel words.now }
 {
     let can = value_at(1, can)?;
-    let id = value_at(2, forms::data_id(words.word(2)))?;
-    let key = value_at(3, forms::key(words.word(3)))?;
-    let counter = value_at(4, forms::fresh(words.word(4)))?;
+    let id = value_at(2, secoc_words::data_id(words.word(2)))?;
+    let key = value_at(3, secoc_words::key(words.word(3)))?;
+    let counter = value_at(4, secoc_words::fresh(words.word(4)))?;
     let size = value_at(5, forms::number(words.word(5), 1, 60))?;
     let window = value_at(6, window)?;
     Ok(MapLine {
@@ -237,7 +236,7 @@ pub fn line_of_words(
     })
 }
 
-/// Reads a line of a map.
+/// Reads a line of the map of an audit.
 pub struct MapReader;
 
 impl LineReader for MapReader {
@@ -258,13 +257,4 @@ impl LineReader for MapReader {
         let can = new_can_id(before, words.word(1));
         Ok(line_of_words(words, can, Some(Window::of(WIDEST_WINDOW)), None)?)
     }
-}
-
-/// The lines of a map: at most 256 that aren't skipped, each with a CAN identifier of its own.
-#[tactic(auto, unfolding(crate::specs::MapLines::map_of))]
-pub fn read_map(alloc: Global, text: &[u8]) -> Result<Vec<MapLine>, ScriptFault>
-    requires { length text.now < 2 ^ 32 }
-    ensures { Gives (map_of text.now) result }
-{
-    read_lines(alloc, text, MOST_MAP_LINES, &MapReader)
 }

@@ -1,20 +1,17 @@
 //! The program's one command.
-ghost use Rattle.std.specs.Prelude.{◌≡◌, ◌↔◌, ◌<◌, ◌≤◌, ◌^◌, length, map as each};
-ghost use Rattle.std.specs.Prelude.{string_bytes, IsTrue, IfOk, IfErr};
+ghost use Rattle.std.specs.Prelude.{◌↔◌, ◌≤◌, length, map as each, string_bytes, IsTrue};
 ghost use Rattle.command_edge.specs.Input.{input_limit};
 ghost use Rattle.answer_rows.specs.Endings.{EndsInRow};
-ghost use Rattle.line_rows.specs.LineRows.{NoLines};
-ghost use Rattle.trace_audit.specs.MapLines.{map_of};
 ghost use Rattle.trace_audit.specs.Rows.{NamesInputs};
 ghost use Rattle.trace_audit.specs.Audits.{Audits};
-ghost use Rattle.trace_audit.specs.Steps.{PreparesAudit, ReadsMapSource, DoesAudit};
+ghost use Rattle.trace_audit.specs.Steps.{PreparesAudit, DoesAudit};
 
 use crate::auditing::audit_text;
-use crate::map_lines::{MapLine, read_map};
+use crate::map_lines::MapLine;
+use crate::map_source::read_map;
 use answer_rows::{Refusal, tell_refusal};
 use bus_port::{Sink, Source};
 use command_edge::{DONE, read_input, tell};
-use line_rows::line_refusal;
 use std::alloc::Global;
 use text_lines::Memory;
 
@@ -74,7 +71,7 @@ fn prepare<S: Source, T: Source>(
     if !names_inputs(words) {
         return Err(Refusal::fixed(2, USAGE));
     }
-    let map = map_in(alloc, map)?;
+    let map = read_map(alloc, map)?;
     let log = read_input(alloc, log)?;
     Ok(Audit { map, log })
 }
@@ -84,26 +81,6 @@ pub fn names_inputs(words: &[String]) -> bool
     ensures { IsTrue result ↔ NamesInputs (each string_bytes words.now) }
 {
     words.len() == 2
-}
-
-/// The lines of the map that a source gives, or why there are none.
-fn map_in<S: Source>(alloc: Global, map: &mut S) -> Result<Vec<MapLine>, Refusal>
-    ensures { ReadsMapSource map_of (record { before = S.state map.old; after = S.state map.new }) result }
-{
-    let input = read_input(alloc, map)?;
-    lines_of_map(alloc, input.as_slice())
-}
-
-/// The lines of a map, or the refusal of the first that isn't one.
-fn lines_of_map(alloc: Global, text: &[u8]) -> Result<Vec<MapLine>, Refusal>
-    requires { length text.now < 2 ^ 32 }
-    ensures ok { IfOk result (λ lines. map_of text.now ≡ Ok lines.items) }
-    ensures err { IfErr result (NoLines (map_of text.now)) }
-{
-    match read_map(alloc, text) {
-        Ok(lines) => Ok(lines),
-        Err(fault) => Err(line_refusal(alloc, fault)),
-    }
 }
 
 /// The second phase: what is found of the log is told.

@@ -1,6 +1,7 @@
 use Rattle.std.proofs.Common.{arith, rules}
+use Rattle.bus_world.specs.declared.start.Start.TheVariants.{Format}
 use Rattle.bus_commands.specs.Steps.{refused_trial}
-use Rattle.bus_commands.proofs.Refusing.{Comes-not_started}
+use Rattle.bus_world.specs.StartAnswerLaws.{Comes-not_started}
 use Rattle.world_runs.specs.TurnLaws.{as_many_nodes}
 use Rattle.bus_commands.proofs.Summing.{summed_turns}
 use Rattle.bus_commands.proofs.Summed.{Comes-summed}
@@ -18,7 +19,7 @@ finish-requires g c =
 pub returns-in-Err : goal.returns-in-Err
 returns-in-Err g c = record {
   row = c.start_refusal.result;
-  comes = refused_trial c.start_refusal.result (Comes-not_started c.args.bus.now _ c.in-Err.fault c.start_refusal.result c.in-Err.ensures.refused c.start_refusal.ensures);
+  comes = refused_trial c.start_refusal.result (Comes-not_started Format c.args.bus.now _ c.in-Err.fault c.start_refusal.result c.in-Err.ensures.refused c.start_refusal.ensures);
   told = c.tell_refusal-in-Err.ensures;
 }
 

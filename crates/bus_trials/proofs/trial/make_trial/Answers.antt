@@ -1,6 +1,6 @@
 use Rattle.std.proofs.Common.{◌≤◌, List, All, length, sym, ap, subst, ◌∙◌}
 use Rattle.std.proofs.lemmas.Result.{IfOk-weaker}
-use Rattle.text_lines.specs.Frames.{most_lines}
+use Rattle.text_lines.specs.Readings.{most_lines}
 use Rattle.bus_machine.specs.declared.events.Event.{Event}
 use Rattle.bus_script.specs.ScriptEvents.{IsScriptEvent}
 use Rattle.bus_trials.proofs.TrialValues.{trial_events-value, length-trial_events}

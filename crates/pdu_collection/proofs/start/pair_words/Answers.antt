@@ -1,19 +1,15 @@
-use Rattle.std.proofs.Common.{◌≡◌, List, [], ◌∷◌, length, map, string_bytes, subst, arith}
-use Rattle.named_sources.specs.NamedSources.{IsNamed, word_source}
-use Rattle.pdu_collection.specs.Rows.{PairingInputs}
-use Rattle.pdu_collection.proofs.Naming.{text_of_one, is_named}
+use Rattle.std.proofs.Common.{map, string_bytes, refl}
+use Rattle.named_sources.specs.NamedSources.{word_source}
 use Rattle.pdu_collection.proofs.start.pair_words.Goals as goal
 
-pub returns-in-len1-clause-named : goal.returns-in-len1-clause-named
-returns-in-len1-clause-named g c some =
-    let opened = g.O.Opened.Source.state in
-    let input = g.I.Source.state in
-    let opens = g.O.Opener.opens c.args.opener.now in
-    let i : PairingInputs = record {
-      words = map string_bytes c.args.words.now;
-      script = record { before = word_source opened input c.open_word-script.result; after = word_source opened input c.run_pairs.new.script };
-    } in
-    let one : length c.args.words.now ≡ 1 = omega (arith, c.in-len1.len_at_least, c.in-len1.len_below) in
-    let words_are = text_of_one string_bytes c.args.words.now c.file-item.result one c.file-item.is in
-    let named = subst (λ w. IsNamed opens (input c.args.input) w i.script.before) c.as_str.ensures.value c.open_word-script.ensures in
-    (i, is_named opens (input c.args.input) i (string_bytes c.file-item.result) words_are named, c.run_pairs.ensures)
+pub returns-clause-named : goal.returns-clause-named
+returns-clause-named g c some =
+    let state = word_source g.O.Opened.Source.state g.I.Source.state in (
+      record {
+        words = map string_bytes c.args.words.now;
+        script = record { before = state c.open_script-script.result; after = state c.run_pairs-status.new.script };
+      },
+      c.open_script-script.ensures _,
+      refl,
+      c.run_pairs-status.ensures,
+    )

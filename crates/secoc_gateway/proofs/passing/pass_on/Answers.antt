@@ -1,7 +1,9 @@
-use Rattle.std.specs.Prelude.{None, Err}
+use Rattle.std.specs.Prelude.{◌≡◌, None, Err}
 use Rattle.std.proofs.Common.{refl, ap, arith, take}
+use Rattle.std.proofs.lemmas.Result.{IfErr-at_err}
 use Rattle.cut_disk.specs.CallLaws.{runs_join, runs_more}
 use Rattle.bus_machine.specs.declared.lines.Line.TheVariants.{Sent, Accepted, FreshnessFailure, VerificationFailure, Refused}
+use Rattle.secoc_node.specs.declared.faults.NodeFault.{NodeFault}
 use Rattle.secoc_node.specs.Lines.{refusal_of_fault}
 use Rattle.secoc_gateway.proofs.Arriving.{reason_of, brought_line, in_time, forwards_right, drops_not, refuses_not}
 use Rattle.secoc_gateway.proofs.passing.pass_on.Goals as goal
@@ -36,7 +38,15 @@ returns-in-Ok-clause-runs g c = runs_join c.receive.ensures.runs c.send.ensures.
 pub returns-in-Ok-clause-fits : goal.returns-in-Ok-clause-fits
 returns-in-Ok-clause-fits g c = λ fits. c.send.ensures.fits (c.receive.ensures.fits fits)
 
+pub returns-in-Ok-clause-arrival_covered : goal.returns-in-Ok-clause-arrival_covered
+returns-in-Ok-clause-arrival_covered g c =
+    c.send.ensures.others c.args.id c.in-Ok-Accepted.freshness (rw c.in-Ok-Accepted.field-0-is at c.in-Ok-Accepted.ensures.covered)
+
 -- ---- it didn't
+
+pub returns-in-Err-send-clause-arrival_covered : goal.returns-in-Err-send-clause-arrival_covered
+returns-in-Err-send-clause-arrival_covered g c =
+    c.send.ensures.others c.args.id c.in-Ok-Accepted.freshness (rw c.in-Ok-Accepted.field-0-is at c.in-Ok-Accepted.ensures.covered)
 
 pub returns-in-Err-send-clause-step : goal.returns-in-Err-send-clause-step
 returns-in-Err-send-clause-step g c place = record {
@@ -116,3 +126,8 @@ returns-in-Err-clause-forwards g c payload v can =
 
 pub returns-in-Err-clause-runs : goal.returns-in-Err-clause-runs
 returns-in-Err-clause-runs g c = runs_more 12 (omega arith) c.receive.ensures.runs
+
+pub returns-in-Err-clause-routed : goal.returns-in-Err-clause-routed
+returns-in-Err-clause-routed g c none =
+    let same = IfErr-at_err (λ (e : NodeFault). c.in-Err.fault ≡ e) none refl in
+    (c.in-Err.ensures.no_route.0 (ap Err same)).1 c.requires.receives

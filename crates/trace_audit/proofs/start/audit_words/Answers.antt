@@ -1,28 +1,17 @@
-use Rattle.std.proofs.Common.{◌≡◌, ◌∙◌, List, [], ◌∷◌, length, map, string_bytes, subst, sym, arith}
-use Rattle.named_sources.specs.NamedSources.{IsNamed, word_source}
-use Rattle.trace_audit.specs.Rows.{AuditInputs}
-use Rattle.trace_audit.proofs.Naming.{texts_of_two, are_named}
+use Rattle.std.proofs.Common.{map, string_bytes, refl}
+use Rattle.named_sources.specs.NamedSources.{word_source}
 use Rattle.trace_audit.proofs.start.audit_words.Goals as goal
 
-pub returns-in-len2-clause-named : goal.returns-in-len2-clause-named
-returns-in-len2-clause-named g c some =
-    let opened = g.O.Opened.Source.state in
-    let input = g.I.Source.state in
-    let i : AuditInputs = record {
-      words = map string_bytes c.args.words.now;
-      map = record { before = word_source opened input c.open_word-map.result; after = word_source opened input c.run_audit.new.map };
-      log = record { before = word_source opened input c.open_second-log.result; after = word_source opened input c.run_audit.new.log };
-    } in
-    let two : length c.args.words.now ≡ 2 = omega (arith, c.in-len2.len_at_least, c.in-len2.len_below) in
-    let words_are = texts_of_two string_bytes c.args.words.now c.map-item.result c.log-item.result two c.map-item.is c.log-item.is in
-    let map_word = c.as_str.ensures.value in
-    let log_word = c.as_str-in-len2.ensures.value in
-    let opens = g.O.Opener.opens c.args.opener.now in
-    let map_named = subst (λ w. IsNamed opens (input c.args.map_input) w i.map.before) c.as_str-in-len2-2.ensures.value c.open_word-map.ensures in (
-      i,
-      are_named opens (input c.args.map_input) (input c.args.log_input) i (string_bytes c.map-item.result) (string_bytes c.log-item.result) words_are map_named
-          (λ free. subst (λ w. IsNamed opens (input c.args.log_input) w i.log.before) log_word
-          (c.open_second-log.ensures.named (λ both. free (sym map_word ∙ both.0, sym log_word ∙ both.1))))
-          (λ both. c.open_second-log.ensures.missing (map_word ∙ both.0, log_word ∙ both.1)),
-      c.run_audit.ensures,
+pub returns-clause-named : goal.returns-clause-named
+returns-clause-named g c some =
+    let state = word_source g.O.Opened.Source.state g.I.Source.state in (
+      record {
+        words = map string_bytes c.args.words.now;
+        map = record { before = state c.open_inputs-map.result.0; after = state c.run_audit-status.new.map };
+        log = record { before = state c.open_inputs-map.result.1; after = state c.run_audit-status.new.log };
+      },
+      c.open_inputs-map.ensures _ _,
+      refl,
+      refl,
+      c.run_audit-status.ensures,
     )

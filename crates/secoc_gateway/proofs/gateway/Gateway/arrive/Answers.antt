@@ -1,8 +1,10 @@
-use Rattle.std.proofs.Common.{subst, sym, ap, ◌∙◌}
+use Rattle.std.proofs.Common.{ℕ, subst, sym, ap, ◌∙◌}
+use Rattle.freshness_routes.specs.declared.routes.Direction.TheVariants.{Sends}
 use Rattle.bus_machine.specs.declared.events.Event.TheVariants.{Inject}
-use Rattle.secoc_node.specs.State.{FitsNow}
+use Rattle.bus_laws.proofs.SoundSteps.{same_some}
+use Rattle.secoc_node.specs.State.{FitsNow, IsCovered}
 use Rattle.secoc_gateway.specs.State.{GatewayState, over}
-use Rattle.secoc_gateway.specs.Arrivals.{arrival_line}
+use Rattle.secoc_gateway.specs.Arrivals.{arrival_line, IfForwarded}
 use Rattle.secoc_gateway.proofs.Paired.{AreGood-same, good_routes, passes_config, step_of_pair}
 use Rattle.gateway_machine.specs.Gateway.{second_of, EventStep, GatewayStep}
 use Rattle.secoc_gateway.proofs.gateway.Gateway.arrive.Goals as goal
@@ -30,3 +32,8 @@ returns-clause-step g c place told also =
 
 pub returns-clause-fits : goal.returns-clause-fits
 returns-clause-fits g c = subst (λ s. FitsNow (over s) → FitsNow c.pass_on.new.node) c.self.view_is c.pass_on.ensures.fits
+
+pub returns-clause-departure_covered : goal.returns-clause-departure_covered
+returns-clause-departure_covered g c told also =
+    subst (λ (second : ℕ). IfForwarded c.pass_on.result (λ sent. IsCovered c.pass_on.new.node second Sends sent.freshness))
+    (same_some c.in-Some.second told (c.in-Some.ensures ∙ also)) c.pass_on.ensures.departure_covered

@@ -1,17 +1,20 @@
-use Rattle.std.proofs.Common.{◌≡◌, get_or, ap, sym, subst, ◌∙◌, Err}
+use Rattle.std.proofs.Common.{◌≡◌, get_or, refl, ap, sym, subst, ◌∙◌, Err}
 use Rattle.bus_machine.specs.declared.lines.Line.TheVariants.{Sent, Refused}
 use Rattle.bus_machine.specs.declared.lines.Refusal.TheVariants.{MemoryFailure}
 use Rattle.bus_machine.specs.Steps.{sends, NodeStep}
 use Rattle.std.specs.Prelude.{IfSome, take}
 use Rattle.freshness_manager.specs.Counters.{SenderCounter}
-use Rattle.freshness_routes.specs.declared.routes.Direction.TheVariants.{Sends}
+use Rattle.freshness_routes.specs.declared.routes.Direction.TheVariants.{Sends, Receives}
 use Rattle.secoc_sender.specs.Sending.{refusal_of_send, line_of_send, after_send}
 use Rattle.secoc_sender.specs.declared.sender.SendFault.{SendFault}
 use Rattle.secoc_node.specs.declared.counters.RouteCounter.TheVariants as of_route
-use Rattle.secoc_node.specs.State.{NodeState, FitsNow}
+use Rattle.secoc_node.specs.State.{NodeState, FitsNow, IsCovered}
+use Rattle.cell_store.specs.Cells.{CellsState}
+use Rattle.secoc_node.specs.declared.known.Known.{Known}
 use Rattle.secoc_node.specs.Keeping.{node_in, state_in}
+use Rattle.secoc_node.proofs.CoveredLaws.{covered_same}
 use Rattle.secoc_node.proofs.RouteLaws.{with_counter_at, fits_same}
-use Rattle.secoc_node.proofs.SendLaws.{no_receiver, tx_kept, has_sender, sent_done, sent_covered, send_failed}
+use Rattle.secoc_node.proofs.SendLaws.{no_receiver, tx_kept, has_sender, sent_done, sent_covered, sent_others, send_failed, failed_others}
 use Rattle.secoc_node.proofs.node.Node.send.Goals as goal
 
 pub unreachable-requires : goal.unreachable-requires
@@ -131,6 +134,50 @@ returns-in-Err-Faulted-clause-fits g c =
     (c.in-Err-Faulted.ensures.step (node_in c.self.inside.known) (has_sender c.self.inside.known (g.C.Cells.state c.self.inside.cells) c.self.invariant c.if-not-self.false c.args.id c.in-Some.place c.in-Some.route c.in-Some.ensures
     c.index_mut.result.now c.index_mut.ensures.value c.in-Sends.tx c.in-Sends.is)))
     c.fail_at.ensures.down).served.fits
+
+-- ---- what is covered of the routes that receive
+
+pub returns-in-Ok-clause-others : goal.returns-in-Ok-clause-others
+returns-in-Ok-clause-others g c other v =
+    let now = state_in (with_counter_at c.self.inside.known c.in-Some.place (of_route.Sends c.send.new.tx)) (g.C.Cells.state c.send.new.cells) in
+    subst (λ (s : NodeState). IsCovered s other Receives v → IsCovered now other Receives v) c.self.view_is
+    (sent_others c.self.inside.known (g.C.Cells.state c.self.inside.cells) c.self.invariant c.if-not-self.false c.args.id c.in-Some.place c.in-Some.route c.in-Some.ensures
+    c.index_mut.result.now c.index_mut.ensures.value c.in-Sends.tx c.in-Sends.is
+    c.send.new.tx (g.C.Cells.state c.send.new.cells) c.in-Ok.ensures.made other v)
+
+pub returns-in-Err-BadLength-clause-others : goal.returns-in-Err-BadLength-clause-others
+returns-in-Err-BadLength-clause-others g c other v =
+    let left = g.C.Cells.state c.send.new.cells in
+    let now = state_in (with_counter_at c.self.inside.known c.in-Some.place (of_route.Sends c.send.new.tx)) left in
+    let untouched = subst (λ (f : SendFault). IfSome (refusal_of_send (Err f)) (λ _. left ≡ g.C.Cells.state c.self.inside.cells)) c.in-Err-BadLength.field-0-is c.in-Err-BadLength.ensures.untouched in
+    subst (λ (s : NodeState). IsCovered s other Receives v → IsCovered now other Receives v) c.self.view_is
+    (covered_same (state_in c.self.inside.known (g.C.Cells.state c.self.inside.cells)) now refl (ap (λ (s : CellsState). s.cells) untouched) other v)
+
+pub returns-in-Err-Key-clause-others : goal.returns-in-Err-Key-clause-others
+returns-in-Err-Key-clause-others g c other v =
+    let left = g.C.Cells.state c.send.new.cells in
+    let now = state_in (with_counter_at c.self.inside.known c.in-Some.place (of_route.Sends c.send.new.tx)) left in
+    let untouched = subst (λ (f : SendFault). IfSome (refusal_of_send (Err f)) (λ _. left ≡ g.C.Cells.state c.self.inside.cells)) c.in-Err-Key.field-0-is c.in-Err-Key.ensures.untouched in
+    subst (λ (s : NodeState). IsCovered s other Receives v → IsCovered now other Receives v) c.self.view_is
+    (covered_same (state_in c.self.inside.known (g.C.Cells.state c.self.inside.cells)) now refl (ap (λ (s : CellsState). s.cells) untouched) other v)
+
+pub returns-in-Err-Exhausted-clause-others : goal.returns-in-Err-Exhausted-clause-others
+returns-in-Err-Exhausted-clause-others g c other v =
+    let left = g.C.Cells.state c.send.new.cells in
+    let now = state_in (with_counter_at c.self.inside.known c.in-Some.place (of_route.Sends c.send.new.tx)) left in
+    let untouched = subst (λ (f : SendFault). IfSome (refusal_of_send (Err f)) (λ _. left ≡ g.C.Cells.state c.self.inside.cells)) c.in-Err-Exhausted.field-0-is c.in-Err-Exhausted.ensures.untouched in
+    subst (λ (s : NodeState). IsCovered s other Receives v → IsCovered now other Receives v) c.self.view_is
+    (covered_same (state_in c.self.inside.known (g.C.Cells.state c.self.inside.cells)) now refl (ap (λ (s : CellsState). s.cells) untouched) other v)
+
+pub returns-in-Err-Faulted-clause-others : goal.returns-in-Err-Faulted-clause-others
+returns-in-Err-Faulted-clause-others g c other v =
+    let now = state_in c.fail_at.new.self (g.C.Cells.state c.send.new.cells) in
+    subst (λ (s : NodeState). IsCovered s other Receives v → IsCovered now other Receives v) c.self.view_is
+    (failed_others c.self.inside.known (g.C.Cells.state c.self.inside.cells) c.self.invariant c.if-not-self.false c.args.id c.in-Some.place c.in-Some.route c.in-Some.ensures
+    c.index_mut.result.now c.index_mut.ensures.value c.in-Sends.tx c.in-Sends.is
+    c.in-Err-Faulted.bound (g.C.Cells.state c.send.new.cells) c.fail_at.new.self
+    (c.in-Err-Faulted.ensures.failed c.in-Err-Faulted.bound (ap (λ (f : SendFault). Err f) c.in-Err-Faulted.field-0-is))
+    (ap (λ (k : Known). k.config) c.fail_at.ensures.down) other v)
 
 -- ---- it is sound whatever came of it
 

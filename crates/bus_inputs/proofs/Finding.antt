@@ -1,0 +1,38 @@
+-- The bus of a bus file, put together
+use Rattle.std.specs.Prelude.{◌≡◌, ℕ, List, Some, Result, Ok, Err}
+use Rattle.std.proofs.Common.{inl, inr, sym, subst}
+use Rattle.command_edge.specs.declared.input.InputFault.TheVariants as input
+use Rattle.answer_rows.specs.Rows.{Row, memory_row}
+use Rattle.answer_rows.specs.Inputs.{Reading, ReadsWhole}
+use Rattle.answer_rows.specs.InputLaws.{Lacks-whole}
+use Rattle.bus_config.specs.declared.fault.ConfigFault.{ConfigFault}
+use Rattle.bus_config.specs.declared.fault.ConfigFault.TheVariants as config
+use Rattle.bus_config.specs.BusFile.{bus_of}
+use Rattle.bus_config.specs.FaultTexts.{config_fault_text}
+use Rattle.bus_config.specs.Answers.{IsFaultOf}
+use Rattle.bus_nodes.specs.Buses.{NamedBus}
+use Rattle.bus_inputs.specs.BusFiles.{IsConfigRow, HasBus, LacksBus, no_file, file_refused, FindsBus}
+
+-- a fault that has a text is the definition's
+told_fault : (meaning : Result NamedBus ConfigFault) (fault : ConfigFault) (text : List ℕ) → IsFaultOf meaning fault → config_fault_text fault ≡ Some text → meaning ≡ Err fault
+told_fault meaning config.Toml text is told = is
+told_fault meaning config.Root text is told = is
+told_fault meaning (config.Node i) text is told = is
+told_fault meaning (config.Route i j) text is told = is
+told_fault meaning (config.Sender id) text is told = is
+told_fault meaning config.Memory text is told = cc told
+
+pub HasBus-refused : (file : List ℕ) (fault : ConfigFault) (row : Row) → IsFaultOf (bus_of file) fault → IsConfigRow fault row → HasBus file (Err row)
+HasBus-refused file fault row is (inl (text, told, row_is)) = inl (fault, told_fault (bus_of file) fault text is told, inl (text, told, row_is))
+HasBus-refused file fault row is (inr memory) = inr memory
+
+LacksBus-memory : (config : Reading) (file : List ℕ) (row : Row) → ReadsWhole config file → row ≡ memory_row → LacksBus config row
+LacksBus-memory config file row whole memory = subst (LacksBus config) (sym memory) (no_file input.Memory (Lacks-whole config file whole))
+
+-- a bus file that was read whole
+pub FindsBus-read : (config : Reading) (file : List ℕ) (result : Result NamedBus Row) → ReadsWhole config file → HasBus file result → FindsBus config result
+FindsBus-read config file (Ok bus) whole is = (file, whole, is)
+FindsBus-read config file (Err row) whole (inl (fault, is, inl (text, told, row_is))) =
+    subst (LacksBus config) (sym row_is) (file_refused fault text (file, whole, is) told)
+FindsBus-read config file (Err row) whole (inl (fault, is, inr memory)) = LacksBus-memory config file row whole memory
+FindsBus-read config file (Err row) whole (inr memory) = LacksBus-memory config file row whole memory

@@ -1,0 +1,5 @@
+pub mod BusFiles
+pub mod Scripts
+pub mod BusFileLaws
+pub mod Statuses
+pub mod EventLaws

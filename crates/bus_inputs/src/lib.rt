@@ -1,0 +1,54 @@
+//! What the programs that run over a bus share: the bus file and the rows for want of it, which are 3 and the text that
+//! names its first fault, beside those for want of any input; and the status of a run whose lines are written.
+#![tactic(auto)]
+
+ghost use Rattle.std.specs.Prelude.{◌≡◌};
+ghost use Rattle.bus_inputs.specs.BusFiles.{FindsBus, HasBus, IsConfigRow};
+ghost use Rattle.bus_inputs.specs.Statuses.{unwritten_status};
+
+use answer_rows::Refusal;
+use bus_config::{ConfigFault, Memory as NoMemory, config_fault_text, read_config};
+use bus_nodes::BusConfig;
+use bus_port::Source;
+use command_edge::{DONE, NO_MEMORY, WRITE_FAULT, read_input};
+use numbered_run::Unwritten;
+use std::alloc::Global;
+
+/// The bus of the bus file that a source gives, or its refusal.
+pub fn bus_from<S: Source>(alloc: Global, config: &mut S) -> Result<BusConfig, Refusal>
+    ensures { FindsBus (record { before = S.state config.old; after = S.state config.new }) result }
+{
+    let input = read_input(alloc, config)?;
+    bus_in(alloc, input.as_slice())
+}
+
+/// The bus of a bus file, or its refusal.
+fn bus_in(alloc: Global, text: &[u8]) -> Result<BusConfig, Refusal>
+    ensures { HasBus text.now result }
+{
+    match read_config(alloc, text) {
+        Ok(bus) => Ok(bus),
+        Err(fault) => Err(config_refusal(alloc, &fault)),
+    }
+}
+
+/// The refusal of a bus file, with the text that names its fault, or want of memory.
+fn config_refusal(alloc: Global, fault: &ConfigFault) -> Refusal
+    ensures { IsConfigRow fault.now result }
+{
+    match config_fault_text(alloc, fault) {
+        Ok(text) => Refusal::made(3, text),
+        Err(NoMemory) => Refusal::no_memory(),
+    }
+}
+
+/// The status of a run whose lines were all written, or not.
+pub fn status_of_run(printed: Result<(), Unwritten>) -> u8
+    ensures { result ≡ unwritten_status printed }
+{
+    match printed {
+        Ok(()) => DONE,
+        Err(Unwritten::SinkFailed) => WRITE_FAULT,
+        Err(Unwritten::Memory) => NO_MEMORY,
+    }
+}

@@ -1,0 +1,38 @@
+-- What the program runs
+use Rattle.std.specs.Prelude.{◌≡◌, ◌≢◌, ℕ, List, [], map, Vec}
+use Rattle.std.specs.declared.alloc.Global.{Global}
+use Rattle.bus_port.specs.Source.{SourceState}
+use Rattle.cut_disk.specs.declared.mem_disk.MemDisk.{MemDisk}
+use Rattle.cut_disk.specs.Memory.{disk_of}
+use Rattle.cut_disk.specs.MemDisk.{contents}
+use Rattle.answer_rows.specs.Endings.{Ending}
+use Rattle.gateway_commands.specs.Inputs.{GatewayInputs}
+use Rattle.gateway_commands.specs.Named.{SourcesAreNamed, IsExampleGateway}
+use Rattle.gateway_commands.specs.Promises.{RunsGateway}
+use Rattle.gateway.specs.Given.{DisksAreGiven, AsksOrNone}
+
+-- all that a gateway promises, of the disk that was made, and of this one as it was handed back
+abbrev pub RunsMade : Vec MemDisk Global → Vec MemDisk Global → GatewayInputs → Ending → Type 0
+RunsMade made left i e = RunsGateway (left ≡ made) i
+    (record {
+      before = map (λ disk. disk_of (contents disk)) made.items;
+      after = map (λ disk. disk_of (contents disk)) left.items;
+    }) e
+
+-- all of that was had of these words, over the sources that they name, and of the example where there are none, over
+-- the disk that is made for them
+pub record RunsOverOne (opens : List ℕ → SourceState → Type 0) (bus_input script_input : SourceState)
+    (words : List (List ℕ)) (e : Ending) : Type 0 where
+  pub inputs : GatewayInputs
+  pub example : words ≡ [] → IsExampleGateway inputs
+  pub named : words ≢ [] → SourcesAreNamed opens bus_input script_input words inputs
+  pub made : Vec MemDisk Global
+  pub left : Vec MemDisk Global
+  pub given : DisksAreGiven words made.items
+  pub runs : RunsMade made left inputs e
+
+-- the words ask for a gateway, or for the example, and there was no memory for its disk; nothing was written
+pub record WantsItsDisk (words : List (List ℕ)) (e : Ending) : Type 0 where
+  pub asks : AsksOrNone words
+  pub status_is : e.status ≡ 7
+  pub unwritten : e.after ≡ e.before

@@ -1,0 +1,130 @@
+//! `gateway`: a re-authenticating gateway (AUTOSAR SecOC, profile 1): PDUs that arrive under one Data ID are verified,
+//! and their payloads depart anew under another, through stops and power cuts.
+//!
+//! [`gateway_commands::gateway_words`] is the program; its clauses say what each status means and what is printed. Here
+//! it is handed the words, the files, standard input, standard output, and a disk in memory.
+#![tactic(auto)]
+
+ghost use Rattle.std.specs.Prelude.{◌≡◌, ◌≢◌, ◌⊎◌, [], drop, map, string_bytes, IfOk, IfErr, IsOk};
+ghost use Rattle.gateway_commands.specs.Words.{AsksNoGateway};
+ghost use Rattle.gateway.specs.Given.{IsOneBlank, DisksAreGiven, AsksOrNone};
+ghost use Rattle.gateway.specs.Running.{RunsOverOne, WantsItsDisk};
+
+use bus_port::{Sink, Source, StdSink, StdSource};
+use command_edge::{NO_MEMORY, behind_name, words_of};
+use cut_disk::MemDisk;
+use gateway_commands::{gateway_words, is_asked};
+use named_sources::{Opener, Paths};
+use std::alloc::{AllocError, Global};
+use std::process::ExitCode;
+
+fn main(rt: HostRuntime) -> ExitCode {
+    let mut sink = StdSink::new(rt.stdout());
+    let status = match words_of(&rt) {
+        Ok(words) => start(
+            rt.alloc(),
+            &Paths::of(&rt),
+            StdSource::new(rt.stdin()),
+            StdSource::new(rt.stdin()),
+            words.as_slice(),
+            &mut sink,
+        ),
+        Err(AllocError) => NO_MEMORY,
+    };
+    ExitCode::from(status)
+}
+
+/// Runs a gateway over the sources that the words of the command line name, the program's name first, or the example
+/// where there is none behind it; over one blank disk. Of words of another form nothing is opened.
+fn start<O: Opener, I: Source + Drop, K: Sink>(
+    alloc: Global,
+    opener: &O,
+    bus_input: I,
+    script_input: I,
+    words: &[String],
+    sink: &mut K,
+) -> u8
+    ensures words { RunsOverOne (O.opens opener.now) (I.state bus_input) (I.state script_input)
+        (drop 1 (map string_bytes words.now))
+        (record { before = K.state sink.old; after = K.state sink.new; status = result })
+        ⊎ WantsItsDisk (drop 1 (map string_bytes words.now))
+        (record { before = K.state sink.old; after = K.state sink.new; status = result }) }
+    ensures usage { result ≡ 2 → AsksNoGateway (drop 1 (map string_bytes words.now)) }
+    ensures usage_only { drop 1 (map string_bytes words.now) ≢ [] → AsksNoGateway (drop 1 (map string_bytes words.now))
+        → (result ≡ 2) ⊎ (result ≡ 6) }
+
+    // The disk that it makes is enough, and doesn't fail as the gateway starts.
+    ensures starts { (result ≢ 9) × (result ≢ 10) }
+{
+    run_words(
+        alloc,
+        opener,
+        bus_input,
+        script_input,
+        behind_name(words),
+        sink,
+    )
+}
+
+/// The same of the words behind the program's name.
+fn run_words<O: Opener, I: Source + Drop, K: Sink>(
+    alloc: Global,
+    opener: &O,
+    bus_input: I,
+    script_input: I,
+    words: &[String],
+    sink: &mut K,
+) -> u8
+    // All that a gateway promises, of these words, over the sources that they name, or the example's, and the disk that
+    // is made for it; or there was no memory for the disk, and nothing was written.
+    ensures words { RunsOverOne (O.opens opener.now) (I.state bus_input) (I.state script_input)
+        (map string_bytes words.now)
+        (record { before = K.state sink.old; after = K.state sink.new; status = result })
+        ⊎ WantsItsDisk (map string_bytes words.now)
+        (record { before = K.state sink.old; after = K.state sink.new; status = result }) }
+    ensures usage { result ≡ 2 → AsksNoGateway (map string_bytes words.now) }
+    ensures usage_only { map string_bytes words.now ≢ [] → AsksNoGateway (map string_bytes words.now)
+        → (result ≡ 2) ⊎ (result ≡ 6) }
+    ensures starts { (result ≢ 9) × (result ≢ 10) }
+{
+    match disks_for(alloc, words) {
+        Ok(mut disks) => gateway_words(
+            alloc,
+            opener,
+            bus_input,
+            script_input,
+            words,
+            sink,
+            &mut disks,
+        ),
+        Err(AllocError) => NO_MEMORY,
+    }
+}
+
+/// A blank disk of 65,536 bytes for a gateway, and for the example, which has no words; and none, without taking
+/// memory, for words of another form.
+fn disks_for(alloc: Global, words: &[String]) -> Result<Vec<MemDisk>, AllocError>
+    ensures given { IfOk result (λ disks. DisksAreGiven (map string_bytes words.now) disks.items) }
+    ensures wanted { IfErr result (λ _. AsksOrNone (map string_bytes words.now)) }
+    ensures usage { map string_bytes words.now ≢ [] → AsksNoGateway (map string_bytes words.now) → IsOk result }
+{
+    if words.is_empty() {
+        return one_disk(alloc);
+    }
+    if is_asked(words) {
+        return one_disk(alloc);
+    }
+    Ok(Vec::new(alloc))
+}
+
+/// A blank disk of 65,536 bytes.
+fn one_disk(alloc: Global) -> Result<Vec<MemDisk>, AllocError>
+    ensures { IfOk result (λ disks. IsOneBlank disks.items) }
+{
+    let Ok(disk) = MemDisk::new(alloc, 65_536) else {
+        return Err(AllocError);
+    };
+    let mut disks = Vec::new(alloc);
+    disks.push(disk)?;
+    Ok(disks)
+}

@@ -1,0 +1,11 @@
+pub mod Seen
+pub mod OneRun
+pub mod Facts
+pub mod Keeping
+pub mod Preparing
+pub mod Doing
+pub mod WorkedExample
+pub mod Wording
+pub mod OneNode
+pub mod Lines
+pub mod Naming

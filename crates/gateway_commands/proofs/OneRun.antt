@@ -1,0 +1,232 @@
+-- The turns of a gateway over a disk that tells its bytes are a run of its machine, and what holds of it
+use Rattle.std.specs.Prelude.{◌≡◌, ℕ, ◌+◌, ◌<◌, ◌≤◌, false, None, Some, List, [], ◌∷◌, length, take, drop, get_or, map, Result}
+use Rattle.std.proofs.Common.{refl, sym, ap, ◌∙◌, subst, arith}
+use Rattle.std.proofs.lemmas.List.{length-drop}
+use Rattle.std.proofs.lemmas.Option.{same_Some}
+use Rattle.bus_port.specs.Sink.{SinkState}
+use Rattle.cut_disk.specs.State.{DiskState, Told, Entry}
+use Rattle.cut_disk.specs.Arming.{no_arms}
+use Rattle.cell_store.specs.declared.kinds.Layout.{Layout}
+use Rattle.any_cells.specs.Either.{layout}
+use Rattle.machine_runs.specs.Run.{Moment, Run, seen_as}
+use Rattle.machine_runs.specs.RunLaws.{Run-seen_as}
+use Rattle.numbered_run.specs.declared.printing.Unwritten.{Unwritten}
+use Rattle.store_runs.specs.DiskTurns.{DiskTurn, OpenedDisk, TellsBytes, TracedSince, FailuresTold}
+use Rattle.store_runs.specs.DiskTurnLaws.{traced_since, failures_told}
+use Rattle.freshness_routes.specs.Config.{Config}
+use Rattle.bus_machine.specs.declared.events.Event.{Event}
+use Rattle.bus_machine.specs.declared.events.Event.TheVariants as event
+use Rattle.bus_machine.specs.Node.{Node, first_node, powered}
+use Rattle.bus_machine.specs.Sound.{Sound}
+use Rattle.bus_machine.specs.Bus.{First, SoundBus}
+use Rattle.bus_machine.specs.Past.{mark_of}
+use Rattle.bus_laws.specs.Laws.{BusesBeginFirst}
+use Rattle.bus_nodes.specs.declared.nodes.NodeLine.{NodeLine}
+use Rattle.bus_nodes.specs.Buses.{NamedBus, IsNamedBus, configs_of}
+use Rattle.bus_nodes.specs.Laws.{NamedBusesAreBuses}
+use Rattle.bus_script.specs.EventForms.{node_line_at}
+use Rattle.secoc_node.specs.Fits.{FitsNode}
+use Rattle.secoc_node.specs.State.{NodeState, FitsNow, TellsFitting}
+use Rattle.secoc_node.proofs.FitsLaws.{told_before}
+use Rattle.bus_world.specs.declared.start.Start.TheVariants.{Format}
+use Rattle.bus_world.specs.Turns.{IsCertain, most_calls}
+use Rattle.bus_world.specs.Starts.{start_calls, Opened}
+use Rattle.gateway_machine.specs.declared.lines.GatewayLine.{GatewayLine}
+use Rattle.gateway_machine.specs.Gateway.{departs_under, EventStep, GatewayStep, GatewayMoments, GatewayRun}
+use Rattle.gateway_machine.specs.Laws.{RunsForwardWhatArrived, ArrivalsRise, DeparturesRise}
+use Rattle.secoc_gateway.specs.State.{GatewayState, over}
+use Rattle.secoc_gateway.specs.Turns.{calls_under, most_gateway_calls, tells_gateway_failure, GatewayTurn}
+use Rattle.gateway_commands.specs.Texts.{gateway_text}
+use Rattle.gateway_commands.specs.Inputs.{gate_config, gate_node}
+use Rattle.gateway_commands.specs.Runs.{RanGateway}
+use Rattle.gateway_commands.specs.Headline.{TellsFirst, DiskFollows, FailuresAreCounted, OneGatewayRun}
+use Rattle.gateway_commands.proofs.Seen.{first_commands, written_as}
+
+-- any disk
+pub no_disk : DiskState
+no_disk = record { size = 0; told = None; arms = no_arms; faults = 0; quiet = false; past = None }
+
+-- the laws of the crates below, as their public functions ensure them
+pub record Laws : Type 0 where
+  pub buses : NamedBusesAreBuses
+  pub begin_first : BusesBeginFirst
+  pub forwards : RunsForwardWhatArrived
+  pub arrivals : ArrivalsRise
+  pub departures : DeparturesRise
+
+-- ---- the first node
+
+gate_sound : (nodes : List NodeLine) → length nodes ≡ 1 → SoundBus (First (map (λ node. node.config) nodes)) → Sound (first_node (node_line_at nodes 0).config)
+gate_sound [] one sound = absurd (let no : ⊥ = omega (arith, one) in no)
+gate_sound (n ∷ ns) one sound = sound 0 (omega arith)
+
+first_sound : (laws : Laws) (bus : NamedBus) → IsNamedBus bus → length bus.nodes ≡ 1 → Sound (gate_node bus)
+first_sound laws bus is one = gate_sound bus.nodes one (laws.begin_first (configs_of bus) (laws.buses bus is)).0.sound
+
+-- ---- turns over a disk that tells its bytes
+
+-- what holds of the states that they reach
+record Holds (l : Layout) (pairs : List (ℕ × ℕ)) (g : GatewayState) : Type 0 where
+  pub fitting : TellsFitting (over g)
+  pub pairs_are : g.pairs ≡ pairs
+  pub layout_is : g.store.layout ≡ l
+
+fits_of : (n : NodeState) → TellsFitting n → FitsNow n
+fits_of n fits = λ told is. subst (FitsNode n.store.layout n.node) (same_Some fits.now told (sym fits.told ∙ is)) fits.fits
+
+-- over such a disk every event is certain
+certain_of : (e : Event) (n : NodeState) → TellsFitting n → IsCertain (mark_of e) n
+certain_of (event.Send node id payload) n fits = tt
+certain_of (event.Deliver node number) n fits = tt
+certain_of (event.Inject node id pdu) n fits = tt
+certain_of (event.Load node request) n fits = tt
+certain_of (event.Key node update authkey) n fits = tt
+certain_of (event.Boot node image) n fits = tt
+certain_of (event.Cut node torn) n fits = fits
+certain_of (event.Stop node calls) n fits = tt
+certain_of (event.Fail node calls) n fits = tt
+
+abbrev GatewayMoment : Type 0
+GatewayMoment = Moment Event GatewayLine GatewayState
+
+-- the moments as those of the machine
+abbrev seen : List GatewayMoment → GatewayMoments
+seen ms = seen_as (λ (e : Event). e) (λ (g : GatewayState). g.node) ms
+
+module _ (l : Layout) (pairs : List (ℕ × ℕ)) where
+  turn_holds : (s : GatewayState) (e : Event) (line : GatewayLine) (t : GatewayState) → Holds l pairs s → GatewayTurn s e line t → Holds l pairs t
+  turn_holds s e line t h turn =
+      let tells = told_before t.store.disk.told s.store.disk.told (sym turn.disk.runs.tells) h.fitting.now h.fitting.told in
+      record {
+        fitting = record { now = tells.0; told = tells.1; fits = turn.fits (fits_of (over s) h.fitting) tells.0 tells.1 };
+        pairs_are = turn.pairs ∙ h.pairs_are;
+        layout_is = turn.layout ∙ h.layout_is;
+      }
+
+  turn_steps : (s : GatewayState) (e : Event) (line : GatewayLine) (t : GatewayState) → Holds l pairs s → GatewayTurn s e line t
+      → GatewayStep EventStep pairs s.node e line t.node × Holds l pairs t
+  turn_steps s e line t h turn = (
+    subst (λ (ps : List (ℕ × ℕ)). GatewayStep EventStep ps s.node e line t.node) h.pairs_are (turn.step (certain_of e (over s) h.fitting)),
+    turn_holds s e line t h turn,
+  )
+
+  -- the most calls are those of the pairs and of the configuration, which stay
+  same_calls : (s t : GatewayState) (e : Event) → s.pairs ≡ pairs → t.node.config ≡ s.node.config → most_gateway_calls s.pairs s.node e ≡ most_gateway_calls pairs t.node e
+  same_calls s t e same config =
+      ap (λ (ps : List (ℕ × ℕ)). most_gateway_calls ps s.node e) same
+      ∙ ap (λ (c : Config). calls_under (departs_under pairs e) (most_calls (14 + length c.routes) (mark_of e))) (sym config)
+
+  turn_disk : (s : GatewayState) (e : Event) (line : GatewayLine) (t : GatewayState) → Holds l pairs s → GatewayTurn s e line t
+      → DiskTurn (mark_of e) (most_gateway_calls pairs t.node e) (tells_gateway_failure line) s.store.disk t.store.disk × Holds l pairs t
+  turn_disk s e line t h turn = (
+    subst (λ (n : ℕ). DiskTurn (mark_of e) n (tells_gateway_failure line) s.store.disk t.store.disk) (same_calls s t e h.pairs_are turn.config) turn.disk,
+    turn_holds s e line t h turn,
+  )
+
+  run_holds : (start : GatewayState) (ms : List GatewayMoment) (now : GatewayState) → Holds l pairs start → Run GatewayTurn start ms now → Holds l pairs now
+  run_holds start [] now h run = subst (Holds l pairs) (sym run) h
+  run_holds start (m ∷ ms) now h run = run_holds m.after ms now (turn_holds start m.command m.line m.after h run.0) run.1
+
+  tells_bytes : (s : GatewayState) → Holds l pairs s → TellsBytes (FitsNode l s.node) s.store.disk
+  tells_bytes s h = record {
+    now = h.fitting.now;
+    told = h.fitting.told;
+    fit = subst (λ (x : Layout). FitsNode x s.node h.fitting.now) h.layout_is h.fitting.fits;
+  }
+
+-- ---- the start
+
+opened_disk : (bus : NamedBus) (before : DiskState) (n : NodeState) → Opened Format bus.kind bus.version (gate_config bus) before n
+    → OpenedDisk (start_calls Format bus.kind (gate_config bus)) before n.store.disk
+opened_disk bus before n opened = record { runs = opened.runs; grows = opened.grows; faults = opened.faults }
+
+opened_fits : (bus : NamedBus) (before : DiskState) (n : NodeState) (t : Told) → Opened Format bus.kind bus.version (gate_config bus) before n → before.told ≡ Some t → TellsFitting n
+opened_fits bus before n t opened is =
+    let now = told_before n.store.disk.told before.told (sym opened.runs.tells) t is in
+    record { now = now.0; told = now.1; fits = opened.fits now.0 now.1 }
+
+-- ---- the disks
+
+count_back : (disk : DiskState) (before : List DiskState) → 1 ≤ length before → length (disk ∷ drop 1 before) ≡ length before
+count_back disk before some = omega (arith, some, length-drop 1 before)
+
+-- ---- all of one run
+
+module _ (laws : Laws) (bus : NamedBus) (pairs : List (ℕ × ℕ)) (before after : List DiskState) (events : List Event)
+    (sink_before sink_after : SinkState) (result : Result (Unit {0}) Unwritten)
+    (ran : RanGateway bus pairs before after events sink_before sink_after result) (tells : TellsFirst before) where
+  abbrev l : Layout
+  l = layout bus.kind bus.version
+
+  abbrev ms : List GatewayMoment
+  ms = ran.printed.moments
+
+  starts : Holds l pairs ran.start
+  starts =
+      let opened = ran.opened no_disk in
+      let told = tells no_disk in
+      record {
+        fitting = opened_fits bus (get_or before 0 no_disk) (over ran.start) told.0 opened told.1;
+        pairs_are = ran.pairs_are;
+        layout_is = opened.layout_is;
+      }
+
+  starts_first : ran.start.node ≡ gate_node bus
+  starts_first = let told = tells no_disk in
+      let opened = ran.opened no_disk in opened.just_powered ∙ ap (powered (gate_config bus)) (opened.kept told.0 told.1).kept_as
+
+  ends : Holds l pairs ran.now
+  ends = run_holds l pairs ran.start ms ran.now starts ran.printed.run
+
+  is_run : GatewayRun pairs (gate_node bus) (seen ms) ran.now.node
+  is_run =
+      subst (λ (n : Node). GatewayRun pairs n (seen ms) ran.now.node) starts_first
+      (Run-seen_as GatewayTurn (GatewayStep EventStep pairs) (λ (e : Event). e) (λ (g : GatewayState). g.node) (Holds l pairs) (turn_steps l pairs)
+      ran.start ms ran.now starts ran.printed.run)
+
+  sound : Sound (gate_node bus)
+  sound = first_sound laws bus ran.is_bus ran.takes.one
+
+  disk_back : (d : DiskState) → get_or after 0 d ≡ ran.now.store.disk
+  disk_back d = ap (λ (disks : List DiskState). get_or disks 0 d) ran.disks
+
+  fit : (d : DiskState) → (told : Told) × ((get_or after 0 d).told ≡ Some told) × FitsNode l ran.now.node told
+  fit d =
+      let now = tells_bytes l pairs ran.now ends in
+      (now.now, ap (λ (disk : DiskState). disk.told) (disk_back d) ∙ now.told, now.fit)
+
+  traced : (d : DiskState) (all : List Entry) → (get_or after 0 d).past ≡ Some all
+      → TracedSince mark_of (most_gateway_calls pairs) (FitsNode l) (gate_node bus) (seen ms) (get_or before 0 d) all
+  traced d all told =
+      subst (λ (n : Node). TracedSince mark_of (most_gateway_calls pairs) (FitsNode l) n (seen ms) (get_or before 0 d) all) starts_first
+      (traced_since GatewayTurn (λ (g : GatewayState). g.node) (λ (g : GatewayState). g.store.disk) mark_of (most_gateway_calls pairs)
+      (λ (e : Event) (line : GatewayLine). tells_gateway_failure line) (Holds l pairs) (turn_disk l pairs) (FitsNode l) (tells_bytes l pairs)
+      (start_calls Format bus.kind (gate_config bus)) (get_or before 0 d) ran.start ms ran.now (opened_disk bus (get_or before 0 d) (over ran.start) (ran.opened d))
+      starts ran.printed.run all (ap (λ (disk : DiskState). disk.past) (sym (disk_back d)) ∙ told))
+
+  failures : FailuresAreCounted before after (seen ms)
+  failures d =
+      subst (λ (disk : DiskState). FailuresTold mark_of (λ (e : Event) (line : GatewayLine). tells_gateway_failure line) (seen ms) (get_or before 0 d) disk) (sym (disk_back d))
+      (failures_told GatewayTurn (λ (g : GatewayState). g.node) (λ (g : GatewayState). g.store.disk) mark_of (most_gateway_calls pairs)
+      (λ (e : Event) (line : GatewayLine). tells_gateway_failure line) (Holds l pairs) (turn_disk l pairs)
+      (start_calls Format bus.kind (gate_config bus)) (get_or before 0 d) ran.start ms ran.now (opened_disk bus (get_or before 0 d) (over ran.start) (ran.opened d))
+      starts ran.printed.run)
+
+  pub one_run : OneGatewayRun bus pairs before after events sink_before sink_after result
+  one_run = record {
+    moments = seen ms;
+    last = ran.now.node;
+    is_a_run = is_run;
+    first = first_commands (λ (g : GatewayState). g.node) ms events ran.printed.first;
+    written = written_as (λ (g : GatewayState). g.node) gateway_text ms events sink_before sink_after result ran.printed.holds;
+    forwards_what_arrived = laws.forwards pairs (gate_node bus) (seen ms) ran.now.node sound is_run;
+    arrivals_rise = laws.arrivals pairs (gate_node bus) (seen ms) ran.now.node sound is_run;
+    departures_rise = laws.departures pairs (gate_node bus) (seen ms) ran.now.node sound is_run;
+    disks = record {
+      fit = fit;
+      count = ap (λ (disks : List DiskState). length disks) ran.disks ∙ count_back ran.now.store.disk before (omega (arith, ran.room.enough, ran.takes.one));
+      rest = ap (λ (disks : List DiskState). drop 1 disks) ran.disks;
+      traced = traced;
+    };
+    failures = failures;
+  }

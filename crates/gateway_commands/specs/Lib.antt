@@ -1,0 +1,9 @@
+pub mod Words
+pub mod Texts
+pub mod Inputs
+pub mod Runs
+pub mod Headline
+pub mod Rows
+pub mod Promises
+pub mod Named
+pub mod Steps

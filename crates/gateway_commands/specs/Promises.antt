@@ -1,0 +1,100 @@
+-- What a gateway promises
+use Rattle.std.specs.Prelude.{◌≡◌, ◌⊎◌, ℕ, List, [], Ok, Err, codes}
+use Rattle.command_edge.specs.declared.input.InputFault.TheVariants.{ReadFault, TooLong}
+use Rattle.text_lines.specs.Readings.{Fault}
+use Rattle.text_lines.specs.Texts.{fault_text_of}
+use Rattle.answer_rows.specs.Rows.{Row, memory_row}
+use Rattle.answer_rows.specs.Inputs.{IsUnread, CountsFault, CountsTooMuch, Offers}
+use Rattle.answer_rows.specs.Endings.{Ending, EndsIn, MayEndIn, PrintsWhole, PrintsFront, SinkFailed, CountsWriteFault}
+use Rattle.numbered_run.specs.declared.printing.Unwritten.{Unwritten}
+use Rattle.numbered_run.specs.declared.printing.Unwritten.TheVariants as unwritten
+use Rattle.bus_config.specs.declared.fault.ConfigFault.{ConfigFault}
+use Rattle.bus_config.specs.BusFile.{bus_of}
+use Rattle.bus_machine.specs.declared.events.Event.{Event}
+use Rattle.bus_nodes.specs.Buses.{NamedBus}
+use Rattle.bus_script.specs.EventForms.{own_events_of}
+use Rattle.bus_world.specs.declared.start.Start.TheVariants.{Format}
+use Rattle.bus_world.specs.declared.start.StartFault.{StartFault}
+use Rattle.bus_world.specs.Starts.{HasRoom, FindsRoom}
+use Rattle.bus_world.specs.StartRows.{start_row, StoreCause, LeavesEach}
+use Rattle.bus_world.specs.StartAnswers.{DiskStates, ComesOfStart, BusHasDisks}
+use Rattle.bus_inputs.specs.BusFiles.{OffersBus}
+use Rattle.gateway_commands.specs.Words.{AsksGateway, AsksNoGateway}
+use Rattle.gateway_commands.specs.Texts.{gateway_usage}
+use Rattle.gateway_commands.specs.Inputs.{GatewayInputs, NoGatewayConfig, NoGatewayScript, RefusesPairs, RefusesConfig}
+use Rattle.gateway_commands.specs.Inputs.{OverGateway, OffersGateway}
+use Rattle.gateway_commands.specs.Headline.{TellsFirst, OneGatewayRun}
+use Rattle.gateway_commands.specs.Rows.{ScriptHasFault, RowOfInputs, DoneGateway, EndsGateway}
+
+-- a proper front was written of the text of a row that comes, as the sink failed; or nothing, as there was no memory
+abbrev pub CutShort : (Row → Type 0) → Ending → Unwritten → Type 0
+CutShort Comes e unwritten.SinkFailed = PrintsFront Comes e
+CutShort Comes e unwritten.Memory = Comes memory_row × PrintsWhole e []
+
+-- what is told and done where the sink fails, or memory is wanting: an input isn't valid or wasn't read to its end, and
+-- every disk is as before; or no event was done, and the disk is as before, or stands in every image for the first
+-- node's cells, or its count rose; or the first events were done, with the texts of all their lines but the last, and a
+-- front of this one
+pub data EndsEarly (same : Type 0) (i : GatewayInputs) (d : DiskStates) (e : Ending) (cause : Unwritten) : Type 0 where
+  unprepared : same → CutShort (RowOfInputs i) e cause → EndsEarly same i d e cause
+  unstarted : OverGateway i
+      (λ bus pairs events. LeavesEach Format bus d.before d.after × CutShort (ComesOfStart Format bus d) e cause)
+      → EndsEarly same i d e cause
+  begun : OverGateway i (λ bus pairs events. DoneGateway bus pairs events d e (Err cause)) → EndsEarly same i d e cause
+
+-- what a gateway promises that has these inputs and disks and ends so, in the order of the table of answers; `same` is
+-- that every disk is as before
+pub record RunsGateway (same : Type 0) (i : GatewayInputs) (d : DiskStates) (e : Ending) : Type 0 where
+  -- A row of the table comes; or of valid inputs the first events were done.
+  pub ends : EndsGateway same i d e
+  -- Every disk is as before at the status 2, 3, 4, 5 and 8.
+  pub disks_unused : (e.status ≡ 2) ⊎ (e.status ≡ 3) ⊎ (e.status ≡ 4) ⊎ (e.status ≡ 5) ⊎ (e.status ≡ 8) → same
+  -- 0: the inputs were read whole, and all events were done, with the text of each line.
+  pub done : e.status ≡ 0 → OverGateway i (λ bus pairs events. DoneGateway bus pairs events d e (Ok tt))
+  -- Over a disk that tells its bytes they are one run of the machine from the first node of the bus, and one record has
+  -- all that holds of it.
+  pub is_a_run : e.status ≡ 0 → TellsFirst d.before
+      → OverGateway i (λ bus pairs events. OneGatewayRun bus pairs d.before d.after events e.before e.after (Ok tt))
+  -- 2: exactly where the words are of another form; nothing was read.
+  pub usage_told : e.status ≡ 2
+      → AsksNoGateway i.words × IsUnread i.config × IsUnread i.script × PrintsWhole e gateway_usage
+  pub usage_only : AsksNoGateway i.words → EndsIn 2 e
+  -- 3: the bus file was read whole, and is refused for its first fault, or its number of nodes, or the lowest pair that
+  -- isn't taken; of the script nothing was read.
+  pub config_refused : e.status ≡ 3 → IsUnread i.script × ((pairs : List (ℕ × ℕ)) × AsksGateway i.words pairs
+      × ((text : List ℕ) × RefusesConfig i.config pairs text × PrintsWhole e text))
+  pub config_refused_only : (pairs : List (ℕ × ℕ)) (file : List ℕ) (fault : ConfigFault) → AsksGateway i.words pairs
+      → Offers i.config file → bus_of file ≡ Err fault → MayEndIn 3 e
+  pub pairs_refused_only : (pairs : List (ℕ × ℕ)) (bus : NamedBus) (text : List ℕ) → AsksGateway i.words pairs
+      → OffersBus i.config bus → RefusesPairs bus pairs text → MayEndIn 3 e
+  -- 4: the inputs were read whole, and the first fault of the script is printed.
+  pub refused : e.status ≡ 4 → (fault : Fault) × ScriptHasFault i fault × PrintsWhole e (fault_text_of fault)
+  pub refused_only : (bus : NamedBus) (pairs : List (ℕ × ℕ)) (input : List ℕ) (fault : Fault)
+      → OffersGateway i bus pairs
+      → Offers i.script input → own_events_of bus.nodes input ≡ Err fault → MayEndIn 4 e
+  -- 5: exactly where the count of faults rose of the source that was read.
+  pub read_fault : e.status ≡ 5
+      → (NoGatewayConfig i ReadFault ⊎ NoGatewayScript i ReadFault) × PrintsWhole e (codes "read fault\n")
+  pub read_fault_only : CountsFault i.config ⊎ CountsFault i.script → EndsIn 5 e
+  -- 6: exactly where the sink's count of faults rose.
+  pub write_fault : e.status ≡ 6 → SinkFailed e × EndsEarly same i d e unwritten.SinkFailed
+  pub write_fault_only : CountsWriteFault e → e.status ≡ 6
+  -- 7: want of memory comes.
+  pub no_memory : e.status ≡ 7 → EndsEarly same i d e unwritten.Memory
+  -- 8: exactly where one byte more than an input may have came from a source.
+  pub too_long : e.status ≡ 8
+      → (NoGatewayConfig i TooLong ⊎ NoGatewayScript i TooLong) × PrintsWhole e (codes "input too long\n")
+  pub too_long_only : CountsTooMuch i.config ⊎ CountsTooMuch i.script → EndsIn 8 e
+  -- 9: exactly where there is no disk, or the first is too small; every disk is as before.
+  pub disks_refused : e.status ≡ 9 → OverGateway i (λ bus pairs events. (d.after ≡ d.before)
+      × ((fault : StartFault) × FindsRoom bus d.before fault × PrintsWhole e (start_row fault).text))
+  pub disks_refused_only : (bus : NamedBus) (pairs : List (ℕ × ℕ)) (input : List ℕ) (events : List Event)
+      → OffersGateway i bus pairs → Offers i.script input → own_events_of bus.nodes input ≡ Ok events
+      → ¬ HasRoom bus d.before → MayEndIn 9 e
+  -- 10: the disk failed, and wasn't quiet; over a disk that doesn't tell its bytes also what was read again.
+  pub store_refused : e.status ≡ 10 → OverGateway i (λ bus pairs events. LeavesEach Format bus d.before d.after
+      × ((fault : StartFault) × StoreCause Format bus d.before d.after fault × PrintsWhole e (start_row fault).text))
+  -- What is valid is done, where no port failed and there was memory.
+  pub complete : (bus : NamedBus) (pairs : List (ℕ × ℕ)) (input : List ℕ) (events : List Event)
+      → OffersGateway i bus pairs → Offers i.script input → own_events_of bus.nodes input ≡ Ok events
+      → BusHasDisks Format bus d → ¬ SinkFailed e → (e.status ≡ 0) ⊎ (e.status ≡ 7)

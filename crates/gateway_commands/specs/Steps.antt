@@ -1,0 +1,104 @@
+-- What the steps of the work say to one another
+use Rattle.std.specs.Prelude.{◌≡◌, ◌⊎◌, ℕ, ◌<◌, ◌≤◌, Bool, true, false, None, Some, List, [], length, slice_index_or}
+use Rattle.std.specs.Prelude.{All, Result, Ok, Err, Vec}
+use Rattle.std.specs.declared.alloc.Global.{Global}
+use Rattle.answer_rows.specs.Rows.{Row, row_of, memory_row}
+use Rattle.answer_rows.specs.Inputs.{Reading}
+use Rattle.answer_rows.specs.Endings.{Ending, EndsInRow}
+use Rattle.line_rows.specs.LineRows.{NoLines}
+use Rattle.text_lines.specs.Readings.{most_lines}
+use Rattle.bus_port.specs.Sink.{SinkState}
+use Rattle.numbered_run.specs.declared.printing.Unwritten.{Unwritten}
+use Rattle.numbered_run.specs.Printed.{Printed}
+use Rattle.bus_machine.specs.declared.events.Event.{Event}
+use Rattle.bus_nodes.specs.Buses.{NamedBus, IsNamedBus}
+use Rattle.bus_script.specs.EventForms.{own_events_of}
+use Rattle.bus_script.specs.ScriptEvents.{IsScriptEvent}
+use Rattle.bus_world.specs.declared.start.Start.TheVariants.{Format}
+use Rattle.bus_world.specs.StartAnswers.{DiskStates, ComesOfStart}
+use Rattle.bus_inputs.specs.Scripts.{LacksLines, ReadsLinesAs}
+use Rattle.secoc_node.specs.State.{NodeState}
+use Rattle.secoc_gateway.specs.State.{GatewayState, over}
+use Rattle.secoc_gateway.specs.Pairs.{pair_in}
+use Rattle.secoc_gateway.specs.Turns.{GatewayTurn}
+use Rattle.gateway_commands.specs.declared.job.GatewayJob.{GatewayJob}
+use Rattle.gateway_commands.specs.Words.{pair_form, AsksGateway, AsksNoGateway}
+use Rattle.gateway_commands.specs.Texts.{gateway_usage, gateway_text, pair_text}
+use Rattle.gateway_commands.specs.Inputs.{GatewayInputs, TakesPairs, RefusesPairs, SetsGateway}
+use Rattle.gateway_commands.specs.Rows.{RowOfInputs, DoneGateway}
+
+-- ---- the words
+
+-- each word is that of the pair in its place; or one is of another form
+abbrev pub HasPairs : List (List ℕ) → List (ℕ × ℕ) → Bool → Type 0
+HasPairs given room true = (k : ℕ) → k < length given → pair_form (slice_index_or given k []) ≡ Some (pair_in room k)
+HasPairs given room false = (k : ℕ) × (k < length given) × (pair_form (slice_index_or given k []) ≡ None)
+
+-- the pairs that words give, or why they give none
+abbrev pub FindsPairs : List (List ℕ) → Result (Vec (ℕ × ℕ) Global) Row → Type 0
+FindsPairs words (Ok pairs) = AsksGateway words pairs.items
+FindsPairs words (Err row) =
+    (AsksNoGateway words × (row ≡ row_of 2 gateway_usage))
+    ⊎ (((pairs : List (ℕ × ℕ)) × AsksGateway words pairs) × (row ≡ memory_row))
+
+-- ---- the bus
+
+-- the row of a pair that isn't taken, by its number, or want of memory for its text
+abbrev pub IsPairRow : ℕ → Row → Type 0
+IsPairRow number row = (row ≡ row_of 3 (pair_text number)) ⊎ (row ≡ memory_row)
+
+-- the bus takes the pairs, or is refused
+abbrev pub ChecksPairs : NamedBus → List (ℕ × ℕ) → Result (Unit {0}) Row → Type 0
+ChecksPairs bus pairs (Ok _) = TakesPairs bus pairs
+ChecksPairs bus pairs (Err row) =
+    ((text : List ℕ) × RefusesPairs bus pairs text × (row ≡ row_of 3 text)) ⊎ (row ≡ memory_row)
+
+-- ---- the script
+
+-- such as a script has, at most 65,536 of them
+abbrev pub AreOwnEvents : NamedBus → List Event → Type 0
+AreOwnEvents bus events = All (IsScriptEvent bus.nodes) events × (length events ≤ most_lines)
+
+-- the events of a script, or why there are none
+abbrev pub HasOwnScript : NamedBus → List ℕ → Result (Vec Event Global) Row → Type 0
+HasOwnScript bus text (Ok events) = (own_events_of bus.nodes text ≡ Ok events.items) × AreOwnEvents bus events.items
+HasOwnScript bus text (Err row) = NoLines (own_events_of bus.nodes text) row
+
+-- those of a source that was read whole, or why there are none
+abbrev pub FindsOwnScript : NamedBus → Reading → Result (Vec Event Global) Row → Type 0
+FindsOwnScript bus script (Ok events) =
+    ReadsLinesAs (own_events_of bus.nodes) script events.items × AreOwnEvents bus events.items
+FindsOwnScript bus script (Err row) = LacksLines (own_events_of bus.nodes) script row
+
+-- ---- the first phase
+
+-- the job is over a bus, and has events such as a script has
+pub record IsWholeJob (job : GatewayJob) : Type 0 where
+  pub is_bus : IsNamedBus job.bus
+  pub takes : TakesPairs job.bus job.pairs.items
+  pub events : AreOwnEvents job.bus job.events.items
+
+-- how the first phase ends: in a job over inputs that were read whole, or in a row that comes
+abbrev pub PreparesGateway : GatewayInputs → Result GatewayJob Row → Type 0
+PreparesGateway i (Ok job) = IsWholeJob job × SetsGateway i job.bus job.pairs.items job.events.items
+PreparesGateway i (Err row) = RowOfInputs i row
+
+-- ---- the second phase
+
+-- a gateway over this node with these pairs took the turns of the first events, and its node is handed back
+pub record PrintsTurns (before : NodeState) (pairs : List (ℕ × ℕ)) (events : List Event)
+    (sink_before sink_after : SinkState)
+    (after : NodeState) (result : Result (Unit {0}) Unwritten) : Type 0 where
+  pub start : GatewayState
+  pub now : GatewayState
+  pub over_node : over start ≡ before
+  pub pairs_are : start.pairs ≡ pairs
+  pub printed : Printed GatewayTurn gateway_text start now sink_before sink_after events result
+  pub handed_back : over now ≡ after
+
+-- how a job ends: it isn't started, or it did its first events
+pub data DoesGateway (bus : NamedBus) (pairs : List (ℕ × ℕ)) (events : List Event) (d : DiskStates)
+    (e : Ending) : Type 0 where
+  refused_start : EndsInRow (ComesOfStart Format bus d) e → DoesGateway bus pairs events d e
+  first_done : (result : Result (Unit {0}) Unwritten) → DoneGateway bus pairs events d e result
+      → DoesGateway bus pairs events d e

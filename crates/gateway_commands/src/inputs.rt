@@ -1,0 +1,72 @@
+//! What the sources of a gateway have, or why they have it not.
+ghost use Rattle.std.specs.Prelude.{◌≡◌, ◌<◌, ◌≤◌, ◌^◌, length, MatchOption};
+ghost use Rattle.secoc_gateway.specs.Pairs.{AreGood, IsLowestBad};
+ghost use Rattle.gateway_commands.specs.Steps.{IsPairRow, ChecksPairs, HasOwnScript, FindsOwnScript};
+
+use answer_rows::Refusal;
+use bus_nodes::BusConfig;
+use bus_port::Source;
+use bus_script::{Event, read_own_script};
+use command_edge::read_input;
+use freshness_routes::NodeConfig;
+use line_rows::line_refusal;
+use secoc_gateway::lowest_bad;
+use std::alloc::{AllocError, Global};
+
+/// Whether the bus has one node, and a gateway over it takes these pairs; or the refusal that names the lowest that
+/// isn't taken.
+pub fn check_pairs(alloc: Global, bus: &BusConfig, pairs: &[(u16, u16)]) -> Result<(), Refusal>
+    ensures { ChecksPairs bus.now pairs.now result }
+{
+    let nodes = bus.nodes();
+    if nodes.len() != 1 {
+        return Err(Refusal::fixed(3, "config: nodes\n"));
+    }
+    let node = &nodes[0];
+    match bad_pair(&node.config, pairs) {
+        None => Ok(()),
+        Some(place) => Err(pair_refusal(alloc, place + 1)),
+    }
+}
+
+// The place of the lowest pair that a gateway over a node with this configuration doesn't take, counted from 0.
+fn bad_pair(config: &NodeConfig, pairs: &[(u16, u16)]) -> Option<u16>
+    ensures lowest { MatchOption result (AreGood config.now.routes pairs.now)
+        (IsLowestBad config.now.routes pairs.now) }
+    ensures within { MatchOption result (Unit {0}) (λ place. place ≤ 256) }
+{
+    lowest_bad(config.routes.as_slice(), pairs)
+}
+
+// The refusal of the pair with this number, from 1.
+fn pair_refusal(alloc: Global, number: u16) -> Refusal
+    ensures { IsPairRow number result }
+{
+    match format!(in alloc; "config: pair {number}\n") {
+        Ok(text) => Refusal::made(3, text),
+        Err(AllocError) => Refusal::no_memory(),
+    }
+}
+
+/// The events of the script that a source gives, over this bus, or the refusal of the source or of a line.
+pub fn own_script_from<S: Source>(
+    alloc: Global,
+    bus: &BusConfig,
+    script: &mut S,
+) -> Result<Vec<Event>, Refusal>
+    ensures { FindsOwnScript bus.now (record { before = S.state script.old; after = S.state script.new }) result }
+{
+    let input = read_input(alloc, script)?;
+    own_events_in(alloc, bus, input.as_slice())
+}
+
+// The events of a script, or the refusal of a line.
+fn own_events_in(alloc: Global, bus: &BusConfig, text: &[u8]) -> Result<Vec<Event>, Refusal>
+    requires { length text.now < 2 ^ 32 }
+    ensures { HasOwnScript bus.now text.now result }
+{
+    match read_own_script(alloc, text, bus) {
+        Ok(events) => Ok(events),
+        Err(fault) => Err(line_refusal(alloc, fault)),
+    }
+}

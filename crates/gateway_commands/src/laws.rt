@@ -1,0 +1,18 @@
+//! What holds of every gateway over a disk that tells its bytes, put together from the laws of the crates below.
+ghost use Rattle.gateway_commands.specs.Headline.{GatewaysAreRuns};
+
+use bus_laws::buses_begin_first;
+use bus_nodes::named_buses_are_buses;
+use gateway_machine::{arrivals_rise, departures_rise, forwards_what_arrived};
+
+/// What was done of a gateway over a disk that tells its bytes is one run of its machine, and all of `OneGatewayRun`
+/// holds of it.
+pub fn gateways_are_runs()
+    ensures { GatewaysAreRuns }
+{
+    named_buses_are_buses();
+    buses_begin_first();
+    forwards_what_arrived();
+    arrivals_rise();
+    departures_rise();
+}

@@ -1,0 +1,71 @@
+//! The command of the program.
+ghost use Rattle.std.specs.Prelude.{◌≡◌, map, string_bytes};
+ghost use Rattle.gateway_commands.specs.Promises.{RunsGateway};
+ghost use Rattle.gateway_commands.specs.Steps.{PreparesGateway};
+
+use crate::inputs::{check_pairs, own_script_from};
+use crate::job::GatewayJob;
+use crate::running::do_job;
+use crate::words::asked_pairs;
+use answer_rows::{Refusal, tell_refusal};
+use bus_inputs::bus_from;
+use bus_port::{Sink, Source};
+use cut_disk::CutDisk;
+use std::alloc::Global;
+
+/// Runs a script over a gateway, and gives the status that the program ends with. Of the words, the program's name left
+/// out, the first names the bus file, which `config` gives, and the second the script, which `script` gives; each other
+/// one, 1 to 32 of them, is a pair `IN=OUT` of Data IDs of four hexadecimal digits. The bus has one node. The first
+/// disk is formatted for it, and each line is written as soon as its event is done. All reading comes before all
+/// printing, and every text that is printed ends with a line feed.
+///
+/// The statuses are looked for in the order 2, then 5, 8 and 3 of the bus file and its pairs, then 5, 8 and 4 of the
+/// script, then 9 and 10 of the disk. A sink that fails makes the status 6, whatever was to be printed, and no further
+/// event is done. Want of memory, 7, prints nothing more.
+pub fn run_gateway<S: Source, T: Source, K: Sink, D: CutDisk>(
+    alloc: Global,
+    words: &[String],
+    config: &mut S,
+    script: &mut T,
+    sink: &mut K,
+    disks: &mut Vec<D>,
+) -> u8
+    // `RunsGateway` of specs/Promises.antt has a member for each promise, in the order of the table of answers. Over a
+    // disk that tells its bytes what was done is one run of the machine, and one record has all that holds of it:
+    // `is_a_run`, `forwards_what_arrived`, `arrivals_rise`, `departures_rise`, `disks` and `failures`.
+    ensures { RunsGateway (disks.new ≡ disks.old)
+        (record {
+          words = map string_bytes words.now;
+          config = record { before = S.state config.old; after = S.state config.new };
+          script = record { before = T.state script.old; after = T.state script.new };
+        })
+        (record { before = map D.state disks.old.items; after = map D.state disks.new.items })
+        (record { before = K.state sink.old; after = K.state sink.new; status = result }) }
+{
+    match prepare(alloc, words, config, script) {
+        Ok(job) => do_job(alloc, job, sink, disks),
+        Err(refusal) => tell_refusal(sink, &refusal),
+    }
+}
+
+// The first phase: the words and the inputs. It ends in a job, or in the first refusal that applies.
+fn prepare<S: Source, T: Source>(
+    alloc: Global,
+    words: &[String],
+    config: &mut S,
+    script: &mut T,
+) -> Result<GatewayJob, Refusal>
+    ensures { PreparesGateway
+        (record {
+          words = map string_bytes words.now;
+          config = record { before = S.state config.old; after = S.state config.new };
+          script = record { before = T.state script.old; after = T.state script.new };
+        })
+        result }
+{
+    let pairs = asked_pairs(alloc, words)?;
+    let bus = bus_from(alloc, config)?;
+    check_pairs(alloc, &bus, pairs.as_slice())?;
+    let events = own_script_from(alloc, &bus, script)?;
+    Ok(GatewayJob { bus, pairs, events })
+}

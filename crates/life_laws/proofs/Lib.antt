@@ -1,0 +1,5 @@
+pub mod Stages
+pub mod Rising
+pub mod Keeping
+pub mod Seams
+pub mod Chain

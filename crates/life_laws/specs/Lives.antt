@@ -1,0 +1,159 @@
+-- The lives of a bus: its runs, one after another over the same disks
+use Rattle.std.specs.Prelude.{◌≡◌, ℕ, ◌<◌, ◌⊎◌, List, [], ◌∷◌, ◌++◌, length, map, get_or, AllPairs}
+use Rattle.key_slots.specs.declared.memory.Slot.{Slot}
+use Rattle.cut_disk.specs.State.{DiskState}
+use Rattle.cut_disk.specs.Images.{CutsTo}
+use Rattle.machine_runs.specs.Run.{Moment}
+use Rattle.bus_machine.specs.declared.events.Event.{Event}
+use Rattle.bus_machine.specs.declared.lines.Line.{Line}
+use Rattle.bus_machine.specs.Steps.{PowersUp}
+use Rattle.bus_machine.specs.Bus.{World, First, Instant, Moments, node_at}
+use Rattle.bus_machine.specs.Freshness.{Rising, Single}
+use Rattle.bus_machine.specs.KeysKept.{slot_in, Acknowledges, FailsUpdate, GoesOn}
+use Rattle.bus_nodes.specs.Buses.{NamedBus, IsNamedBus, configs_of}
+use Rattle.bus_world.specs.declared.start.Start.TheVariants.{Attach}
+use Rattle.bus_world.specs.Worlds.{BusState, world_of}
+use Rattle.bus_world.specs.Starts.{Started, StartsOver}
+use Rattle.world_runs.specs.WorldRuns.{WorldRun}
+use Rattle.world_runs.specs.Turns.{seen, TakesTurns}
+
+-- One life of a bus: the disks that it found, its first world, what it was told to do, its moments, and the world and the
+-- disks that they left. The program prints the lines of the moments, in order, for as long as it lives. One that is
+-- killed between two calls of its disks has printed a front of the lines of a life; and one that is killed within an
+-- event, a front of the lines of a life in which that event's next call was stopped, as by an event `stop` before it.
+pub record Life : Type 0 where
+  pub before : List DiskState
+  pub first : World
+  pub events : List Event
+  pub moments : Moments
+  pub last : World
+  pub after : List DiskState
+
+-- it is a run of the bus over disks that tell their bytes
+abbrev pub IsLifeOf : NamedBus → Life → Type 0
+IsLifeOf bus life = WorldRun life.first bus life.before life.after life.events life.moments life.last
+
+-- a disk as the next life finds it: as it was left, or as a power cut may leave it
+abbrev pub LeftToNext : DiskState → DiskState → Type 0
+LeftToNext left found = (found.told ≡ left.told) ⊎ CutsTo left.told found.told
+
+-- a life goes on where the disks stand that the one before it left
+pub record Follows (bus : NamedBus) (life next : Life) : Type 0 where
+  pub disks : (i : ℕ) (d : DiskState) → i < length bus.nodes
+      → LeftToNext (get_or life.after i d) (get_or next.before i d)
+  pub goes_on : StartsOver bus next.before next.first
+
+-- the first of them begins at the first world of the bus, over formatted disks, or goes on where its disks stand
+abbrev pub IsFirstLife : NamedBus → Life → Type 0
+IsFirstLife bus life = (life.first ≡ First (configs_of bus)) ⊎ StartsOver bus life.before life.first
+
+-- further lives, each of which follows the one before it
+abbrev pub LivesBehind : NamedBus → Life → List Life → Type 0
+LivesBehind bus life [] = Unit {0}
+LivesBehind bus life (next ∷ lives) = Follows bus life next × IsLifeOf bus next × LivesBehind bus next lives
+
+-- the lives of a bus, in order
+abbrev pub LivesOf : NamedBus → List Life → Type 0
+LivesOf bus [] = Unit {0}
+LivesOf bus (life ∷ lives) = IsFirstLife bus life × IsLifeOf bus life × LivesBehind bus life lives
+
+-- ---- what passes in them
+
+-- all moments of these lives, in order
+abbrev pub moments_in : List Life → Moments
+moments_in [] = []
+moments_in (life ∷ lives) = life.moments ++ moments_in lives
+
+-- what comes next in lives: one of them begins in a world, or a moment passes in it
+pub data Stage : Type 0 where
+  life_begins : (first : World) → Stage
+  moment_passes : (moment : Instant) → Stage
+
+-- all stages of these lives, in order
+abbrev pub stages_in : List Life → List Stage
+stages_in [] = []
+stages_in (life ∷ lives) = life_begins life.first ∷ (map moment_passes life.moments ++ stages_in lives)
+
+-- the world at a stage, and behind several
+abbrev pub world_at : Stage → World
+world_at (life_begins first) = first
+world_at (moment_passes m) = m.after
+
+abbrev pub world_behind : World → List Stage → World
+world_behind world [] = world
+world_behind world (stage ∷ stages) = world_behind (world_at stage) stages
+
+-- at some moment of these stages this holds of the world before it and of the moment
+abbrev pub AtSomeStage : (World → Instant → Type 0) → World → List Stage → Type 0
+AtSomeStage P before [] = ⊥
+AtSomeStage P before (life_begins first ∷ stages) = AtSomeStage P first stages
+AtSomeStage P before (moment_passes m ∷ stages) = P before m ⊎ AtSomeStage P m.after stages
+
+-- ---- what holds of them
+
+-- of two stages, the slots of the nodes at the later go on: no counter has fallen, and none that was filled is empty
+abbrev pub SlotsOutlast : ℕ → List Stage → Type 0
+SlotsOutlast nodes =
+    AllPairs (λ stage later.
+    (i t : ℕ) → i < nodes → GoesOn (slot_in (world_at stage) i t) (slot_in (world_at later) i t))
+
+-- the moment's event is an update of slot t of node i to this content, which was acknowledged, or failed
+abbrev pub RenewsSlot : ℕ → ℕ → Slot → World → Instant → Type 0
+RenewsSlot i t slot before m = Acknowledges i t slot before m ⊎ FailsUpdate i t slot before m
+
+-- what slot t of node i holds behind stages that follow an acknowledged update to `slot`: that, or the whole update of a
+-- later moment, which was acknowledged or failed
+abbrev pub HoldsLatest : ℕ → ℕ → Slot → World → List Stage → Type 0
+HoldsLatest i t slot world since =
+    let now = slot_in (world_behind world since) i t in
+    (now ≡ slot) ⊎ AtSomeStage (RenewsSlot i t now) world since
+
+-- an acknowledged update is there ever after, in its life and in those behind it, or a later one is in its place
+abbrev pub UpdatesOutlast : List Stage → Type 0
+UpdatesOutlast stages =
+    (done : List Stage) (stage : Stage) (m : Instant) (since later : List Stage) (i t : ℕ) (slot : Slot)
+    → stages ≡ done ++ stage ∷ moment_passes m ∷ since ++ later
+    → Acknowledges i t slot (world_at stage) m
+    → HoldsLatest i t slot m.after since
+
+-- each node of a life begins as it powers up from the last world of the life before: it keeps what it kept then, or that
+-- with the change that was pending
+abbrev pub EachPowersUp : ℕ → List Life → Type 0
+EachPowersUp nodes lives =
+    (done : List Life) (life next : Life) (later : List Life) → lives ≡ done ++ life ∷ next ∷ later
+    → (i : ℕ) → i < nodes → PowersUp (node_at life.last i) (node_at next.first i)
+
+-- Of two lines, from the first of the first life to the last of the last, the later has the greater freshness: where both
+-- are accepted by one node under one Data ID, and where both are sent under one.
+pub record LivesGoOn (bus : NamedBus) (lives : List Life) : Type 0 where
+  pub freshness_rises : Rising (moments_in lives) × Single (moments_in lives)
+  pub no_slot_goes_back : SlotsOutlast (length bus.nodes) (stages_in lives)
+  pub no_update_is_lost : UpdatesOutlast (stages_in lives)
+  pub each_powers_up : EachPowersUp (length bus.nodes) lives
+
+abbrev pub AllLivesGoOn : Type 0
+AllLivesGoOn = (bus : NamedBus) (lives : List Life) → LivesOf bus lives → LivesGoOn bus lives
+
+-- ---- where they come from
+
+-- the life of turns of a bus
+abbrev pub life_of : List DiskState → List DiskState → List Event → BusState → List (Moment Event Line BusState)
+    → BusState → Life
+life_of before after events start moments now = record {
+  before = before;
+  first = world_of start;
+  events = events;
+  moments = seen moments;
+  last = world_of now;
+  after = after;
+}
+
+-- turns of a bus that was started over attached disks, as a power cut may leave those of a life, are a life that follows
+abbrev pub AttachedRunsFollow : Type 0
+AttachedRunsFollow = (bus : NamedBus) (life : Life) (most : ℕ) (before after : List DiskState) (events : List Event)
+    (start : BusState) (moments : List (Moment Event Line BusState)) (now : BusState)
+    → IsNamedBus bus → IsLifeOf bus life
+    → ((i : ℕ) (d : DiskState) → i < length bus.nodes → CutsTo (get_or life.after i d).told (get_or before i d).told)
+    → Started Attach bus most before start → TakesTurns bus before after events start moments now
+    → Follows bus life (life_of before after events start moments now)
+    × IsLifeOf bus (life_of before after events start moments now)

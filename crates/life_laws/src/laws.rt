@@ -1,0 +1,19 @@
+//! The laws of the lives of a bus.
+ghost use Rattle.life_laws.specs.Lives.{AllLivesGoOn, AttachedRunsFollow};
+
+use world_runs::{starts_are_set_up, starts_go_on_at_a_first_world, turns_are_world_runs};
+
+/// Over all lives of a bus, over disks that tell their bytes: freshness that is accepted or sent rises strictly, no slot
+/// goes back, no acknowledged update is lost, and each node begins a life as after a power cut in the one before.
+pub fn lives_go_on()
+    ensures { AllLivesGoOn }
+{}
+
+/// A run over attached disks is a next life: it follows the one that left these disks, whatever a power cut made of them.
+pub fn attached_runs_are_next_lives()
+    ensures { AttachedRunsFollow }
+{
+    starts_are_set_up();
+    starts_go_on_at_a_first_world();
+    turns_are_world_runs();
+}

@@ -1,0 +1,10 @@
+//! What holds over all lives of a bus: over runs of it, one after another over the same disks, each of which ends as its
+//! program does, or is killed, or loses its power. It is what a user of real files asks for.
+//!
+//! Here are definitions and laws alone: the body of each function has calls of the laws below at most, and its contract
+//! is the law.
+#![tactic(auto)]
+
+mod laws;
+
+pub use laws::{attached_runs_are_next_lives, lives_go_on};

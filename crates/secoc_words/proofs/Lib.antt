@@ -1,0 +1,5 @@
+pub mod BigEndian
+pub mod Digits
+pub mod FrameSizes
+pub mod Identifiers
+pub mod WrittenKinds

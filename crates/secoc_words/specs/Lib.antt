@@ -1,0 +1,6 @@
+pub mod DiskForms
+pub mod Forms
+pub mod Frames
+pub mod KeyForms
+pub mod Texts
+pub mod Written

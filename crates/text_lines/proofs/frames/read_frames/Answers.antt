@@ -1,7 +1,0 @@
-use Rattle.text_lines.specs.Frames.{frames_of}
-use Rattle.text_lines.proofs.Sizes.{sizes_from_gives}
-use Rattle.text_lines.proofs.frames.read_frames.Goals as goal
-
-pub returns-clause-sizes : goal.returns-clause-sizes
-unfolding frames_of
-returns-clause-sizes c = sizes_from_gives c.args.text.now c.read_lines.result c.read_lines.ensures

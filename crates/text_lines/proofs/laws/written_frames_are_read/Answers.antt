@@ -1,5 +1,0 @@
-use Rattle.text_lines.proofs.WrittenKinds.{frames_of-written}
-use Rattle.text_lines.proofs.laws.written_frames_are_read.Goals as goal
-
-pub returns : goal.returns
-returns c = frames_of-written

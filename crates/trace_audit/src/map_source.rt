@@ -1,0 +1,53 @@
+//! The map that a source gives.
+ghost use Rattle.std.specs.Prelude.{◌≡◌, ◌<◌, ◌^◌, length, Ok, IfOk, IfErr};
+ghost use Rattle.text_lines.specs.Readings.{read_all};
+ghost use Rattle.line_rows.specs.LineRows.{NoLines};
+ghost use Rattle.trace_audit.specs.MapLines.{map_of, most_map_lines};
+ghost use Rattle.trace_audit.specs.Steps.{ReadsMapSource};
+
+use crate::map_lines::{MOST_MAP_LINES, MapLine, MapReader};
+use answer_rows::Refusal;
+use bus_port::Source;
+use command_edge::read_input;
+use line_rows::line_refusal;
+use std::alloc::Global;
+use text_lines::reader::{LineReader, read_lines};
+
+/// The lines of the map that a source gives, at most 256 that aren't skipped, as this reader reads them; or why there
+/// are none. The source is read whole, at most 1,048,576 bytes. The row is that of the source's fault, that of the
+/// first line that is none, or that of want of memory.
+pub fn read_map_by<R: LineReader<Item = MapLine>, S: Source>(
+    alloc: Global,
+    reader: &R,
+    map: &mut S,
+) -> Result<Vec<MapLine>, Refusal>
+    ensures { ReadsMapSource (read_all (R.means reader.now) most_map_lines)
+        (record { before = S.state map.old; after = S.state map.new }) result }
+{
+    let input = read_input(alloc, map)?;
+    lines_by(alloc, reader, input.as_slice())
+}
+
+/// The lines of a map, or the refusal of the first that isn't one.
+fn lines_by<R: LineReader<Item = MapLine>>(
+    alloc: Global,
+    reader: &R,
+    text: &[u8],
+) -> Result<Vec<MapLine>, Refusal>
+    requires { length text.now < 2 ^ 32 }
+    ensures ok { IfOk result (λ lines. read_all (R.means reader.now) most_map_lines text.now ≡ Ok lines.items) }
+    ensures err { IfErr result (NoLines (read_all (R.means reader.now) most_map_lines text.now)) }
+{
+    match read_lines(alloc, text, MOST_MAP_LINES, reader) {
+        Ok(lines) => Ok(lines),
+        Err(fault) => Err(line_refusal(alloc, fault)),
+    }
+}
+
+/// The lines of the map of an audit, each with a CAN identifier of its own.
+#[tactic(auto, unfolding(crate::specs::MapLines::map_of))]
+pub fn read_map<S: Source>(alloc: Global, map: &mut S) -> Result<Vec<MapLine>, Refusal>
+    ensures { ReadsMapSource map_of (record { before = S.state map.old; after = S.state map.new }) result }
+{
+    read_map_by(alloc, &MapReader, map)
+}
