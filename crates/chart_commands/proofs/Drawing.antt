@@ -1,11 +1,12 @@
 -- How a chart whose events were done ends
-use Rattle.std.specs.Prelude.{◌≡◌, ℕ, ◌+◌, Option, None, Some, List, [], ◌∷◌, ◌++◌, Ok, Err}
+use Rattle.std.specs.Prelude.{◌≡◌, ℕ, ◌+◌, Option, None, Some, List, [], ◌∷◌, ◌++◌, length, Ok, Err}
 use Rattle.std.specs.declared.alloc.AllocError.{AllocError}
 use Rattle.std.proofs.Common.{refl, sym, ap, ◌∙◌, subst, append_assoc, append-nil}
+use Rattle.std.proofs.lemmas.List.{length-map}
 use Rattle.answer_rows.specs.Rows.{Row, row_of}
 use Rattle.answer_rows.specs.Endings.{Ending, EndsInRow}
 use Rattle.answer_rows.specs.EndingLaws.{EndsInRow-more}
-use Rattle.machine_runs.specs.Run.{lines_in}
+use Rattle.machine_runs.specs.Run.{Moment, lines_in}
 use Rattle.numbered_run.specs.Driven.{TakenUp, Driven}
 use Rattle.bus_machine.specs.declared.events.Event.{Event}
 use Rattle.bus_machine.specs.declared.lines.Line.{Line}
@@ -15,9 +16,9 @@ use Rattle.world_runs.specs.Turns.{TurnsLeaveDisks, StartsSetUp}
 use Rattle.chart_texts.specs.ChartTexts.{chart_text}
 use Rattle.chart_commands.specs.Inputs.{ChartInputs, SetsChart}
 use Rattle.bus_world.specs.StartAnswers.{DiskStates}
-use Rattle.chart_commands.specs.Runs.{KeptTurns, ChartTurns, ChartsAreRuns}
+use Rattle.chart_commands.specs.Runs.{KeepsLines, KeptTurns, ChartTurns, ChartsAreRuns}
 use Rattle.chart_commands.specs.Rows.{DoneChart, ChartRow, not_started, all_done, done_without_memory}
-use Rattle.chart_commands.specs.Steps.{KeepsLine, ToldOfLines, their_chart, no_chart, AnswersChart, refused_chart, charted}
+use Rattle.chart_commands.specs.Steps.{KeepsLine, AreOfEvents, ToldOfLines, their_chart, no_chart, AnswersChart, refused_chart, charted}
 use Rattle.chart_commands.proofs.OneChart.{chart_stays}
 
 -- ---- the lines that are kept
@@ -46,6 +47,11 @@ kept_part start now before kept events cause done = record { moments = done.mome
 -- nothing was done
 pub kept_none : (start now : BusState) (events : List Event) → now ≡ start → KeptTurns start now events None
 kept_none start now events same = record { moments = []; run = same; first = refl; holds = tt }
+
+-- where all lines were kept, there is one for each event
+pub of_events : {S : Type 0} (events : List Event) (kept : Option (List Line)) (ms : List (Moment Event Line S)) → KeepsLines events kept ms → AreOfEvents events kept
+of_events {S} events (Some lines) ms keeps = ap length keeps.1 ∙ length-map ms (λ (m : Moment Event Line S). m.line) ∙ keeps.0
+of_events events None ms keeps = tt
 
 -- ---- the rows
 

@@ -29,7 +29,7 @@ pub fn run_chart<S: Source, T: Source, K: Sink, D: CutDisk>(
     // lines of one run of the machine from the first world of the bus, and one record has all that holds of it, the
     // same as of a replay: `is_a_run`, `are_lines`, `rising`, `authentic`, `single`, `keys_kept`, `cuts_skip_little`,
     // `covered`, `disks`, `failures` and `honest`.
-    ensures promises { RunsChart (disks.new ≡ disks.old)
+    ensures { RunsChart (disks.new ≡ disks.old)
         (record {
           words = map string_bytes words.now;
           config = record { before = S.state config.old; after = S.state config.new };

@@ -1,4 +1,4 @@
-use Rattle.std.proofs.Common.{map, refl, inl, inr}
+use Rattle.std.proofs.Common.{◌≡◌, false, true, map, refl, inl, inr}
 use Rattle.std.specs.Prelude.{string_bytes}
 use Rattle.answer_rows.specs.Endings.{Ending}
 use Rattle.chart.specs.Drawing.{DrawsOverEight}
@@ -26,4 +26,4 @@ pub returns-in-Err-clause-words : goal.returns-in-Err-clause-words
 returns-in-Err-clause-words g c = inr (record { asks = c.in-Err.ensures.wanted; status_is = refl; unwritten = refl })
 
 pub returns-in-Err-clause-usage_only : goal.returns-in-Err-clause-usage_only
-returns-in-Err-clause-usage_only g c = λ some nothing. absurd (c.in-Err.ensures.usage some nothing)
+returns-in-Err-clause-usage_only g c = λ some nothing. let same : false ≡ true = c.in-Err.ensures.usage some nothing in cc

@@ -3,7 +3,7 @@ use Rattle.bus_world.specs.declared.start.Start.TheVariants.{Format}
 use Rattle.bus_world.specs.StartAnswerLaws.{Comes-not_started}
 use Rattle.world_runs.specs.TurnLaws.{as_many_nodes}
 use Rattle.chart_commands.specs.Steps.{refused_chart, kept_lines}
-use Rattle.chart_commands.proofs.Drawing.{Answers-charted}
+use Rattle.chart_commands.proofs.Drawing.{of_events, Answers-charted}
 use Rattle.chart_commands.proofs.charting.chart.Goals as goal
 
 -- the names of the steps are guessed from the trial's answers: see `rt check --start`
@@ -13,8 +13,12 @@ finish-requires g c =
       arith,
       c.in-Ok.ensures.room,
       c.in-Ok.ensures.started.nodes.count,
-      as_many_nodes c.in-Ok.world c.lines_of_run.ensures.moments c.lines_of_run.new.world c.lines_of_run.ensures.run,
+      as_many_nodes c.in-Ok.world c.lines_of_run-kept.ensures.moments c.lines_of_run-kept.new.world c.lines_of_run-kept.ensures.run,
     )
+
+pub tell_chart-requires-clause-as_many : goal.tell_chart-requires-clause-as_many
+tell_chart-requires-clause-as_many g c =
+    of_events c.args.events.now (kept_lines c.lines_of_run-kept.result) c.lines_of_run-kept.ensures.moments c.lines_of_run-kept.ensures.holds
 
 pub returns-in-Err : goal.returns-in-Err
 returns-in-Err g c = record {
@@ -26,13 +30,13 @@ returns-in-Err g c = record {
 
 pub returns : goal.returns
 returns g c =
-    Answers-charted c.starts_are_set_up.ensures c.turns_leave_disks.ensures c.charts_are_runs.ensures c.args.bus.now c.args.events.now _ _ (kept_lines c.lines_of_run.result)
+    Answers-charted c.starts_are_set_up.ensures c.turns_leave_disks.ensures c.charts_are_runs.ensures c.args.bus.now c.args.events.now _ _ (kept_lines c.lines_of_run-kept.result)
     (record {
       is_bus = c.requires.is_bus;
       start = c.in-Ok.world;
-      now = c.lines_of_run.new.world;
+      now = c.lines_of_run-kept.new.world;
       started = c.in-Ok.ensures.started;
-      turns = c.lines_of_run.ensures;
+      turns = c.lines_of_run-kept.ensures;
       disks = search rules;
     })
     c.tell_chart.ensures

@@ -4,7 +4,7 @@ use Rattle.chart_commands.proofs.keeping.lines_of_run.Goals as goal
 
 -- the names of the steps are guessed: see `rt check --start`
 pub returns-in-Ok : goal.returns-in-Ok
-returns-in-Ok g c = kept_whole _ _ _ _ c.args.events.now c.in_ok-with_capacity.ensures.empty c.drive.ensures.driven
+returns-in-Ok g c = kept_whole _ _ _ _ c.args.events.now c.in_ok-with_capacity.ensures.items c.drive.ensures.driven
 
 pub returns-in-Err : goal.returns-in-Err
 returns-in-Err g c = kept_part _ _ _ _ c.args.events.now _ c.drive.ensures.driven

@@ -1,29 +1,15 @@
-use Rattle.std.proofs.Common.{◌≡◌, ◌∙◌, length, map, string_bytes, subst, sym, arith}
-use Rattle.named_sources.specs.NamedSources.{IsNamed, word_source}
-use Rattle.chart_commands.specs.Inputs.{ChartInputs}
-use Rattle.chart_commands.proofs.Naming.{texts_of_two, are_named}
+use Rattle.std.proofs.Common.{map, string_bytes}
+use Rattle.named_sources.specs.NamedSources.{word_source}
 use Rattle.chart_commands.proofs.start.chart_words.Goals as goal
 
--- copied from audit_words with other names; not seen by the prover
-pub returns-in-len2-clause-named : goal.returns-in-len2-clause-named
-returns-in-len2-clause-named g c some =
-    let opened = g.O.Opened.Source.state in
-    let input = g.I.Source.state in
-    let i : ChartInputs = record {
-      words = map string_bytes c.args.words.now;
-      config = record { before = word_source opened input c.open_word-config.result; after = word_source opened input c.run_chart.new.config };
-      script = record { before = word_source opened input c.open_second-script.result; after = word_source opened input c.run_chart.new.script };
-    } in
-    let two : length c.args.words.now ≡ 2 = omega (arith, c.in-len2.len_at_least, c.in-len2.len_below) in
-    let words_are = texts_of_two string_bytes c.args.words.now c.bus-item.result c.events-item.result two c.bus-item.is c.events-item.is in
-    let map_word = c.as_str.ensures.value in
-    let log_word = c.as_str-in-len2.ensures.value in
-    let opens = g.O.Opener.opens c.args.opener.now in
-    let map_named = subst (λ w. IsNamed opens (input c.args.bus_input) w i.config.before) c.as_str-in-len2-2.ensures.value c.open_word-config.ensures in (
-      i,
-      are_named opens (input c.args.bus_input) (input c.args.script_input) i (string_bytes c.bus-item.result) (string_bytes c.events-item.result) words_are map_named
-          (λ free. subst (λ w. IsNamed opens (input c.args.script_input) w i.script.before) log_word
-          (c.open_second-script.ensures.named (λ both. free (sym map_word ∙ both.0, sym log_word ∙ both.1))))
-          (λ both. c.open_second-script.ensures.missing (map_word ∙ both.0, log_word ∙ both.1)),
+pub returns-clause-named : goal.returns-clause-named
+returns-clause-named g c some =
+    let state = word_source g.O.Opened.Source.state g.I.Source.state in (
+      record {
+        words = map string_bytes c.args.words.now;
+        config = record { before = state c.open_chart-config.result.0; after = state c.run_chart.new.config };
+        script = record { before = state c.open_chart-config.result.1; after = state c.run_chart.new.script };
+      },
+      c.open_chart-config.ensures _ _,
       c.run_chart.ensures,
     )
