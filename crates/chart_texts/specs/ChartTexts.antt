@@ -156,15 +156,15 @@ header_text nodes block = codes "<g class=\"head\">" ++ (name_boxes block 0 node
 -- ---- the whole
 
 -- the seven numbers of a trial's summary, on one line
-abbrev pub numbers_text : (events sent accepted failures keyed cuts refused : ℕ) → List ℕ
-numbers_text events sent accepted failures keyed cuts refused =
+abbrev pub seven_numbers : (events sent accepted failures keyed cuts refused : ℕ) → List ℕ
+seven_numbers events sent accepted failures keyed cuts refused =
     codes "events " ++ (decimal events ++ (codes ", sent " ++ (decimal sent ++ (codes ", accepted " ++ (decimal accepted
     ++ (codes ", failures " ++ (decimal failures ++ (codes ", keyed " ++ (decimal keyed ++ (codes ", cuts "
     ++ (decimal cuts ++ (codes ", refused " ++ decimal refused))))))))))))
 
 abbrev pub chart_counts : ℕ → List Line → List ℕ
 chart_counts events lines =
-    numbers_text events (count_by tells_sent lines) (count_by tells_accepted lines)
+    seven_numbers events (count_by tells_sent lines) (count_by tells_accepted lines)
     (count_by tells_failed_verdict lines) (count_by tells_keyed lines) (count_by tells_up lines)
     (count_by tells_refused lines)
 

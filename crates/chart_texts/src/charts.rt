@@ -1,7 +1,7 @@
 //! The whole chart.
 ghost use Rattle.std.specs.Prelude.{◌≡◌, ◌≤◌, ◌++◌, length, IfOk, OnOk};
 ghost use Rattle.text_lines.specs.Readings.{most_lines};
-ghost use Rattle.chart_texts.specs.ChartTexts.{chart_text, sized_chart as text_of_size, whole_tag, opening_text, page_rect, page_text, numbers_text, chart_counts};
+ghost use Rattle.chart_texts.specs.ChartTexts.{chart_text, sized_chart as text_of_size, whole_tag, opening_text, page_rect, page_text, seven_numbers, chart_counts};
 
 use crate::constants::{LEGEND, STYLE};
 use crate::counting::{CountedKind, count_lines};
@@ -155,7 +155,7 @@ fn push_numbers(
     refused: usize,
 ) -> Result<(), AllocError>
     ensures { OnOk result (text.new.items
-        ≡ text.old.items ++ numbers_text events sent accepted failures keyed cuts refused) }
+        ≡ text.old.items ++ seven_numbers events sent accepted failures keyed cuts refused) }
 {
     let numbers = format!(in alloc;
         "events {events}, sent {sent}, accepted {accepted}, failures {failures}, keyed {keyed}, cuts {cuts}, refused {refused}"
