@@ -1,0 +1,38 @@
+-- What the program draws (own)
+use Rattle.std.specs.Prelude.{◌≡◌, ◌≢◌, ℕ, List, [], map, Vec}
+use Rattle.std.specs.declared.alloc.Global.{Global}
+use Rattle.bus_port.specs.Source.{SourceState}
+use Rattle.cut_disk.specs.declared.mem_disk.MemDisk.{MemDisk}
+use Rattle.cut_disk.specs.Memory.{disk_of}
+use Rattle.cut_disk.specs.MemDisk.{contents}
+use Rattle.answer_rows.specs.Endings.{Ending}
+use Rattle.chart_commands.specs.Inputs.{ChartInputs}
+use Rattle.chart_commands.specs.Named.{ChartSourcesAreNamed, IsExampleChart}
+use Rattle.chart_commands.specs.Promises.{RunsChart}
+use Rattle.chart.specs.Given.{ChartDisksAreGiven, AsksChartOrNone}
+
+-- all that a chart promises, of the disks that were made, and of these as they were handed back
+abbrev pub DrawsMade : Vec MemDisk Global → Vec MemDisk Global → ChartInputs → Ending → Type 0
+DrawsMade made left i e = RunsChart (left ≡ made) i
+    (record {
+      before = map (λ disk. disk_of (contents disk)) made.items;
+      after = map (λ disk. disk_of (contents disk)) left.items;
+    }) e
+
+-- all of that was had of these words, over the sources that they name, and of the example where there are none, over
+-- the disks that are made for it
+pub record DrawsOverEight (opens : List ℕ → SourceState → Type 0) (bus_input script_input : SourceState)
+    (words : List (List ℕ)) (e : Ending) : Type 0 where
+  pub inputs : ChartInputs
+  pub example : words ≡ [] → IsExampleChart inputs
+  pub named : words ≢ [] → ChartSourcesAreNamed opens bus_input script_input words inputs
+  pub made : Vec MemDisk Global
+  pub left : Vec MemDisk Global
+  pub given : ChartDisksAreGiven words made.items
+  pub draws : DrawsMade made left inputs e
+
+-- the words ask for a chart, or for the example, and there was no memory for its disks; nothing was written
+pub record WantsEightDisks (words : List (List ℕ)) (e : Ending) : Type 0 where
+  pub asks : AsksChartOrNone words
+  pub status_is : e.status ≡ 7
+  pub unwritten : e.after ≡ e.before

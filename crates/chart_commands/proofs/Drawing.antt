@@ -1,0 +1,85 @@
+-- How a chart whose events were done ends
+use Rattle.std.specs.Prelude.{◌≡◌, ℕ, ◌+◌, Option, None, Some, List, [], ◌∷◌, ◌++◌, length, Ok, Err}
+use Rattle.std.specs.declared.alloc.AllocError.{AllocError}
+use Rattle.std.proofs.Common.{refl, sym, ap, ◌∙◌, subst, append_assoc, append-nil}
+use Rattle.std.proofs.lemmas.List.{length-map}
+use Rattle.answer_rows.specs.Rows.{Row, row_of}
+use Rattle.answer_rows.specs.Endings.{Ending, EndsInRow}
+use Rattle.answer_rows.specs.EndingLaws.{EndsInRow-more}
+use Rattle.machine_runs.specs.Run.{Moment, lines_in}
+use Rattle.numbered_run.specs.Driven.{TakenUp, Driven}
+use Rattle.bus_machine.specs.declared.events.Event.{Event}
+use Rattle.bus_machine.specs.declared.lines.Line.{Line}
+use Rattle.bus_nodes.specs.Buses.{NamedBus}
+use Rattle.bus_world.specs.Worlds.{BusState, BusTurn}
+use Rattle.world_runs.specs.Turns.{TurnsLeaveDisks, StartsSetUp}
+use Rattle.chart_texts.specs.ChartTexts.{chart_text}
+use Rattle.chart_commands.specs.Inputs.{ChartInputs, SetsChart}
+use Rattle.bus_world.specs.StartAnswers.{DiskStates}
+use Rattle.chart_commands.specs.Runs.{KeepsLines, KeptTurns, ChartTurns, ChartsAreRuns}
+use Rattle.chart_commands.specs.Rows.{DoneChart, ChartRow, not_started, all_done, done_without_memory}
+use Rattle.chart_commands.specs.Steps.{KeepsLine, AreOfEvents, ToldOfLines, their_chart, no_chart, AnswersChart, refused_chart, charted}
+use Rattle.chart_commands.proofs.OneChart.{chart_stays}
+
+-- ---- the lines that are kept
+
+-- lines that were taken up one after another are all there, behind those that there were
+kept_all : (number : ℕ) (before after lines : List Line) → TakenUp KeepsLine number before lines after → after ≡ before ++ lines
+kept_all number before after [] same = same ∙ sym (append-nil before)
+kept_all number before after (line ∷ lines) (mid, here, rest) =
+    kept_all (number + 1) mid after lines rest ∙ ap (λ (l : List Line). l ++ lines) here ∙ append_assoc before (line ∷ []) lines
+
+-- all events were done
+pub kept_whole : (start now : BusState) (before kept : List Line) (events : List Event) → before ≡ []
+    → Driven BusTurn KeepsLine start now before kept events (Ok tt) → KeptTurns start now events (Some kept)
+kept_whole start now before kept events none done = record {
+  moments = done.moments;
+  run = done.run;
+  first = done.first;
+  holds = (done.holds.0, kept_all 1 before kept (lines_in done.moments) done.holds.1 ∙ ap (λ (l : List Line). l ++ lines_in done.moments) none);
+}
+
+-- there was no memory for a line
+pub kept_part : (start now : BusState) (before kept : List Line) (events : List Event) (cause : AllocError)
+    → Driven BusTurn KeepsLine start now before kept events (Err cause) → KeptTurns start now events None
+kept_part start now before kept events cause done = record { moments = done.moments; run = done.run; first = done.first; holds = tt }
+
+-- nothing was done
+pub kept_none : (start now : BusState) (events : List Event) → now ≡ start → KeptTurns start now events None
+kept_none start now events same = record { moments = []; run = same; first = refl; holds = tt }
+
+-- where all lines were kept, there is one for each event
+pub of_events : {S : Type 0} (events : List Event) (kept : Option (List Line)) (ms : List (Moment Event Line S)) → KeepsLines events kept ms → AreOfEvents events kept
+of_events {S} events (Some lines) ms keeps = ap length keeps.1 ∙ length-map ms (λ (m : Moment Event Line S). m.line) ∙ keeps.0
+of_events events None ms keeps = tt
+
+-- ---- the rows
+
+-- the row of a text that is the lines' chart
+pub told_as_chart : (bus : NamedBus) (events : List Event) (lines : List Line) (text : List ℕ) → text ≡ chart_text bus events lines
+    → ToldOfLines bus events (Some lines) (row_of 0 text)
+told_as_chart bus events lines text is = subst (λ (t : List ℕ). ToldOfLines bus events (Some lines) (row_of 0 t)) (sym is) (their_chart lines refl)
+
+pub Answers-charted : StartsSetUp → TurnsLeaveDisks → ChartsAreRuns → (bus : NamedBus) (events : List Event) (d : DiskStates) (e : Ending) (kept : Option (List Line))
+    → ChartTurns bus d.before d.after events kept → EndsInRow (ToldOfLines bus events kept) e → EndsInRow (AnswersChart bus events d) e
+Answers-charted set_up leave laws bus events d e kept ran ends =
+    EndsInRow-more
+    (λ row told. charted kept row (record {
+      ran = ran;
+      stay = chart_stays bus d.before d.after events kept ran set_up leave;
+      one_run = laws bus d.before d.after events kept ran;
+    }) told)
+    ends
+
+-- ---- the table
+
+of_lines : (same : Type 0) (i : ChartInputs) (d : DiskStates) (bus : NamedBus) (events : List Event) (kept : Option (List Line)) (row : Row) → SetsChart i bus events
+    → DoneChart bus events d kept → ToldOfLines bus events kept row → ChartRow same i d row
+of_lines same i d bus events kept row set done (their_chart lines is) =
+    all_done (chart_text bus events lines) (bus, events, set, (lines, subst (DoneChart bus events d) is done, refl))
+of_lines same i d bus events kept row set done no_chart = done_without_memory kept (bus, events, set, done)
+
+pub ChartRow-answers : (same : Type 0) (i : ChartInputs) (d : DiskStates) (bus : NamedBus) (events : List Event) (row : Row) → SetsChart i bus events
+    → AnswersChart bus events d row → ChartRow same i d row
+ChartRow-answers same i d bus events row set (refused_chart _ start) = not_started row (bus, events, set, start)
+ChartRow-answers same i d bus events row set (charted kept _ done told) = of_lines same i d bus events kept row set done told

@@ -1,0 +1,266 @@
+-- How a chart ends gives all that it promises
+use Rattle.std.specs.Prelude.{◌≡◌, ◌≢◌, ◌⊎◌, ℕ, List, [], Some, Result, Ok, Err, codes}
+use Rattle.std.proofs.Common.{refl, subst, arith, inl, inr}
+use Rattle.command_edge.specs.Input.{input_fault_status}
+use Rattle.command_edge.specs.declared.input.InputFault.{InputFault}
+use Rattle.command_edge.specs.declared.input.InputFault.TheVariants as input
+use Rattle.text_lines.specs.Readings.{Fault}
+use Rattle.text_lines.specs.Texts.{fault_text_of}
+use Rattle.answer_rows.specs.Rows.{Row, memory_row}
+use Rattle.answer_rows.specs.Inputs.{IsUnread}
+use Rattle.answer_rows.specs.Endings.{Ending, EndsInRow, PrintsWhole}
+use Rattle.answer_rows.specs.EndingLaws.{EndsInRow-at, EndsInRow-only, EndsInRow-may, EndsInRow-front, EndsInRow-rose, EndsInRow-done}
+use Rattle.bus_config.specs.declared.fault.ConfigFault.{ConfigFault}
+use Rattle.bus_config.specs.FaultTexts.{config_fault_text}
+use Rattle.bus_machine.specs.declared.events.Event.{Event}
+use Rattle.bus_machine.specs.declared.lines.Line.{Line}
+use Rattle.bus_nodes.specs.Buses.{NamedBus}
+use Rattle.bus_script.specs.EventForms.{events_of}
+use Rattle.bus_world.specs.declared.start.Start.TheVariants.{Format}
+use Rattle.bus_world.specs.declared.start.StartFault.{StartFault}
+use Rattle.bus_world.specs.Starts.{HasRoom, FindsRoom}
+use Rattle.bus_world.specs.StartRows.{start_row, StoreCause, LeavesEach}
+use Rattle.bus_world.specs.StartAnswers.{DiskStates, ComesOfStart, BusHasDisks}
+use Rattle.bus_world.specs.StartAnswers as answer
+use Rattle.bus_world.specs.StartAnswerLaws.{Comes-leaves, start_status, start_memory, start_without_room, start_complete}
+use Rattle.bus_inputs.specs.BusFiles.{IsConfigFault}
+use Rattle.bus_inputs.specs.BusFileLaws.{told_fault, told_too_much}
+use Rattle.chart_texts.specs.ChartTexts.{chart_text}
+use Rattle.chart_commands.specs.Inputs.{ChartInputs, AsksChart, chart_usage, NoChartConfig, NoChartScript, HasBadEvent, OverChart}
+use Rattle.chart_commands.specs.Rows.{ChartInputRow, no_form, no_config, config_refused, no_script, script_refused, DoneChart, ChartRow, without_disks, not_started, all_done, done_without_memory, EndsChart}
+use Rattle.chart_commands.specs.Promises.{DrawsChart, LeavesChartDisks, as_before, by_refused_start, by_chart, RunsChart}
+use Rattle.chart_commands.proofs.Facts.{row_tells, row_asks, row_refuses, OfOffered, row_offered}
+
+Ok_not_Err : (r : Result (List Event) Fault) (events : List Event) (fault : Fault) → r ≡ Ok events → r ≡ Err fault → ⊥
+Ok_not_Err r events fault ok err = cc
+
+module _ (same : Type 0) (i : ChartInputs) (d : DiskStates) (e : Ending) where
+  abbrev Comes : Row → Type 0
+  Comes = ChartRow same i d
+
+  -- ---- which row a status is that of
+
+  fault_is : (fault : InputFault) → (input_fault_status fault ≡ 5) ⊎ ((input_fault_status fault ≡ 8) ⊎ (input_fault_status fault ≡ 7))
+  fault_is input.ReadFault = inl refl
+  fault_is input.TooLong = inr (inl refl)
+  fault_is input.Memory = inr (inr refl)
+
+  draws : (text : List ℕ) → OverChart i (λ bus events. (lines : List Line) × DoneChart bus events d (Some lines) × (text ≡ chart_text bus events lines))
+      → PrintsWhole e text → OverChart i (λ bus events. DrawsChart bus events d e)
+  draws text (bus, events, set, (lines, done, text_is)) well =
+      (bus, events, set, record { lines = lines; done = done; drawn = subst (PrintsWhole e) text_is well })
+
+  row_0 : (row : Row) → Comes row → row.status ≡ 0 → PrintsWhole e row.text → OverChart i (λ bus events. DrawsChart bus events d e)
+  row_0 row (without_disks _ (no_form none config script) unused) is well = absurd (let no : ⊥ = omega (arith, is) in no)
+  row_0 row (without_disks _ (no_config fault lack) unused) is well = absurd (let no : ⊥ = omega (arith, fault_is fault, is) in no)
+  row_0 row (without_disks _ (config_refused fault text asks has told unread) unused) is well = absurd (let no : ⊥ = omega (arith, is) in no)
+  row_0 row (without_disks _ (no_script fault lack) unused) is well = absurd (let no : ⊥ = omega (arith, fault_is fault, is) in no)
+  row_0 row (without_disks _ (script_refused fault f) unused) is well = absurd (let no : ⊥ = omega (arith, is) in no)
+  row_0 row (not_started _ (bus, events, set, start)) is well = absurd (let no : ⊥ = omega (arith, start_status Format bus d row start, is) in no)
+  row_0 row (all_done text over) is well = draws text over well
+  row_0 row (done_without_memory kept over) is well = absurd (let no : ⊥ = omega (arith, is) in no)
+
+  row_2 : (row : Row) → Comes row → row.status ≡ 2 → PrintsWhole e row.text → (¬ AsksChart i.words) × IsUnread i.config × IsUnread i.script × PrintsWhole e chart_usage
+  row_2 row (without_disks _ (no_form none config script) unused) is well = (none, config, script, well)
+  row_2 row (without_disks _ (no_config fault lack) unused) is well = absurd (let no : ⊥ = omega (arith, fault_is fault, is) in no)
+  row_2 row (without_disks _ (config_refused fault text asks has told unread) unused) is well = absurd (let no : ⊥ = omega (arith, is) in no)
+  row_2 row (without_disks _ (no_script fault lack) unused) is well = absurd (let no : ⊥ = omega (arith, fault_is fault, is) in no)
+  row_2 row (without_disks _ (script_refused fault f) unused) is well = absurd (let no : ⊥ = omega (arith, is) in no)
+  row_2 row (not_started _ (bus, events, set, start)) is well = absurd (let no : ⊥ = omega (arith, start_status Format bus d row start, is) in no)
+  row_2 row (all_done _ over) is well = absurd (let no : ⊥ = omega (arith, is) in no)
+  row_2 row (done_without_memory kept over) is well = absurd (let no : ⊥ = omega (arith, is) in no)
+
+  abbrev ConfigTold : Type 0
+  ConfigTold = AsksChart i.words × IsUnread i.script
+      × ((fault : ConfigFault) × (text : List ℕ) × IsConfigFault i.config fault × (config_fault_text fault ≡ Some text) × PrintsWhole e text)
+
+  row_3 : (row : Row) → Comes row → row.status ≡ 3 → PrintsWhole e row.text → ConfigTold
+  row_3 row (without_disks _ (no_form none config script) unused) is well = absurd (let no : ⊥ = omega (arith, is) in no)
+  row_3 row (without_disks _ (no_config fault lack) unused) is well = absurd (let no : ⊥ = omega (arith, fault_is fault, is) in no)
+  row_3 row (without_disks _ (config_refused fault text asks has told unread) unused) is well = (asks, unread, (fault, text, has, told, well))
+  row_3 row (without_disks _ (no_script fault lack) unused) is well = absurd (let no : ⊥ = omega (arith, fault_is fault, is) in no)
+  row_3 row (without_disks _ (script_refused fault f) unused) is well = absurd (let no : ⊥ = omega (arith, is) in no)
+  row_3 row (not_started _ (bus, events, set, start)) is well = absurd (let no : ⊥ = omega (arith, start_status Format bus d row start, is) in no)
+  row_3 row (all_done _ over) is well = absurd (let no : ⊥ = omega (arith, is) in no)
+  row_3 row (done_without_memory kept over) is well = absurd (let no : ⊥ = omega (arith, is) in no)
+
+  row_4 : (row : Row) → Comes row → row.status ≡ 4 → PrintsWhole e row.text → (fault : Fault) × HasBadEvent i fault × PrintsWhole e (fault_text_of fault)
+  row_4 row (without_disks _ (no_form none config script) unused) is well = absurd (let no : ⊥ = omega (arith, is) in no)
+  row_4 row (without_disks _ (no_config fault lack) unused) is well = absurd (let no : ⊥ = omega (arith, fault_is fault, is) in no)
+  row_4 row (without_disks _ (config_refused fault text asks has told unread) unused) is well = absurd (let no : ⊥ = omega (arith, is) in no)
+  row_4 row (without_disks _ (no_script fault lack) unused) is well = absurd (let no : ⊥ = omega (arith, fault_is fault, is) in no)
+  row_4 row (without_disks _ (script_refused fault f) unused) is well = (fault, f, well)
+  row_4 row (not_started _ (bus, events, set, start)) is well = absurd (let no : ⊥ = omega (arith, start_status Format bus d row start, is) in no)
+  row_4 row (all_done _ over) is well = absurd (let no : ⊥ = omega (arith, is) in no)
+  row_4 row (done_without_memory kept over) is well = absurd (let no : ⊥ = omega (arith, is) in no)
+
+  abbrev NoInput : InputFault → Type 0
+  NoInput fault = NoChartConfig i fault ⊎ NoChartScript i fault
+
+  row_5 : (row : Row) → Comes row → row.status ≡ 5 → PrintsWhole e row.text → NoInput input.ReadFault × PrintsWhole e (codes "read fault\n")
+  row_5 row (without_disks _ (no_form none config script) unused) is well = absurd (let no : ⊥ = omega (arith, is) in no)
+  row_5 row (without_disks _ (no_config input.ReadFault lack) unused) is well = (inl lack, well)
+  row_5 row (without_disks _ (no_config input.TooLong lack) unused) is well = absurd (let no : ⊥ = omega (arith, is) in no)
+  row_5 row (without_disks _ (no_config input.Memory lack) unused) is well = absurd (let no : ⊥ = omega (arith, is) in no)
+  row_5 row (without_disks _ (config_refused fault text asks has told unread) unused) is well = absurd (let no : ⊥ = omega (arith, is) in no)
+  row_5 row (without_disks _ (no_script input.ReadFault lack) unused) is well = (inr lack, well)
+  row_5 row (without_disks _ (no_script input.TooLong lack) unused) is well = absurd (let no : ⊥ = omega (arith, is) in no)
+  row_5 row (without_disks _ (no_script input.Memory lack) unused) is well = absurd (let no : ⊥ = omega (arith, is) in no)
+  row_5 row (without_disks _ (script_refused fault f) unused) is well = absurd (let no : ⊥ = omega (arith, is) in no)
+  row_5 row (not_started _ (bus, events, set, start)) is well = absurd (let no : ⊥ = omega (arith, start_status Format bus d row start, is) in no)
+  row_5 row (all_done _ over) is well = absurd (let no : ⊥ = omega (arith, is) in no)
+  row_5 row (done_without_memory kept over) is well = absurd (let no : ⊥ = omega (arith, is) in no)
+
+  row_8 : (row : Row) → Comes row → row.status ≡ 8 → PrintsWhole e row.text → NoInput input.TooLong × PrintsWhole e (codes "input too long\n")
+  row_8 row (without_disks _ (no_form none config script) unused) is well = absurd (let no : ⊥ = omega (arith, is) in no)
+  row_8 row (without_disks _ (no_config input.ReadFault lack) unused) is well = absurd (let no : ⊥ = omega (arith, is) in no)
+  row_8 row (without_disks _ (no_config input.TooLong lack) unused) is well = (inl lack, well)
+  row_8 row (without_disks _ (no_config input.Memory lack) unused) is well = absurd (let no : ⊥ = omega (arith, is) in no)
+  row_8 row (without_disks _ (config_refused fault text asks has told unread) unused) is well = absurd (let no : ⊥ = omega (arith, is) in no)
+  row_8 row (without_disks _ (no_script input.ReadFault lack) unused) is well = absurd (let no : ⊥ = omega (arith, is) in no)
+  row_8 row (without_disks _ (no_script input.TooLong lack) unused) is well = (inr lack, well)
+  row_8 row (without_disks _ (no_script input.Memory lack) unused) is well = absurd (let no : ⊥ = omega (arith, is) in no)
+  row_8 row (without_disks _ (script_refused fault f) unused) is well = absurd (let no : ⊥ = omega (arith, is) in no)
+  row_8 row (not_started _ (bus, events, set, start)) is well = absurd (let no : ⊥ = omega (arith, start_status Format bus d row start, is) in no)
+  row_8 row (all_done _ over) is well = absurd (let no : ⊥ = omega (arith, is) in no)
+  row_8 row (done_without_memory kept over) is well = absurd (let no : ⊥ = omega (arith, is) in no)
+
+  inputs_low : (row : Row) → ChartInputRow i row → (row.status ≡ 2) ⊎ ((row.status ≡ 3) ⊎ ((row.status ≡ 4) ⊎ ((row.status ≡ 5) ⊎ ((row.status ≡ 8) ⊎ (row.status ≡ 7)))))
+  inputs_low row (no_form none config script) = inl refl
+  inputs_low row (no_config fault lack) = inr (inr (inr (fault_is fault)))
+  inputs_low row (config_refused fault text asks has told unread) = inr (inl refl)
+  inputs_low row (no_script fault lack) = inr (inr (inr (fault_is fault)))
+  inputs_low row (script_refused fault f) = inr (inr (inl refl))
+
+  -- ---- a start that is refused
+
+  abbrev DisksTold : NamedBus → Type 0
+  DisksTold bus = (d.after ≡ d.before) × ((fault : StartFault) × FindsRoom bus d.before fault × PrintsWhole e (start_row fault).text)
+
+  start_9 : (bus : NamedBus) (row : Row) → ComesOfStart Format bus d row → row.status ≡ 9 → PrintsWhole e row.text → DisksTold bus
+  start_9 bus row (answer.disks_refused fault finds unused) is well = (unused, (fault, finds, well))
+  start_9 bus row (answer.store_refused fault room cause left) is well = absurd (let no : ⊥ = omega (arith, is) in no)
+  start_9 bus row (answer.start_without_memory fault refused) is well = absurd (let no : ⊥ = omega (arith, is) in no)
+
+  row_9 : (row : Row) → Comes row → row.status ≡ 9 → PrintsWhole e row.text → OverChart i (λ bus events. DisksTold bus)
+  row_9 row (without_disks _ comes unused) is well = absurd (let no : ⊥ = omega (arith, inputs_low row comes, is) in no)
+  row_9 row (not_started _ (bus, events, set, start)) is well = (bus, events, set, start_9 bus row start is well)
+  row_9 row (all_done _ over) is well = absurd (let no : ⊥ = omega (arith, is) in no)
+  row_9 row (done_without_memory kept over) is well = absurd (let no : ⊥ = omega (arith, is) in no)
+
+  abbrev StoreTold : NamedBus → Type 0
+  StoreTold bus = LeavesEach Format bus d.before d.after × ((fault : StartFault) × StoreCause Format bus d.before d.after fault × PrintsWhole e (start_row fault).text)
+
+  start_10 : (bus : NamedBus) (row : Row) → ComesOfStart Format bus d row → row.status ≡ 10 → PrintsWhole e row.text → StoreTold bus
+  start_10 bus row (answer.disks_refused fault finds unused) is well = absurd (let no : ⊥ = omega (arith, is) in no)
+  start_10 bus row (answer.store_refused fault room cause left) is well = (left, (fault, cause, well))
+  start_10 bus row (answer.start_without_memory fault refused) is well = absurd (let no : ⊥ = omega (arith, is) in no)
+
+  row_10 : (row : Row) → Comes row → row.status ≡ 10 → PrintsWhole e row.text → OverChart i (λ bus events. StoreTold bus)
+  row_10 row (without_disks _ comes unused) is well = absurd (let no : ⊥ = omega (arith, inputs_low row comes, is) in no)
+  row_10 row (not_started _ (bus, events, set, start)) is well = (bus, events, set, start_10 bus row start is well)
+  row_10 row (all_done _ over) is well = absurd (let no : ⊥ = omega (arith, is) in no)
+  row_10 row (done_without_memory kept over) is well = absurd (let no : ⊥ = omega (arith, is) in no)
+
+  row_not_6 : (row : Row) → Comes row → row.status ≢ 6
+  row_not_6 row (without_disks _ comes unused) = λ is. omega (arith, inputs_low row comes, is)
+  row_not_6 row (not_started _ (bus, events, set, start)) = λ is. omega (arith, start_status Format bus d row start, is)
+  row_not_6 row (all_done _ over) = λ is. omega (arith, is)
+  row_not_6 row (done_without_memory kept over) = λ is. omega (arith, is)
+
+  -- ---- 7
+
+  inputs_memory : (row : Row) → ChartInputRow i row → row.status ≡ 7 → row ≡ memory_row
+  inputs_memory row (no_form none config script) is = absurd (let no : ⊥ = omega (arith, is) in no)
+  inputs_memory row (no_config input.ReadFault lack) is = absurd (let no : ⊥ = omega (arith, is) in no)
+  inputs_memory row (no_config input.TooLong lack) is = absurd (let no : ⊥ = omega (arith, is) in no)
+  inputs_memory row (no_config input.Memory lack) is = refl
+  inputs_memory row (config_refused fault text asks has told unread) is = absurd (let no : ⊥ = omega (arith, is) in no)
+  inputs_memory row (no_script input.ReadFault lack) is = absurd (let no : ⊥ = omega (arith, is) in no)
+  inputs_memory row (no_script input.TooLong lack) is = absurd (let no : ⊥ = omega (arith, is) in no)
+  inputs_memory row (no_script input.Memory lack) is = refl
+  inputs_memory row (script_refused fault f) is = absurd (let no : ⊥ = omega (arith, is) in no)
+
+  is_memory : (row : Row) → Comes row → row.status ≡ 7 → row ≡ memory_row
+  is_memory row (without_disks _ comes unused) is = inputs_memory row comes is
+  is_memory row (not_started _ (bus, events, set, start)) is = start_memory Format bus d row start is
+  is_memory row (all_done _ over) is = absurd (let no : ⊥ = omega (arith, is) in no)
+  is_memory row (done_without_memory kept over) is = refl
+
+  row_7 : (row : Row) → Comes row → row.status ≡ 7 → PrintsWhole e row.text → ChartRow same i d memory_row × PrintsWhole e []
+  row_7 row comes is well =
+      let memory : row ≡ memory_row = is_memory row comes is in
+      (subst (ChartRow same i d) memory comes, subst (λ (r : Row). PrintsWhole e r.text) memory well)
+
+  -- ---- what makes a row come
+
+  refused_of : (row : Row) (bus : NamedBus) (text : List ℕ) (fault : Fault) → events_of bus.nodes text ≡ Err fault → OfOffered d row bus text → (row.status ≡ 4) ⊎ (row.status ≡ 7)
+  refused_of row bus text fault is (inl seven) = inr seven
+  refused_of row bus text fault is (inr (inl (other, four, also))) = inl four
+  refused_of row bus text fault is (inr (inr (inl (events, ok, start)))) = absurd (Ok_not_Err (events_of bus.nodes text) events fault ok is)
+  refused_of row bus text fault is (inr (inr (inr (events, ok, ran)))) = absurd (Ok_not_Err (events_of bus.nodes text) events fault ok is)
+
+  without_room_of : (row : Row) (bus : NamedBus) (text : List ℕ) (events : List Event) → events_of bus.nodes text ≡ Ok events → ¬ HasRoom bus d.before → OfOffered d row bus text
+      → (row.status ≡ 9) ⊎ (row.status ≡ 7)
+  without_room_of row bus text events is lacks (inl seven) = inr seven
+  without_room_of row bus text events is lacks (inr (inl (fault, four, err))) = absurd (Ok_not_Err (events_of bus.nodes text) events fault is err)
+  without_room_of row bus text events is lacks (inr (inr (inl (also, ok, start)))) = start_without_room Format bus d row start lacks
+  without_room_of row bus text events is lacks (inr (inr (inr (also, ok, ran)))) = absurd (lacks ran.room)
+
+  complete_of : (row : Row) (bus : NamedBus) (text : List ℕ) (events : List Event) → events_of bus.nodes text ≡ Ok events → BusHasDisks Format bus d
+      → OfOffered d row bus text → (row.status ≡ 0) ⊎ (row.status ≡ 7)
+  complete_of row bus text events is able (inl seven) = inr seven
+  complete_of row bus text events is able (inr (inl (fault, four, err))) = absurd (Ok_not_Err (events_of bus.nodes text) events fault is err)
+  complete_of row bus text events is able (inr (inr (inl (also, ok, start)))) = inr (start_complete Format bus d row start able)
+  complete_of row bus text events is able (inr (inr (inr (also, ok, ran)))) = ran.status
+
+  -- ---- the disks
+
+  row_low : (row : Row) → Comes row
+      → (row.status ≡ 2) ⊎ (row.status ≡ 3) ⊎ (row.status ≡ 4) ⊎ (row.status ≡ 5) ⊎ (row.status ≡ 8) → same
+  row_low row (without_disks _ comes unused) low = unused
+  row_low row (not_started _ (bus, events, set, start)) low = absurd (let no : ⊥ = omega (arith, start_status Format bus d row start, low) in no)
+  row_low row (all_done _ over) low = absurd (let no : ⊥ = omega (arith, low) in no)
+  row_low row (done_without_memory kept over) low = absurd (let no : ⊥ = omega (arith, low) in no)
+
+  unused_of : EndsInRow Comes e → (e.status ≡ 2) ⊎ (e.status ≡ 3) ⊎ (e.status ≡ 4) ⊎ (e.status ≡ 5) ⊎ (e.status ≡ 8) → same
+  unused_of ends low = elim ends.told [
+    | inl (status_is, well) ↦ row_low ends.row ends.comes (subst (λ (n : ℕ). (n ≡ 2) ⊎ (n ≡ 3) ⊎ (n ≡ 4) ⊎ (n ≡ 5) ⊎ (n ≡ 8)) status_is low)
+    | inr (is, rose, part) ↦ absurd (let no : ⊥ = omega (arith, is, low) in no)
+  ]
+
+  row_leaves : (row : Row) → Comes row → LeavesChartDisks same i d
+  row_leaves row (without_disks _ comes unused) = as_before unused
+  row_leaves row (not_started _ (bus, events, set, start)) = by_refused_start (bus, events, set, Comes-leaves Format bus d row start)
+  row_leaves row (all_done _ (bus, events, set, (lines, done, text_is))) = by_chart (Some lines) (bus, events, set, done)
+  row_leaves row (done_without_memory kept over) = by_chart kept over
+
+  -- ---- all of it
+
+  pub RunsChart-ends : EndsChart same i d e → RunsChart same i d e
+  RunsChart-ends ends = record {
+    ends = ends;
+    disks_unused = unused_of ends;
+    leaves = row_leaves ends.row ends.comes;
+    done = EndsInRow-at ends 0 refl row_0;
+    usage_told = EndsInRow-at ends 2 refl row_2;
+    usage_only = λ nothing. EndsInRow-only ends 2 (λ row comes. row_asks same i d row comes nothing);
+    config_refused = EndsInRow-at ends 3 refl row_3;
+    config_refused_only = λ file fault asks offers err. EndsInRow-may ends 3 (λ row comes. row_refuses same i d row file fault comes asks offers err);
+    refused = EndsInRow-at ends 4 refl row_4;
+    refused_only = λ bus text fault offers lines is.
+        EndsInRow-may ends 4 (λ row comes. refused_of row bus text fault is (row_offered same i d row bus text comes offers lines));
+    read_fault = EndsInRow-at ends 5 refl row_5;
+    read_fault_only = λ rose. EndsInRow-only ends 5 (λ row comes. told_fault row i.config i.script (row_tells same i d row comes) rose);
+    write_fault = EndsInRow-front ends row_not_6;
+    write_fault_only = EndsInRow-rose ends;
+    no_memory = EndsInRow-at ends 7 refl row_7;
+    too_long = EndsInRow-at ends 8 refl row_8;
+    too_long_only = λ more. EndsInRow-only ends 8 (λ row comes. told_too_much row i.config i.script (row_tells same i d row comes) more);
+    disks_refused = EndsInRow-at ends 9 refl row_9;
+    disks_refused_only = λ bus text events offers lines is lacks.
+        EndsInRow-may ends 9 (λ row comes. without_room_of row bus text events is lacks (row_offered same i d row bus text comes offers lines));
+    store_refused = EndsInRow-at ends 10 refl row_10;
+    complete = λ bus text events offers lines is able well.
+        EndsInRow-done ends well 0 (λ row comes. complete_of row bus text events is able (row_offered same i d row bus text comes offers lines));
+  }

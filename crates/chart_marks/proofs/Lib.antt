@@ -1,0 +1,4 @@
+pub mod Arrows
+pub mod Turning
+pub mod Heights
+pub mod Drawing

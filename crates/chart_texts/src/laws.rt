@@ -1,0 +1,9 @@
+//! What holds of every chart: the contract of a function is the law, and its body is empty.
+ghost use Rattle.chart_texts.specs.GrammarLaws.{ChartsAreWellFormed};
+
+/// Every chart is a document of the grammar in specs/Grammar.antt: each element that opens is closed by its own name,
+/// in its order, and no text and no value of an attribute has `<`, `>`, `&` or a quote of either kind. So nothing is
+/// escaped.
+pub fn charts_are_well_formed()
+    ensures { ChartsAreWellFormed }
+{}
