@@ -57,12 +57,12 @@ fn open_chart<O: Opener, I: Source + Drop>(
     // These are the sources of a chart of these words, whatever it leaves of them.
     ensures { (config_after script_after : SourceState)
         → ChartSourcesAreNamed (O.opens opener.now) (I.state bus_input) (I.state script_input)
-          (map string_bytes words.now)
-          (record {
-            words = map string_bytes words.now;
-            config = record { before = word_source O.Opened.state I.state result.0; after = config_after };
-            script = record { before = word_source O.Opened.state I.state result.1; after = script_after };
-          }) }
+        (map string_bytes words.now)
+        (record {
+          words = map string_bytes words.now;
+          config = record { before = word_source O.Opened.state I.state result.0; after = config_after };
+          script = record { before = word_source O.Opened.state I.state result.1; after = script_after };
+        }) }
 {
     match words {
         [bus, events] => {

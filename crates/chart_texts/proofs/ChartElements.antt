@@ -16,7 +16,7 @@ use Rattle.chart_marks.specs.Places.{lifeline_x, head_count, head_top, chart_wid
 use Rattle.chart_marks.specs.Lifelines.{lifeline_of}
 use Rattle.chart_texts.specs.declared.constants.TheConstants.{STYLE, LEGEND}
 use Rattle.chart_texts.specs.Grammar.{is_content_text, Attribute, attribute_text, IsContent, nothing, element, empty_element, IsDocument}
-use Rattle.chart_texts.specs.ChartTexts.{rows_text, stretch_text, is_among, life_strokes, life_path, lifeline_text, name_box, name_boxes, header_text, chart_counts, opening_text, page_text, sized_chart, chart_text}
+use Rattle.chart_texts.specs.ChartTexts.{rows_text, stretch_text, is_among, life_strokes, life_path, lifeline_text, name_box, name_boxes, header_text, four_numbers, three_numbers, chart_counts, opening_text, page_text, sized_chart, chart_text}
 use Rattle.chart_texts.proofs.Contents.{both_content, decimal_content, name_content}
 use Rattle.chart_texts.proofs.Joined.{one, both, same_text, row_of, valued, attributes_pieces, empty_pieces, element_pieces}
 use Rattle.chart_texts.proofs.Elements.{named_value, tag, IsContent-append, IsContent-text, IsContent-empty, IsContent-element, IsContent-each}
@@ -122,15 +122,21 @@ IsContent-header nodes are block =
 counted : (name rest : List ℕ) (n : ℕ) → is_content_text name ≡ true → is_content_text rest ≡ true → is_content_text (name ++ (decimal n ++ rest)) ≡ true
 counted name rest n h k = both_content name (decimal n ++ rest) h (both_content (decimal n) rest (decimal_content n) k)
 
+last_counted : (name : List ℕ) (n : ℕ) → is_content_text name ≡ true → is_content_text (name ++ decimal n) ≡ true
+last_counted name n h = both_content name (decimal n) h (decimal_content n)
+
 counts_content : (events : ℕ) (lines : List Line) → is_content_text (chart_counts events lines) ≡ true
 counts_content events lines =
-    counted (codes "events ") _ events refl
+    both_content
+    (four_numbers events (count_by tells_sent lines) (count_by tells_accepted lines) (count_by tells_failed_verdict lines))
+    (three_numbers (count_by tells_keyed lines) (count_by tells_up lines) (count_by tells_refused lines))
+    (counted (codes "events ") _ events refl
     (counted (codes ", sent ") _ (count_by tells_sent lines) refl
     (counted (codes ", accepted ") _ (count_by tells_accepted lines) refl
-    (counted (codes ", failures ") _ (count_by tells_failed_verdict lines) refl
+    (last_counted (codes ", failures ") (count_by tells_failed_verdict lines) refl))))
     (counted (codes ", keyed ") _ (count_by tells_keyed lines) refl
     (counted (codes ", cuts ") _ (count_by tells_up lines) refl
-    (both_content (codes ", refused ") (decimal (count_by tells_refused lines)) refl (decimal_content (count_by tells_refused lines))))))))
+    (last_counted (codes ", refused ") (count_by tells_refused lines) refl)))
 
 -- a line of the legend: a group with a class, of one path and a text
 legend_line : (class strokes x text : List ℕ) → List ℕ

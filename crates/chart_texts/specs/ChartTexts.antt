@@ -155,12 +155,19 @@ header_text nodes block = codes "<g class=\"head\">" ++ (name_boxes block 0 node
 
 -- ---- the whole
 
--- the seven numbers of a trial's summary, on one line
+-- the seven numbers of a trial's summary, on one line: what was done, and what became of keys and disks
+abbrev pub four_numbers : (events sent accepted failures : ℕ) → List ℕ
+four_numbers events sent accepted failures =
+    codes "events " ++ (decimal events ++ (codes ", sent " ++ (decimal sent ++ (codes ", accepted " ++ (decimal accepted
+    ++ (codes ", failures " ++ decimal failures))))))
+
+abbrev pub three_numbers : (keyed cuts refused : ℕ) → List ℕ
+three_numbers keyed cuts refused =
+    codes ", keyed " ++ (decimal keyed ++ (codes ", cuts " ++ (decimal cuts ++ (codes ", refused " ++ decimal refused))))
+
 abbrev pub seven_numbers : (events sent accepted failures keyed cuts refused : ℕ) → List ℕ
 seven_numbers events sent accepted failures keyed cuts refused =
-    codes "events " ++ (decimal events ++ (codes ", sent " ++ (decimal sent ++ (codes ", accepted " ++ (decimal accepted
-    ++ (codes ", failures " ++ (decimal failures ++ (codes ", keyed " ++ (decimal keyed ++ (codes ", cuts "
-    ++ (decimal cuts ++ (codes ", refused " ++ decimal refused))))))))))))
+    four_numbers events sent accepted failures ++ three_numbers keyed cuts refused
 
 abbrev pub chart_counts : ℕ → List Line → List ℕ
 chart_counts events lines =

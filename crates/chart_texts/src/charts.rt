@@ -1,7 +1,7 @@
 //! The whole chart.
 ghost use Rattle.std.specs.Prelude.{◌≡◌, ◌≤◌, ◌++◌, length, IfOk, OnOk};
 ghost use Rattle.text_lines.specs.Readings.{most_lines};
-ghost use Rattle.chart_texts.specs.ChartTexts.{chart_text, sized_chart as text_of_size, whole_tag, opening_text, page_rect, page_text, seven_numbers, chart_counts};
+ghost use Rattle.chart_texts.specs.ChartTexts.{chart_text, sized_chart as text_of_size, whole_tag, opening_text, page_rect, page_text, four_numbers, three_numbers, seven_numbers, chart_counts};
 
 use crate::constants::{LEGEND, STYLE};
 use crate::counting::{CountedKind, count_lines};
@@ -157,9 +157,38 @@ fn push_numbers(
     ensures { OnOk result (text.new.items
         ≡ text.old.items ++ seven_numbers events sent accepted failures keyed cuts refused) }
 {
-    let numbers = format!(in alloc;
-        "events {events}, sent {sent}, accepted {accepted}, failures {failures}, keyed {keyed}, cuts {cuts}, refused {refused}"
-    )?;
-    text.extend_from_slice(numbers.as_bytes())?;
+    push_four(alloc, text, events, sent, accepted, failures)?;
+    push_three(alloc, text, keyed, cuts, refused)?;
     Ok(())
+}
+
+// Adds the numbers of events, of PDUs that were sent, of those that were accepted, and of failed verdicts.
+fn push_four(
+    alloc: Global,
+    text: &mut Vec<u8>,
+    events: usize,
+    sent: usize,
+    accepted: usize,
+    failures: usize,
+) -> Result<(), AllocError>
+    ensures { OnOk result (text.new.items ≡ text.old.items ++ four_numbers events sent accepted failures) }
+{
+    let numbers = format!(in alloc;
+        "events {events}, sent {sent}, accepted {accepted}, failures {failures}"
+    )?;
+    text.extend_from_slice(numbers.as_bytes())
+}
+
+// Adds the numbers of keys that were set or loaded, of cuts and of refusals.
+fn push_three(
+    alloc: Global,
+    text: &mut Vec<u8>,
+    keyed: usize,
+    cuts: usize,
+    refused: usize,
+) -> Result<(), AllocError>
+    ensures { OnOk result (text.new.items ≡ text.old.items ++ three_numbers keyed cuts refused) }
+{
+    let numbers = format!(in alloc; ", keyed {keyed}, cuts {cuts}, refused {refused}")?;
+    text.extend_from_slice(numbers.as_bytes())
 }

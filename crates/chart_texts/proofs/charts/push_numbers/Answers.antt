@@ -1,7 +1,9 @@
-use Rattle.std.proofs.Common.{◌++◌, ◌∙◌, ap}
+use Rattle.chart_texts.specs.ChartTexts.{four_numbers, three_numbers}
+use Rattle.chart_texts.proofs.Pieces.{two_added}
 use Rattle.chart_texts.proofs.charts.push_numbers.Goals as goal
 
 pub returns : goal.returns
 returns c =
-    c.in_ok-extend_from_slice.ensures.items
-    ∙ ap (λ b. c.args.text.now.items ++ b) (c.as_bytes.ensures.value ∙ c.in_ok-numbers.ensures.ok)
+    let first = four_numbers c.args.events c.args.sent c.args.accepted c.args.failures in
+    two_added c.args.text.now.items first (three_numbers c.args.keyed c.args.cuts c.args.refused) _ _
+    c.in_ok-push_four.ensures c.in_ok-push_three.ensures
