@@ -1,5 +1,5 @@
 -- A chart over the disks that are made for it, and what that says of the words of the command line
-use Rattle.std.specs.Prelude.{◌≡◌, ◌≢◌, ◌⊎◌, ◌<◌, ℕ, List, [], ◌∷◌, length, map, Vec}
+use Rattle.std.specs.Prelude.{◌≡◌, ◌≢◌, ◌⊎◌, ◌<◌, ℕ, List, [], ◌∷◌, length, map, Vec, Result, Ok, Err, IfErr}
 use Rattle.std.specs.declared.alloc.Global.{Global}
 use Rattle.std.proofs.Common.{refl, sym, subst, arith}
 use Rattle.bus_port.specs.Source.{SourceState}
@@ -31,6 +31,10 @@ some_words f (x ∷ xs) some = λ same. cc
 
 some_cons : {A : Type 0} (x : A) (xs : List A) → x ∷ xs ≢ []
 some_cons x xs = λ same. cc
+
+pub where_none : {A E : Type 0} (r : Result A E) (P : Type 0) → P → IfErr r (λ _. P)
+where_none (Ok a) P holds = tt
+where_none (Err e) P holds = holds
 
 -- ---- what runs over them
 

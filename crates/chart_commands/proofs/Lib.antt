@@ -1,7 +1,7 @@
 pub mod OneChart
 pub mod Facts
-pub mod Keeping
+pub mod Promised
 pub mod Preparing
 pub mod Drawing
 pub mod Naming
-pub mod Example
+pub mod WorkedExample

@@ -48,7 +48,7 @@ PreparesChart i (Err row) = ChartInputRow i row
 -- ---- the second phase
 
 -- a line was put behind those that are kept, or there was no memory for it
-abbrev pub KeepsLine : List Line → ℕ → Line → List Line → Result (Unit {0}) AllocError → Type 0
+abbrev pub KeepsLine : {L : Type 0} → List L → ℕ → L → List L → Result (Unit {0}) AllocError → Type 0
 KeepsLine before number line after (Ok _) = after ≡ before ++ line ∷ []
 KeepsLine before number line after (Err _) = Unit {0}
 

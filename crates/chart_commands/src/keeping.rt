@@ -12,24 +12,23 @@ use std::alloc::{AllocError, Global};
 
 /// Lines in their order.
 #[derive(Drop)]
-struct LineKeeper {
-    lines: Vec<Line>,
+struct LineKeeper<L: Drop> {
+    lines: Vec<L>,
 }
 
-impl Consumer<Line> for LineKeeper {
+impl<L: Drop> Consumer<L> for LineKeeper<L> {
     ghost use Rattle.std.specs.Prelude.{List};
-    ghost use Rattle.bus_machine.specs.declared.lines.Line.{Line};
     ghost use Rattle.chart_commands.specs.Steps.{KeepsLine};
 
     type Refusal = AllocError;
 
-    ghost State = { List Line };
+    ghost State = { List L };
 
     ghost state = { λ keeper. keeper.lines.items };
 
     ghost takes = { KeepsLine };
 
-    fn take(&mut self, _number: u32, line: Line) -> Result<(), AllocError> {
+    fn take(&mut self, _number: u32, line: L) -> Result<(), AllocError> {
         self.lines.push(line)?;
         Ok(())
     }

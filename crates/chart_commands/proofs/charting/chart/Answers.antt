@@ -6,7 +6,6 @@ use Rattle.chart_commands.specs.Steps.{refused_chart, kept_lines}
 use Rattle.chart_commands.proofs.Drawing.{of_events, Answers-charted}
 use Rattle.chart_commands.proofs.charting.chart.Goals as goal
 
--- the names of the steps are guessed from the trial's answers: see `rt check --start`
 pub finish-requires : goal.finish-requires
 finish-requires g c =
     omega (

@@ -6,10 +6,9 @@ use Rattle.answer_rows.specs.Inputs.{Reading}
 use Rattle.answer_rows.specs.InputLaws.{Offers-clean}
 use Rattle.chart_commands.specs.Inputs.{AsksChart}
 use Rattle.chart_commands.specs.declared.example.TheConstants.{BUS, SCRIPT}
-use Rattle.chart_commands.proofs.Example.{short_bus, short_script, no_example}
+use Rattle.chart_commands.proofs.WorkedExample.{short_bus, short_script, no_example}
 use Rattle.chart_commands.proofs.example.run_example.Goals as goal
 
--- copied from audit_example with other names; not seen by the prover
 pub returns-in-Ok : goal.returns-in-Ok
 returns-in-Ok g c =
     let two : AsksChart (map string_bytes c.as_slice.result.now) =

@@ -8,7 +8,6 @@ use Rattle.chart_commands.specs.Rows.{ChartInputRow, no_form}
 use Rattle.chart_commands.proofs.Preparing.{ChartInputRow-config, ChartInputRow-script}
 use Rattle.chart_commands.proofs.inputs.prepare.Goals as goal
 
--- the names of the steps are guessed from like answers: see `rt check --start`
 pub returns-then-words-ne2 : goal.returns-then-words-ne2
 returns-then-words-ne2 g c =
     let other : ¬ AsksChart (map string_bytes c.args.words.now) =

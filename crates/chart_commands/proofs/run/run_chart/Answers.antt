@@ -5,10 +5,9 @@ use Rattle.bus_world.specs.StartAnswers.{DiskStates}
 use Rattle.chart_commands.specs.Steps.{AnswersChart}
 use Rattle.chart_commands.specs.Rows.{without_disks}
 use Rattle.chart_commands.proofs.Drawing.{ChartRow-answers}
-use Rattle.chart_commands.proofs.Keeping.{RunsChart-ends}
+use Rattle.chart_commands.proofs.Promised.{RunsChart-ends}
 use Rattle.chart_commands.proofs.run.run_chart.Goals as goal
 
--- the names of the steps are guessed from run_gateway's answers, which were proved
 pub returns-in-Ok : goal.returns-in-Ok
 returns-in-Ok g c =
     let d : DiskStates = record { before = map g.D.Disk.state c.args.disks.now.items; after = map g.D.Disk.state c.chart.new.disks.items } in

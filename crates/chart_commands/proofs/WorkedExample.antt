@@ -12,7 +12,7 @@ use Rattle.chart_commands.specs.Rows.{ChartRow, without_disks, no_config}
 use Rattle.chart_commands.specs.Promises.{RunsChart}
 use Rattle.chart_commands.specs.Named.{IsExampleChart}
 use Rattle.chart_commands.specs.declared.example.TheConstants.{BUS, SCRIPT}
-use Rattle.chart_commands.proofs.Keeping.{RunsChart-ends}
+use Rattle.chart_commands.proofs.Promised.{RunsChart-ends}
 
 pub short_bus : length BUS.now ≤ input_limit
 short_bus = let size : length BUS.now ≡ 620 = refl in omega (arith, size)
