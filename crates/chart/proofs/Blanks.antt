@@ -102,7 +102,7 @@ pub never_9 : (i : ChartInputs) (disks : List MemDisk) (after : List DiskState) 
     → OverChart i (λ bus events. (after ≡ states disks) × ((fault : StartFault) × FindsRoom bus (states disks) fault × P fault)) → ⊥
 never_9 i disks after P given (bus, events, set, (same, (fault, finds, told))) =
     let are = given set.set.asks in
-    finds_room 65536 disks bus fault (omega arith) are.eight are.blank set.set.is_bus finds
+    finds_room 65536 disks bus fault (omega arith) are.count_is are.blank set.set.is_bus finds
 
 pub never_10 : (i : ChartInputs) (disks : List MemDisk) (after : List DiskState) (P : StartFault → Type 0) → (AsksChart i.words → AreEightBlank disks)
     → OverChart i (λ bus events. LeavesEach Format bus (states disks) after × ((fault : StartFault) × StoreCause Format bus (states disks) after fault × P fault)) → ⊥

@@ -5,10 +5,13 @@ use Rattle.cut_disk.specs.Memory.{fresh}
 use Rattle.cut_disk.specs.MemDisk.{contents}
 use Rattle.chart_commands.specs.Inputs.{AsksChart}
 
--- eight disks of 65,536 zero bytes each, none of them loose; nothing is armed on them, and nothing has failed
-pub record AreEightBlank (disks : List MemDisk) : Type 0 where
-  pub eight : length disks ≡ 8
-  pub blank : All (λ disk. contents disk ≡ fresh (replicate 65536 0)) disks
+-- so many disks of so many zero bytes each, none of them loose; nothing is armed on them, and nothing has failed
+pub record AreBlankDisks (count size : ℕ) (disks : List MemDisk) : Type 0 where
+  pub count_is : length disks ≡ count
+  pub blank : All (λ disk. contents disk ≡ fresh (replicate size 0)) disks
+
+abbrev pub AreEightBlank : List MemDisk → Type 0
+AreEightBlank disks = AreBlankDisks 8 65536 disks
 
 -- for a chart, and for the example, which has no words
 abbrev pub ChartDisksAreGiven : List (List ℕ) → List MemDisk → Type 0

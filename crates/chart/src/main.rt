@@ -4,9 +4,9 @@
 //! it is handed the words, the files, standard input, standard output, and disks in memory.
 #![tactic(auto)]
 
-ghost use Rattle.std.specs.Prelude.{◌≡◌, ◌≢◌, ◌⊎◌, [], drop, map, string_bytes, IfOk, IfErr, IsOk};
+ghost use Rattle.std.specs.Prelude.{◌≡◌, ◌≢◌, ◌⊎◌, ◌≤◌, ◌^◌, [], drop, map, string_bytes, IfOk, IfErr, IsOk};
 ghost use Rattle.chart_commands.specs.Inputs.{AsksChart};
-ghost use Rattle.chart.specs.Given.{AreEightBlank, ChartDisksAreGiven, AsksChartOrNone};
+ghost use Rattle.chart.specs.Given.{AreBlankDisks, AreEightBlank, ChartDisksAreGiven, AsksChartOrNone};
 ghost use Rattle.chart.specs.Drawing.{DrawsOverEight, WantsEightDisks};
 
 use bus_port::{Sink, Source, StdSink, StdSource};
@@ -119,9 +119,17 @@ fn disks_for(alloc: Global, words: &[String]) -> Result<Vec<MemDisk>, AllocError
 fn eight_disks(alloc: Global) -> Result<Vec<MemDisk>, AllocError>
     ensures { IfOk result (λ disks. AreEightBlank disks.items) }
 {
+    blank_disks(alloc, 8, 65_536)
+}
+
+/// So many blank disks of so many bytes each.
+fn blank_disks(alloc: Global, count: usize, size: usize) -> Result<Vec<MemDisk>, AllocError>
+    requires { size ≤ 2 ^ 24 }
+    ensures { IfOk result (λ disks. AreBlankDisks count size disks.items) }
+{
     let mut disks = Vec::new(alloc);
-    for index in 0..8 {
-        match MemDisk::new(alloc, 65_536) {
+    for index in 0..count {
+        match MemDisk::new(alloc, size) {
             Ok(disk) => disks.push(disk)?,
             Err(_) => return Err(AllocError),
         }
