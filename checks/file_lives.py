@@ -520,8 +520,8 @@ def cut_file(room, checks):
     for name, layout, before in cases():
         cuts.of_case(name, layout, before, False)
         cuts.behind_kills(name, layout, before)
-    for layout in LAYOUTS:
-        cuts.of_case(f"{layout}, failures", layout, None, True)
+        if before != "moved":
+            cuts.of_case(f"{name}, failures", layout, before, True)
 
 
 # ---- failing_file
