@@ -374,7 +374,8 @@ def killed_node(room, checks):
             now = Printed(printed)
             wrong = [] if status == -9 else [f"status {status}"]
             wrong += now.take(script, lines)
-            checks.check(f"{name}, killed {how} moment {at}", wrong + room.ask(now, torn=how == "within"))
+            torn = how == "within" and touches_header(HEADERS[layout], *moments[at - 1])
+            checks.check(f"{name}, killed {how} moment {at}", wrong + room.ask(now, torn))
 
 
 # ---- cut_file
@@ -390,7 +391,11 @@ def moments_in(path):
     return moments
 
 
-def torn(draw, disk, place, old, new):
+def touches_header(header, what, place, data):
+    return what == "w" and place < header + 32 and header < place + len(data)
+
+
+def tear(draw, disk, place, old, new):
     """Puts into `disk`, from `place` on, what a power cut may leave of a write: what was there, what was written, or either of them and other bytes."""
     how = draw.randrange(8)
     if how == 0:
@@ -428,7 +433,7 @@ class Device:
         return disk
 
     def header_is_loose(self, header):
-        return any(place < header + 32 and header < place + len(new) for place, new in self.loose)
+        return any(touches_header(header, "w", place, new) for place, new in self.loose)
 
     def images(self, draw, many):
         if not self.there:
@@ -440,7 +445,7 @@ class Device:
         for _ in range(many if number else 0):
             disk = bytearray(self.synced)
             for place, new in self.loose:
-                torn(draw, disk, place, bytes(disk[place : place + len(new)]), new)
+                tear(draw, disk, place, bytes(disk[place : place + len(new)]), new)
             yield bytes(disk)
 
 
