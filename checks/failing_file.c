@@ -49,18 +49,23 @@ static ssize_t noted(const char *call, off_t at, size_t length, ssize_t result) 
     return result;
 }
 
-ssize_t pread(int file, void *out, size_t length, off_t at) {
+static ssize_t reads(int file, void *out, size_t length, off_t at) {
     static ssize_t (*system_pread)(int, void *, size_t, off_t);
     if (!system_pread) system_pread = (ssize_t (*)(int, void *, size_t, off_t))dlsym(RTLD_NEXT, "pread");
     return noted("pread", at, length, fails() ? -1 : system_pread(file, out, length, at));
 }
 
-ssize_t pwrite(int file, const void *bytes, size_t length, off_t at) {
+static ssize_t writes(int file, const void *bytes, size_t length, off_t at) {
     static ssize_t (*system_pwrite)(int, const void *, size_t, off_t);
     if (!system_pwrite) system_pwrite = (ssize_t (*)(int, const void *, size_t, off_t))dlsym(RTLD_NEXT, "pwrite");
     if (fails()) return noted("pwrite", at, length, -1);
     return noted("pwrite", at, length, system_pwrite(file, bytes, calls == short_at && length > 1 ? length / 2 : length, at));
 }
+
+ssize_t pread(int file, void *out, size_t length, off_t at) { return reads(file, out, length, at); }
+ssize_t pread64(int file, void *out, size_t length, off_t at) { return reads(file, out, length, at); }
+ssize_t pwrite(int file, const void *bytes, size_t length, off_t at) { return writes(file, bytes, length, at); }
+ssize_t pwrite64(int file, const void *bytes, size_t length, off_t at) { return writes(file, bytes, length, at); }
 
 int fsync(int file) {
     static int (*system_fsync)(int);

@@ -4,11 +4,13 @@
 file_lives.py killed_node|cut_file|failing_file LIBRARY
 
 The program is crates/bus_replay/out/bus_replay (or what BUS_REPLAY names) with the words `node B F DISK`; LIBRARY is what is preloaded into it. A life
-is a script over a bus of one node. Behind it a next life is asked: whether it sends or accepts a freshness that was printed, whether it takes an
-update with a counter that was printed, and whether each slot's key is the one of the last update that was printed, or of one that was begun behind it.
-The last line is `NAME: N passed, M failed`."""
+is a script over a bus of one node. Behind it two next lives are asked, one after the other: whether they send or accept a freshness that was printed, or
+skip more of it than starts and failures may, whether they take an update with a counter that was printed, and whether each slot's key is the one of the
+last update that was printed, or of one that was begun behind it. The last line is `NAME: N passed, M failed`."""
 
 import functools
+import hashlib
+import itertools
 import os
 import pathlib
 import random
@@ -20,13 +22,16 @@ import tempfile
 TOP = pathlib.Path(__file__).resolve().parent.parent
 PROGRAM = os.environ.get("BUS_REPLAY", str(TOP / "crates/bus_replay/out/bus_replay"))
 KEYTOOL = os.environ.get("KEYTOOL", str(TOP / "crates/keytool/out/keytool"))
+SECONDS = 120
 SIZE = 65536
 UID = "000000000000000000000000000001"
 OPEN = "f" * 32
 SENT, HEARD = "6bc1", "0303"
+SENT_START, RESERVE = 0xE93D7E1173931729, 4
 HEARD_KEY = "2b7e151628aed2a6abf7158809cf4f3c"
 HEARD_START, APART = 0x00FF, 9
 LAYOUTS = {"twin": "", "log": 'store = "log"\n', "twin 2": "version = 2\n", "log 2": 'store = "log"\nversion = 2\n'}
+HEADERS = {"twin": 0, "log": 0, "twin 2": 32768, "log 2": 32768}
 MOVED = {"twin 2": "twin", "log 2": "log"}
 BUS = f"""[[node]]
 name = "unit"
@@ -36,8 +41,8 @@ uid = "{UID}"
 id = "{SENT}"
 direction = "send"
 slot = 4
-reserve = 4
-start = "e93d7e1173931729"
+reserve = {RESERVE}
+start = "{SENT_START:016x}"
 
 [[node.route]]
 id = "{HEARD}"
@@ -62,21 +67,22 @@ def output_of(*words, text=""):
 
 
 class Update:
-    """An event that updates a slot."""
+    """An event that gives a slot a key and a counter, where it has the key `before`."""
 
-    def __init__(self, slot, counter, loads=False):
-        self.slot, self.counter = slot, counter
+    def __init__(self, slot, counter, loads=False, new=None, before=None):
+        self.slot, self.counter, self.key = slot, counter, new or key(slot, counter)
+        before = before or key_before(slot, counter)
         if loads:
-            made = output_of(KEYTOOL, "make", UID, str(slot), str(slot), str(counter), "00010", key(slot, counter), key_before(slot, counter))
+            made = output_of(KEYTOOL, "make", UID, str(slot), str(slot), str(counter), "00010", self.key, before)
             self.text = "load unit " + " ".join(made)
         else:
-            self.text = f"key unit - {slot} {slot} {key_before(slot, counter)} {counter} 00010 {key(slot, counter)}"
+            self.text = f"key unit - {slot} {slot} {before} {counter} 00010 {self.key}"
 
 
 @functools.cache
 def pdus():
     """PDUs under HEARD, each APART above the one before it, and so above what a power cut may skip."""
-    lines = [f"{HEARD_KEY} {HEARD} {HEARD_START + 1 + number * APART:016x} bee22e409f96\n" for number in range(60)]
+    lines = [f"{HEARD_KEY} {HEARD} {HEARD_START + 1 + number * APART:016x} bee22e409f96\n" for number in range(200)]
     return output_of(PROGRAM, "frame", "-", text="".join(lines))
 
 
@@ -85,45 +91,72 @@ def heard(number):
 
 
 class Script:
-    """Events in order; those of them that are updates, by their number from 1; and how many PDUs were injected before."""
+    """Events in order; those of them that are updates, by their number from 1; and how many PDUs were injected before, and with them."""
 
     def __init__(self, heard=0):
-        self.texts, self.updates, self.heard = [], {}, heard
+        self.texts, self.updates, self.heard_before, self.heard = [], {}, heard, heard
 
-    def add(self, text):
-        self.texts.append(text)
+    def add(self, *texts):
+        self.texts += texts
 
-    def update(self, *what):
-        change = Update(*what)
+    def update(self, change):
         self.add(change.text)
         self.updates[len(self.texts)] = change
+
+    def send(self):
+        self.add(f"send unit {SENT} {len(self.texts) & 255:02x}")
 
     def hear(self):
         self.add(heard(self.heard))
         self.heard += 1
 
+    def renew(self, counters, slot, loads=False):
+        counters[slot] = counters.get(slot, 0) + 1
+        self.update(Update(slot, counters[slot], loads))
+
+    def heard_behind(self, lines):
+        """How many PDUs were injected when there are so many lines, one that may have been under way among them."""
+        return self.heard_before + sum(text.startswith("inject ") for text in self.texts[: lines + 1])
+
     def text(self):
         return "".join(f"{it}\n" for it in self.texts)
 
 
-def long_script(rounds, counters, heard=0):
-    """Sends and injected PDUs, and in each round an update of a slot in its turn; `counters` has the counters of all slots, and gets the new ones."""
+def long_script(rounds, counters, heard=0, cuts=()):
+    """Sends and injected PDUs, and in each round an update of a slot in its turn; `counters` has the counters of all slots, and gets the new ones. Behind
+    the first rounds there are `cuts`."""
     script = Script(heard)
-
-    def renew(slot, loads):
-        counters[slot] = counters.get(slot, 0) + 1
-        script.update(slot, counters[slot], loads)
-
     if not counters:
-        renew(4, False)
-        renew(5, True)
+        script.renew(counters, 4)
+        script.renew(counters, 5, True)
     for number in range(rounds):
-        script.add(f"send unit {SENT} {number:02x}")
+        script.send()
         script.hear()
-        script.add(f"send unit {SENT} {number:02x}")
-        script.add(f"send unit {SENT} {number:02x}")
-        renew((6, 4, 13, 5)[number % 4], number % 3 == 2)
+        script.send()
+        script.send()
+        script.renew(counters, (6, 4, 13, 5)[number % 4], number % 3 == 2)
         script.hear()
+        script.add(*cuts[number : number + 1])
+    return script
+
+
+def with_failures(script, counters):
+    """Behind a script: a send, an injected PDU and an update, in each of which a call of the disk fails, its first to its sixth; then a cut, and what puts the
+    same cell again."""
+    for number in range(1, 7):
+        script.add("cut unit keep", f"fail unit {number}")
+        script.send()
+        script.add("cut unit old")
+        script.send()
+        script.add(f"stop unit {number}")
+        script.hear()
+        script.add("cut unit a7")
+        script.hear()
+        script.add(f"{('stop', 'fail')[number % 2]} unit {number}")
+        script.renew(counters, 6)
+        script.add("cut unit keep")
+        script.update(script.updates[len(script.texts) - 1])
+        script.renew(counters, 6)
     return script
 
 
@@ -131,83 +164,88 @@ class Printed:
     """What lives printed so far, and the updates that may stand in a slot in place of the last one that was acknowledged."""
 
     def __init__(self, other=None):
-        self.sent = other.sent if other else -1
-        self.heard = other.heard if other else -1
+        self.sent, self.heard = (other.sent, other.heard) if other else (SENT_START, HEARD_START)
+        self.tried = other.tried if other else 0
         self.slots = dict(other.slots) if other else {}
-        self.begun = {slot: list(counters) for slot, counters in other.begun.items()} if other else {}
+        self.begun = {slot: list(updates) for slot, updates in other.begun.items()} if other else {}
         self.injected = other.injected if other else 0
 
+    def nothing(self):
+        return (self.sent, self.heard, self.slots) == (SENT_START, HEARD_START, {})
+
     def take(self, script, lines):
-        """The lines of a script, of which the last ones may be missing. The update behind the last line, and one that failed, may stand or not. Says what
-        is wrong."""
-        wrong = []
+        """The lines of a script, of which the last ones may be missing. The update behind the last line, and one that failed, may stand or not, until a later
+        one of its slot is acknowledged. Says what is wrong."""
+        wrong, acknowledged = [], {}
         for number, line in enumerate(lines, 1):
             words = line.split()
-            if words[0] != str(number):
-                wrong.append(f"line {number} is `{line}`")
+            if number > len(script.texts) or words[:1] != [str(number)]:
+                return [*wrong, f"line {number} is `{line}`"]
             wrong += self.freshness(line, words)
             if words[1] in ("keyed", "loaded"):
-                done = script.updates[number]
-                self.slots[done.slot] = done.counter
-                self.begun[done.slot] = []
+                done = script.updates.get(number)
+                if not done or words[1] == "keyed" and words[2] != str(done.slot):
+                    return [*wrong, f"`{line}` for {script.texts[number - 1]}"]
+                self.slots[done.slot], self.begun[done.slot], acknowledged[done.slot] = done, [], number
+            if line.endswith("MEMORY_FAILURE"):
+                self.tried += script.texts[number - 1].startswith("send ")
+        under_way = script.texts[len(lines) : len(lines) + 1]
+        self.tried += under_way != [] and under_way[0].startswith("send ")
         for number, update in script.updates.items():
-            if number == len(lines) + 1 or number <= len(lines) and "MEMORY_FAILURE" in lines[number - 1]:
-                self.begun.setdefault(update.slot, []).append(update.counter)
-        self.injected = max(self.injected, script.heard)
+            failed = number <= len(lines) and lines[number - 1].endswith("MEMORY_FAILURE")
+            if (failed or number == len(lines) + 1) and number > acknowledged.get(update.slot, 0):
+                self.begun.setdefault(update.slot, []).append(update)
+        self.injected = max(self.injected, script.heard_behind(len(lines)))
         return wrong
 
     def freshness(self, line, words):
-        if words[1] not in ("sent", "accepted"):
-            return []
-        value, name = int(words[3], 16), "sent" if words[1] == "sent" else "heard"
-        before = getattr(self, name)
-        setattr(self, name, max(value, before))
-        return [f"`{line}` behind {before:016x}"] if value <= before else []
+        """What is wrong with the freshness of a line: it rises, and what was sent, by no more than a reserve, and one for each send that came to nothing."""
+        if words[1] == "sent":
+            before, self.sent = self.sent, max(int(words[3], 16), self.sent)
+            most, self.tried = before + RESERVE * (1 + self.tried), 0
+            return [] if before < int(words[3], 16) <= most else [f"`{line}` behind {before:016x}, at most {most:016x}"]
+        if words[1] == "accepted":
+            before, self.heard = self.heard, max(int(words[3], 16), self.heard)
+            return [] if before < int(words[3], 16) else [f"`{line}` behind {before:016x}"]
+        return []
 
-    def probe(self):
-        """The script of a next life, and for each slot the lines of which one must be `keyed`."""
-        script, wanted, stale = Script(self.injected), [], []
+
+class Probe:
+    """The script of a next life: a send, PDUs that were accepted, a new one (line `fresh`); and for each slot an update with the counter that it has (lines
+    `stale`), and one on each key that it may have, of which one is to be taken (`wanted`)."""
+
+    def __init__(self, printed):
+        self.script, self.stale, self.wanted = script, stale, wanted = Script(printed.injected), [], []
         script.add(f"send unit {SENT} bee22e409f96")
-        last = (self.heard - HEARD_START - 1) // APART
-        for number in sorted({0, *range(max(0, last - 2), last + 1)} if self.heard >= 0 else set()):
+        last = (printed.heard - HEARD_START - 1) // APART
+        for number in sorted({0, *range(max(0, last - 2), last + 1)} if last >= 0 else ()):
             script.add(heard(number))
         script.hear()
-        fresh = len(script.texts)
-        for slot, counter in sorted(self.slots.items()):
-            script.add(f"key unit - {slot} {slot} {key(slot, counter)} {counter} 00010 {OPEN}")
+        self.fresh = len(script.texts)
+        for slot, last in sorted(printed.slots.items()):
+            script.add(f"key unit - {slot} {slot} {last.key} {last.counter} 00010 {OPEN}")
             stale.append(len(script.texts))
-            keyed = []
-            for number, there in enumerate([counter, *self.begun.get(slot, [])]):
-                script.add(f"key unit - {slot} {slot} {key(slot, there)} {1000000 + number} 00010 {key(slot, there)[::-1]}")
-                keyed.append(len(script.texts))
-            wanted.append((slot, keyed))
-        return script, fresh, wanted, stale
+            there = [last, *printed.begun.get(slot, [])]
+            above = 1 + max(update.counter for update in there)
+            for number, update in enumerate(there):
+                script.update(Update(slot, above + number, new=key(slot, above + number), before=update.key))
+            wanted.append((slot, range(len(script.texts) - len(there), len(script.texts))))
 
-    def taken_back(self, status, lines, probe):
-        """What the lines of a next life take back of what was printed. Where nothing was, the file may have been left while it was being formatted."""
-        script, fresh, wanted, stale = probe
-        if status == 10 and lines == ["store: node 1: NotFormatted"] and self.sent < 0 and self.heard < 0 and not self.slots:
-            return []
-        if status != 0 or len(lines) != len(script.texts):
-            return [f"status {status}, {len(lines)} lines for {len(script.texts)}: {lines[-1:]}"]
-        wrong = Printed(self).take(script_without_updates(script), lines)
-        wrong += [f"`{lines[it - 1]}` for an old counter" for it in stale if "KEY_UPDATE_ERROR" not in lines[it - 1]]
-        for slot, keyed in wanted:
-            if not any(lines[it - 1].endswith(f" keyed {slot}") for it in keyed):
-                wrong.append(f"slot {slot}: {[lines[it - 1] for it in keyed]}")
-        if 4 in self.slots and not lines[0].startswith("1 sent"):
+    def taken_back(self, printed, status, lines):
+        """What the lines take back of what was printed, and what they are themselves is printed from here on."""
+        if status != 0 or len(lines) != len(self.script.texts):
+            return [f"status {status}, {len(lines)} lines for {len(self.script.texts)}: {lines[-1:]}"]
+        slots = set(printed.slots)
+        wrong = printed.take(self.script, lines)
+        wrong += [f"`{lines[it - 1]}` for an old counter" for it in self.stale if not lines[it - 1].endswith("refused KEY_UPDATE_ERROR")]
+        for slot, keyed in self.wanted:
+            if not any(lines[it].endswith(f" keyed {slot}") for it in keyed):
+                wrong.append(f"slot {slot}: {[lines[it] for it in keyed]}")
+        if 4 in slots and not lines[0].startswith("1 sent"):
             wrong.append(f"`{lines[0]}` for a send")
-        if 5 in self.slots and " accepted " not in lines[fresh - 1]:
-            wrong.append(f"`{lines[fresh - 1]}` for a new PDU")
+        if 5 in slots and " accepted " not in lines[self.fresh - 1]:
+            wrong.append(f"`{lines[self.fresh - 1]}` for a new PDU")
         return wrong
-
-
-def script_without_updates(script):
-    """The same script, of which only the freshness is looked at."""
-    plain = Script(script.heard)
-    plain.texts = script.texts
-    plain.updates = {number: Update(0, 0) for number in range(1, len(script.texts) + 1)}
-    return plain
 
 
 class Room:
@@ -215,10 +253,14 @@ class Room:
 
     def __init__(self, folder, library):
         self.folder, self.library = pathlib.Path(folder), library
-        self.bus, self.script, self.disk = (self.folder / name for name in ("bus", "script", "disk"))
+        self.bus, self.script, self.disk, self.record, self.log = (self.folder / name for name in ("bus", "script", "disk", "record", "log"))
 
-    def lay_out(self, layout):
-        self.bus.write_text(LAYOUTS[layout] + BUS)
+    def put(self, image):
+        """The disk is a file of these bytes, or isn't there."""
+        if image is None:
+            self.disk.unlink(missing_ok=True)
+        else:
+            self.disk.write_bytes(image)
 
     def run(self, script, **preload):
         """A life: its status, its whole lines, and the last line of its standard error."""
@@ -227,29 +269,65 @@ class Room:
         if preload:
             environment |= {"LD_PRELOAD": self.library, "FILE_NAME": str(self.disk)} | {name: str(value) for name, value in preload.items()}
         words = [PROGRAM, "node", str(self.bus), str(self.script), str(self.disk)]
-        run = subprocess.run(words, stdin=subprocess.DEVNULL, capture_output=True, env=environment, timeout=60)
+        try:
+            run = subprocess.run(words, stdin=subprocess.DEVNULL, capture_output=True, env=environment, timeout=SECONDS)
+        except subprocess.TimeoutExpired:
+            return f"none in {SECONDS} seconds", [], ""
         whole = run.stdout[: run.stdout.rfind(b"\n") + 1].decode()
         said = run.stderr.decode(errors="replace").splitlines()
         return run.returncode, whole.splitlines(), said[-1] if said else ""
 
-    def ask(self, printed):
-        """What a next life over the disk takes back."""
-        probe = printed.probe()
-        status, lines, _ = self.run(probe[0])
-        return printed.taken_back(status, lines, probe)
+    def ask(self, printed, torn=False):
+        """What the next life over the disk, and the one behind it, take back. Where the first header may be torn and nothing was printed, the disk may be
+        none of the node."""
+        now = Printed(printed)
+        for _ in range(2):
+            probe = Probe(now)
+            status, lines, _ = self.run(probe.script)
+            if torn and now.nothing() and (status, lines) == (10, ["store: node 1: NotFormatted"]):
+                return []
+            wrong = probe.taken_back(now, status, lines)
+            if wrong:
+                return wrong
+        return []
 
-    def begin(self, layout, moved):
-        """The disk before the life that is looked at: none, or with a store of version 1, which that life is to move. Gives what was printed."""
-        self.disk.unlink(missing_ok=True)
+    def begin(self, layout, before):
+        """The disk before the life that is looked at: none, one with a store of version 1, which that life is to move, or a log that is nearly full. Gives its
+        bytes, what was printed, and the counters of the slots."""
+        self.put(None)
         printed, counters = Printed(), {}
-        if moved:
-            self.lay_out(MOVED[layout])
+        if before:
+            self.bus.write_text(LAYOUTS[MOVED[layout] if before == "moved" else layout] + BUS)
             script = long_script(3, counters)
+            while before == "nearly full" and script.heard < 52:
+                script.hear()
             status, lines, said = self.run(script)
             if status or printed.take(script, lines) or len(lines) != len(script.texts):
                 raise SystemExit(f"the life before: status {status}, {lines[-1:]} {said}")
-        self.lay_out(layout)
-        return printed, counters
+        self.bus.write_text(LAYOUTS[layout] + BUS)
+        return self.disk.read_bytes() if before else None, printed, counters
+
+    def record_of(self, script, begun, **preload):
+        """A life over these bytes, or over no file: its status, its lines, its moments, and how its record doesn't fit what it printed and left."""
+        self.put(begun)
+        status, lines, _ = self.run(script, FILE_RECORD=self.record, **preload)
+        moments, disk, text = moments_in(self.record), bytearray(begun or bytes(SIZE)), b""
+        for what, place, data in moments:
+            if what == "w":
+                disk[place : place + len(data)] = data
+            elif what == "p":
+                text += data
+        wrong = [] if self.disk.exists() and self.disk.read_bytes() == disk else ["the file isn't what was recorded"]
+        wrong += [] if whole_lines(text) == lines else [f"{len(lines)} lines, {len(whole_lines(text))} recorded"]
+        return status, lines, moments, wrong
+
+
+def whole_lines(text):
+    return text[: text.rfind(b"\n") + 1].decode().splitlines()
+
+
+def all_done(script, status, lines):
+    return [] if status == 0 and len(lines) == len(script.texts) else [f"status {status}, {len(lines)} lines", *lines[-1:]]
 
 
 class Checks:
@@ -261,10 +339,11 @@ class Checks:
     def check(self, what, wrong):
         if not wrong:
             self.passed += 1
-            return
+            return False
         self.failed += 1
         if self.failed <= 20:
             print(f"FAILED: {what}: " + "; ".join(wrong[:3]))
+        return True
 
     def end(self):
         print(f"{self.name}: {self.passed} passed, {self.failed} failed")
@@ -272,8 +351,9 @@ class Checks:
 
 
 def cases():
-    """Each layout over a new file, and version 2 over a file of version 1."""
-    return [(layout, False) for layout in LAYOUTS] + [(layout, True) for layout in MOVED]
+    """Each layout over a new file, version 2 over a file of version 1, and a log that becomes full."""
+    made = [(layout, layout, None) for layout in LAYOUTS]
+    return made + [(f"{layout}, moved", layout, "moved") for layout in MOVED] + [("log, nearly full", "log", "nearly full")]
 
 
 # ---- killed_node
@@ -281,39 +361,41 @@ def cases():
 
 def killed_node(room, checks):
     draw = random.Random(1)
-    for layout, moved in cases():
-        printed, counters = room.begin(layout, moved)
-        begun = room.disk.read_bytes() if moved else None
+    for name, layout, before in cases():
+        begun, printed, counters = room.begin(layout, before)
         script = long_script(8, counters, printed.injected)
-        status, lines, said = room.run(script, FILE_COUNT=1)
-        checks.check(f"{layout}, whole", [] if status == 0 and len(lines) == len(script.texts) else [f"status {status}", *lines[-1:]])
+        status, lines, moments, wrong = room.record_of(script, begun)
+        if checks.check(f"{name}, whole", wrong + all_done(script, status, lines) + Printed(printed).take(script, lines)):
+            continue
         for _ in range(34):
-            room.disk.unlink(missing_ok=True)
-            if begun:
-                room.disk.write_bytes(begun)
-            at, how = draw.randint(1, int(said)), draw.choice(["before", "within", "behind"])
+            room.put(begun)
+            at, how = draw.randint(1, len(moments)), draw.choice(["before", "within", "behind"])
             status, lines, _ = room.run(script, FILE_KILL_AT=at, FILE_KILL_HOW=how)
             now = Printed(printed)
             wrong = [] if status == -9 else [f"status {status}"]
             wrong += now.take(script, lines)
-            checks.check(f"{layout}{', moved' * moved}, killed {how} moment {at}", wrong + room.ask(now))
+            torn = how == "within" and touches_header(HEADERS[layout], *moments[at - 1])
+            checks.check(f"{name}, killed {how} moment {at}", wrong + room.ask(now, torn))
 
 
 # ---- cut_file
 
 
-class Record:
-    """What file_record.c put down: the moments of a run in order."""
+def moments_in(path):
+    """What file_record.c put down: the moments of a run in order, each a letter, a place and bytes."""
+    whole, at, moments = path.read_bytes(), 0, []
+    while at < len(whole):
+        place, length = (int.from_bytes(whole[at + it : at + it + 8], "little") for it in (1, 9))
+        moments.append((chr(whole[at]), place, whole[at + 17 : at + 17 + length]))
+        at += 17 + length
+    return moments
 
-    def __init__(self, path):
-        whole, at, self.moments = path.read_bytes(), 0, []
-        while at < len(whole):
-            place, length = (int.from_bytes(whole[at + it : at + it + 8], "little") for it in (1, 9))
-            self.moments.append((whole[at : at + 1], place, whole[at + 17 : at + 17 + length]))
-            at += 17 + length
+
+def touches_header(header, what, place, data):
+    return what == "w" and place < header + 32 and header < place + len(data)
 
 
-def torn(draw, disk, place, old, new):
+def tear(draw, disk, place, old, new):
     """Puts into `disk`, from `place` on, what a power cut may leave of a write: what was there, what was written, or either of them and other bytes."""
     how = draw.randrange(8)
     if how == 0:
@@ -329,92 +411,171 @@ def torn(draw, disk, place, old, new):
     disk[place : place + len(new)] = left
 
 
-def images(draw, synced, loose, many):
-    """Lists of bytes that a power cut may leave: all that was synced, and of what wasn't any part."""
-    yield bytes(synced)
-    whole = bytearray(synced)
-    for place, new in loose:
-        whole[place : place + len(new)] = new
-    yield bytes(whole)
-    for _ in range(many if loose else 0):
-        disk = bytearray(synced)
-        for place, new in loose:
-            torn(draw, disk, place, bytes(disk[place : place + len(new)]), new)
-        yield bytes(disk)
+class Device:
+    """What a power cut may leave of a file: all that was synced, and of what wasn't any part; and no file, until its folder was synced."""
+
+    def __init__(self, begun):
+        self.synced, self.there, self.loose = bytearray(begun or bytes(SIZE)), begun is not None, []
+
+    def take(self, what, place, data):
+        if what == "w":
+            self.loose.append((place, data))
+        elif what == "s":
+            self.synced = self.with_loose(range(len(self.loose)))
+            self.loose = []
+        elif what == "f":
+            self.there = True
+
+    def with_loose(self, which):
+        disk = bytearray(self.synced)
+        for place, new in (self.loose[it] for it in which):
+            disk[place : place + len(new)] = new
+        return disk
+
+    def header_is_loose(self, header):
+        return any(touches_header(header, "w", place, new) for place, new in self.loose)
+
+    def images(self, draw, many):
+        if not self.there:
+            yield None
+        number = len(self.loose)
+        whole = range(number + 1) if number <= 3 else (0, number)
+        for which in itertools.chain.from_iterable(itertools.combinations(range(number), it) for it in whole):
+            yield bytes(self.with_loose(which))
+        for _ in range(many if number else 0):
+            disk = bytearray(self.synced)
+            for place, new in self.loose:
+                tear(draw, disk, place, bytes(disk[place : place + len(new)]), new)
+            yield bytes(disk)
+
+
+class Cuts:
+    """The power cuts of recorded lives."""
+
+    def __init__(self, room, checks):
+        self.room, self.checks, self.draw = room, checks, random.Random(2)
+
+    def of_life(self, what, header, device, printed, script, moments, many):
+        """Cuts the power behind each moment of a life over this device, and asks over each file that may be left."""
+        text, asked = b"", set()
+        for number, (moment, place, data) in enumerate(moments, 1):
+            device.take(moment, place, data)
+            text += data if moment == "p" else b""
+            if moment == "r":
+                continue
+            now = Printed(printed)
+            wrong = now.take(script, whole_lines(text))
+            for image in device.images(self.draw, many):
+                this = (hashlib.sha256(image or b"").digest(), len(text))
+                if this not in asked:
+                    asked.add(this)
+                    self.room.put(image)
+                    asks = self.room.ask(now, torn=device.header_is_loose(header))
+                    self.checks.check(f"{what}, cut behind moment {number}", wrong + asks)
+
+    def of_case(self, name, layout, before, failures):
+        room, header = self.room, HEADERS[layout]
+        begun, printed, counters = room.begin(layout, before)
+        script = long_script(3, counters, printed.injected)
+        if failures:
+            with_failures(script, counters)
+        status, lines, moments, wrong = room.record_of(script, begun)
+        if not self.checks.check(f"{name}, whole", wrong + all_done(script, status, lines)):
+            self.of_life(name, header, Device(begun), printed, script, moments, 10)
+
+    def behind_kills(self, name, layout, before):
+        """The first life is killed behind a write, so that bytes are loose which the second life reads; of that one the power is cut."""
+        room, header = self.room, HEADERS[layout]
+        begun, printed, counters = room.begin(layout, before)
+        script = long_script(2, counters, printed.injected)
+        status, lines, moments, wrong = room.record_of(script, begun)
+        if self.checks.check(f"{name}, whole", wrong + all_done(script, status, lines)):
+            return
+        writes = [number for number, (what, _, _) in enumerate(moments, 1) if what == "w"]
+        gates = [number for number in writes if moments[number - 1][2] == b"\xa7"]
+        for at in sorted({*self.draw.sample(gates, 6), *self.draw.sample(writes, 4)}):
+            what, now, device = f"{name}, killed behind moment {at}", Printed(printed), Device(begun)
+            status, lines, moments, wrong = room.record_of(script, begun, FILE_KILL_AT=at)
+            wrong += now.take(script, lines) + ([] if status == -9 else [f"status {status}"])
+            for moment in moments:
+                device.take(*moment)
+            further = what_goes_on(script, lines, now)
+            status, lines, moments, unlike = room.record_of(further, room.disk.read_bytes())
+            if status == 10 and now.nothing() and device.header_is_loose(header):
+                continue
+            if not self.checks.check(f"{what}, gone on", wrong + unlike + all_done(further, status, lines)):
+                self.of_life(what, header, device, now, further, moments, 4)
+
+
+def what_goes_on(script, lines, printed):
+    """The script of a life behind one that was killed: the event that has no line once more, or one like it, so that the same cell is put; and others."""
+    further, at = Script(printed.injected), len(lines) + 1
+    if at in script.updates:
+        further.update(script.updates[at])
+        further.update(Update(script.updates[at].slot, script.updates[at].counter + 1))
+    elif script.texts[at - 1].startswith("inject "):
+        further.hear()
+    further.send()
+    further.hear()
+    return further
 
 
 def cut_file(room, checks):
-    draw, record = random.Random(2), room.folder / "record"
-    for layout, moved in cases():
-        printed, counters = room.begin(layout, moved)
-        script = long_script(5, counters, printed.injected)
-        synced, loose, text, asked = bytearray(room.disk.read_bytes() if moved else bytes(SIZE)), [], b"", set()
-        status, lines, said = room.run(script, FILE_RECORD=record)
-        if status or len(lines) != len(script.texts):
-            checks.check(f"{layout}, whole", [f"status {status}", *lines[-1:], said])
-            continue
-        for number, (what, place, data) in enumerate(Record(record).moments):
-            if what == b"w":
-                loose.append((place, data))
-            elif what == b"s":
-                for place, new in loose:
-                    synced[place : place + len(new)] = new
-                loose = []
-            else:
-                text += data
-            now = Printed(printed)
-            wrong = now.take(script, text[: text.rfind(b"\n") + 1].decode().splitlines())
-            for image in images(draw, synced, loose, 10):
-                if (image, len(text)) not in asked:
-                    asked.add((image, len(text)))
-                    room.disk.write_bytes(image)
-                    checks.check(f"{layout}{', moved' * moved}, cut behind moment {number}", wrong + room.ask(now))
+    cuts = Cuts(room, checks)
+    for name, layout, before in cases():
+        cuts.of_case(name, layout, before, False)
+        cuts.behind_kills(name, layout, before)
+        if before != "moved":
+            cuts.of_case(f"{name}, failures", layout, before, True)
 
 
 # ---- failing_file
 
 
-def rightly_failed(whole, status, lines):
-    """What is wrong with the answers of a life in which a call failed, where an unfailed one prints `whole`."""
+def rightly_failed(whole, status, lines, again):
+    """What is wrong with the answers of a life in which a call failed, where an unfailed one prints `whole`. Behind a cut the node may be up `again`."""
     if status == 10:
         return [] if lines == ["store: node 1: DiskFailed"] else lines[:1]
     if status or len(lines) != len(whole):
         return [f"status {status}, {len(lines)} lines for {len(whole)}"]
     first = next((it for it, line in enumerate(lines) if line.endswith(" refused MEMORY_FAILURE")), len(lines))
     wrong = [f"`{line}` in place of `{other}`" for line, other in zip(lines[:first], whole) if line != other]
+    if first == len(lines):
+        return [*wrong, "a failure that doesn't show"]
     down = re.compile(r"\d+ refused (Down|MEMORY_FAILURE)")
-    back = next((it for it in range(first, len(lines)) if lines[it].endswith(" up")), len(lines))
+    back = next((it for it in range(first, len(lines)) if again and lines[it].endswith(" up")), len(lines))
     return wrong + [f"`{line}` of a node that is down" for line in lines[first:back] if not down.fullmatch(line)]
 
 
 def failing_file(room, checks):
-    for layout, moved in cases():
-        printed, counters = room.begin(layout, moved)
-        begun = room.disk.read_bytes() if moved else None
-        script = long_script(4, counters, printed.injected)
-        for number, event in ((9, "cut unit keep"), (15, "cut unit old")):
-            script.texts.insert(number, event)
-            script.updates = {it + (it > number): update for it, update in script.updates.items()}
-        log = room.folder / "log"
-        log.unlink(missing_ok=True)
-        status, whole, said = room.run(script, FILE_COUNT=1, FILE_LOG=log)
-        checks.check(f"{layout}, whole", [] if status == 0 and len(whole) == len(script.texts) else [f"status {status}", *whole[-1:]])
-        calls = [line.split()[0] for line in log.read_text().splitlines()]
-        for way in ("FILE_FAIL_AT", "FILE_FAIL_ON", "FILE_SHORT_AT"):
-            for at in range(1, int(said) + 1):
-                if way == "FILE_SHORT_AT" and calls[at - 1] != "pwrite":
-                    continue
-                room.disk.unlink(missing_ok=True)
-                if begun:
-                    room.disk.write_bytes(begun)
-                status, lines, _ = room.run(script, **{way: at})
-                now = Printed(printed)
-                wrong = rightly_failed(whole, status, lines)
-                if way == "FILE_SHORT_AT" and lines != whole:
-                    wrong.append("a write that is gone on with shows")
-                if status == 0:
-                    wrong += now.take(script, lines)
-                checks.check(f"{layout}{', moved' * moved}, {way} {at} ({calls[at - 1]})", wrong + room.ask(now))
+    for name, layout, before in cases():
+        begun, printed, counters = room.begin(layout, before)
+        script = long_script(4, counters, printed.injected, ("cut unit keep", "cut unit old"))
+
+        def calls_of(**preload):
+            room.put(begun)
+            room.log.unlink(missing_ok=True)
+            status, lines, _ = room.run(script, FILE_LOG=room.log, **preload)
+            return status, lines, [line.split()[0] for line in room.log.read_text().splitlines()] if room.log.exists() else []
+
+        status, whole, calls = calls_of()
+        wrong = [] if {"pread", "pwrite", "fsync"} <= set(calls) else [f"calls of the file: {sorted(set(calls))}"]
+        if checks.check(f"{name}, whole", wrong + all_done(script, status, whole) + Printed(printed).take(script, whole)):
+            continue
+        for way, (at, call) in itertools.product(("FILE_FAIL_AT", "FILE_FAIL_ON", "FILE_SHORT_AT"), enumerate(calls, 1)):
+            if way == "FILE_SHORT_AT" and call != "pwrite":
+                continue
+            status, lines, made = calls_of(**{way: at})
+            now = Printed(printed)
+            if way == "FILE_SHORT_AT":
+                wrong = [] if (status, lines) == (0, whole) else ["a write that is gone on with shows"]
+            else:
+                wrong = rightly_failed(whole, status, lines, again=(way, call) == ("FILE_FAIL_AT", "pread"))
+                if call != "pread" and made[at:]:
+                    wrong.append(f"{len(made) - at} calls of a file that failed, the first a {made[at]}")
+            if status == 0:
+                wrong += now.take(script, lines)
+            checks.check(f"{name}, {way} {at} ({call})", wrong + room.ask(now))
 
 
 def main(words):

@@ -1,13 +1,15 @@
 /* Notes what a program does with one file and what it prints, and kills it at a moment, to be loaded before the C library. The file is the one that
-   FILE_NAME names. A moment is a pread, a pwrite or an fsync of it, or a write to standard output, and they are counted together from 1. With
-   FILE_KILL_AT the program is killed at the moment of this number, where FILE_KILL_HOW is `before` before it is done, `within` when half of its bytes
-   are written, and else behind it. With FILE_RECORD each moment but a pread is put down in the file of this name: a letter (w a pwrite, s an fsync, p a
-   print), its offset and its length in eight bytes each, the low one first, and its bytes. With FILE_COUNT the number of moments is written to standard
-   error at the end. */
+   FILE_NAME names. A moment is a pread, a pwrite or an fsync of it, an fsync of its folder, or a write to standard output, and they are counted together
+   from 1. With FILE_KILL_AT the program is killed at the moment of this number, where FILE_KILL_HOW is `before` before it is done, `within` when half of
+   its bytes are written, and else behind it. With FILE_RECORD each moment that didn't fail is put down in the file of this name: a letter (r a pread, w a
+   pwrite, s an fsync, f one of the folder, p a print), its offset and its length in eight bytes each, the low one first, and the bytes that were written.
+   With FILE_COUNT the number of moments is written to standard error at the end. */
 #define _GNU_SOURCE
 #include <dlfcn.h>
 #include <errno.h>
 #include <fcntl.h>
+#include <libgen.h>
+#include <limits.h>
 #include <signal.h>
 #include <stdint.h>
 #include <stdio.h>
@@ -42,13 +44,24 @@ __attribute__((destructor)) static void end(void) {
     if (getenv("FILE_COUNT")) fprintf(stderr, "%ld\n", moments);
 }
 
-static int is_the_file(int file) {
-    const char *name = getenv("FILE_NAME");
+static int is_open_as(int file, const char *name) {
     struct stat here, there;
     int error = errno;
-    int is = name && !fstat(file, &here) && !stat(name, &there) && here.st_dev == there.st_dev && here.st_ino == there.st_ino;
+    int is = !fstat(file, &here) && !stat(name, &there) && here.st_dev == there.st_dev && here.st_ino == there.st_ino;
     errno = error;
     return is;
+}
+
+static int is_the_file(int file) {
+    const char *name = getenv("FILE_NAME");
+    return name && is_open_as(file, name);
+}
+
+static int is_its_folder(int file) {
+    const char *name = getenv("FILE_NAME");
+    char copy[PATH_MAX];
+    if (!name || strlen(name) >= sizeof copy) return 0;
+    return is_open_as(file, dirname(strcpy(copy, name)));
 }
 
 /* A moment begins: how many of its bytes are still to be written, where the program is killed within it. */
@@ -81,6 +94,7 @@ static ssize_t reads(int file, void *out, size_t length, off_t at) {
     if (!is_the_file(file)) return system_pread(file, out, length, at);
     begins(0);
     ssize_t result = system_pread(file, out, length, at);
+    if (result >= 0) note('r', (uint64_t)at, "", 0);
     ends();
     return result;
 }
@@ -99,10 +113,11 @@ ssize_t pwrite(int file, const void *bytes, size_t length, off_t at) { return wr
 ssize_t pwrite64(int file, const void *bytes, size_t length, off_t at) { return writes(file, bytes, length, at); }
 
 int fsync(int file) {
-    if (!is_the_file(file)) return system_fsync(file);
+    int folder = is_its_folder(file);
+    if (!folder && !is_the_file(file)) return system_fsync(file);
     begins(0);
     int result = system_fsync(file);
-    if (!result) note('s', 0, "", 0);
+    if (!result) note(folder ? 'f' : 's', 0, "", 0);
     ends();
     return result;
 }

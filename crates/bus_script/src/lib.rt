@@ -1,9 +1,9 @@
-//! Scripts of a bus: the lines of its events, read and written; and all that reads lines of text.
+//! Scripts of a bus: the lines of its events, read and written.
 //!
 //! A script is read over a [`BusConfig`], whose nodes its events name. [`read_script`] gives the events of a text or its
-//! first fault, and [`write_event`] an event's canonical line: single spaces, lower-case digits, every identifier written
-//! out. [`laws`] says that what was read is read again from its canonical lines. The printed lines of a run
-//! ([`write_line`]), the lines of `frame`, `judge` and `keytool load`, and the [`forms`] of words, are offered here again.
+//! first fault, [`read_own_script`] those of one that has a node's own events alone, and [`write_event`] an event's
+//! canonical line: single spaces, lower-case digits, every identifier written out. [`laws`] says that what was read is
+//! read again from its canonical lines.
 #![tactic(auto)]
 
 mod fields;

@@ -3,11 +3,11 @@ use Rattle.std.specs.Prelude.{◌≡◌, ℕ, Bool, true, false, if◌then◌els
 use Rattle.fault_count.specs.FaultCount.{counted}
 use Rattle.cut_disk.specs.declared.arming.Arms.{Arms}
 use Rattle.cut_disk.specs.State.{DiskState}
-use Rattle.cut_disk.specs.Arming.{no_arms, fails, after_call}
+use Rattle.cut_disk.specs.Arming.{no_arms, fails, after_call, after_cut}
 use Rattle.cut_disk.specs.Memory.{faults_after}
 use Rattle.file_disk.specs.declared.byte_file.ByteFile.{Ghosts}
 use Rattle.file_disk.specs.declared.file_disk.FileDisk.{FileDisk}
-use Rattle.file_disk.specs.FileCalls.{FileCall, Notes}
+use Rattle.file_disk.specs.FileCalls.{FileCall, SyncAll, Notes}
 
 -- the size, which calls are to fail, how many have failed, whether there is a file, and its calls, if it tells them
 pub record FileContents : Type 0 where
@@ -41,6 +41,16 @@ pub record Passes (call : FileCall) (ok : Bool) (old new : FileContents) : Type 
   pub armed : fails old.arms ≡ true → ok ≡ false
   pub untouched : fails old.arms ≡ true → new.calls ≡ old.calls
   pub passed : fails old.arms ≡ false → Notes call old.calls new.calls
+
+-- A power cut of the disk: what was armed to stop it is over, and the file was synced, which was Ok or not. So what is read
+-- from here on is what a cut of the system's own power leaves, as of a disk whose power went.
+pub record LosesPower (old new : FileContents) : Type 0 where
+  pub size : new.size ≡ old.size
+  pub arms : new.arms ≡ after_cut old.arms
+  pub faults : new.faults ≡ old.faults
+  pub is_open : new.is_open ≡ old.is_open
+  pub ok : Bool
+  pub synced : Notes (SyncAll ok) old.calls new.calls
 
 -- what a disk over a file holds, by what a file of this kind tells
 abbrev pub file_contents : {F : Type 0} {g : Ghosts F} → FileDisk F g → FileContents

@@ -11,8 +11,8 @@ use crate::system_file::SystemFile;
 use cut_disk::{Arms, CutDisk, Disk, DiskFailed, Torn, count_call};
 use fault_count::count_fault;
 
-/// A disk over one file. It tells no bytes and no past, and is never quiet: any call of the file may fail. A power cut leaves
-/// the file as it is.
+/// A disk over one file. It tells no bytes and no past, and is never quiet: any call of the file may fail. A power cut takes
+/// nothing from the file and syncs it, so that what is read behind it is what a cut of the system's own power leaves.
 #[derive(Drop)]
 pub struct FileDisk<F: ByteFile = SystemFile> {
     file: F,
@@ -123,15 +123,15 @@ impl<F: ByteFile> Disk for FileDisk<F> {
 }
 
 impl<F: ByteFile> CutDisk for FileDisk<F> {
-    ghost use Rattle.file_disk.specs.FileDisk.{file_contents, file_disk_of};
+    ghost use Rattle.file_disk.specs.FileDisk.{file_contents, file_disk_of, LosesPower};
 
     fn power_cut(&mut self, _torn: Torn)
         ensures call { Call (Some (Cut _torn)) (file_disk_of (file_contents self.old))
             (file_disk_of (file_contents self.new)) }
-        ensures contents { file_contents self.new
-            ≡ record (file_contents self.old) { arms = after_cut (file_contents self.old).arms } }
+        ensures contents { LosesPower (file_contents self.old) (file_contents self.new) }
     {
         self.arms.cut();
+        let _ = self.file.sync_all();
     }
 
     fn stop_at(&mut self, calls: u64)
