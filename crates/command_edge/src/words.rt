@@ -17,7 +17,8 @@ pub fn words_of<R: Env + AllocGlobal>(rt: &R) -> Result<Vec<String>, AllocError>
 }
 
 /// Four empty words in the place of words of which one isn't text, or want of memory where that was the fault. Behind the
-/// name these are three: no command has an empty name, and a program without commands takes two words at most.
+/// name these are three: no command has an empty name, no pair of a gateway is empty, and any other program takes two
+/// words at most.
 fn words_at_fault(alloc: Global, fault: ErrorKind) -> Result<Vec<String>, AllocError>
     ensures memory { fault ≡ OutOfMemory → IsErr result }
     ensures empty { IfOk result (λ words. map string_bytes words.items ≡ [] ∷ [] ∷ [] ∷ [] ∷ []) }
