@@ -15,6 +15,7 @@ use Rattle.cell_store.specs.declared.kinds.Probe.{Probe}
 use Rattle.cell_store.specs.declared.kinds.Probe.TheVariants as probe
 use Rattle.cell_store.specs.Layout.{layout, header, part, base, from_base}
 use Rattle.cell_store.specs.Reading.{ReadOnly, ReadFailed}
+use Rattle.cell_store.proofs.StaysLaws.{stays_none, stays_join}
 use Rattle.cell_store.specs.Store.{FewCells, Probes, HasHeader}
 use Rattle.any_cells.specs.declared.looking.Found.{Found}
 use Rattle.any_cells.specs.declared.looking.Found.TheVariants as found
@@ -68,7 +69,7 @@ short-probe version x short =
 -- ---- reads, one after another
 
 pub read-none : (s : DiskState) → ReadOnly 1 s s
-read-none s = record { runs = runs_more 1 (omega arith) (runs_none s); told = refl; faults = refl; stops = λ none. none }
+read-none s = record { runs = runs_more 1 (omega arith) (runs_none s); told = refl; faults = refl; stops = λ none. none; stays = stays_none s }
 
 pub read-both : (a b c : DiskState) → ReadOnly 1 a b → ReadOnly 1 b c → ReadOnly 2 a c
 read-both a b c one two = record {
@@ -76,10 +77,11 @@ read-both a b c one two = record {
   told = two.told ∙ one.told;
   faults = two.faults ∙ one.faults;
   stops = λ none. two.stops (one.stops none);
+  stays = stays_join one.runs one.told one.stays two.runs two.stays;
 }
 
 pub failed-first : (a b : DiskState) → ReadFailed 1 a b → ReadFailed 2 a b
-failed-first a b one = record { runs = runs_more 2 (omega arith) one.runs; told = one.told; rose = one.rose; stops = one.stops }
+failed-first a b one = record { runs = runs_more 2 (omega arith) one.runs; told = one.told; rose = one.rose; stops = one.stops; stays = one.stays }
 
 pub failed-second : (a b c : DiskState) → ReadOnly 1 a b → ReadFailed 1 b c → ReadFailed 2 a c
 failed-second a b c one two = record {
@@ -87,6 +89,7 @@ failed-second a b c one two = record {
   told = two.told ∙ one.told;
   rose = subst (λ n. Rose n c.faults) one.faults two.rose;
   stops = λ none. two.stops (one.stops none);
+  stays = stays_join one.runs one.told one.stays two.runs two.stays;
 }
 
 -- ---- one thing is found

@@ -10,6 +10,7 @@ use Rattle.cut_disk.specs.Calls.{Rose, Runs}
 use Rattle.cut_disk.specs.Images.{CutsTo}
 use Rattle.cell_store.specs.declared.faults.Reread.TheVariants as reread
 use Rattle.cell_store.specs.Cells.{CellsState, StandsNow}
+use Rattle.cell_store.specs.Reading.{CutStays}
 use Rattle.cut_disk.specs.CallLaws.{runs_none, runs_more}
 use Rattle.secured_pdu.specs.FrameLaws.{payload_of_secured}
 use Rattle.secured_pdu.specs.Verdict.{payload_of}
@@ -81,6 +82,7 @@ calm_turn before after act line step other layout runs fits faults untouched sou
   image = tt;
   untouched = untouched;
   sound = λ _. sound;
+  stays = tt;
 }
 
 pub receives_no_cut : (id : ℕ) (pdu : List ℕ) → receives id pdu ≡ cuts → ⊥
@@ -139,6 +141,7 @@ hears_nothing_turn s = record {
   image = tt;
   untouched = refl;
   sound = λ sound. sound;
+  stays = tt;
 }
 
 -- ---- cuts
@@ -155,8 +158,8 @@ pub up_turn : (before after : NodeState) (torn : Torn) → (TellsFitting before 
     → after.node ≡ powered before.node.config after.node.kept → after.store.cells ≡ CellsOf before.node.config after.node.kept → StandsNow after.store
     → after.store.layout ≡ before.store.layout → Runs (mark.Cut torn ∷ []) (68 + cell_count before.node) before.store.disk after.store.disk → (FitsNow before → FitsNow after)
     → after.store.disk.faults ≡ before.store.disk.faults → CutsTo before.store.disk.told after.store.disk.told → Sound after.node
-    → NodeTurn before (duty cuts (Some (mark.Cut torn))) Up after
-up_turn before after torn step up kept stands layout runs fits faults image sound = record {
+    → CutStays torn before.store.disk after.store.disk → NodeTurn before (duty cuts (Some (mark.Cut torn))) Up after
+up_turn before after torn step up kept stands layout runs fits faults image sound stays = record {
   step = step;
   of_cut = λ _. record { result = Ok tt; line_is = refl; up = up; kept = kept; stands = stands; down = tt; cause = tt };
   config = ap (λ (n : Node). n.config) up;
@@ -167,14 +170,16 @@ up_turn before after torn step up kept stands layout runs fits faults image soun
   image = image;
   untouched = tt;
   sound = λ _. sound;
+  stays = stays;
 }
 
 -- one that leaves it down
 pub down_turn : (before after : NodeState) (torn : Torn) (f : CutFault) → (TellsFitting before → NodeStep before.node cuts (Refused (refusal_of_cut f)) after.node)
     → after.node ≡ refused_up before.node → CutCause before.node.config.routes before.store after.store f
     → after.store.layout ≡ before.store.layout → Runs (mark.Cut torn ∷ []) (68 + cell_count before.node) before.store.disk after.store.disk → (FitsNow before → FitsNow after)
-    → CutsTo before.store.disk.told after.store.disk.told → Sound after.node → NodeTurn before (duty cuts (Some (mark.Cut torn))) (Refused (refusal_of_cut f)) after
-down_turn before after torn f step down cause layout runs fits image sound = record {
+    → CutsTo before.store.disk.told after.store.disk.told → Sound after.node → CutStays torn before.store.disk after.store.disk
+    → NodeTurn before (duty cuts (Some (mark.Cut torn))) (Refused (refusal_of_cut f)) after
+down_turn before after torn f step down cause layout runs fits image sound stays = record {
   step = step;
   of_cut = λ _. record { result = Err f; line_is = refl; up = tt; kept = tt; stands = tt; down = down; cause = cause };
   config = ap (λ (n : Node). n.config) down;
@@ -185,6 +190,7 @@ down_turn before after torn f step down cause layout runs fits image sound = rec
   image = image;
   untouched = tt;
   sound = λ _. sound;
+  stays = stays;
 }
 
 -- ---- what is put down of a line

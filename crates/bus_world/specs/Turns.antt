@@ -8,6 +8,7 @@ use Rattle.cut_disk.specs.State.{DiskState}
 use Rattle.cut_disk.specs.Calls.{Rose, Runs}
 use Rattle.cut_disk.specs.Images.{CutsTo}
 use Rattle.cell_store.specs.Cells.{StandsNow}
+use Rattle.cell_store.specs.Reading.{CutStays}
 use Rattle.bus_machine.specs.declared.events.Event.{Event}
 use Rattle.bus_machine.specs.declared.events.Event.TheVariants.{Deliver, Inject, Boot, Stop, Fail}
 use Rattle.bus_machine.specs.declared.lines.Line.{Line}
@@ -84,6 +85,12 @@ abbrev pub LeavesCut : Option Mark → DiskState → DiskState → Type 0
 LeavesCut (Some (mark.Cut torn)) before after = CutsTo before.told after.told
 LeavesCut _ before after = Unit {0}
 
+-- and each entry that a told past got behind the cut's has what the cut left: nothing else is written first and taken
+-- back
+abbrev pub StaysBehind : Option Mark → DiskState → DiskState → Type 0
+StaysBehind (Some (mark.Cut torn)) before after = CutStays torn before after
+StaysBehind _ before after = Unit {0}
+
 -- a line that tells that nothing was done, though the disk didn't fail and no power was cut, leaves the node, its store
 -- and its disk as they were
 abbrev pub LeavesAlone : Option Mark → Line → NodeState → NodeState → Type 0
@@ -112,6 +119,7 @@ pub record NodeTurn (before : NodeState) (duty : Duty) (line : Line) (after : No
   pub image : LeavesCut duty.mark before.store.disk after.store.disk
   pub untouched : LeavesAlone duty.mark line before after
   pub sound : Sound before.node → Sound after.node
+  pub stays : StaysBehind duty.mark before.store.disk after.store.disk
 
 -- ---- honest PDUs
 

@@ -6,6 +6,7 @@ pub mod StoreLaws
 pub mod KeptLaws
 pub mod WritingLaws
 pub mod GateLaws
+pub mod StaysLaws
 pub mod ReadingLaws
 pub mod TwinSteps
 pub mod FreshLaws

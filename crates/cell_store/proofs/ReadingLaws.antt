@@ -3,7 +3,8 @@ use Rattle.std.proofs.Common.{◌≡◌, ℕ, ◌+◌, ◌-◌, ◌<◌, ◌≤�
 use Rattle.std.proofs.lemmas.List.{take-take, drop-take, drop-drop, get_or-set_same, get_or-set_other}
 use Rattle.std.proofs.lemmas.Bool.{false≢true, cases_Bool, cases_eq, cond-true, cond-false}
 use Rattle.std.proofs.lemmas.Option.{same_Some, none-some}
-use Rattle.cut_disk.specs.State.{DiskState, Told}
+use Rattle.cut_disk.specs.declared.Torn.{Torn}
+use Rattle.cut_disk.specs.State.{DiskState, Told, Cut}
 use Rattle.cut_disk.specs.declared.arming.Arms.{Arms}
 use Rattle.cut_disk.specs.declared.arming.StopState.{StopState}
 use Rattle.cut_disk.specs.declared.arming.StopState.TheVariants.{Clear, Armed, Begun}
@@ -22,9 +23,10 @@ use Rattle.cell_store.specs.Twin.{first_at, second_at, counts, cell_of, cell_at}
 use Rattle.cell_store.specs.Copies.{copy, Keeps}
 use Rattle.cell_store.specs.Held.{held_of}
 use Rattle.cell_store.specs.Store.{HasHeader, IsDamaged, FirstDamaged}
-use Rattle.cell_store.specs.Reading.{NoStop, ReadOnly, ReadFailed, ToldKeeps, Leaves, Finds, CellFault, HeaderFault}
+use Rattle.cell_store.specs.Reading.{NoStop, ReadOnly, ReadFailed, CutStays, ToldKeeps, Leaves, Finds, CellFault, HeaderFault}
 use Rattle.cell_store.specs.ReadOrder.{twin_reads, twin_reads_to}
 use Rattle.cell_store.proofs.CopiesLaws.{cell_at-kept}
+use Rattle.cell_store.proofs.StaysLaws.{stays_none, stays_call, stays_join, cut_stays}
 
 -- no call makes a stop
 clear-after : (s : StopState) → IsTrue (is_clear s) → IsTrue (is_clear (stop_after s))
@@ -67,14 +69,14 @@ damaged-of x i e = elim (cases_Bool (counts (copy x i First) (copy x i Second)))
 
 -- one read, done or failed
 pub read_done : {a b : DiskState} → Call None a b → b.told ≡ a.told → b.faults ≡ a.faults → b.arms ≡ after_call a.arms → ReadOnly 1 a b
-read_done {a} {b} call told faults arms = record { runs = runs_of_call call; told = told; faults = faults; stops = no_stop-call a.arms b.arms arms }
+read_done {a} {b} call told faults arms = record { runs = runs_of_call call; told = told; faults = faults; stops = no_stop-call a.arms b.arms arms; stays = stays_call call told }
 
 pub read_failed : {a b : DiskState} → Call None a b → b.told ≡ a.told → Rose a.faults b.faults → b.arms ≡ after_call a.arms → ReadFailed 1 a b
-read_failed {a} {b} call told rose arms = record { runs = runs_of_call call; told = told; rose = rose; stops = no_stop-call a.arms b.arms arms }
+read_failed {a} {b} call told rose arms = record { runs = runs_of_call call; told = told; rose = rose; stops = no_stop-call a.arms b.arms arms; stays = stays_call call told }
 
 -- several reads
 pub reads_none : (s : DiskState) → ReadOnly 0 s s
-reads_none s = record { runs = runs_none s; told = refl; faults = refl; stops = λ none. none }
+reads_none s = record { runs = runs_none s; told = refl; faults = refl; stops = λ none. none; stays = stays_none s }
 
 pub reads_join : {m n : ℕ} {a b c : DiskState} → ReadOnly m a b → ReadOnly n b c → ReadOnly (m + n) a c
 reads_join first second = record {
@@ -82,13 +84,14 @@ reads_join first second = record {
   told = second.told ∙ first.told;
   faults = second.faults ∙ first.faults;
   stops = λ none. second.stops (first.stops none);
+  stays = stays_join first.runs first.told first.stays second.runs second.stays;
 }
 
 pub reads_more : {few : ℕ} {a b : DiskState} (most : ℕ) → few ≤ most → ReadOnly few a b → ReadOnly most a b
-reads_more most le reads = record { runs = runs_more most le reads.runs; told = reads.told; faults = reads.faults; stops = reads.stops }
+reads_more most le reads = record { runs = runs_more most le reads.runs; told = reads.told; faults = reads.faults; stops = reads.stops; stays = reads.stays }
 
 pub failed_more : {few : ℕ} {a b : DiskState} (most : ℕ) → few ≤ most → ReadFailed few a b → ReadFailed most a b
-failed_more most le f = record { runs = runs_more most le f.runs; told = f.told; rose = f.rose; stops = f.stops }
+failed_more most le f = record { runs = runs_more most le f.runs; told = f.told; rose = f.rose; stops = f.stops; stays = f.stays }
 
 pub failed_after : {m n : ℕ} {a b c : DiskState} → ReadOnly m a b → ReadFailed n b c → ReadFailed (m + n) a c
 failed_after {m} {n} {a} {b} {c} before f = record {
@@ -96,6 +99,7 @@ failed_after {m} {n} {a} {b} {c} before f = record {
   told = f.told ∙ before.told;
   rose = rose_after a.faults b.faults c.faults (let e = before.faults in omega arith) f.rose;
   stops = λ none. f.stops (before.stops none);
+  stays = stays_join before.runs before.told before.stays f.runs f.stays;
 }
 
 -- no stop comes where a store isn't read
@@ -103,6 +107,15 @@ pub leaves-stops : (all : ℕ) (up_to : ℕ → ℕ) (a b : DiskState) (fault : 
 leaves-stops all up_to a b reread.DiskFailed l = l.stops
 leaves-stops all up_to a b reread.NotFormatted l = l.stops
 leaves-stops all up_to a b (reread.Damaged i) l = l.stops
+
+-- the bytes stay behind a cut where a store is read, and where it isn't
+pub cut-stays : {torn : Torn} {n : ℕ} {a b c : DiskState} → Call (Some (Cut torn)) a b → ReadOnly n b c → CutStays torn a c
+cut-stays call reads = cut_stays call reads.runs reads.told reads.stays
+
+pub cut-leaves : {torn : Torn} (all : ℕ) (up_to : ℕ → ℕ) (a b c : DiskState) (fault : Reread) → Call (Some (Cut torn)) a b → Leaves all up_to b c fault → CutStays torn a c
+cut-leaves all up_to a b c reread.DiskFailed call l = cut_stays call l.runs l.told l.stays
+cut-leaves all up_to a b c reread.NotFormatted call l = cut_stays call l.runs l.told l.stays
+cut-leaves all up_to a b c (reread.Damaged i) call l = cut_stays call l.runs l.told l.stays
 
 -- what was read behind a base is a part of the bytes from the base on
 pub read-part : (told : Option Told) (address b at n : ℕ) (bytes : List ℕ) → ReadsAs told address bytes → address ≡ b + at → length bytes ≡ n → (t : Told) → told ≡ Some t → bytes ≡ part at n (drop b t.bytes)

@@ -1,6 +1,7 @@
 -- What reading a store leaves and finds.
-use Rattle.std.specs.Prelude.{◌≡◌, ℕ, min, Option, Some, None, [], IsTrue}
-use Rattle.cut_disk.specs.State.{DiskState, Told}
+use Rattle.std.specs.Prelude.{◌≡◌, ℕ, min, Option, Some, None, List, [], ◌∷◌, ◌++◌, All, IsTrue}
+use Rattle.cut_disk.specs.declared.Torn.{Torn}
+use Rattle.cut_disk.specs.State.{DiskState, Told, Entry, Cut, past_entry}
 use Rattle.cut_disk.specs.Arming.{is_clear}
 use Rattle.cut_disk.specs.Calls.{Rose, Runs}
 use Rattle.cell_store.specs.declared.copies.Held.{Held}
@@ -18,12 +19,33 @@ use Rattle.cell_store.specs.Cells.{RereadFinds}
 abbrev pub NoStop : DiskState → Type 0
 NoStop s = IsTrue (is_clear s.arms.stop)
 
+-- calls all along which the bytes stayed: each entry that they added to a past has the bytes and loose marks that were
+-- told before
+abbrev pub StaysTold : DiskState → DiskState → Type 0
+StaysTold old new = (t : Told) (earlier added : List Entry) → old.told ≡ Some t
+    → old.past ≡ Some earlier → new.past ≡ Some (earlier ++ added)
+    → All (λ entry. entry.state ≡ t) added
+
+-- the first of these entries is a cut's, and each behind it has what the cut left, and so does the disk now
+pub record EntriesOfCut (torn : Torn) (told : Option Told) (added : List Entry) : Type 0 where
+  pub left : Told
+  pub behind : List Entry
+  pub whole : added ≡ past_entry left (Some (Cut torn)) ∷ behind
+  pub same : All (λ entry. entry.state ≡ left) behind
+  pub now : told ≡ Some left
+
+-- a cut, and then calls all along which the bytes stayed as it left them: nothing comes behind a cut but looks
+abbrev pub CutStays : Torn → DiskState → DiskState → Type 0
+CutStays torn old new = (earlier added : List Entry)
+    → old.past ≡ Some earlier → new.past ≡ Some (earlier ++ added) → EntriesOfCut torn new.told added
+
 -- a disk is as before, but for at most this many reads, and no stop has come
 pub record ReadOnly (most : ℕ) (old new : DiskState) : Type 0 where
   pub runs : Runs [] most old new
   pub told : new.told ≡ old.told
   pub faults : new.faults ≡ old.faults
   pub stops : NoStop old → NoStop new
+  pub stays : StaysTold old new
 
 -- one of so many reads failed, so that the count of faults rose; no byte has changed, and no stop has come
 pub record ReadFailed (most : ℕ) (old new : DiskState) : Type 0 where
@@ -31,6 +53,7 @@ pub record ReadFailed (most : ℕ) (old new : DiskState) : Type 0 where
   pub told : new.told ≡ old.told
   pub rose : Rose old.faults new.faults
   pub stops : NoStop old → NoStop new
+  pub stays : StaysTold old new
 
 -- What is left where a store isn't read, by the cause: of all its reads a failing disk allows any number, another
 -- header the first, and what is damaged those up to it.

@@ -4,7 +4,7 @@ ghost use Rattle.cut_disk.specs.State.{Told, Cut, Stop, Fail};
 ghost use Rattle.cut_disk.specs.Arming.{with_stop, with_fail};
 ghost use Rattle.cut_disk.specs.Images.{EachImage, CutsTo};
 ghost use Rattle.cut_disk.specs.Calls.{Rose, Runs, Grows};
-ghost use Rattle.cell_store.specs.Reading.{NoStop};
+ghost use Rattle.cell_store.specs.Reading.{NoStop, CutStays};
 ghost use Rattle.cell_store.specs.Cells.{CellsState, Settled, TellsCells, PutDone, LeavesBesides, StandsForEither, RereadCause, calls_to_reread, StandsNow, EachImageStands};
 
 use crate::faults::{PutFailed, Reread};
@@ -61,7 +61,8 @@ pub trait CutCells: Cells {
     /// that is there already. It ends a stop and what `stop_at` armed, whatever it answers. Where it
     /// fails, the store is broken and its list is as before. Errors, in the order of reading:
     /// `DiskFailed`, `NotFormatted`, and `Damaged` with the first damage; no read comes after the
-    /// one that found it.
+    /// one that found it. Nothing is written: each entry that a told past got behind the cut's has
+    /// the state that the cut left.
     fn power_cut(&mut self, torn: Torn) -> Result<(), Reread>
         ensures layout { (Self.state self.new).layout ≡ (Self.state self.old).layout }
         ensures count { length (Self.state self.new).cells ≡ length (Self.state self.old).cells }
@@ -69,6 +70,7 @@ pub trait CutCells: Cells {
             (Self.state self.old).disk (Self.state self.new).disk }
         ensures grows { OnOk result (Grows (Self.state self.old).disk (Self.state self.new).disk) }
         ensures left { CutsTo (Self.state self.old).disk.told (Self.state self.new).disk.told }
+        ensures stays { CutStays torn (Self.state self.old).disk (Self.state self.new).disk }
         ensures stops { NoStop (Self.state self.new).disk }
         ensures faults { OnOk result ((Self.state self.new).disk.faults
             ≡ (Self.state self.old).disk.faults) }

@@ -19,4 +19,5 @@ returns g c = record {
   image = tt;
   untouched = tt;
   sound = λ _. c.fail_at.ensures.sound;
+  stays = tt;
 }

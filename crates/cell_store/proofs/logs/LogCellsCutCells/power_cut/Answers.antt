@@ -1,8 +1,10 @@
-use Rattle.std.proofs.Common.{length, arith}
+use Rattle.std.proofs.Common.{length, arith, subst}
 use Rattle.cell_store.proofs.TwinSteps.{whole-items, leaves-runs}
 use Rattle.cell_store.proofs.LogSteps.{log-cut-runs, log-cut-store, log-cut-grows, log-cut-stands, log-cut-settled, log-cut-cause, log-cut-never, log-cut-first}
+use Rattle.cell_store.specs.Cells.{CellsState}
+use Rattle.cell_store.specs.Reading.{CutStays}
 use Rattle.cell_store.specs.ReadOrder.{log_reads, log_reads_to}
-use Rattle.cell_store.proofs.ReadingLaws.{no_stop-cut, leaves-stops}
+use Rattle.cell_store.proofs.ReadingLaws.{no_stop-cut, leaves-stops, cut-stays, cut-leaves}
 use Rattle.cell_store.proofs.logs.LogCellsCutCells.power_cut.Goals as goal
 
 pub invariant_of-self : goal.invariant_of-self
@@ -55,3 +57,16 @@ pub returns-in-Err-clause-stops : goal.returns-in-Err-clause-stops
 returns-in-Err-clause-stops g c =
     leaves-stops (log_reads (length c.self.inside.reread.items)) (log_reads_to (length c.self.inside.reread.items)) (g.D.Disk.state c.power_cut.new.self) (g.D.Disk.state c.read_log.new.disk) c.in-Err.fault (rw c.deref_mut.ensures.value at c.in-Err.ensures.leaves)
     (no_stop-cut (g.D.Disk.state c.self.inside.disk).arms (g.D.Disk.state c.power_cut.new.self).arms c.power_cut.ensures.arms)
+
+-- nothing is written behind the cut
+
+pub returns-in-Ok-clause-stays : goal.returns-in-Ok-clause-stays
+returns-in-Ok-clause-stays g c =
+    subst (λ (x : CellsState). CutStays c.args.torn x.disk (g.D.Disk.state c.read_log.new.disk)) c.self.view_is
+    (cut-stays c.power_cut.ensures.call (rw c.deref_mut.ensures.value at c.in-Ok.ensures.same))
+
+pub returns-in-Err-clause-stays : goal.returns-in-Err-clause-stays
+returns-in-Err-clause-stays g c =
+    subst (λ (x : CellsState). CutStays c.args.torn x.disk (g.D.Disk.state c.read_log.new.disk)) c.self.view_is
+    (cut-leaves (log_reads (length c.self.inside.reread.items)) (log_reads_to (length c.self.inside.reread.items)) (g.D.Disk.state c.self.inside.disk) (g.D.Disk.state c.power_cut.new.self) (g.D.Disk.state c.read_log.new.disk) c.in-Err.fault
+    c.power_cut.ensures.call (rw c.deref_mut.ensures.value at c.in-Err.ensures.leaves))

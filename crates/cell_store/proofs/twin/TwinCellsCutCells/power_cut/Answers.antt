@@ -1,7 +1,9 @@
-use Rattle.std.proofs.Common.{length, arith}
+use Rattle.std.proofs.Common.{length, arith, subst}
 use Rattle.cell_store.proofs.TwinSteps.{whole-items, leaves-runs, cut-runs, cut-store, cut-grows, cut-stands, cut-settled, cut-never, cut-first, cut-cause}
+use Rattle.cell_store.specs.Cells.{CellsState}
+use Rattle.cell_store.specs.Reading.{CutStays}
 use Rattle.cell_store.specs.ReadOrder.{twin_reads, twin_reads_to}
-use Rattle.cell_store.proofs.ReadingLaws.{no_stop-cut, leaves-stops}
+use Rattle.cell_store.proofs.ReadingLaws.{no_stop-cut, leaves-stops, cut-stays, cut-leaves}
 use Rattle.cell_store.proofs.twin.TwinCellsCutCells.power_cut.Goals as goal
 
 pub invariant_of-self : goal.invariant_of-self
@@ -58,3 +60,16 @@ pub returns-in-Err-clause-stops : goal.returns-in-Err-clause-stops
 returns-in-Err-clause-stops g c =
     leaves-stops (twin_reads (length c.self.inside.reread.items)) twin_reads_to (g.D.Disk.state c.power_cut.new.self) (g.D.Disk.state c.read_store.new.disk) c.in-Err.fault (rw c.deref_mut.ensures.value at c.in-Err.ensures.leaves)
     (no_stop-cut (g.D.Disk.state c.self.inside.disk).arms (g.D.Disk.state c.power_cut.new.self).arms c.power_cut.ensures.arms)
+
+-- nothing is written behind the cut
+
+pub returns-in-Ok-clause-stays : goal.returns-in-Ok-clause-stays
+returns-in-Ok-clause-stays g c =
+    subst (λ (x : CellsState). CutStays c.args.torn x.disk (g.D.Disk.state c.read_store.new.disk)) c.self.view_is
+    (cut-stays c.power_cut.ensures.call (rw c.deref_mut.ensures.value at c.in-Ok.ensures.same))
+
+pub returns-in-Err-clause-stays : goal.returns-in-Err-clause-stays
+returns-in-Err-clause-stays g c =
+    subst (λ (x : CellsState). CutStays c.args.torn x.disk (g.D.Disk.state c.read_store.new.disk)) c.self.view_is
+    (cut-leaves (twin_reads (length c.self.inside.reread.items)) twin_reads_to (g.D.Disk.state c.self.inside.disk) (g.D.Disk.state c.power_cut.new.self) (g.D.Disk.state c.read_store.new.disk) c.in-Err.fault
+    c.power_cut.ensures.call (rw c.deref_mut.ensures.value at c.in-Err.ensures.leaves))
