@@ -1,5 +1,6 @@
 -- Laws of runs over one disk: what they add to its past is traced, and their failed lines are counted
-use Rattle.std.specs.Prelude.{◌≡◌, ◌≢◌, ◌⊎◌, ℕ, ◌+◌, ◌<◌, ◌≤◌, Bool, true, false, not, cond, IfSome, Option, None, Some, List, [], ◌∷◌, ◌++◌, length, count_by}
+use Rattle.std.specs.Prelude.{◌≡◌, ◌≢◌, ◌⊎◌, ℕ, ◌+◌, ◌<◌, ◌≤◌, Bool, true, false, not, cond, IfSome, Option, None, Some}
+use Rattle.std.specs.Prelude.{List, [], ◌∷◌, ◌++◌, length, count_by}
 use Rattle.std.specs.Option.{option_to_list}
 use Rattle.std.proofs.Common.{refl, sym, ap, ◌∙◌, subst, arith, inl, inr, append_assoc}
 use Rattle.std.proofs.lemmas.List.{length-append}
@@ -12,7 +13,8 @@ use Rattle.cut_disk.specs.declared.Mark.{Mark}
 use Rattle.cut_disk.specs.State.{DiskState, Told, Entry}
 use Rattle.cut_disk.specs.Calls.{IsQuiet, StaysQuiet, arms_nothing, marks_of, newest}
 use Rattle.cut_disk.specs.CallLaws.{newest-append}
-use Rattle.store_runs.specs.DiskTurns.{CountsFailure, DiskTurn, OpenedDisk, TellsBytes, EndsAs, AddsTurn, TracedSince, arms_later, FailuresTold}
+use Rattle.store_runs.specs.DiskTurns.{CountsFailure, DiskTurn, OpenedDisk, TellsBytes, EndsAs, AddsTurn, TracedSince}
+use Rattle.store_runs.specs.DiskTurns.{arms_later, FailuresTold}
 
 -- ---- lists of entries, and counts over moments
 

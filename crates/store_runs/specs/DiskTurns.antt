@@ -1,6 +1,7 @@
 -- What the steps of a machine do to one disk that is seen in its state: what each adds to the disk's past, and which of
 -- its lines tell a failure
-use Rattle.std.specs.Prelude.{◌≡◌, ◌≢◌, ◌⊎◌, ℕ, ◌+◌, ◌≤◌, Bool, true, false, not, IfSome, Option, None, Some, List, [], ◌∷◌, ◌++◌, length, count_by}
+use Rattle.std.specs.Prelude.{◌≡◌, ◌≢◌, ◌⊎◌, ℕ, ◌+◌, ◌≤◌, Bool, true, false, not, IfSome, Option, None, Some, List, []}
+use Rattle.std.specs.Prelude.{◌∷◌, ◌++◌, length, count_by}
 use Rattle.std.specs.Option.{option_to_list}
 use Rattle.fault_count.specs.FaultCount.{last_count, Rose}
 use Rattle.machine_runs.specs.Run.{Moment}

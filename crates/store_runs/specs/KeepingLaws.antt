@@ -10,7 +10,8 @@ use Rattle.cell_store.specs.Store.{Stands}
 use Rattle.cell_store.specs.Cells.{CellsState, Settled, Puts, FailsPut, StandsNow, EachImageStands}
 use Rattle.cell_store.proofs.StoreLaws.{stands_once}
 use Rattle.cell_store.proofs.CellsLaws.{settled_tells}
-use Rattle.store_runs.specs.Keeping.{Keeping, MayKeep, StandsForKept, Fits, put_failed, stays_down, FitsStore, TellsKept, HoldsKept}
+use Rattle.store_runs.specs.Keeping.{Keeping, MayKeep, StandsForKept, Fits, put_failed, stays_down, FitsStore}
+use Rattle.store_runs.specs.Keeping.{TellsKept, HoldsKept}
 
 -- bytes were told before, where they are told after
 pub told_before : (old new : Option Told) → is_some new ≡ is_some old → (t : Told) → new ≡ Some t

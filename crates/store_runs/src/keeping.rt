@@ -3,7 +3,8 @@ ghost use Rattle.std.specs.Prelude.{◌≡◌, ℕ, true, None, is_some, List, s
 ghost use Rattle.cut_disk.specs.State.{Told};
 ghost use Rattle.cut_disk.specs.Images.{CutsTo};
 ghost use Rattle.cell_store.specs.Cells.{CellsState, Settled, Puts, FailsPut, StandsNow};
-ghost use Rattle.store_runs.specs.Keeping.{Keeping, MayKeep, keeps_cells, put_failed, stays_down, FitsStore, TellsKept, HoldsKept};
+ghost use Rattle.store_runs.specs.Keeping.{Keeping, MayKeep, keeps_cells, put_failed, stays_down, FitsStore, TellsKept};
+ghost use Rattle.store_runs.specs.Keeping.{HoldsKept};
 
 /// The disk of a settled store fits what the store holds.
 pub fn settled_store_fits_what_it_holds()
