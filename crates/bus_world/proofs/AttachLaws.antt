@@ -11,9 +11,11 @@ use Rattle.cell_store.specs.declared.faults.StoreFault.{StoreFault}
 use Rattle.cell_store.specs.declared.faults.StoreFault.TheVariants as store
 use Rattle.cell_store.specs.Store.{Stands, HasHeader, store_size}
 use Rattle.cell_store.specs.Cells.{CellsState, Settled}
+use Rattle.cell_store.specs.Reading.{StaysTold}
 use Rattle.cell_store.specs.ReadOrder.{reads, reads_to}
 use Rattle.cell_store.specs.Attaching.{Attached, NotAttached}
 use Rattle.cell_store.proofs.StoreLaws.{stands_once, stands-whole}
+use Rattle.cell_store.proofs.StaysLaws.{stays_none}
 use Rattle.any_cells.specs.Either.{layout}
 use Rattle.slot_disk.specs.Cell.{FirstBadSlot}
 use Rattle.freshness_routes.specs.Config.{Config, IsConfig}
@@ -43,6 +45,7 @@ attached_to kind version config before s n a up kept store_is sound fits = recor
   fits = λ b told. fits (a.settled b told);
   runs = subst (λ (c : CellsState). Runs [] (reads kind (cells_in config)) before c.disk) (sym store_is) a.as_before.runs;
   told = ap (λ (c : CellsState). c.disk.told) store_is ∙ a.as_before.told;
+  stays = subst (λ (c : CellsState). StaysTold before c.disk) (sym store_is) a.as_before.stays;
   grows = subst (λ (c : CellsState). Grows before c.disk) (sym store_is) a.grows;
   faults = ap (λ (c : CellsState). c.disk.faults) store_is ∙ a.as_before.faults;
 }
@@ -63,24 +66,28 @@ not_attached_store kind version config before after store.TooSmall room h = absu
 not_attached_store kind version config before after store.Memory room h = record {
   runs = subst (λ d. Runs [] (reads kind (cells_in config)) before d) (sym h.1) (runs_more (reads kind (cells_in config)) (omega arith) (runs_none before));
   told = ap (λ (d : DiskState). d.told) h.1;
+  stays = subst (λ (d : DiskState). StaysTold before d) (sym h.1) (stays_none before);
   cause = tt;
   counts = ap (λ (d : DiskState). d.faults) h.1;
 }
 not_attached_store kind version config before after store.DiskFailed room h = record {
   runs = h.leaves.runs;
   told = h.leaves.told;
+  stays = h.leaves.stays;
   cause = h.leaves.rose;
   counts = h.leaves.rose;
 }
 not_attached_store kind version config before after store.NotFormatted room h = record {
   runs = runs_more (reads kind (cells_in config)) (min_within (reads kind (cells_in config)) 1) h.leaves.runs;
   told = h.leaves.told;
+  stays = h.leaves.stays;
   cause = h.finds;
   counts = h.leaves.faults;
 }
 not_attached_store kind version config before after (store.Damaged place) room h = record {
   runs = runs_more (reads kind (cells_in config)) (min_within (reads kind (cells_in config)) (reads_to kind (cells_in config) place)) h.leaves.runs;
   told = h.leaves.told;
+  stays = h.leaves.stays;
   cause = h.finds;
   counts = h.leaves.faults;
 }
@@ -94,6 +101,9 @@ module _ (kind : Kind) (version : Version) (config : Config) (before after : Dis
   told : after.told ≡ before.told
   told = ap (λ (d : DiskState). d.told) same ∙ a.as_before.told
 
+  stays : StaysTold before after
+  stays = subst (λ (d : DiskState). StaysTold before d) (sym same) a.as_before.stays
+
   faults : after.faults ≡ before.faults
   faults = ap (λ (d : DiskState). d.faults) same ∙ a.as_before.faults
 
@@ -101,16 +111,18 @@ module _ (kind : Kind) (version : Version) (config : Config) (before after : Dis
   not_attached_cells (cells.BadSlot slot) cause = record {
     runs = runs;
     told = told;
+    stays = stays;
     cause = λ t is. record { cells = s.cells; count = a.count; stands = a.stands t is; such = cause };
     counts = faults;
   }
   not_attached_cells (cells.BadBound place) cause = record {
     runs = runs;
     told = told;
+    stays = stays;
     cause = λ t is. record { cells = s.cells; count = a.count; stands = a.stands t is; such = cause };
     counts = faults;
   }
-  not_attached_cells cells.Memory cause = record { runs = runs; told = told; cause = tt; counts = faults }
+  not_attached_cells cells.Memory cause = record { runs = runs; told = told; stays = stays; cause = tt; counts = faults }
 
 -- only the disk or memory is told by this refusal
 abbrev pub OnlyDiskOrMemory : OpenFault → Type 0

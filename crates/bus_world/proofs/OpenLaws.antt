@@ -35,6 +35,7 @@ use Rattle.bus_world.specs.declared.start.Start.TheVariants.{Format, Attach}
 use Rattle.bus_world.specs.TakingUp.{cells_in, new_cells, start_calls, KeptOn, LeftOver, LeavesDisk, OpenCause, MovedFirst, CountsRefusal}
 use Rattle.bus_world.specs.Opening.{AttachedTo, AttachCauseOf, NotAttachedTo, of_store}
 use Rattle.bus_world.specs.Starts.{Opened, NotOpened, OpenedFirst}
+use Rattle.bus_world.specs.StartRowLaws.{untouched_stays}
 use Rattle.bus_world.proofs.AttachLaws.{kept_powered, OnlyDiskOrMemory, of_kept_alone}
 
 -- ---- one node over a disk that is formatted
@@ -54,6 +55,7 @@ not_opened_none start kind version config before = record {
   left = untouched_left start kind version config before;
   cause = tt;
   leaves = untouched_leaves start kind version config before;
+  stays = untouched_stays start kind version config before;
   moved = tt;
   counts = refl;
 }
@@ -70,6 +72,7 @@ not_opened_format kind version config before after store.DiskFailed room h unfor
   left = inr (inr h.1);
   cause = h.1;
   leaves = inr (inr (record { rose = h.1; runs = h.2; unformed = unformed refl }));
+  stays = tt;
   moved = tt;
   counts = h.1;
 }
@@ -110,6 +113,7 @@ opened_over kind version config before mid n good f a = record {
   grows = grows_then f.grows a.runs;
   faults = a.faults ∙ f.faults;
   leaves = subst (λ o. Formats (layout kind version) (new_cells config) before.told o) (sym a.told) f.fresh;
+  stays = tt;
 }
 
 untold : (o : Option Told) → ((t : Told) → o ≡ Some t → ⊥) → o ≡ None
@@ -159,6 +163,7 @@ not_opened_attach kind version config before mid after fault good f a = record {
       fresh_images (layout kind version) (new_cells config) old.0 t (subst (λ o. FreshOn (layout kind version) (new_cells config) old.0 o) now (f.fresh old.0 old.1)) x image));
   cause = open_cause kind version config before mid after fault good f a.cause;
   leaves = inr (inl (subst (λ o. Formats (layout kind version) (new_cells config) before.told o) (sym a.told) f.fresh));
+  stays = tt;
   moved = untold_moved kind version config before after fault (open_cause kind version config before mid after fault good f a.cause);
   counts = subst (λ n. CountsRefusal fault n after.faults) f.faults a.counts;
 }

@@ -26,8 +26,9 @@ use Rattle.bus_world.specs.declared.start.Start.{Start}
 use Rattle.bus_world.specs.declared.start.Start.TheVariants.{Format, Attach}
 use Rattle.bus_world.specs.declared.start.StartFault.{StartFault}
 use Rattle.bus_world.specs.declared.start.StartFault.TheVariants as start_fault
-use Rattle.bus_world.specs.TakingUp.{new_cells, start_calls, KeptOn, LeftOver, LeavesDisk, RefusedFor, OpenCause, MovedFirst, CountsRefusal}
+use Rattle.bus_world.specs.TakingUp.{new_cells, start_calls, KeptOn, LeftOver, LeavesDisk, StaysFound, RefusedFor, OpenCause, MovedFirst, CountsRefusal}
 use Rattle.bus_world.specs.Starts.{disks_of, Opened, HasRoom, OfNumber, RefusedAt, StartCause, Broken, NotStarted, OpensTo, fault_of_node}
+use Rattle.bus_world.specs.StartRowLaws.{untouched_stays}
 use Rattle.bus_world.proofs.OpenLaws.{untouched_left, untouched_leaves}
 use Rattle.bus_world.proofs.TakingLaws.{left_of_leaves}
 
@@ -69,6 +70,12 @@ same_leaves : (start : Start) (bus : NamedBus) (before after : List DiskState) (
 same_leaves start bus before after i l d same =
     subst (λ s. LeavesDisk start bus.kind bus.version (get_or bus.nodes i l).config (get_or before i d) s) (sym same)
     (untouched_leaves start bus.kind bus.version (get_or bus.nodes i l).config (get_or before i d))
+
+same_stays : (start : Start) (bus : NamedBus) (before after : List DiskState) (i : ℕ) (l : NodeLine) (d : DiskState) → get_or after i d ≡ get_or before i d
+    → StaysFound start bus.kind bus.version (get_or bus.nodes i l).config (get_or before i d) (get_or after i d)
+same_stays start bus before after i l d same =
+    subst (λ (s : DiskState). StaysFound start bus.kind bus.version (get_or bus.nodes i l).config (get_or before i d) s) (sym same)
+    (untouched_stays start bus.kind bus.version (get_or bus.nodes i l).config (get_or before i d))
 
 -- the node at a place is refused, the ones before it were taken and didn't fail, and those behind it weren't touched
 module _ (start : Start) (bus : NamedBus) (before after : List DiskState) (place : ℕ) (inside : place < length bus.nodes)
@@ -225,6 +232,18 @@ module _ (start : Start) (bus : NamedBus) (before mid after : List DiskState) (n
     ]
   ]
 
+  stays : (i : ℕ) (l : NodeLine) (d : DiskState) → i < length bus.nodes
+      → StaysFound start bus.kind bus.version (get_or bus.nodes i l).config (get_or before i d) (get_or after i d)
+  stays i l d inside = elim (cases_lt i o.place) [
+    | inl less ↦ subst (λ (s : DiskState). StaysFound start bus.kind bus.version (get_or bus.nodes i l).config (get_or before i d) s) (sym (earlier i d (no_node bus d) less))
+        (o.opened.opened i l d (no_node bus d) less).stays
+    | inr from ↦ elim (eq-or-lt_of_le from) [
+      | inl same ↦ subst (λ (k : ℕ). StaysFound start bus.kind bus.version (get_or bus.nodes k l).config (get_or before k d) (get_or after k d)) same
+          (subst (λ (s : DiskState). StaysFound start bus.kind bus.version (get_or bus.nodes o.place l).config (get_or before o.place d) s) (sym (here d)) (o.refused l d).stays)
+      | inr more ↦ same_stays start bus before after i l d (later i d more)
+    ]
+  ]
+
   memory : o.cause ≡ open_fault.Memory → (i : ℕ) (d : DiskState) → (get_or after i d).faults ≡ (get_or before i d).faults
   memory none i d = elim (cases_lt i o.place) [
     | inl less ↦ unfailed i d less
@@ -242,6 +261,7 @@ module _ (start : Start) (bus : NamedBus) (before mid after : List DiskState) (n
     rest = rest;
     cause = start_cause start bus before after o.place o.inside unfailed taken later o.cause open_cause open_counts open_moved;
     leaves = leaves;
+    stays = stays;
     memory = λ is. memory (of_memory (o.place + 1) o.cause is);
   }
 
@@ -260,5 +280,6 @@ start_unopened start bus before room = record {
   rest = refl;
   cause = tt;
   leaves = λ i l d inside. same_leaves start bus before before i l d refl;
+  stays = λ i l d inside. same_stays start bus before before i l d refl;
   memory = λ is i d. refl;
 }

@@ -31,10 +31,11 @@ use Rattle.secoc_node.proofs.CellsLaws.{length-CellsOf}
 use Rattle.bus_world.specs.declared.opening.OpenFault.{OpenFault}
 use Rattle.bus_world.specs.declared.opening.OpenFault.TheVariants as open_fault
 use Rattle.bus_world.specs.declared.start.Start.TheVariants.{Format, Attach}
-use Rattle.bus_world.specs.TakingUp.{cells_in, new_cells, start_calls, TakenOver, SameOrRose, MovedOver, TakingFailed, LeftTaken, LeftOver, LeavesDisk, OpenCause, MovedFirst, CountsRefusal}
+use Rattle.bus_world.specs.TakingUp.{cells_in, new_cells, start_calls, TakenOver, SameOrRose, MovedOver, TakingFailed, LeftTaken, LeftOver, LeavesDisk, StaysFound, OpenCause, MovedFirst, CountsRefusal}
 use Rattle.bus_world.specs.Opening.{AttachedTo, NotAttachedTo, MovedTo, NotMovedTo}
 use Rattle.bus_world.specs.Starts.{Opened, NotOpened}
 use Rattle.bus_world.proofs.AttachLaws.{kept_powered}
+use Rattle.cell_store.proofs.StaysLaws.{stays_join}
 use Rattle.bus_world.proofs.OpenLaws.{none_some}
 use Rattle.bus_world.proofs.FoundLaws.{same_found, standing_not_blank, standing_not_older, older_not_blank, older_not_foreign, blank_not_foreign, older_one, standing_header, standing_counts, standing_damaged, no_node}
 
@@ -130,6 +131,7 @@ look_failed kind version config before after h =
       left = left_of_leaves kind version config before after (inr h.rose) leaves;
       cause = h.rose;
       leaves = leaves;
+      stays = λ t told found. h.stays;
       moved = tt;
       counts = h.rose;
     }
@@ -145,6 +147,7 @@ module _ (kind : Kind) (version : Version) (config : Config) (good : IsConfig co
         left = left_of_leaves kind version config before mid (inl read.faults) leaves;
         cause = λ t told. no_node kind version config t.bytes (open_fault.Store reread.NotFormatted) good (look t told);
         leaves = leaves;
+        stays = λ t told found. read.stays;
         moved = tt;
         counts = read.faults;
       }
@@ -171,6 +174,7 @@ module _ (kind : Kind) (version : Version) (config : Config) (good : IsConfig co
           grows = grows_after read.runs a.grows;
           faults = a.faults ∙ read.faults;
           leaves = λ t told. inl (a.told ∙ (read.told ∙ told));
+          stays = λ t told found. stays_join read.runs read.told read.stays a.runs a.stays;
         }
 
     standing_cause : (after : DiskState) (fault : OpenFault) → NotAttachedTo kind version config mid after fault → OpenCause Attach kind version config before after fault
@@ -210,6 +214,7 @@ module _ (kind : Kind) (version : Version) (config : Config) (good : IsConfig co
           left = left_of_leaves kind version config before after (same_or_rose before after fault counts) leaves;
           cause = standing_cause after fault a;
           leaves = leaves;
+          stays = λ t told found. stays_join read.runs read.told read.stays a.runs a.stays;
           moved = standing_moved after fault;
           counts = counts;
         }
@@ -217,6 +222,12 @@ module _ (kind : Kind) (version : Version) (config : Config) (good : IsConfig co
   -- ---- a blank disk
 
   module _ (look : (t : Told) → before.told ≡ Some t → IsFound kind version (cells_in config) t.bytes Blank) where
+    blank_stays : (after : DiskState) → StaysFound Attach kind version config before after
+    blank_stays after = λ t told found. elim found [
+      | inl other ↦ absurd (standing_not_blank (same_found kind version (cells_in config) t.bytes Standing Blank other (look t told)))
+      | inr other ↦ absurd (blank_not_foreign (same_found kind version (cells_in config) t.bytes Blank Foreign (look t told) other))
+    ]
+
     pub blank_opened : (n : NodeState) → Opened Format kind version config mid n → Opened Attach kind version config before n
     blank_opened n o = record {
       just_powered = o.just_powered;
@@ -228,6 +239,7 @@ module _ (kind : Kind) (version : Version) (config : Config) (good : IsConfig co
       grows = grows_after read.runs o.grows;
       faults = o.faults ∙ read.faults;
       leaves = λ t told. inr (inl (look t told, o.leaves t (read.told ∙ told)));
+      stays = blank_stays n.store.disk;
     }
 
     module _ (after : DiskState) (t : Told) (told : before.told ≡ Some t) where
@@ -301,6 +313,7 @@ module _ (kind : Kind) (version : Version) (config : Config) (good : IsConfig co
           left = left_of_leaves kind version config before after (same_or_rose before after fault counts) leaves;
           cause = blank_cause after fault o.cause;
           leaves = leaves;
+          stays = blank_stays after;
           moved = blank_moved after fault;
           counts = counts;
         }
@@ -309,6 +322,12 @@ module _ (kind : Kind) (version : Version) (config : Config) (good : IsConfig co
 
 module _ (kind : Kind) (config : Config) (good : IsConfig config) (before mid : DiskState) (read : ReadOnly 2 before mid)
     (look : (t : Told) → before.told ≡ Some t → IsFound kind Two (cells_in config) t.bytes Older) where
+  older_stays : (after : DiskState) → StaysFound Attach kind Two config before after
+  older_stays after = λ t told found. elim found [
+    | inl other ↦ absurd (standing_not_older (same_found kind Two (cells_in config) t.bytes Standing Older other (look t told)))
+    | inr other ↦ absurd (older_not_foreign (same_found kind Two (cells_in config) t.bytes Older Foreign (look t told) other))
+  ]
+
   pub older_opened : (n : NodeState) → MovedTo kind config mid n → Opened Attach kind Two config before n
   older_opened n m = record {
     just_powered = m.just_powered;
@@ -323,6 +342,7 @@ module _ (kind : Kind) (config : Config) (good : IsConfig config) (before mid : 
     grows = grows_after read.runs m.grows;
     faults = m.faults ∙ read.faults;
     leaves = λ t told. inr (inr (look t told, m.moved t (read.told ∙ told)));
+    stays = older_stays n.store.disk;
   }
 
   older_cause : (after : DiskState) (fault : OpenFault) → NotMovedTo kind config mid after fault → OpenCause Attach kind Two config before after fault
@@ -381,6 +401,7 @@ module _ (kind : Kind) (config : Config) (good : IsConfig config) (before mid : 
         left = left_of_leaves kind Two config before after (same_or_rose before after fault counts) leaves;
         cause = older_cause after fault m;
         leaves = leaves;
+        stays = older_stays after;
         moved = older_moved after fault m;
         counts = counts;
       }

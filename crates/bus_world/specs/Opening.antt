@@ -10,6 +10,7 @@ use Rattle.cell_store.specs.declared.kinds.Layout.{Layout}
 use Rattle.cell_store.specs.declared.faults.Reread.TheVariants as reread
 use Rattle.cell_store.specs.declared.faults.StoreFault.{StoreFault}
 use Rattle.cell_store.specs.declared.faults.StoreFault.TheVariants as store
+use Rattle.cell_store.specs.Reading.{StaysTold}
 use Rattle.cell_store.specs.ReadOrder.{reads}
 use Rattle.cell_store.specs.Store.{HasHeader, Stands, FirstDamaged}
 use Rattle.cell_store.specs.Moving.{StandsAsCounted, DamagedAsCounted, KeepsCounted, LeavesBelow, move_calls}
@@ -38,6 +39,7 @@ pub record AttachedTo (kind : Kind) (version : Version) (config : Config) (befor
   pub fits : (b : List ℕ) → before.told ≡ Some (firm b) → FitsNow n
   pub runs : Runs [] (reads kind (cells_in config)) before n.store.disk
   pub told : n.store.disk.told ≡ before.told
+  pub stays : StaysTold before n.store.disk
   pub grows : Grows before n.store.disk
   pub faults : n.store.disk.faults ≡ before.faults
 
@@ -70,6 +72,7 @@ pub record NotAttachedTo (kind : Kind) (version : Version) (config : Config) (be
     (fault : OpenFault) : Type 0 where
   pub runs : Runs [] (reads kind (cells_in config)) before after
   pub told : after.told ≡ before.told
+  pub stays : StaysTold before after
   pub cause : AttachCauseOf kind version config before after fault
   pub counts : CountsRefusal fault before.faults after.faults
 

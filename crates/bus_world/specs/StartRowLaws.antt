@@ -9,6 +9,7 @@ use Rattle.fault_count.specs.FaultCount.{last_count}
 use Rattle.cell_store.specs.declared.kinds.Kind.{Kind}
 use Rattle.cell_store.specs.declared.kinds.Version.{Version}
 use Rattle.cell_store.specs.declared.faults.Reread.TheVariants as reread
+use Rattle.cell_store.proofs.StaysLaws.{stays_none}
 use Rattle.freshness_routes.specs.Config.{Config}
 use Rattle.bus_machine.specs.Bus.{no_config}
 use Rattle.bus_nodes.specs.declared.nodes.NodeLine.{NodeLine}
@@ -19,7 +20,7 @@ use Rattle.bus_world.specs.declared.opening.OpenFault.{OpenFault}
 use Rattle.bus_world.specs.declared.opening.OpenFault.TheVariants as open_fault
 use Rattle.bus_world.specs.declared.start.Start.{Start}
 use Rattle.bus_world.specs.declared.start.Start.TheVariants.{Format, Attach}
-use Rattle.bus_world.specs.TakingUp.{start_calls, LeftOver, LeavesDisk, RefusedFor}
+use Rattle.bus_world.specs.TakingUp.{start_calls, LeftOver, LeavesDisk, StaysFound, RefusedFor}
 use Rattle.bus_world.specs.Starts.{HasRoom, OfNumber, RefusedAt, Broken, NotStarted, FindsRoom}
 use Rattle.bus_world.specs.StartRows.{start_row, StoreCause, LeavesEach, CanStart, DisksDo}
 
@@ -65,8 +66,13 @@ refused_at_10 start bus before after fault.Memory refused is = absurd (let no : 
 
 left_of : (start : Start) (bus : NamedBus) (before after : List DiskState) (f : StartFault)
     → Broken start bus before after f → LeavesEach start bus before after
-left_of start bus before after f broken =
-    record { count = broken.count; each = broken.left; rest = broken.rest; leaves = broken.leaves }
+left_of start bus before after f broken = record {
+  count = broken.count;
+  each = broken.left;
+  rest = broken.rest;
+  leaves = broken.leaves;
+  stays = broken.stays;
+}
 
 untouched_left : (start : Start) (kind : Kind) (version : Version) (config : Config) (before : DiskState)
     → LeftOver start kind version config before before
@@ -77,6 +83,11 @@ untouched_leaves : (start : Start) (kind : Kind) (version : Version) (config : C
     → LeavesDisk start kind version config before before
 untouched_leaves Format kind version config before = inl refl
 untouched_leaves Attach kind version config before = λ t told. inl (inl told, refl)
+
+pub untouched_stays : (start : Start) (kind : Kind) (version : Version) (config : Config) (before : DiskState)
+    → StaysFound start kind version config before before
+untouched_stays Format kind version config before = tt
+untouched_stays Attach kind version config before = λ t told found. stays_none before
 
 -- disks that are as before
 pub leaves_same : (start : Start) (bus : NamedBus) (before after : List DiskState) → after ≡ before
@@ -91,6 +102,8 @@ leaves_same start bus before after same =
       rest = refl;
       leaves =
           λ i l d inside. untouched_leaves start bus.kind bus.version (get_or bus.nodes i l).config (get_or before i d);
+      stays =
+          λ i l d inside. untouched_stays start bus.kind bus.version (get_or bus.nodes i l).config (get_or before i d);
     })
 
 -- what a start that is refused leaves, whatever its cause

@@ -18,7 +18,7 @@ use Rattle.bus_world.specs.declared.opening.OpenFault.TheVariants as open_fault
 use Rattle.bus_world.specs.declared.start.Start.{Start}
 use Rattle.bus_world.specs.declared.start.Start.TheVariants.{Format, Attach}
 use Rattle.bus_world.specs.TakingUp.{KeptOn}
-use Rattle.bus_world.specs.Starts.{start_calls, LeftOver, LeavesDisk, OfNumber, RefusedAt}
+use Rattle.bus_world.specs.Starts.{start_calls, LeftOver, LeavesDisk, StaysFound, OfNumber, RefusedAt}
 
 -- why a node's store isn't read again, with the line feed
 abbrev pub reread_text : Reread → List ℕ
@@ -66,6 +66,8 @@ pub record LeavesEach (start : Start) (bus : NamedBus) (before after : List Disk
   pub rest : drop (length bus.nodes) after ≡ drop (length bus.nodes) before
   pub leaves : (i : ℕ) (l : NodeLine) (d : DiskState) → i < length bus.nodes
       → LeavesDisk start bus.kind bus.version (get_or bus.nodes i l).config (get_or before i d) (get_or after i d)
+  pub stays : (i : ℕ) (l : NodeLine) (d : DiskState) → i < length bus.nodes
+      → StaysFound start bus.kind bus.version (get_or bus.nodes i l).config (get_or before i d) (get_or after i d)
 
 -- told bytes are such as a node is started over: any where they are formatted
 abbrev pub CanStart : Start → Kind → Version → Config → List ℕ → Type 0

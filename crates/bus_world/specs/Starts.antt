@@ -22,7 +22,7 @@ use Rattle.bus_world.specs.declared.start.Start.TheVariants.{Format, Attach}
 use Rattle.bus_world.specs.declared.start.StartFault.{StartFault}
 use Rattle.bus_world.specs.declared.start.StartFault.TheVariants as start_fault
 pub use Rattle.bus_world.specs.TakingUp.{cells_in, new_cells, start_calls, KeptOn, LeavesOpened, LeftOver, LeavesDisk}
-pub use Rattle.bus_world.specs.TakingUp.{RefusedFor, OpenCause, MovedFirst, CountsRefusal}
+pub use Rattle.bus_world.specs.TakingUp.{StaysFound, RefusedFor, OpenCause, MovedFirst, CountsRefusal}
 use Rattle.bus_world.specs.Worlds.{BusState}
 
 -- ---- one node
@@ -45,6 +45,7 @@ pub record Opened (start : Start) (kind : Kind) (version : Version) (config : Co
   pub grows : Grows before n.store.disk
   pub faults : n.store.disk.faults ≡ before.faults
   pub leaves : LeavesOpened start kind version config before.told n.store.disk.told
+  pub stays : StaysFound start kind version config before n.store.disk
 
 pub record NotOpened (start : Start) (kind : Kind) (version : Version) (config : Config) (before after : DiskState)
     (fault : OpenFault) : Type 0 where
@@ -52,6 +53,7 @@ pub record NotOpened (start : Start) (kind : Kind) (version : Version) (config :
   pub left : LeftOver start kind version config before after
   pub cause : OpenCause start kind version config before after fault
   pub leaves : LeavesDisk start kind version config before after
+  pub stays : StaysFound start kind version config before after
   pub moved : MovedFirst kind version config before.told after.told fault
   pub counts : CountsRefusal fault before.faults after.faults
 
@@ -129,6 +131,8 @@ pub record Broken (start : Start) (bus : NamedBus) (before after : List DiskStat
   pub cause : StartCause start bus before after fault
   pub leaves : (i : ℕ) (l : NodeLine) (d : DiskState) → i < length bus.nodes
       → LeavesDisk start bus.kind bus.version (get_or bus.nodes i l).config (get_or before i d) (get_or after i d)
+  pub stays : (i : ℕ) (l : NodeLine) (d : DiskState) → i < length bus.nodes
+      → StaysFound start bus.kind bus.version (get_or bus.nodes i l).config (get_or before i d) (get_or after i d)
   pub memory : fault ≡ start_fault.Memory → (i : ℕ) (d : DiskState)
       → (get_or after i d).faults ≡ (get_or before i d).faults
 

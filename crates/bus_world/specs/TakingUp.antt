@@ -6,6 +6,7 @@ use Rattle.cut_disk.specs.Calls.{Rose, Runs}
 use Rattle.cell_store.specs.declared.kinds.Kind.{Kind}
 use Rattle.cell_store.specs.declared.kinds.Version.{Version}
 use Rattle.cell_store.specs.declared.faults.Reread.TheVariants as reread
+use Rattle.cell_store.specs.Reading.{StaysTold}
 use Rattle.cell_store.specs.ReadOrder.{reads}
 use Rattle.cell_store.specs.Store.{Stands}
 use Rattle.cell_store.specs.Formats.{FreshOn, Formats, LeavesUnformed}
@@ -140,6 +141,16 @@ LeavesDisk Attach kind version config before after =
     (t : Told) → before.told ≡ Some t
     → (TakenOver kind version config t after.told × (after.faults ≡ before.faults))
     ⊎ TakingFailed kind version config before after t
+
+-- told bytes that have the node's store as it is to stand, or something foreign, stay all along: nothing is written
+-- first and taken back
+abbrev pub StaysFound : Start → Kind → Version → Config → DiskState → DiskState → Type 0
+StaysFound Format kind version config before after = Unit {0}
+StaysFound Attach kind version config before after =
+    (t : Told) → before.told ≡ Some t
+    → IsFound kind version (cells_in config) t.bytes found.Standing
+    ⊎ IsFound kind version (cells_in config) t.bytes found.Foreign
+    → StaysTold before after
 
 -- ---- why a node isn't opened
 
