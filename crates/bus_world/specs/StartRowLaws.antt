@@ -183,3 +183,14 @@ no_room_fault bus disks (fault.Store node cause) room finds = finds
 no_room_fault bus disks (fault.BadSlot node slot) room finds = finds
 no_room_fault bus disks (fault.BadBound node cell) room finds = finds
 no_room_fault bus disks fault.Memory room finds = finds
+
+-- where there is room, a start isn't refused with 9
+pub room_not_9 : (start : Start) (bus : NamedBus) (before after : List DiskState) (f : StartFault)
+    → HasRoom bus before → NotStarted start bus before after f → (start_row f).status ≡ 9 → ⊥
+room_not_9 start bus before after fault.TooFew room refused is = no_room_fault bus before fault.TooFew room refused.0
+room_not_9 start bus before after (fault.TooSmall node) room refused is =
+    no_room_fault bus before (fault.TooSmall node) room refused.0
+room_not_9 start bus before after (fault.Store node cause) room refused is = omega (arith, is)
+room_not_9 start bus before after (fault.BadSlot node slot) room refused is = omega (arith, is)
+room_not_9 start bus before after (fault.BadBound node cell) room refused is = omega (arith, is)
+room_not_9 start bus before after fault.Memory room refused is = omega (arith, is)

@@ -5,6 +5,8 @@ use Rattle.cut_disk.specs.State.{DiskState, Told}
 use Rattle.cut_disk.specs.Calls.{Rose, Runs, IsQuiet}
 use Rattle.cell_store.specs.declared.faults.Reread.{Reread}
 use Rattle.cell_store.specs.declared.faults.Reread.TheVariants as reread
+use Rattle.cell_store.specs.Faults.{store_fault}
+use Rattle.any_cells.specs.FaultTexts.{store_fault_text}
 use Rattle.answer_rows.specs.Rows.{Row, row_of, memory_row}
 use Rattle.bus_nodes.specs.declared.nodes.NodeLine.{NodeLine}
 use Rattle.bus_nodes.specs.Buses.{NamedBus}
@@ -22,9 +24,7 @@ use Rattle.bus_world.specs.Starts.{start_calls, LeftOver, LeavesDisk, StaysFound
 
 -- why a node's store isn't read again, with the line feed
 abbrev pub reread_text : Reread → List ℕ
-reread_text reread.DiskFailed = codes "DiskFailed\n"
-reread_text reread.NotFormatted = codes "NotFormatted\n"
-reread_text (reread.Damaged place) = codes "Damaged " ++ (decimal place ++ codes "\n")
+reread_text cause = store_fault_text (store_fault cause) ++ codes "\n"
 
 -- 9 where the disks aren't such as the bus needs, 10 where a store fails, and want of memory; a node is told by its
 -- number, from 1

@@ -5,7 +5,8 @@ ghost use Rattle.bus_world.specs.StartRows.{start_row, reread_text, IsStartRow};
 
 use crate::start::StartFault;
 use answer_rows::Refusal;
-use cell_store::Reread;
+use any_cells::store_fault_text;
+use cell_store::{Reread, StoreFault};
 use std::alloc::{AllocError, Global};
 
 /// The refusal of a start that is refused: 9 and its text where the disks aren't such as the bus needs, 10 and its text
@@ -40,7 +41,7 @@ fn start_text(alloc: Global, fault: &StartFault) -> Result<String, AllocError>
     match fault {
         StartFault::TooFew => Err(AllocError),
         StartFault::TooSmall(node) => format!(in alloc; "disks: node {node} too small\n"),
-        StartFault::Store(node, reread) => store_text(alloc, *node, reread),
+        StartFault::Store(node, reread) => store_text(alloc, *node, *reread),
         StartFault::BadSlot(node, slot) => {
             let slot = slot.number();
             format!(in alloc; "store: node {node}: BadSlot {slot}\n")
@@ -51,15 +52,12 @@ fn start_text(alloc: Global, fault: &StartFault) -> Result<String, AllocError>
 }
 
 /// The text of a store that isn't written, or isn't read again.
-fn store_text(alloc: Global, node: u8, reread: &Reread) -> Result<String, AllocError>
+fn store_text(alloc: Global, node: u8, reread: Reread) -> Result<String, AllocError>
     ensures { IfOk result (λ text. string_bytes text
-        ≡ codes "store: node " ++ (decimal node ++ (codes ": " ++ reread_text reread.now))) }
+        ≡ codes "store: node " ++ (decimal node ++ (codes ": " ++ reread_text reread))) }
 {
-    match reread {
-        Reread::DiskFailed => format!(in alloc; "store: node {node}: DiskFailed\n"),
-        Reread::NotFormatted => format!(in alloc; "store: node {node}: NotFormatted\n"),
-        Reread::Damaged(place) => format!(in alloc; "store: node {node}: Damaged {place}\n"),
-    }
+    let fault = store_fault_text(alloc, StoreFault::from(reread))?;
+    format!(in alloc; "store: node {node}: {fault}\n")
 }
 
 /// The text of a cell that has no bound of its route.

@@ -53,6 +53,7 @@ impl<D: CutDisk> World<D> {
     ghost use Rattle.std.specs.Vec.{vec_len, vec_capacity};
     ghost use Rattle.bus_machine.specs.Bus.{SoundBus};
     ghost use Rattle.bus_world.specs.Starts.{Started, NotStarted, disks_of};
+    ghost use Rattle.bus_world.specs.StartRows.{start_row};
     ghost use Rattle.bus_world.specs.Worlds.{world_of};
 
     /// The first world of a bus, over one disk a node from the front of `disks`, with room for the lines of so many
@@ -76,6 +77,7 @@ impl<D: CutDisk> World<D> {
         ensures room { OnOk result (vec_len disks.new + length bus.now.nodes ≤ vec_capacity disks.new) }
         ensures refused { IfErr result (NotStarted start bus.now (map D.state disks.old.items)
             (map D.state disks.new.items)) }
+        ensures unread { IfErr result (λ fault. (start_row fault).status ≡ 9 → disks.new ≡ disks.old) }
     {
         match find_room(bus, disks.as_slice()) {
             Ok(()) => {}

@@ -1,5 +1,7 @@
 use Rattle.std.specs.Prelude.{map, []}
 use Rattle.bus_machine.specs.Bus.{World}
+use Rattle.bus_world.specs.Starts.{HasRoom}
+use Rattle.bus_world.specs.StartRowLaws.{room_not_9}
 use Rattle.bus_world.proofs.SoundLaws.{opened_sound}
 use Rattle.bus_world.proofs.world.World.start.Goals as goal
 
@@ -10,3 +12,9 @@ invariant_of-result g c =
 
 pub returns-in-Ok-open_in_room-clause-sound : goal.returns-in-Ok-open_in_room-clause-sound
 returns-in-Ok-open_in_room-clause-sound g c = invariant_of-result g c
+
+pub returns-in-Err-open_in_room-clause-unread : goal.returns-in-Err-open_in_room-clause-unread
+returns-in-Err-open_in_room-clause-unread g c = λ is.
+    let room : HasRoom c.args.bus.now (map g.D.Disk.state c.args.disks.now.items) = rw c.as_slice.ensures.value at c.in-Ok.ensures in
+    absurd (room_not_9 c.args.start c.args.bus.now (map g.D.Disk.state c.args.disks.now.items) (map g.D.Disk.state c.open_in_room.new.disks.items) c.in-Err-open_in_room.fault
+    room c.in-Err-open_in_room.ensures.refused is)
