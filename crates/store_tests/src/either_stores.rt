@@ -1,7 +1,8 @@
 // Either store over disks in memory: puts, migration, a look at a disk, and opening.
-ghost use Rattle.std.specs.Prelude.{◌≡◌, ◌<◌, ◌≤◌, length, false, IfOk};
+ghost use Rattle.std.specs.Prelude.{◌≡◌, ◌≤◌, length, false, IfOk};
 ghost use Rattle.any_cells.specs.Either.{any_state};
 
+use crate::cutting::{ELEVENS, ZEROS, put_and_cut};
 use any_cells::{
     AnyCells, Found, look, migrate, open_store, probe_two, store_fault_text, store_size,
 };
@@ -10,10 +11,6 @@ use cut_disk::{CutDisk, Disk, DiskFailed, MemDisk, Torn};
 use std::alloc::Global;
 use std::process::Abort;
 use std::test::Fail;
-
-const ZEROS: [u8; 32] = [0; 32];
-
-const ELEVENS: [u8; 32] = [0x11; 32];
 
 /// A fresh store of two cells of zeros.
 fn fresh_store(alloc: Global, kind: Kind, version: Version) -> Result<AnyCells<MemDisk>, Fail>
@@ -29,26 +26,6 @@ fn fresh_store(alloc: Global, kind: Kind, version: Version) -> Result<AnyCells<M
         Ok(store) => Ok(store),
         Err(refused) => Err(Fail::from(refused.fault)),
     }
-}
-
-/// Puts elevens into a cell of a store whose disk stops at this call, and cuts the power: whether the
-/// put was done, and the cell that is read then.
-fn put_and_cut<C: CutCells>(
-    store: &mut C,
-    cell: u16,
-    calls: u64,
-    torn: Torn,
-) -> Result<(bool, [u8; 32]), Fail>
-    requires calls { 1 ≤ calls }
-    requires cell { cell < length (C.state store.old).cells }
-    requires whole { (C.state store.old).broken ≡ false }
-{
-    let mut read = [0x5a; 32];
-    store.stop_at(calls);
-    let done = store.put(cell, &ELEVENS).is_ok();
-    store.power_cut(torn)?;
-    store.get(cell, &mut read);
-    Ok((done, read))
 }
 
 #[test]

@@ -1,14 +1,11 @@
 // Log stores over disks in memory.
-ghost use Rattle.std.specs.Prelude.{◌≡◌, ◌<◌, ◌≤◌, length, false, IfOk};
+ghost use Rattle.std.specs.Prelude.{◌≡◌, length, false, IfOk};
 
+use crate::cutting::{ELEVENS, ZEROS, put_and_cut};
 use cell_store::*;
 use cut_disk::{Disk, MemDisk, Torn};
 use std::alloc::Global;
 use std::test::Fail;
-
-const ZEROS: [u8; 32] = [0; 32];
-
-const ELEVENS: [u8; 32] = [0x11; 32];
 
 /// The header of a version's log store of one cell.
 fn head_of(version: Version) -> [u8; 32] {
@@ -182,26 +179,6 @@ fn damages_of_a_log_are_found(rt: HostRuntime) -> Result<(), Fail> {
         assert_eq!(rt; found, *fault);
     }
     Ok(())
-}
-
-/// Puts elevens into a cell of a store whose disk stops at this call, and cuts the power: whether the
-/// put was done, and the cell that is read then.
-fn put_and_cut<C: CutCells>(
-    store: &mut C,
-    cell: u16,
-    calls: u64,
-    torn: Torn,
-) -> Result<(bool, [u8; 32]), Fail>
-    requires calls { 1 ≤ calls }
-    requires cell { cell < length (C.state store.old).cells }
-    requires whole { (C.state store.old).broken ≡ false }
-{
-    let mut read = [0x5a; 32];
-    store.stop_at(calls);
-    let done = store.put(cell, &ELEVENS).is_ok();
-    store.power_cut(torn)?;
-    store.get(cell, &mut read);
-    Ok((done, read))
 }
 
 #[test]

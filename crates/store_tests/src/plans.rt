@@ -1,12 +1,11 @@
 // A fresh image and a planned put, beside what a store over a disk in memory writes and reads.
 ghost use Rattle.std.specs.Prelude.{◌≡◌, ◌≤◌, length, IfOk};
 
+use crate::cutting::ELEVENS;
 use cell_store::{Cells, TwinCells};
 use cut_disk::{Disk, MemDisk};
 use std::test::Fail;
 use store_plan::{Plan, done, is_within, make, perform, plan_put};
-
-const ELEVENS: [u8; 32] = [0x11; 32];
 
 // All bytes of a disk that has room for two cells.
 fn bytes_of(disk: &mut MemDisk) -> Result<[u8; 168], Fail> {
