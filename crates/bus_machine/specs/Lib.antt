@@ -1,4 +1,5 @@
 pub mod Node
+pub mod Handlers
 pub mod Sound
 pub mod Steps
 pub mod Bus

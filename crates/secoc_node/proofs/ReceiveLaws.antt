@@ -9,10 +9,11 @@ use Rattle.freshness_manager.specs.Counters.{ReceiverCounter, KeepsBound}
 use Rattle.freshness_manager.specs.Changing.{MakesChange, FailsChange}
 use Rattle.secoc_receiver.specs.declared.receiver.Reception.{Reception}
 use Rattle.secoc_receiver.specs.declared.receiver.Reception.TheVariants as reception
-use Rattle.secoc_receiver.specs.Receiving.{HasReceiver, IfAccepted, IfNotAccepted, IfUnmoved, line_of_receive, after_receive}
+use Rattle.secoc_receiver.specs.Receiving.{IfAccepted, IfNotAccepted, IfUnmoved, line_of_receive, after_receive}
 use Rattle.bus_machine.specs.declared.lines.Line.{Line}
 use Rattle.bus_machine.specs.declared.lines.Line.TheVariants.{Accepted, FreshnessFailure, VerificationFailure, Refused}
 use Rattle.bus_machine.specs.declared.lines.Refusal.TheVariants.{MemoryFailure}
+use Rattle.bus_machine.specs.Handlers.{ServesRoute}
 use Rattle.bus_machine.specs.Node.{Node, bound_to, place_of, with_counter, failed}
 use Rattle.bus_machine.specs.Steps.{receives, NodeStep, receive_change}
 use Rattle.secoc_node.specs.declared.counters.RouteCounter.{RouteCounter}
@@ -55,7 +56,7 @@ module _ (known : Known) (store : CellsState) (is : IsNode known store) (up : kn
     pub rx_kept : KeepsBound store.cells rx.place rx.id Receives rx.bound
     rx_kept = rw (rx_place, rx_id) (subst (λ c. KeepsBound store.cells (14 + place) id Receives (bound_in c)) of (keeps_its_bound known store is up id Receives place route finds counter got))
 
-    pub has_receiver : HasReceiver (node_in known) known.engine rx route
+    pub has_receiver : ServesRoute (node_in known) route Receives rx.counter rx.bound known.engine.slots known.engine.boot
     has_receiver =
         let r = route_id known store is up id Receives place route finds in
         let at : place_of (node_in known) route.id Receives ≡ place = ap (λ i. place_of (node_in known) i Receives) r ∙ place_at known store is up id Receives place route finds in

@@ -8,9 +8,9 @@ use Rattle.freshness_routes.specs.Changes.{sender_change}
 use Rattle.freshness_manager.specs.Counters.{SenderCounter, KeepsBound}
 use Rattle.freshness_manager.specs.Changing.{MakesChange, FailsChange}
 use Rattle.secoc_sender.specs.declared.sender.Sent.{Sent as Sending}
-use Rattle.secoc_sender.specs.Sending.{HasSender}
 use Rattle.bus_machine.specs.declared.lines.Line.TheVariants.{Sent, Refused}
 use Rattle.bus_machine.specs.declared.lines.Refusal.TheVariants.{MemoryFailure}
+use Rattle.bus_machine.specs.Handlers.{ServesRoute}
 use Rattle.bus_machine.specs.Node.{bound_to, place_of, with_counter, failed}
 use Rattle.bus_machine.specs.Steps.{sends, NodeStep, send_change}
 use Rattle.secoc_node.specs.declared.counters.RouteCounter.{RouteCounter}
@@ -49,7 +49,7 @@ module _ (known : Known) (store : CellsState) (is : IsNode known store) (up : kn
     pub tx_kept : KeepsBound store.cells tx.place tx.id Sends tx.bound
     tx_kept = rw (tx_place, tx_id) (subst (λ c. KeepsBound store.cells (14 + place) id Sends (bound_in c)) of (keeps_its_bound known store is up id Sends place route finds counter got))
 
-    pub has_sender : HasSender (node_in known) known.engine tx route
+    pub has_sender : ServesRoute (node_in known) route Sends tx.counter tx.bound known.engine.slots known.engine.boot
     has_sender =
         let r = route_id known store is up id Sends place route finds in
         let at : place_of (node_in known) route.id Sends ≡ place = ap (λ i. place_of (node_in known) i Sends) r ∙ place_at known store is up id Sends place route finds in

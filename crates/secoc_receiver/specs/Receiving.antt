@@ -1,5 +1,5 @@
 -- What the answer of a receiver is for the machine's node (own; the verdict is that of AUTOSAR SecOC, profile 1)
-use Rattle.std.specs.Prelude.{◌≡◌, ℕ, true, Option, None, Some, Result, Ok, Err, List, length, take}
+use Rattle.std.specs.Prelude.{◌≡◌, ℕ, Option, None, Some, Result, Ok, Err, List, length, take}
 use Rattle.cut_disk.specs.Calls.{Rose}
 use Rattle.cell_store.specs.Cells.{CellsState}
 use Rattle.key_slots.specs.Slots.{slot_at}
@@ -15,7 +15,7 @@ use Rattle.bus_machine.specs.declared.lines.Line as line
 use Rattle.bus_machine.specs.declared.lines.Line.TheVariants.{Refused}
 use Rattle.bus_machine.specs.declared.lines.Refusal as machine
 use Rattle.bus_machine.specs.declared.lines.Refusal.TheVariants as refusal
-use Rattle.bus_machine.specs.Node.{Node, HasRoute, bound_to, place_of, route_at, bound_at, counter_at, with_counter, failed}
+use Rattle.bus_machine.specs.Node.{Node, bound_to, place_of, with_counter, failed}
 use Rattle.bus_machine.specs.Steps.{receive_change}
 use Rattle.secoc_receiver.specs.declared.receiver.Reception.{Reception}
 use Rattle.secoc_receiver.specs.declared.receiver.Reception.TheVariants.{Accepted, FreshnessFailure, VerificationFailure}
@@ -28,16 +28,6 @@ pub record IsReceiverRoute (route : Route) (rx : ReceiverCounter) : Type 0 where
   pub id : route.id ≡ rx.id
   pub reserve : route.reserve ≡ rx.reserve
   pub window : route.window ≡ rx.window
-
--- the node is up and has the route, whose counter and bound are these, and its slots and its boot are the engine's
-pub record HasReceiver (node : Node) (engine : Engine) (rx : ReceiverCounter) (route : Route) : Type 0 where
-  pub is_up : node.up ≡ true
-  pub has_route : HasRoute node route.id Receives
-  pub route_is : route_at node (place_of node route.id Receives) ≡ route
-  pub counter_is : counter_at node (place_of node route.id Receives) ≡ rx.counter
-  pub bound_is : bound_at node (place_of node route.id Receives) ≡ rx.bound
-  pub slots_are : node.kept.slots ≡ engine.slots
-  pub boot_is : node.boot ≡ engine.boot
 
 -- the refusal that the machine knows the answer by, if it is one
 abbrev pub refusal_of_receive : Result Reception ReceiveFault → Option machine.Refusal

@@ -14,9 +14,10 @@ ghost use Rattle.freshness_routes.specs.declared.routes.Direction.TheVariants.{R
 ghost use Rattle.freshness_routes.specs.Changes.{receiver_change as change_of_receiver};
 ghost use Rattle.freshness_manager.specs.Counters.{KeepsBound};
 ghost use Rattle.freshness_manager.specs.Changing.{MakesChange};
+ghost use Rattle.bus_machine.specs.Handlers.{ServesRoute};
 ghost use Rattle.bus_machine.specs.Node.{Node};
 ghost use Rattle.bus_machine.specs.Steps.{first_of, receiver_refusals, receives, NodeStep};
-ghost use Rattle.secoc_receiver.specs.Receiving.{IsReceiverRoute, HasReceiver, refusal_of_receive, line_of_receive, after_receive, outcome_in, IfAccepted, IfNotAccepted, IfUnmoved, FaultedAt, FaultedWith, ComesThrough};
+ghost use Rattle.secoc_receiver.specs.Receiving.{IsReceiverRoute, refusal_of_receive, line_of_receive, after_receive, outcome_in, IfAccepted, IfNotAccepted, IfUnmoved, FaultedAt, FaultedWith, ComesThrough};
 
 use cell_store::{Cells, PutFailed};
 use freshness_manager::Rx;
@@ -96,7 +97,8 @@ pub fn receive<C: Cells>(
         → Secured (key_in (slot_at engine.now.slots route.now.slot)) route.now.id payload v pdu.now
         → Ahead rx.old.counter route.now.window (v % 256) v
         → ComesThrough payload v result (C.state cells.old) (C.state cells.new) }
-    ensures step { (node : Node) (source : Option ℕ) → HasReceiver node engine.now rx.old route.now
+    ensures step { (node : Node) (source : Option ℕ)
+        → ServesRoute node route.now Receives rx.old.counter rx.old.bound engine.now.slots engine.now.boot
         → NodeStep node (receives route.now.id pdu.now) (line_of_receive route.now.id pdu.now source result)
         (after_receive node route.now.id result) }
 {

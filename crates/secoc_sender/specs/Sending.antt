@@ -1,14 +1,13 @@
 -- What the answer of a send is for the machine's node (own; the PDU is that of AUTOSAR SecOC, profile 1)
-use Rattle.std.specs.Prelude.{◌≡◌, ℕ, true, Option, None, Some, Result, Ok, Err, List, take}
+use Rattle.std.specs.Prelude.{◌≡◌, ℕ, Option, None, Some, Result, Ok, Err, List, take}
 use Rattle.freshness_routes.specs.declared.routes.Direction.TheVariants.{Sends}
 use Rattle.freshness_routes.specs.declared.routes.Route.{Route}
 use Rattle.freshness_manager.specs.Counters.{SenderCounter}
-use Rattle.she_engine.specs.declared.engine.Engine.{Engine}
 use Rattle.bus_machine.specs.declared.lines.Line as line
 use Rattle.bus_machine.specs.declared.lines.Line.TheVariants.{Refused}
 use Rattle.bus_machine.specs.declared.lines.Refusal as machine
 use Rattle.bus_machine.specs.declared.lines.Refusal.TheVariants as refusal
-use Rattle.bus_machine.specs.Node.{Node, HasRoute, bound_to, place_of, route_at, bound_at, counter_at, with_counter, failed}
+use Rattle.bus_machine.specs.Node.{Node, bound_to, place_of, with_counter, failed}
 use Rattle.bus_machine.specs.Steps.{send_change}
 use Rattle.secoc_sender.specs.declared.sender.Sent.{Sent}
 use Rattle.secoc_sender.specs.declared.sender.SendFault.{SendFault}
@@ -19,16 +18,6 @@ pub record IsSenderRoute (route : Route) (tx : SenderCounter) : Type 0 where
   pub direction : route.direction ≡ Sends
   pub id : route.id ≡ tx.id
   pub reserve : route.reserve ≡ tx.reserve
-
--- the node is up and has the route, whose counter and bound are these, and its slots and its boot are the engine's
-pub record HasSender (node : Node) (engine : Engine) (tx : SenderCounter) (route : Route) : Type 0 where
-  pub is_up : node.up ≡ true
-  pub has_route : HasRoute node route.id Sends
-  pub route_is : route_at node (place_of node route.id Sends) ≡ route
-  pub counter_is : counter_at node (place_of node route.id Sends) ≡ tx.counter
-  pub bound_is : bound_at node (place_of node route.id Sends) ≡ tx.bound
-  pub slots_are : node.kept.slots ≡ engine.slots
-  pub boot_is : node.boot ≡ engine.boot
 
 -- the refusal that the machine knows the answer by, if it is one
 abbrev pub refusal_of_send : Result Sent SendFault → Option machine.Refusal

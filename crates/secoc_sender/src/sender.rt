@@ -11,9 +11,10 @@ ghost use Rattle.freshness_routes.specs.declared.routes.Direction.TheVariants.{S
 ghost use Rattle.freshness_routes.specs.Changes.{sender_change as change_of_sender};
 ghost use Rattle.freshness_manager.specs.Counters.{KeepsBound};
 ghost use Rattle.freshness_manager.specs.Changing.{MakesChange, FailsChange};
+ghost use Rattle.bus_machine.specs.Handlers.{ServesRoute};
 ghost use Rattle.bus_machine.specs.Node.{Node};
 ghost use Rattle.bus_machine.specs.Steps.{first_of, sender_refusals, sends, NodeStep};
-ghost use Rattle.secoc_sender.specs.Sending.{IsSenderRoute, HasSender, refusal_of_send, line_of_send, after_send};
+ghost use Rattle.secoc_sender.specs.Sending.{IsSenderRoute, refusal_of_send, line_of_send, after_send};
 
 use cell_store::Cells;
 use freshness_manager::{Tx, TxFault};
@@ -89,7 +90,8 @@ pub fn send<C: Cells>(
     ensures unwritten { OnErr result (out.new ≡ out.old) }
     ensures kept { KeepsBound (C.state cells.new).cells tx.new.place tx.new.id Sends tx.new.bound }
     ensures runs { Runs [] 6 (C.state cells.old).disk (C.state cells.new).disk }
-    ensures step { (node : Node) → HasSender node engine.now tx.old route.now
+    ensures step { (node : Node)
+        → ServesRoute node route.now Sends tx.old.counter tx.old.bound engine.now.slots engine.now.boot
         → NodeStep node (sends route.now.id payload.now) (line_of_send route.now.id result out.new)
         (after_send node route.now.id result) }
 {
