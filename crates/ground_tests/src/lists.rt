@@ -47,3 +47,12 @@ fn bytes_are_those_of_the_vector(rt: HostRuntime) -> Result<(), Fail> {
     assert_eq!(rt; bytes.into_vec().as_slice(), b"\x5a\xff\x00".as_slice());
     Ok(())
 }
+
+#[test]
+fn bytes_are_written_one_behind_the_other(rt: HostRuntime) {
+    let mut out = [0xa5; 4];
+    let end = append(&mut out, 0, b"\x5a\xff");
+    assert_eq!(rt; end, 2);
+    assert_eq!(rt; append(&mut out, end, &[1]), 3);
+    assert_eq!(rt; out.as_slice(), b"\x5a\xff\x01\xa5".as_slice());
+}

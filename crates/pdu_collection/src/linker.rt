@@ -1,7 +1,8 @@
 //! The message link, and the two PDUs of a collection.
-ghost use Rattle.std.specs.Prelude.{◌≡◌, ◌↔◌, ℕ, ◌+◌, ◌≤◌, ◌++◌, true, length, take, drop, IfNone, IfSome};
+ghost use Rattle.std.specs.Prelude.{◌≡◌, ◌↔◌, ◌+◌, ◌≤◌, true, length, take, drop, IfNone, IfSome};
 ghost use Rattle.pdu_collection.specs.Collection.{IsPlace, IsAuthentic, IsCryptographic, IsPartOf, link_of, joined_pdu};
 
+use byte_lists::append;
 use secured_pdu::build;
 use she_aes::Schedule;
 use std::marker::Model;
@@ -113,16 +114,4 @@ pub fn join(payload: &[u8], pdu: &[u8], out: &mut [u8; 64]) -> usize
 {
     let behind = append(out, 0, payload);
     append(out, behind, &pdu[..4])
-}
-
-// Writes the bytes behind the first `at` bytes of `out`, and gives the place behind them.
-fn append(out: &mut [u8], at: usize, bytes: &[u8]) -> usize
-    requires { at + length bytes.now ≤ length out.old }
-    ensures end { result ≡ at + length bytes.now }
-    ensures front { take result out.new ≡ take at out.old ++ bytes.now }
-    ensures rest { (n : ℕ) → result ≤ n → drop n out.new ≡ drop n out.old }
-{
-    let end = at + bytes.len();
-    out[at..end].copy_from_slice(bytes);
-    end
 }

@@ -1,8 +1,9 @@
 //! The authenticated input, and the PDU: put together and taken apart.
-ghost use Rattle.std.specs.Prelude.{◌≡◌, ℕ, ◌+◌, ◌≤◌, ◌∷◌, ◌++◌, length, take, drop, IfNone, IfSome};
+ghost use Rattle.std.specs.Prelude.{◌≡◌, ◌+◌, ◌∷◌, ◌++◌, length, take, drop, IfNone, IfSome};
 ghost use Rattle.she_cmac.specs.Cmac.{cmac};
 ghost use Rattle.secured_pdu.specs.Frame.{authenticated_input, assembled, IsPayload, IsFrame, Secured};
 
+use byte_lists::append;
 use she_aes::{Block, Schedule};
 use she_cmac::cmac;
 
@@ -98,16 +99,4 @@ pub(crate) fn tag_of(mac: &Block) -> [u8; 3]
 {
     let bytes = mac.bytes();
     [bytes[0], bytes[1], bytes[2]]
-}
-
-// Writes the bytes behind the first `at` bytes of `out`, and gives the place behind them.
-fn append(out: &mut [u8], at: usize, bytes: &[u8]) -> usize
-    requires { at + length bytes.now ≤ length out.old }
-    ensures end { result ≡ at + length bytes.now }
-    ensures front { take result out.new ≡ take at out.old ++ bytes.now }
-    ensures rest { (n : ℕ) → result ≤ n → drop n out.new ≡ drop n out.old }
-{
-    let end = at + bytes.len();
-    out[at..end].copy_from_slice(bytes);
-    end
 }

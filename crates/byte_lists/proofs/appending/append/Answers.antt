@@ -1,6 +1,6 @@
 use Rattle.std.proofs.Common.{◌+◌, ◌-◌, length, arith}
 use Rattle.std.proofs.lemmas.Slice.{drop-put_mid}
-use Rattle.secured_pdu.proofs.frame.append.Goals as goal
+use Rattle.byte_lists.proofs.appending.append.Goals as goal
 
 pub returns-clause-rest : goal.returns-clause-rest
 returns-clause-rest c = λ n h.
