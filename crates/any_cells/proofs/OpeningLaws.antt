@@ -181,18 +181,17 @@ module _ (kind : Kind) (version : Version) (cells : List (List ℕ)) (before : D
     is-blank : (t : Told) → before.told ≡ Some t → IsBlank version t.bytes
     is-blank t told = probe-blank version _ probe.Blank (probed.probes t told) refl
 
-    pub not-formed : (after : DiskState) (fault : StoreFault) → NotFormed laid (format_calls kind n) n mid after fault
-        → (fault ≡ store.DiskFailed → LeavesUnformed laid cells mid.told after.told) → NoneOpened after fault
-    not-formed after store.TooSmall why unformed = absurd (let no : ⊥ = omega (arith, why.0, room, probed.as_before.runs.size) in no)
-    not-formed after store.NotFormatted why unformed = absurd why
-    not-formed after (store.Damaged i) why unformed = absurd why
-    not-formed after store.Memory why unformed = absurd why
-    not-formed after store.DiskFailed why unformed = record {
+    pub not-formed : (after : DiskState) (fault : StoreFault) → NotFormed laid (format_calls kind n) cells mid after fault → NoneOpened after fault
+    not-formed after store.TooSmall why = absurd (let no : ⊥ = omega (arith, why.0, room, probed.as_before.runs.size) in no)
+    not-formed after store.NotFormatted why = absurd why
+    not-formed after (store.Damaged i) why = absurd why
+    not-formed after store.Memory why = absurd why
+    not-formed after store.DiskFailed why = record {
       room = λ _. room;
-      runs = runs_more (open_calls kind n) (omega arith) (runs_join probed.as_before.runs why.2);
-      cause = subst (λ m. Rose m after.faults) probed.as_before.faults why.1;
+      runs = runs_more (open_calls kind n) (omega arith) (runs_join probed.as_before.runs why.runs);
+      cause = subst (λ m. Rose m after.faults) probed.as_before.faults why.rose;
       kept = λ t told not. absurd (not (is-blank t told));
-      unformed = λ b is. unformed refl b (probed.as_before.told ∙ is);
+      unformed = λ b is. why.unformed b (probed.as_before.told ∙ is);
     }
 
     module _ (formed : DiskState) (sized : Sized cells) (runs : Runs [] (format_calls kind n) mid formed) (faults : formed.faults ≡ mid.faults)

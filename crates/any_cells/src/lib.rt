@@ -6,12 +6,10 @@ mod looking;
 mod migrating;
 mod opening;
 
-ghost use Rattle.std.specs.Prelude.{◌≡◌, ◌≤◌, [], length, OnOk, IfOk, IfErr};
-ghost use Rattle.cut_disk.specs.Calls.{Runs, Grows};
+ghost use Rattle.std.specs.Prelude.{◌≡◌, length, IfOk, IfErr};
 ghost use Rattle.cell_store.specs.declared.kinds.Version.TheVariants.{Two};
 ghost use Rattle.cell_store.specs.Store.{FewCells, store_size};
-ghost use Rattle.cell_store.specs.Formats.{Formats, LeavesUnformed};
-ghost use Rattle.cell_store.specs.Attaching.{Attached, NotAttached, NotFormed, Probed, NotProbed};
+ghost use Rattle.cell_store.specs.Attaching.{Attached, NotAttached, Formatted, NotFormed, Probed, NotProbed};
 ghost use Rattle.cell_store.specs.ReadOrder.{reads, reads_to};
 ghost use Rattle.any_cells.specs.Either.{layout, format_calls, any_state};
 
@@ -63,19 +61,10 @@ impl<D: Disk> AnyCells<D> {
         cells: &[[u8; 32]],
     ) -> Result<D, Refused<D>>
         requires { FewCells (length cells.now) }
-        ensures room { OnOk result (store_size (layout kind version) (length cells.now)
-            ≤ (D.state disk).size) }
-        ensures runs { IfOk result (λ d. Runs [] (format_calls kind (length cells.now))
-            (D.state disk) (D.state d)) }
-        ensures grows { IfOk result (λ d. Grows (D.state disk) (D.state d)) }
-        ensures faults { IfOk result (λ d. (D.state d).faults ≡ (D.state disk).faults) }
-        ensures fresh { IfOk result (λ d. Formats (layout kind version) cells.now
-            (D.state disk).told (D.state d).told) }
+        ensures formatted { IfOk result (λ d. Formatted (layout kind version)
+            (format_calls kind (length cells.now)) cells.now (D.state disk) (D.state d)) }
         ensures refused { IfErr result (λ r. NotFormed (layout kind version)
-            (format_calls kind (length cells.now)) (length cells.now) (D.state disk)
-            (D.state r.disk) r.fault) }
-        ensures unformed { IfErr result (λ r. r.fault ≡ StoreFault.DiskFailed → LeavesUnformed
-            (layout kind version) cells.now (D.state disk).told (D.state r.disk).told) }
+            (format_calls kind (length cells.now)) cells.now (D.state disk) (D.state r.disk) r.fault) }
     {
         match kind {
             Kind::Twin => TwinCells::format_as(disk, version, cells),

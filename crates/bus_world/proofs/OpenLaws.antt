@@ -7,7 +7,7 @@ use Rattle.bus_nodes.specs.declared.nodes.NodeLine.{NodeLine}
 use Rattle.bus_nodes.specs.Buses.{NamedBus}
 use Rattle.cut_disk.specs.State.{DiskState, Told}
 use Rattle.cut_disk.specs.Images.{firm}
-use Rattle.cut_disk.specs.Calls.{Rose, Runs, Grows}
+use Rattle.cut_disk.specs.Calls.{Rose}
 use Rattle.cut_disk.specs.CallLaws.{runs_none, runs_more, runs_join, grows_then}
 use Rattle.cell_store.specs.declared.kinds.Kind.{Kind}
 use Rattle.cell_store.specs.declared.kinds.Version.{Version}
@@ -15,8 +15,8 @@ use Rattle.cell_store.specs.declared.faults.Reread.TheVariants as reread
 use Rattle.cell_store.specs.declared.faults.StoreFault.{StoreFault}
 use Rattle.cell_store.specs.declared.faults.StoreFault.TheVariants as store
 use Rattle.cell_store.specs.Store.{store_size}
-use Rattle.cell_store.specs.Formats.{Formats, FreshOn, LeavesUnformed}
-use Rattle.cell_store.specs.Attaching.{NotFormed}
+use Rattle.cell_store.specs.Formats.{Formats, FreshOn}
+use Rattle.cell_store.specs.Attaching.{Formatted, NotFormed}
 use Rattle.cell_store.proofs.StoreLaws.{stands_once}
 use Rattle.cell_store.proofs.CellsLaws.{fresh_images}
 use Rattle.any_cells.specs.Either.{layout, format_calls}
@@ -62,30 +62,29 @@ not_opened_none start kind version config before = record {
 
 -- the format failed
 pub not_opened_format : (kind : Kind) (version : Version) (config : Config) (before after : DiskState) (f : StoreFault)
-    → store_size (layout kind version) (cells_in config) ≤ before.size
-    → NotFormed (layout kind version) (format_calls kind (cells_in config)) (cells_in config) before after f
-    → (f ≡ store.DiskFailed → LeavesUnformed (layout kind version) (new_cells config) before.told after.told)
+    → length (new_cells config) ≡ cells_in config → store_size (layout kind version) (cells_in config) ≤ before.size
+    → NotFormed (layout kind version) (format_calls kind (cells_in config)) (new_cells config) before after f
     → NotOpened Format kind version config before after (of_store f)
-not_opened_format kind version config before after store.TooSmall room h unformed = absurd (omega (arith, room, h.0))
-not_opened_format kind version config before after store.DiskFailed room h unformed = record {
-  runs = runs_more (start_calls Format kind config) (omega arith) h.2;
-  left = inr (inr h.1);
-  cause = h.1;
-  leaves = inr (inr (record { rose = h.1; runs = h.2; unformed = unformed refl }));
+not_opened_format kind version config before after store.TooSmall size room h =
+    let small : before.size < store_size (layout kind version) (cells_in config) = subst (λ n. before.size < store_size (layout kind version) n) size h.0 in
+    absurd (omega (arith, room, small))
+not_opened_format kind version config before after store.DiskFailed size room h = record {
+  runs = runs_more (start_calls Format kind config) (omega arith) h.runs;
+  left = inr (inr h.rose);
+  cause = h.rose;
+  leaves = inr (inr (record { rose = h.rose; runs = h.runs; unformed = h.unformed }));
   stays = tt;
   moved = tt;
-  counts = h.1;
+  counts = h.rose;
 }
-not_opened_format kind version config before after store.NotFormatted room h unformed = absurd h
-not_opened_format kind version config before after (store.Damaged place) room h unformed = absurd h
-not_opened_format kind version config before after store.Memory room h unformed = absurd h
+not_opened_format kind version config before after store.NotFormatted size room h = absurd h
+not_opened_format kind version config before after (store.Damaged place) size room h = absurd h
+not_opened_format kind version config before after store.Memory size room h = absurd h
 
 -- what a format leaves of a disk
-pub record IsFormatted (kind : Kind) (version : Version) (config : Config) (before mid : DiskState) : Type 0 where
-  pub runs : Runs [] (format_calls kind (cells_in config)) before mid
-  pub grows : Grows before mid
-  pub faults : mid.faults ≡ before.faults
-  pub fresh : Formats (layout kind version) (new_cells config) before.told mid.told
+abbrev pub IsFormatted : Kind → Version → Config → DiskState → DiskState → Type 0
+IsFormatted kind version config before mid =
+    Formatted (layout kind version) (format_calls kind (cells_in config)) (new_cells config) before mid
 
 -- a node that is attached to a fresh store keeps what a new one keeps
 new_kept : (kind : Kind) (version : Version) (config : Config) (before mid : DiskState) (n : NodeState) (t : Told) → IsConfig config
@@ -168,24 +167,22 @@ not_opened_attach kind version config before mid after fault good f a = record {
   counts = subst (λ n. CountsRefusal fault n after.faults) f.faults a.counts;
 }
 
+new_length : (config : Config) → IsConfig config → length (new_cells config) ≡ cells_in config
+new_length config is = length-CellsOf config (first_node config).kept (first_is_kept config is)
+
 pub formatted : (kind : Kind) (version : Version) (config : Config) (before mid : DiskState) (list : List (List ℕ)) → IsConfig config → list ≡ new_cells config
-    → Runs [] (format_calls kind (length list)) before mid → Grows before mid → mid.faults ≡ before.faults → Formats (layout kind version) list before.told mid.told
-    → IsFormatted kind version config before mid
-formatted kind version config before mid list is same runs grows faults fresh = record {
-  runs = subst (λ n. Runs [] (format_calls kind n) before mid) (ap length same ∙ length-CellsOf config (first_node config).kept (first_is_kept config is)) runs;
-  grows = grows;
-  faults = faults;
-  fresh = subst (λ xs. Formats (layout kind version) xs before.told mid.told) same fresh;
-}
+    → Formatted (layout kind version) (format_calls kind (length list)) list before mid → IsFormatted kind version config before mid
+formatted kind version config before mid list is same h =
+    subst (λ n. Formatted (layout kind version) (format_calls kind n) (new_cells config) before mid) (new_length config is)
+    (subst (λ xs. Formatted (layout kind version) (format_calls kind (length xs)) xs before mid) same h)
 
 pub not_formatted : (kind : Kind) (version : Version) (config : Config) (before after : DiskState) (f : StoreFault) (list : List (List ℕ)) → IsConfig config → list ≡ new_cells config
     → store_size (layout kind version) (cells_in config) ≤ before.size
-    → NotFormed (layout kind version) (format_calls kind (length list)) (length list) before after f
-    → (f ≡ store.DiskFailed → LeavesUnformed (layout kind version) list before.told after.told) → NotOpened Format kind version config before after (of_store f)
-not_formatted kind version config before after f list is same room h unformed =
-    not_opened_format kind version config before after f room
-    (subst (λ n. NotFormed (layout kind version) (format_calls kind n) n before after f) (ap length same ∙ length-CellsOf config (first_node config).kept (first_is_kept config is)) h)
-    (subst (λ xs. f ≡ store.DiskFailed → LeavesUnformed (layout kind version) xs before.told after.told) same unformed)
+    → NotFormed (layout kind version) (format_calls kind (length list)) list before after f → NotOpened Format kind version config before after (of_store f)
+not_formatted kind version config before after f list is same room h =
+    not_opened_format kind version config before after f (new_length config is) room
+    (subst (λ n. NotFormed (layout kind version) (format_calls kind n) (new_cells config) before after f) (new_length config is)
+    (subst (λ xs. NotFormed (layout kind version) (format_calls kind (length xs)) xs before after f) same h))
 
 pub ok_by : {A E : Type 0} (P Q : A → Type 0) (r : Result A E) → IfOk r P → ((a : A) → P a → Q a) → IfOk r Q
 ok_by P Q (Ok a) h f = f a h

@@ -14,6 +14,7 @@ pub mod LogLaws
 pub mod BankLaws
 pub mod Slices
 pub mod FormatLaws
+pub mod Formed
 pub mod WroteLaws
 pub mod LogKeptLaws
 pub mod FreshStands

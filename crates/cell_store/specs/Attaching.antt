@@ -13,6 +13,7 @@ use Rattle.cell_store.specs.declared.kinds.Probe.{Probe}
 use Rattle.cell_store.specs.Layout.{part, base, from_base}
 use Rattle.cell_store.specs.Store.{Stands, Probes, FindsFew, store_size}
 use Rattle.cell_store.specs.Cells.{CellsState, Settled}
+use Rattle.cell_store.specs.Formats.{Formats, LeavesUnformed}
 use Rattle.cell_store.specs.Reading.{ReadOnly, ReadFailed, Leaves, Finds}
 
 -- a store of n cells is attached: nothing was written, and bytes that are told stand for its list
@@ -60,11 +61,26 @@ NotProbed version old new store.NotFormatted = ⊥
 NotProbed version old new (store.Damaged i) = ⊥
 NotProbed version old new store.Memory = ⊥
 
--- why a store of n cells isn't formatted, in at most so many calls
-abbrev pub NotFormed : Layout → ℕ → ℕ → DiskState → DiskState → StoreFault → Type 0
-NotFormed layout most n before after store.TooSmall = (before.size < store_size layout n) × (after ≡ before)
-NotFormed layout most n before after store.DiskFailed =
-    (store_size layout n ≤ before.size) × Rose before.faults after.faults × Runs [] most before after
-NotFormed layout most n before after store.NotFormatted = ⊥
-NotFormed layout most n before after (store.Damaged i) = ⊥
-NotFormed layout most n before after store.Memory = ⊥
+-- a fresh store of these cells was written in at most so many calls, none of which failed
+pub record Formatted (layout : Layout) (most : ℕ) (cells : List (List ℕ)) (before after : DiskState) : Type 0 where
+  pub room : store_size layout (length cells) ≤ before.size
+  pub runs : Runs [] most before after
+  pub grows : Grows before after
+  pub faults : after.faults ≡ before.faults
+  pub fresh : Formats layout cells before.told after.told
+
+-- one of so many calls failed before a fresh store of these cells was written
+pub record HalfFormed (layout : Layout) (most : ℕ) (cells : List (List ℕ)) (before after : DiskState) : Type 0 where
+  pub room : store_size layout (length cells) ≤ before.size
+  pub runs : Runs [] most before after
+  pub rose : Rose before.faults after.faults
+  pub unformed : LeavesUnformed layout cells before.told after.told
+
+-- why a store of these cells isn't formatted, in at most so many calls, and what that leaves of the disk
+abbrev pub NotFormed : Layout → ℕ → List (List ℕ) → DiskState → DiskState → StoreFault → Type 0
+NotFormed layout most cells before after store.TooSmall =
+    (before.size < store_size layout (length cells)) × (after ≡ before)
+NotFormed layout most cells before after store.DiskFailed = HalfFormed layout most cells before after
+NotFormed layout most cells before after store.NotFormatted = ⊥
+NotFormed layout most cells before after (store.Damaged i) = ⊥
+NotFormed layout most cells before after store.Memory = ⊥

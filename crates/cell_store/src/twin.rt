@@ -1,12 +1,10 @@
 // The twin store: two copies of each cell, of which one counts.
-ghost use Rattle.std.specs.Prelude.{◌≡◌, ◌+◌, ◌≤◌, [], length, OnOk, IfOk, IfErr};
-ghost use Rattle.cut_disk.specs.Calls.{Runs, Grows};
+ghost use Rattle.std.specs.Prelude.{◌≡◌, ◌+◌, ◌≤◌, length, IfOk, IfErr};
 ghost use Rattle.cell_store.specs.declared.kinds.Version.TheVariants.{One};
 ghost use Rattle.cell_store.specs.Layout.{twin_layout};
 ghost use Rattle.cell_store.specs.Store.{FewCells, store_size};
 ghost use Rattle.cell_store.specs.ReadOrder.{twin_reads, twin_reads_to};
-ghost use Rattle.cell_store.specs.Attaching.{Attached, NotAttached, NotFormed};
-ghost use Rattle.cell_store.specs.Formats.{Formats, LeavesUnformed};
+ghost use Rattle.cell_store.specs.Attaching.{Attached, NotAttached, Formatted, NotFormed};
 
 use crate::cells::{Cells, CutCells};
 use crate::copies::{Held, next};
@@ -61,18 +59,10 @@ impl<D: Disk> TwinCells<D> {
     /// Formats the disk as a store of version 1 of these cells, 1 to 1024, as `format_as` does.
     pub fn format(disk: D, cells: &[[u8; 32]]) -> Result<D, Refused<D>>
         requires { FewCells (length cells.now) }
-        ensures room { OnOk result (store_size (twin_layout One) (length cells.now)
-            ≤ (D.state disk).size) }
-        ensures runs { IfOk result (λ d. Runs [] (5 + length cells.now) (D.state disk)
-            (D.state d)) }
-        ensures grows { IfOk result (λ d. Grows (D.state disk) (D.state d)) }
-        ensures faults { IfOk result (λ d. (D.state d).faults ≡ (D.state disk).faults) }
-        ensures fresh { IfOk result (λ d. Formats (twin_layout One) cells.now (D.state disk).told
-            (D.state d).told) }
-        ensures refused { IfErr result (λ r. NotFormed (twin_layout One) (5 + length cells.now)
-            (length cells.now) (D.state disk) (D.state r.disk) r.fault) }
-        ensures unformed { IfErr result (λ r. r.fault ≡ StoreFault.DiskFailed → LeavesUnformed
-            (twin_layout One) cells.now (D.state disk).told (D.state r.disk).told) }
+        ensures formatted { IfOk result (λ d. Formatted (twin_layout One) (5 + length cells.now) cells.now
+            (D.state disk) (D.state d)) }
+        ensures refused { IfErr result (λ r. NotFormed (twin_layout One) (5 + length cells.now) cells.now
+            (D.state disk) (D.state r.disk) r.fault) }
     {
         TwinCells::format_as(disk, Version::One, cells)
     }
@@ -81,20 +71,13 @@ impl<D: Disk> TwinCells<D> {
     /// behind the store stay as they are. Errors: `TooSmall` and `DiskFailed`. After `DiskFailed`
     /// the bytes of the store are as they were but for the header, or the header is zero, or all
     /// but the header is as in a fresh store.
+    #[tactic(auto, using(crate::proofs::Formed::formed, crate::proofs::Formed::half_formed))]
     pub fn format_as(mut disk: D, version: Version, cells: &[[u8; 32]]) -> Result<D, Refused<D>>
         requires { FewCells (length cells.now) }
-        ensures room { OnOk result (store_size (twin_layout version) (length cells.now)
-            ≤ (D.state disk).size) }
-        ensures runs { IfOk result (λ d. Runs [] (5 + length cells.now) (D.state disk)
-            (D.state d)) }
-        ensures grows { IfOk result (λ d. Grows (D.state disk) (D.state d)) }
-        ensures faults { IfOk result (λ d. (D.state d).faults ≡ (D.state disk).faults) }
-        ensures fresh { IfOk result (λ d. Formats (twin_layout version) cells.now
-            (D.state disk).told (D.state d).told) }
-        ensures refused { IfErr result (λ r. NotFormed (twin_layout version)
-            (5 + length cells.now) (length cells.now) (D.state disk) (D.state r.disk) r.fault) }
-        ensures unformed { IfErr result (λ r. r.fault ≡ StoreFault.DiskFailed → LeavesUnformed
-            (twin_layout version) cells.now (D.state disk).told (D.state r.disk).told) }
+        ensures formatted { IfOk result (λ d. Formatted (twin_layout version) (5 + length cells.now) cells.now
+            (D.state disk) (D.state d)) }
+        ensures refused { IfErr result (λ r. NotFormed (twin_layout version) (5 + length cells.now) cells.now
+            (D.state disk) (D.state r.disk) r.fault) }
     {
         if disk.size() < version.base() + twin_size(cells.len() as u16) {
             return Err(Refused {

@@ -15,7 +15,7 @@ returns-in-Ok-format_as-clause-opened g c =
     let probed = subst (Probed c.args.version (g.D.Disk.state c.args.disk) (g.D.Disk.state c.probe_as.new.disk)) (c.is_blank.ensures.0 c.if-is_blank.true) c.in-Ok.ensures.probed in
     IfOk-weaker c.attach_as.result _ _
     (λ s attached. opened-made c.args.kind c.args.version c.args.cells.now (g.D.Disk.state c.args.disk) _ _ _ probed
-    c.in-Ok-format_as.ensures.runs c.in-Ok-format_as.ensures.faults c.in-Ok-format_as.ensures.fresh attached)
+    c.in-Ok-format_as.ensures.formatted.runs c.in-Ok-format_as.ensures.formatted.faults c.in-Ok-format_as.ensures.formatted.fresh attached)
     c.attach_as.ensures.attached
 
 pub returns-in-Ok-format_as-clause-refused : goal.returns-in-Ok-format_as-clause-refused
@@ -24,7 +24,7 @@ returns-in-Ok-format_as-clause-refused g c =
     IfErr-weaker c.attach_as.result _ _
     (λ r why. made-not-attached c.args.kind c.args.version c.args.cells.now (g.D.Disk.state c.args.disk) _ probed
     (omega (arith, c.if-size-store_size.false, c.store_size.ensures, c.size.ensures)) _ c.told-cells
-    c.in-Ok-format_as.ensures.runs c.in-Ok-format_as.ensures.faults c.in-Ok-format_as.ensures.fresh _ r.fault why
+    c.in-Ok-format_as.ensures.formatted.runs c.in-Ok-format_as.ensures.formatted.faults c.in-Ok-format_as.ensures.formatted.fresh _ r.fault why
     (λ t told. (g.met.D.Disk.is_disk c.args.disk).bytes_sized t told))
     c.attach_as.ensures.refused
 
@@ -33,7 +33,7 @@ returns-in-Err-format_as-clause-refused g c =
     let probed = subst (Probed c.args.version (g.D.Disk.state c.args.disk) (g.D.Disk.state c.probe_as.new.disk)) (c.is_blank.ensures.0 c.if-is_blank.true) c.in-Ok.ensures.probed in
     not-formed c.args.kind c.args.version c.args.cells.now (g.D.Disk.state c.args.disk) _ probed
     (omega (arith, c.if-size-store_size.false, c.store_size.ensures, c.size.ensures)) _
-    c.in-Err-format_as.refused.fault c.in-Err-format_as.ensures.refused c.in-Err-format_as.ensures.unformed
+    c.in-Err-format_as.refused.fault c.in-Err-format_as.ensures.refused
 
 pub returns-clause-opened : goal.returns-clause-opened
 returns-clause-opened g c =
