@@ -3,18 +3,8 @@
 ghost use Rattle.bus_config.specs.declared.fault.ConfigFault.TheVariants.{Memory as NoMemory};
 ghost use Rattle.std.specs.Prelude.{◌≡◌};
 
-use std::alloc::{AllocError, AllocFailed};
+use std::alloc::AllocFailed;
 use thiserror::Error;
-
-/// There was no memory.
-#[derive(Clone, Copy, Debug, PartialEq, Eq)]
-pub struct Memory;
-
-impl From<AllocError> for Memory {
-    fn from(_error: AllocError) -> Memory {
-        Memory
-    }
-}
 
 /// Why a bus file is refused. Nodes and routes count from 1. Where several causes stand together, the first is given: `Toml`,
 /// then `Root`, then for each node `Node` and behind it `Route` for each of its routes, and at last `Sender`.

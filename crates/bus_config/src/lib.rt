@@ -14,6 +14,6 @@ mod tables;
 mod texts;
 mod values;
 
-pub use fault::{ConfigFault, Memory};
+pub use fault::ConfigFault;
 pub use reader::read_config;
 pub use texts::config_fault_text;

@@ -7,12 +7,12 @@ ghost use Rattle.bus_inputs.specs.BusFiles.{FindsBus, HasBus, IsConfigRow};
 ghost use Rattle.bus_inputs.specs.Statuses.{unwritten_status};
 
 use answer_rows::Refusal;
-use bus_config::{ConfigFault, Memory as NoMemory, config_fault_text, read_config};
+use bus_config::{ConfigFault, config_fault_text, read_config};
 use bus_nodes::BusConfig;
 use bus_port::Source;
 use command_edge::{DONE, NO_MEMORY, WRITE_FAULT, read_input};
 use numbered_run::Unwritten;
-use std::alloc::Global;
+use std::alloc::{AllocError, Global};
 
 /// The bus of the bus file that a source gives, or its refusal.
 pub fn bus_from<S: Source>(alloc: Global, config: &mut S) -> Result<BusConfig, Refusal>
@@ -38,7 +38,7 @@ fn config_refusal(alloc: Global, fault: &ConfigFault) -> Refusal
 {
     match config_fault_text(alloc, fault) {
         Ok(text) => Refusal::made(3, text),
-        Err(NoMemory) => Refusal::no_memory(),
+        Err(AllocError) => Refusal::no_memory(),
     }
 }
 
