@@ -18,6 +18,7 @@ use Rattle.text_lines.specs.Forms.{bytes_form}
 use Rattle.text_lines.specs.Readings.{most_lines, nth_word, field, Gives}
 use Rattle.secoc_words.specs.KeyForms.{slot_form, counter_form, flags_form}
 use Rattle.text_lines.specs.Lines.{lines_of}
+use Rattle.text_lines.proofs.Numbers.{number_in_range}
 use Rattle.text_lines.proofs.Results.{bind_ok, field_ok, counted_ok}
 use Rattle.text_lines.proofs.Sizes.{All-read_from}
 use Rattle.text_lines.proofs.Values.{values_given}
@@ -32,7 +33,7 @@ use Rattle.bus_script.specs.Canon.{event_kind}
 use Rattle.bus_script.specs.EventKinds.{kind_name, kind_of, kind_words, own_kinds, IsOwnKind}
 use Rattle.bus_script.specs.EventForms.{no_node, uid_at, event_uid_form, event_form, calls_form, image_form, send_of, deliver_of, inject_of, load_event_of, key_event_of, boot_of, cut_of, stop_of, fail_of, fields_of, event_among, events_among, own_events_of}
 use Rattle.bus_script.specs.ScriptEvents.{IsOwn, IsScriptEvent}
-use Rattle.bus_script.proofs.FormValues.{key_form-value, two_form-value, data_id_form-value, bytes_form-value, hex_bytes_form-value, number_in_range, event_uid_form-value, torn_form-value}
+use Rattle.bus_script.proofs.FormValues.{key_form-value, two_form-value, data_id_form-value, bytes_form-value, hex_bytes_form-value, event_uid_form-value, torn_form-value}
 
 -- a node that is found is there
 there : (nodes : List NodeLine) (name : List ℕ) (place : ℕ) → field 2 (place_named nodes name) ≡ Ok place → place < length nodes

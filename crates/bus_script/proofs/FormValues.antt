@@ -1,9 +1,8 @@
 -- What the value of a word is, where it is of its form.
 use Rattle.std.proofs.Common.{◌≡◌, ℕ, suc, ◌<◌, ◌≤◌, ◌^◌, Bool, true, false, cond, List, [], ◌∷◌, length, take, drop, All, Option, Some, None, Ok, refl, sym, ◌∙◌, subst, arith}
-use Rattle.std.specs.Prelude.{◌==◌, ◌&&◌, nat_le, slice_index, codes, option_map}
+use Rattle.std.specs.Prelude.{◌==◌, slice_index, codes, option_map}
 use Rattle.std.specs.Result.{result_ok}
 use Rattle.std.specs.Str.{bytes_eq}
-use Rattle.std.specs.Str.Parse.{digits_value}
 use Rattle.std.proofs.lemmas.List.Elements.{All-nil, All-cons}
 use Rattle.byte_lists.specs.Bytes.{IsBytes}
 use Rattle.byte_lists.specs.Numbers.{number_of}
@@ -16,7 +15,7 @@ use Rattle.cut_disk.specs.declared.Torn.TheVariants.{Keep, Old, Half, Fill}
 use Rattle.memory_update.specs.Identifier.{IsUid}
 use Rattle.secoc_words.specs.DiskForms.{torn_form}
 use Rattle.secoc_words.specs.Forms.{key_form, both, two_form, data_id_form}
-use Rattle.text_lines.specs.Forms.{is_number, number_form, hex_bytes_form, bytes_form}
+use Rattle.text_lines.specs.Forms.{hex_bytes_form, bytes_form}
 use Rattle.secoc_words.specs.KeyForms.{uid_form}
 use Rattle.text_lines.proofs.Results.{ok_some, chosen_some}
 use Rattle.text_lines.proofs.Sizes.{hex_bytes_form-sizes}
@@ -89,14 +88,6 @@ unfolding hex_bytes_form
 hex_bytes_form-value least most word bytes h =
     let sizes = hex_bytes_form-sizes least most word bytes h in
     (sizes.0, sizes.1, decoded word bytes (ok_some (decode_of word) bytes (chosen_some _ (result_ok (decode_of word)) bytes h).1))
-
--- a number that is given is in its range
-in_range : (a : Bool) (value least most n : ℕ) → cond (a && nat_le least value && nat_le value most) (Some value) None ≡ Some n → (least ≤ n) × (n ≤ most)
-in_range a value least most n h = (grind arith, grind arith)
-
-pub number_in_range : (least most : ℕ) (word : List ℕ) (n : ℕ) → number_form least most word ≡ Some n → (least ≤ n) × (n ≤ most)
-unfolding number_form
-number_in_range least most word n h = in_range (is_number word) (digits_value 10 word) least most n h
 
 -- what is left behind a value that is given under a test
 otherwise : {A : Type 0} (test : Bool) (x : A) (o : Option A) (y : A) (P : A → Type 0) → P x → (o ≡ Some y → P y) → cond test (Some x) o ≡ Some y → P y

@@ -23,7 +23,7 @@ pub fn event_uid(bus: &BusConfig, place: u8, word: &[u8]) -> Option<Uid>
 }
 
 /// A number from 1 to `most`.
-#[tactic(auto, using(crate::proofs::FormValues::number_in_range))]
+#[tactic(auto, using(text_lines::proofs::Numbers::number_in_range))]
 pub fn from_one(word: &[u8], most: u32) -> Option<u32>
     ensures { result ≡ number_form 1 most word.now }
 {

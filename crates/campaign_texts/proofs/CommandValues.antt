@@ -1,7 +1,6 @@
 -- What is read is a command that a script can have
 use Rattle.std.proofs.Common.{◌≡◌, ◌≢◌, ℕ, suc, ◌<◌, ◌≤◌, ◌∷◌, Bool, true, false, cond, List, [], length, All, Option, None, Some, Result, Ok, Err, refl, sym, ap, ◌∙◌, subst, inl, inr, arith}
-use Rattle.std.specs.Prelude.{◌==◌, ◌&&◌, nat_le, Vec, IfOk, replicate}
-use Rattle.std.specs.Str.Parse.{digits_value}
+use Rattle.std.specs.Prelude.{◌==◌, Vec, IfOk, replicate}
 use Rattle.std.specs.Option.{ok_or, option_and_then}
 use Rattle.std.specs.Result.{result_ok}
 use Rattle.std.specs.Str.{bytes_eq}
@@ -13,11 +12,11 @@ use Rattle.text_lines.specs.declared.fault.Cause.{Cause}
 use Rattle.text_lines.specs.declared.fault.Cause.TheVariants as cause
 use Rattle.text_lines.specs.declared.fault.ScriptFault.{ScriptFault}
 use Rattle.secoc_words.specs.Forms.{key_form, two_form}
-use Rattle.text_lines.specs.Forms.{is_number, number_form}
 use Rattle.text_lines.specs.Readings.{most_lines, nth_word, field, Gives}
 use Rattle.secoc_words.specs.DiskForms.{torn_form}
 use Rattle.secoc_words.specs.KeyForms.{uid_form, unless_zero, engine_uid_form, slot_form, flags_form}
 use Rattle.text_lines.specs.Lines.{lines_of}
+use Rattle.text_lines.proofs.Numbers.{number_in_range}
 use Rattle.text_lines.proofs.Results.{bind_ok, ok_some, field_ok, counted_ok}
 use Rattle.text_lines.proofs.Sizes.{All-read_from}
 use Rattle.text_lines.proofs.Values.{values_given}
@@ -68,13 +67,6 @@ unit_of : (word uid : List ℕ) → engine_uid_form word ≡ Some uid → IsUnit
 unfolding engine_uid_form uid_form
 unit_of word uid h = some_unit (result_ok (decode_sized word 15)) uid (λ u is. so_many_bytes 15 word u is) h
 
-at_least : (a : Bool) (value least most n : ℕ) → cond (a && nat_le least value && nat_le value most) (Some value) None ≡ Some n → least ≤ n
-at_least a value least most n h = grind arith
-
-number_from : (least most : ℕ) (word : List ℕ) (n : ℕ) → number_form least most word ≡ Some n → least ≤ n
-unfolding number_form
-number_from least most word n h = at_least (is_number word) (digits_value 10 word) least most n h
-
 -- ---- the commands
 
 issue_of-value : (words : List (List ℕ)) (cmd : LedgerCommand) → issue_of words ≡ Ok cmd → IsScriptCommand cmd
@@ -121,14 +113,14 @@ unfolding ledger_stop_of
 ledger_stop_of-value words cmd h =
     let calls = bind_ok (field 2 (disk_calls_form (nth_word words 2))) _ cmd h in
     let same : command.Stop calls.0 ≡ cmd = cc calls.2 in
-    subst IsScriptCommand same (number_from 1 1000000 (nth_word words 2) calls.0 (field_ok 2 (disk_calls_form (nth_word words 2)) calls.0 calls.1))
+    subst IsScriptCommand same (number_in_range 1 1000000 (nth_word words 2) calls.0 (field_ok 2 (disk_calls_form (nth_word words 2)) calls.0 calls.1)).0
 
 ledger_fail_of-value : (words : List (List ℕ)) (cmd : LedgerCommand) → ledger_fail_of words ≡ Ok cmd → IsScriptCommand cmd
 unfolding ledger_fail_of
 ledger_fail_of-value words cmd h =
     let calls = bind_ok (field 2 (disk_calls_form (nth_word words 2))) _ cmd h in
     let same : command.Fail calls.0 ≡ cmd = cc calls.2 in
-    subst IsScriptCommand same (number_from 1 1000000 (nth_word words 2) calls.0 (field_ok 2 (disk_calls_form (nth_word words 2)) calls.0 calls.1))
+    subst IsScriptCommand same (number_in_range 1 1000000 (nth_word words 2) calls.0 (field_ok 2 (disk_calls_form (nth_word words 2)) calls.0 calls.1)).0
 
 fields-value : (kind : CommandKind) (words : List (List ℕ)) (cmd : LedgerCommand) → command_fields kind words ≡ Ok cmd → IsScriptCommand cmd
 fields-value Issue words cmd h = issue_of-value words cmd h

@@ -1,14 +1,14 @@
 -- At most one list of findings is found of the lines of a log, and the lines of a map have windows
-use Rattle.std.proofs.Common.{◌≡◌, ℕ, ◌+◌, ◌≤◌, ◌&&◌, Bool, true, false, cond, List, [], ◌∷◌, ◌++◌, length, Option, Some, None, Ok, refl, sym, ap, ◌∙◌, subst, arith, inl, inr}
+use Rattle.std.proofs.Common.{◌≡◌, ℕ, ◌+◌, ◌≤◌, ◌&&◌, Bool, true, false, List, [], ◌∷◌, ◌++◌, length, Option, Some, Ok, refl, sym, ap, ◌∙◌, subst, arith, inl, inr}
 use Rattle.std.specs.Prelude.{nat_le, nat_lt, if◌then◌else◌}
-use Rattle.std.specs.Str.Parse.{digits_value}
 use Rattle.std.proofs.lemmas.Option.{same_Some}
 use Rattle.std.proofs.lemmas.List.{same_from_push, length_push}
 use Rattle.std.proofs.lemmas.List.Elements.{All-nil}
 use Rattle.secured_pdu.specs.Frame.{IsWindow}
-use Rattle.text_lines.specs.Forms.{is_number, number_form}
+use Rattle.text_lines.specs.Forms.{number_form}
 use Rattle.text_lines.specs.Lines.{lines_of, words_of, is_skipped}
 use Rattle.text_lines.specs.Readings.{nth_word}
+use Rattle.text_lines.proofs.Numbers.{number_in_range}
 use Rattle.text_lines.proofs.Results.{counted_ok}
 use Rattle.text_lines.proofs.Sizes.{All-read_from}
 use Rattle.trace_audit.specs.declared.map_lines.MapLine.{MapLine}
@@ -21,16 +21,9 @@ use Rattle.log_watch.specs.Watching.{in_64_bits, WatchesLine, WatchesEach, none,
 
 -- ---- the windows of a map
 
-in_range : (a : Bool) (value least most n : ℕ) → cond (a && nat_le least value && nat_le value most) (Some value) None ≡ Some n → (least ≤ n) × (n ≤ most)
-in_range a value least most n h = (grind arith, grind arith)
-
-number_in_form : (least most : ℕ) (word : List ℕ) (n : ℕ) → number_form least most word ≡ Some n → (least ≤ n) × (n ≤ most)
-unfolding number_form
-number_in_form least most word n h = in_range (is_number word) (digits_value 10 word) least most n h
-
 chosen_window : (left_out : Bool) (word : List ℕ) (window : ℕ) → (if left_out then Some 256 else number_form 1 256 word) ≡ Some window → IsWindow window
 chosen_window true word window h = subst IsWindow (same_Some 256 window h) (omega arith, omega arith)
-chosen_window false word window h = number_in_form 1 256 word window h
+chosen_window false word window h = number_in_range 1 256 word window h
 
 watch_line_of-window : (before : List MapLine) (words : List (List ℕ)) (l : MapLine) → watch_line_of before words ≡ Ok l → IsWindow l.window
 unfolding watch_line_of

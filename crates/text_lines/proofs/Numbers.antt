@@ -62,9 +62,12 @@ number_form-large least most word h fits large =
     past_bound _ (digits_value 10 word) most past
 
 -- a number that is given is in its range
-within_range : (a : Bool) (value least most n : ℕ) → cond (a && nat_le least value && nat_le value most) (Some value) None ≡ Some n → n ≤ most
-within_range a value least most n h = grind arith
+in_range : (a : Bool) (value least most n : ℕ) → cond (a && nat_le least value && nat_le value most) (Some value) None ≡ Some n → (least ≤ n) × (n ≤ most)
+in_range a value least most n h = (grind arith, grind arith)
+
+pub number_in_range : (least most : ℕ) (word : List ℕ) (n : ℕ) → number_form least most word ≡ Some n → (least ≤ n) × (n ≤ most)
+unfolding number_form
+number_in_range least most word n h = in_range (is_number word) (digits_value 10 word) least most n h
 
 pub number_within : (least most : ℕ) (word : List ℕ) (n : ℕ) → number_form least most word ≡ Some n → n ≤ most
-unfolding number_form
-number_within least most word n h = within_range _ (digits_value 10 word) least most n h
+number_within least most word n h = (number_in_range least most word n h).1
