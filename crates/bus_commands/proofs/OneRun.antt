@@ -18,7 +18,7 @@ use Rattle.bus_commands.specs.Texts.{Prints}
 use Rattle.bus_commands.specs.Inputs.{BusInputs, SetsTask, start_of, OverReplayOf}
 use Rattle.world_runs.specs.Turns.{TellFirm}
 use Rattle.bus_commands.specs.Headline.{AttachedRun}
-use Rattle.bus_inputs.specs.Statuses.{unwritten_status}
+use Rattle.numbered_run.specs.Statuses.{unwritten_status}
 use Rattle.bus_commands.specs.Summaries.{summary_text}
 use Rattle.bus_world.specs.StartAnswers.{DiskStates}
 use Rattle.bus_commands.specs.StartRows.{CommandDisks}

@@ -28,7 +28,7 @@ use Rattle.bus_commands.specs.Tasks.{Task, frame, judge, check, replay}
 use Rattle.bus_commands.specs.Texts.{usage, Prints, fault_of}
 use Rattle.bus_inputs.specs.BusFiles.{IsConfigFault}
 use Rattle.bus_commands.specs.Inputs.{BusInputs, AsksOverBus, AsksWorld, NoConfig, NoScript, Over, OverWorld, OffersTask, OffersTrial, start_of}
-use Rattle.bus_inputs.specs.Statuses.{unwritten_status}
+use Rattle.numbered_run.specs.Statuses.{unwritten_status}
 use Rattle.bus_world.specs.StartRows.{start_row, StoreCause, LeavesEach}
 use Rattle.bus_world.specs.StartAnswers.{ComesOfStart, disks_refused, store_refused, start_without_memory, BusHasDisks}
 use Rattle.bus_commands.specs.StartRows.{CommandDisks, HoldsNoNode}

@@ -29,7 +29,7 @@ use Rattle.bus_commands.specs.Inputs.{Over, OverReplayOf, OverTrial, OverWorld, 
 use Rattle.bus_commands.specs.Summaries.{summary_text}
 use Rattle.world_runs.specs.NodeDisks.{TellEach}
 use Rattle.world_runs.specs.Turns.{TellFirm}
-use Rattle.bus_inputs.specs.Statuses.{unwritten_status}
+use Rattle.numbered_run.specs.Statuses.{unwritten_status}
 use Rattle.bus_commands.specs.Headline.{TellFor, ReplayedOver, AttachedRun}
 use Rattle.bus_commands.specs.TrialRuns.{Tried}
 use Rattle.bus_world.specs.StartRows.{start_row, StoreCause, LeavesEach}

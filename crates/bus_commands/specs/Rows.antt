@@ -21,7 +21,7 @@ use Rattle.bus_world.specs.StartAnswers.{DiskStates, ComesOfStart}
 use Rattle.bus_commands.specs.StartRows.{CommandDisks}
 use Rattle.bus_commands.specs.Summaries.{summary_text}
 use Rattle.bus_world.specs.declared.start.Start.{Start}
-use Rattle.bus_inputs.specs.Statuses.{unwritten_status}
+use Rattle.numbered_run.specs.Statuses.{unwritten_status}
 use Rattle.bus_commands.specs.Replays.{ReplayTurns}
 use Rattle.world_runs.specs.NodeDisks.{TellEach, DisksStay}
 use Rattle.world_runs.specs.Turns.{seen}

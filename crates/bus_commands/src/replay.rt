@@ -5,14 +5,13 @@ ghost use Rattle.bus_commands.specs.Steps.{AreEvents, AnswersReplay};
 
 use crate::laws::replays_are_runs;
 use answer_rows::tell_refusal;
-use bus_inputs::status_of_run;
 use bus_machine::{Event, Line};
 use bus_nodes::BusConfig;
 use bus_port::{Memory, Sink};
 use bus_texts::write_line;
 use bus_world::{Start, World, start_refusal};
 use cut_disk::CutDisk;
-use numbered_run::{LineText, print_run};
+use numbered_run::{LineText, print_run, status_of_run};
 use std::alloc::Global;
 use world_runs::{starts_are_set_up, turns_leave_disks};
 

@@ -1,17 +1,14 @@
 //! What the programs that run over a bus share: the bus file and the rows for want of it, which are 3 and the text that
-//! names its first fault, beside those for want of any input; and the status of a run whose lines are written.
+//! names its first fault, beside those for want of any input.
 #![tactic(auto)]
 
-ghost use Rattle.std.specs.Prelude.{◌≡◌};
 ghost use Rattle.bus_inputs.specs.BusFiles.{FindsBus, HasBus, IsConfigRow};
-ghost use Rattle.bus_inputs.specs.Statuses.{unwritten_status};
 
 use answer_rows::Refusal;
 use bus_config::{ConfigFault, config_fault_text, read_config};
 use bus_nodes::BusConfig;
 use bus_port::Source;
-use command_edge::{DONE, NO_MEMORY, WRITE_FAULT, read_input};
-use numbered_run::Unwritten;
+use command_edge::read_input;
 use std::alloc::{AllocError, Global};
 
 /// The bus of the bus file that a source gives, or its refusal.
@@ -39,16 +36,5 @@ fn config_refusal(alloc: Global, fault: &ConfigFault) -> Refusal
     match config_fault_text(alloc, fault) {
         Ok(text) => Refusal::made(3, text),
         Err(AllocError) => Refusal::no_memory(),
-    }
-}
-
-/// The status of a run whose lines were all written, or not.
-pub fn status_of_run(printed: Result<(), Unwritten>) -> u8
-    ensures { result ≡ unwritten_status printed }
-{
-    match printed {
-        Ok(()) => DONE,
-        Err(Unwritten::SinkFailed) => WRITE_FAULT,
-        Err(Unwritten::Memory) => NO_MEMORY,
     }
 }

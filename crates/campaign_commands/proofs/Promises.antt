@@ -10,6 +10,7 @@ use Rattle.answer_rows.specs.EndingLaws.{EndsInRow-at, EndsInRow-front, EndsInRo
 use Rattle.numbered_run.specs.declared.printing.Unwritten.{Unwritten}
 use Rattle.numbered_run.specs.declared.printing.Unwritten.TheVariants as unwritten
 use Rattle.numbered_run.specs.Printed.{Written, WrittenPart}
+use Rattle.numbered_run.specs.Statuses.{unwritten_status}
 use Rattle.machine_runs.specs.Run.{Moment}
 use Rattle.cut_disk.specs.State.{DiskState}
 use Rattle.campaign_machine.specs.declared.commands.LedgerCommand.{LedgerCommand}
@@ -18,7 +19,7 @@ use Rattle.key_campaign.specs.State.{LedgerState}
 use Rattle.campaign_texts.specs.LedgerTexts.{ledger_line_text}
 use Rattle.campaign_commands.specs.declared.opening.NoLedgerCause.{NoLedgerCause}
 use Rattle.campaign_commands.specs.Opening.{ledger_size}
-use Rattle.campaign_commands.specs.Rows.{CampaignInputs, CampaignDisks, AreTwo, HasCommands, OffersCommands, OffersBadLine, OverFirst, campaign_status, DoneCampaign, ComesBefore, EndsCampaign, in_row, campaigned}
+use Rattle.campaign_commands.specs.Rows.{CampaignInputs, CampaignDisks, AreTwo, HasCommands, OffersCommands, OffersBadLine, OverFirst, DoneCampaign, ComesBefore, EndsCampaign, in_row, campaigned}
 use Rattle.campaign_commands.specs.Campaigns.{TellsNoLedger, ServesLedger, RanTo, DoneNone, RunsCampaign}
 use Rattle.campaign_commands.proofs.Opened.{opened_or_none}
 use Rattle.campaign_commands.proofs.Told.{bad_or_good, few_or_first, first_or_small, over_both}
@@ -68,14 +69,14 @@ module _ {same : Type 0} {i : CampaignInputs} {d : CampaignDisks} {e : Ending} w
 
 -- where the sink failed, and where it didn't
 written_rose : (moments : List (Moment LedgerCommand LedgerLine LedgerState)) (before after : SinkState) (commands : List LedgerCommand) (result : Result (Unit {0}) Unwritten)
-    → Written ledger_line_text before after commands result moments → before.faults < after.faults → campaign_status result ≡ 6
+    → Written ledger_line_text before after commands result moments → before.faults < after.faults → unwritten_status result ≡ 6
 written_rose moments before after commands (Ok done) written rose = absurd (let no : ⊥ = omega (arith, written.1.0, rose) in no)
 written_rose moments before after commands (Err unwritten.SinkFailed) written rose = refl
 written_rose moments before after commands (Err unwritten.Memory) written rose = absurd (let no : ⊥ = omega (arith, written.written.0, rose) in no)
 
 module _ {i : CampaignInputs} {d : CampaignDisks} {e : Ending} (commands : List LedgerCommand) (has : HasCommands i commands) where
   module _ (result : Result (Unit {0}) Unwritten) (over : OverFirst d (DoneCampaign commands e result)) where
-    status_is : e.status ≡ campaign_status result
+    status_is : e.status ≡ unwritten_status result
     status_is = over.holds.status_is
 
     others : drop 1 d.after ≡ drop 1 d.before

@@ -23,7 +23,7 @@ use Rattle.campaign_texts.specs.LedgerTexts.{ledger_line_text}
 use Rattle.campaign_commands.specs.declared.opening.NoLedgerCause.{NoLedgerCause}
 use Rattle.campaign_commands.specs.Opening.{ledger_size, LacksLedger, LeavesNone}
 use Rattle.campaign_commands.specs.Headline.{RanCampaign}
-use Rattle.campaign_commands.specs.Rows.{CampaignInputs, CampaignDisks, AreTwo, NoCommands, HasBadLine, HasCommands, OffersCommands, OffersBadLine, OverFirst, campaign_usage, too_few_text, too_small_text, no_ledger_text, campaign_status, DoneCampaign}
+use Rattle.campaign_commands.specs.Rows.{CampaignInputs, CampaignDisks, AreTwo, NoCommands, HasBadLine, HasCommands, OffersCommands, OffersBadLine, OverFirst, campaign_usage, too_few_text, too_small_text, no_ledger_text, DoneCampaign}
 use Rattle.campaign_commands.specs.Rows.{ComesBefore, no_form, no_commands, bad_line, too_few, too_small, no_ledger, no_memory_to_open, EndsCampaign, in_row, campaigned}
 use Rattle.campaign_commands.specs.Campaigns.{RefusesDisk, TellsNoLedger, ServesLedger, RanTo, DoneNone, RunsCampaign}
 use Rattle.campaign_commands.proofs.Opened.{lacks_leaves, lacks_none, lacks_because, lacks_room, opened_or_none, serves_or_lacks}

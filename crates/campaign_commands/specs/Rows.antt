@@ -9,7 +9,7 @@ use Rattle.answer_rows.specs.Inputs.{Reading, IsUnread, ReadsWhole, Lacks, Offer
 use Rattle.answer_rows.specs.Endings.{Ending, EndsInRow}
 use Rattle.line_rows.specs.LineRows.{line_row}
 use Rattle.numbered_run.specs.declared.printing.Unwritten.{Unwritten}
-use Rattle.numbered_run.specs.declared.printing.Unwritten.TheVariants.{SinkFailed, Memory}
+use Rattle.numbered_run.specs.Statuses.{unwritten_status}
 use Rattle.cut_disk.specs.State.{DiskState}
 use Rattle.cell_store.specs.declared.faults.StoreFault.TheVariants as store
 use Rattle.any_cells.specs.FaultTexts.{store_fault_text}
@@ -115,18 +115,12 @@ pub data ComesBefore (same : Type 0) (i : CampaignInputs) (d : CampaignDisks) : 
 
 -- ---- a campaign
 
--- the status of a run whose lines were all written, or not
-abbrev pub campaign_status : Result (Unit {0}) Unwritten → ℕ
-campaign_status (Ok _) = 0
-campaign_status (Err SinkFailed) = 6
-campaign_status (Err Memory) = 7
-
 -- the first commands were done, up to the first whose text wasn't written; over a disk that tells its bytes, none of them
 -- loose, they are one run of the machine, and all of `Campaigned` holds of it
 pub record DoneCampaign (commands : List LedgerCommand) (e : Ending) (result : Result (Unit {0}) Unwritten)
     (before after : DiskState) : Type 0 where
   pub ran : RanCampaign before after commands e.before e.after result
-  pub status_is : e.status ≡ campaign_status result
+  pub status_is : e.status ≡ unwritten_status result
   pub one_run : TellsFirm before → Campaigned before after commands e.before e.after result
 
 -- how a campaign ends: a row comes, and is told; or the first commands were done

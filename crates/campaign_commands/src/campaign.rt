@@ -3,7 +3,6 @@ ghost use Rattle.std.specs.Prelude.{◌≡◌, ◌<◌, ◌≤◌, ◌+◌, ◌�
 ghost use Rattle.std.specs.Vec.{vec_len, vec_capacity};
 ghost use Rattle.cut_disk.specs.State.{DiskState};
 ghost use Rattle.campaign_commands.specs.Opening.{LedgerOpened};
-ghost use Rattle.campaign_commands.specs.Rows.{campaign_status};
 ghost use Rattle.campaign_commands.specs.Steps.{AreScriptCommands, DoesOnDisk, DoesCampaign};
 
 use crate::laws::campaigns_are_runs;
@@ -16,10 +15,9 @@ use bus_port::{Memory, Sink};
 use campaign_machine::{LedgerCommand, LedgerLine};
 use campaign_texts::write_ledger_line;
 use cell_store::Cells;
-use command_edge::{DONE, NO_MEMORY, WRITE_FAULT};
 use cut_disk::CutDisk;
 use key_campaign::Ledger;
-use numbered_run::{LineText, Unwritten, print_run};
+use numbered_run::{LineText, print_run, status_of_run};
 use std::alloc::Global;
 
 /// How the lines of a campaign are written.
@@ -111,15 +109,4 @@ fn over_ledger<K: Sink, D: CutDisk>(
     let mut station = Station::of(ledger);
     let printed = print_run::<Station<AnyCells<D>>, Texts, K>(alloc, &mut station, commands, sink);
     (station.release().release(), status_of_run(printed))
-}
-
-/// The status of a run whose lines were all written, or not.
-fn status_of_run(printed: Result<(), Unwritten>) -> u8
-    ensures { result ≡ campaign_status printed }
-{
-    match printed {
-        Ok(()) => DONE,
-        Err(Unwritten::SinkFailed) => WRITE_FAULT,
-        Err(Unwritten::Memory) => NO_MEMORY,
-    }
 }

@@ -24,7 +24,7 @@ use Rattle.bus_world.specs.Starts.{HasRoom, FindsRoom}
 use Rattle.bus_world.specs.StartRows.{start_row, StoreCause, LeavesEach}
 use Rattle.bus_world.specs.StartAnswers.{DiskStates, ComesOfStart, disks_refused, store_refused, start_without_memory, BusHasDisks}
 use Rattle.bus_world.specs.StartAnswerLaws.{Comes-leaves, start_status, start_memory, start_without_room, start_complete}
-use Rattle.bus_inputs.specs.Statuses.{unwritten_status}
+use Rattle.numbered_run.specs.Statuses.{unwritten_status}
 use Rattle.bus_inputs.specs.BusFiles.{OffersBus}
 use Rattle.bus_inputs.specs.BusFileLaws.{same_bus, told_fault, told_too_much, bus_or_fault}
 use Rattle.gateway_commands.specs.Headline.{TellsFirst, OneGatewayRun}

@@ -6,7 +6,7 @@ ghost use Rattle.std.specs.Fmt.{decimal};
 use bus_port::{MemSink, Memory};
 use numbered_run::{
     EndingText, LineText, Machine, Stop, Tally, Unwritten, count_run, print_run,
-    print_run_until_last,
+    print_run_until_last, status_of_run,
 };
 use std::alloc::Global;
 use std::test::Fail;
@@ -157,6 +157,13 @@ fn a_last_line_is_written_whole_and_ends_the_run(rt: HostRuntime) -> Result<(), 
     assert_eq!(rt; answer, Ok(()));
     assert_eq!(rt; sink.bytes(), b"1 3\n2 7\n".as_slice());
     Ok(())
+}
+
+#[test]
+fn each_end_of_a_run_has_its_status(rt: HostRuntime) {
+    assert_eq!(rt; status_of_run(Ok(())), 0);
+    assert_eq!(rt; status_of_run(Err(Unwritten::SinkFailed)), 6);
+    assert_eq!(rt; status_of_run(Err(Unwritten::Memory)), 7);
 }
 
 #[test]

@@ -3,3 +3,4 @@ pub mod DrivenLaws
 pub mod Printed
 pub mod PrintedUntil
 pub mod Counted
+pub mod Statuses

@@ -9,15 +9,18 @@
 //! - [`count_run`] counts the lines into a value, and refuses none.
 //!
 //! So whatever fails in the middle, what was done is a run of the machine over the first of the
-//! commands, and the sink has the texts of its lines, the last maybe in part.
+//! commands, and the sink has the texts of its lines, the last maybe in part. [`status_of_run`] is the
+//! status of a program that wrote them so.
 #![tactic(auto)]
 
 mod counting;
 mod last_line;
 mod machine;
 mod printing;
+mod statuses;
 
 pub use counting::{Tally, count_run};
 pub use last_line::{EndingText, Stop, print_run_until_last};
 pub use machine::{Consumer, Machine, drive};
 pub use printing::{LineText, Unwritten, print_run};
+pub use statuses::status_of_run;
