@@ -12,7 +12,7 @@ use Rattle.text_lines.specs.declared.fault.Cause.{Cause}
 use Rattle.text_lines.specs.declared.fault.Cause.TheVariants as cause
 use Rattle.text_lines.specs.declared.fault.ScriptFault.{ScriptFault}
 use Rattle.memory_update.specs.Identifier.{IsUid}
-use Rattle.secoc_words.specs.DiskForms.{torn_form}
+use Rattle.secoc_words.specs.DiskForms.{torn_form, calls_form}
 use Rattle.secoc_words.specs.Forms.{key_form, two_form, data_id_form}
 use Rattle.text_lines.specs.Forms.{bytes_form}
 use Rattle.text_lines.specs.Readings.{most_lines, nth_word, field, Gives}
@@ -31,7 +31,7 @@ use Rattle.bus_script.specs.declared.kinds.EventKind.{EventKind}
 use Rattle.bus_script.specs.declared.kinds.EventKind.TheVariants.{Send, Deliver, Inject, Load, Key, Boot, Cut, Stop, Fail}
 use Rattle.bus_script.specs.Canon.{event_kind}
 use Rattle.bus_script.specs.EventKinds.{kind_name, kind_of, kind_words, own_kinds, IsOwnKind}
-use Rattle.bus_script.specs.EventForms.{no_node, uid_at, event_uid_form, event_form, calls_form, image_form, send_of, deliver_of, inject_of, load_event_of, key_event_of, boot_of, cut_of, stop_of, fail_of, fields_of, event_among, events_among, own_events_of}
+use Rattle.bus_script.specs.EventForms.{no_node, uid_at, event_uid_form, event_form, image_form, send_of, deliver_of, inject_of, load_event_of, key_event_of, boot_of, cut_of, stop_of, fail_of, fields_of, event_among, events_among, own_events_of}
 use Rattle.bus_script.specs.ScriptEvents.{IsOwn, IsScriptEvent}
 use Rattle.bus_script.proofs.FormValues.{key_form-value, two_form-value, data_id_form-value, bytes_form-value, hex_bytes_form-value, event_uid_form-value, torn_form-value}
 

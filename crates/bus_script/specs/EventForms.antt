@@ -9,7 +9,7 @@ use Rattle.bus_machine.specs.declared.events.Event.{Event}
 use Rattle.bus_machine.specs.declared.events.Event.TheVariants as event
 use Rattle.text_lines.specs.declared.fault.Cause.{Cause}
 use Rattle.text_lines.specs.declared.fault.Cause.TheVariants as cause
-use Rattle.secoc_words.specs.DiskForms.{torn_form}
+use Rattle.secoc_words.specs.DiskForms.{torn_form, calls_form}
 use Rattle.secoc_words.specs.Forms.{key_form, two_form, data_id_form}
 use Rattle.text_lines.specs.Forms.{number_form, bytes_form, hex_bytes_form}
 use Rattle.secoc_words.specs.KeyForms.{uid_form, slot_form, counter_form, flags_form}
@@ -36,10 +36,6 @@ event_uid_form own word = if bytes_eq word (codes "-") then Some own else uid_fo
 -- EVENT: the number of an event, from 1 to 65536
 abbrev pub event_form : List ℕ → Option ℕ
 event_form word = number_form 1 65536 word
-
--- CALLS: a number of disk calls, from 1 to 1000000
-abbrev pub calls_form : List ℕ → Option ℕ
-calls_form word = number_form 1 1000000 word
 
 -- IMAGE: 1 to 65,536 bytes, two hexadecimal digits each
 abbrev pub image_form : List ℕ → Option (List ℕ)

@@ -16,9 +16,6 @@ use text_lines::{LineFault, forms};
 /// The most events that a script has.
 const MOST_EVENTS: u32 = 65_536;
 
-/// The most disk calls up to a failure.
-const MOST_CALLS: u32 = 1_000_000;
-
 /// The most bytes of an image.
 const MOST_OF_IMAGE: usize = 65_536;
 
@@ -129,7 +126,7 @@ pub fn read_stop(bus: &BusConfig, words: &Words<'_>) -> Result<Event, LineFault>
     ensures { GivesLine (stop_of bus.now.nodes words.now) result }
 {
     let node = value_at(2, bus.find(words.word(2)))?;
-    let calls = value_at(3, from_one(words.word(3), MOST_CALLS))?;
+    let calls = value_at(3, secoc_words::calls(words.word(3)))?;
     Ok(Event::Stop { node, calls })
 }
 
@@ -140,6 +137,6 @@ pub fn read_fail(bus: &BusConfig, words: &Words<'_>) -> Result<Event, LineFault>
     ensures { GivesLine (fail_of bus.now.nodes words.now) result }
 {
     let node = value_at(2, bus.find(words.word(2)))?;
-    let calls = value_at(3, from_one(words.word(3), MOST_CALLS))?;
+    let calls = value_at(3, secoc_words::calls(words.word(3)))?;
     Ok(Event::Fail { node, calls })
 }

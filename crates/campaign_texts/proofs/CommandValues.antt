@@ -13,7 +13,7 @@ use Rattle.text_lines.specs.declared.fault.Cause.TheVariants as cause
 use Rattle.text_lines.specs.declared.fault.ScriptFault.{ScriptFault}
 use Rattle.secoc_words.specs.Forms.{key_form, two_form}
 use Rattle.text_lines.specs.Readings.{most_lines, nth_word, field, Gives}
-use Rattle.secoc_words.specs.DiskForms.{torn_form}
+use Rattle.secoc_words.specs.DiskForms.{torn_form, calls_form}
 use Rattle.secoc_words.specs.KeyForms.{uid_form, unless_zero, engine_uid_form, slot_form, flags_form}
 use Rattle.text_lines.specs.Lines.{lines_of}
 use Rattle.text_lines.proofs.Numbers.{number_in_range}
@@ -30,7 +30,7 @@ use Rattle.campaign_machine.specs.Entries.{IsUnit}
 use Rattle.campaign_texts.specs.declared.kinds.CommandKind.{CommandKind}
 use Rattle.campaign_texts.specs.declared.kinds.CommandKind.TheVariants.{Issue, Confirm, Show, Cut, Stop, Fail}
 use Rattle.campaign_texts.specs.CommandKinds.{command_kind_of, command_words}
-use Rattle.campaign_texts.specs.CommandForms.{disk_calls_form, issue_of, ledger_confirm_of, show_of, ledger_cut_of, ledger_stop_of, ledger_fail_of, command_fields, ledger_command_of, campaign_of}
+use Rattle.campaign_texts.specs.CommandForms.{issue_of, ledger_confirm_of, show_of, ledger_cut_of, ledger_stop_of, ledger_fail_of, command_fields, ledger_command_of, campaign_of}
 use Rattle.campaign_texts.specs.ScriptCommands.{IsScriptCommand}
 
 -- ---- the words
@@ -111,16 +111,16 @@ ledger_cut_of-value words cmd h =
 ledger_stop_of-value : (words : List (List ℕ)) (cmd : LedgerCommand) → ledger_stop_of words ≡ Ok cmd → IsScriptCommand cmd
 unfolding ledger_stop_of
 ledger_stop_of-value words cmd h =
-    let calls = bind_ok (field 2 (disk_calls_form (nth_word words 2))) _ cmd h in
+    let calls = bind_ok (field 2 (calls_form (nth_word words 2))) _ cmd h in
     let same : command.Stop calls.0 ≡ cmd = cc calls.2 in
-    subst IsScriptCommand same (number_in_range 1 1000000 (nth_word words 2) calls.0 (field_ok 2 (disk_calls_form (nth_word words 2)) calls.0 calls.1)).0
+    subst IsScriptCommand same (number_in_range 1 1000000 (nth_word words 2) calls.0 (field_ok 2 (calls_form (nth_word words 2)) calls.0 calls.1)).0
 
 ledger_fail_of-value : (words : List (List ℕ)) (cmd : LedgerCommand) → ledger_fail_of words ≡ Ok cmd → IsScriptCommand cmd
 unfolding ledger_fail_of
 ledger_fail_of-value words cmd h =
-    let calls = bind_ok (field 2 (disk_calls_form (nth_word words 2))) _ cmd h in
+    let calls = bind_ok (field 2 (calls_form (nth_word words 2))) _ cmd h in
     let same : command.Fail calls.0 ≡ cmd = cc calls.2 in
-    subst IsScriptCommand same (number_in_range 1 1000000 (nth_word words 2) calls.0 (field_ok 2 (disk_calls_form (nth_word words 2)) calls.0 calls.1)).0
+    subst IsScriptCommand same (number_in_range 1 1000000 (nth_word words 2) calls.0 (field_ok 2 (calls_form (nth_word words 2)) calls.0 calls.1)).0
 
 fields-value : (kind : CommandKind) (words : List (List ℕ)) (cmd : LedgerCommand) → command_fields kind words ≡ Ok cmd → IsScriptCommand cmd
 fields-value Issue words cmd h = issue_of-value words cmd h

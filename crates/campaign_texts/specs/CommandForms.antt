@@ -5,18 +5,13 @@ use Rattle.campaign_machine.specs.declared.commands.LedgerCommand.{LedgerCommand
 use Rattle.campaign_machine.specs.declared.commands.LedgerCommand.TheVariants as command
 use Rattle.text_lines.specs.declared.fault.Cause.{Cause}
 use Rattle.text_lines.specs.declared.fault.Cause.TheVariants as cause
-use Rattle.secoc_words.specs.DiskForms.{torn_form}
+use Rattle.secoc_words.specs.DiskForms.{torn_form, calls_form}
 use Rattle.secoc_words.specs.Forms.{key_form, two_form}
-use Rattle.text_lines.specs.Forms.{number_form}
 use Rattle.secoc_words.specs.KeyForms.{engine_uid_form, slot_form, flags_form}
 use Rattle.text_lines.specs.Readings.{Fault, ◌>>=◌, nth_word, field, with_count, read_all, most_lines}
 use Rattle.campaign_texts.specs.declared.kinds.CommandKind.{CommandKind}
 use Rattle.campaign_texts.specs.declared.kinds.CommandKind.TheVariants.{Issue, Confirm, Show, Cut, Stop, Fail}
 use Rattle.campaign_texts.specs.CommandKinds.{command_kind_of, command_words}
-
--- a number of disk calls, from 1 to 1000000
-abbrev pub disk_calls_form : List ℕ → Option ℕ
-disk_calls_form word = number_form 1 1000000 word
 
 -- `issue UID SLOT SLOT FLAGS KEY KEY`
 unfoldable pub issue_of : List (List ℕ) → Result LedgerCommand Cause
@@ -56,13 +51,13 @@ ledger_cut_of words = do
 -- `stop CALLS`
 unfoldable pub ledger_stop_of : List (List ℕ) → Result LedgerCommand Cause
 ledger_stop_of words = do
-  calls ← field 2 (disk_calls_form (nth_word words 2))
+  calls ← field 2 (calls_form (nth_word words 2))
   Ok (command.Stop calls)
 
 -- `fail CALLS`
 unfoldable pub ledger_fail_of : List (List ℕ) → Result LedgerCommand Cause
 ledger_fail_of words = do
-  calls ← field 2 (disk_calls_form (nth_word words 2))
+  calls ← field 2 (calls_form (nth_word words 2))
   Ok (command.Fail calls)
 
 -- the command of a kind that words mean

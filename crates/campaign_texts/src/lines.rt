@@ -6,12 +6,9 @@ ghost use Rattle.campaign_texts.specs.CommandForms.{issue_of, ledger_confirm_of,
 
 use campaign_machine::{Confirm, Issue, LedgerCommand};
 use memory_update::Reply;
+use text_lines::LineFault;
 use text_lines::reader::value_at;
 use text_lines::words::Words;
-use text_lines::{LineFault, forms};
-
-/// The most disk calls up to a failure.
-const MOST_CALLS: u64 = 1_000_000;
 
 /// Reads the words of an `issue`.
 #[tactic(auto, unfolding(crate::specs::CommandForms::issue_of))]
@@ -84,8 +81,8 @@ pub fn read_stop(words: &Words<'_>) -> Result<LedgerCommand, LineFault>
     requires { length words.now ≡ 2 }
     ensures { GivesLine (ledger_stop_of words.now) result }
 {
-    let calls = value_at(2, forms::number(words.word(2), 1, MOST_CALLS))?;
-    Ok(LedgerCommand::Stop(calls))
+    let calls = value_at(2, secoc_words::calls(words.word(2)))?;
+    Ok(LedgerCommand::Stop(u64::from(calls)))
 }
 
 /// Reads the words of a `fail`.
@@ -94,6 +91,6 @@ pub fn read_fail(words: &Words<'_>) -> Result<LedgerCommand, LineFault>
     requires { length words.now ≡ 2 }
     ensures { GivesLine (ledger_fail_of words.now) result }
 {
-    let calls = value_at(2, forms::number(words.word(2), 1, MOST_CALLS))?;
-    Ok(LedgerCommand::Fail(calls))
+    let calls = value_at(2, secoc_words::calls(words.word(2)))?;
+    Ok(LedgerCommand::Fail(u64::from(calls)))
 }

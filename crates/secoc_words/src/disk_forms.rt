@@ -1,10 +1,11 @@
 //! The forms of words about disks.
 
 ghost use Rattle.std.specs.Prelude.{◌≡◌};
-ghost use Rattle.secoc_words.specs.DiskForms.{torn_form};
+ghost use Rattle.secoc_words.specs.DiskForms.{torn_form, calls_form};
 
 use cut_disk::Torn;
 use hex::FromHex;
+use text_lines::forms::number;
 
 /// What a power cut leaves of loose bytes: `keep`, `old`, `half`, or two hexadecimal digits for the byte that fills them.
 #[tactic(auto, unfolding(crate::specs::DiskForms::torn_form))]
@@ -22,4 +23,13 @@ pub fn torn(word: &[u8]) -> Option<Torn>
     }
     let [value] = <[u8; 1] as FromHex>::from_hex(word).ok()?;
     Some(Torn::Fill(value))
+}
+
+/// A number of disk calls: a number from 1 to 1,000,000.
+#[tactic(auto, using(text_lines::proofs::Numbers::number_within))]
+pub fn calls(word: &[u8]) -> Option<u32>
+    ensures { result ≡ calls_form word.now }
+{
+    let value = number(word, 1, 1_000_000)?;
+    Some(value as u32)
 }

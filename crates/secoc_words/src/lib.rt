@@ -15,7 +15,7 @@ mod received_bytes;
 pub mod texts;
 pub mod verdicts;
 
-pub use crate::disk_forms::torn;
+pub use crate::disk_forms::{calls, torn};
 pub use crate::forms::{data_id, fresh, key, pdu, received, two};
 pub use crate::frames::{FrameLine, read_frames};
 pub use crate::judges::{JudgeLine, read_judges};

@@ -557,3 +557,17 @@ fn what_a_power_cut_leaves_is_read(rt: HostRuntime) {
         assert_eq!(rt; secoc_words::torn(word), torn, "{word:?}");
     }
 }
+
+#[test]
+fn a_number_of_disk_calls_is_read(rt: HostRuntime) {
+    let words: [(&[u8], Option<u32>); 5] = [
+        (b"1", Some(1)),
+        (b"1000000", Some(1_000_000)),
+        (b"0", None),
+        (b"1000001", None),
+        (b"1x", None),
+    ];
+    for (word, calls) in words {
+        assert_eq!(rt; secoc_words::calls(word), calls, "{word:?}");
+    }
+}
