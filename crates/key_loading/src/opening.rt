@@ -41,7 +41,7 @@ pub fn open_loader<D: Disk>(alloc: Global, uid: Uid, disk: D) -> Result<Loader<D
         }
     };
     match found {
-        Some(found) => open_store(alloc, uid, disk, found),
+        Some(found) => attach_found(alloc, uid, disk, found),
         None => {
             let refusal = store_refusal(alloc, StoreFault::NotFormatted);
             Err(Unopened { disk, refusal })
@@ -50,7 +50,7 @@ pub fn open_loader<D: Disk>(alloc: Global, uid: Uid, disk: D) -> Result<Loader<D
 }
 
 /// The engine over this store, which counts on the disk.
-fn open_store<D: Disk>(
+fn attach_found<D: Disk>(
     alloc: Global,
     uid: Uid,
     disk: D,

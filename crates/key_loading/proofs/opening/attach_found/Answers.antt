@@ -1,6 +1,6 @@
 use Rattle.std.proofs.lemmas.Result.{IfOk-weaker, IfErr-weaker}
 use Rattle.key_loading.proofs.OpeningLaws.{bad_slot_found, few_found, not_attached, opens}
-use Rattle.key_loading.proofs.opening.open_store.Goals as goal
+use Rattle.key_loading.proofs.opening.attach_found.Goals as goal
 
 pub returns-then-found-lt14-clause-refused : goal.returns-then-found-lt14-clause-refused
 returns-then-found-lt14-clause-refused g c = λ counts. few_found _ c.args.found _ counts c.requires.room c.if-found-lt14.true c.fixed-refusal.ensures
