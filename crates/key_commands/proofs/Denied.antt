@@ -3,21 +3,22 @@ use Rattle.std.proofs.Common.{◌≡◌, ◌⊎◌, ℕ, List, Ok, Err, refl, su
 use Rattle.memory_update.specs.MessageLaws.{HasSlots-Carries}
 use Rattle.answer_rows.specs.Rows.{Row}
 use Rattle.key_commands.specs.declared.tasks.Task.{Task}
-use Rattle.key_commands.specs.declared.tasks.Task.TheVariants.{Make, Read, Confirm, Bootmac, Load}
+use Rattle.key_commands.specs.declared.tasks.Task.TheVariants.{Words, Load}
+use Rattle.key_commands.specs.declared.tasks.WordTask.TheVariants.{Make, Read, Confirm, Bootmac}
 use Rattle.key_commands.specs.declared.tasks.BadValue.{BadValue}
 use Rattle.key_commands.specs.Texts.{Denies, PrintsDone}
 use Rattle.key_commands.specs.Rows.{AsksFor, IsRefused, ComesOfWords, denied, done, no_memory, refused_words, wrong_value}
 use Rattle.key_commands.proofs.Named.{asks_one, asks_taken}
 
 not_both : (task : Task) (first second : List ℕ) → PrintsDone task first → Denies task second → ⊥
-not_both (Make update authkey) first second prints denies = denies
-not_both (Read request authkey) first second prints denies =
+not_both (Words (Make update authkey)) first second prints denies = denies
+not_both (Words (Read request authkey)) first second prints denies =
     elim denies [
       | inl no_slots ↦ no_slots.0 (HasSlots-Carries request authkey prints.0 prints.1)
       | inr wrong ↦ wrong.1 prints.1.padded.m3_is
     ]
-not_both (Confirm reply update) first second prints denies = denies.0 prints.0
-not_both (Bootmac key image) first second prints denies = denies
+not_both (Words (Confirm reply update)) first second prints denies = denies.0 prints.0
+not_both (Words (Bootmac key image)) first second prints denies = denies
 not_both (Load uid) first second prints denies = denies
 
 -- this status or that of want of memory

@@ -8,6 +8,7 @@ use Rattle.secoc_words.specs.KeyForms.{uid_form, engine_uid_form, slot_form, cou
 use Rattle.text_lines.specs.Readings.{◌>>=◌, nth_word}
 use Rattle.key_commands.specs.declared.tasks.Task.{Task}
 use Rattle.key_commands.specs.declared.tasks.Task.TheVariants as task
+use Rattle.key_commands.specs.declared.tasks.WordTask.TheVariants as asked
 use Rattle.key_commands.specs.declared.tasks.BadValue.{BadValue}
 use Rattle.key_commands.specs.declared.subcommands.Subcommand.{Subcommand}
 use Rattle.key_commands.specs.declared.subcommands.Subcommand.TheVariants.{Make, Read, Confirm, Bootmac, Load}
@@ -30,7 +31,8 @@ make_of values = do
   flags ← value_at 5 (flags_form (nth_word values 5))
   key ← value_at 6 (key_form (nth_word values 6))
   authkey ← value_at 7 (key_form (nth_word values 7))
-  Ok (task.Make (record { uid = uid; id = id; auth = auth; counter = counter; flags = flags; key = key }) authkey)
+  Ok (task.Words (asked.Make (record { uid = uid; id = id; auth = auth; counter = counter; flags = flags; key = key })
+      authkey))
 
 -- AUTHKEY M1 M2 M3
 unfoldable pub read_of : List (List ℕ) → Result Task BadValue
@@ -39,7 +41,7 @@ read_of values = do
   m1 ← value_at 2 (key_form (nth_word values 2))
   m2 ← value_at 3 (two_form (nth_word values 3))
   m3 ← value_at 4 (key_form (nth_word values 4))
-  Ok (task.Read (record { m1 = m1; m2 = m2; m3 = m3 }) authkey)
+  Ok (task.Words (asked.Read (record { m1 = m1; m2 = m2; m3 = m3 }) authkey))
 
 -- UID ID AUTH COUNTER NEWKEY M4 M5
 unfoldable pub confirm_of : List (List ℕ) → Result Task BadValue
@@ -51,15 +53,15 @@ confirm_of values = do
   key ← value_at 5 (key_form (nth_word values 5))
   m4 ← value_at 6 (two_form (nth_word values 6))
   m5 ← value_at 7 (key_form (nth_word values 7))
-  Ok (task.Confirm (record { m4 = m4; m5 = m5 })
-      (record { uid = uid; id = id; auth = auth; counter = counter; flags = no_flags; key = key }))
+  Ok (task.Words (asked.Confirm (record { m4 = m4; m5 = m5 })
+      (record { uid = uid; id = id; auth = auth; counter = counter; flags = no_flags; key = key })))
 
 -- the boot MAC of these two values
 unfoldable pub boot_task : Option (List ℕ) → Option (List ℕ) → Result Task BadValue
 boot_task key_value image_value = do
   key ← value_at 1 key_value
   image ← value_at 2 image_value
-  Ok (task.Bootmac key image)
+  Ok (task.Words (asked.Bootmac key image))
 
 -- KEY IMAGE, an image of 1 to 65,536 bytes
 unfoldable pub bootmac_of : List (List ℕ) → Result Task BadValue

@@ -10,7 +10,8 @@ use Rattle.secure_boot.specs.Booting.{bootmac}
 use Rattle.text_lines.specs.Texts.{line}
 use Rattle.secoc_words.specs.Written.{flags_text}
 use Rattle.key_commands.specs.declared.tasks.Task.{Task}
-use Rattle.key_commands.specs.declared.tasks.Task.TheVariants.{Make, Read, Confirm, Bootmac, Load}
+use Rattle.key_commands.specs.declared.tasks.Task.TheVariants.{Words, Load}
+use Rattle.key_commands.specs.declared.tasks.WordTask.TheVariants.{Make, Read, Confirm, Bootmac}
 
 -- the line that is printed where the words are of no form
 abbrev pub key_usage : List ℕ
@@ -51,21 +52,23 @@ update_text u = target_rows u (content_rows u)
 -- what is printed where a task is done: the request that is built, the update that is carried, the confirmation, or the
 -- boot MAC; a load has lines, and rows of its own
 abbrev pub PrintsDone : Task → List ℕ → Type 0
-PrintsDone (Make update authkey) text =
+PrintsDone (Words (Make update authkey)) text =
     (request : Request) × Builds request authkey update × (text ≡ request_text request)
-PrintsDone (Read request authkey) text =
+PrintsDone (Words (Read request authkey)) text =
     (update : Update) × Carries request authkey update × (text ≡ update_text update)
-PrintsDone (Confirm reply update) text = Confirms reply update update.uid × (text ≡ line (codes "confirmed"))
-PrintsDone (Bootmac key image) text = text ≡ mac_text (bootmac key image)
+PrintsDone (Words (Confirm reply update)) text =
+    Confirms reply update update.uid × (text ≡ line (codes "confirmed"))
+PrintsDone (Words (Bootmac key image)) text = text ≡ mac_text (bootmac key image)
 PrintsDone (Load uid) text = ⊥
 
 -- what is printed where the messages are refused: ID or AuthID is no slot's, M3 is wrong, or M4 and M5 are not the
 -- update's
 abbrev pub Denies : Task → List ℕ → Type 0
-Denies (Make update authkey) text = ⊥
-Denies (Read request authkey) text =
+Denies (Words (Make update authkey)) text = ⊥
+Denies (Words (Read request authkey)) text =
     (¬ HasSlots request.m1 × (text ≡ line (codes "BadId")))
     ⊎ (HasSlots request.m1 × (request.m3 ≢ request_mac authkey request.m1 request.m2) × (text ≡ line (codes "BadMac")))
-Denies (Confirm reply update) text = ¬ Confirms reply update update.uid × (text ≡ line (codes "not confirmed"))
-Denies (Bootmac key image) text = ⊥
+Denies (Words (Confirm reply update)) text =
+    ¬ Confirms reply update update.uid × (text ≡ line (codes "not confirmed"))
+Denies (Words (Bootmac key image)) text = ⊥
 Denies (Load uid) text = ⊥

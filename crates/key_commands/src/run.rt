@@ -1,14 +1,15 @@
 //! The key command.
 ghost use Rattle.std.specs.Prelude.{drop, map as each, string_bytes, Ok};
 ghost use Rattle.answer_rows.specs.Endings.{EndsInRow};
-ghost use Rattle.key_commands.specs.Rows.{AskedComes, IsNoLoad};
+ghost use Rattle.key_commands.specs.Rows.{AskedComes};
 ghost use Rattle.key_commands.specs.Keys.{Keys};
 ghost use Rattle.key_commands.specs.Steps.{PreparesTask};
+ghost use Rattle.key_commands.specs.declared.tasks.Task.TheVariants.{Words};
 
 use crate::parsing::parse;
 use crate::refusals::{usage_refusal, value_refusal};
 use crate::subcommands::subcommand_of;
-use crate::tasks::{Task, task_of};
+use crate::tasks::{Task, WordTask, task_of};
 use crate::work::do_task;
 use answer_rows::{Refusal, tell_refusal};
 use bus_port::{Sink, Source};
@@ -43,10 +44,8 @@ pub fn run_key<S: Source, K: Sink, D: Disk>(
         (record { before = K.state sink.old; after = K.state sink.new; status = result }) }
 {
     match prepare(alloc, behind_name(words)) {
-        Ok(task) => match &task {
-            Task::Load { uid } => load_over(alloc, *uid, request, sink, disks),
-            _ => do_job(alloc, &task, sink),
-        },
+        Ok(Task::Words(task)) => do_job(alloc, &task, sink),
+        Ok(Task::Load { uid }) => load_over(alloc, uid, request, sink, disks),
         Err(refusal) => tell_refusal(sink, &refusal),
     }
 }
@@ -67,9 +66,8 @@ fn prepare(alloc: Global, words: &[String]) -> Result<Task, Refusal>
 }
 
 /// The second phase of a task other than a load: it is done, and what it comes to is told.
-fn do_job<K: Sink>(alloc: Global, task: &Task, sink: &mut K) -> u8
-    requires { IsNoLoad task.now }
-    ensures { EndsInRow (AskedComes (Ok task.now))
+fn do_job<K: Sink>(alloc: Global, task: &WordTask, sink: &mut K) -> u8
+    ensures { EndsInRow (AskedComes (Ok (Words task.now)))
         (record { before = K.state sink.old; after = K.state sink.new; status = result }) }
 {
     match do_task(alloc, task) {

@@ -20,6 +20,15 @@ use text_lines::Memory;
 /// What a subcommand is to do.
 #[derive(Debug, Drop)]
 pub enum Task {
+    /// A task over the words alone.
+    Words(WordTask),
+    /// Load the requests of a source into the engine with this identifier.
+    Load { uid: Uid },
+}
+
+/// What is done over the words alone, without the source of requests and the disks.
+#[derive(Debug, Drop)]
+pub enum WordTask {
     /// Make the request that puts the update into an engine whose slot `auth` holds this key.
     Make { update: Update, authkey: Block },
     /// Read the update that the request carries under this key.
@@ -28,8 +37,6 @@ pub enum Task {
     Confirm { reply: Reply, update: Update },
     /// Make the boot MAC of the image under the boot MAC key.
     Bootmac { key: Block, image: Image },
-    /// Load the requests of a source into the engine with this identifier.
-    Load { uid: Uid },
 }
 
 /// The first value of a subcommand that isn't of its form, by its number, counted from 1.
@@ -75,7 +82,7 @@ fn make_of(matches: &ArgMatches<'_>) -> Result<Task, BadValue>
         flags,
         key,
     };
-    Ok(Task::Make { update, authkey })
+    Ok(Task::Words(WordTask::Make { update, authkey }))
 }
 
 #[tactic(auto, unfolding(crate::specs::Tasks::read_of))]
@@ -87,7 +94,7 @@ fn read_of(matches: &ArgMatches<'_>) -> Result<Task, BadValue>
     let m2 = value_at(3, secoc_words::two(value_of(matches, "M2")))?;
     let m3 = value_at(4, secoc_words::key(value_of(matches, "M3")))?;
     let request = Request { m1, m2, m3 };
-    Ok(Task::Read { request, authkey })
+    Ok(Task::Words(WordTask::Read { request, authkey }))
 }
 
 #[tactic(auto, unfolding(crate::specs::Tasks::confirm_of))]
@@ -116,7 +123,7 @@ fn confirm_of(matches: &ArgMatches<'_>) -> Result<Task, BadValue>
         key,
     };
     let reply = Reply { m4, m5 };
-    Ok(Task::Confirm { reply, update })
+    Ok(Task::Words(WordTask::Confirm { reply, update }))
 }
 
 #[tactic(auto, unfolding(crate::specs::Tasks::bootmac_of))]
@@ -136,7 +143,7 @@ fn boot_task(key: Option<Block>, image: Option<Image>) -> Result<Task, BadValue>
 {
     let key = value_at(1, key)?;
     let image = value_at(2, image)?;
-    Ok(Task::Bootmac { key, image })
+    Ok(Task::Words(WordTask::Bootmac { key, image }))
 }
 
 #[tactic(auto, unfolding(crate::specs::Tasks::load_task))]

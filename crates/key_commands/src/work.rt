@@ -1,11 +1,11 @@
-//! What a task comes to.
+//! What a task over the words alone comes to.
 ghost use Rattle.std.specs.Prelude.{◌≡◌, IfOk};
-ghost use Rattle.key_commands.specs.Rows.{IsNoLoad};
 ghost use Rattle.key_commands.specs.Steps.{Does};
-ghost use Rattle.key_commands.specs.declared.tasks.Task.TheVariants.{Make, Read, Confirm, Bootmac};
+ghost use Rattle.key_commands.specs.declared.tasks.Task.TheVariants.{Words};
+ghost use Rattle.key_commands.specs.declared.tasks.WordTask.TheVariants.{Make, Read, Confirm, Bootmac};
 
 use crate::image::Image;
-use crate::tasks::Task;
+use crate::tasks::WordTask;
 use crate::texts::{mac_text, request_text, update_text};
 use answer_rows::Refusal;
 use memory_update::{Reply, Request, Unseal, Update, build, is_confirmed, unseal};
@@ -13,23 +13,21 @@ use secure_boot::boot_mac;
 use she_aes::{Block, expand};
 use std::alloc::{AllocError, Global};
 
-/// Does a task other than a load: the text that is printed where it is done, or why its messages are refused.
-pub fn do_task(alloc: Global, task: &Task) -> Result<String, Refusal>
-    requires { IsNoLoad task.now }
-    ensures { Does task.now result }
+/// Does a task: the text that is printed where it is done, or why its messages are refused.
+pub fn do_task(alloc: Global, task: &WordTask) -> Result<String, Refusal>
+    ensures { Does (Words task.now) result }
 {
     match task {
-        Task::Make { update, authkey } => make(alloc, update, authkey),
-        Task::Read { request, authkey } => read(alloc, request, authkey),
-        Task::Confirm { reply, update } => confirm(alloc, reply, update),
-        Task::Bootmac { key, image } => boot(alloc, key, image),
-        Task::Load { .. } => unreachable!(),
+        WordTask::Make { update, authkey } => make(alloc, update, authkey),
+        WordTask::Read { request, authkey } => read(alloc, request, authkey),
+        WordTask::Confirm { reply, update } => confirm(alloc, reply, update),
+        WordTask::Bootmac { key, image } => boot(alloc, key, image),
     }
 }
 
 /// Makes the request.
 fn make(alloc: Global, update: &Update, authkey: &Block) -> Result<String, Refusal>
-    ensures { Does (Make update.now authkey.now) result }
+    ensures { Does (Words (Make update.now authkey.now)) result }
 {
     match request_text(alloc, &build(update, authkey)) {
         Ok(text) => Ok(text),
@@ -39,7 +37,7 @@ fn make(alloc: Global, update: &Update, authkey: &Block) -> Result<String, Refus
 
 /// Reads the request.
 fn read(alloc: Global, request: &Request, authkey: &Block) -> Result<String, Refusal>
-    ensures { Does (Read request.now authkey.now) result }
+    ensures { Does (Words (Read request.now authkey.now)) result }
 {
     match unseal(request, authkey) {
         Ok(update) => match update_text(alloc, &update) {
@@ -53,7 +51,7 @@ fn read(alloc: Global, request: &Request, authkey: &Block) -> Result<String, Ref
 
 /// Checks the reply.
 fn confirm(alloc: Global, reply: &Reply, update: &Update) -> Result<String, Refusal>
-    ensures { Does (Confirm reply.now update.now) result }
+    ensures { Does (Words (Confirm reply.now update.now)) result }
 {
     if !is_confirmed(reply, update, update.uid) {
         return Err(Refusal::fixed(1, "not confirmed\n"));
@@ -66,7 +64,7 @@ fn confirm(alloc: Global, reply: &Reply, update: &Update) -> Result<String, Refu
 
 /// Makes the boot MAC.
 fn boot(alloc: Global, key: &Block, image: &Image) -> Result<String, Refusal>
-    ensures { Does (Bootmac key.now image.now) result }
+    ensures { Does (Words (Bootmac key.now image.now)) result }
 {
     match mac_text(alloc, &boot_mac(&expand(key), image.bytes())) {
         Ok(text) => Ok(text),
