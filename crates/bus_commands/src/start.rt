@@ -13,9 +13,10 @@ use cut_disk::CutDisk;
 use named_sources::{MissingSource, Opener, WordSource, open_word};
 use std::alloc::Global;
 
-/// Runs the command that the words ask for over what they name, and gives the status that the program ends with. `-` is
-/// the input, which is handed in once for the bus file and once for the lines; where both are `-`, the bus file has it,
-/// and the lines are missing. What no word names is missing, and of words of no form nothing is opened.
+/// Runs the command that the words ask for over what they name, and gives the status that the program ends with, and
+/// the sources of the bus file and of the lines as the command left them. `-` is the input, which is handed in once for
+/// each; where both are `-`, the bus file has it, and the lines are missing. What no word names is missing, and of words
+/// of no form nothing is opened.
 pub fn bus_words<O: Opener, I: Source + Drop, K: Sink, D: CutDisk>(
     alloc: Global,
     opener: &O,
@@ -24,22 +25,26 @@ pub fn bus_words<O: Opener, I: Source + Drop, K: Sink, D: CutDisk>(
     words: &[String],
     sink: &mut K,
     disks: &mut Vec<D>,
-) -> u8
-    // All that a command promises, of these words, over the sources that they name and these disks.
+) -> (u8, WordSource<O::Opened, I>, WordSource<O::Opened, I>)
+    // All that a command promises, of these words, over the sources that they name, which are those handed back, and
+    // these disks.
     ensures { (i : BusInputs)
         × InputsAreNamed (O.opens opener.now) (I.state config_input) (I.state script_input)
         (map string_bytes words.now) i
+        × (i.config.after ≡ word_source O.Opened.state I.state result.1)
+        × (i.script.after ≡ word_source O.Opened.state I.state result.2)
         × RunsBus i
         (record {
           old = disks.old;
           new = disks.new;
           states = record { before = map D.state disks.old.items; after = map D.state disks.new.items };
         })
-        (record { before = K.state sink.old; after = K.state sink.new; status = result }) }
+        (record { before = K.state sink.old; after = K.state sink.new; status = result.0 }) }
 {
     let mut config = config_source(opener, config_input, words);
     let mut script = script_source(opener, script_input, words);
-    run(alloc, words, &mut config, &mut script, sink, disks)
+    let status = run(alloc, words, &mut config, &mut script, sink, disks);
+    (status, config, script)
 }
 
 /// What the word of the bus file names; a missing source where there is none.

@@ -14,50 +14,51 @@ use Rattle.bus_commands.specs.StartRows.{CommandDisks}
 use Rattle.bus_commands.specs.Commands.{RunsBus}
 use Rattle.bus_commands.specs.Named.{InputsAreNamed}
 use Rattle.bus_replay.specs.Blank.{AreGiven}
-use Rattle.bus_replay.specs.Running.{disk_states, made_disks, RunsGiven, RunsFile, RunsNamed, ran_in_memory, ran_over_file, wanted_disks}
+use Rattle.bus_replay.specs.Running.{disk_states, made_disks, HandedBack, RunsGiven, RunsFile, RunsNamed, ran_in_memory, ran_over_file, wanted_disks}
 use Rattle.bus_replay.proofs.Blanks.{never_9, never_10}
 use Rattle.bus_replay.proofs.Wanting.{names_node}
 
 -- what the call of the commands says, of disks of any kind
-abbrev pub RunsOver : {V : Type 0} → (List ℕ → SourceState → Type 0) → SourceState → SourceState → List (List ℕ) → CommandDisks V → Ending → Type 0
-RunsOver opens config_input script_input words d e = (i : BusInputs) × InputsAreNamed opens config_input script_input words i × RunsBus i d e
+abbrev pub RunsOver : {V : Type 0} → (List ℕ → SourceState → Type 0) → SourceState → SourceState → List (List ℕ) → CommandDisks V → HandedBack → Ending → Type 0
+RunsOver opens config_input script_input words d left e = (i : BusInputs) × InputsAreNamed opens config_input script_input words i
+    × (i.config.after ≡ left.config) × (i.script.after ≡ left.script) × RunsBus i d e
 
-module _ (opens : List ℕ → SourceState → Type 0) (config_input script_input : SourceState) (words : List (List ℕ)) (e : Ending) where
-  pub runs_given : (made left : Vec MemDisk Global) → ((name : List ℕ) → ¬ NamesDisk words name) → AreGiven words made.items
-      → RunsOver opens config_input script_input words (made_disks made left) e → RunsNamed opens config_input script_input words e
-  runs_given made left none given (i, named, runs) =
-      ran_in_memory (record { no_disk = none; inputs = i; named = named; made = made; left = left; given = given; runs = runs })
+module _ (opens : List ℕ → SourceState → Type 0) (config_input script_input : SourceState) (words : List (List ℕ)) (left : HandedBack) (e : Ending) where
+  pub runs_given : (made used : Vec MemDisk Global) → ((name : List ℕ) → ¬ NamesDisk words name) → AreGiven words made.items
+      → RunsOver opens config_input script_input words (made_disks made used) left e → RunsNamed opens config_input script_input words left e
+  runs_given made used none given (i, named, config_left, script_left, runs) =
+      ran_in_memory (record { no_disk = none; inputs = i; named = named; config_left = config_left; script_left = script_left; made = made; used = used; given = given; runs = runs })
 
   -- ---- the words of no form
 
   usage_of : {V : Type 0} (i : BusInputs) (d : CommandDisks V) → i.words ≡ words → RunsBus i d e → e.status ≡ 2 → AsksNothing words
   usage_of i d are (command, machine) two = subst (λ (w : List (List ℕ)). AsksNothing w) are (command.usage_told two).0
 
-  pub words_usage : RunsNamed opens config_input script_input words e → e.status ≡ 2 → AsksNothing words
-  words_usage (ran_in_memory ran) two = usage_of ran.inputs (made_disks ran.made ran.left) ran.named.words_are ran.runs two
+  pub words_usage : RunsNamed opens config_input script_input words left e → e.status ≡ 2 → AsksNothing words
+  words_usage (ran_in_memory ran) two = usage_of ran.inputs (made_disks ran.made ran.used) ran.named.words_are ran.runs two
   words_usage (ran_over_file ran) two = usage_of ran.inputs _ ran.named.words_are ran.runs two
   words_usage (wanted_disks wants) two = absurd (let no : ⊥ = omega (arith, wants.status_is, two) in no)
 
   usage_only_of : {V : Type 0} (i : BusInputs) (d : CommandDisks V) → i.words ≡ words → RunsBus i d e → AsksNothing words → (e.status ≡ 2) ⊎ (e.status ≡ 6)
   usage_only_of i d are (command, machine) nothing = command.usage_only (subst (λ (w : List (List ℕ)). AsksNothing w) (sym are) nothing)
 
-  pub words_usage_only : RunsNamed opens config_input script_input words e → AsksNothing words → (e.status ≡ 2) ⊎ (e.status ≡ 6)
-  words_usage_only (ran_in_memory ran) nothing = usage_only_of ran.inputs (made_disks ran.made ran.left) ran.named.words_are ran.runs nothing
+  pub words_usage_only : RunsNamed opens config_input script_input words left e → AsksNothing words → (e.status ≡ 2) ⊎ (e.status ≡ 6)
+  words_usage_only (ran_in_memory ran) nothing = usage_only_of ran.inputs (made_disks ran.made ran.used) ran.named.words_are ran.runs nothing
   words_usage_only (ran_over_file ran) nothing = usage_only_of ran.inputs _ ran.named.words_are ran.runs nothing
   words_usage_only (wanted_disks wants) nothing = absurd (nothing (World wants.asks.0) wants.asks.1)
 
   -- ---- 9 and 10
 
-  given_starts : RunsGiven opens config_input script_input words e → (e.status ≡ 9) ⊎ (e.status ≡ 10) → ⊥
+  given_starts : RunsGiven opens config_input script_input words left e → (e.status ≡ 9) ⊎ (e.status ≡ 10) → ⊥
   given_starts ran (inl nine) =
       let given = subst (λ (w : List (List ℕ)). AreGiven w ran.made.items) (sym ran.named.words_are) ran.given in
-      never_9 ran.inputs ran.made.items (disk_states ran.left.items) _ given (ran.runs.0.disks_refused nine)
+      never_9 ran.inputs ran.made.items (disk_states ran.used.items) _ given (ran.runs.0.disks_refused nine)
   given_starts ran (inr ten) =
       let given = subst (λ (w : List (List ℕ)). AreGiven w ran.made.items) (sym ran.named.words_are) ran.given in
       let none = subst (λ (w : List (List ℕ)). (name : List ℕ) → ¬ NamesDisk w name) (sym ran.named.words_are) ran.no_disk in
-      never_10 ran.inputs ran.made.items (disk_states ran.left.items) _ given none (ran.runs.0.store_refused ten)
+      never_10 ran.inputs ran.made.items (disk_states ran.used.items) _ given none (ran.runs.0.store_refused ten)
 
-  pub words_start : RunsNamed opens config_input script_input words e → (e.status ≡ 9) ⊎ (e.status ≡ 10) → Asks words (World (Replay Attach))
+  pub words_start : RunsNamed opens config_input script_input words left e → (e.status ≡ 9) ⊎ (e.status ≡ 10) → Asks words (World (Replay Attach))
   words_start (ran_in_memory ran) refused = absurd (given_starts ran refused)
   words_start (ran_over_file ran) refused = names_node words ran.disk_named.0 ran.disk_named.1
   words_start (wanted_disks wants) refused = absurd (let no : ⊥ = omega (arith, wants.status_is, refused) in no)

@@ -17,7 +17,7 @@ use Rattle.bus_commands.specs.Rows.{ComesInRun, without_disks, not_started, trie
 use Rattle.bus_commands.specs.Commands.{RunsCommand, RunsBus}
 use Rattle.bus_commands.proofs.Promises.{RunsCommand-ends}
 use Rattle.bus_commands.proofs.OneRun.{RunsMachine-command}
-use Rattle.bus_replay.specs.Running.{file_states, IsOneFile, known_disks, RunsNamed, ran_over_file}
+use Rattle.bus_replay.specs.Running.{file_states, IsOneFile, known_disks, HandedBack, RunsNamed, ran_over_file}
 use Rattle.bus_replay.proofs.Given.{RunsOver}
 
 -- ---- what is promised of disks, of what is known of them
@@ -47,18 +47,20 @@ module _ {V : Type 0} (i : BusInputs) (d : CommandDisks V) (e : Ending) (keep : 
 abbrev pub made_files : {F : Type 0} {g : Ghosts F} → Vec (FileDisk F g) Global → Vec (FileDisk F g) Global → CommandDisks (Vec (FileDisk F g) Global)
 made_files old new = record { old = old; new = new; states = record { before = file_states old.items; after = file_states new.items } }
 
-pub runs_file : {F : Type 0} {g : Ghosts F} (opens : List ℕ → SourceState → Type 0) (config_input script_input : SourceState) (words : List (List ℕ)) (e : Ending) (name : List ℕ)
-    (made left : Vec (FileDisk F g) Global) → NamesDisk words name → IsOneFile made.items → RunsOver opens config_input script_input words (made_files made left) e
-    → RunsNamed opens config_input script_input words e
-runs_file {F} {g} opens config_input script_input words e name made left names (file, fresh, one) (i, named, runs) =
+pub runs_file : {F : Type 0} {g : Ghosts F} (opens : List ℕ → SourceState → Type 0) (config_input script_input : SourceState) (words : List (List ℕ)) (left : HandedBack) (e : Ending)
+    (name : List ℕ) (made used : Vec (FileDisk F g) Global) → NamesDisk words name → IsOneFile made.items
+    → RunsOver opens config_input script_input words (made_files made used) left e → RunsNamed opens config_input script_input words left e
+runs_file {F} {g} opens config_input script_input words left e name made used names (file, fresh, one) (i, named, config_left, script_left, runs) =
     ran_over_file (record {
       disk_named = (name, names);
       inputs = i;
       named = named;
+      config_left = config_left;
+      script_left = script_left;
       file = file;
       fresh = fresh;
       before = file_states made.items;
-      after = file_states left.items;
+      after = file_states used.items;
       one = one;
-      runs = runs_known i (made_files made left) e (λ same. ap (λ (v : Vec (FileDisk F g) Global). file_states v.items) same) runs;
+      runs = runs_known i (made_files made used) e (λ same. ap (λ (v : Vec (FileDisk F g) Global). file_states v.items) same) runs;
     })

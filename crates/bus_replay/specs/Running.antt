@@ -2,6 +2,7 @@
 use Rattle.std.specs.Prelude.{◌≡◌, ℕ, List, [], ◌∷◌, map, None, Vec}
 use Rattle.std.specs.declared.alloc.Global.{Global}
 use Rattle.bus_port.specs.Source.{SourceState}
+use Rattle.named_sources.specs.NamedSources.{missing_source}
 use Rattle.cut_disk.specs.declared.mem_disk.MemDisk.{MemDisk}
 use Rattle.cut_disk.specs.State.{DiskState}
 use Rattle.cut_disk.specs.Memory.{disk_of}
@@ -17,6 +18,11 @@ use Rattle.bus_commands.specs.Commands.{RunsBus}
 use Rattle.bus_commands.specs.Named.{InputsAreNamed}
 use Rattle.bus_replay.specs.Blank.{AreGiven}
 
+-- what was known of the sources of the bus file and of the lines as they were handed back
+pub record HandedBack : Type 0 where
+  pub config : SourceState
+  pub script : SourceState
+
 -- ---- disks in memory
 
 -- what the program's disks mean
@@ -28,17 +34,19 @@ abbrev pub made_disks : Vec MemDisk Global → Vec MemDisk Global → CommandDis
 made_disks old new =
     record { old = old; new = new; states = record { before = disk_states old.items; after = disk_states new.items } }
 
--- all that a command promises was had of these words, which name no disk, over the sources that they name and the disks
--- that are made for them
+-- all that a command promises was had of these words, which name no disk, over the sources that they name, which are
+-- those handed back, and the disks that are made for them
 pub record RunsGiven (opens : List ℕ → SourceState → Type 0) (config_input script_input : SourceState)
-    (words : List (List ℕ)) (e : Ending) : Type 0 where
+    (words : List (List ℕ)) (left : HandedBack) (e : Ending) : Type 0 where
   pub no_disk : (name : List ℕ) → ¬ NamesDisk words name
   pub inputs : BusInputs
   pub named : InputsAreNamed opens config_input script_input words inputs
+  pub config_left : inputs.config.after ≡ left.config
+  pub script_left : inputs.script.after ≡ left.script
   pub made : Vec MemDisk Global
-  pub left : Vec MemDisk Global
+  pub used : Vec MemDisk Global
   pub given : AreGiven words made.items
-  pub runs : RunsBus inputs (made_disks made left) e
+  pub runs : RunsBus inputs (made_disks made used) e
 
 -- ---- the disk over a file
 
@@ -58,12 +66,15 @@ IsOneFile disks = (file : FileContents) × IsFreshFileDisk file × (file_states 
 abbrev pub known_disks : List DiskState → List DiskState → CommandDisks (List DiskState)
 known_disks before after = record { old = before; new = after; states = record { before = before; after = after } }
 
--- all that a command promises was had of `node`, over the sources that its words name and one disk over a file
+-- all that a command promises was had of `node`, over the sources that its words name, which are those handed back, and
+-- one disk over a file
 pub record RunsFile (opens : List ℕ → SourceState → Type 0) (config_input script_input : SourceState)
-    (words : List (List ℕ)) (e : Ending) : Type 0 where
+    (words : List (List ℕ)) (left : HandedBack) (e : Ending) : Type 0 where
   pub disk_named : (name : List ℕ) × NamesDisk words name
   pub inputs : BusInputs
   pub named : InputsAreNamed opens config_input script_input words inputs
+  pub config_left : inputs.config.after ≡ left.config
+  pub script_left : inputs.script.after ≡ left.script
   pub file : FileContents
   pub fresh : IsFreshFileDisk file
   pub before : List DiskState
@@ -74,15 +85,18 @@ pub record RunsFile (opens : List ℕ → SourceState → Type 0) (config_input 
 -- ---- either
 
 -- the words ask for a run over disks, for which there was no memory, and nothing was opened or written
-pub record WantsDisks (words : List (List ℕ)) (e : Ending) : Type 0 where
+pub record WantsDisks (words : List (List ℕ)) (left : HandedBack) (e : Ending) : Type 0 where
   pub asks : AsksWorld words
   pub status_is : e.status ≡ 7
   pub unwritten : e.after ≡ e.before
+  pub config_unopened : left.config ≡ missing_source 0
+  pub script_unopened : left.script ≡ missing_source 0
 
 -- what comes of the words behind the program's name
 pub data RunsNamed (opens : List ℕ → SourceState → Type 0) (config_input script_input : SourceState)
-    (words : List (List ℕ)) (e : Ending) : Type 0 where
-  ran_in_memory : RunsGiven opens config_input script_input words e
-      → RunsNamed opens config_input script_input words e
-  ran_over_file : RunsFile opens config_input script_input words e → RunsNamed opens config_input script_input words e
-  wanted_disks : WantsDisks words e → RunsNamed opens config_input script_input words e
+    (words : List (List ℕ)) (left : HandedBack) (e : Ending) : Type 0 where
+  ran_in_memory : RunsGiven opens config_input script_input words left e
+      → RunsNamed opens config_input script_input words left e
+  ran_over_file : RunsFile opens config_input script_input words left e
+      → RunsNamed opens config_input script_input words left e
+  wanted_disks : WantsDisks words left e → RunsNamed opens config_input script_input words left e

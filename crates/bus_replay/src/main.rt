@@ -11,6 +11,7 @@ ghost use Rattle.bus_commands.specs.declared.words.Command.TheVariants.{World};
 ghost use Rattle.bus_commands.specs.declared.words.WorldCommand.TheVariants.{Replay};
 ghost use Rattle.bus_commands.specs.Words.{Asks, AsksNothing, NamesDisk};
 ghost use Rattle.bus_commands.specs.Inputs.{AsksWorld};
+ghost use Rattle.named_sources.specs.NamedSources.{word_source, missing_source};
 ghost use Rattle.bus_replay.specs.Blank.{AreBlank, AreGiven};
 ghost use Rattle.bus_replay.specs.Running.{IsOneFile, RunsNamed};
 
@@ -20,29 +21,33 @@ use bus_port::{Sink, Source, StdSink, StdSource};
 use command_edge::{NO_MEMORY, behind_name, words_of};
 use cut_disk::MemDisk;
 use file_disk::{FileDisk, SystemFile};
-use named_sources::{Opener, Paths};
+use named_sources::{MissingSource, Opener, Paths, WordSource};
 use std::alloc::{AllocError, Global};
 use std::process::ExitCode;
 
 fn main(rt: HostRuntime) -> ExitCode {
     let mut sink = StdSink::new(rt.stdout());
     let status = match words_of(&rt) {
-        Ok(words) => start(
-            &rt,
-            &Paths::of(&rt),
-            StdSource::new(rt.stdin()),
-            StdSource::new(rt.stdin()),
-            words.as_slice(),
-            &mut sink,
-        ),
+        Ok(words) => {
+            let (status, _config, _script) = start(
+                &rt,
+                &Paths::of(&rt),
+                StdSource::new(rt.stdin()),
+                StdSource::new(rt.stdin()),
+                words.as_slice(),
+                &mut sink,
+            );
+            status
+        }
         Err(AllocError) => NO_MEMORY,
     };
     ExitCode::from(status)
 }
 
 /// Runs the words of the command line, the program's name first, over the sources that they name, and over the disks
-/// that are made for them. No file is opened before the words are known to ask for a command. That of a disk is opened,
-/// and made where it isn't there, before the bus file is read.
+/// that are made for them. The sources of the bus file and of the lines are handed back as the command left them. No
+/// file is opened before the words are known to ask for a command. That of a disk is opened, and made where it isn't
+/// there, before the bus file is read.
 fn start<O: Opener, I: Source + Drop, K: Sink>(
     rt: &HostRuntime,
     opener: &O,
@@ -50,16 +55,20 @@ fn start<O: Opener, I: Source + Drop, K: Sink>(
     script_input: I,
     words: &[String],
     sink: &mut K,
-) -> u8
+) -> (u8, WordSource<O::Opened, I>, WordSource<O::Opened, I>)
     ensures words { RunsNamed (O.opens opener.now) (I.state config_input) (I.state script_input)
         (drop 1 (map string_bytes words.now))
-        (record { before = K.state sink.old; after = K.state sink.new; status = result }) }
-    ensures usage { result ≡ 2 → AsksNothing (drop 1 (map string_bytes words.now)) }
-    ensures usage_only { AsksNothing (drop 1 (map string_bytes words.now)) → (result ≡ 2) ⊎ (result ≡ 6) }
+        (record {
+          config = word_source O.Opened.state I.state result.1;
+          script = word_source O.Opened.state I.state result.2;
+        })
+        (record { before = K.state sink.old; after = K.state sink.new; status = result.0 }) }
+    ensures usage { result.0 ≡ 2 → AsksNothing (drop 1 (map string_bytes words.now)) }
+    ensures usage_only { AsksNothing (drop 1 (map string_bytes words.now)) → (result.0 ≡ 2) ⊎ (result.0 ≡ 6) }
 
     // The disks that are made for a replay or a trial are enough, and don't fail as the bus starts: 9 and 10 come for
     // `node` alone.
-    ensures starts { (result ≡ 9) ⊎ (result ≡ 10)
+    ensures starts { (result.0 ≡ 9) ⊎ (result.0 ≡ 10)
         → Asks (drop 1 (map string_bytes words.now)) (World (Replay Attach)) }
 {
     run_words(
@@ -80,9 +89,13 @@ fn run_words<O: Opener, I: Source + Drop, K: Sink>(
     script_input: I,
     words: &[String],
     sink: &mut K,
-) -> u8
+) -> (u8, WordSource<O::Opened, I>, WordSource<O::Opened, I>)
     ensures { RunsNamed (O.opens opener.now) (I.state config_input) (I.state script_input) (map string_bytes words.now)
-        (record { before = K.state sink.old; after = K.state sink.new; status = result }) }
+        (record {
+          config = word_source O.Opened.state I.state result.1;
+          script = word_source O.Opened.state I.state result.2;
+        })
+        (record { before = K.state sink.old; after = K.state sink.new; status = result.0 }) }
 {
     match disk_word(words) {
         Some(path) => over_file(rt, opener, config_input, script_input, words, path, sink),
@@ -99,10 +112,14 @@ fn over_file<O: Opener, I: Source + Drop, K: Sink>(
     words: &[String],
     path: &str,
     sink: &mut K,
-) -> u8
+) -> (u8, WordSource<O::Opened, I>, WordSource<O::Opened, I>)
     requires { NamesDisk (map string_bytes words.now) path.now }
     ensures { RunsNamed (O.opens opener.now) (I.state config_input) (I.state script_input) (map string_bytes words.now)
-        (record { before = K.state sink.old; after = K.state sink.new; status = result }) }
+        (record {
+          config = word_source O.Opened.state I.state result.1;
+          script = word_source O.Opened.state I.state result.2;
+        })
+        (record { before = K.state sink.old; after = K.state sink.new; status = result.0 }) }
 {
     match file_disks(rt, path) {
         Ok(mut disks) => bus_words(
@@ -114,7 +131,7 @@ fn over_file<O: Opener, I: Source + Drop, K: Sink>(
             sink,
             &mut disks,
         ),
-        Err(AllocError) => NO_MEMORY,
+        Err(AllocError) => nothing_opened(),
     }
 }
 
@@ -135,10 +152,14 @@ fn in_memory<O: Opener, I: Source + Drop, K: Sink>(
     script_input: I,
     words: &[String],
     sink: &mut K,
-) -> u8
+) -> (u8, WordSource<O::Opened, I>, WordSource<O::Opened, I>)
     requires { (name : List ℕ) → ¬ NamesDisk (map string_bytes words.now) name }
     ensures { RunsNamed (O.opens opener.now) (I.state config_input) (I.state script_input) (map string_bytes words.now)
-        (record { before = K.state sink.old; after = K.state sink.new; status = result }) }
+        (record {
+          config = word_source O.Opened.state I.state result.1;
+          script = word_source O.Opened.state I.state result.2;
+        })
+        (record { before = K.state sink.old; after = K.state sink.new; status = result.0 }) }
 {
     match disks_of(alloc, words) {
         Ok(mut disks) => bus_words(
@@ -150,8 +171,19 @@ fn in_memory<O: Opener, I: Source + Drop, K: Sink>(
             sink,
             &mut disks,
         ),
-        Err(AllocError) => NO_MEMORY,
+        Err(AllocError) => nothing_opened(),
     }
+}
+
+/// What comes of words for whose disks there is no memory: nothing is opened, and both sources are missing.
+fn nothing_opened<S: Source + Drop, I: Source + Drop>() -> (u8, WordSource<S, I>, WordSource<S, I>)
+    ensures status { result.0 ≡ 7 }
+    ensures config { word_source S.state I.state result.1 ≡ missing_source 0 }
+    ensures script { word_source S.state I.state result.2 ≡ missing_source 0 }
+{
+    let config = WordSource::Missing(MissingSource::new());
+    let script = WordSource::Missing(MissingSource::new());
+    (NO_MEMORY, config, script)
 }
 
 /// Eight blank disks of 65,536 bytes for `replay` and `trial`, and none, without taking memory, for other words.

@@ -9,8 +9,8 @@ returns g c =
     let input = g.I.Source.state in
     let i : BusInputs = record {
       words = map string_bytes c.args.words.now;
-      config = record { before = word_source opened input c.config_source-config.result; after = word_source opened input c.run.new.config };
-      script = record { before = word_source opened input c.script_source-script.result; after = word_source opened input c.run.new.script };
+      config = record { before = word_source opened input c.config_source-config.result; after = word_source opened input c.run-status.new.config };
+      script = record { before = word_source opened input c.script_source-script.result; after = word_source opened input c.run-status.new.script };
     } in (
       i,
       record {
@@ -20,5 +20,7 @@ returns g c =
         script_named = c.script_source-script.ensures.named;
         script_missing = c.script_source-script.ensures.missing;
       },
-      (c.run.ensures.promises, c.run.ensures.replayed),
+      refl,
+      refl,
+      (c.run-status.ensures.promises, c.run-status.ensures.replayed),
     )
