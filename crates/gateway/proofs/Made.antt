@@ -41,36 +41,47 @@ where_none (Err e) P holds = holds
 
 -- ---- what runs over it
 
-module _ (opens : List ℕ → SourceState → Type 0) (bus_input script_input : SourceState) (made left : Vec MemDisk Global) (e : Ending) where
+some_cons : {A : Type 0} (x : A) (xs : List A) → x ∷ xs ≢ []
+some_cons x xs = λ same. cc
+
+module _ (opens : List ℕ → SourceState → Type 0) (bus_input script_input config_after script_after : SourceState) (made left : Vec MemDisk Global) (e : Ending) where
   -- what the call of the commands says
   abbrev pub RunsExample : Type 0
   RunsExample = (i : GatewayInputs) × IsExampleGateway i × RunsMade made left i e
 
   abbrev pub RunsNamed : List (List ℕ) → Type 0
-  RunsNamed words = (i : GatewayInputs) × SourcesAreNamed opens bus_input script_input words i × RunsMade made left i e
+  RunsNamed words = (i : GatewayInputs) × SourcesAreNamed opens bus_input script_input words i × (i.config.after ≡ config_after) × (i.script.after ≡ script_after)
+      × RunsMade made left i e
+
+  over_named : (words : List (List ℕ)) → words ≢ [] → DisksAreGiven words made.items → RunsNamed words
+      → RunsOverOne opens bus_input script_input config_after script_after words e
+  over_named words some given (i, named, config_left, script_left, runs) = record {
+    inputs = i;
+    example = λ none. absurd (some none);
+    named = λ other. named;
+    config_left = λ other. config_left;
+    script_left = λ other. script_left;
+    made = made;
+    left = left;
+    given = given;
+    runs = runs;
+  }
 
   pub runs_over_one : {A : Type 0} (f : A → List ℕ) (xs : List A) → DisksAreGiven (map f xs) made.items
-      → (length xs ≡ 0 → RunsExample) → (0 < length xs → RunsNamed (map f xs)) → RunsOverOne opens bus_input script_input (map f xs) e
+      → (length xs ≡ 0 → RunsExample) → (0 < length xs → RunsNamed (map f xs)) → RunsOverOne opens bus_input script_input config_after script_after (map f xs) e
   runs_over_one f [] given example named = let one = example refl in
       record {
         inputs = one.0;
         example = λ none. one.1;
         named = λ some. absurd (some refl);
+        config_left = λ some. absurd (some refl);
+        script_left = λ some. absurd (some refl);
         made = made;
         left = left;
         given = given;
         runs = one.2;
       }
-  runs_over_one f (x ∷ xs) given example named = let one = named (omega arith) in
-      record {
-        inputs = one.0;
-        example = λ none. absurd (let no : ⊥ = cc in no);
-        named = λ some. one.1;
-        made = made;
-        left = left;
-        given = given;
-        runs = one.2;
-      }
+  runs_over_one f (x ∷ xs) given example named = over_named (f x ∷ map f xs) (some_cons (f x) (map f xs)) given (named (omega arith))
 
 -- it is started, or wants memory
 not_nine : (i : GatewayInputs) (disks : List MemDisk) (after : List DiskState) (P : StartFault → Type 0) → (AsksSomeGateway i.words → IsOneBlank disks)
@@ -83,25 +94,22 @@ not_ten : (i : GatewayInputs) (disks : List MemDisk) (after : List DiskState) (P
 not_ten i disks after P there (bus, pairs, events, set, (left, (fault, cause, told))) =
     never_10 disks bus after fault (there (pairs, set.set.asks)) set.set.takes.one cause
 
-some_cons : {A : Type 0} (x : A) (xs : List A) → x ∷ xs ≢ []
-some_cons x xs = λ same. cc
-
-module _ (opens : List ℕ → SourceState → Type 0) (bus_input script_input : SourceState) (e : Ending) where
-  pub over_one_usage : (words : List (List ℕ)) → RunsOverOne opens bus_input script_input words e → e.status ≡ 2 → AsksNoGateway words
+module _ (opens : List ℕ → SourceState → Type 0) (bus_input script_input config_after script_after : SourceState) (e : Ending) where
+  pub over_one_usage : (words : List (List ℕ)) → RunsOverOne opens bus_input script_input config_after script_after words e → e.status ≡ 2 → AsksNoGateway words
   over_one_usage [] run two = λ pairs no. no
   over_one_usage (w ∷ ws) run two =
       subst AsksNoGateway (run.named (some_cons w ws)).words_are (run.runs.usage_told two).0
 
-  pub over_one_usage_only : (words : List (List ℕ)) → RunsOverOne opens bus_input script_input words e → words ≢ [] → AsksNoGateway words
+  pub over_one_usage_only : (words : List (List ℕ)) → RunsOverOne opens bus_input script_input config_after script_after words e → words ≢ [] → AsksNoGateway words
       → (e.status ≡ 2) ⊎ (e.status ≡ 6)
   over_one_usage_only words run some nothing = run.runs.usage_only (subst AsksNoGateway (sym (run.named some).words_are) nothing)
 
   -- the disk that was made is there where anything was read whole
-  there_is_one : (words : List (List ℕ)) → (run : RunsOverOne opens bus_input script_input words e) → AsksSomeGateway run.inputs.words → IsOneBlank run.made.items
+  there_is_one : (words : List (List ℕ)) → (run : RunsOverOne opens bus_input script_input config_after script_after words e) → AsksSomeGateway run.inputs.words → IsOneBlank run.made.items
   there_is_one [] run asks = run.given.1 refl
   there_is_one (w ∷ ws) run asks = run.given.0 (subst AsksSomeGateway (run.named (some_cons w ws)).words_are asks)
 
-  pub over_one_starts : (words : List (List ℕ)) → RunsOverOne opens bus_input script_input words e → (e.status ≢ 9) × (e.status ≢ 10)
+  pub over_one_starts : (words : List (List ℕ)) → RunsOverOne opens bus_input script_input config_after script_after words e → (e.status ≢ 9) × (e.status ≢ 10)
   over_one_starts words run = (
     λ nine. not_nine run.inputs run.made.items (states run.left.items) _ (there_is_one words run) (run.runs.disks_refused nine),
     λ ten. not_ten run.inputs run.made.items (states run.left.items) _ (there_is_one words run) (run.runs.store_refused ten),

@@ -6,6 +6,7 @@
 #![tactic(auto)]
 
 ghost use Rattle.std.specs.Prelude.{◌≡◌, ◌≢◌, ◌⊎◌, [], drop, map, string_bytes, IfOk, IfErr, IsOk};
+ghost use Rattle.named_sources.specs.NamedSources.{word_source};
 ghost use Rattle.gateway_commands.specs.Words.{AsksNoGateway};
 ghost use Rattle.gateway.specs.Given.{IsOneBlank, DisksAreGiven, AsksOrNone};
 ghost use Rattle.gateway.specs.Running.{RunsOverOne, WantsItsDisk};
@@ -14,28 +15,32 @@ use bus_port::{Sink, Source, StdSink, StdSource};
 use command_edge::{NO_MEMORY, behind_name, words_of};
 use cut_disk::MemDisk;
 use gateway_commands::{gateway_words, is_asked};
-use named_sources::{Opener, Paths};
+use named_sources::{MissingSource, Opener, Paths, WordSource};
 use std::alloc::{AllocError, Global};
 use std::process::ExitCode;
 
 fn main(rt: HostRuntime) -> ExitCode {
     let mut sink = StdSink::new(rt.stdout());
     let status = match words_of(&rt) {
-        Ok(words) => start(
-            rt.alloc(),
-            &Paths::of(&rt),
-            StdSource::new(rt.stdin()),
-            StdSource::new(rt.stdin()),
-            words.as_slice(),
-            &mut sink,
-        ),
+        Ok(words) => {
+            let (status, _config, _script) = start(
+                rt.alloc(),
+                &Paths::of(&rt),
+                StdSource::new(rt.stdin()),
+                StdSource::new(rt.stdin()),
+                words.as_slice(),
+                &mut sink,
+            );
+            status
+        }
         Err(AllocError) => NO_MEMORY,
     };
     ExitCode::from(status)
 }
 
 /// Runs a gateway over the sources that the words of the command line name, the program's name first, or the example
-/// where there is none behind it; over one blank disk. Of words of another form nothing is opened.
+/// where there is none behind it; over one blank disk. The sources of the bus file and of the script are handed back as
+/// the gateway left them. Of words of another form nothing is opened.
 fn start<O: Opener, I: Source + Drop, K: Sink>(
     alloc: Global,
     opener: &O,
@@ -43,18 +48,20 @@ fn start<O: Opener, I: Source + Drop, K: Sink>(
     script_input: I,
     words: &[String],
     sink: &mut K,
-) -> u8
+) -> (u8, WordSource<O::Opened, I>, WordSource<O::Opened, I>)
     ensures words { RunsOverOne (O.opens opener.now) (I.state bus_input) (I.state script_input)
+        (word_source O.Opened.state I.state result.1) (word_source O.Opened.state I.state result.2)
         (drop 1 (map string_bytes words.now))
-        (record { before = K.state sink.old; after = K.state sink.new; status = result })
-        ⊎ WantsItsDisk (drop 1 (map string_bytes words.now))
-        (record { before = K.state sink.old; after = K.state sink.new; status = result }) }
-    ensures usage { result ≡ 2 → AsksNoGateway (drop 1 (map string_bytes words.now)) }
+        (record { before = K.state sink.old; after = K.state sink.new; status = result.0 })
+        ⊎ WantsItsDisk (word_source O.Opened.state I.state result.1) (word_source O.Opened.state I.state result.2)
+        (drop 1 (map string_bytes words.now))
+        (record { before = K.state sink.old; after = K.state sink.new; status = result.0 }) }
+    ensures usage { result.0 ≡ 2 → AsksNoGateway (drop 1 (map string_bytes words.now)) }
     ensures usage_only { drop 1 (map string_bytes words.now) ≢ [] → AsksNoGateway (drop 1 (map string_bytes words.now))
-        → (result ≡ 2) ⊎ (result ≡ 6) }
+        → (result.0 ≡ 2) ⊎ (result.0 ≡ 6) }
 
     // The disk that it makes is enough, and doesn't fail as the gateway starts.
-    ensures starts { (result ≢ 9) × (result ≢ 10) }
+    ensures starts { (result.0 ≢ 9) × (result.0 ≢ 10) }
 {
     run_words(
         alloc,
@@ -74,18 +81,20 @@ fn run_words<O: Opener, I: Source + Drop, K: Sink>(
     script_input: I,
     words: &[String],
     sink: &mut K,
-) -> u8
-    // All that a gateway promises, of these words, over the sources that they name, or the example's, and the disk that
-    // is made for it; or there was no memory for the disk, and nothing was written.
+) -> (u8, WordSource<O::Opened, I>, WordSource<O::Opened, I>)
+    // All that a gateway promises, of these words, over the sources that they name, which are those handed back, or the
+    // example's, and the disk that is made for it; or there was no memory for the disk, and nothing was opened or written.
     ensures words { RunsOverOne (O.opens opener.now) (I.state bus_input) (I.state script_input)
+        (word_source O.Opened.state I.state result.1) (word_source O.Opened.state I.state result.2)
         (map string_bytes words.now)
-        (record { before = K.state sink.old; after = K.state sink.new; status = result })
-        ⊎ WantsItsDisk (map string_bytes words.now)
-        (record { before = K.state sink.old; after = K.state sink.new; status = result }) }
-    ensures usage { result ≡ 2 → AsksNoGateway (map string_bytes words.now) }
+        (record { before = K.state sink.old; after = K.state sink.new; status = result.0 })
+        ⊎ WantsItsDisk (word_source O.Opened.state I.state result.1) (word_source O.Opened.state I.state result.2)
+        (map string_bytes words.now)
+        (record { before = K.state sink.old; after = K.state sink.new; status = result.0 }) }
+    ensures usage { result.0 ≡ 2 → AsksNoGateway (map string_bytes words.now) }
     ensures usage_only { map string_bytes words.now ≢ [] → AsksNoGateway (map string_bytes words.now)
-        → (result ≡ 2) ⊎ (result ≡ 6) }
-    ensures starts { (result ≢ 9) × (result ≢ 10) }
+        → (result.0 ≡ 2) ⊎ (result.0 ≡ 6) }
+    ensures starts { (result.0 ≢ 9) × (result.0 ≢ 10) }
 {
     match disks_for(alloc, words) {
         Ok(mut disks) => gateway_words(
@@ -97,7 +106,15 @@ fn run_words<O: Opener, I: Source + Drop, K: Sink>(
             sink,
             &mut disks,
         ),
-        Err(AllocError) => NO_MEMORY,
+        Err(AllocError) => {
+            let config = MissingSource::new();
+            let script = MissingSource::new();
+            (
+                NO_MEMORY,
+                WordSource::Missing(config),
+                WordSource::Missing(script),
+            )
+        }
     }
 }
 

@@ -1,6 +1,8 @@
 //! The words of the command line, the program's name left out: a gateway runs over the sources that two of them name,
 //! and without a word the example.
 ghost use Rattle.std.specs.Prelude.{◌≡◌, ◌<◌, length, map, string_bytes};
+ghost use Rattle.bus_port.specs.Source.{SourceState};
+ghost use Rattle.named_sources.specs.NamedSources.{word_source};
 ghost use Rattle.gateway_commands.specs.Inputs.{GatewayInputs};
 ghost use Rattle.gateway_commands.specs.Named.{SourcesAreNamed, IsExampleGateway};
 ghost use Rattle.gateway_commands.specs.Promises.{RunsGateway};
@@ -10,13 +12,42 @@ use crate::run::run_gateway;
 use crate::words::is_asked;
 use bus_port::{Sink, Source};
 use cut_disk::CutDisk;
-use named_sources::{MissingSource, Opener, open_second, open_word};
+use named_sources::{MissingSource, Opener, WordSource, open_second, open_word};
 use std::alloc::Global;
 
+/// The sources of the bus file and of the script that the first two words name, of which nothing was read here. `-` is
+/// the input, which is handed in once for each; where both are `-`, the bus file has it, and the script is missing. For
+/// words of another form nothing is opened, and both sources are missing.
+fn open_inputs<O: Opener, I: Source + Drop>(
+    opener: &O,
+    bus_input: I,
+    script_input: I,
+    words: &[String],
+) -> (WordSource<O::Opened, I>, WordSource<O::Opened, I>)
+    // These are the sources of a gateway of these words, whatever it leaves of them.
+    ensures { (config_after script_after : SourceState)
+        → SourcesAreNamed (O.opens opener.now) (I.state bus_input) (I.state script_input) (map string_bytes words.now)
+        (record {
+          words = map string_bytes words.now;
+          config = record { before = word_source O.Opened.state I.state result.0; after = config_after };
+          script = record { before = word_source O.Opened.state I.state result.1; after = script_after };
+        }) }
+{
+    if !is_asked(words) {
+        let config = WordSource::Missing(MissingSource::new());
+        let script = WordSource::Missing(MissingSource::new());
+        return (config, script);
+    }
+    let bus = words[0].as_str();
+    let events = words[1].as_str();
+    let script = open_second(opener, script_input, bus, events);
+    let config = open_word(opener, bus_input, bus);
+    (config, script)
+}
+
 /// Runs a gateway over the bus file and the script that the first two words name, as [`run_gateway`] does, and gives
-/// the status that the program ends with; without a word it runs the example. `-` is the input, which is handed in once
-/// for each; where both are `-`, the bus file has it, and the script is missing. For words of another form nothing is
-/// opened.
+/// the status that the program ends with, and the sources of the bus file and of the script as the gateway left them;
+/// without a word it runs the example, and both sources are missing.
 pub fn gateway_words<O: Opener, I: Source + Drop, K: Sink, D: CutDisk>(
     alloc: Global,
     opener: &O,
@@ -25,31 +56,28 @@ pub fn gateway_words<O: Opener, I: Source + Drop, K: Sink, D: CutDisk>(
     words: &[String],
     sink: &mut K,
     disks: &mut Vec<D>,
-) -> u8
+) -> (u8, WordSource<O::Opened, I>, WordSource<O::Opened, I>)
     // All that a gateway promises, over the example's texts.
     ensures example { length words.now ≡ 0 → (i : GatewayInputs) × IsExampleGateway i
         × RunsGateway (disks.new ≡ disks.old) i
         (record { before = map D.state disks.old.items; after = map D.state disks.new.items })
-        (record { before = K.state sink.old; after = K.state sink.new; status = result }) }
+        (record { before = K.state sink.old; after = K.state sink.new; status = result.0 }) }
 
-    // All that a gateway promises, of these words, and over the sources that they name.
+    // All that a gateway promises, of these words, over the sources that they name, which are those handed back.
     ensures named { 0 < length words.now → (i : GatewayInputs)
         × SourcesAreNamed (O.opens opener.now) (I.state bus_input) (I.state script_input) (map string_bytes words.now) i
+        × (i.config.after ≡ word_source O.Opened.state I.state result.1)
+        × (i.script.after ≡ word_source O.Opened.state I.state result.2)
         × RunsGateway (disks.new ≡ disks.old) i
         (record { before = map D.state disks.old.items; after = map D.state disks.new.items })
-        (record { before = K.state sink.old; after = K.state sink.new; status = result }) }
+        (record { before = K.state sink.old; after = K.state sink.new; status = result.0 }) }
 {
     if words.is_empty() {
-        return run_example(alloc, sink, disks);
+        let config = WordSource::Missing(MissingSource::new());
+        let script = WordSource::Missing(MissingSource::new());
+        return (run_example(alloc, sink, disks), config, script);
     }
-    if !is_asked(words) {
-        let mut config = MissingSource::new();
-        let mut script = MissingSource::new();
-        return run_gateway(alloc, words, &mut config, &mut script, sink, disks);
-    }
-    let bus = words[0].as_str();
-    let events = words[1].as_str();
-    let mut script = open_second(opener, script_input, bus, events);
-    let mut config = open_word(opener, bus_input, bus);
-    run_gateway(alloc, words, &mut config, &mut script, sink, disks)
+    let (mut config, mut script) = open_inputs(opener, bus_input, script_input, words);
+    let status = run_gateway(alloc, words, &mut config, &mut script, sink, disks);
+    (status, config, script)
 }

@@ -1,46 +1,18 @@
-use Rattle.std.proofs.Common.{◌≡◌, ◌≤◌, refl, false, true, length, map, drop, subst, sym, ap, ◌∙◌, arith}
+use Rattle.std.proofs.Common.{map, refl}
 use Rattle.std.specs.Prelude.{string_bytes}
-use Rattle.std.proofs.lemmas.List.{length-map}
-use Rattle.named_sources.specs.NamedSources.{IsNamed, word_source, missing_source}
-use Rattle.gateway_commands.specs.Inputs.{GatewayInputs}
-use Rattle.gateway_commands.proofs.Wording.{asks_count}
-use Rattle.gateway_commands.proofs.Naming.{texts_of, are_named, none_named}
+use Rattle.named_sources.specs.NamedSources.{word_source}
 use Rattle.gateway_commands.proofs.start.gateway_words.Goals as goal
-
-pub returns-then-not-is_asked-clause-named : goal.returns-then-not-is_asked-clause-named
-returns-then-not-is_asked-clause-named g c some =
-    let i : GatewayInputs = record {
-      words = map string_bytes c.args.words.now;
-      config = record { before = missing_source c.new-config.result; after = missing_source c.run_gateway.new.config };
-      script = record { before = missing_source c.new-script.result; after = missing_source c.run_gateway.new.script };
-    } in (
-      i,
-      none_named (g.O.Opener.opens c.args.opener.now) (g.I.Source.state c.args.bus_input) (g.I.Source.state c.args.script_input) i
-          (λ asks. let same : false ≡ true = c.if-not-is_asked.ensures.1 asks in cc),
-      c.run_gateway.ensures,
-    )
 
 pub returns-clause-named : goal.returns-clause-named
 returns-clause-named g c some =
-    let opened = g.O.Opened.Source.state in
-    let input = g.I.Source.state in
-    let opens = g.O.Opener.opens c.args.opener.now in
-    let i : GatewayInputs = record {
-      words = map string_bytes c.args.words.now;
-      config = record { before = word_source opened input c.open_word-config.result; after = word_source opened input c.run_gateway-2.new.config };
-      script = record { before = word_source opened input c.open_second-script.result; after = word_source opened input c.run_gateway-2.new.script };
-    } in
-    let asked = c.if-not-is_asked.ensures.0 refl in
-    let two : 2 ≤ length c.args.words.now = omega (arith, asks_count (map string_bytes c.args.words.now) asked.0 asked.1, length-map c.args.words.now string_bytes) in
-    let words_are = texts_of string_bytes c.args.words.now c.index-words-0.result c.index-words-1.result two c.index-words-0.is c.index-words-1.is in
-    let bus_word = c.as_str-bus.ensures.value in
-    let script_word = c.as_str-events.ensures.value in (
-      i,
-      are_named opens (input c.args.bus_input) (input c.args.script_input) i (string_bytes c.index-words-0.result) (string_bytes c.index-words-1.result)
-          (map string_bytes (drop 2 c.args.words.now)) words_are
-          (subst (λ w. IsNamed opens (input c.args.bus_input) w i.config.before) bus_word c.open_word-config.ensures)
-          (λ free. subst (λ w. IsNamed opens (input c.args.script_input) w i.script.before) script_word
-          (c.open_second-script.ensures.named (λ both. free (sym bus_word ∙ both.0, sym script_word ∙ both.1))))
-          (λ both. c.open_second-script.ensures.missing (bus_word ∙ both.0, script_word ∙ both.1)),
-      c.run_gateway-2.ensures,
+    let state = word_source g.O.Opened.Source.state g.I.Source.state in (
+      record {
+        words = map string_bytes c.args.words.now;
+        config = record { before = state c.open_inputs-config.result.0; after = state c.run_gateway-status.new.config };
+        script = record { before = state c.open_inputs-config.result.1; after = state c.run_gateway-status.new.script };
+      },
+      c.open_inputs-config.ensures _ _,
+      refl,
+      refl,
+      c.run_gateway-status.ensures,
     )
