@@ -1,0 +1,9 @@
+use Rattle.std.proofs.Common.{refl}
+use Rattle.named_disks.proofs.words.open_disk.Goals as goal
+
+pub returns : goal.returns
+returns g c = record {
+  disk = g.P.Opened.Disk.state c.open.result;
+  one = rw (c.in_ok-push.ensures.items, c.in_ok-disks.ensures.items) refl;
+  opened = c.open.ensures;
+}
