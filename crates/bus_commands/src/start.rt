@@ -15,8 +15,8 @@ use std::alloc::Global;
 
 /// Runs the command that the words ask for over what they name, and gives the status that the program ends with, and
 /// the sources of the bus file and of the lines as the command left them. `-` is the input, which is handed in once for
-/// each; where both are `-`, the bus file has it, and the lines are missing. What no word names is missing, and of words
-/// of no form nothing is opened.
+/// each; where both are `-`, the bus file has it, and the lines are missing. What no word names is missing, and of
+/// words of no form nothing is opened.
 pub fn bus_words<O: Opener, I: Source + Drop, K: Sink, D: CutDisk>(
     alloc: Global,
     opener: &O,

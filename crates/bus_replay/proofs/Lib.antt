@@ -1,4 +1,4 @@
 pub mod Blanks
 pub mod Wanting
 pub mod Given
-pub mod OverFile
+pub mod OverDisk

@@ -83,7 +83,8 @@ fn run_words<O: Opener, I: Source + Drop, K: Sink>(
     sink: &mut K,
 ) -> (u8, WordSource<O::Opened, I>, WordSource<O::Opened, I>)
     // All that a gateway promises, of these words, over the sources that they name, which are those handed back, or the
-    // example's, and the disk that is made for it; or there was no memory for the disk, and nothing was opened or written.
+    // example's, and the disk that is made for it; or there was no memory for the disk, and nothing was opened or
+    // written.
     ensures words { RunsOverOne (O.opens opener.now) (I.state bus_input) (I.state script_input)
         (word_source O.Opened.state I.state result.1) (word_source O.Opened.state I.state result.2)
         (map string_bytes words.now)

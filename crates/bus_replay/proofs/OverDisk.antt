@@ -1,12 +1,11 @@
--- `node`, over the disk of its file
-use Rattle.std.specs.Prelude.{◌≡◌, ℕ, List, []}
+-- `node`, over the disk that its last word opens
+use Rattle.std.specs.Prelude.{◌≡◌, ℕ, List, map}
 use Rattle.std.proofs.Common.{ap}
 use Rattle.std.specs.Prelude.{Vec}
 use Rattle.std.specs.declared.alloc.Global.{Global}
 use Rattle.bus_port.specs.Source.{SourceState}
 use Rattle.cut_disk.specs.State.{DiskState}
-use Rattle.file_disk.specs.declared.byte_file.ByteFile.{Ghosts}
-use Rattle.file_disk.specs.declared.file_disk.FileDisk.{FileDisk}
+use Rattle.named_disks.specs.NamedDisks.{IsOpenedBy}
 use Rattle.answer_rows.specs.Rows.{Row}
 use Rattle.answer_rows.specs.Endings.{Ending}
 use Rattle.answer_rows.specs.EndingLaws.{EndsInRow-more}
@@ -17,7 +16,7 @@ use Rattle.bus_commands.specs.Rows.{ComesInRun, without_disks, not_started, trie
 use Rattle.bus_commands.specs.Commands.{RunsCommand, RunsBus}
 use Rattle.bus_commands.proofs.Promises.{RunsCommand-ends}
 use Rattle.bus_commands.proofs.OneRun.{RunsMachine-command}
-use Rattle.bus_replay.specs.Running.{file_states, IsOneFile, known_disks, HandedBack, RunsNamed, ran_over_file}
+use Rattle.bus_replay.specs.Running.{HandedBack, RunsOpened}
 use Rattle.bus_replay.proofs.Given.{RunsOver}
 
 -- ---- what is promised of disks, of what is known of them
@@ -43,24 +42,27 @@ module _ {V : Type 0} (i : BusInputs) (d : CommandDisks V) (e : Ending) (keep : 
 
 -- ---- put together
 
--- the disks that were made, and these as they were handed back
-abbrev pub made_files : {F : Type 0} {g : Ghosts F} → Vec (FileDisk F g) Global → Vec (FileDisk F g) Global → CommandDisks (Vec (FileDisk F g) Global)
-made_files old new = record { old = old; new = new; states = record { before = file_states old.items; after = file_states new.items } }
+module _ {D : Type 0} (state : D → DiskState) where
+  -- the disks that were opened, and these as they were handed back
+  abbrev pub opened_disks : Vec D Global → Vec D Global → CommandDisks (Vec D Global)
+  opened_disks old new = record { old = old; new = new; states = record { before = map state old.items; after = map state new.items } }
 
-pub runs_file : {F : Type 0} {g : Ghosts F} (opens : List ℕ → SourceState → Type 0) (config_input script_input : SourceState) (words : List (List ℕ)) (left : HandedBack) (e : Ending)
-    (name : List ℕ) (made used : Vec (FileDisk F g) Global) → NamesDisk words name → IsOneFile made.items
-    → RunsOver opens config_input script_input words (made_files made used) left e → RunsNamed opens config_input script_input words left e
-runs_file {F} {g} opens config_input script_input words left e name made used names (file, fresh, one) (i, named, config_left, script_left, runs) =
-    ran_over_file (record {
-      disk_named = (name, names);
-      inputs = i;
-      named = named;
-      config_left = config_left;
-      script_left = script_left;
-      file = file;
-      fresh = fresh;
-      before = file_states made.items;
-      after = file_states used.items;
-      one = one;
-      runs = runs_known i (made_files made used) e (λ same. ap (λ (v : Vec (FileDisk F g) Global). file_states v.items) same) runs;
-    })
+  -- what is handed back with them
+  abbrev pub back : SourceState → SourceState → Vec D Global → HandedBack
+  back config script used = record { config = config; script = script; disks = map state used.items }
+
+  pub runs_opened : (opens : List ℕ → SourceState → Type 0) (opens_disk : List ℕ → DiskState → Type 0) (config_input script_input : SourceState) (words : List (List ℕ))
+      (config script : SourceState) (e : Ending) (name : List ℕ) (made used : Vec D Global) → NamesDisk words name → IsOpenedBy opens_disk name (map state made.items)
+      → RunsOver opens config_input script_input words (opened_disks made used) (back config script used) e
+      → RunsOpened opens opens_disk config_input script_input words (back config script used) e
+  runs_opened opens opens_disk config_input script_input words config script e name made used names opened (i, named, config_left, script_left, runs) = record {
+    name = name;
+    disk_named = names;
+    inputs = i;
+    named = named;
+    config_left = config_left;
+    script_left = script_left;
+    disks = map state made.items;
+    opened = opened;
+    runs = runs_known i (opened_disks made used) e (λ same. ap (λ (v : Vec D Global). map state v.items) same) runs;
+  }
