@@ -1,8 +1,6 @@
 -- A campaign for which there is no memory before anything is read
-use Rattle.std.specs.Prelude.{◌≡◌, ℕ, List, [], ◌∷◌, drop, length}
-use Rattle.bus_port.specs.Source.{SourceState}
-use Rattle.campaign_commands.specs.Campaigns.{RunsCampaign}
-use Rattle.std.proofs.Common.{ap}
+use Rattle.std.specs.Prelude.{◌≡◌, ℕ, List, drop, length}
+use Rattle.std.proofs.Common.{ap, subst, sym}
 use Rattle.bus_port.specs.Sink.{SinkState}
 use Rattle.cut_disk.specs.State.{DiskState}
 use Rattle.command_edge.specs.declared.input.InputFault.TheVariants as input
@@ -14,7 +12,7 @@ use Rattle.campaign_commands.specs.Rows.{CampaignInputs, CampaignDisks, AreTwo, 
 use Rattle.campaign_commands.specs.Examples.{Campaigns}
 use Rattle.campaign_commands.proofs.Promises.{RunsCampaign-ends}
 
-pub wants_memory : (i : CampaignInputs) (d : CampaignDisks) (sink : SinkState) → AreTwo i.words → IsUnread i.script → d.after ≡ d.before
+wants_memory : (i : CampaignInputs) (d : CampaignDisks) (sink : SinkState) → AreTwo i.words → IsUnread i.script → d.after ≡ d.before
     → Campaigns i d (record { before = sink; after = sink; status = 7 })
 wants_memory i d sink two unread same =
     let e : Ending = record { before = sink; after = sink; status = 7 } in
@@ -22,15 +20,7 @@ wants_memory i d sink two unread same =
     in_row (EndsInRow-memory (ComesBefore (d.after ≡ d.before) i d) sink (no_commands input.Memory (two, Lacks-unread i.script unread) same)) in
     (RunsCampaign-ends (d.after ≡ d.before) i d e (ap (λ (l : List DiskState). drop 1 l) same) (ap (λ (l : List DiskState). length l) same) ends, ends)
 
--- what a campaign promises over these words, this source and this disk
-pub over_one : (i : CampaignInputs) (d : CampaignDisks) (e : Ending) (words : List (List ℕ)) (source : SourceState) (disk : DiskState)
-    → RunsCampaign (d.after ≡ d.before) i d e → EndsCampaign (d.after ≡ d.before) i d e
-    → i.words ≡ words → i.script.before ≡ source → d.before ≡ disk ∷ []
-    → (i : CampaignInputs) × (d : CampaignDisks) × (i.words ≡ words) × (i.script.before ≡ source) × (d.before ≡ disk ∷ []) × Campaigns i d e
-over_one i d e words source disk runs ends words_are source_is disk_is = (i, d, words_are, source_is, disk_is, (runs, ends))
-
--- what it promises over these words and no disk
-pub over_none : (i : CampaignInputs) (d : CampaignDisks) (e : Ending) (words : List (List ℕ))
-    → RunsCampaign (d.after ≡ d.before) i d e → EndsCampaign (d.after ≡ d.before) i d e → i.words ≡ words → d.before ≡ []
-    → (i : CampaignInputs) × (d : CampaignDisks) × (i.words ≡ words) × (d.before ≡ []) × Campaigns i d e
-over_none i d e words runs ends words_are none = (i, d, words_are, none, (runs, ends))
+pub wants_disk : (i : CampaignInputs) (d : CampaignDisks) (sink : SinkState) (status : ℕ) → AreTwo i.words → IsUnread i.script → d.after ≡ d.before → status ≡ 7
+    → Campaigns i d (record { before = sink; after = sink; status = status })
+wants_disk i d sink status two unread same seven =
+    subst (λ (s : ℕ). Campaigns i d (record { before = sink; after = sink; status = s })) (sym seven) (wants_memory i d sink two unread same)
