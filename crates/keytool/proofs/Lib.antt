@@ -1,1 +1,2 @@
 pub mod LoadAlone
+pub mod FileNamed

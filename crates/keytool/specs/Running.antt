@@ -1,9 +1,10 @@
 -- What the program runs
-use Rattle.std.specs.Prelude.{◌≡◌, ℕ, List, ◌∷◌, codes, map}
+use Rattle.std.specs.Prelude.{◌≡◌, ℕ, List, [], ◌∷◌, codes, map}
 use Rattle.bus_port.specs.Source.{SourceState}
 use Rattle.cut_disk.specs.State.{DiskState}
+use Rattle.named_disks.specs.NamedDisks.{IsOpenedBy}
 use Rattle.answer_rows.specs.Endings.{Ending}
-use Rattle.key_commands.specs.Rows.{Handed}
+use Rattle.key_commands.specs.Rows.{Handed, IsAsBefore}
 use Rattle.key_commands.specs.Keys.{Keys}
 
 -- the first of the words is `load`, and this is the next
@@ -25,3 +26,22 @@ RunsWords source disk words request disks e = Keys
       reading = record { before = source request.before; after = source request.after };
       known = record { before = map disk disks.before; after = map disk disks.after };
     }) e
+
+-- that was had over the one disk that the word behind `load` opens, and over none for other words; the disks were left
+-- as those that are handed back
+pub record RunsWithFile {S D : Type 0} (source : S → SourceState) (disk : D → DiskState)
+    (opens_disk : List ℕ → DiskState → Type 0) (words : List (List ℕ)) (request : Handed S) (left : List D)
+    (e : Ending) : Type 0 where
+  pub disks : List D
+  pub opened : (file : List ℕ) → NamesThis words file → IsOpenedBy opens_disk file (map disk disks)
+  pub none : ¬ NamesFile words → disks ≡ []
+  pub runs : RunsWords source disk words request (record { before = disks; after = left }) e
+
+-- the words name a file, and there was no memory for its disk: nothing was opened, read or written
+pub record WantsFile {S D : Type 0} (words : List (List ℕ)) (request : Handed S) (left : List D) (e : Ending)
+    : Type 0 where
+  pub names : NamesFile words
+  pub status_is : e.status ≡ 7
+  pub unwritten : e.after ≡ e.before
+  pub unread : IsAsBefore request
+  pub unopened : left ≡ []

@@ -3,60 +3,100 @@
 //! specification, secure booting).
 //!
 //! [`run_key`] is the program; its clauses say what each status means and what is printed. This file makes the objects
-//! that it works on: standard output, standard input, and for `load` a disk over the file that is named. Without words
-//! behind its name the program runs an example.
+//! that it works on: standard output, standard input, and for `load` a disk over the file that the word behind it names.
+//! Without words behind its name the program runs an example.
 #![tactic(auto)]
 
 ghost use Rattle.std.specs.Prelude.{◌≡◌, ◌⊎◌, ◌<◌, ◌≤◌, [], drop, length, map as each, string_bytes, codes};
-ghost use Rattle.std.specs.Prelude.{IfOk, IfSome, IfNone, IsOk};
+ghost use Rattle.std.specs.Prelude.{ℕ, List, IfOk, IfErr, IfSome, IfNone};
+ghost use Rattle.named_disks.specs.NamedDisks.{IsOpenedBy};
 ghost use Rattle.key_commands.specs.declared.example.TheConstants.{EXAMPLE};
 ghost use Rattle.key_commands.specs.declared.subcommands.Subcommand.TheVariants.{Load};
 ghost use Rattle.key_commands.specs.Subcommands.{NamesSubcommand};
-ghost use Rattle.keytool.specs.Running.{NamesFile, NamesThis, RunsWords};
+ghost use Rattle.keytool.specs.Running.{NamesFile, NamesThis, RunsWords, RunsWithFile, WantsFile};
 
 use bus_port::{Sink, Source, StdSink, StdSource};
 use command_edge::{NO_MEMORY, behind_name, words_of};
 use cut_disk::Disk;
-use file_disk::FileDisk;
 use key_commands::{run_example, run_key};
+use named_disks::{DiskOpener, DiskPaths, open_disk};
 use std::alloc::{AllocError, Global};
 use std::process::ExitCode;
 
 fn main(rt: HostRuntime) -> ExitCode {
     let mut sink = StdSink::new(rt.stdout());
+    let mut request = StdSource::new(rt.stdin());
     let status = match words_of(&rt) {
-        Ok(words) => run_words(&rt, words.as_slice(), &mut sink),
+        Ok(words) => {
+            let (status, _disks) = run_words(
+                rt.alloc(),
+                &DiskPaths::of(&rt),
+                words.as_slice(),
+                &mut request,
+                &mut sink,
+            );
+            status
+        }
         Err(AllocError) => NO_MEMORY,
     };
     ExitCode::from(status)
 }
 
-/// Runs the words of the command line, the program's name first, over standard input and the file that they name.
-fn run_words<K: Sink>(rt: &HostRuntime, words: &[String], sink: &mut K) -> u8
+/// Runs the words of the command line, the program's name first, or those of the example where there are none behind
+/// it; over this source of requests, and the disk that the word behind `load` opens, which is handed back.
+fn run_words<P: DiskOpener, S: Source, K: Sink>(
+    alloc: Global,
+    disk_opener: &P,
+    words: &[String],
+    request: &mut S,
+    sink: &mut K,
+) -> (u8, Vec<P::Opened>)
+    ensures words { 2 ≤ length words.now
+        → RunsWithFile S.state P.Opened.state (P.opens disk_opener.now) (drop 1 (each string_bytes words.now))
+        (record { before = request.old; after = request.new }) result.1.items
+        (record { before = K.state sink.old; after = K.state sink.new; status = result.0 })
+        ⊎ WantsFile (drop 1 (each string_bytes words.now))
+        (record { before = request.old; after = request.new }) result.1.items
+        (record { before = K.state sink.old; after = K.state sink.new; status = result.0 }) }
+
+    // The example opens no disk.
+    ensures example { length words.now < 2
+        → RunsWords S.state P.Opened.state (drop 1 (each (λ text. text.now) EXAMPLE))
+        (record { before = request.old; after = request.new })
+        (record { before = []; after = result.1.items })
+        (record { before = K.state sink.old; after = K.state sink.new; status = result.0 }) }
+
     // What comes of an input and of a store comes of `load` alone.
-    ensures { (result ≡ 4) ⊎ (result ≡ 5) ⊎ (8 ≤ result) → NamesSubcommand (drop 1 (each string_bytes words.now)) Load }
+    ensures load_alone { (result.0 ≡ 4) ⊎ (result.0 ≡ 5) ⊎ (8 ≤ result.0)
+        → NamesSubcommand (drop 1 (each string_bytes words.now)) Load }
 {
-    let mut request = StdSource::new(rt.stdin());
-    match disks_of(rt, behind_name(words)) {
-        Ok(mut disks) => start(rt.alloc(), words, &mut request, sink, &mut disks),
-        Err(AllocError) => NO_MEMORY,
+    match disks_of(alloc, disk_opener, behind_name(words)) {
+        Ok(mut disks) => {
+            let status = start(alloc, words, request, sink, &mut disks);
+            (status, disks)
+        }
+        Err(AllocError) => {
+            let unopened = Vec::new(alloc);
+            (NO_MEMORY, unopened)
+        }
     }
 }
 
-/// The one disk of `load`, over the file that the word behind it names, which is made where it isn't there; none,
-/// without taking memory, for other words. Room is asked for before a file is opened.
-fn disks_of(rt: &HostRuntime, words: &[String]) -> Result<Vec<FileDisk>, AllocError>
-    ensures one { NamesFile (each string_bytes words.now) → IfOk result (λ disks. length disks.items ≡ 1) }
+/// The one disk of `load`, which the word behind it opens; none, without taking memory, for other words. Room is asked
+/// for before a disk is opened.
+fn disks_of<P: DiskOpener>(
+    alloc: Global,
+    disk_opener: &P,
+    words: &[String],
+) -> Result<Vec<P::Opened>, AllocError>
+    ensures opened { (file : List ℕ) → NamesThis (each string_bytes words.now) file
+        → IfOk result (λ disks. IsOpenedBy (P.opens disk_opener.now) file (each P.Opened.state disks.items)) }
     ensures none { ¬ NamesFile (each string_bytes words.now) → IfOk result (λ disks. disks.items ≡ []) }
-    ensures memory { ¬ NamesFile (each string_bytes words.now) → IsOk result }
+    ensures wanted { IfErr result (λ _. NamesFile (each string_bytes words.now)) }
 {
     match file_named(words) {
-        Some(file) => {
-            let mut disks = Vec::with_capacity(rt.alloc(), 1)?;
-            disks.push(FileDisk::on(rt, file))?;
-            Ok(disks)
-        }
-        None => Ok(Vec::new(rt.alloc())),
+        Some(file) => open_disk(alloc, disk_opener, file),
+        None => Ok(Vec::new(alloc)),
     }
 }
 
