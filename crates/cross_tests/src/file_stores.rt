@@ -2,7 +2,10 @@
 ghost use Rattle.std.specs.Prelude.{◌≡◌, length, false, IfOk};
 
 use cell_store::{Cells, TwinCells};
+use cut_disk::Disk;
 use file_disk::FileDisk;
+use named_disks::{DiskOpener, DiskPaths, open_disk};
+use std::alloc::Global;
 use std::test::Fail;
 use std::{env, fs, process};
 
@@ -54,6 +57,25 @@ fn a_twin_store_outlasts_its_run_in_a_file(rt: HostRuntime) -> Result<(), Fail> 
     drop(store.release());
     let again = attached(&rt, path.as_str())?;
     assert_eq!(rt; cells_of(&again)?, [[0; 32], [0x55; 32], [0x44; 32]]);
+    assert_eq!(rt; fs::metadata(&rt, path.as_str())?.len(), 65536);
+    fs::remove_file(&rt, path.as_str())?;
+    Ok(())
+}
+
+/// The size of the one disk that the word opens.
+fn size_of_opened<P: DiskOpener>(alloc: Global, opener: &P, word: &str) -> Result<u64, Fail> {
+    let disks = open_disk(alloc, opener, word)?;
+    match disks.as_slice() {
+        [disk] => Ok(disk.size()),
+        _ => Err(Fail::from("the word opens another number of disks")),
+    }
+}
+
+#[test]
+fn a_word_opens_the_disk_over_the_file_at_its_path(rt: HostRuntime) -> Result<(), Fail> {
+    let path = new_path(&rt, "word")?;
+    let size = size_of_opened(rt.alloc(), &DiskPaths::of(&rt), path.as_str())?;
+    assert_eq!(rt; size, 65536);
     assert_eq!(rt; fs::metadata(&rt, path.as_str())?.len(), 65536);
     fs::remove_file(&rt, path.as_str())?;
     Ok(())
