@@ -3,8 +3,9 @@ use Rattle.std.specs.Prelude.{◌≡◌, ℕ, List, [], ◌∷◌, codes, map}
 use Rattle.bus_port.specs.Source.{SourceState}
 use Rattle.cut_disk.specs.State.{DiskState}
 use Rattle.named_disks.specs.NamedDisks.{IsOpenedBy}
+use Rattle.answer_rows.specs.Inputs.{Reading, IsUnread}
 use Rattle.answer_rows.specs.Endings.{Ending}
-use Rattle.key_commands.specs.Rows.{Handed, IsAsBefore}
+use Rattle.key_commands.specs.Rows.{Handed}
 use Rattle.key_commands.specs.Keys.{Keys}
 
 -- the first of the words is `load`, and this is the next
@@ -38,10 +39,9 @@ pub record RunsWithFile {S D : Type 0} (source : S → SourceState) (disk : D �
   pub runs : RunsWords source disk words request (record { before = disks; after = left }) e
 
 -- the words name a file, and there was no memory for its disk: nothing was opened, read or written
-pub record WantsFile {S D : Type 0} (words : List (List ℕ)) (request : Handed S) (left : List D) (e : Ending)
-    : Type 0 where
+pub record WantsFile (words : List (List ℕ)) (request : Reading) (left : List DiskState) (e : Ending) : Type 0 where
   pub names : NamesFile words
   pub status_is : e.status ≡ 7
   pub unwritten : e.after ≡ e.before
-  pub unread : IsAsBefore request
+  pub unread : IsUnread request
   pub unopened : left ≡ []

@@ -56,7 +56,7 @@ fn run_words<P: DiskOpener, S: Source, K: Sink>(
         (record { before = request.old; after = request.new }) result.1.items
         (record { before = K.state sink.old; after = K.state sink.new; status = result.0 })
         ⊎ WantsFile (drop 1 (each string_bytes words.now))
-        (record { before = request.old; after = request.new }) result.1.items
+        (record { before = S.state request.old; after = S.state request.new }) (each P.Opened.state result.1.items)
         (record { before = K.state sink.old; after = K.state sink.new; status = result.0 }) }
 
     // The example opens no disk.

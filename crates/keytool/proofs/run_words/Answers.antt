@@ -43,7 +43,7 @@ returns-in-Err-clause-words g c many =
       status_is = refl;
       unwritten = refl;
       unread = refl;
-      unopened = c.new-unopened.ensures.items;
+      unopened = ap (λ ds. map g.P.Opened.Disk.state ds) c.new-unopened.ensures.items;
     })
 
 pub returns-in-Err-clause-example : goal.returns-in-Err-clause-example
