@@ -8,8 +8,8 @@ use Rattle.answer_rows.specs.Endings.{Ending}
 use Rattle.campaign_commands.specs.Rows.{CampaignInputs, CampaignDisks}
 use Rattle.campaign_commands.specs.Examples.{Campaigns}
 
--- All that a campaign promises was had of two words, over the script that the first of them names, and the one disk that
--- the second opens. They were left as those that are handed back.
+-- All that a campaign promises was had of two words, over the script that the first of them names, and the one disk
+-- that the second opens. They were left as those that are handed back.
 pub record RunsTwo (opens : List ℕ → SourceState → Type 0) (opens_disk : List ℕ → DiskState → Type 0)
     (input : SourceState) (words : List (List ℕ)) (script_after : SourceState) (disks_after : List DiskState)
     (e : Ending) : Type 0 where
@@ -23,8 +23,8 @@ pub record RunsTwo (opens : List ℕ → SourceState → Type 0) (opens_disk : L
   pub disks_left : disks.after ≡ disks_after
   pub runs : Campaigns inputs disks e
 
--- There was no memory for the disk of two words: nothing was opened. All that a campaign promises was had, over a script
--- that is missing, and no disk.
+-- There was no memory for the disk of two words: nothing was opened. All that a campaign promises was had, over a
+-- script that is missing, and no disk.
 pub record WantsLedgerDisk (words : List (List ℕ)) (script_after : SourceState) (disks_after : List DiskState)
     (e : Ending) : Type 0 where
   pub status_is : e.status ≡ 7

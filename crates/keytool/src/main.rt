@@ -3,8 +3,8 @@
 //! specification, secure booting).
 //!
 //! [`run_key`] is the program; its clauses say what each status means and what is printed. This file makes the objects
-//! that it works on: standard output, standard input, and for `load` a disk over the file that the word behind it names.
-//! Without words behind its name the program runs an example.
+//! that it works on: standard output, standard input, and for `load` a disk over the file that the word behind it
+//! names. Without words behind its name the program runs an example.
 #![tactic(auto)]
 
 ghost use Rattle.std.specs.Prelude.{◌≡◌, ◌⊎◌, ◌<◌, ◌≤◌, [], drop, length, map as each, string_bytes, codes};
