@@ -62,23 +62,23 @@ module _ {V : Type 0} where
   -- ---- a bus
 
   Comes-trial : (i : BusInputs) (d : CommandDisks V) (bus : NamedBus) (events : List Event) (trial : TrialWords) → IsNamedBus bus → SetsWorld i (Trial trial) bus events
-      → (row : Row) → AnswersTrial bus events d.states row → ComesInRun i d row
-  Comes-trial i d bus events trial is set row (refused_trial _ comes) = not_started row (Trial trial, bus, events, set, (is, comes))
+      → (row : Row) → AnswersTrial (d.new ≡ d.old) bus events d.states row → ComesInRun i d row
+  Comes-trial i d bus events trial is set row (refused_trial _ comes) = not_started row (Trial trial, bus, events, set, (is, comes.0)) comes.1
   Comes-trial i d bus events trial is set row (summed summary ran) = tried summary (trial, bus, events, set, ran)
   Comes-trial i d bus events trial is set row (no_summary summary ran) = tried_without_memory summary (trial, bus, events, set, ran)
 
   ends_asked : (i : BusInputs) (d : CommandDisks V) (e : Ending) (c : WorldCommand) (bus : NamedBus) (events : List Event) → IsNamedBus bus → SetsWorld i c bus events
-      → AnswersWorld c bus events d.states e → EndsCommand i d e
+      → AnswersWorld (d.new ≡ d.old) c bus events d.states e → EndsCommand i d e
   ends_asked i d e (Replay start) bus events is set (refused_replay ends) =
-      in_row (EndsInRow-more (λ row comes. not_started row (Replay start, bus, events, set, (is, comes))) ends)
+      in_row (EndsInRow-more (λ row comes. not_started row (Replay start, bus, events, set, (is, comes.0)) comes.1) ends)
   ends_asked i d e (Replay start) bus events is set (first_done result ran) = replayed result (start, bus, events, set, ran)
   ends_asked i d e (Trial trial) bus events is set ends = in_row (EndsInRow-more (Comes-trial i d bus events trial is set) ends)
 
-  pub ends_world : (i : BusInputs) (d : CommandDisks V) (e : Ending) (job : WorldJob) → Prepares i (Ok (World job)) → AnswersWorld job.command job.bus job.events.items d.states e
+  pub ends_world : (i : BusInputs) (d : CommandDisks V) (e : Ending) (job : WorldJob) → Prepares i (Ok (World job)) → AnswersWorld (d.new ≡ d.old) job.command job.bus job.events.items d.states e
       → EndsCommand i d e
   ends_world i d e job prepared does = ends_asked i d e job.command job.bus job.events.items prepared.0.0 prepared.1 does
 
 -- where a replay is asked for
-pub does_replay : (job : WorldJob) (start : Start) (d : DiskStates) (e : Ending) → job.command ≡ Replay start → AnswersReplay start job.bus job.events.items d e
-    → AnswersWorld job.command job.bus job.events.items d e
-does_replay job start d e is does = subst (λ (c : WorldCommand). AnswersWorld c job.bus job.events.items d e) (sym is) does
+pub does_replay : (same : Type 0) (job : WorldJob) (start : Start) (d : DiskStates) (e : Ending) → job.command ≡ Replay start → AnswersReplay same start job.bus job.events.items d e
+    → AnswersWorld same job.command job.bus job.events.items d e
+does_replay same job start d e is does = subst (λ (c : WorldCommand). AnswersWorld same c job.bus job.events.items d e) (sym is) does

@@ -59,7 +59,7 @@ replay_done i d e start asks (inr (inr (summary, (trial, bus, events, set, ran),
 -- where a row comes, no event of a replay was done
 replay_row : {V : Type 0} (i : BusInputs) (d : CommandDisks V) (row : Row) (start : Start) → Asks i.words (World (Replay start)) → ComesInRun i d row → DoesNothing i d
 replay_row i d row start asks (without_disks _ comes same) = inl same
-replay_row i d row start asks (not_started _ (c, bus, events, set, comes)) = inr (c, bus, events, set, Comes-leaves (start_of c) bus d.states row comes.1)
+replay_row i d row start asks (not_started _ (c, bus, events, set, comes) nine) = inr (c, bus, events, set, Comes-leaves (start_of c) bus d.states row comes.1)
 replay_row i d row start asks (tried summary (trial, bus, events, set, ran)) = asks_no_trial i.words start trial asks set.asks
 replay_row i d row start asks (tried_without_memory summary (trial, bus, events, set, ran)) = asks_no_trial i.words start trial asks set.asks
 
@@ -97,7 +97,7 @@ trial_done i d e trial asks (inr (inr (summary, over, well))) = (summary, trial_
 -- where a row comes, no event of a trial was done, or all were
 trial_row : {V : Type 0} (i : BusInputs) (d : CommandDisks V) (row : Row) → ComesInRun i d row → DoesNothing i d ⊎ ((summary : Summary) × TrialIsRun i d.states summary)
 trial_row i d row (without_disks _ comes same) = inl (inl same)
-trial_row i d row (not_started _ (c, bus, events, set, comes)) = inl (inr (c, bus, events, set, Comes-leaves (start_of c) bus d.states row comes.1))
+trial_row i d row (not_started _ (c, bus, events, set, comes) nine) = inl (inr (c, bus, events, set, Comes-leaves (start_of c) bus d.states row comes.1))
 trial_row i d row (tried summary over) = inr (summary, trial_is_run i d.states summary over)
 trial_row i d row (tried_without_memory summary over) = inr (summary, trial_is_run i d.states summary over)
 

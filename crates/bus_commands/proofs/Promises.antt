@@ -67,17 +67,12 @@ abbrev start_in_task : Task → Start
 start_in_task (replay start bus) = start
 start_in_task task = Format
 
-high_status : (n : ℕ) → (n ≡ 0) ⊎ ((n ≡ 6) ⊎ (n ≡ 7)) → (n ≡ 0) ⊎ ((n ≡ 6) ⊎ ((n ≡ 7) ⊎ ((n ≡ 9) ⊎ (n ≡ 10))))
-high_status n (inl zero) = inl zero
-high_status n (inr (inl six)) = inr (inl six)
-high_status n (inr (inr seven)) = inr (inr (inl seven))
-
 -- ---- where it ended in a row
 
 abbrev LowStatus : ℕ → Type 0
-LowStatus n = (n ≡ 2) ⊎ ((n ≡ 3) ⊎ ((n ≡ 4) ⊎ ((n ≡ 5) ⊎ (n ≡ 8))))
+LowStatus n = (n ≡ 2) ⊎ ((n ≡ 3) ⊎ ((n ≡ 4) ⊎ ((n ≡ 5) ⊎ ((n ≡ 8) ⊎ (n ≡ 9)))))
 
-not_low : (n : ℕ) → LowStatus n → (n ≡ 0) ⊎ ((n ≡ 6) ⊎ ((n ≡ 7) ⊎ ((n ≡ 9) ⊎ (n ≡ 10)))) → ⊥
+not_low : (n : ℕ) → LowStatus n → (n ≡ 0) ⊎ ((n ≡ 6) ⊎ (n ≡ 7)) → ⊥
 not_low n low high = omega (arith, low, high)
 
 -- the status of a bus that doesn't start
@@ -88,15 +83,16 @@ start_status i d e start bus row (start_without_memory fault refused) = inr (inr
 
 row_disks : {V : Type 0} (i : BusInputs) (d : CommandDisks V) (e : Ending) (row : Row) → ComesInRun i d row → ¬ AsksWorld i.words → d.new ≡ d.old
 row_disks i d e row (without_disks _ comes same) lacks = same
-row_disks i d e row (not_started _ (c, bus, events, set, comes)) lacks = absurd (lacks (c, set.asks))
+row_disks i d e row (not_started _ (c, bus, events, set, comes) nine) lacks = absurd (lacks (c, set.asks))
 row_disks i d e row (tried summary (trial, bus, events, set, ran)) lacks = absurd (lacks (Trial trial, set.asks))
 row_disks i d e row (tried_without_memory summary (trial, bus, events, set, ran)) lacks = absurd (lacks (Trial trial, set.asks))
 
 row_unused : {V : Type 0} (i : BusInputs) (d : CommandDisks V) (e : Ending) (row : Row) → ComesInRun i d row → LowStatus row.status → d.new ≡ d.old
 row_unused i d e row (without_disks _ comes same) low = same
-row_unused i d e row (not_started _ (c, bus, events, set, comes)) low = absurd (not_low row.status low (start_status i d e (start_of c) bus row comes.1))
+row_unused i d e row (not_started _ (c, bus, events, set, comes) nine) low =
+    nine (let is : row.status ≡ 9 = omega (arith, low, start_status i d e (start_of c) bus row comes.1) in is)
 row_unused i d e row (tried summary (trial, bus, events, set, ran)) low = absurd (not_low 0 low (inl refl))
-row_unused i d e row (tried_without_memory summary (trial, bus, events, set, ran)) low = absurd (not_low 7 low (inr (inr (inl refl))))
+row_unused i d e row (tried_without_memory summary (trial, bus, events, set, ran)) low = absurd (not_low 7 low (inr (inr refl)))
 
 unused : {V : Type 0} (i : BusInputs) (d : CommandDisks V) (e : Ending) → EndsInRow (ComesInRun i d) e → LowStatus e.status → d.new ≡ d.old
 unused i d e ends low = elim ends.told [
@@ -106,7 +102,7 @@ unused i d e ends low = elim ends.told [
 
 row_leaves : {V : Type 0} (i : BusInputs) (d : CommandDisks V) (e : Ending) (row : Row) → ComesInRun i d row → LeavesDisks i d e
 row_leaves i d e row (without_disks _ comes same) = as_before same
-row_leaves i d e row (not_started _ (c, bus, events, set, comes)) = by_refused_start (c, bus, events, set, Comes-leaves (start_of c) bus d.states row comes.1)
+row_leaves i d e row (not_started _ (c, bus, events, set, comes) nine) = by_refused_start (c, bus, events, set, Comes-leaves (start_of c) bus d.states row comes.1)
 row_leaves i d e row (tried summary ran) = by_trial summary ran
 row_leaves i d e row (tried_without_memory summary ran) = by_trial summary ran
 
@@ -217,35 +213,35 @@ inputs_not i d e row (done text of) = (omega arith, λ six. omega (arith, six))
 row_2 : {V : Type 0} (i : BusInputs) (d : CommandDisks V) (e : Ending) (row : Row) → ComesInRun i d row → row.status ≡ 2 → PrintsWhole e row.text
     → AsksNothing i.words × IsUnread i.config × IsUnread i.script × PrintsWhole e usage
 row_2 i d e row (without_disks _ comes same) is well = inputs_2 i d e row comes is well
-row_2 i d e row (not_started _ (c, bus, events, set, comes)) is well = absurd (let no : ⊥ = omega (arith, start_status i d e (start_of c) bus row comes.1, is) in no)
+row_2 i d e row (not_started _ (c, bus, events, set, comes) nine) is well = absurd (let no : ⊥ = omega (arith, start_status i d e (start_of c) bus row comes.1, is) in no)
 row_2 i d e row (tried summary ran) is well = absurd (let no : ⊥ = omega (arith, is) in no)
 row_2 i d e row (tried_without_memory summary ran) is well = absurd (let no : ⊥ = omega (arith, is) in no)
 
 row_3 : {V : Type 0} (i : BusInputs) (d : CommandDisks V) (e : Ending) (row : Row) → ComesInRun i d row → row.status ≡ 3 → PrintsWhole e row.text
     → AsksOverBus i.words × IsUnread i.script × ((fault : ConfigFault) × IsConfigFault i.config fault × PrintsThe e (config_fault_text fault))
 row_3 i d e row (without_disks _ comes same) is well = inputs_3 i d e row comes is well
-row_3 i d e row (not_started _ (c, bus, events, set, comes)) is well = absurd (let no : ⊥ = omega (arith, start_status i d e (start_of c) bus row comes.1, is) in no)
+row_3 i d e row (not_started _ (c, bus, events, set, comes) nine) is well = absurd (let no : ⊥ = omega (arith, start_status i d e (start_of c) bus row comes.1, is) in no)
 row_3 i d e row (tried summary ran) is well = absurd (let no : ⊥ = omega (arith, is) in no)
 row_3 i d e row (tried_without_memory summary ran) is well = absurd (let no : ⊥ = omega (arith, is) in no)
 
 row_4 : {V : Type 0} (i : BusInputs) (d : CommandDisks V) (e : Ending) (row : Row) → ComesInRun i d row → row.status ≡ 4 → PrintsWhole e row.text
     → Over i (λ task input. (fault : Fault) × (fault_of task input ≡ Some fault) × PrintsWhole e (fault_text_of fault))
 row_4 i d e row (without_disks _ comes same) is well = inputs_4 i d e row comes is well
-row_4 i d e row (not_started _ (c, bus, events, set, comes)) is well = absurd (let no : ⊥ = omega (arith, start_status i d e (start_of c) bus row comes.1, is) in no)
+row_4 i d e row (not_started _ (c, bus, events, set, comes) nine) is well = absurd (let no : ⊥ = omega (arith, start_status i d e (start_of c) bus row comes.1, is) in no)
 row_4 i d e row (tried summary ran) is well = absurd (let no : ⊥ = omega (arith, is) in no)
 row_4 i d e row (tried_without_memory summary ran) is well = absurd (let no : ⊥ = omega (arith, is) in no)
 
 row_5 : {V : Type 0} (i : BusInputs) (d : CommandDisks V) (e : Ending) (row : Row) → ComesInRun i d row → row.status ≡ 5 → PrintsWhole e row.text
     → (NoConfig i input.ReadFault ⊎ NoScript i input.ReadFault) × PrintsWhole e (codes "read fault\n")
 row_5 i d e row (without_disks _ comes same) is well = inputs_5 i d e row comes is well
-row_5 i d e row (not_started _ (c, bus, events, set, comes)) is well = absurd (let no : ⊥ = omega (arith, start_status i d e (start_of c) bus row comes.1, is) in no)
+row_5 i d e row (not_started _ (c, bus, events, set, comes) nine) is well = absurd (let no : ⊥ = omega (arith, start_status i d e (start_of c) bus row comes.1, is) in no)
 row_5 i d e row (tried summary ran) is well = absurd (let no : ⊥ = omega (arith, is) in no)
 row_5 i d e row (tried_without_memory summary ran) is well = absurd (let no : ⊥ = omega (arith, is) in no)
 
 row_8 : {V : Type 0} (i : BusInputs) (d : CommandDisks V) (e : Ending) (row : Row) → ComesInRun i d row → row.status ≡ 8 → PrintsWhole e row.text
     → (NoConfig i input.TooLong ⊎ NoScript i input.TooLong) × PrintsWhole e (codes "input too long\n")
 row_8 i d e row (without_disks _ comes same) is well = inputs_8 i d e row comes is well
-row_8 i d e row (not_started _ (c, bus, events, set, comes)) is well = absurd (let no : ⊥ = omega (arith, start_status i d e (start_of c) bus row comes.1, is) in no)
+row_8 i d e row (not_started _ (c, bus, events, set, comes) nine) is well = absurd (let no : ⊥ = omega (arith, start_status i d e (start_of c) bus row comes.1, is) in no)
 row_8 i d e row (tried summary ran) is well = absurd (let no : ⊥ = omega (arith, is) in no)
 row_8 i d e row (tried_without_memory summary ran) is well = absurd (let no : ⊥ = omega (arith, is) in no)
 
@@ -281,35 +277,35 @@ start_7 i d e start bus row (start_without_memory fault refused) is well = (star
 row_0 : {V : Type 0} (i : BusInputs) (d : CommandDisks V) (e : Ending) (row : Row) → ComesInRun i d row → row.status ≡ 0 → PrintsWhole e row.text
     → PrintsAnswers i e ⊎ (ReplaysScript i d.states e (Ok tt) ⊎ PrintsSummary i d.states e)
 row_0 i d e row (without_disks _ comes same) is well = inl (inputs_0 i d e row comes is well)
-row_0 i d e row (not_started _ (c, bus, events, set, comes)) is well = absurd (start_not_0 i d e (start_of c) bus row comes.1 is)
+row_0 i d e row (not_started _ (c, bus, events, set, comes) nine) is well = absurd (start_not_0 i d e (start_of c) bus row comes.1 is)
 row_0 i d e row (tried summary ran) is well = inr (inr (summary, ran, well))
 row_0 i d e row (tried_without_memory summary ran) is well = absurd (let no : ⊥ = omega (arith, is) in no)
 
 row_7 : {V : Type 0} (i : BusInputs) (d : CommandDisks V) (e : Ending) (row : Row) → ComesInRun i d row → row.status ≡ 7 → PrintsWhole e row.text → ComesInRun i d memory_row × PrintsWhole e []
 row_7 i d e row (without_disks _ comes same) is well = let at = inputs_7 i d e row comes is well in (without_disks memory_row at.0 same, at.1)
-row_7 i d e row (not_started _ (c, bus, events, set, comes)) is well =
+row_7 i d e row (not_started _ (c, bus, events, set, comes) nine) is well =
     let at = start_7 i d e (start_of c) bus row comes.1 is well in
-    (not_started memory_row (c, bus, events, set, (comes.0, at.0)), at.1)
+    (not_started memory_row (c, bus, events, set, (comes.0, at.0)) (λ ninth. absurd (let no : ⊥ = omega (arith, ninth) in no)), at.1)
 row_7 i d e row (tried summary ran) is well = absurd (let no : ⊥ = omega (arith, is) in no)
 row_7 i d e row (tried_without_memory summary ran) is well = (tried_without_memory summary ran, well)
 
 row_9 : {V : Type 0} (i : BusInputs) (d : CommandDisks V) (e : Ending) (row : Row) → ComesInRun i d row → row.status ≡ 9 → PrintsWhole e row.text
     → OverWorld i (λ start bus events. IsNamedBus bus × (d.states.after ≡ d.states.before) × ((fault : StartFault) × FindsRoom bus d.states.before fault × PrintsWhole e (start_row fault).text))
 row_9 i d e row (without_disks _ comes same) is well = absurd (let no : ⊥ = omega (arith, (inputs_not i d e row comes).0, is) in no)
-row_9 i d e row (not_started _ (c, bus, events, set, comes)) is well = let at = start_9 i d e (start_of c) bus row comes.1 is well in (c, bus, events, set, (comes.0, at.0, at.1))
+row_9 i d e row (not_started _ (c, bus, events, set, comes) nine) is well = let at = start_9 i d e (start_of c) bus row comes.1 is well in (c, bus, events, set, (comes.0, at.0, at.1))
 row_9 i d e row (tried summary ran) is well = absurd (let no : ⊥ = omega (arith, is) in no)
 row_9 i d e row (tried_without_memory summary ran) is well = absurd (let no : ⊥ = omega (arith, is) in no)
 
 row_10 : {V : Type 0} (i : BusInputs) (d : CommandDisks V) (e : Ending) (row : Row) → ComesInRun i d row → row.status ≡ 10 → PrintsWhole e row.text
     → OverWorld i (λ start bus events. LeavesEach start bus d.states.before d.states.after × ((fault : StartFault) × StoreCause start bus d.states.before d.states.after fault × PrintsWhole e (start_row fault).text))
 row_10 i d e row (without_disks _ comes same) is well = absurd (let no : ⊥ = omega (arith, (inputs_not i d e row comes).0, is) in no)
-row_10 i d e row (not_started _ (c, bus, events, set, comes)) is well = (c, bus, events, set, start_10 i d e (start_of c) bus row comes.1 is well)
+row_10 i d e row (not_started _ (c, bus, events, set, comes) nine) is well = (c, bus, events, set, start_10 i d e (start_of c) bus row comes.1 is well)
 row_10 i d e row (tried summary ran) is well = absurd (let no : ⊥ = omega (arith, is) in no)
 row_10 i d e row (tried_without_memory summary ran) is well = absurd (let no : ⊥ = omega (arith, is) in no)
 
 row_not_6 : {V : Type 0} (i : BusInputs) (d : CommandDisks V) (e : Ending) (row : Row) → ComesInRun i d row → row.status ≢ 6
 row_not_6 i d e row (without_disks _ comes same) = (inputs_not i d e row comes).1
-row_not_6 i d e row (not_started _ (c, bus, events, set, comes)) = start_not_6 i d e (start_of c) bus row comes.1
+row_not_6 i d e row (not_started _ (c, bus, events, set, comes) nine) = start_not_6 i d e (start_of c) bus row comes.1
 row_not_6 i d e row (tried summary ran) = λ six. omega (arith, six)
 row_not_6 i d e row (tried_without_memory summary ran) = λ six. omega (arith, six)
 
@@ -475,7 +471,7 @@ of_replay : {V : Type 0} (i : BusInputs) (d : CommandDisks V) (e : Ending) → (
 of_replay i d e result over = record {
   ends = replayed result over;
   disks = λ lacks. absurd (lacks (Replay over.0, over.3.asks));
-  disks_unused = λ low. absurd (not_low e.status low (high_status e.status (status_of i d e result over)));
+  disks_unused = λ low. absurd (not_low e.status low (status_of i d e result over));
   leaves = by_replay result over;
   done = λ is. inr (inl (done_0 i d e result over is));
   usage_told = λ is. absurd (let no : ⊥ = omega (arith, status_of i d e result over, is) in no);

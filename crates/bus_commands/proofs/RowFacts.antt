@@ -56,7 +56,7 @@ inputs_tell i row (done text (task, set, (read, whole, is))) = inr (inr (calm_se
 module _ {V : Type 0} where
   pub row_tells : (i : BusInputs) (d : CommandDisks V) (row : Row) → ComesInRun i d row → RowTells row i.config i.script
   row_tells i d row (without_disks _ comes as_before) = inputs_tell i row comes
-  row_tells i d row (not_started _ (c, bus, events, set, comes)) = inr (inr (calm_world i c bus events set))
+  row_tells i d row (not_started _ (c, bus, events, set, comes) nine) = inr (inr (calm_world i c bus events set))
   row_tells i d row (tried summary (trial, bus, events, set, ran)) = inr (inr (calm_world i (Trial trial) bus events set))
   row_tells i d row (tried_without_memory summary (trial, bus, events, set, ran)) = inr (inr (calm_world i (Trial trial) bus events set))
 
@@ -74,7 +74,7 @@ module _ {V : Type 0} where
   -- words of no form are told
   pub row_asks : (i : BusInputs) (d : CommandDisks V) (row : Row) → ComesInRun i d row → AsksNothing i.words → row.status ≡ 2
   row_asks i d row (without_disks _ comes as_before) nothing = inputs_ask i row comes nothing
-  row_asks i d row (not_started _ (c, bus, events, set, comes)) nothing = absurd (nothing (World c) set.asks)
+  row_asks i d row (not_started _ (c, bus, events, set, comes) nine) nothing = absurd (nothing (World c) set.asks)
   row_asks i d row (tried summary (trial, bus, events, set, ran)) nothing = absurd (nothing (World (Trial trial)) set.asks)
   row_asks i d row (tried_without_memory summary (trial, bus, events, set, ran)) nothing = absurd (nothing (World (Trial trial)) set.asks)
 
@@ -100,7 +100,7 @@ module _ {V : Type 0} where
   pub row_refuses : (i : BusInputs) (d : CommandDisks V) (row : Row) (file : List ℕ) (fault : ConfigFault) → ComesInRun i d row → AsksOverBus i.words → Offers i.config file
       → bus_of file ≡ Err fault → (row.status ≡ 3) ⊎ (row.status ≡ 7)
   row_refuses i d row file fault (without_disks _ comes as_before) over offers err = inputs_refuse i row file fault comes over offers err
-  row_refuses i d row file fault (not_started _ (c, bus, events, set, comes)) over offers err = absurd (bus_or_fault i.config bus file fault set.of_bus offers err)
+  row_refuses i d row file fault (not_started _ (c, bus, events, set, comes) nine) over offers err = absurd (bus_or_fault i.config bus file fault set.of_bus offers err)
   row_refuses i d row file fault (tried summary (trial, bus, events, set, ran)) over offers err = absurd (bus_or_fault i.config bus file fault set.of_bus offers err)
   row_refuses i d row file fault (tried_without_memory summary (trial, bus, events, set, ran)) over offers err =
       absurd (bus_or_fault i.config bus file fault set.of_bus offers err)
@@ -160,7 +160,7 @@ start_offered i d row task input (Trial trial) bus events set comes offers lines
 module _ {V : Type 0} where
   pub row_offered : (i : BusInputs) (d : CommandDisks V) (row : Row) (task : Task) (input : List ℕ) → ComesInRun i d row → OffersTask i task → Offers i.script input → OfTask d.states row task input
   row_offered i d row task input (without_disks _ comes as_before) offers lines = inputs_offered i d.states row task input comes offers lines
-  row_offered i d row task input (not_started _ (c, bus, events, set, comes)) offers lines = start_offered i d.states row task input c bus events set comes.1 offers lines
+  row_offered i d row task input (not_started _ (c, bus, events, set, comes) nine) offers lines = start_offered i d.states row task input c bus events set comes.1 offers lines
   row_offered i d row task input (tried summary (trial, bus, events, set, ran)) offers lines = no_trial i.words task trial (offered_asks i task offers) set.asks
   row_offered i d row task input (tried_without_memory summary (trial, bus, events, set, ran)) offers lines =
       no_trial i.words task trial (offered_asks i task offers) set.asks
@@ -189,7 +189,7 @@ start_tried i d row (Trial drawn) over bus events set comes offers =
 module _ {V : Type 0} where
   pub row_tried : (i : BusInputs) (d : CommandDisks V) (row : Row) (bus : NamedBus) → ComesInRun i d row → OffersTrial i bus → OfTrial d.states row bus
   row_tried i d row bus (without_disks _ comes as_before) offers = inputs_tried i d.states row bus comes offers
-  row_tried i d row bus (not_started _ (c, over, events, set, comes)) offers = start_tried i d.states row c over bus events set comes.1 offers
+  row_tried i d row bus (not_started _ (c, over, events, set, comes) nine) offers = start_tried i d.states row c over bus events set comes.1 offers
   row_tried i d row bus (tried summary (trial, over, events, set, ran)) offers =
       inr (inr (refl, subst (λ (b : NamedBus). HasRoom b d.states.before) (same_bus i.config over bus set.of_bus offers.2) ran.ran.started.room))
   row_tried i d row bus (tried_without_memory summary (trial, over, events, set, ran)) offers = inl refl

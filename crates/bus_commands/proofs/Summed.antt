@@ -19,16 +19,16 @@ use Rattle.bus_commands.proofs.WholeTrial.{trial_stays}
 pub told_as : (summary : Summary) (text : List ℕ) → text ≡ summary_text summary → TellsSummary summary (row_of 0 text)
 told_as summary text is = subst (λ (t : List ℕ). TellsSummary summary (row_of 0 t)) (sym is) seven_lines
 
-of_summary : (bus : NamedBus) (events : List Event) (d : DiskStates) (summary : Summary) → DoneTrial bus events d summary → (row : Row) → TellsSummary summary row
-    → AnswersTrial bus events d row
-of_summary bus events d summary ran row seven_lines = summed summary ran
-of_summary bus events d summary ran row no_lines_told = no_summary summary ran
+of_summary : (same : Type 0) (bus : NamedBus) (events : List Event) (d : DiskStates) (summary : Summary) → DoneTrial bus events d summary → (row : Row) → TellsSummary summary row
+    → AnswersTrial same bus events d row
+of_summary same bus events d summary ran row seven_lines = summed summary ran
+of_summary same bus events d summary ran row no_lines_told = no_summary summary ran
 
-pub Comes-summed : StartsSetUp → TurnsLeaveDisks → TrialsAreRuns → (bus : NamedBus) (events : List Event) (d : DiskStates) (e : Ending) (summary : Summary)
-    → TrialTurns bus d.before d.after events summary → EndsInRow (TellsSummary summary) e → EndsInRow (AnswersTrial bus events d) e
-Comes-summed set_up leave laws bus events d e summary ran ends =
+pub Comes-summed : StartsSetUp → TurnsLeaveDisks → TrialsAreRuns → (same : Type 0) (bus : NamedBus) (events : List Event) (d : DiskStates) (e : Ending) (summary : Summary)
+    → TrialTurns bus d.before d.after events summary → EndsInRow (TellsSummary summary) e → EndsInRow (AnswersTrial same bus events d) e
+Comes-summed set_up leave laws same bus events d e summary ran ends =
     EndsInRow-more
-    (of_summary bus events d summary (record {
+    (of_summary same bus events d summary (record {
       ran = ran;
       stay = trial_stays bus d.before d.after events summary ran set_up leave;
       one_run = laws bus d.before d.after events summary ran;

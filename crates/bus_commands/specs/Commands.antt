@@ -66,10 +66,10 @@ TaskHasDisks task d = Unit {0}
 pub record RunsCommand {V : Type 0} (i : BusInputs) (d : CommandDisks V) (e : Ending) : Type 0 where
   -- A row of the table comes and is told, or a replay did its first events; what this says of each status follows.
   pub ends : EndsCommand i d e
-  -- Every disk is as before but where a replay or a trial is asked for, and where the status is 2, 3, 4, 5 or 8.
+  -- Every disk is as before but where a replay or a trial is asked for, and where the status is 2, 3, 4, 5, 8 or 9.
   pub disks : ¬ AsksWorld i.words → d.new ≡ d.old
   pub disks_unused : (e.status ≡ 2) ⊎ (e.status ≡ 3) ⊎ (e.status ≡ 4) ⊎ (e.status ≡ 5) ⊎ (e.status ≡ 8)
-      → d.new ≡ d.old
+      ⊎ (e.status ≡ 9) → d.new ≡ d.old
   pub leaves : LeavesDisks i d e
   -- 0: the inputs were read whole, and exactly what is asked of them was printed: of the lines, of a whole replay, or
   -- of a whole trial.

@@ -66,7 +66,7 @@ TriesEvents i d summary = OverTrial i (λ bus events. DoneTrial bus events d sum
 pub data ComesInRun {V : Type 0} (i : BusInputs) (d : CommandDisks V) : Row → Type 0 where
   without_disks : (row : Row) → ComesOfInputs i row → d.new ≡ d.old → ComesInRun i d row
   not_started : (row : Row) → OverWorld i (λ start bus events. IsNamedBus bus × ComesOfStart start bus d.states row)
-      → ComesInRun i d row
+      → (row.status ≡ 9 → d.new ≡ d.old) → ComesInRun i d row
   tried : (summary : Summary) → TriesEvents i d.states summary → ComesInRun i d (row_of 0 (summary_text summary))
   tried_without_memory : (summary : Summary) → TriesEvents i d.states summary → ComesInRun i d memory_row
 

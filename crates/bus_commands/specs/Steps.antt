@@ -35,7 +35,7 @@ use Rattle.bus_commands.specs.Texts.{TellsEach, TellsFrame, TellsJudgement}
 use Rattle.bus_commands.specs.Words.{Asks}
 use Rattle.bus_commands.specs.Inputs.{BusInputs, Over, SetsWorld}
 use Rattle.bus_commands.specs.Summaries.{summary_text}
-use Rattle.bus_world.specs.StartAnswers.{DiskStates, ComesOfStart}
+use Rattle.bus_world.specs.StartAnswers.{DiskStates, ComesUnstarted}
 use Rattle.bus_world.specs.declared.start.Start.{Start}
 use Rattle.bus_world.specs.declared.start.Start.TheVariants.{Format}
 use Rattle.bus_commands.specs.Rows.{ComesOfInputs, DoneTrial, DoneReplay}
@@ -147,12 +147,12 @@ pub data AnswersLines (job : LineJob) : Row → Type 0 where
   no_text : AnswersLines job memory_row
 
 -- what a trial ends in: it isn't started, or all its events are done, and its seven lines are told, or there was no
--- memory for them
-pub data AnswersTrial (bus : NamedBus) (events : List Event) (d : DiskStates) : Row → Type 0 where
-  refused_trial : (row : Row) → ComesOfStart Format bus d row → AnswersTrial bus events d row
+-- memory for them; `same` is that every disk is as before
+pub data AnswersTrial (same : Type 0) (bus : NamedBus) (events : List Event) (d : DiskStates) : Row → Type 0 where
+  refused_trial : (row : Row) → ComesUnstarted same Format bus d row → AnswersTrial same bus events d row
   summed : (summary : Summary) → DoneTrial bus events d summary
-      → AnswersTrial bus events d (row_of 0 (summary_text summary))
-  no_summary : (summary : Summary) → DoneTrial bus events d summary → AnswersTrial bus events d memory_row
+      → AnswersTrial same bus events d (row_of 0 (summary_text summary))
+  no_summary : (summary : Summary) → DoneTrial bus events d summary → AnswersTrial same bus events d memory_row
 
 -- how the text of a summary is told, or want of memory for it
 pub data TellsSummary (summary : Summary) : Row → Type 0 where
@@ -160,13 +160,13 @@ pub data TellsSummary (summary : Summary) : Row → Type 0 where
   no_lines_told : TellsSummary summary memory_row
 
 -- how a replay ends: it isn't started, or it did its first events
-pub data AnswersReplay (start : Start) (bus : NamedBus) (events : List Event) (d : DiskStates) (e : Ending)
-    : Type 0 where
-  refused_replay : EndsInRow (ComesOfStart start bus d) e → AnswersReplay start bus events d e
+pub data AnswersReplay (same : Type 0) (start : Start) (bus : NamedBus) (events : List Event) (d : DiskStates)
+    (e : Ending) : Type 0 where
+  refused_replay : EndsInRow (ComesUnstarted same start bus d) e → AnswersReplay same start bus events d e
   first_done : (result : Result (Unit {0}) Unwritten) → DoneReplay start bus events d e result
-      → AnswersReplay start bus events d e
+      → AnswersReplay same start bus events d e
 
 -- how the run of a bus ends, by what is asked of it
-abbrev pub AnswersWorld : WorldCommand → NamedBus → List Event → DiskStates → Ending → Type 0
-AnswersWorld (Replay start) bus events d e = AnswersReplay start bus events d e
-AnswersWorld (Trial trial) bus events d e = EndsInRow (AnswersTrial bus events d) e
+abbrev pub AnswersWorld : Type 0 → WorldCommand → NamedBus → List Event → DiskStates → Ending → Type 0
+AnswersWorld same (Replay start) bus events d e = AnswersReplay same start bus events d e
+AnswersWorld same (Trial trial) bus events d e = EndsInRow (AnswersTrial same bus events d) e

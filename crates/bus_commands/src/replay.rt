@@ -1,5 +1,5 @@
 //! The replay of a script over disks.
-ghost use Rattle.std.specs.Prelude.{map};
+ghost use Rattle.std.specs.Prelude.{◌≡◌, map};
 ghost use Rattle.bus_nodes.specs.Buses.{IsNamedBus};
 ghost use Rattle.bus_commands.specs.Steps.{AreEvents, AnswersReplay};
 
@@ -43,7 +43,7 @@ pub fn replay<K: Sink, D: CutDisk>(
 ) -> u8
     requires is_bus { IsNamedBus bus.now }
     requires are_events { AreEvents bus.now events.now }
-    ensures { AnswersReplay start bus.now events.now
+    ensures { AnswersReplay (disks.new ≡ disks.old) start bus.now events.now
         (record { before = map D.state disks.old.items; after = map D.state disks.new.items })
         (record { before = K.state sink.old; after = K.state sink.new; status = result }) }
 {

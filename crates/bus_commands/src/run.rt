@@ -192,7 +192,7 @@ fn do_world<K: Sink, D: CutDisk>(
     disks: &mut Vec<D>,
 ) -> u8
     requires { IsWholeWorld job.now }
-    ensures { AnswersWorld job.now.command job.now.bus job.now.events.items
+    ensures { AnswersWorld (disks.new ≡ disks.old) job.now.command job.now.bus job.now.events.items
         (record { before = map D.state disks.old.items; after = map D.state disks.new.items })
         (record { before = K.state sink.old; after = K.state sink.new; status = result }) }
 {

@@ -1,5 +1,5 @@
 //! A trial: a run of the events that a seed gives, and its summary.
-ghost use Rattle.std.specs.Prelude.{map};
+ghost use Rattle.std.specs.Prelude.{◌≡◌, map};
 ghost use Rattle.answer_rows.specs.Endings.{EndsInRow};
 ghost use Rattle.bus_nodes.specs.Buses.{IsNamedBus};
 ghost use Rattle.bus_commands.specs.Steps.{AreEvents, AnswersTrial, TellsSummary};
@@ -28,7 +28,7 @@ pub fn trial<K: Sink, D: CutDisk>(
 ) -> u8
     requires is_bus { IsNamedBus bus.now }
     requires are_events { AreEvents bus.now events.now }
-    ensures { EndsInRow (AnswersTrial bus.now events.now
+    ensures { EndsInRow (AnswersTrial (disks.new ≡ disks.old) bus.now events.now
         (record { before = map D.state disks.old.items; after = map D.state disks.new.items }))
         (record { before = K.state sink.old; after = K.state sink.new; status = result }) }
 {

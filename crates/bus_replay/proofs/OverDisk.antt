@@ -27,7 +27,7 @@ known d = record { old = d.states.before; new = d.states.after; states = d.state
 module _ {V : Type 0} (i : BusInputs) (d : CommandDisks V) (e : Ending) (keep : d.new ≡ d.old → d.states.after ≡ d.states.before) where
   row_known : (row : Row) → ComesInRun i d row → ComesInRun i (known d) row
   row_known row (without_disks _ comes same) = without_disks row comes (keep same)
-  row_known row (not_started _ over) = not_started row over
+  row_known row (not_started _ over nine) = not_started row over (λ is. keep (nine is))
   row_known row (tried summary over) = tried summary over
   row_known row (tried_without_memory summary over) = tried_without_memory summary over
 

@@ -1,6 +1,6 @@
 -- A start that is refused: which row comes, and what that says of the disks
 use Rattle.std.specs.Prelude.{◌≡◌, ◌⊎◌}
-use Rattle.std.proofs.Common.{refl, sym, subst, inl, inr, arith}
+use Rattle.std.proofs.Common.{refl, sym, ap, subst, ◌∙◌, inl, inr, arith}
 use Rattle.answer_rows.specs.Rows.{Row, row_of, memory_row}
 use Rattle.bus_nodes.specs.Buses.{NamedBus}
 use Rattle.bus_world.specs.declared.start.Start.{Start}
@@ -10,6 +10,7 @@ use Rattle.bus_world.specs.Starts.{NotStarted, HasRoom}
 use Rattle.bus_world.specs.StartRows.{start_row, IsStartRow, LeavesEach}
 use Rattle.bus_world.specs.StartRowLaws.{refused_at_10, leaves_same, start_leaves, no_room_fault, no_store_cause}
 use Rattle.bus_world.specs.StartAnswers.{DiskStates, ComesOfStart, disks_refused, store_refused, start_without_memory, BusHasDisks}
+use Rattle.bus_world.specs.StartAnswers.{ComesUnstarted}
 
 -- ---- the row
 
@@ -39,6 +40,20 @@ Comes-not_started start bus d fault row refused (inl is) =
     subst (ComesOfStart start bus d) (sym is) (row_comes start bus d fault refused)
 Comes-not_started start bus d fault row refused (inr memory) =
     subst (ComesOfStart start bus d) (sym memory) (start_without_memory fault refused)
+
+-- a row of 9 is that of its fault
+status_9 : (fault : StartFault) (row : Row) → IsStartRow fault row → row.status ≡ 9 → (start_row fault).status ≡ 9
+status_9 fault row (inl is) nine = ap (λ (r : Row). r.status) (sym is) ∙ nine
+status_9 fault row (inr memory) nine =
+    let seven : row.status ≡ 7 = ap (λ (r : Row). r.status) memory in
+    absurd (let no : ⊥ = omega (arith, seven, nine) in no)
+
+-- the same with what holds of the disks at 9
+pub Comes-unstarted : (same : Type 0) (start : Start) (bus : NamedBus) (d : DiskStates) (fault : StartFault) (row : Row)
+    → NotStarted start bus d.before d.after fault → ((start_row fault).status ≡ 9 → same) → IsStartRow fault row
+    → ComesUnstarted same start bus d row
+Comes-unstarted same start bus d fault row refused unread is =
+    (Comes-not_started start bus d fault row refused is, λ nine. unread (status_9 fault row is nine))
 
 -- what it leaves of the disks
 pub Comes-leaves : (start : Start) (bus : NamedBus) (d : DiskStates) (row : Row) → ComesOfStart start bus d row

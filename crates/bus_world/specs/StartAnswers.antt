@@ -24,6 +24,10 @@ pub data ComesOfStart (start : Start) (bus : NamedBus) (d : DiskStates) : Row �
   start_without_memory : (fault : StartFault) → NotStarted start bus d.before d.after fault
       → ComesOfStart start bus d memory_row
 
+-- one of them comes; where it is that of 9 every disk is as before, and `same` says so of the disks themselves
+abbrev pub ComesUnstarted : Type 0 → Start → NamedBus → DiskStates → Row → Type 0
+ComesUnstarted same start bus d row = ComesOfStart start bus d row × (row.status ≡ 9 → same)
+
 -- there are disks enough for the bus, of enough size, and each that it takes tells bytes such as a node is started over,
 -- and was quiet, or its count didn't rise
 abbrev pub BusHasDisks : Start → NamedBus → DiskStates → Type 0

@@ -7,6 +7,7 @@ ghost use Rattle.cell_store.specs.Store.{store_size as size_of};
 ghost use Rattle.bus_world.specs.declared.start.Start.TheVariants.{Format};
 ghost use Rattle.bus_world.specs.Starts.{cells_in, HasRoom, FindsRoom, OpenedFirst, OpensNodes, OpensTo, NotStarted};
 ghost use Rattle.bus_world.specs.Starts.{fault_of_node as fault_numbered};
+ghost use Rattle.bus_world.specs.StartRows.{start_row};
 
 use crate::opening::{OpenFault, close_nodes, open_node, put_first};
 use crate::world::World;
@@ -116,6 +117,7 @@ pub fn open_nodes<D: CutDisk>(
     ensures room { OnOk result (vec_len disks.new + length bus.now.nodes ≤ vec_capacity disks.new) }
     ensures refused { IfErr result (NotStarted Format bus.now (map D.state disks.old.items)
         (map D.state disks.new.items)) }
+    ensures unread { IfErr result (λ fault. (start_row fault).status ≡ 9 → disks.new ≡ disks.old) }
 {
     match find_room(bus, disks.as_slice()) {
         Ok(()) => open_in_room(alloc, bus, disks, Start::Format),

@@ -12,7 +12,7 @@ use Rattle.gateway_commands.specs.Steps.{DoesGateway, refused_start, first_done}
 
 -- a job that was done
 pub ends_job : (same : Type 0) (i : GatewayInputs) (d : DiskStates) (e : Ending) (bus : NamedBus) (pairs : List (ℕ × ℕ)) (events : List Event)
-    → SetsGateway i bus pairs events → DoesGateway bus pairs events d e → EndsGateway same i d e
+    → SetsGateway i bus pairs events → DoesGateway same bus pairs events d e → EndsGateway same i d e
 ends_job same i d e bus pairs events set (refused_start ends) =
-    in_row (EndsInRow-more (λ row start. not_started row (bus, pairs, events, set, start)) ends)
+    in_row (EndsInRow-more (λ row start. not_started row (bus, pairs, events, set, start.0) start.1) ends)
 ends_job same i d e bus pairs events set (first_done result done) = ran result (bus, pairs, events, set, done)

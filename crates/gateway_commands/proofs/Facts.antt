@@ -60,7 +60,7 @@ inputs_tell i row (script_refused fault f) = inr (inr (set_calm i f.bus f.pairs 
 
 pub row_tells : (same : Type 0) (i : GatewayInputs) (d : DiskStates) (row : Row) → RowOfGateway same i d row → RowTells row i.config i.script
 row_tells same i d row (without_disks _ comes as_before) = inputs_tell i row comes
-row_tells same i d row (not_started _ (bus, pairs, events, set, start)) = inr (inr (calm_gateway i bus pairs events set))
+row_tells same i d row (not_started _ (bus, pairs, events, set, start) nine) = inr (inr (calm_gateway i bus pairs events set))
 
 -- ---- words of another form
 
@@ -73,7 +73,7 @@ inputs_ask i row (script_refused fault f) nothing = absurd (nothing f.pairs f.se
 
 pub row_asks : (same : Type 0) (i : GatewayInputs) (d : DiskStates) (row : Row) → RowOfGateway same i d row → AsksNoGateway i.words → row.status ≡ 2
 row_asks same i d row (without_disks _ comes as_before) nothing = inputs_ask i row comes nothing
-row_asks same i d row (not_started _ (bus, pairs, events, set, start)) nothing = absurd (nothing pairs set.set.asks)
+row_asks same i d row (not_started _ (bus, pairs, events, set, start) nine) nothing = absurd (nothing pairs set.set.asks)
 
 -- ---- a bus file that is offered, and has a fault
 
@@ -88,7 +88,7 @@ inputs_refuse i row file fault pairs (script_refused other f) asks offers err = 
 pub row_refuses : (same : Type 0) (i : GatewayInputs) (d : DiskStates) (row : Row) (file : List ℕ) (fault : ConfigFault) (pairs : List (ℕ × ℕ)) → RowOfGateway same i d row
     → AsksGateway i.words pairs → Offers i.config file → bus_of file ≡ Err fault → (row.status ≡ 3) ⊎ (row.status ≡ 7)
 row_refuses same i d row file fault pairs (without_disks _ comes as_before) asks offers err = inputs_refuse i row file fault pairs comes asks offers err
-row_refuses same i d row file fault pairs (not_started _ (bus, p, events, set, start)) asks offers err =
+row_refuses same i d row file fault pairs (not_started _ (bus, p, events, set, start) nine) asks offers err =
     absurd (bus_or_fault i.config bus file fault set.set.of_bus offers err)
 
 -- ---- a bus that is offered, and doesn't take the pairs
@@ -115,7 +115,7 @@ inputs_refuse_pairs i row bus pairs text (script_refused other f) asks offers re
 pub row_refuses_pairs : (same : Type 0) (i : GatewayInputs) (d : DiskStates) (row : Row) (bus : NamedBus) (pairs : List (ℕ × ℕ)) (text : List ℕ) → RowOfGateway same i d row
     → AsksGateway i.words pairs → OffersBus i.config bus → RefusesPairs bus pairs text → (row.status ≡ 3) ⊎ (row.status ≡ 7)
 row_refuses_pairs same i d row bus pairs text (without_disks _ comes as_before) asks offers refuses = inputs_refuse_pairs i row bus pairs text comes asks offers refuses
-row_refuses_pairs same i d row bus pairs text (not_started _ (over, p, events, set, start)) asks offers refuses =
+row_refuses_pairs same i d row bus pairs text (not_started _ (over, p, events, set, start) nine) asks offers refuses =
     absurd (set_not_refused i bus over pairs p text set.set asks offers refuses)
 
 -- ---- a gateway that is offered
@@ -154,7 +154,7 @@ inputs_offered i d row bus pairs input (script_refused fault f) offers lines =
 pub row_offered : (same : Type 0) (i : GatewayInputs) (d : DiskStates) (row : Row) (bus : NamedBus) (pairs : List (ℕ × ℕ)) (input : List ℕ) → RowOfGateway same i d row
     → OffersGateway i bus pairs → Offers i.script input → OfOffered d row bus input
 row_offered same i d row bus pairs input (without_disks _ comes as_before) offers lines = inputs_offered i d row bus pairs input comes offers lines
-row_offered same i d row bus pairs input (not_started _ (over, p, events, set, start)) offers lines =
+row_offered same i d row bus pairs input (not_started _ (over, p, events, set, start) nine) offers lines =
     inr (inr (
       events,
       offered_events i bus over pairs p set.text input (Ok events) set.set (Offers-whole i.script input set.text lines set.whole) set.has offers,

@@ -55,7 +55,7 @@ module _ (same : Type 0) (i : GatewayInputs) (d : DiskStates) (e : Ending) where
   row_2 row (without_disks _ (config_refused pairs text asks why unread) as_before) is well = absurd (let no : ⊥ = omega (arith, is) in no)
   row_2 row (without_disks _ (no_script fault lack) as_before) is well = absurd (let no : ⊥ = omega (arith, fault_is fault, is) in no)
   row_2 row (without_disks _ (script_refused fault f) as_before) is well = absurd (let no : ⊥ = omega (arith, is) in no)
-  row_2 row (not_started _ (bus, pairs, events, set, start)) is well = absurd (let no : ⊥ = omega (arith, start_status Format bus d row start, is) in no)
+  row_2 row (not_started _ (bus, pairs, events, set, start) nine) is well = absurd (let no : ⊥ = omega (arith, start_status Format bus d row start, is) in no)
 
   abbrev ConfigTold : Type 0
   ConfigTold = IsUnread i.script × ((pairs : List (ℕ × ℕ)) × AsksGateway i.words pairs × ((text : List ℕ) × RefusesConfig i.config pairs text × PrintsWhole e text))
@@ -66,7 +66,7 @@ module _ (same : Type 0) (i : GatewayInputs) (d : DiskStates) (e : Ending) where
   row_3 row (without_disks _ (config_refused pairs text asks why unread) as_before) is well = (unread, (pairs, asks, (text, why, well)))
   row_3 row (without_disks _ (no_script fault lack) as_before) is well = absurd (let no : ⊥ = omega (arith, fault_is fault, is) in no)
   row_3 row (without_disks _ (script_refused fault f) as_before) is well = absurd (let no : ⊥ = omega (arith, is) in no)
-  row_3 row (not_started _ (bus, pairs, events, set, start)) is well = absurd (let no : ⊥ = omega (arith, start_status Format bus d row start, is) in no)
+  row_3 row (not_started _ (bus, pairs, events, set, start) nine) is well = absurd (let no : ⊥ = omega (arith, start_status Format bus d row start, is) in no)
 
   row_4 : (row : Row) → Comes row → row.status ≡ 4 → PrintsWhole e row.text → (fault : Fault) × ScriptHasFault i fault × PrintsWhole e (fault_text_of fault)
   row_4 row (without_disks _ (no_form none config script) as_before) is well = absurd (let no : ⊥ = omega (arith, is) in no)
@@ -74,7 +74,7 @@ module _ (same : Type 0) (i : GatewayInputs) (d : DiskStates) (e : Ending) where
   row_4 row (without_disks _ (config_refused pairs text asks why unread) as_before) is well = absurd (let no : ⊥ = omega (arith, is) in no)
   row_4 row (without_disks _ (no_script fault lack) as_before) is well = absurd (let no : ⊥ = omega (arith, fault_is fault, is) in no)
   row_4 row (without_disks _ (script_refused fault f) as_before) is well = (fault, f, well)
-  row_4 row (not_started _ (bus, pairs, events, set, start)) is well = absurd (let no : ⊥ = omega (arith, start_status Format bus d row start, is) in no)
+  row_4 row (not_started _ (bus, pairs, events, set, start) nine) is well = absurd (let no : ⊥ = omega (arith, start_status Format bus d row start, is) in no)
 
   abbrev NoInput : InputFault → Type 0
   NoInput fault = NoGatewayConfig i fault ⊎ NoGatewayScript i fault
@@ -89,7 +89,7 @@ module _ (same : Type 0) (i : GatewayInputs) (d : DiskStates) (e : Ending) where
   row_5 row (without_disks _ (no_script input.TooLong lack) as_before) is well = absurd (let no : ⊥ = omega (arith, is) in no)
   row_5 row (without_disks _ (no_script input.Memory lack) as_before) is well = absurd (let no : ⊥ = omega (arith, is) in no)
   row_5 row (without_disks _ (script_refused fault f) as_before) is well = absurd (let no : ⊥ = omega (arith, is) in no)
-  row_5 row (not_started _ (bus, pairs, events, set, start)) is well = absurd (let no : ⊥ = omega (arith, start_status Format bus d row start, is) in no)
+  row_5 row (not_started _ (bus, pairs, events, set, start) nine) is well = absurd (let no : ⊥ = omega (arith, start_status Format bus d row start, is) in no)
 
   row_8 : (row : Row) → Comes row → row.status ≡ 8 → PrintsWhole e row.text → NoInput input.TooLong × PrintsWhole e (codes "input too long\n")
   row_8 row (without_disks _ (no_form none config script) as_before) is well = absurd (let no : ⊥ = omega (arith, is) in no)
@@ -101,7 +101,7 @@ module _ (same : Type 0) (i : GatewayInputs) (d : DiskStates) (e : Ending) where
   row_8 row (without_disks _ (no_script input.TooLong lack) as_before) is well = (inr lack, well)
   row_8 row (without_disks _ (no_script input.Memory lack) as_before) is well = absurd (let no : ⊥ = omega (arith, is) in no)
   row_8 row (without_disks _ (script_refused fault f) as_before) is well = absurd (let no : ⊥ = omega (arith, is) in no)
-  row_8 row (not_started _ (bus, pairs, events, set, start)) is well = absurd (let no : ⊥ = omega (arith, start_status Format bus d row start, is) in no)
+  row_8 row (not_started _ (bus, pairs, events, set, start) nine) is well = absurd (let no : ⊥ = omega (arith, start_status Format bus d row start, is) in no)
 
   -- ---- a start that is refused
 
@@ -122,7 +122,7 @@ module _ (same : Type 0) (i : GatewayInputs) (d : DiskStates) (e : Ending) where
 
   row_9 : (row : Row) → Comes row → row.status ≡ 9 → PrintsWhole e row.text → OverGateway i (λ bus pairs events. DisksTold bus)
   row_9 row (without_disks _ comes as_before) is well = absurd (let no : ⊥ = omega (arith, inputs_low row comes, is) in no)
-  row_9 row (not_started _ (bus, pairs, events, set, start)) is well = (bus, pairs, events, set, start_9 bus row start is well)
+  row_9 row (not_started _ (bus, pairs, events, set, start) nine) is well = (bus, pairs, events, set, start_9 bus row start is well)
 
   abbrev StoreTold : NamedBus → Type 0
   StoreTold bus = LeavesEach Format bus d.before d.after × ((fault : StartFault) × StoreCause Format bus d.before d.after fault × PrintsWhole e (start_row fault).text)
@@ -134,15 +134,15 @@ module _ (same : Type 0) (i : GatewayInputs) (d : DiskStates) (e : Ending) where
 
   row_10 : (row : Row) → Comes row → row.status ≡ 10 → PrintsWhole e row.text → OverGateway i (λ bus pairs events. StoreTold bus)
   row_10 row (without_disks _ comes as_before) is well = absurd (let no : ⊥ = omega (arith, inputs_low row comes, is) in no)
-  row_10 row (not_started _ (bus, pairs, events, set, start)) is well = (bus, pairs, events, set, start_10 bus row start is well)
+  row_10 row (not_started _ (bus, pairs, events, set, start) nine) is well = (bus, pairs, events, set, start_10 bus row start is well)
 
   row_not_0 : (row : Row) → Comes row → row.status ≢ 0
   row_not_0 row (without_disks _ comes as_before) = λ is. omega (arith, inputs_low row comes, is)
-  row_not_0 row (not_started _ (bus, pairs, events, set, start)) = λ is. omega (arith, start_status Format bus d row start, is)
+  row_not_0 row (not_started _ (bus, pairs, events, set, start) nine) = λ is. omega (arith, start_status Format bus d row start, is)
 
   row_not_6 : (row : Row) → Comes row → row.status ≢ 6
   row_not_6 row (without_disks _ comes as_before) = λ is. omega (arith, inputs_low row comes, is)
-  row_not_6 row (not_started _ (bus, pairs, events, set, start)) = λ is. omega (arith, start_status Format bus d row start, is)
+  row_not_6 row (not_started _ (bus, pairs, events, set, start) nine) = λ is. omega (arith, start_status Format bus d row start, is)
 
   -- ---- 6 and 7
 
@@ -162,12 +162,12 @@ module _ (same : Type 0) (i : GatewayInputs) (d : DiskStates) (e : Ending) where
 
   row_7 : (row : Row) → Comes row → row.status ≡ 7 → PrintsWhole e row.text → EndsEarly same i d e unwritten.Memory
   row_7 row (without_disks _ comes as_before) is well = unprepared as_before (cut_to (RowOfInputs i) row comes (inputs_memory row comes is) well)
-  row_7 row (not_started _ (bus, pairs, events, set, start)) is well =
+  row_7 row (not_started _ (bus, pairs, events, set, start) nine) is well =
       unstarted (bus, pairs, events, set, (Comes-leaves Format bus d row start, cut_to (ComesOfStart Format bus d) row start (start_memory Format bus d row start is) well))
 
   front_early : PrintsFront Comes e → EndsEarly same i d e unwritten.SinkFailed
   front_early (row, without_disks _ comes as_before, part) = unprepared as_before (row, comes, part)
-  front_early (row, not_started _ (bus, pairs, events, set, start), part) = unstarted (bus, pairs, events, set, (Comes-leaves Format bus d row start, (row, start, part)))
+  front_early (row, not_started _ (bus, pairs, events, set, start) nine, part) = unstarted (bus, pairs, events, set, (Comes-leaves Format bus d row start, (row, start, part)))
 
   -- ---- what makes a row come
 
@@ -191,13 +191,14 @@ module _ (same : Type 0) (i : GatewayInputs) (d : DiskStates) (e : Ending) where
   -- ---- a row that comes
 
   row_low : (row : Row) → Comes row
-      → (row.status ≡ 2) ⊎ (row.status ≡ 3) ⊎ (row.status ≡ 4) ⊎ (row.status ≡ 5) ⊎ (row.status ≡ 8) → same
+      → (row.status ≡ 2) ⊎ (row.status ≡ 3) ⊎ (row.status ≡ 4) ⊎ (row.status ≡ 5) ⊎ (row.status ≡ 8) ⊎ (row.status ≡ 9) → same
   row_low row (without_disks _ comes as_before) low = as_before
-  row_low row (not_started _ (bus, pairs, events, set, start)) low = absurd (let no : ⊥ = omega (arith, start_status Format bus d row start, low) in no)
+  row_low row (not_started _ (bus, pairs, events, set, start) nine) low =
+      nine (let is : row.status ≡ 9 = omega (arith, start_status Format bus d row start, low) in is)
 
-  unused : EndsInRow Comes e → (e.status ≡ 2) ⊎ (e.status ≡ 3) ⊎ (e.status ≡ 4) ⊎ (e.status ≡ 5) ⊎ (e.status ≡ 8) → same
+  unused : EndsInRow Comes e → (e.status ≡ 2) ⊎ (e.status ≡ 3) ⊎ (e.status ≡ 4) ⊎ (e.status ≡ 5) ⊎ (e.status ≡ 8) ⊎ (e.status ≡ 9) → same
   unused ends low = elim ends.told [
-    | inl (status_is, well) ↦ row_low ends.row ends.comes (subst (λ (n : ℕ). (n ≡ 2) ⊎ (n ≡ 3) ⊎ (n ≡ 4) ⊎ (n ≡ 5) ⊎ (n ≡ 8)) status_is low)
+    | inl (status_is, well) ↦ row_low ends.row ends.comes (subst (λ (n : ℕ). (n ≡ 2) ⊎ (n ≡ 3) ⊎ (n ≡ 4) ⊎ (n ≡ 5) ⊎ (n ≡ 8) ⊎ (n ≡ 9)) status_is low)
     | inr (is, rose, part) ↦ absurd (let no : ⊥ = omega (arith, is, low) in no)
   ]
 

@@ -47,8 +47,9 @@ pub data EndsEarly (same : Type 0) (i : GatewayInputs) (d : DiskStates) (e : End
 pub record RunsGateway (same : Type 0) (i : GatewayInputs) (d : DiskStates) (e : Ending) : Type 0 where
   -- A row of the table comes; or of valid inputs the first events were done.
   pub ends : EndsGateway same i d e
-  -- Every disk is as before at the status 2, 3, 4, 5 and 8.
-  pub disks_unused : (e.status ≡ 2) ⊎ (e.status ≡ 3) ⊎ (e.status ≡ 4) ⊎ (e.status ≡ 5) ⊎ (e.status ≡ 8) → same
+  -- Every disk is as before at the status 2, 3, 4, 5, 8 and 9.
+  pub disks_unused : (e.status ≡ 2) ⊎ (e.status ≡ 3) ⊎ (e.status ≡ 4) ⊎ (e.status ≡ 5) ⊎ (e.status ≡ 8)
+      ⊎ (e.status ≡ 9) → same
   -- 0: the inputs were read whole, and all events were done, with the text of each line.
   pub done : e.status ≡ 0 → OverGateway i (λ bus pairs events. DoneGateway bus pairs events d e (Ok tt))
   -- Over a disk that tells its bytes they are one run of the machine from the first node of the bus, and one record has

@@ -44,7 +44,7 @@ pub data RowOfInputs (i : GatewayInputs) : Row → Type 0 where
 pub data RowOfGateway (same : Type 0) (i : GatewayInputs) (d : DiskStates) : Row → Type 0 where
   without_disks : (row : Row) → RowOfInputs i row → same → RowOfGateway same i d row
   not_started : (row : Row) → OverGateway i (λ bus pairs events. ComesOfStart Format bus d row)
-      → RowOfGateway same i d row
+      → (row.status ≡ 9 → same) → RowOfGateway same i d row
 
 -- the first events were done, up to the first whose text wasn't written, and the status says so; over a disk that tells
 -- its bytes they are one run of the machine, and all of `OneGatewayRun` holds of it

@@ -15,7 +15,7 @@ use Rattle.bus_nodes.specs.Buses.{NamedBus, IsNamedBus}
 use Rattle.bus_script.specs.EventForms.{own_events_of}
 use Rattle.bus_script.specs.ScriptEvents.{IsScriptEvent}
 use Rattle.bus_world.specs.declared.start.Start.TheVariants.{Format}
-use Rattle.bus_world.specs.StartAnswers.{DiskStates, ComesOfStart}
+use Rattle.bus_world.specs.StartAnswers.{DiskStates, ComesUnstarted}
 use Rattle.bus_inputs.specs.Scripts.{LacksLines, ReadsLinesAs}
 use Rattle.secoc_node.specs.State.{NodeState}
 use Rattle.secoc_gateway.specs.State.{GatewayState, over}
@@ -96,9 +96,9 @@ pub record PrintsTurns (before : NodeState) (pairs : List (ℕ × ℕ)) (events 
   pub printed : Printed GatewayTurn gateway_text start now sink_before sink_after events result
   pub handed_back : over now ≡ after
 
--- how a job ends: it isn't started, or it did its first events
-pub data DoesGateway (bus : NamedBus) (pairs : List (ℕ × ℕ)) (events : List Event) (d : DiskStates)
+-- how a job ends: it isn't started, or it did its first events; `same` is that every disk is as before
+pub data DoesGateway (same : Type 0) (bus : NamedBus) (pairs : List (ℕ × ℕ)) (events : List Event) (d : DiskStates)
     (e : Ending) : Type 0 where
-  refused_start : EndsInRow (ComesOfStart Format bus d) e → DoesGateway bus pairs events d e
+  refused_start : EndsInRow (ComesUnstarted same Format bus d) e → DoesGateway same bus pairs events d e
   first_done : (result : Result (Unit {0}) Unwritten) → DoneGateway bus pairs events d e result
-      → DoesGateway bus pairs events d e
+      → DoesGateway same bus pairs events d e

@@ -27,7 +27,7 @@ pub fn do_job<K: Sink, D: CutDisk>(
     disks: &mut Vec<D>,
 ) -> u8
     requires { IsWholeJob job }
-    ensures { DoesGateway job.bus job.pairs.items job.events.items
+    ensures { DoesGateway (disks.new ≡ disks.old) job.bus job.pairs.items job.events.items
         (record { before = map D.state disks.old.items; after = map D.state disks.new.items })
         (record { before = K.state sink.old; after = K.state sink.new; status = result }) }
 {

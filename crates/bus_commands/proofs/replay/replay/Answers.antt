@@ -1,7 +1,7 @@
 use Rattle.std.proofs.Common.{arith, rules, map}
 use Rattle.bus_commands.specs.Replays.{ReplayTurns}
 use Rattle.bus_commands.specs.Steps.{refused_replay, first_done}
-use Rattle.bus_world.specs.StartAnswerLaws.{Comes-not_started}
+use Rattle.bus_world.specs.StartAnswerLaws.{Comes-unstarted}
 use Rattle.world_runs.specs.TurnLaws.{as_many_nodes}
 use Rattle.bus_commands.proofs.WholeRun.{replay_stays}
 use Rattle.bus_commands.proofs.replay.replay.Goals as goal
@@ -18,7 +18,7 @@ finish-requires g c =
 pub returns-in-Err : goal.returns-in-Err
 returns-in-Err g c = refused_replay (record {
   row = c.start_refusal.result;
-  comes = Comes-not_started c.args.start c.args.bus.now _ c.in-Err.fault c.start_refusal.result c.in-Err.ensures.refused c.start_refusal.ensures;
+  comes = Comes-unstarted _ c.args.start c.args.bus.now _ c.in-Err.fault c.start_refusal.result c.in-Err.ensures.refused c.in-Err.ensures.unread c.start_refusal.ensures;
   told = c.tell_refusal-in-Err.ensures;
 })
 

@@ -1,7 +1,7 @@
 use Rattle.std.proofs.Common.{arith, rules}
 use Rattle.bus_world.specs.declared.start.Start.TheVariants.{Format}
 use Rattle.bus_commands.specs.Steps.{refused_trial}
-use Rattle.bus_world.specs.StartAnswerLaws.{Comes-not_started}
+use Rattle.bus_world.specs.StartAnswerLaws.{Comes-unstarted}
 use Rattle.world_runs.specs.TurnLaws.{as_many_nodes}
 use Rattle.bus_commands.proofs.Summing.{summed_turns}
 use Rattle.bus_commands.proofs.Summed.{Comes-summed}
@@ -19,13 +19,14 @@ finish-requires g c =
 pub returns-in-Err : goal.returns-in-Err
 returns-in-Err g c = record {
   row = c.start_refusal.result;
-  comes = refused_trial c.start_refusal.result (Comes-not_started Format c.args.bus.now _ c.in-Err.fault c.start_refusal.result c.in-Err.ensures.refused c.start_refusal.ensures);
+  comes = refused_trial c.start_refusal.result
+      (Comes-unstarted _ Format c.args.bus.now _ c.in-Err.fault c.start_refusal.result c.in-Err.ensures.refused c.in-Err.ensures.unread c.start_refusal.ensures);
   told = c.tell_refusal-in-Err.ensures;
 }
 
 pub returns : goal.returns
 returns g c =
-    Comes-summed c.starts_are_set_up.ensures c.turns_leave_disks.ensures c.trials_are_runs.ensures c.args.bus.now c.args.events.now _ _ c.count_run.new.tally
+    Comes-summed c.starts_are_set_up.ensures c.turns_leave_disks.ensures c.trials_are_runs.ensures _ c.args.bus.now c.args.events.now _ _ c.count_run.new.tally
     (record {
       is_bus = c.requires.is_bus;
       start = c.in-Ok.world;

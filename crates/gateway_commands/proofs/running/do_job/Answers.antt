@@ -3,7 +3,7 @@ use Rattle.cut_disk.specs.State.{DiskState}
 use Rattle.secoc_node.specs.State.{NodeState}
 use Rattle.bus_world.specs.Starts.{disks_of}
 use Rattle.bus_world.specs.declared.start.Start.TheVariants.{Format}
-use Rattle.bus_world.specs.StartAnswerLaws.{Comes-not_started}
+use Rattle.bus_world.specs.StartAnswerLaws.{Comes-unstarted}
 use Rattle.bus_inputs.specs.EventLaws.{all_can_be_done}
 use Rattle.gateway_commands.specs.Steps.{refused_start, first_done}
 use Rattle.gateway_commands.proofs.OneRun.{no_disk}
@@ -23,7 +23,7 @@ print_turns-node-requires-clause-ready g c =
 pub returns-in-Err : goal.returns-in-Err
 returns-in-Err g c = refused_start (record {
   row = c.start_refusal.result;
-  comes = Comes-not_started Format c.args.job.bus _ c.in-Err.fault c.start_refusal.result c.in-Err.ensures.refused c.start_refusal.ensures;
+  comes = Comes-unstarted _ Format c.args.job.bus _ c.in-Err.fault c.start_refusal.result c.in-Err.ensures.refused c.in-Err.ensures.unread c.start_refusal.ensures;
   told = c.tell_refusal-in-Err.ensures;
 })
 
