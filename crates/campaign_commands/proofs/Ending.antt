@@ -1,5 +1,5 @@
 -- The phases of a campaign, put together
-use Rattle.std.proofs.Common.{◌≡◌, ℕ, List, [], ◌∷◌, refl, inl, inr, ap, sym, subst, ◌∙◌, map}
+use Rattle.std.proofs.Common.{◌≡◌, ◌≤◌, ℕ, List, [], ◌∷◌, get_or, refl, inl, inr, ap, sym, subst, ◌∙◌, arith}
 use Rattle.std.specs.Prelude.{◌⊎◌, drop, length, None, Some, Result, Ok, Err, Vec}
 use Rattle.std.specs.declared.alloc.Global.{Global}
 use Rattle.command_edge.specs.declared.input.InputFault.TheVariants as input
@@ -13,9 +13,9 @@ use Rattle.cut_disk.specs.State.{DiskState}
 use Rattle.campaign_machine.specs.declared.commands.LedgerCommand.{LedgerCommand}
 use Rattle.campaign_commands.specs.declared.opening.NoLedgerCause.{NoLedgerCause}
 use Rattle.campaign_commands.specs.declared.opening.NoLedgerCause.TheVariants.{Store, BadEntry}
-use Rattle.campaign_commands.specs.Opening.{LacksLedger}
-use Rattle.campaign_commands.specs.Rows.{CampaignInputs, CampaignDisks, AreTwo, HasCommands, OverFirst, no_ledger_text, too_few_text, ComesBefore, no_form, no_commands, bad_line, too_few, too_small, no_ledger, no_memory_to_open, DoneCampaign, EndsCampaign, in_row, campaigned}
-use Rattle.campaign_commands.specs.Steps.{HasScriptCommands, ComesOfScript, not_two, no_script, script_refused, PreparesCampaign, IsNoLedgerRow, ComesOfDisk, disk_too_small, disk_without, disk_unopened, DoesOnDisk, not_opened, first_done, DoesCampaign, without_disk, on_first}
+use Rattle.campaign_commands.specs.Opening.{LacksLedger, ledger_size}
+use Rattle.campaign_commands.specs.Rows.{CampaignInputs, CampaignDisks, AreTwo, HasCommands, no_ledger_text, ComesBefore, no_form, no_commands, bad_line, too_few, too_small, no_ledger, no_memory_to_open, DoneCampaign, EndsCampaign, in_row, campaigned}
+use Rattle.campaign_commands.specs.Steps.{HasScriptCommands, ComesOfScript, not_two, no_script, script_refused, PreparesCampaign, IsNoLedgerRow, ComesOfDisk, disk_too_small, disk_without, disk_unopened, HasDisk, LacksDisk, no_disk, small_disk, DoesOnDisk, not_opened, first_done, DoesCampaign, disk_wanting, on_first}
 use Rattle.campaign_commands.proofs.Opened.{lacks_none, small_of_none, unopened_leaves}
 
 -- ---- the script
@@ -54,37 +54,47 @@ comes_of_disk before after (BadEntry bad) row lacks is = row_of_cause before aft
 
 -- ---- both phases
 
--- a row of the first disk is one of the table
+-- a row of the first disk, which is large enough, is one of the table
 row_on_first : (same : Type 0) (i : CampaignInputs) (d : CampaignDisks) (commands : List LedgerCommand) (before after : DiskState) (rest : List DiskState)
-    → HasCommands i commands → d.before ≡ before ∷ rest → d.after ≡ after ∷ rest → (d.after ≡ d.before → same)
+    → HasCommands i commands → d.before ≡ before ∷ rest → d.after ≡ after ∷ rest → ledger_size ≤ before.size
     → (row : Row) → ComesOfDisk before after row → ComesBefore same i d row
-row_on_first same i d commands before after rest has was now as_before row (disk_too_small less unchanged) =
-    too_small commands has (as_before (now ∙ ap (λ (s : DiskState). s ∷ rest) unchanged ∙ sym was))
-    (record { first = before; later = after; rest = rest; was = was; now = now; holds = (less, unchanged) })
-row_on_first same i d commands before after rest has was now as_before row (disk_without cause text is lacks) =
+row_on_first same i d commands before after rest has was now room row (disk_too_small less unchanged) = absurd (let no : ⊥ = omega (arith, less, room) in no)
+row_on_first same i d commands before after rest has was now room row (disk_without cause text is lacks) =
     no_ledger commands cause text has is (record { first = before; later = after; rest = rest; was = was; now = now; holds = lacks })
-row_on_first same i d commands before after rest has was now as_before row (disk_unopened leaves) =
+row_on_first same i d commands before after rest has was now room row (disk_unopened leaves) =
     no_memory_to_open commands has (record { first = before; later = after; rest = rest; was = was; now = now; holds = leaves })
 
 on_disk_ends : (same : Type 0) (i : CampaignInputs) (d : CampaignDisks) (e : Ending) (commands : List LedgerCommand) (before after : DiskState) (rest : List DiskState)
-    → HasCommands i commands → d.before ≡ before ∷ rest → d.after ≡ after ∷ rest → (d.after ≡ d.before → same)
+    → HasCommands i commands → d.before ≡ before ∷ rest → d.after ≡ after ∷ rest → ledger_size ≤ before.size
     → DoesOnDisk commands before after e → EndsCampaign same i d e
-on_disk_ends same i d e commands before after rest has was now as_before (not_opened ends) =
-    in_row (EndsInRow-more (row_on_first same i d commands before after rest has was now as_before) ends)
-on_disk_ends same i d e commands before after rest has was now as_before (first_done result done) =
+on_disk_ends same i d e commands before after rest has was now room (not_opened ends) =
+    in_row (EndsInRow-more (row_on_first same i d commands before after rest has was now room) ends)
+on_disk_ends same i d e commands before after rest has was now room (first_done result done) =
     campaigned commands result has (record { first = before; later = after; rest = rest; was = was; now = now; holds = done })
 
+-- the first disk is the one that was looked at
+room_of : (disks : List DiskState) (first : DiskState) (rest : List DiskState) → HasDisk disks → disks ≡ first ∷ rest → ledger_size ≤ first.size
+room_of disks first rest has is =
+    subst (λ (s : DiskState). ledger_size ≤ s.size) (ap (λ (ds : List DiskState). get_or ds 0 first) (sym has.are ∙ is)) has.room
+
+-- where a disk is wanting, the row is of the table
+lacks_comes : (same : Type 0) (i : CampaignInputs) (d : CampaignDisks) (commands : List LedgerCommand) → HasCommands i commands → same → d.after ≡ d.before
+    → (row : Row) → LacksDisk d.before row → ComesBefore same i d row
+lacks_comes same i d commands has as_before unchanged row (no_disk empty) = too_few commands has as_before empty
+lacks_comes same i d commands has as_before unchanged row (small_disk first rest is less) =
+    too_small commands has as_before (record { first = first; later = first; rest = rest; was = is; now = unchanged ∙ is; holds = (less, refl) })
+
 pub campaign_ends : (same : Type 0) (i : CampaignInputs) (d : CampaignDisks) (e : Ending) (commands : List LedgerCommand) → HasCommands i commands
-    → (d.after ≡ d.before → same) → DoesCampaign commands d e → EndsCampaign same i d e
-campaign_ends same i d e commands has as_before (without_disk empty unchanged ends) =
-    in_row (EndsInRow-more (λ row is. subst (ComesBefore same i d) (sym is) (too_few commands has (as_before unchanged) empty)) ends)
-campaign_ends same i d e commands has as_before (on_first over) =
-    on_disk_ends same i d e commands over.first over.later over.rest has over.was over.now as_before over.holds
+    → DoesCampaign same commands d e → EndsCampaign same i d e
+campaign_ends same i d e commands has (disk_wanting as_before unchanged ends) =
+    in_row (EndsInRow-more (lacks_comes same i d commands has as_before unchanged) ends)
+campaign_ends same i d e commands has (on_first disk over) =
+    on_disk_ends same i d e commands over.first over.later over.rest has over.was over.now (room_of d.before over.first over.rest disk over.was) over.holds
 
-pub campaign_further : (d : CampaignDisks) (e : Ending) (commands : List LedgerCommand) → DoesCampaign commands d e → drop 1 d.after ≡ drop 1 d.before
-campaign_further d e commands (without_disk empty unchanged ends) = ap (λ (l : List DiskState). drop 1 l) unchanged
-campaign_further d e commands (on_first over) = rw (over.was, over.now) refl
+pub campaign_further : (same : Type 0) (d : CampaignDisks) (e : Ending) (commands : List LedgerCommand) → DoesCampaign same commands d e → drop 1 d.after ≡ drop 1 d.before
+campaign_further same d e commands (disk_wanting as_before unchanged ends) = ap (λ (l : List DiskState). drop 1 l) unchanged
+campaign_further same d e commands (on_first disk over) = rw (over.was, over.now) refl
 
-pub campaign_as_many : (d : CampaignDisks) (e : Ending) (commands : List LedgerCommand) → DoesCampaign commands d e → length d.after ≡ length d.before
-campaign_as_many d e commands (without_disk empty unchanged ends) = ap (λ (l : List DiskState). length l) unchanged
-campaign_as_many d e commands (on_first over) = rw (over.was, over.now) refl
+pub campaign_as_many : (same : Type 0) (d : CampaignDisks) (e : Ending) (commands : List LedgerCommand) → DoesCampaign same commands d e → length d.after ≡ length d.before
+campaign_as_many same d e commands (disk_wanting as_before unchanged ends) = ap (λ (l : List DiskState). length l) unchanged
+campaign_as_many same d e commands (on_first disk over) = rw (over.was, over.now) refl

@@ -6,3 +6,5 @@ pub mod RowFacts
 pub mod Promises
 pub mod Ending
 pub mod WholeExample
+pub mod Looked
+pub mod Known

@@ -1,5 +1,5 @@
 -- What the steps of the work say to one another
-use Rattle.std.specs.Prelude.{◌≡◌, ◌⊎◌, ℕ, ◌<◌, ◌≤◌, Some, List, [], length, All, Result, Ok, Err, Vec}
+use Rattle.std.specs.Prelude.{◌≡◌, ◌⊎◌, ℕ, ◌<◌, ◌≤◌, Some, List, [], ◌∷◌, length, All, Result, Ok, Err, Vec}
 use Rattle.std.specs.declared.alloc.Global.{Global}
 use Rattle.text_lines.specs.Readings.{most_lines, Fault}
 use Rattle.command_edge.specs.declared.input.InputFault.{InputFault}
@@ -64,8 +64,22 @@ pub data DoesOnDisk (commands : List LedgerCommand) (before after : DiskState) (
   first_done : (result : Result (Unit {0}) Unwritten) → DoneCampaign commands e result before after
       → DoesOnDisk commands before after e
 
--- how the second phase ends: there is no disk, or the campaign is over the first
-pub data DoesCampaign (commands : List LedgerCommand) (d : CampaignDisks) (e : Ending) : Type 0 where
-  without_disk : d.before ≡ [] → d.after ≡ d.before → EndsInRow (λ row. row ≡ row_of 9 too_few_text) e
-      → DoesCampaign commands d e
-  on_first : OverFirst d (λ before after. DoesOnDisk commands before after e) → DoesCampaign commands d e
+-- there is a disk, and the first has the bytes that a ledger needs
+pub record HasDisk (disks : List DiskState) : Type 0 where
+  pub first : DiskState
+  pub rest : List DiskState
+  pub are : disks ≡ first ∷ rest
+  pub room : ledger_size ≤ first.size
+
+-- there is no disk, or the first has fewer bytes: the row that says which
+pub data LacksDisk (disks : List DiskState) : Row → Type 0 where
+  no_disk : disks ≡ [] → LacksDisk disks (row_of 9 too_few_text)
+  small_disk : (first : DiskState) (rest : List DiskState) → disks ≡ first ∷ rest → first.size < ledger_size
+      → LacksDisk disks (row_of 9 too_small_text)
+
+-- how the second phase ends: a disk is wanting, and none was touched, or the campaign is over the first; `same` is that
+-- every disk is as before
+pub data DoesCampaign (same : Type 0) (commands : List LedgerCommand) (d : CampaignDisks) (e : Ending) : Type 0 where
+  disk_wanting : same → d.after ≡ d.before → EndsInRow (LacksDisk d.before) e → DoesCampaign same commands d e
+  on_first : HasDisk d.before → OverFirst d (λ before after. DoesOnDisk commands before after e)
+      → DoesCampaign same commands d e

@@ -1,20 +1,22 @@
 //! A campaign over disks.
-ghost use Rattle.std.specs.Prelude.{◌≡◌, ◌<◌, ◌≤◌, ◌+◌, ◌∷◌, map};
+ghost use Rattle.std.specs.Prelude.{◌≡◌, ◌<◌, ◌≤◌, ◌+◌, ◌∷◌, map, MatchResult};
 ghost use Rattle.std.specs.Vec.{vec_len, vec_capacity};
 ghost use Rattle.cut_disk.specs.State.{DiskState};
-ghost use Rattle.campaign_commands.specs.Opening.{LedgerOpened};
-ghost use Rattle.campaign_commands.specs.Steps.{AreScriptCommands, DoesOnDisk, DoesCampaign};
+ghost use Rattle.answer_rows.specs.Rows.{row_of};
+ghost use Rattle.campaign_commands.specs.Opening.{LedgerOpened, ledger_size};
+ghost use Rattle.campaign_commands.specs.Rows.{OverFirst, too_small_text};
+ghost use Rattle.campaign_commands.specs.Steps.{AreScriptCommands, HasDisk, LacksDisk, DoesOnDisk, DoesCampaign};
 
 use crate::laws::campaigns_are_runs;
 use crate::opening::open_ledger;
-use crate::refusals::{no_disk_refusal, no_ledger_refusal};
+use crate::refusals::{no_disk_refusal, no_ledger_refusal, small_disk_refusal};
 use crate::station::Station;
-use answer_rows::tell_refusal;
-use any_cells::AnyCells;
+use answer_rows::{Refusal, tell_refusal};
+use any_cells::{AnyCells, store_size};
 use bus_port::{Memory, Sink};
 use campaign_machine::{LedgerCommand, LedgerLine};
 use campaign_texts::write_ledger_line;
-use cell_store::Cells;
+use cell_store::{Cells, Kind, Version};
 use cut_disk::CutDisk;
 use key_campaign::Ledger;
 use numbered_run::{LineText, print_run, status_of_run};
@@ -41,8 +43,8 @@ impl LineText<LedgerLine> for Texts {
     }
 }
 
-/// The campaign of these commands over the ledger on the first disk, which is then back in its place. After a text that
-/// isn't written no further command is done.
+/// The campaign of these commands over the ledger on the first disk, which is then back in its place. Where there is no
+/// disk, or the first is too small, no disk is touched. After a text that isn't written no further command is done.
 pub fn campaign<K: Sink, D: CutDisk>(
     alloc: Global,
     commands: &[LedgerCommand],
@@ -50,13 +52,53 @@ pub fn campaign<K: Sink, D: CutDisk>(
     disks: &mut Vec<D>,
 ) -> u8
     requires { AreScriptCommands commands.now }
-    ensures { DoesCampaign commands.now
+    ensures { DoesCampaign (disks.new ≡ disks.old) commands.now
         (record { before = map D.state disks.old.items; after = map D.state disks.new.items })
         (record { before = K.state sink.old; after = K.state sink.new; status = result }) }
 {
-    if disks.is_empty() {
-        return tell_refusal(sink, &no_disk_refusal());
+    match find_disk(disks.as_slice()) {
+        Ok(()) => on_first_disk(alloc, commands, sink, disks),
+        Err(refusal) => tell_refusal(sink, &refusal),
     }
+}
+
+/// Whether there is a disk, and the first has the bytes that a ledger needs; or the refusal that says what is wanting.
+fn find_disk<D: CutDisk>(disks: &[D]) -> Result<(), Refusal>
+    ensures { MatchResult result (λ _. HasDisk (map D.state disks.now)) (LacksDisk (map D.state disks.now)) }
+{
+    match disks {
+        [] => Err(no_disk_refusal()),
+        [first, ..] => check_size(first),
+    }
+}
+
+/// Whether a disk has the bytes that a ledger needs.
+#[tactic(auto, unfolding(campaign_machine::specs::Entries::place_count))]
+fn check_size<D: CutDisk>(disk: &D) -> Result<(), Refusal>
+    ensures { MatchResult result (λ _. ledger_size ≤ (D.state disk.now).size)
+        (λ row. ((D.state disk.now).size < ledger_size) × (row ≡ row_of 9 too_small_text)) }
+{
+    let size = disk.size();
+    let wanted = store_size(Kind::Twin, Version::One, 256);
+    if size < wanted {
+        return Err(small_disk_refusal());
+    }
+    Ok(())
+}
+
+/// The campaign over the first disk, which is then back in its place.
+fn on_first_disk<K: Sink, D: CutDisk>(
+    alloc: Global,
+    commands: &[LedgerCommand],
+    sink: &mut K,
+    disks: &mut Vec<D>,
+) -> u8
+    requires are_commands { AreScriptCommands commands.now }
+    requires some { 0 < vec_len disks.old }
+    ensures { OverFirst (record { before = map D.state disks.old.items; after = map D.state disks.new.items })
+        (λ before after. DoesOnDisk commands.now before after
+        (record { before = K.state sink.old; after = K.state sink.new; status = result })) }
+{
     let disk = disks.remove(0);
     let (disk, status) = on_disk(alloc, commands, sink, disk);
     put_back(disks, disk);

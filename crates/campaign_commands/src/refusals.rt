@@ -3,7 +3,7 @@ ghost use Rattle.std.specs.Prelude.{◌≡◌, ◌++◌, codes, string_bytes, If
 ghost use Rattle.text_lines.specs.Texts.{line};
 ghost use Rattle.any_cells.specs.FaultTexts.{store_fault_text as fault_text};
 ghost use Rattle.campaign_commands.specs.Steps.{IsNoLedgerRow};
-ghost use Rattle.campaign_commands.specs.Rows.{campaign_usage, too_few_text};
+ghost use Rattle.campaign_commands.specs.Rows.{campaign_usage, too_few_text, too_small_text};
 ghost use Rattle.answer_rows.specs.Rows.{row_of};
 
 use crate::opening::NoLedgerCause;
@@ -26,6 +26,13 @@ pub fn no_disk_refusal() -> Refusal
     ensures { result ≡ row_of 9 too_few_text }
 {
     Refusal::fixed(9, "disks: too few\n")
+}
+
+/// The refusal of a disk of fewer bytes than a ledger needs.
+pub fn small_disk_refusal() -> Refusal
+    ensures { result ≡ row_of 9 too_small_text }
+{
+    Refusal::fixed(9, "disks: too small\n")
 }
 
 /// The refusal of a disk without a ledger, with the text that names its cause, or want of memory for the text.

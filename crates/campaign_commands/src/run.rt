@@ -26,7 +26,7 @@ pub fn run_campaign<T: Source, K: Sink, D: CutDisk>(
     disks: &mut Vec<D>,
 ) -> u8
     // `RunsCampaign` of specs/Campaigns.antt has a member for each promise, in the order of the table of answers.
-    ensures promises { RunsCampaign (map D.state disks.new.items ≡ map D.state disks.old.items)
+    ensures promises { RunsCampaign (disks.new ≡ disks.old)
         (record {
           words = map string_bytes words.now;
           script = record { before = T.state script.old; after = T.state script.new };
@@ -37,7 +37,7 @@ pub fn run_campaign<T: Source, K: Sink, D: CutDisk>(
     // A row of the table comes; or the first commands of a valid script were done. Over a disk that tells its bytes, none
     // of them loose, these are one run of the machine, and one record has all that holds of it: `is_a_run`, `disks`,
     // `failures`, `counters_rise`, `builds`, `taken`, `confirmed_by_a_reply`, `none_goes` and `few_are_skipped`.
-    ensures campaigned { EndsCampaign (map D.state disks.new.items ≡ map D.state disks.old.items)
+    ensures campaigned { EndsCampaign (disks.new ≡ disks.old)
         (record {
           words = map string_bytes words.now;
           script = record { before = T.state script.old; after = T.state script.new };

@@ -1,4 +1,5 @@
 use Rattle.std.specs.Prelude.{◌≡◌, List, map, Result, Ok, Err, IfErr}
+use Rattle.std.proofs.Common.{subst}
 use Rattle.cut_disk.specs.State.{DiskState}
 use Rattle.bus_nodes.specs.Buses.{NamedBus}
 use Rattle.bus_world.specs.declared.start.Start.TheVariants.{Format}
@@ -15,5 +16,6 @@ unread_in_room bus before after P (Err fault) room refused = λ is. absurd (room
 
 pub returns-in-Ok-clause-unread : goal.returns-in-Ok-clause-unread
 returns-in-Ok-clause-unread g c =
-    unread_in_room c.args.bus.now (map g.D.Disk.state c.args.disks.now.items) (map g.D.Disk.state c.open_in_room.new.disks.items) _ c.open_in_room.result c.in-Ok.ensures
+    let room = subst (λ ds. HasRoom c.args.bus.now (map g.D.Disk.state ds)) c.as_slice.ensures.value c.in-Ok.ensures in
+    unread_in_room c.args.bus.now (map g.D.Disk.state c.args.disks.now.items) (map g.D.Disk.state c.open_in_room.new.disks.items) _ c.open_in_room.result room
     c.open_in_room.ensures.refused

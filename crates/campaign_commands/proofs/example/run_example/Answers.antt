@@ -1,6 +1,7 @@
 use Rattle.std.proofs.Common.{◌≡◌, ◌∙◌, length, map, ap, refl}
 use Rattle.std.proofs.lemmas.List.{length-map}
-use Rattle.std.specs.Prelude.{string_bytes, Some}
+use Rattle.std.specs.Prelude.{string_bytes, Some, Vec}
+use Rattle.std.specs.declared.alloc.Global.{Global}
 use Rattle.bus_port.specs.MemSource.{CleanSourceState, clean_source}
 use Rattle.cut_disk.specs.Memory.{disk_of}
 use Rattle.cut_disk.specs.MemDisk.{contents}
@@ -9,6 +10,7 @@ use Rattle.answer_rows.specs.Inputs.{Reading}
 use Rattle.answer_rows.specs.InputLaws.{Offers-clean}
 use Rattle.campaign_commands.specs.declared.example.TheConstants.{EXAMPLE}
 use Rattle.campaign_commands.specs.Rows.{CampaignDisks, AreTwo}
+use Rattle.campaign_commands.proofs.Known.{campaigns_known}
 use Rattle.campaign_commands.proofs.WholeExample.{short_script, no_example}
 use Rattle.campaign_commands.proofs.example.run_example.Goals as goal
 
@@ -25,7 +27,8 @@ returns-in-Ok g c =
       record { words = map string_bytes c.as_slice.result.now; script = read },
       disks,
       record { two = two; script = Offers-clean read EXAMPLE.now told short_script refl; disk = c.in-Ok.ensures.disk },
-      (c.run_campaign.ensures.promises, c.run_campaign.ensures.campaigned),
+      campaigns_known _ _ _ _ (λ same. ap (λ (v : Vec MemDisk Global). map (λ (disk : MemDisk). disk_of (contents disk)) v.items) same) c.run_campaign.ensures.promises
+          c.run_campaign.ensures.campaigned,
     )
 
 pub returns-in-Err : goal.returns-in-Err

@@ -5,12 +5,12 @@ use Rattle.campaign_commands.proofs.Promises.{RunsCampaign-ends}
 use Rattle.campaign_commands.proofs.run.run_campaign.Goals as goal
 
 pub returns-in-Ok-clause-campaigned : goal.returns-in-Ok-clause-campaigned
-returns-in-Ok-clause-campaigned g c = campaign_ends _ _ _ _ c.in-Ok.commands.items c.in-Ok.ensures.0 (λ same. same) (rw (← c.as_slice.ensures.value) c.campaign.ensures)
+returns-in-Ok-clause-campaigned g c = campaign_ends _ _ _ _ c.in-Ok.commands.items c.in-Ok.ensures.0 (rw (← c.as_slice.ensures.value) c.campaign.ensures)
 
 pub returns-in-Ok-clause-promises : goal.returns-in-Ok-clause-promises
 returns-in-Ok-clause-promises g c =
-    RunsCampaign-ends _ _ _ _ (campaign_further _ _ c.as_slice.result.now c.campaign.ensures) (campaign_as_many _ _ c.as_slice.result.now c.campaign.ensures)
-    (campaign_ends _ _ _ _ c.in-Ok.commands.items c.in-Ok.ensures.0 (λ same. same) (rw (← c.as_slice.ensures.value) c.campaign.ensures))
+    RunsCampaign-ends _ _ _ _ (campaign_further _ _ _ c.as_slice.result.now c.campaign.ensures) (campaign_as_many _ _ _ c.as_slice.result.now c.campaign.ensures)
+    (campaign_ends _ _ _ _ c.in-Ok.commands.items c.in-Ok.ensures.0 (rw (← c.as_slice.ensures.value) c.campaign.ensures))
 
 pub returns-in-Err-clause-campaigned : goal.returns-in-Err-clause-campaigned
 returns-in-Err-clause-campaigned g c =

@@ -1,4 +1,5 @@
 use Rattle.std.specs.Prelude.{map, []}
+use Rattle.std.proofs.Common.{subst}
 use Rattle.bus_machine.specs.Bus.{World}
 use Rattle.bus_world.specs.Starts.{HasRoom}
 use Rattle.bus_world.specs.StartRowLaws.{room_not_9}
@@ -15,6 +16,6 @@ returns-in-Ok-open_in_room-clause-sound g c = invariant_of-result g c
 
 pub returns-in-Err-open_in_room-clause-unread : goal.returns-in-Err-open_in_room-clause-unread
 returns-in-Err-open_in_room-clause-unread g c = λ is.
-    let room : HasRoom c.args.bus.now (map g.D.Disk.state c.args.disks.now.items) = rw c.as_slice.ensures.value at c.in-Ok.ensures in
+    let room = subst (λ ds. HasRoom c.args.bus.now (map g.D.Disk.state ds)) c.as_slice.ensures.value c.in-Ok.ensures in
     absurd (room_not_9 c.args.start c.args.bus.now (map g.D.Disk.state c.args.disks.now.items) (map g.D.Disk.state c.open_in_room.new.disks.items) c.in-Err-open_in_room.fault
     room c.in-Err-open_in_room.ensures.refused is)
