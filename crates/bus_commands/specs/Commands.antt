@@ -88,7 +88,8 @@ use Rattle.world_runs.specs.WorldRuns.{IsFirstOf, EachSkipsLittle, Honest, World
 -- its line and the world behind it; `last` is the world behind them all.
 pub record HeadlineRun (first : World) (bus : NamedBus) (d : DiskStates) (events : List Event) (moments : Moments)
     (last : World) : Type 0 where
-  -- The first world is sound, has the nodes of the bus, just powered up, and one sender for each Data ID.
+  -- In the first world nothing was done or sent yet; it has as many nodes as the bus, each sound, up, and with its
+  -- counters at their kept bounds; and each Data ID has one sender.
   pub begins : IsFirstOf bus first
   -- Each moment is a step of the machine, and their events are the first of those that were asked for, in order.
   pub is_a_run : Run Step first moments last
