@@ -63,8 +63,7 @@ use Rattle.bus_commands.specs.Texts.{usage, IsOutput}
 use Rattle.bus_commands.specs.Texts.{fault_of}
 use Rattle.bus_commands.specs.declared.summary.Summary.{Summary}
 use Rattle.bus_commands.specs.Summaries.{summary_of, summary_text}
--- `Written text before after events result moments`: where the result is Ok, all events were done, and the text of each
--- line was written; at `SinkFailed` a proper front alone of that of the last event that was done, at `Memory` nothing.
+-- `Written`: which texts of the lines were written, by the result: told at `WrittenRun`.
 use Rattle.numbered_run.specs.declared.printing.Unwritten.{Unwritten}
 use Rattle.numbered_run.specs.declared.printing.Unwritten.TheVariants as unwritten
 use Rattle.numbered_run.specs.Printed.{Written}
@@ -122,7 +121,9 @@ pub record HeadlineRun (first : World) (bus : NamedBus) (d : DiskStates) (events
   -- disk failed; and over quiet disks, without cuts and faults, the events alone determine the lines.
   pub honest : Honest first bus d.before events moments
 
--- what a replay did: one run from this first world, of which the sink has the texts of the lines
+-- What a replay did: one run from this first world, and what the sink has of its lines. `Ok`: all events were done, and
+-- the text of each line was written. `Err SinkFailed`, `Err Memory`: the first events were done, and the texts of their
+-- lines were written, but of the last one a proper front alone, or nothing.
 pub record WrittenRun (first : World) (bus : NamedBus) (d : DiskStates) (events : List Event) (e : Ending)
     (result : Result (Unit {0}) Unwritten) : Type 0 where
   pub moments : Moments
