@@ -110,8 +110,8 @@ pub record HeadlineRun (first : World) (bus : NamedBus) (d : DiskStates) (events
   -- Lines that tell a failed disk are at most the rise of its count, and none before an event arms a quiet disk.
   pub failures : (i : ℕ) (disk : DiskState) → i < length bus.nodes
       → FailuresTold (mark_at i) (fails_at i) moments (get_or d.before i disk) (get_or d.after i disk)
-  -- A PDU that comes in time, under the right key, is accepted as it was sent, or the disk failed; and without cuts and
-  -- faults the events alone determine the lines.
+  -- A PDU that comes in time, under the right key, is accepted as it was sent, or the disk failed; and over quiet disks,
+  -- without cuts and faults, the events alone determine the lines.
   pub honest : Honest first bus d.before events moments
 
 -- What a replay did: one run, of which the sink has the texts of the lines. `Ok`: of all events. `Err`: of the first
