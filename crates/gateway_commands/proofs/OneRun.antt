@@ -1,6 +1,6 @@
 -- The turns of a gateway over a disk that tells its bytes are a run of its machine, and what holds of it
-use Rattle.std.specs.Prelude.{◌≡◌, ℕ, ◌+◌, ◌<◌, ◌≤◌, false, None, Some, List, [], ◌∷◌, length, take, drop, get_or, map, Result}
-use Rattle.std.proofs.Common.{refl, sym, ap, ◌∙◌, subst, arith}
+use Rattle.std.specs.Prelude.{◌≡◌, ℕ, ◌+◌, ◌≤◌, false, None, Some, List, [], ◌∷◌, length, drop, get_or, map, Result}
+use Rattle.std.proofs.Common.{sym, ap, ◌∙◌, subst, arith}
 use Rattle.std.proofs.lemmas.List.{length-drop}
 use Rattle.bus_port.specs.Sink.{SinkState}
 use Rattle.cut_disk.specs.State.{DiskState, Told, Entry}
@@ -39,7 +39,7 @@ use Rattle.secoc_gateway.specs.Laws.{GatewayTurnsKeep}
 use Rattle.gateway_commands.specs.Texts.{gateway_text}
 use Rattle.gateway_commands.specs.Inputs.{gate_config, gate_node}
 use Rattle.gateway_commands.specs.Runs.{RanGateway}
-use Rattle.gateway_commands.specs.Headline.{TellsFirst, DiskFollows, FailuresAreCounted, OneGatewayRun}
+use Rattle.gateway_commands.specs.Headline.{TellsFirst, FailuresAreCounted, OneGatewayRun}
 use Rattle.gateway_commands.proofs.Seen.{first_commands, written_as}
 
 -- any disk

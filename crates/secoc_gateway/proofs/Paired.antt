@@ -1,6 +1,6 @@
 -- Pairs that are good stay so, and an arrival under the first of one is a step of the gateway
 use Rattle.std.specs.Prelude.{◌≡◌, ℕ, suc, ◌<◌, ◌==◌, Bool, true, false, cond, Option, Some, Result, List, [], ◌∷◌, length, find, option_map}
-use Rattle.std.proofs.Common.{refl, sym, ◌∙◌, ap, subst, arith}
+use Rattle.std.proofs.Common.{refl, sym, ◌∙◌, subst, arith}
 use Rattle.freshness_routes.specs.declared.routes.Direction.TheVariants.{Sends, Receives}
 use Rattle.bus_machine.specs.declared.events.Event.{Event}
 use Rattle.bus_machine.specs.declared.events.Event.TheVariants.{Inject}

@@ -1,7 +1,7 @@
 -- What a turn of a gateway keeps, from the turns of its node
 use Rattle.std.specs.Prelude.{◌≡◌, ℕ, Option, None, Some, List, []}
 use Rattle.std.proofs.Common.{refl, sym, ◌∙◌, ap, subst, arith}
-use Rattle.machine_runs.specs.Run.{Moment, Run, seen_as}
+use Rattle.machine_runs.specs.Run.{seen_as}
 use Rattle.machine_runs.specs.RunLaws.{Run-seen_as}
 use Rattle.cut_disk.specs.declared.Mark.{Mark}
 use Rattle.cut_disk.specs.Calls.{Runs}

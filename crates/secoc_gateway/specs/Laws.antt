@@ -1,5 +1,5 @@
 -- What holds of the turns of gateways, as statements
-use Rattle.std.specs.Prelude.{◌≡◌, ℕ, List}
+use Rattle.std.specs.Prelude.{◌≡◌, List}
 use Rattle.machine_runs.specs.Run.{Moment, Run, seen_as}
 use Rattle.store_runs.specs.DiskTurns.{DiskTurn}
 use Rattle.bus_machine.specs.declared.events.Event.{Event}
