@@ -33,7 +33,7 @@ goes_on_one node event line after s step = record {
 
 pub goes_on : (pairs : List (ℕ × ℕ)) (node : Node) (event : Event) (line : GatewayLine) (after : Node) → Sound node → GatewayStep EventStep pairs node event line after → GoesOn node after
 goes_on pairs node event line after s step =
-    GatewayStep-keeps EventStep (λ n m. Sound n → GoesOn n m) (λ n sound. record { sound = sound; grows = Grows-same n })
+    GatewayStep-keeps EventStep (λ (n : Node) (m : Node). Sound n → GoesOn n m) (λ n sound. record { sound = sound; grows = Grows-same n })
     (λ n m l first second sound.
     let one = first sound in
     let two = second one.sound in

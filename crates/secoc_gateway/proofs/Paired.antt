@@ -55,7 +55,7 @@ good_routes node pairs id out good e =
 
 pub passes_config : (out : ℕ) (before : Node) (event : Event) (line : GatewayLine) (after : Node) → PassesOn EventStep out before event line after → after.config ≡ before.config
 passes_config out before event line after step =
-    PassesOn-keeps EventStep (λ (n m : Node). m.config ≡ n.config) (λ n. refl) (λ n m l one two. two ∙ one)
+    PassesOn-keeps EventStep (λ (n : Node) (m : Node). m.config ≡ n.config) (λ n. refl) (λ n m l one two. two ∙ one)
     (λ n e told m one. step_config n (act_of nothing_sent e) told m one) out before event line after step
 
 pub step_of_pair : {S : Type 0} (steps : NodeSteps S) (pairs : List (ℕ × ℕ)) (id out told : ℕ) (before after : S) (place : ℕ) (pdu bytes : List ℕ) (result : Result Arrival NodeFault)
