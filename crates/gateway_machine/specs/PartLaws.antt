@@ -36,7 +36,7 @@ module _ {S : Type 0} (steps : NodeSteps S) (pairs : List (ℕ × ℕ)) where
         ∷ record { command = Send (node_of m.command) out payload; line = departs.0; after = m.after }
         ∷ [];
     run = (arrives, (departs.1, refl));
-    are = (refl, (out, (is, (refl, departs.2))), refl);
+    are = (refl, (out, is, (refl, departs.2)), refl);
   }
   departed_parts out before between first m is arrives departs = record {
     parts = record { command = m.command; line = first; after = between } ∷ [];
