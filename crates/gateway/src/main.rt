@@ -40,7 +40,8 @@ fn main(rt: HostRuntime) -> ExitCode {
 
 /// Runs a gateway over the sources that the words of the command line name, the program's name first, or the example
 /// where there is none behind it; over one blank disk. The sources of the bus file and of the script are handed back as
-/// the gateway left them. Of words of another form nothing is opened.
+/// the gateway left them. Of words of another form nothing is opened, which no clause says, but rows of the built
+/// program show.
 fn start<O: Opener, I: Source + Drop, K: Sink>(
     alloc: Global,
     opener: &O,

@@ -1,13 +1,12 @@
 -- The second phase, put together
 use Rattle.std.specs.Prelude.{ℕ, List}
-use Rattle.answer_rows.specs.Rows.{Row}
-use Rattle.answer_rows.specs.Endings.{Ending, EndsInRow}
+use Rattle.answer_rows.specs.Endings.{Ending}
 use Rattle.answer_rows.specs.EndingLaws.{EndsInRow-more}
 use Rattle.bus_machine.specs.declared.events.Event.{Event}
 use Rattle.bus_nodes.specs.Buses.{NamedBus}
 use Rattle.bus_world.specs.StartAnswers.{DiskStates}
 use Rattle.gateway_commands.specs.Inputs.{GatewayInputs, SetsGateway}
-use Rattle.gateway_commands.specs.Rows.{RowOfInputs, without_disks, not_started, RowOfGateway, EndsGateway, in_row, ran}
+use Rattle.gateway_commands.specs.Rows.{not_started, EndsGateway, in_row, ran}
 use Rattle.gateway_commands.specs.Steps.{DoesGateway, refused_start, first_done}
 
 -- a job that was done

@@ -1,12 +1,9 @@
 -- What each row of a gateway's table says of the words and of the sources
-use Rattle.std.specs.Prelude.{◌≡◌, ◌⊎◌, ℕ, Option, None, Some, List, [], ◌∷◌, map, Result, Ok, Err}
-use Rattle.std.proofs.Common.{refl, sym, ap, ◌∙◌, subst, arith, inl, inr}
-use Rattle.std.proofs.lemmas.Option.{same_Some}
-use Rattle.command_edge.specs.Input.{input_fault_status, input_fault_text}
-use Rattle.command_edge.specs.declared.input.InputFault.{InputFault}
-use Rattle.command_edge.specs.declared.input.InputFault.TheVariants as input
+use Rattle.std.specs.Prelude.{◌≡◌, ◌⊎◌, ℕ, Some, List, [], ◌∷◌, map, Result, Ok, Err}
+use Rattle.std.proofs.Common.{refl, sym, ap, ◌∙◌, subst, inl, inr}
+use Rattle.command_edge.specs.Input.{input_fault_text}
 use Rattle.text_lines.specs.Readings.{Fault}
-use Rattle.answer_rows.specs.Rows.{Row, memory_row}
+use Rattle.answer_rows.specs.Rows.{Row}
 use Rattle.answer_rows.specs.Inputs.{Reading, Offers}
 use Rattle.answer_rows.specs.InputLaws.{Offers-whole}
 use Rattle.bus_config.specs.declared.fault.ConfigFault.{ConfigFault}
@@ -16,11 +13,11 @@ use Rattle.bus_nodes.specs.Buses.{NamedBus}
 use Rattle.bus_script.specs.EventForms.{own_events_of}
 use Rattle.bus_world.specs.declared.start.Start.TheVariants.{Format}
 use Rattle.bus_world.specs.StartAnswers.{DiskStates, ComesOfStart}
-use Rattle.bus_inputs.specs.BusFiles.{ReadsBus, OffersBus}
+use Rattle.bus_inputs.specs.BusFiles.{OffersBus}
 use Rattle.bus_inputs.specs.BusFileLaws.{same_bus, ReadsCalmly, calm_unread, calm_whole, RowTells, told_first, told_second, bus_or_fault, offered_no_fault, memory_status}
-use Rattle.gateway_commands.specs.Words.{pair_form, AsksGateway, AsksNoGateway}
+use Rattle.gateway_commands.specs.Words.{AsksGateway, AsksNoGateway}
 use Rattle.gateway_commands.specs.Inputs.{GatewayInputs, TakesPairs, RefusesPairs, other_number, bad_pair, RefusesConfig, of_file, of_bus, SetsPairs, SetsGateway, OffersGateway}
-use Rattle.gateway_commands.specs.Rows.{ScriptHasFault, RowOfInputs, no_form, no_config, config_refused, no_script, script_refused, RowOfGateway, without_disks, not_started}
+use Rattle.gateway_commands.specs.Rows.{RowOfInputs, no_form, no_config, config_refused, no_script, script_refused, RowOfGateway, without_disks, not_started}
 
 -- ---- the words
 

@@ -1,6 +1,6 @@
 -- How a gateway ends gives all that it promises
-use Rattle.std.specs.Prelude.{◌≡◌, ◌≢◌, ◌⊎◌, ℕ, List, [], Option, None, Some, Result, Ok, Err, codes}
-use Rattle.std.proofs.Common.{refl, sym, ap, ◌∙◌, subst, arith, inl, inr}
+use Rattle.std.specs.Prelude.{◌≡◌, ◌≢◌, ◌⊎◌, ℕ, List, Result, Ok, Err, codes}
+use Rattle.std.proofs.Common.{refl, subst, arith, inl, inr}
 use Rattle.command_edge.specs.Input.{input_fault_status}
 use Rattle.command_edge.specs.declared.input.InputFault.{InputFault}
 use Rattle.command_edge.specs.declared.input.InputFault.TheVariants as input
@@ -30,7 +30,7 @@ use Rattle.bus_inputs.specs.BusFileLaws.{same_bus, told_fault, told_too_much, bu
 use Rattle.gateway_commands.specs.Headline.{TellsFirst, OneGatewayRun}
 use Rattle.gateway_commands.specs.Words.{AsksGateway, AsksNoGateway}
 use Rattle.gateway_commands.specs.Texts.{gateway_usage}
-use Rattle.gateway_commands.specs.Inputs.{GatewayInputs, RefusesPairs, RefusesConfig, NoGatewayConfig, NoGatewayScript, SetsGateway, OverGateway, OffersGateway}
+use Rattle.gateway_commands.specs.Inputs.{GatewayInputs, RefusesPairs, RefusesConfig, NoGatewayConfig, NoGatewayScript, OverGateway, OffersGateway}
 use Rattle.gateway_commands.specs.Rows.{ScriptHasFault, RowOfInputs, no_form, no_config, config_refused, no_script, script_refused, RowOfGateway, without_disks, not_started, DoneGateway, EndsGateway, in_row, ran}
 use Rattle.gateway_commands.specs.Promises.{CutShort, EndsEarly, unprepared, unstarted, begun, RunsGateway}
 use Rattle.gateway_commands.proofs.Facts.{calm_gateway, row_tells, row_asks, row_refuses, set_not_refused, row_refuses_pairs, OfOffered, offered_events, row_offered}

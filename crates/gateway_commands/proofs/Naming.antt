@@ -1,5 +1,5 @@
 -- The sources that the words of a gateway name
-use Rattle.std.proofs.Common.{◌≡◌, ◌<◌, ◌≤◌, ℕ, List, [], ◌∷◌, length, get_or, map, drop, refl, ap, subst, sym, ◌∙◌, arith}
+use Rattle.std.proofs.Common.{◌≡◌, ◌≤◌, ℕ, List, [], ◌∷◌, length, get_or, map, drop, refl, ap, subst, sym, ◌∙◌, arith}
 use Rattle.bus_port.specs.Source.{SourceState}
 use Rattle.named_sources.specs.NamedSources.{missing_source, IsNamed, AreBothDashes}
 use Rattle.gateway_commands.specs.Words.{AsksSomeGateway}

@@ -14,7 +14,6 @@ use Rattle.secoc_node.specs.State.{NodeState}
 use Rattle.bus_world.specs.declared.start.Start.TheVariants.{Format}
 use Rattle.bus_world.specs.Starts.{OpensNodes, Opened, disks_of}
 use Rattle.secoc_gateway.specs.Pairs.{AreGood}
-use Rattle.secoc_gateway.specs.State.{over}
 use Rattle.gateway_commands.specs.Inputs.{TakesPairs, gate_config}
 use Rattle.gateway_commands.specs.Runs.{RanGateway}
 use Rattle.gateway_commands.specs.Steps.{PrintsTurns}

@@ -1,8 +1,7 @@
 -- The turns of a gateway over a disk that tells its bytes are a run of its machine, and what holds of it
-use Rattle.std.specs.Prelude.{◌≡◌, ℕ, ◌+◌, ◌<◌, ◌≤◌, false, None, Some, List, [], ◌∷◌, length, take, drop, get_or, map, Result}
-use Rattle.std.proofs.Common.{refl, sym, ap, ◌∙◌, subst, arith}
+use Rattle.std.specs.Prelude.{◌≡◌, ℕ, ◌+◌, ◌≤◌, false, None, Some, List, [], ◌∷◌, length, drop, get_or, map, Result}
+use Rattle.std.proofs.Common.{sym, ap, ◌∙◌, subst, arith}
 use Rattle.std.proofs.lemmas.List.{length-drop}
-use Rattle.std.proofs.lemmas.Option.{same_Some}
 use Rattle.bus_port.specs.Sink.{SinkState}
 use Rattle.cut_disk.specs.State.{DiskState, Told, Entry}
 use Rattle.cut_disk.specs.Arming.{no_arms}
@@ -15,7 +14,6 @@ use Rattle.store_runs.specs.DiskTurns.{DiskTurn, OpenedDisk, TellsBytes, TracedS
 use Rattle.store_runs.specs.DiskTurnLaws.{traced_since, failures_told}
 use Rattle.freshness_routes.specs.Config.{Config}
 use Rattle.bus_machine.specs.declared.events.Event.{Event}
-use Rattle.bus_machine.specs.declared.events.Event.TheVariants as event
 use Rattle.bus_machine.specs.Node.{Node, first_node, powered}
 use Rattle.bus_machine.specs.Sound.{Sound}
 use Rattle.bus_machine.specs.Bus.{First, SoundBus}
@@ -26,20 +24,22 @@ use Rattle.bus_nodes.specs.Buses.{NamedBus, IsNamedBus, configs_of}
 use Rattle.bus_nodes.specs.Laws.{NamedBusesAreBuses}
 use Rattle.bus_script.specs.EventForms.{node_line_at}
 use Rattle.secoc_node.specs.Fits.{FitsNode}
-use Rattle.secoc_node.specs.State.{NodeState, FitsNow, TellsFitting}
+use Rattle.secoc_node.specs.State.{NodeState, TellsFitting}
 use Rattle.secoc_node.proofs.FitsLaws.{told_before}
 use Rattle.bus_world.specs.declared.start.Start.TheVariants.{Format}
-use Rattle.bus_world.specs.Turns.{IsCertain, most_calls}
+use Rattle.bus_world.specs.Turns.{most_calls}
 use Rattle.bus_world.specs.Starts.{start_calls, Opened}
+use Rattle.bus_world.proofs.StepLaws.{certain_of}
 use Rattle.gateway_machine.specs.declared.lines.GatewayLine.{GatewayLine}
 use Rattle.gateway_machine.specs.Gateway.{departs_under, EventStep, GatewayStep, GatewayMoments, GatewayRun}
 use Rattle.gateway_machine.specs.Laws.{RunsForwardWhatArrived, ArrivalsRise, DeparturesRise}
 use Rattle.secoc_gateway.specs.State.{GatewayState, over}
 use Rattle.secoc_gateway.specs.Turns.{calls_under, most_gateway_calls, tells_gateway_failure, GatewayTurn}
+use Rattle.secoc_gateway.specs.Laws.{GatewayTurnsKeep}
 use Rattle.gateway_commands.specs.Texts.{gateway_text}
 use Rattle.gateway_commands.specs.Inputs.{gate_config, gate_node}
 use Rattle.gateway_commands.specs.Runs.{RanGateway}
-use Rattle.gateway_commands.specs.Headline.{TellsFirst, DiskFollows, FailuresAreCounted, OneGatewayRun}
+use Rattle.gateway_commands.specs.Headline.{TellsFirst, FailuresAreCounted, OneGatewayRun}
 use Rattle.gateway_commands.proofs.Seen.{first_commands, written_as}
 
 -- any disk
@@ -53,6 +53,7 @@ pub record Laws : Type 0 where
   pub forwards : RunsForwardWhatArrived
   pub arrivals : ArrivalsRise
   pub departures : DeparturesRise
+  pub turns : GatewayTurnsKeep
 
 -- ---- the first node
 
@@ -71,21 +72,6 @@ record Holds (l : Layout) (pairs : List (ℕ × ℕ)) (g : GatewayState) : Type 
   pub pairs_are : g.pairs ≡ pairs
   pub layout_is : g.store.layout ≡ l
 
-fits_of : (n : NodeState) → TellsFitting n → FitsNow n
-fits_of n fits = λ told is. subst (FitsNode n.store.layout n.node) (same_Some fits.now told (sym fits.told ∙ is)) fits.fits
-
--- over such a disk every event is certain
-certain_of : (e : Event) (n : NodeState) → TellsFitting n → IsCertain (mark_of e) n
-certain_of (event.Send node id payload) n fits = tt
-certain_of (event.Deliver node number) n fits = tt
-certain_of (event.Inject node id pdu) n fits = tt
-certain_of (event.Load node request) n fits = tt
-certain_of (event.Key node update authkey) n fits = tt
-certain_of (event.Boot node image) n fits = tt
-certain_of (event.Cut node torn) n fits = fits
-certain_of (event.Stop node calls) n fits = tt
-certain_of (event.Fail node calls) n fits = tt
-
 abbrev GatewayMoment : Type 0
 GatewayMoment = Moment Event GatewayLine GatewayState
 
@@ -93,20 +79,16 @@ GatewayMoment = Moment Event GatewayLine GatewayState
 abbrev seen : List GatewayMoment → GatewayMoments
 seen ms = seen_as (λ (e : Event). e) (λ (g : GatewayState). g.node) ms
 
-module _ (l : Layout) (pairs : List (ℕ × ℕ)) where
+module _ (keep : GatewayTurnsKeep) (l : Layout) (pairs : List (ℕ × ℕ)) where
   turn_holds : (s : GatewayState) (e : Event) (line : GatewayLine) (t : GatewayState) → Holds l pairs s → GatewayTurn s e line t → Holds l pairs t
   turn_holds s e line t h turn =
-      let tells = told_before t.store.disk.told s.store.disk.told (sym turn.disk.runs.tells) h.fitting.now h.fitting.told in
-      record {
-        fitting = record { now = tells.0; told = tells.1; fits = turn.fits (fits_of (over s) h.fitting) tells.0 tells.1 };
-        pairs_are = turn.pairs ∙ h.pairs_are;
-        layout_is = turn.layout ∙ h.layout_is;
-      }
+      let kept = keep s e line t turn in
+      record { fitting = kept.fitting h.fitting; pairs_are = kept.pairs ∙ h.pairs_are; layout_is = kept.layout ∙ h.layout_is }
 
   turn_steps : (s : GatewayState) (e : Event) (line : GatewayLine) (t : GatewayState) → Holds l pairs s → GatewayTurn s e line t
       → GatewayStep EventStep pairs s.node e line t.node × Holds l pairs t
   turn_steps s e line t h turn = (
-    subst (λ (ps : List (ℕ × ℕ)). GatewayStep EventStep ps s.node e line t.node) h.pairs_are (turn.step (certain_of e (over s) h.fitting)),
+    subst (λ (ps : List (ℕ × ℕ)). GatewayStep EventStep ps s.node e line t.node) h.pairs_are ((keep s e line t turn).step (certain_of e (over s) h.fitting)),
     turn_holds s e line t h turn,
   )
 
@@ -118,10 +100,11 @@ module _ (l : Layout) (pairs : List (ℕ × ℕ)) where
 
   turn_disk : (s : GatewayState) (e : Event) (line : GatewayLine) (t : GatewayState) → Holds l pairs s → GatewayTurn s e line t
       → DiskTurn (mark_of e) (most_gateway_calls pairs t.node e) (tells_gateway_failure line) s.store.disk t.store.disk × Holds l pairs t
-  turn_disk s e line t h turn = (
-    subst (λ (n : ℕ). DiskTurn (mark_of e) n (tells_gateway_failure line) s.store.disk t.store.disk) (same_calls s t e h.pairs_are turn.config) turn.disk,
-    turn_holds s e line t h turn,
-  )
+  turn_disk s e line t h turn =
+      let kept = keep s e line t turn in (
+        subst (λ (n : ℕ). DiskTurn (mark_of e) n (tells_gateway_failure line) s.store.disk t.store.disk) (same_calls s t e h.pairs_are kept.config) kept.disk,
+        turn_holds s e line t h turn,
+      )
 
   run_holds : (start : GatewayState) (ms : List GatewayMoment) (now : GatewayState) → Holds l pairs start → Run GatewayTurn start ms now → Holds l pairs now
   run_holds start [] now h run = subst (Holds l pairs) (sym run) h
@@ -176,12 +159,12 @@ module _ (laws : Laws) (bus : NamedBus) (pairs : List (ℕ × ℕ)) (before afte
       let opened = ran.opened no_disk in opened.just_powered ∙ ap (powered (gate_config bus)) (opened.kept told.0 told.1).kept_as
 
   ends : Holds l pairs ran.now
-  ends = run_holds l pairs ran.start ms ran.now starts ran.printed.run
+  ends = run_holds laws.turns l pairs ran.start ms ran.now starts ran.printed.run
 
   is_run : GatewayRun pairs (gate_node bus) (seen ms) ran.now.node
   is_run =
       subst (λ (n : Node). GatewayRun pairs n (seen ms) ran.now.node) starts_first
-      (Run-seen_as GatewayTurn (GatewayStep EventStep pairs) (λ (e : Event). e) (λ (g : GatewayState). g.node) (Holds l pairs) (turn_steps l pairs)
+      (Run-seen_as GatewayTurn (GatewayStep EventStep pairs) (λ (e : Event). e) (λ (g : GatewayState). g.node) (Holds l pairs) (turn_steps laws.turns l pairs)
       ran.start ms ran.now starts ran.printed.run)
 
   sound : Sound (gate_node bus)
@@ -192,7 +175,7 @@ module _ (laws : Laws) (bus : NamedBus) (pairs : List (ℕ × ℕ)) (before afte
 
   fit : (d : DiskState) → (told : Told) × ((get_or after 0 d).told ≡ Some told) × FitsNode l ran.now.node told
   fit d =
-      let now = tells_bytes l pairs ran.now ends in
+      let now = tells_bytes laws.turns l pairs ran.now ends in
       (now.now, ap (λ (disk : DiskState). disk.told) (disk_back d) ∙ now.told, now.fit)
 
   traced : (d : DiskState) (all : List Entry) → (get_or after 0 d).past ≡ Some all
@@ -200,7 +183,7 @@ module _ (laws : Laws) (bus : NamedBus) (pairs : List (ℕ × ℕ)) (before afte
   traced d all told =
       subst (λ (n : Node). TracedSince mark_of (most_gateway_calls pairs) (FitsNode l) n (seen ms) (get_or before 0 d) all) starts_first
       (traced_since GatewayTurn (λ (g : GatewayState). g.node) (λ (g : GatewayState). g.store.disk) mark_of (most_gateway_calls pairs)
-      (λ (e : Event) (line : GatewayLine). tells_gateway_failure line) (Holds l pairs) (turn_disk l pairs) (FitsNode l) (tells_bytes l pairs)
+      (λ (e : Event) (line : GatewayLine). tells_gateway_failure line) (Holds l pairs) (turn_disk laws.turns l pairs) (FitsNode l) (tells_bytes laws.turns l pairs)
       (start_calls Format bus.kind (gate_config bus)) (get_or before 0 d) ran.start ms ran.now (opened_disk bus (get_or before 0 d) (over ran.start) (ran.opened d))
       starts ran.printed.run all (ap (λ (disk : DiskState). disk.past) (sym (disk_back d)) ∙ told))
 
@@ -208,7 +191,7 @@ module _ (laws : Laws) (bus : NamedBus) (pairs : List (ℕ × ℕ)) (before afte
   failures d =
       subst (λ (disk : DiskState). FailuresTold mark_of (λ (e : Event) (line : GatewayLine). tells_gateway_failure line) (seen ms) (get_or before 0 d) disk) (sym (disk_back d))
       (failures_told GatewayTurn (λ (g : GatewayState). g.node) (λ (g : GatewayState). g.store.disk) mark_of (most_gateway_calls pairs)
-      (λ (e : Event) (line : GatewayLine). tells_gateway_failure line) (Holds l pairs) (turn_disk l pairs)
+      (λ (e : Event) (line : GatewayLine). tells_gateway_failure line) (Holds l pairs) (turn_disk laws.turns l pairs)
       (start_calls Format bus.kind (gate_config bus)) (get_or before 0 d) ran.start ms ran.now (opened_disk bus (get_or before 0 d) (over ran.start) (ran.opened d))
       starts ran.printed.run)
 

@@ -1,5 +1,5 @@
 -- The first phase, put together
-use Rattle.std.specs.Prelude.{◌≡◌, ◌⊎◌, ℕ, List, [], ◌∷◌, length, get_or, Result, Ok, Err, Vec}
+use Rattle.std.specs.Prelude.{◌≡◌, ℕ, List, [], ◌∷◌, length, get_or, Result, Ok, Err, Vec}
 use Rattle.std.specs.declared.alloc.Global.{Global}
 use Rattle.std.proofs.Common.{sym, ap, ◌∙◌, subst, arith, inl, inr}
 use Rattle.command_edge.specs.declared.input.InputFault.TheVariants as input
@@ -15,7 +15,7 @@ use Rattle.bus_inputs.specs.BusFiles.{LacksBus, no_file, file_refused}
 use Rattle.bus_inputs.specs.Scripts.{LacksLines, no_lines, lines_refused}
 use Rattle.bus_inputs.specs.BusFileLaws.{LacksLines-read}
 use Rattle.gateway_commands.specs.Words.{AsksGateway}
-use Rattle.gateway_commands.specs.Inputs.{GatewayInputs, TakesPairs, of_file, of_bus, SetsPairs, SetsGateway}
+use Rattle.gateway_commands.specs.Inputs.{GatewayInputs, of_file, of_bus, SetsPairs}
 use Rattle.gateway_commands.specs.Rows.{RowOfInputs, no_form, no_config, config_refused, no_script, script_refused}
 use Rattle.gateway_commands.specs.Steps.{FindsPairs, ChecksPairs, HasOwnScript, FindsOwnScript}
 

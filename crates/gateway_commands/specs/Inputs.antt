@@ -1,5 +1,5 @@
 -- What goes into a gateway, and what of it is read
-use Rattle.std.specs.Prelude.{◌≡◌, ◌≢◌, ℕ, ◌+◌, List, length, Some, Ok, codes}
+use Rattle.std.specs.Prelude.{◌≡◌, ◌≢◌, ℕ, ◌+◌, List, length, Some, Ok}
 use Rattle.command_edge.specs.declared.input.InputFault.{InputFault}
 use Rattle.answer_rows.specs.Inputs.{Reading, IsUnread, ReadsWhole, Lacks}
 use Rattle.bus_config.specs.declared.fault.ConfigFault.{ConfigFault}

@@ -1,5 +1,5 @@
 -- The table of answers of a gateway: its rows, and when each comes
-use Rattle.std.specs.Prelude.{◌≡◌, ◌⊎◌, ℕ, List, Err, Result}
+use Rattle.std.specs.Prelude.{◌≡◌, ℕ, List, Err, Result}
 use Rattle.command_edge.specs.declared.input.InputFault.{InputFault}
 use Rattle.answer_rows.specs.Rows.{Row, row_of, input_row}
 use Rattle.answer_rows.specs.Inputs.{IsUnread}

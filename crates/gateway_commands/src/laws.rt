@@ -4,6 +4,7 @@ ghost use Rattle.gateway_commands.specs.Headline.{GatewaysAreRuns};
 use bus_laws::buses_begin_first;
 use bus_nodes::named_buses_are_buses;
 use gateway_machine::{arrivals_rise, departures_rise, forwards_what_arrived};
+use secoc_gateway::gateway_turns_keep;
 
 /// What was done of a gateway over a disk that tells its bytes is one run of its machine, and all of `OneGatewayRun`
 /// holds of it.
@@ -15,4 +16,5 @@ pub fn gateways_are_runs()
     forwards_what_arrived();
     arrivals_rise();
     departures_rise();
+    gateway_turns_keep();
 }

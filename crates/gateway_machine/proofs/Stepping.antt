@@ -17,6 +17,7 @@ use Rattle.bus_laws.proofs.Rising.{Above, tells_reaches}
 use Rattle.gateway_machine.specs.declared.lines.GatewayLine.{GatewayLine}
 use Rattle.gateway_machine.specs.declared.lines.GatewayLine.TheVariants.{OfNode}
 use Rattle.gateway_machine.specs.Gateway.{TellsDeparture, Departs, StepUnder, GatewayStep, departs_under, nothing_sent, EventStep}
+use Rattle.gateway_machine.specs.StepLaws.{GatewayStep-keeps}
 use Rattle.gateway_machine.specs.Claims.{TellsFreshness}
 
 -- what a step leaves: a sound node whose counters didn't fall
@@ -30,22 +31,14 @@ goes_on_one node event line after s step = record {
   grows = Grows-step node (act_of nothing_sent event) line after s step;
 }
 
-departs_goes_on : (place out : ℕ) (first : Line) (between : Node) (line : GatewayLine) (after : Node) → Sound between → Departs EventStep place out first between line after → GoesOn between after
-departs_goes_on place out (Accepted id v payload source) between line after s d = record {
-  sound = Sound-step between (sends out payload) d.0 after s d.1;
-  grows = Grows-step between (sends out payload) d.0 after s d.1;
-}
-departs_goes_on place out first between line after s d = subst (GoesOn between) (sym d.1) (record { sound = s; grows = Grows-same between })
-
-goes_on_under : (o : Option ℕ) (node : Node) (event : Event) (line : GatewayLine) (after : Node) → Sound node → StepUnder EventStep o node event line after → GoesOn node after
-goes_on_under (Some out) node event line after s step =
-    let one = goes_on_one node event step.first step.between s step.arrives in
-    let two = departs_goes_on (node_of event) out step.first step.between line after one.sound step.departs in
-    record { sound = two.sound; grows = Grows-on node step.between after one.grows two.grows }
-goes_on_under None node event line after s step = goes_on_one node event step.told after s step.step
-
 pub goes_on : (pairs : List (ℕ × ℕ)) (node : Node) (event : Event) (line : GatewayLine) (after : Node) → Sound node → GatewayStep EventStep pairs node event line after → GoesOn node after
-goes_on pairs node event line after = goes_on_under (departs_under pairs event) node event line after
+goes_on pairs node event line after s step =
+    GatewayStep-keeps EventStep (λ (n : Node) (m : Node). Sound n → GoesOn n m) (λ n sound. record { sound = sound; grows = Grows-same n })
+    (λ n m l first second sound.
+    let one = first sound in
+    let two = second one.sound in
+    record { sound = two.sound; grows = Grows-on n m l one.grows two.grows })
+    (λ n e told m one sound. goes_on_one n e told m sound one) pairs node event line after step s
 
 -- ---- a freshness that is told
 

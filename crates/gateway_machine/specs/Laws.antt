@@ -28,7 +28,8 @@ DeparturesRise = EachGatewayRun (λ pairs start ms last. FreshnessRises Sends ms
 abbrev pub RunsStaySound : Type 0
 RunsStaySound = EachGatewayRun (λ pairs start ms last. Sound last)
 
--- each run is a run of the node, part by part
+-- each run is a run of the node, part by part: an event is one step of it, or, just where a PDU that arrived under a
+-- pair's first Data ID was accepted, two, of which the second sends its payload under the pair's second
 abbrev pub RunsAreOfTheNode : Type 0
 RunsAreOfTheNode = EachGatewayRun (λ pairs start ms last.
-    (parts : List (Moment Event Line Node)) × Run EventStep start parts last × AreAllParts ms parts)
+    (parts : List (Moment Event Line Node)) × Run EventStep start parts last × AreAllParts pairs ms parts)

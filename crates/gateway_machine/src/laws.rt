@@ -1,15 +1,16 @@
-//! Each function has an empty body, and its contract is the law. A run begins at any sound node, as the first node of a bus is, and may
-//! have power cuts and failures of the disk anywhere.
-ghost use Rattle.gateway_machine.specs.Laws.{RunsForwardWhatArrived, ArrivalsRise, DeparturesRise, RunsStaySound, RunsAreOfTheNode};
+//! Each function has an empty body, and its contract is the law. A run begins at any sound node, as the first node of a
+//! bus is, and may have power cuts and failures of the disk anywhere.
+ghost use Rattle.gateway_machine.specs.Laws.{RunsForwardWhatArrived, ArrivalsRise, DeparturesRise, RunsStaySound};
+ghost use Rattle.gateway_machine.specs.Laws.{RunsAreOfTheNode};
 
-/// Each PDU that was forwarded is secured under the key of the second Data ID's route just then, with the payload of this very event's
-/// arrival, and that arrival was secured under the key of the first Data ID's route.
+/// Each PDU that was forwarded is secured under the key of the second Data ID's route just then, with the payload of
+/// this very event's arrival, and that arrival was secured under the key of the first Data ID's route.
 pub fn forwards_what_arrived()
     ensures { RunsForwardWhatArrived }
 {}
 
-/// The freshness of what arrives under one Data ID strictly rises, over all that was forwarded, dropped or accepted: no freshness is
-/// forwarded twice, and payloads keep their order.
+/// The freshness of what arrives under one Data ID strictly rises, over all that was forwarded, dropped or accepted: no
+/// freshness is forwarded twice, and payloads keep their order.
 pub fn arrivals_rise()
     ensures { ArrivalsRise }
 {}
@@ -24,8 +25,9 @@ pub fn stays_sound()
     ensures { RunsStaySound }
 {}
 
-/// A run of a gateway is a run of its node, part by part: each event is one step of the node, or an arrival and the departure that
-/// follows.
+/// A run of a gateway is a run of its node, part by part: each event is one step of the node, or, just where a PDU that
+/// arrived under the first Data ID of a pair was accepted, two: this arrival, and the send of its payload under the
+/// pair's second.
 pub fn runs_are_of_the_node()
     ensures { RunsAreOfTheNode }
 {}

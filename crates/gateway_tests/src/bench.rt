@@ -3,11 +3,15 @@ ghost use Rattle.std.specs.Prelude.{◌≡◌, ◌+◌, ◌≤◌, length};
 ghost use Rattle.cell_store.specs.Store.{FewCells};
 
 use any_cells::AnyCells;
+use bus_machine::{Event, Line, Refusal};
+use byte_lists::Bytes;
 use cell_store::{Kind, Reread, Version};
 use cut_disk::{MemDisk, Torn};
 use freshness_manager::{Direction, NodeConfig, Route};
+use gateway_machine::GatewayLine;
 use key_slots::{Counter28, Flags, SlotId};
 use memory_update::{Request, Uid, Update, build};
+use numbered_run::Machine;
 use secoc_gateway::{Arrival, Gateway};
 use secoc_node::{CutFault, Node, NodeFault, first_cells};
 use secoc_receiver::Reception;
@@ -27,6 +31,8 @@ pub enum Act {
     /// A boot with an image of one zero byte.
     Boot,
     Arrive(u16, &'static [u8]),
+    /// The event of a script that injects these bytes, as a step of the machine.
+    Inject(u16, &'static [u8]),
     Receive(u16, &'static [u8]),
     Second(u16),
     Count(u16, Direction),
@@ -227,6 +233,38 @@ fn arrives(
     }
 }
 
+fn injects(
+    alloc: Global,
+    gateway: &mut Gateway<AnyCells<MemDisk>>,
+    id: u16,
+    pdu: &[u8],
+    out: &mut [u8; 64],
+) -> Answer {
+    let Ok(pdu) = Vec::from_slice(alloc, pdu) else {
+        return Answer::NoAct;
+    };
+    let pdu = Bytes::of(pdu);
+    told(&gateway.step(&Event::Inject { node: 0, id, pdu }), out)
+}
+
+/// The answer that a line of an arrival tells.
+fn told(line: &GatewayLine, out: &mut [u8; 64]) -> Answer {
+    match line {
+        GatewayLine::Forwarded {
+            freshness,
+            sent_freshness,
+            pdu,
+            ..
+        } => {
+            *out = buffer(pdu.bytes());
+            Answer::Forwarded(*freshness, *sent_freshness)
+        }
+        GatewayLine::OfNode(Line::VerificationFailure) => Answer::VerificationFailure,
+        GatewayLine::OfNode(Line::Refused(Refusal::Down)) => Answer::Refused(NodeFault::Down),
+        _ => Answer::NoAct,
+    }
+}
+
 fn hears(gateway: &mut Gateway<AnyCells<MemDisk>>, id: u16, pdu: &[u8]) -> Answer {
     match gateway.receive(id, pdu) {
         Ok(said) => Answer::Heard(said),
@@ -259,6 +297,7 @@ fn fails(gateway: &mut Gateway<AnyCells<MemDisk>>, calls: u64) -> Answer {
 }
 
 fn does(
+    alloc: Global,
     gateway: &mut Gateway<AnyCells<MemDisk>>,
     given: &Given,
     act: &Act,
@@ -274,6 +313,7 @@ fn does(
         }
         Act::Boot => boots(gateway),
         Act::Arrive(id, pdu) => arrives(gateway, id, pdu, out),
+        Act::Inject(id, pdu) => injects(alloc, gateway, id, pdu, out),
         Act::Receive(id, pdu) => hears(gateway, id, pdu),
         Act::Second(id) => Answer::Id(gateway.second(id)),
         Act::Count(id, direction) => Answer::Count(gateway.counter(id, direction)),
@@ -310,7 +350,7 @@ pub fn plays(
     let mut gateway = gateway(alloc, shape, ways, pairs)?;
     for (place, row) in rows.iter().enumerate() {
         let mut out = buffer(&[]);
-        let answer = does(&mut gateway, given, &row.0, &mut out);
+        let answer = does(alloc, &mut gateway, given, &row.0, &mut out);
         assert_eq!(rt; answer, row.1, "row {place}");
         assert!(rt; out == buffer(row.2), "row {place}");
     }

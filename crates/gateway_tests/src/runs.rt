@@ -24,16 +24,15 @@ const ARRIVES: Way = Way {
     start: 0,
 };
 
-pub const GATE: [Way; 2] = [
-    ARRIVES,
-    Way {
-        id: OUT,
-        direction: Direction::Sends,
-        slot: 4,
-        reserve: 4,
-        start: START,
-    },
-];
+const DEPARTS: Way = Way {
+    id: OUT,
+    direction: Direction::Sends,
+    slot: 4,
+    reserve: 4,
+    start: START,
+};
+
+pub const GATE: [Way; 2] = [ARRIVES, DEPARTS];
 
 /// The payload `bee22e409f96` with the freshness 1 and 2 under the Data ID that arrives, and 1 with another tag.
 pub const FIRST_IN: &[u8] = &[0xbe, 0xe2, 0x2e, 0x40, 0x9f, 0x96, 0x01, 0x89, 0x8b, 0x20];
@@ -96,6 +95,90 @@ const ONCE: &[Row] = &[
 fn a_pdu_is_forwarded_once(rt: HostRuntime) -> Result<(), Fail> {
     for shape in SHAPES {
         plays(&rt, rt.alloc(), shape, &GATE, &PAIR, &NOTHING_GIVEN, ONCE)?;
+    }
+    Ok(())
+}
+
+/// A second pair, with routes of its own, and the same payload under each of its Data IDs with the freshness 1.
+const OTHER_IN: u16 = 0x101f;
+
+const OTHER_OUT: u16 = 0x201f;
+
+const TWO_GATES: [Way; 4] = [
+    ARRIVES,
+    DEPARTS,
+    Way {
+        id: OTHER_IN,
+        direction: Direction::Receives,
+        slot: 4,
+        reserve: 1,
+        start: 0,
+    },
+    Way {
+        id: OTHER_OUT,
+        direction: Direction::Sends,
+        slot: 4,
+        reserve: 1,
+        start: 0,
+    },
+];
+
+const TWO_PAIRS: [(u16, u16); 2] = [(IN, OUT), (OTHER_IN, OTHER_OUT)];
+
+const FIRST_OTHER_IN: &[u8] = &[0xbe, 0xe2, 0x2e, 0x40, 0x9f, 0x96, 0x01, 0x9d, 0x84, 0x4d];
+
+const FIRST_OTHER_OUT: &[u8] = &[0xbe, 0xe2, 0x2e, 0x40, 0x9f, 0x96, 0x01, 0x2f, 0x2b, 0x04];
+
+/// Each pair departs under its own second Data ID, as a step of the machine, too; then the disk stops.
+const EACH_ITS_OWN: &[Row] = &[
+    FIRST_KEY,
+    Row(Act::Second(OTHER_IN), Answer::Id(Some(OTHER_OUT)), &[]),
+    Row(
+        Act::Arrive(OTHER_IN, FIRST_OTHER_IN),
+        Answer::Forwarded(1, 1),
+        FIRST_OTHER_OUT,
+    ),
+    Row(
+        Act::Inject(IN, FIRST_IN),
+        Answer::Forwarded(1, START + 1),
+        FIRST_OUT,
+    ),
+    Row(
+        Act::Inject(OTHER_IN, FIRST_OTHER_IN),
+        Answer::VerificationFailure,
+        &[],
+    ),
+    Row(Act::Stop(1), Answer::Done, &[]),
+    Row(
+        Act::Arrive(IN, SECOND_IN),
+        Answer::Refused(NodeFault::Faulted),
+        &[],
+    ),
+    Row(
+        Act::Inject(IN, SECOND_IN),
+        Answer::Refused(NodeFault::Down),
+        &[],
+    ),
+    Row(Act::Cut(Torn::Keep), Answer::Done, &[]),
+    Row(
+        Act::Inject(IN, SECOND_IN),
+        Answer::Forwarded(2, START + 5),
+        AFTER_CUT,
+    ),
+];
+
+#[test]
+fn each_pair_departs_under_its_own_second(rt: HostRuntime) -> Result<(), Fail> {
+    for shape in SHAPES {
+        plays(
+            &rt,
+            rt.alloc(),
+            shape,
+            &TWO_GATES,
+            &TWO_PAIRS,
+            &NOTHING_GIVEN,
+            EACH_ITS_OWN,
+        )?;
     }
     Ok(())
 }

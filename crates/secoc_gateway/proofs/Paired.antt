@@ -1,19 +1,17 @@
 -- Pairs that are good stay so, and an arrival under the first of one is a step of the gateway
-use Rattle.std.specs.Prelude.{◌≡◌, ℕ, suc, ◌<◌, ◌==◌, Bool, true, false, cond, Some, Result, List, [], ◌∷◌, length, find, option_map}
-use Rattle.std.proofs.Common.{refl, sym, ◌∙◌, ap, subst, arith}
+use Rattle.std.specs.Prelude.{◌≡◌, ℕ, suc, ◌<◌, ◌==◌, Bool, true, false, cond, Option, Some, Result, List, [], ◌∷◌, length, find, option_map}
+use Rattle.std.proofs.Common.{refl, sym, ◌∙◌, subst, arith}
 use Rattle.freshness_routes.specs.declared.routes.Direction.TheVariants.{Sends, Receives}
 use Rattle.bus_machine.specs.declared.events.Event.{Event}
 use Rattle.bus_machine.specs.declared.events.Event.TheVariants.{Inject}
-use Rattle.bus_machine.specs.declared.lines.Line.{Line}
-use Rattle.bus_machine.specs.declared.lines.Line.TheVariants.{Accepted}
 use Rattle.freshness_routes.specs.Config.{Config}
 use Rattle.bus_machine.specs.Node.{Node, HasRoute}
-use Rattle.bus_machine.specs.Steps.{sends}
-use Rattle.bus_machine.specs.Bus.{node_of, act_of}
+use Rattle.bus_machine.specs.Bus.{act_of}
 use Rattle.bus_laws.proofs.SoundSteps.{same_some, eq_of_test}
 use Rattle.secoc_node.specs.declared.faults.NodeFault.{NodeFault}
 use Rattle.gateway_machine.specs.declared.lines.GatewayLine.{GatewayLine}
-use Rattle.gateway_machine.specs.Gateway.{second_of, Departs, PassesOn, StepUnder, GatewayStep, EventStep, nothing_sent}
+use Rattle.gateway_machine.specs.Gateway.{NodeSteps, second_of, PassesOn, StepUnder, GatewayStep, EventStep, nothing_sent}
+use Rattle.gateway_machine.specs.StepLaws.{PassesOn-keeps}
 use Rattle.secoc_gateway.specs.declared.arrival.Arrival.{Arrival}
 use Rattle.secoc_gateway.specs.Arrivals.{arrival_line}
 use Rattle.secoc_gateway.specs.Pairs.{pair_in, AreGood}
@@ -55,18 +53,14 @@ good_routes node pairs id out good e =
 
 -- ---- the step
 
-departs_config : (place out : ℕ) (first : Line) (between : Node) (line : GatewayLine) (after : Node) → Departs EventStep place out first between line after → after.config ≡ between.config
-departs_config place out (Accepted id v payload source) between line after d = step_config between (sends out payload) d.0 after d.1
-departs_config place out first between line after d = ap (λ (n : Node). n.config) d.1
-
 pub passes_config : (out : ℕ) (before : Node) (event : Event) (line : GatewayLine) (after : Node) → PassesOn EventStep out before event line after → after.config ≡ before.config
 passes_config out before event line after step =
-    departs_config (node_of event) out step.first step.between line after step.departs
-    ∙ step_config before (act_of nothing_sent event) step.first step.between step.arrives
+    PassesOn-keeps EventStep (λ (n : Node) (m : Node). m.config ≡ n.config) (λ n. refl) (λ n m l one two. two ∙ one)
+    (λ n e told m one. step_config n (act_of nothing_sent e) told m one) out before event line after step
 
-pub step_of_pair : (pairs : List (ℕ × ℕ)) (id out told : ℕ) (before after : Node) (place : ℕ) (pdu bytes : List ℕ) (result : Result Arrival NodeFault)
-    → second_of pairs id ≡ Some out → second_of pairs id ≡ Some told → PassesOn EventStep out before (Inject place id pdu) (arrival_line id out bytes result) after
-    → GatewayStep EventStep pairs before (Inject place id pdu) (arrival_line id told bytes result) after
-step_of_pair pairs id out told before after place pdu bytes result is also step =
-    subst (λ o. StepUnder EventStep o before (Inject place id pdu) (arrival_line id told bytes result) after) (sym is)
-    (subst (λ i. PassesOn EventStep out before (Inject place id pdu) (arrival_line id i bytes result) after) (same_some out told (sym is ∙ also)) step)
+pub step_of_pair : {S : Type 0} (steps : NodeSteps S) (pairs : List (ℕ × ℕ)) (id out told : ℕ) (before after : S) (place : ℕ) (pdu bytes : List ℕ) (result : Result Arrival NodeFault)
+    → second_of pairs id ≡ Some out → second_of pairs id ≡ Some told → PassesOn steps out before (Inject place id pdu) (arrival_line id out bytes result) after
+    → GatewayStep steps pairs before (Inject place id pdu) (arrival_line id told bytes result) after
+step_of_pair steps pairs id out told before after place pdu bytes result is also step =
+    subst (λ (o : Option ℕ). StepUnder steps o before (Inject place id pdu) (arrival_line id told bytes result) after) (sym is)
+    (subst (λ (i : ℕ). PassesOn steps out before (Inject place id pdu) (arrival_line id i bytes result) after) (same_some out told (sym is ∙ also)) step)

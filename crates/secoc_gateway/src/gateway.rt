@@ -25,9 +25,8 @@ ghost use Rattle.secoc_node.specs.Lines.{IfAcceptedWith, IfLeftAlone};
 ghost use Rattle.gateway_machine.specs.Gateway.{second_of as second_in, departs_under, EventStep, GatewayStep};
 ghost use Rattle.secoc_gateway.specs.State.{over};
 ghost use Rattle.secoc_gateway.specs.Pairs.{AreGood, IsLowestBad};
-ghost use Rattle.store_runs.specs.DiskTurns.{DiskTurn};
 ghost use Rattle.bus_world.specs.Turns.{CanBeDone};
-ghost use Rattle.secoc_gateway.specs.Turns.{GatewayTurn, tells_gateway_failure};
+ghost use Rattle.secoc_gateway.specs.Turns.{EventTurn, GatewayTurn};
 ghost use Rattle.secoc_gateway.specs.Arrivals.{arrival_line, IfForwarded, IfNotForwarded, IfDropped, IfSpent};
 ghost use Rattle.secoc_gateway.specs.Arrivals.{IsReason, IsFaulted, IfNothingDone, CanForward, IsForwardedWith};
 
@@ -104,6 +103,10 @@ impl<C: CutCells> Gateway<C> {
         ensures step { (place second : ℕ) → second_in self.old.pairs id ≡ Some second
             → GatewayStep EventStep self.old.pairs self.old.node (Inject place id pdu.now)
             (arrival_line id second out.new result) self.new.node }
+        // the same of what the node knows of its store and disk: one turn of the node, or two
+        ensures turn { (place second : ℕ) → second_in self.old.pairs id ≡ Some second
+            → GatewayStep EventTurn self.old.pairs (over self.old) (Inject place id pdu.now)
+            (arrival_line id second out.new result) (over self.new) }
         ensures length { IfForwarded result (λ sent. sent.len ≡ length pdu.now) }
         ensures within { IfForwarded result (λ sent. sent.len ≤ 64) }
         ensures rest { IfForwarded result (λ sent. drop sent.len out.new ≡ drop sent.len out.old) }
@@ -167,12 +170,9 @@ impl<C: CutCells> Gateway<C> {
     // What comes of an arrival under the first Data ID of a pair, whose second one this is.
     fn pass(&mut self, id: u16, second: u16, pdu: &[u8]) -> GatewayLine
         requires { second_in self.old.pairs id ≡ Some second }
-        ensures step { (place : ℕ) → GatewayStep EventStep self.old.pairs self.old.node (Inject place id pdu.now) result
-            self.new.node }
+        ensures step { (place : ℕ) → GatewayStep EventTurn self.old.pairs (over self.old) (Inject place id pdu.now)
+            result (over self.new) }
         ensures pairs { self.new.pairs ≡ self.old.pairs }
-        ensures layout { self.new.store.layout ≡ self.old.store.layout }
-        ensures disk { DiskTurn None 12 (tells_gateway_failure result) self.old.store.disk self.new.store.disk }
-        ensures fits { FitsNow (over self.old) → FitsNow (over self.new) }
     {
         let mut out = [0; 64];
         let answer = self.arrive(id, pdu, &mut out);

@@ -3,17 +3,19 @@
 //!
 //! The freshness of an arrival is in the store before its payload departs, so whatever a power cut leaves, no freshness
 //! of one Data ID is forwarded twice. What holds over all its runs are the laws of `gateway_machine`; each call here is
-//! a step of that machine, and [`Gateway::turn`] does an event of a script as one.
+//! a step of that machine, and [`Gateway::turn`] does an event of a script as one, over the turns of the node.
 //!
 //! No call takes memory.
 #![tactic(auto)]
 
 mod arrival;
 mod gateway;
+mod laws;
 mod lines;
 mod pairs;
 mod passing;
 
 pub use arrival::{Arrival, PairRefused};
 pub use gateway::Gateway;
+pub use laws::{gateway_turns_are_of_the_node, gateway_turns_keep};
 pub use pairs::lowest_bad;

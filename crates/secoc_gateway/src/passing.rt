@@ -7,6 +7,7 @@ ghost use Rattle.bus_machine.specs.Node.{HasRoute, place_of, counter_at};
 ghost use Rattle.bus_machine.specs.Sound.{Sound};
 ghost use Rattle.secoc_node.specs.State.{FitsNow, IsCovered};
 ghost use Rattle.gateway_machine.specs.Gateway.{EventStep, PassesOn};
+ghost use Rattle.secoc_gateway.specs.Turns.{EventTurn};
 ghost use Rattle.secoc_gateway.specs.Arrivals.{arrival_line, IfForwarded, IfNotForwarded, IfDropped, IfSpent};
 ghost use Rattle.secoc_gateway.specs.Arrivals.{IsReason, IsFaulted, IfNothingDone, CanForward, IsForwardedWith};
 
@@ -36,6 +37,9 @@ pub fn pass_on<C: Cells>(
     requires sends { HasRoute node.old.node second Sends }
     ensures step { (place : ℕ) → PassesOn EventStep second node.old.node (Inject place id pdu.now)
         (arrival_line id second out.new result) node.new.node }
+    // the same of what the node knows of its store and disk: one turn of the node, or two
+    ensures turn { (place : ℕ) → PassesOn EventTurn second node.old (Inject place id pdu.now)
+        (arrival_line id second out.new result) node.new }
     ensures length { IfForwarded result (λ sent. sent.len ≡ length pdu.now) }
     ensures within { IfForwarded result (λ sent. sent.len ≤ 64) }
     ensures rest { IfForwarded result (λ sent. drop sent.len out.new ≡ drop sent.len out.old) }

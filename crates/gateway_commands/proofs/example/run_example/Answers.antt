@@ -1,4 +1,4 @@
-use Rattle.std.proofs.Common.{◌≡◌, ◌∙◌, map, ap, refl}
+use Rattle.std.proofs.Common.{◌∙◌, map, ap, refl}
 use Rattle.std.specs.Prelude.{string_bytes, Some}
 use Rattle.bus_port.specs.MemSource.{CleanSourceState, clean_source}
 use Rattle.answer_rows.specs.Inputs.{Reading}

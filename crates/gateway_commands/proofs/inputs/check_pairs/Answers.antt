@@ -1,4 +1,4 @@
-use Rattle.std.proofs.Common.{◌≡◌, ◌+◌, List, length, sym, ap, subst, arith, inl, inr}
+use Rattle.std.proofs.Common.{◌≡◌, ◌+◌, length, ap, subst, arith, inl, inr}
 use Rattle.freshness_routes.specs.Config.{Config}
 use Rattle.secoc_gateway.specs.Pairs.{AreGood, IsLowestBad}
 use Rattle.gateway_commands.specs.Texts.{nodes_text, pair_text}

@@ -9,5 +9,6 @@ returns c =
       forwards = c.forwards_what_arrived.ensures;
       arrivals = c.arrivals_rise.ensures;
       departures = c.departures_rise.ensures;
+      turns = c.gateway_turns_keep.ensures;
     } in
     one_run laws

@@ -1,4 +1,4 @@
-use Rattle.std.proofs.Common.{◌≡◌, List, [], ◌∷◌, ◌++◌, map, ap, ◌∙◌}
+use Rattle.std.proofs.Common.{List, [], ◌∷◌, ◌++◌, map, ap, ◌∙◌}
 use Rattle.cut_disk.specs.State.{DiskState}
 use Rattle.secoc_node.specs.State.{NodeState}
 use Rattle.bus_world.specs.Starts.{disks_of}

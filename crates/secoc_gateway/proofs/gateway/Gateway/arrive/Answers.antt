@@ -5,6 +5,7 @@ use Rattle.bus_laws.proofs.SoundSteps.{same_some}
 use Rattle.secoc_node.specs.State.{FitsNow, IsCovered}
 use Rattle.secoc_gateway.specs.State.{GatewayState, over}
 use Rattle.secoc_gateway.specs.Arrivals.{arrival_line, IfForwarded}
+use Rattle.secoc_gateway.specs.Turns.{EventTurn}
 use Rattle.secoc_gateway.proofs.Paired.{AreGood-same, good_routes, passes_config, step_of_pair}
 use Rattle.gateway_machine.specs.Gateway.{second_of, EventStep, GatewayStep}
 use Rattle.secoc_gateway.proofs.gateway.Gateway.arrive.Goals as goal
@@ -26,9 +27,16 @@ invariant_of-self g c =
 pub returns-clause-step : goal.returns-clause-step
 returns-clause-step g c place told also =
     subst (λ (s : GatewayState). GatewayStep EventStep s.pairs s.node (Inject place c.args.id c.args.pdu.now) (arrival_line c.args.id told c.pass_on.new.out c.pass_on.result) c.pass_on.new.node.node) c.self.view_is
-    (step_of_pair c.self.inside.pairs.items c.args.id c.in-Some.second told c.self.inside.node.node c.pass_on.new.node.node place c.args.pdu.now c.pass_on.new.out c.pass_on.result
+    (step_of_pair EventStep c.self.inside.pairs.items c.args.id c.in-Some.second told c.self.inside.node.node c.pass_on.new.node.node place c.args.pdu.now c.pass_on.new.out c.pass_on.result
     (ap (λ (s : GatewayState). second_of s.pairs c.args.id) c.self.view_is ∙ sym c.in-Some.ensures)
     (ap (λ (s : GatewayState). second_of s.pairs c.args.id) c.self.view_is ∙ also) (c.pass_on.ensures.step place))
+
+pub returns-clause-turn : goal.returns-clause-turn
+returns-clause-turn g c place told also =
+    subst (λ (s : GatewayState). GatewayStep EventTurn s.pairs (over s) (Inject place c.args.id c.args.pdu.now) (arrival_line c.args.id told c.pass_on.new.out c.pass_on.result) c.pass_on.new.node) c.self.view_is
+    (step_of_pair EventTurn c.self.inside.pairs.items c.args.id c.in-Some.second told c.self.inside.node c.pass_on.new.node place c.args.pdu.now c.pass_on.new.out c.pass_on.result
+    (ap (λ (s : GatewayState). second_of s.pairs c.args.id) c.self.view_is ∙ sym c.in-Some.ensures)
+    (ap (λ (s : GatewayState). second_of s.pairs c.args.id) c.self.view_is ∙ also) (c.pass_on.ensures.turn place))
 
 pub returns-clause-fits : goal.returns-clause-fits
 returns-clause-fits g c = subst (λ s. FitsNow (over s) → FitsNow c.pass_on.new.node) c.self.view_is c.pass_on.ensures.fits
