@@ -19,43 +19,43 @@ use Rattle.bus_commands.specs.declared.job.WorldJob.{WorldJob}
 use Rattle.bus_commands.specs.declared.words.WorldCommand.{WorldCommand}
 use Rattle.bus_commands.specs.declared.words.WorldCommand.TheVariants.{Replay, Trial}
 use Rattle.bus_commands.specs.Tasks.{Task, frame, judge, check, replay}
-use Rattle.bus_commands.specs.Texts.{Prints}
-use Rattle.bus_commands.specs.Inputs.{BusInputs, Over, SetsWorld}
+use Rattle.bus_commands.specs.Texts.{IsOutput}
+use Rattle.bus_commands.specs.Inputs.{BusInputs, OverLines, SetsWorld}
 use Rattle.bus_world.specs.StartAnswers.{DiskStates}
 use Rattle.bus_commands.specs.StartRows.{CommandDisks}
-use Rattle.bus_commands.specs.Rows.{ComesOfInputs, no_script, done, ComesInRun, without_disks, not_started, tried, tried_without_memory, EndsCommand, in_row, replayed}
+use Rattle.bus_commands.specs.Rows.{ComesOfInputs, no_script, done, ComesInRun, without_disks, not_started, tried, tried_without_memory, RowOrReplay, in_row, replayed}
 use Rattle.bus_commands.specs.Steps.{IsJobOf, Prepares, TellsLines, AnswersLines, told, no_text, AnswersTrial, refused_trial, summed, no_summary, AnswersReplay, refused_replay, first_done, AnswersWorld}
 
 -- ---- lines
 
 -- what the job of a task prints is what the task prints
-Prints-job : (task : Task) (read : List ℕ) (job : LineJob) (text : List ℕ) → IsJobOf task read job → TellsLines job text → Prints task read text
-Prints-job frame read (Frames lines) text is tells = (lines.items, is, tells)
-Prints-job frame read (Judgements lines) text is tells = absurd is
-Prints-job frame read (Events bus events) text is tells = absurd is
-Prints-job judge read (Frames lines) text is tells = absurd is
-Prints-job judge read (Judgements lines) text is tells = (lines.items, is, tells)
-Prints-job judge read (Events bus events) text is tells = absurd is
-Prints-job (check bus) read (Frames lines) text is tells = absurd is
-Prints-job (check bus) read (Judgements lines) text is tells = absurd is
-Prints-job (check bus) read (Events over events) text is tells =
+IsOutput-job : (task : Task) (read : List ℕ) (job : LineJob) (text : List ℕ) → IsJobOf task read job → TellsLines job text → IsOutput task read text
+IsOutput-job frame read (Frames lines) text is tells = (lines.items, is, tells)
+IsOutput-job frame read (Judgements lines) text is tells = absurd is
+IsOutput-job frame read (Events bus events) text is tells = absurd is
+IsOutput-job judge read (Frames lines) text is tells = absurd is
+IsOutput-job judge read (Judgements lines) text is tells = (lines.items, is, tells)
+IsOutput-job judge read (Events bus events) text is tells = absurd is
+IsOutput-job (check bus) read (Frames lines) text is tells = absurd is
+IsOutput-job (check bus) read (Judgements lines) text is tells = absurd is
+IsOutput-job (check bus) read (Events over events) text is tells =
     (events.items, is.1, subst (λ (b : NamedBus). text ≡ flat_map (canon b.nodes) events.items) is.0 tells)
-Prints-job (replay start bus) read (Frames lines) text is tells = absurd is
-Prints-job (replay start bus) read (Judgements lines) text is tells = absurd is
-Prints-job (replay start bus) read (Events over events) text is tells = absurd is
+IsOutput-job (replay start bus) read (Frames lines) text is tells = absurd is
+IsOutput-job (replay start bus) read (Judgements lines) text is tells = absurd is
+IsOutput-job (replay start bus) read (Events over events) text is tells = absurd is
 
 -- what was prepared, and then told
-Comes-lines : (i : BusInputs) (job : LineJob) → Over i (λ task input. IsJobOf task input job) → (row : Row) → AnswersLines job row → ComesOfInputs i row
-Comes-lines i job (task, set, (read, whole, is)) row (told text tells) = done text (task, set, (read, whole, Prints-job task read job text is tells))
+Comes-lines : (i : BusInputs) (job : LineJob) → OverLines i (λ task input. IsJobOf task input job) → (row : Row) → AnswersLines job row → ComesOfInputs i row
+Comes-lines i job (task, set, (read, whole, is)) row (told text tells) = done text (task, set, (read, whole, IsOutput-job task read job text is tells))
 Comes-lines i job (task, set, (read, whole, is)) row no_text = no_script input.Memory (task, set, Lacks-whole i.script read whole)
 
 module _ {V : Type 0} where
-  pub ends_lines : (i : BusInputs) (d : CommandDisks V) (e : Ending) (job : LineJob) → d.new ≡ d.old → Prepares i (Ok (Lines job)) → EndsInRow (AnswersLines job) e → EndsCommand i d e
+  pub ends_lines : (i : BusInputs) (d : CommandDisks V) (e : Ending) (job : LineJob) → d.new ≡ d.old → Prepares i (Ok (Lines job)) → EndsInRow (AnswersLines job) e → RowOrReplay i d e
   ends_lines i d e job as_before prepared ends =
       in_row (EndsInRow-more (λ row comes. without_disks row (Comes-lines i job prepared.1 row comes) as_before) ends)
 
   -- a refusal
-  pub ends_refused : (i : BusInputs) (d : CommandDisks V) (e : Ending) (row : Row) → d.new ≡ d.old → ComesOfInputs i row → EndsInRow (λ other. other ≡ row) e → EndsCommand i d e
+  pub ends_refused : (i : BusInputs) (d : CommandDisks V) (e : Ending) (row : Row) → d.new ≡ d.old → ComesOfInputs i row → EndsInRow (λ other. other ≡ row) e → RowOrReplay i d e
   ends_refused i d e row as_before comes ends =
       in_row (EndsInRow-more (λ other is. without_disks other (subst (ComesOfInputs i) (sym is) comes) as_before) ends)
 
@@ -68,14 +68,14 @@ module _ {V : Type 0} where
   Comes-trial i d bus events trial is set row (no_summary summary ran) = tried_without_memory summary (trial, bus, events, set, ran)
 
   ends_asked : (i : BusInputs) (d : CommandDisks V) (e : Ending) (c : WorldCommand) (bus : NamedBus) (events : List Event) → IsNamedBus bus → SetsWorld i c bus events
-      → AnswersWorld (d.new ≡ d.old) c bus events d.states e → EndsCommand i d e
+      → AnswersWorld (d.new ≡ d.old) c bus events d.states e → RowOrReplay i d e
   ends_asked i d e (Replay start) bus events is set (refused_replay ends) =
       in_row (EndsInRow-more (λ row comes. not_started row (Replay start, bus, events, set, (is, comes.0)) comes.1) ends)
   ends_asked i d e (Replay start) bus events is set (first_done result ran) = replayed result (start, bus, events, set, ran)
   ends_asked i d e (Trial trial) bus events is set ends = in_row (EndsInRow-more (Comes-trial i d bus events trial is set) ends)
 
   pub ends_world : (i : BusInputs) (d : CommandDisks V) (e : Ending) (job : WorldJob) → Prepares i (Ok (World job)) → AnswersWorld (d.new ≡ d.old) job.command job.bus job.events.items d.states e
-      → EndsCommand i d e
+      → RowOrReplay i d e
   ends_world i d e job prepared does = ends_asked i d e job.command job.bus job.events.items prepared.0.0 prepared.1 does
 
 -- where a replay is asked for

@@ -13,6 +13,7 @@ pub mod Preparing
 pub mod Refusing
 pub mod RowFacts
 pub mod Promises
+pub mod Headlines
 pub mod OneRun
 pub mod Doing
 pub mod Summed

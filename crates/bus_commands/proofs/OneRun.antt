@@ -6,88 +6,99 @@ use Rattle.answer_rows.specs.Endings.{Ending, PrintsWhole, PrintsFront}
 use Rattle.numbered_run.specs.declared.printing.Unwritten.{Unwritten}
 use Rattle.numbered_run.specs.declared.printing.Unwritten.TheVariants as unwritten
 use Rattle.bus_world.specs.declared.start.Start.{Start}
-use Rattle.bus_world.specs.declared.start.Start.TheVariants.{Attach}
+use Rattle.bus_world.specs.declared.start.Start.TheVariants.{Format, Attach}
+use Rattle.bus_machine.specs.declared.events.Event.{Event}
+use Rattle.bus_machine.specs.Bus.{World}
+use Rattle.bus_nodes.specs.Buses.{NamedBus}
 use Rattle.bus_commands.specs.declared.summary.Summary.{Summary}
 use Rattle.bus_commands.specs.declared.trial_words.TrialWords.{TrialWords}
-use Rattle.bus_commands.specs.declared.words.Command.TheVariants.{Lines, World}
+use Rattle.bus_commands.specs.declared.words.Command.TheVariants.{Lines}
+use Rattle.bus_commands.specs.declared.words.Command.TheVariants as command
 use Rattle.bus_commands.specs.declared.words.LineCommand.TheVariants as lines
 use Rattle.bus_commands.specs.declared.words.WorldCommand.TheVariants.{Replay, Trial}
 use Rattle.bus_commands.specs.Words.{Asks}
 use Rattle.bus_commands.specs.Tasks.{Task, frame, judge, check, replay}
-use Rattle.bus_commands.specs.Texts.{Prints}
-use Rattle.bus_commands.specs.Inputs.{BusInputs, SetsTask, start_of, OverReplayOf}
-use Rattle.world_runs.specs.Turns.{TellFirm}
-use Rattle.bus_commands.specs.Headline.{AttachedRun}
-use Rattle.numbered_run.specs.Statuses.{unwritten_status}
+use Rattle.bus_commands.specs.Texts.{IsOutput}
+use Rattle.bus_commands.specs.Inputs.{BusInputs, SetsTask, SetsWorld, start_of}
+use Rattle.bus_commands.specs.Headline.{TellFor, ReplayedOver}
 use Rattle.bus_commands.specs.Summaries.{summary_text}
 use Rattle.bus_world.specs.StartAnswers.{DiskStates}
 use Rattle.bus_commands.specs.StartRows.{CommandDisks}
 use Rattle.bus_commands.specs.Rows.{ReplaysScript, TriesEvents, ComesInRun, without_disks, not_started, tried, tried_without_memory}
-use Rattle.bus_commands.specs.Commands.{PrintsAnswers, PrintsSummary, RunsCommand, ReplayIsRun, TrialIsRun, DoesNothing, PrintsEarly, RunsMachine}
+use Rattle.bus_commands.specs.Commands.{PrintsAnswers, PrintsSummary, RunsCommand, ReplayIsRun, WrittenRun, TrialIsRun, DoesNothing, RunsMachine}
+use Rattle.bus_commands.proofs.Headlines.{written_run, summed_run}
 use Rattle.bus_commands.proofs.Asking.{apart, asks_one, same_start, no_trial, set_asks}
 use Rattle.bus_world.specs.StartAnswerLaws.{Comes-leaves}
 
 -- ---- one run
 
+-- what a replay with this start did
+one_replay : (start : Start) (i : BusInputs) (d : DiskStates) (e : Ending) (result : Result (Unit {0}) Unwritten) (bus : NamedBus) (events : List Event) → SetsWorld i (Replay start) bus events
+    → (TellFor start bus d.before → ReplayedOver start bus d.before d.after events e.before e.after result) → ReplayIsRun start i d e result
+one_replay Format i d e result bus events set ran = (
+  bus,
+  events,
+  set,
+  λ tell. let over = ran tell in subst (λ (w : World). WrittenRun w bus d events e result) over.begins (written_run over.first bus d events e result over.replayed),
+)
+one_replay Attach i d e result bus events set ran =
+    (bus, events, set, λ tell. let over = ran tell in (over.first, over.begins, written_run over.first bus d events e result over.replayed))
+
 -- what a replay did, of the one that is asked for
-replay_is_run : (i : BusInputs) (d : DiskStates) (e : Ending) (start : Start) (result : Result (Unit {0}) Unwritten) → Asks i.words (World (Replay start)) → ReplaysScript i d e result → ReplayIsRun start i d e result
+replay_is_run : (i : BusInputs) (d : DiskStates) (e : Ending) (start : Start) (result : Result (Unit {0}) Unwritten) → Asks i.words (command.World (Replay start)) → ReplaysScript i d e result → ReplayIsRun start i d e result
 replay_is_run i d e start result asks (how, bus, events, set, ran) =
-    subst (λ (s : Start). ReplayIsRun s i d e result) (same_start how start (asks_one i.words (World (Replay how)) (World (Replay start)) set.asks asks)) (bus, events, set, ran.one_run)
+    subst (λ (s : Start). ReplayIsRun s i d e result) (same_start how start (asks_one i.words (command.World (Replay how)) (command.World (Replay start)) set.asks asks))
+    (one_replay how i d e result bus events set ran.one_run)
 
 trial_is_run : (i : BusInputs) (d : DiskStates) (summary : Summary) → TriesEvents i d summary → TrialIsRun i d summary
-trial_is_run i d summary (trial, bus, events, set, ran) = (trial, bus, events, set, ran.one_run)
+trial_is_run i d summary (trial, bus, events, set, ran) = (trial, bus, events, set, λ tell. summed_run bus d events summary (ran.one_run tell))
 
 -- ---- a replay
 
 -- words that ask for a replay set no task that prints an input
-no_answers : {A : Type 0} (i : BusInputs) (start : Start) (task : Task) (read text : List ℕ) → Asks i.words (World (Replay start)) → SetsTask i task → Prints task read text → A
-no_answers i start frame read text asks set prints = apart i.words (Lines lines.Frame) (World (Replay start)) set.0 asks (λ x. cc)
-no_answers i start judge read text asks set prints = apart i.words (Lines lines.Judge) (World (Replay start)) set.0 asks (λ x. cc)
-no_answers i start (check bus) read text asks set prints = apart i.words (Lines lines.Check) (World (Replay start)) set.0 asks (λ x. cc)
+no_answers : {A : Type 0} (i : BusInputs) (start : Start) (task : Task) (read text : List ℕ) → Asks i.words (command.World (Replay start)) → SetsTask i task → IsOutput task read text → A
+no_answers i start frame read text asks set prints = apart i.words (Lines lines.Frame) (command.World (Replay start)) set.0 asks (λ x. cc)
+no_answers i start judge read text asks set prints = apart i.words (Lines lines.Judge) (command.World (Replay start)) set.0 asks (λ x. cc)
+no_answers i start (check bus) read text asks set prints = apart i.words (Lines lines.Check) (command.World (Replay start)) set.0 asks (λ x. cc)
 no_answers i start (replay how bus) read text asks set prints = absurd prints
 
 -- they ask for no trial
-asks_no_trial : {A : Type 0} (words : List (List ℕ)) (start : Start) (trial : TrialWords) → Asks words (World (Replay start)) → Asks words (World (Trial trial)) → A
-asks_no_trial words start trial asks tries = apart words (World (Trial trial)) (World (Replay start)) tries asks (λ x. cc)
+asks_no_trial : {A : Type 0} (words : List (List ℕ)) (start : Start) (trial : TrialWords) → Asks words (command.World (Replay start)) → Asks words (command.World (Trial trial)) → A
+asks_no_trial words start trial asks tries = apart words (command.World (Trial trial)) (command.World (Replay start)) tries asks (λ x. cc)
 
-replay_done : {V : Type 0} (i : BusInputs) (d : CommandDisks V) (e : Ending) (start : Start) → Asks i.words (World (Replay start))
+replay_done : {V : Type 0} (i : BusInputs) (d : CommandDisks V) (e : Ending) (start : Start) → Asks i.words (command.World (Replay start))
     → PrintsAnswers i e ⊎ (ReplaysScript i d.states e (Ok tt) ⊎ PrintsSummary i d.states e) → ReplayIsRun start i d.states e (Ok tt)
 replay_done i d e start asks (inl (task, set, (read, whole, (text, prints, well)))) = no_answers i start task read text asks set prints
 replay_done i d e start asks (inr (inl over)) = replay_is_run i d.states e start (Ok tt) asks over
 replay_done i d e start asks (inr (inr (summary, (trial, bus, events, set, ran), well))) = asks_no_trial i.words start trial asks set.asks
 
 -- where a row comes, no event of a replay was done
-replay_row : {V : Type 0} (i : BusInputs) (d : CommandDisks V) (row : Row) (start : Start) → Asks i.words (World (Replay start)) → ComesInRun i d row → DoesNothing i d
+replay_row : {V : Type 0} (i : BusInputs) (d : CommandDisks V) (row : Row) (start : Start) → Asks i.words (command.World (Replay start)) → ComesInRun i d row → DoesNothing i d
 replay_row i d row start asks (without_disks _ comes same) = inl same
 replay_row i d row start asks (not_started _ (c, bus, events, set, comes) nine) = inr (c, bus, events, set, Comes-leaves (start_of c) bus d.states row comes.1)
 replay_row i d row start asks (tried summary (trial, bus, events, set, ran)) = asks_no_trial i.words start trial asks set.asks
 replay_row i d row start asks (tried_without_memory summary (trial, bus, events, set, ran)) = asks_no_trial i.words start trial asks set.asks
 
-replay_6 : {V : Type 0} (i : BusInputs) (d : CommandDisks V) (e : Ending) (start : Start) → Asks i.words (World (Replay start))
+replay_6 : {V : Type 0} (i : BusInputs) (d : CommandDisks V) (e : Ending) (start : Start) → Asks i.words (command.World (Replay start))
     → PrintsFront (ComesInRun i d) e ⊎ ReplaysScript i d.states e (Err unwritten.SinkFailed)
     → (DoesNothing i d × PrintsFront (ComesInRun i d) e) ⊎ ReplayIsRun start i d.states e (Err unwritten.SinkFailed)
 replay_6 i d e start asks (inl (row, comes, part)) = inl (replay_row i d row start asks comes, (row, comes, part))
 replay_6 i d e start asks (inr over) = inr (replay_is_run i d.states e start (Err unwritten.SinkFailed) asks over)
 
-replay_7 : {V : Type 0} (i : BusInputs) (d : CommandDisks V) (e : Ending) (start : Start) → Asks i.words (World (Replay start))
+replay_7 : {V : Type 0} (i : BusInputs) (d : CommandDisks V) (e : Ending) (start : Start) → Asks i.words (command.World (Replay start))
     → (ComesInRun i d memory_row × PrintsWhole e []) ⊎ ReplaysScript i d.states e (Err unwritten.Memory)
     → (DoesNothing i d × PrintsWhole e []) ⊎ ReplayIsRun start i d.states e (Err unwritten.Memory)
 replay_7 i d e start asks (inl (comes, well)) = inl (replay_row i d memory_row start asks comes, well)
 replay_7 i d e start asks (inr over) = inr (replay_is_run i d.states e start (Err unwritten.Memory) asks over)
 
-replay_early : {V : Type 0} (i : BusInputs) (d : CommandDisks V) (e : Ending) → RunsCommand i d e → (start : Start) (cause : Unwritten) → Asks i.words (World (Replay start))
-    → e.status ≡ unwritten_status (Err cause) → (DoesNothing i d × PrintsEarly cause i d e) ⊎ ReplayIsRun start i d.states e (Err cause)
-replay_early i d e runs start unwritten.SinkFailed asks is = replay_6 i d e start asks (runs.write_fault is).1
-replay_early i d e runs start unwritten.Memory asks is = replay_7 i d e start asks (runs.no_memory is)
-
 -- ---- a trial
 
 -- words that ask for a trial ask for no replay
-no_replay : {V : Type 0} {A : Type 0} (i : BusInputs) (d : CommandDisks V) (e : Ending) (trial : TrialWords) (result : Result (Unit {0}) Unwritten) → Asks i.words (World (Trial trial))
+no_replay : {V : Type 0} {A : Type 0} (i : BusInputs) (d : CommandDisks V) (e : Ending) (trial : TrialWords) (result : Result (Unit {0}) Unwritten) → Asks i.words (command.World (Trial trial))
     → ReplaysScript i d.states e result → A
 no_replay i d e trial result asks (start, bus, events, set, ran) = asks_no_trial i.words start trial set.asks asks
 
-trial_done : {V : Type 0} (i : BusInputs) (d : CommandDisks V) (e : Ending) (trial : TrialWords) → Asks i.words (World (Trial trial))
+trial_done : {V : Type 0} (i : BusInputs) (d : CommandDisks V) (e : Ending) (trial : TrialWords) → Asks i.words (command.World (Trial trial))
     → PrintsAnswers i e ⊎ (ReplaysScript i d.states e (Ok tt) ⊎ PrintsSummary i d.states e)
     → (summary : Summary) × TrialIsRun i d.states summary × PrintsWhole e (summary_text summary)
 trial_done i d e trial asks (inl (task, set, answers)) = no_trial i.words task trial (set_asks i task set) asks
@@ -101,33 +112,29 @@ trial_row i d row (not_started _ (c, bus, events, set, comes) nine) = inl (inr (
 trial_row i d row (tried summary over) = inr (summary, trial_is_run i d.states summary over)
 trial_row i d row (tried_without_memory summary over) = inr (summary, trial_is_run i d.states summary over)
 
-trial_6 : {V : Type 0} (i : BusInputs) (d : CommandDisks V) (e : Ending) (trial : TrialWords) → Asks i.words (World (Trial trial))
+trial_6 : {V : Type 0} (i : BusInputs) (d : CommandDisks V) (e : Ending) (trial : TrialWords) → Asks i.words (command.World (Trial trial))
     → PrintsFront (ComesInRun i d) e ⊎ ReplaysScript i d.states e (Err unwritten.SinkFailed) → DoesNothing i d ⊎ ((summary : Summary) × TrialIsRun i d.states summary)
 trial_6 i d e trial asks (inl (row, comes, part)) = trial_row i d row comes
 trial_6 i d e trial asks (inr over) = no_replay i d e trial (Err unwritten.SinkFailed) asks over
 
-trial_7 : {V : Type 0} (i : BusInputs) (d : CommandDisks V) (e : Ending) (trial : TrialWords) → Asks i.words (World (Trial trial))
+trial_7 : {V : Type 0} (i : BusInputs) (d : CommandDisks V) (e : Ending) (trial : TrialWords) → Asks i.words (command.World (Trial trial))
     → (ComesInRun i d memory_row × PrintsWhole e []) ⊎ ReplaysScript i d.states e (Err unwritten.Memory) → DoesNothing i d ⊎ ((summary : Summary) × TrialIsRun i d.states summary)
 trial_7 i d e trial asks (inl (comes, well)) = trial_row i d memory_row comes
 trial_7 i d e trial asks (inr over) = no_replay i d e trial (Err unwritten.Memory) asks over
 
-trial_untold : {V : Type 0} (i : BusInputs) (d : CommandDisks V) (e : Ending) → RunsCommand i d e → (trial : TrialWords) → Asks i.words (World (Trial trial)) → (e.status ≡ 6) ⊎ (e.status ≡ 7)
+trial_untold : {V : Type 0} (i : BusInputs) (d : CommandDisks V) (e : Ending) → RunsCommand i d e → (trial : TrialWords) → Asks i.words (command.World (Trial trial)) → (e.status ≡ 6) ⊎ (e.status ≡ 7)
     → DoesNothing i d ⊎ ((summary : Summary) × TrialIsRun i d.states summary)
 trial_untold i d e runs trial asks (inl six) = trial_6 i d e trial asks (runs.write_fault six).1
 trial_untold i d e runs trial asks (inr seven) = trial_7 i d e trial asks (runs.no_memory seven)
 
 -- ---- put together
 
--- from a world in which the bus goes on over its disks
-attached : (i : BusInputs) (d : DiskStates) (e : Ending) → ReplayIsRun Attach i d e (Ok tt)
-    → OverReplayOf Attach i (λ bus events. (TellFirm bus d.before → AttachedRun bus d.before d.after events e.before e.after (Ok tt)))
-attached i d e (bus, events, set, one_run) = (bus, events, set, λ tell. let ran = one_run tell in (ran.first, ran.begins, ran.replayed))
-
 pub RunsMachine-command : {V : Type 0} (i : BusInputs) (d : CommandDisks V) (e : Ending) → RunsCommand i d e → RunsMachine i d e
 RunsMachine-command i d e runs = record {
-  replayed = λ start asks is. replay_done i d e start asks (runs.done is);
-  attached_run = λ asks is. attached i d.states e (replay_done i d e Attach asks (runs.done is));
-  early_ends = replay_early i d e runs;
+  replayed = λ asks is. replay_done i d e Format asks (runs.done is);
+  attached_run = λ asks is. replay_done i d e Attach asks (runs.done is);
+  early_ends = λ start asks is. replay_6 i d e start asks (runs.write_fault is).1;
+  early_ends_unwritten = λ start asks is. replay_7 i d e start asks (runs.no_memory is);
   tried = λ trial asks is. trial_done i d e trial asks (runs.done is);
   tried_untold = trial_untold i d e runs;
 }

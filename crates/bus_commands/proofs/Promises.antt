@@ -25,15 +25,15 @@ use Rattle.bus_commands.specs.declared.words.Command.TheVariants.{World}
 use Rattle.bus_commands.specs.declared.words.WorldCommand.TheVariants.{Replay, Trial}
 use Rattle.bus_commands.specs.Words.{AsksNothing}
 use Rattle.bus_commands.specs.Tasks.{Task, frame, judge, check, replay}
-use Rattle.bus_commands.specs.Texts.{usage, Prints, fault_of}
+use Rattle.bus_commands.specs.Texts.{usage, IsOutput, fault_of}
 use Rattle.bus_inputs.specs.BusFiles.{IsConfigFault}
-use Rattle.bus_commands.specs.Inputs.{BusInputs, AsksOverBus, AsksWorld, NoConfig, NoScript, Over, OverWorld, OffersTask, OffersTrial, start_of}
+use Rattle.bus_commands.specs.Inputs.{BusInputs, AsksOverBus, AsksWorld, NoConfig, NoScript, OverLines, OverWorld, OffersTask, OffersTrial, start_of}
 use Rattle.numbered_run.specs.Statuses.{unwritten_status}
 use Rattle.bus_world.specs.StartRows.{start_row, StoreCause, LeavesEach}
 use Rattle.bus_world.specs.StartAnswers.{ComesOfStart, disks_refused, store_refused, start_without_memory, BusHasDisks}
 use Rattle.bus_commands.specs.StartRows.{CommandDisks, HoldsNoNode}
-use Rattle.bus_commands.specs.Rows.{ReplaysScript, ComesOfInputs, no_form, no_config, config_refused, no_script, script_refused, done, ComesInRun, without_disks, not_started, tried, tried_without_memory, EndsCommand, in_row, replayed}
-use Rattle.bus_commands.specs.Commands.{PrintsThe, PrintsAnswers, PrintsSummary, LeavesDisks, as_before, by_refused_start, by_replay, by_trial, TaskHasDisks, RunsCommand}
+use Rattle.bus_commands.specs.Rows.{ReplaysScript, ComesOfInputs, no_form, no_config, config_refused, no_script, script_refused, done, ComesInRun, without_disks, not_started, tried, tried_without_memory, RowOrReplay, in_row, replayed}
+use Rattle.bus_commands.specs.Commands.{PrintsAnswers, PrintsSummary, LeavesDisks, as_before, by_refused_start, by_replay, by_trial, TaskHasDisks, RunsCommand}
 use Rattle.bus_commands.proofs.Asking.{apart}
 use Rattle.bus_commands.proofs.RowFacts.{row_tells, row_asks, row_refuses, OfTask, row_offered, replay_offered, OfTrial, row_tried, calm_world}
 use Rattle.bus_world.specs.StartAnswerLaws.{Comes-leaves, start_without_room, start_complete}
@@ -47,7 +47,7 @@ None_not_Some : (o : Option Fault) (fault : Fault) → o ≡ None → o ≡ Some
 None_not_Some o fault none some = cc
 
 -- an input that something is printed of has no fault
-prints_no_fault : (task : Task) (input text : List ℕ) → Prints task input text → fault_of task input ≡ None
+prints_no_fault : (task : Task) (input text : List ℕ) → IsOutput task input text → fault_of task input ≡ None
 prints_no_fault frame input text prints = ap (λ r. result_err r) prints.1
 prints_no_fault judge input text prints = ap (λ r. result_err r) prints.1
 prints_no_fault (check bus) input text prints = ap (λ r. result_err r) prints.1
@@ -135,7 +135,7 @@ inputs_2 i d e row (script_refused fault of) is well = absurd (let no : ⊥ = om
 inputs_2 i d e row (done text of) is well = absurd (let no : ⊥ = omega (arith, is) in no)
 
 inputs_3 : {V : Type 0} (i : BusInputs) (d : CommandDisks V) (e : Ending) (row : Row) → ComesOfInputs i row → row.status ≡ 3 → PrintsWhole e row.text
-    → AsksOverBus i.words × IsUnread i.script × ((fault : ConfigFault) × IsConfigFault i.config fault × PrintsThe e (config_fault_text fault))
+    → AsksOverBus i.words × IsUnread i.script × ((fault : ConfigFault) × IsConfigFault i.config fault × (text : List ℕ) × (config_fault_text fault ≡ Some text) × PrintsWhole e text)
 inputs_3 i d e row (no_form none config script) is well = absurd (let no : ⊥ = omega (arith, is) in no)
 inputs_3 i d e row (no_config input.ReadFault of) is well = absurd (let no : ⊥ = omega (arith, is) in no)
 inputs_3 i d e row (no_config input.TooLong of) is well = absurd (let no : ⊥ = omega (arith, is) in no)
@@ -148,7 +148,7 @@ inputs_3 i d e row (script_refused fault of) is well = absurd (let no : ⊥ = om
 inputs_3 i d e row (done text of) is well = absurd (let no : ⊥ = omega (arith, is) in no)
 
 inputs_4 : {V : Type 0} (i : BusInputs) (d : CommandDisks V) (e : Ending) (row : Row) → ComesOfInputs i row → row.status ≡ 4 → PrintsWhole e row.text
-    → Over i (λ task input. (fault : Fault) × (fault_of task input ≡ Some fault) × PrintsWhole e (fault_text_of fault))
+    → OverLines i (λ task input. (fault : Fault) × (fault_of task input ≡ Some fault) × PrintsWhole e (fault_text_of fault))
 inputs_4 i d e row (no_form none config script) is well = absurd (let no : ⊥ = omega (arith, is) in no)
 inputs_4 i d e row (no_config input.ReadFault of) is well = absurd (let no : ⊥ = omega (arith, is) in no)
 inputs_4 i d e row (no_config input.TooLong of) is well = absurd (let no : ⊥ = omega (arith, is) in no)
@@ -218,14 +218,14 @@ row_2 i d e row (tried summary ran) is well = absurd (let no : ⊥ = omega (arit
 row_2 i d e row (tried_without_memory summary ran) is well = absurd (let no : ⊥ = omega (arith, is) in no)
 
 row_3 : {V : Type 0} (i : BusInputs) (d : CommandDisks V) (e : Ending) (row : Row) → ComesInRun i d row → row.status ≡ 3 → PrintsWhole e row.text
-    → AsksOverBus i.words × IsUnread i.script × ((fault : ConfigFault) × IsConfigFault i.config fault × PrintsThe e (config_fault_text fault))
+    → AsksOverBus i.words × IsUnread i.script × ((fault : ConfigFault) × IsConfigFault i.config fault × (text : List ℕ) × (config_fault_text fault ≡ Some text) × PrintsWhole e text)
 row_3 i d e row (without_disks _ comes same) is well = inputs_3 i d e row comes is well
 row_3 i d e row (not_started _ (c, bus, events, set, comes) nine) is well = absurd (let no : ⊥ = omega (arith, start_status i d e (start_of c) bus row comes.1, is) in no)
 row_3 i d e row (tried summary ran) is well = absurd (let no : ⊥ = omega (arith, is) in no)
 row_3 i d e row (tried_without_memory summary ran) is well = absurd (let no : ⊥ = omega (arith, is) in no)
 
 row_4 : {V : Type 0} (i : BusInputs) (d : CommandDisks V) (e : Ending) (row : Row) → ComesInRun i d row → row.status ≡ 4 → PrintsWhole e row.text
-    → Over i (λ task input. (fault : Fault) × (fault_of task input ≡ Some fault) × PrintsWhole e (fault_text_of fault))
+    → OverLines i (λ task input. (fault : Fault) × (fault_of task input ≡ Some fault) × PrintsWhole e (fault_text_of fault))
 row_4 i d e row (without_disks _ comes same) is well = inputs_4 i d e row comes is well
 row_4 i d e row (not_started _ (c, bus, events, set, comes) nine) is well = absurd (let no : ⊥ = omega (arith, start_status i d e (start_of c) bus row comes.1, is) in no)
 row_4 i d e row (tried summary ran) is well = absurd (let no : ⊥ = omega (arith, is) in no)
@@ -497,6 +497,6 @@ of_replay i d e result over = record {
 }
 
 -- how a command ends gives all that it promises
-pub RunsCommand-ends : {V : Type 0} (i : BusInputs) (d : CommandDisks V) (e : Ending) → EndsCommand i d e → RunsCommand i d e
+pub RunsCommand-ends : {V : Type 0} (i : BusInputs) (d : CommandDisks V) (e : Ending) → RowOrReplay i d e → RunsCommand i d e
 RunsCommand-ends i d e (in_row ends) = of_row i d e ends
 RunsCommand-ends i d e (replayed result over) = of_replay i d e result over

@@ -22,9 +22,9 @@ use Rattle.bus_commands.specs.declared.words.WorldCommand.{WorldCommand}
 use Rattle.bus_commands.specs.declared.words.WorldCommand.TheVariants.{Replay, Trial}
 use Rattle.bus_commands.specs.Words.{AsksNothing}
 use Rattle.bus_commands.specs.Tasks.{Task, frame, judge, check, replay}
-use Rattle.bus_commands.specs.Texts.{Prints, fault_of}
+use Rattle.bus_commands.specs.Texts.{IsOutput, fault_of}
 use Rattle.bus_inputs.specs.BusFiles.{OffersBus}
-use Rattle.bus_commands.specs.Inputs.{BusInputs, AsksOverBus, SetsTask, OffersTask, Over, HasEvents, SetsWorld, start_of, OffersTrial}
+use Rattle.bus_commands.specs.Inputs.{BusInputs, AsksOverBus, SetsTask, OffersTask, OverLines, HasEvents, SetsWorld, start_of, OffersTrial}
 use Rattle.bus_world.specs.StartAnswers.{DiskStates, ComesOfStart}
 use Rattle.bus_commands.specs.StartRows.{CommandDisks}
 use Rattle.bus_commands.specs.Rows.{ComesOfInputs, no_form, no_config, config_refused, no_script, script_refused, done, ComesInRun, without_disks, not_started, tried, tried_without_memory}
@@ -114,7 +114,7 @@ offered_bus i (check bus) offers over = (bus, offers.1)
 offered_bus i (replay start bus) offers over = (bus, offers.1)
 
 -- what was read holds of what was offered
-of_offered : (i : BusInputs) (P : Task → List ℕ → Type 0) (task : Task) (input : List ℕ) → OffersTask i task → Offers i.script input → Over i P → P task input
+of_offered : (i : BusInputs) (P : Task → List ℕ → Type 0) (task : Task) (input : List ℕ) → OffersTask i task → Offers i.script input → OverLines i P → P task input
 of_offered i P task input offers lines (set_task, set, (read, whole, holds)) =
     subst (λ (t : Task). P t input) (same_task i set_task task set offers)
     (subst (λ (text : List ℕ). P set_task text) (Offers-whole i.script input read lines whole) holds)
@@ -124,7 +124,7 @@ abbrev pub OfTask : DiskStates → Row → Task → List ℕ → Type 0
 OfTask d row task input =
     (row.status ≡ 7)
     ⊎ (((fault : Fault) × (row.status ≡ 4) × (fault_of task input ≡ Some fault))
-    ⊎ (((text : List ℕ) × (row.status ≡ 0) × Prints task input text)
+    ⊎ (((text : List ℕ) × (row.status ≡ 0) × IsOutput task input text)
     ⊎ ((start : Start) × (bus : NamedBus) × (task ≡ replay start bus) × (fault_of task input ≡ None) × ComesOfStart start bus d row)))
 
 inputs_offered : (i : BusInputs) (d : DiskStates) (row : Row) (task : Task) (input : List ℕ) → ComesOfInputs i row → OffersTask i task → Offers i.script input → OfTask d row task input
@@ -139,7 +139,7 @@ inputs_offered i d row task input (no_script fault (set_task, set, lacks)) offer
 inputs_offered i d row task input (script_refused fault over) offers lines =
     inr (inl (fault, refl, of_offered i (λ task input. fault_of task input ≡ Some fault) task input offers lines over))
 inputs_offered i d row task input (done text over) offers lines =
-    inr (inr (inl (text, refl, of_offered i (λ task input. Prints task input text) task input offers lines over)))
+    inr (inr (inl (text, refl, of_offered i (λ task input. IsOutput task input text) task input offers lines over)))
 
 -- a replay that was set is the task that is offered, and its script has no fault
 pub replay_offered : (i : BusInputs) (start : Start) (bus : NamedBus) (events : List Event) (task : Task) (input : List ℕ) → SetsWorld i (Replay start) bus events → OffersTask i task → Offers i.script input

@@ -1,49 +1,186 @@
--- What a command of a bus promises
-use Rattle.std.specs.Prelude.{◌≡◌, ◌⊎◌, ℕ, List, [], Option, Some, None, Result, Ok, Err, codes}
-use Rattle.command_edge.specs.declared.input.InputFault.TheVariants.{ReadFault, TooLong}
-use Rattle.text_lines.specs.Readings.{Fault}
-use Rattle.text_lines.specs.Texts.{fault_text_of}
-use Rattle.answer_rows.specs.Rows.{memory_row}
+-- What `run` promises: the headline, and the table of answers.
+--
+-- Everything is said of one call: `i` is what went in, `d` the disks, and `e` how it ended. What a name means that
+-- comes from below is told beside its `use`.
+use Rattle.std.specs.Prelude.{◌≡◌, ◌⊎◌, ℕ, ◌<◌, List, [], length, take, get_or, All, codes, Some, None, Result, Ok, Err}
+-- ---- what went in
+-- `BusInputs`: the words, and the sources of the bus file (`config`) and of the lines (`script`), before and after.
+-- `Asks words c`: they ask for the command c; `AsksNothing`: for none; `AsksOverBus`: for one that reads a bus file;
+-- `AsksWorld`: for a run over disks, which `replay`, `node` (a replay that attaches) and `trial` are.
+use Rattle.bus_commands.specs.Inputs.{BusInputs, AsksOverBus, AsksWorld}
+use Rattle.bus_commands.specs.Words.{Asks, AsksNothing}
+use Rattle.bus_commands.specs.declared.words.Command.TheVariants as command
+use Rattle.bus_commands.specs.declared.words.WorldCommand.TheVariants.{Replay, Trial}
+use Rattle.bus_commands.specs.declared.trial_words.TrialWords.{TrialWords}
+use Rattle.bus_world.specs.declared.start.Start.{Start}
+use Rattle.bus_world.specs.declared.start.Start.TheVariants.{Format, Attach}
+-- `OverLines i P`: a command that reads lines is asked for, all that it reads was read whole, and P holds of what it
+-- does with the lines (its task) and of these. `OverReplayOf start i P`, `OverTrial i P`: a replay with this start, or a
+-- trial, is asked for, all that it reads was read whole, and P holds of the bus and of the events. `OverWorld i P`: one
+-- of both is, and P holds of its start, too. `OffersTask i task`, `OffersTrial i bus`: the same task, or a trial, is asked
+-- for, of the bus that the source of the bus file tells. `Offers source text`: the source tells this, and didn't fail.
+use Rattle.bus_commands.specs.Inputs.{OverLines, OverReplayOf, OverTrial, OverWorld, OffersTask, OffersTrial}
+use Rattle.bus_commands.specs.Tasks.{Task, replay}
+use Rattle.bus_nodes.specs.Buses.{NamedBus, IsNamedBus, configs_of}
+use Rattle.bus_machine.specs.declared.events.Event.{Event}
+-- `IsUnread`: nothing was asked of the source. `CountsFault`: its count of faults rose; `CountsTooMuch`: more bytes
+-- came than an input may have. `NoConfig i fault`, `NoScript i fault`: for this cause there is no bus file, or no lines.
 use Rattle.answer_rows.specs.Inputs.{IsUnread, CountsFault, CountsTooMuch, Offers}
-use Rattle.answer_rows.specs.Endings.{Ending, EndsIn, MayEndIn, PrintsWhole, PrintsFront, SinkFailed, CountsWriteFault}
-use Rattle.numbered_run.specs.declared.printing.Unwritten.{Unwritten}
-use Rattle.numbered_run.specs.declared.printing.Unwritten.TheVariants as unwritten
+use Rattle.command_edge.specs.declared.input.InputFault.TheVariants.{ReadFault, TooLong}
+use Rattle.bus_commands.specs.Inputs.{NoConfig, NoScript}
+-- `bus_of`, `fault_of`: what the bus file means, and the first fault of the lines.
 use Rattle.bus_config.specs.declared.fault.ConfigFault.{ConfigFault}
 use Rattle.bus_config.specs.BusFile.{bus_of}
 use Rattle.bus_config.specs.FaultTexts.{config_fault_text}
-use Rattle.bus_nodes.specs.Buses.{NamedBus, IsNamedBus}
-use Rattle.bus_world.specs.declared.start.Start.{Start}
-use Rattle.bus_world.specs.declared.start.Start.TheVariants.{Format, Attach}
-use Rattle.bus_world.specs.Starts.{HasRoom, FindsRoom}
-use Rattle.bus_world.specs.declared.start.StartFault.{StartFault}
-use Rattle.bus_commands.specs.declared.summary.Summary.{Summary}
-use Rattle.bus_commands.specs.declared.trial_words.TrialWords.{TrialWords}
-use Rattle.bus_commands.specs.declared.words.Command.TheVariants.{World}
-use Rattle.bus_commands.specs.declared.words.WorldCommand.TheVariants.{Replay, Trial}
-use Rattle.bus_commands.specs.Words.{Asks, AsksNothing}
-use Rattle.bus_commands.specs.Tasks.{Task, replay}
-use Rattle.bus_commands.specs.Texts.{usage, Prints, fault_of}
 use Rattle.bus_inputs.specs.BusFiles.{IsConfigFault}
-use Rattle.bus_commands.specs.Inputs.{BusInputs, AsksOverBus, AsksWorld, NoConfig, NoScript}
-use Rattle.bus_commands.specs.Inputs.{Over, OverReplayOf, OverTrial, OverWorld, OffersTask, OffersTrial}
-use Rattle.bus_commands.specs.Summaries.{summary_text}
+use Rattle.text_lines.specs.Readings.{Fault}
+use Rattle.text_lines.specs.Texts.{fault_text_of}
+-- ---- the disks
+-- `CommandDisks`: the disks themselves (`old`, `new`), and what was known of each (`states.before`, `states.after`).
+use Rattle.bus_commands.specs.StartRows.{CommandDisks, HoldsNoNode}
+use Rattle.bus_world.specs.StartAnswers.{DiskStates, BusHasDisks}
+-- `TellEach`: the disk of each node tells its bytes; `TellFirm`: and a cut can't take any of them away.
+-- `StartsOver`: a world in which each node goes on with what its disk's bytes stand for.
 use Rattle.world_runs.specs.NodeDisks.{TellEach}
 use Rattle.world_runs.specs.Turns.{TellFirm}
-use Rattle.numbered_run.specs.Statuses.{unwritten_status}
-use Rattle.bus_commands.specs.Headline.{TellFor, ReplayedOver, AttachedRun}
-use Rattle.bus_commands.specs.TrialRuns.{Tried}
+use Rattle.bus_world.specs.Starts.{StartsOver}
+-- `HasRoom`: there is a disk for each node, large enough; `FindsRoom`: why there isn't. `StoreCause`: why a node wasn't
+-- started over its disk; `LeavesEach`: what is left of the disks then; `start_row`: the text and the status.
+use Rattle.bus_world.specs.Starts.{HasRoom, FindsRoom}
+use Rattle.bus_world.specs.declared.start.StartFault.{StartFault}
 use Rattle.bus_world.specs.StartRows.{start_row, StoreCause, LeavesEach}
-use Rattle.bus_world.specs.StartAnswers.{DiskStates, BusHasDisks}
-use Rattle.bus_commands.specs.StartRows.{CommandDisks, HoldsNoNode}
-use Rattle.bus_commands.specs.Rows.{ReplaysScript, TriesEvents, ComesInRun, EndsCommand}
+-- ---- how it ended
+-- `Ending`: the sink before and after, and the status. `PrintsWhole e text`: exactly this was written, and the sink
+-- didn't fail; `PrintsFront rows e`: a proper front of the text of one of these rows. `SinkFailed`: the sink's count of
+-- faults rose, or stands at its last value; `CountsWriteFault`: it rose. `EndsIn n e`: the status is n or 6;
+-- `MayEndIn n e`: it is n, 6 or 7.
+use Rattle.answer_rows.specs.Endings.{Ending, EndsIn, MayEndIn, PrintsWhole, PrintsFront, SinkFailed, CountsWriteFault}
+-- `ComesInRun i d`: the rows that come, of which one is told; `RowOrReplay`: that, or a replay did its first events.
+-- `ReplaysScript i d e result`, `TriesEvents i d summary`: a replay did its first events, a trial did all of its.
+use Rattle.answer_rows.specs.Rows.{memory_row}
+use Rattle.bus_commands.specs.Rows.{ReplaysScript, TriesEvents, ComesInRun, RowOrReplay}
+use Rattle.bus_commands.specs.Texts.{usage, IsOutput}
+use Rattle.bus_commands.specs.Texts.{fault_of}
+use Rattle.bus_commands.specs.declared.summary.Summary.{Summary}
+use Rattle.bus_commands.specs.Summaries.{summary_of, summary_text}
+-- `Written text before after events result moments`: where the result is Ok, all events were done, and the text of each
+-- line was written; at `SinkFailed` a proper front alone of that of the last event that was done, at `Memory` nothing.
+use Rattle.numbered_run.specs.declared.printing.Unwritten.{Unwritten}
+use Rattle.numbered_run.specs.declared.printing.Unwritten.TheVariants as unwritten
+use Rattle.numbered_run.specs.Printed.{Written}
+use Rattle.bus_texts.specs.LineTexts.{line_text}
+-- ---- the machine
+-- Each of the definitions of the headline's members; what they say is told at the member.
+use Rattle.machine_runs.specs.Run.{Run, commands_in, lines_in}
+use Rattle.bus_machine.specs.Bus.{World, First, Moments, Step}
+use Rattle.bus_machine.specs.Freshness.{Rising, Single, AllCovered}
+use Rattle.bus_machine.specs.Authentic.{Authentic}
+use Rattle.bus_machine.specs.KeysKept.{KeysKept}
+use Rattle.bus_texts.specs.LineKinds.{IsLine}
+use Rattle.cut_disk.specs.State.{DiskState}
+use Rattle.store_runs.specs.DiskTurns.{FailuresTold}
+use Rattle.world_runs.specs.NodeDisks.{mark_at, fails_at, DisksFollow}
+use Rattle.world_runs.specs.WorldRuns.{IsFirstOf, EachSkipsLittle, Honest, WorldRun}
 
--- this text, where there is one, was written whole
-abbrev pub PrintsThe : Ending → Option (List ℕ) → Type 0
-PrintsThe e told = (text : List ℕ) × (told ≡ Some text) × PrintsWhole e text
+-- ==== the headline
+
+-- One run of the machine, from this first world, over the disks of the nodes. A moment is an event that was done, with
+-- its line and the world behind it; `last` is the world behind them all.
+pub record HeadlineRun (first : World) (bus : NamedBus) (d : DiskStates) (events : List Event) (moments : Moments)
+    (last : World) : Type 0 where
+  -- In the first world nothing was done or sent yet; it has as many nodes as the bus, each sound, up, and with its
+  -- counters at their kept bounds; and each Data ID has one sender.
+  pub begins : IsFirstOf bus first
+  -- Each moment is a step of the machine, and their events are the first of those that were asked for, in order.
+  pub is_a_run : Run Step first moments last
+  pub of_events : commands_in moments ≡ take (length moments) events
+  -- Each line is one that its type has, so lists of lines are told apart by their texts.
+  pub are_lines : All IsLine (lines_in moments)
+  -- Of two accepted lines of one node and one Data ID the later has the greater freshness.
+  pub rising : Rising moments
+  -- An accepted PDU carries the CMAC of its Data ID, payload and freshness under the key that the receiver's slot held;
+  -- and the event that its line names sent just this.
+  pub authentic : Authentic first moments
+  -- Of two sent lines of one Data ID the later has the greater freshness, so none is sent twice.
+  pub single : Single moments
+  -- An acknowledged update of a key isn't undone but by a later one of its slot, acknowledged or failed; and a slot's
+  -- counter doesn't fall.
+  pub keys_kept : KeysKept first moments
+  -- A power-up skips at most the reserve of a sending route, and less than that of a receiving one (counted from the
+  -- freshness of a PDU, where the disk failed as it was accepted).
+  pub cuts_skip_little : EachSkipsLittle first moments
+  -- All freshness that was sent or accepted is at most what its node keeps as the bound, and at most its counter.
+  pub covered : AllCovered moments last
+  -- Each disk tells bytes that stand for what its node keeps in the last world, and still tells the past that it told,
+  -- to which these moments alone added; the disks behind those of the nodes are as before.
+  pub disks : DisksFollow first bus d.before d.after moments last
+  -- The lines that tell a failed disk are at most the rise of its count of faults, and a quiet disk gives none before
+  -- an event arms it.
+  pub failures : (i : ℕ) (disk : DiskState) → i < length bus.nodes
+      → FailuresTold (mark_at i) (fails_at i) moments (get_or d.before i disk) (get_or d.after i disk)
+  -- A PDU that was sent, and comes in time to a node that is up and holds its key, is accepted as it was sent, or the
+  -- disk failed; and over quiet disks, without cuts and faults, the events alone determine the lines.
+  pub honest : Honest first bus d.before events moments
+
+-- what a replay did: one run from this first world, of which the sink has the texts of the lines
+pub record WrittenRun (first : World) (bus : NamedBus) (d : DiskStates) (events : List Event) (e : Ending)
+    (result : Result (Unit {0}) Unwritten) : Type 0 where
+  pub moments : Moments
+  pub last : World
+  pub run : HeadlineRun first bus d events moments last
+  pub written : Written line_text e.before e.after events result moments
+
+-- what a trial did: one run of all its events, and the seven numbers are those of its lines
+pub record SummedRun (bus : NamedBus) (d : DiskStates) (events : List Event) (summary : Summary) : Type 0 where
+  pub moments : Moments
+  pub last : World
+  pub run : HeadlineRun (First (configs_of bus)) bus d events moments last
+  pub whole : commands_in moments ≡ events
+  pub numbers : summary ≡ summary_of (lines_in moments)
+
+-- a replay with this start is asked for, and what it did is one run: over disks that it formats, and that tell their
+-- bytes, from the first world of the bus; over disks that it attaches from one in which the bus goes on where they stand
+abbrev pub ReplayIsRun : Start → BusInputs → DiskStates → Ending → Result (Unit {0}) Unwritten → Type 0
+ReplayIsRun Format i d e result = OverReplayOf Format i (λ bus events. (TellEach bus d.before
+    → WrittenRun (First (configs_of bus)) bus d events e result))
+ReplayIsRun Attach i d e result = OverReplayOf Attach i (λ bus events. (TellFirm bus d.before
+    → (first : World) × StartsOver bus d.before first × WrittenRun first bus d events e result))
+
+-- a trial is asked for, and what it did over disks that tell their bytes is one run, from the first world of the bus
+abbrev pub TrialIsRun : BusInputs → DiskStates → Summary → Type 0
+TrialIsRun i d summary = OverTrial i (λ bus events. (TellEach bus d.before → SummedRun bus d events summary))
+
+-- no event was done: every disk is as before, or as a start that is refused leaves it
+abbrev pub DoesNothing : {V : Type 0} → BusInputs → CommandDisks V → Type 0
+DoesNothing i d =
+    (d.new ≡ d.old) ⊎ OverWorld i (λ start bus events. LeavesEach start bus d.states.before d.states.after)
+
+-- THE HEADLINE, by what is asked for and by status
+pub record RunsMachine {V : Type 0} (i : BusInputs) (d : CommandDisks V) (e : Ending) : Type 0 where
+  -- 0 of `replay`: all events of the script are one run from the first world of the bus, and the sink has all lines.
+  pub replayed : Asks i.words (command.World (Replay Format)) → e.status ≡ 0 → ReplayIsRun Format i d.states e (Ok tt)
+  -- 0 of `node`: the same, from a world in which the bus goes on where its disks stand.
+  pub attached_run : Asks i.words (command.World (Replay Attach)) → e.status ≡ 0
+      → ReplayIsRun Attach i d.states e (Ok tt)
+  -- 6 of both: no event was done, and a front of a row was written; or the first events, at least one, are one run, and
+  -- the sink has the lines before the last, and a front of that.
+  pub early_ends : (start : Start) → Asks i.words (command.World (Replay start)) → e.status ≡ 6
+      → (DoesNothing i d × PrintsFront (ComesInRun i d) e) ⊎ ReplayIsRun start i d.states e (Err unwritten.SinkFailed)
+  -- 7 of both: no event was done, and nothing was written; or the same, with nothing of the last line.
+  pub early_ends_unwritten : (start : Start) → Asks i.words (command.World (Replay start)) → e.status ≡ 7
+      → (DoesNothing i d × PrintsWhole e []) ⊎ ReplayIsRun start i d.states e (Err unwritten.Memory)
+  -- 0 of `trial`: all its events are one run, and the sink has the seven numbers over its lines.
+  pub tried : (trial : TrialWords) → Asks i.words (command.World (Trial trial)) → e.status ≡ 0
+      → (summary : Summary) × TrialIsRun i d.states summary × PrintsWhole e (summary_text summary)
+  -- 6, 7 of `trial`: no event was done, or all were, in one run.
+  pub tried_untold : (trial : TrialWords) → Asks i.words (command.World (Trial trial)) → (e.status ≡ 6) ⊎ (e.status ≡ 7)
+      → DoesNothing i d ⊎ ((summary : Summary) × TrialIsRun i d.states summary)
+
+-- ==== the table of answers
 
 -- exactly what is asked of the lines was printed
 abbrev pub PrintsAnswers : BusInputs → Ending → Type 0
-PrintsAnswers i e = Over i (λ task input. (text : List ℕ) × Prints task input text × PrintsWhole e text)
+PrintsAnswers i e = OverLines i (λ task input. (text : List ℕ) × IsOutput task input text × PrintsWhole e text)
 
 -- all events of a trial were done, and its seven lines were printed
 abbrev pub PrintsSummary : BusInputs → DiskStates → Ending → Type 0
@@ -65,7 +202,7 @@ TaskHasDisks task d = Unit {0}
 -- what a command promises that has these inputs and disks and ends so, in the order of the table of answers
 pub record RunsCommand {V : Type 0} (i : BusInputs) (d : CommandDisks V) (e : Ending) : Type 0 where
   -- A row of the table comes and is told, or a replay did its first events; what this says of each status follows.
-  pub ends : EndsCommand i d e
+  pub ends : RowOrReplay i d e
   -- Every disk is as before but where a replay or a trial is asked for, and where the status is 2, 3, 4, 5, 8 or 9.
   pub disks : ¬ AsksWorld i.words → d.new ≡ d.old
   pub disks_unused : (e.status ≡ 2) ⊎ (e.status ≡ 3) ⊎ (e.status ≡ 4) ⊎ (e.status ≡ 5) ⊎ (e.status ≡ 8)
@@ -79,12 +216,13 @@ pub record RunsCommand {V : Type 0} (i : BusInputs) (d : CommandDisks V) (e : En
   pub usage_only : AsksNothing i.words → EndsIn 2 e
   -- 3: the bus file was read whole, and its first fault is printed; of the lines nothing was read.
   pub config_refused : e.status ≡ 3 → AsksOverBus i.words × IsUnread i.script
-      × ((fault : ConfigFault) × IsConfigFault i.config fault × PrintsThe e (config_fault_text fault))
+      × ((fault : ConfigFault) × IsConfigFault i.config fault
+      × (text : List ℕ) × (config_fault_text fault ≡ Some text) × PrintsWhole e text)
   pub config_refused_only : (file : List ℕ) (fault : ConfigFault) → AsksOverBus i.words
       → Offers i.config file → bus_of file ≡ Err fault → MayEndIn 3 e
   -- 4: the inputs were read whole, and the first fault of the lines is printed.
-  pub refused : e.status ≡ 4 →
-      Over i (λ task input. (fault : Fault) × (fault_of task input ≡ Some fault) × PrintsWhole e (fault_text_of fault))
+  pub refused : e.status ≡ 4 → OverLines i (λ task input. (fault : Fault) × (fault_of task input ≡ Some fault)
+      × PrintsWhole e (fault_text_of fault))
   pub refused_only : (task : Task) (input : List ℕ) (fault : Fault) → OffersTask i task
       → Offers i.script input → fault_of task input ≡ Some fault → MayEndIn 4 e
   -- 5: exactly where the count of faults rose of the source that was read.
@@ -126,51 +264,15 @@ pub record RunsCommand {V : Type 0} (i : BusInputs) (d : CommandDisks V) (e : En
   pub trial_complete : (bus : NamedBus) → OffersTrial i bus → BusHasDisks Format bus d.states → ¬ SinkFailed e
       → (e.status ≡ 0) ⊎ (e.status ≡ 7)
 
--- ---- the headline
-
--- a replay with this start is asked for, and its inputs were read whole; where the disks tell their bytes, what was
--- done of it is one run of the machine from where it begins, whose lines' texts were written up to where it ended
-abbrev pub ReplayIsRun : Start → BusInputs → DiskStates → Ending → Result (Unit {0}) Unwritten → Type 0
-ReplayIsRun start i d e result = OverReplayOf start i (λ bus events. (TellFor start bus d.before
-    → ReplayedOver start bus d.before d.after events e.before e.after result))
-
--- the same of all events of a trial, and the seven numbers are those of its lines
-abbrev pub TrialIsRun : BusInputs → DiskStates → Summary → Type 0
-TrialIsRun i d summary = OverTrial i (λ bus events. (TellEach bus d.before
-    → Tried bus d.before d.after events summary))
-
--- no event was done: every disk is as before, or as a start that is refused leaves it
-abbrev pub DoesNothing : {V : Type 0} → BusInputs → CommandDisks V → Type 0
-DoesNothing i d =
-    (d.new ≡ d.old) ⊎ OverWorld i (λ start bus events. LeavesEach start bus d.states.before d.states.after)
-
--- what was written then: where the sink failed a proper front of a row that comes, and nothing for want of memory
-abbrev pub PrintsEarly : {V : Type 0} → Unwritten → BusInputs → CommandDisks V → Ending → Type 0
-PrintsEarly unwritten.SinkFailed i d e = PrintsFront (ComesInRun i d) e
-PrintsEarly unwritten.Memory i d e = PrintsWhole e []
-
--- what holds of every replay and of every trial that is asked for
-pub record RunsMachine {V : Type 0} (i : BusInputs) (d : CommandDisks V) (e : Ending) : Type 0 where
-  -- 0: a replay is one run of all events of its script, and the sink has the texts of its lines. It begins at the first
-  -- world of the bus; with `node` at one in which the bus goes on over its disks.
-  pub replayed : (start : Start) → Asks i.words (World (Replay start)) → e.status ≡ 0
-      → ReplayIsRun start i d.states e (Ok tt)
-  -- 0 with `node`, over disks that tell their bytes, of which none is loose.
-  pub attached_run : Asks i.words (World (Replay Attach)) → e.status ≡ 0
-      → OverReplayOf Attach i (λ bus events. (TellFirm bus d.states.before
-      → AttachedRun bus d.states.before d.states.after events e.before e.after (Ok tt)))
-  -- 6, 7: no event was done, and a front of a row was written, or nothing; or the first events, at least one, are one
-  -- run, of which the sink has the texts of the lines before the last, and of that one a front, or nothing.
-  pub early_ends : (start : Start) (cause : Unwritten) → Asks i.words (World (Replay start))
-      → e.status ≡ unwritten_status (Err cause)
-      → (DoesNothing i d × PrintsEarly cause i d e) ⊎ ReplayIsRun start i d.states e (Err cause)
-  -- 0: a trial is one run of all its events, and the sink has the seven numbers over its lines.
-  pub tried : (trial : TrialWords) → Asks i.words (World (Trial trial)) → e.status ≡ 0
-      → (summary : Summary) × TrialIsRun i d.states summary × PrintsWhole e (summary_text summary)
-  -- 6, 7: no event of a trial was done, or all were, in one run.
-  pub tried_untold : (trial : TrialWords) → Asks i.words (World (Trial trial)) → (e.status ≡ 6) ⊎ (e.status ≡ 7)
-      → DoesNothing i d ⊎ ((summary : Summary) × TrialIsRun i d.states summary)
-
 -- all that a command promises, and the headline
 abbrev pub RunsBus : {V : Type 0} → BusInputs → CommandDisks V → Ending → Type 0
 RunsBus i d e = RunsCommand i d e × RunsMachine i d e
+
+-- ---- the headline's record, and the one that all programs share
+
+-- they have the same members: of a replay's or a trial's run holds what holds of a run of a bus
+abbrev pub HeadlineIsWorldRun : Type 0
+HeadlineIsWorldRun = (first : World) (bus : NamedBus) (d : DiskStates) (events : List Event) (moments : Moments)
+    (last : World)
+    → (WorldRun first bus d.before d.after events moments last → HeadlineRun first bus d events moments last)
+    × (HeadlineRun first bus d events moments last → WorldRun first bus d.before d.after events moments last)

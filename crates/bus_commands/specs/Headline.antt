@@ -41,12 +41,6 @@ pub record ReplayedOver (start : Start) (bus : NamedBus) (before after : List Di
   pub begins : BeginsOver start bus before first
   pub replayed : Replayed first bus before after events sink_before sink_after result
 
--- there is a world in which the bus goes on where its disks stand, and what was done is one run from there
-abbrev pub AttachedRun : NamedBus → List DiskState → List DiskState → List Event → SinkState → SinkState
-    → Result (Unit {0}) Unwritten → Type 0
-AttachedRun bus before after events sink_before sink_after result =
-    (first : World) × StartsOver bus before first × Replayed first bus before after events sink_before sink_after result
-
 -- what was done of a replay over disks that tell their bytes is one run
 abbrev pub ReplaysAreRuns : Type 0
 ReplaysAreRuns = (start : Start) (bus : NamedBus) (before after : List DiskState) (events : List Event)

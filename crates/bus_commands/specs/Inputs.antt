@@ -1,5 +1,6 @@
 -- What goes into a command, and what of it is read
 use Rattle.std.specs.Prelude.{◌≡◌, ℕ, List, Ok}
+use Rattle.bus_port.specs.Source.{SourceState}
 use Rattle.command_edge.specs.declared.input.InputFault.{InputFault}
 use Rattle.answer_rows.specs.Inputs.{Reading, IsUnread, ReadsWhole, Lacks}
 use Rattle.bus_nodes.specs.Buses.{NamedBus}
@@ -23,6 +24,14 @@ pub record BusInputs : Type 0 where
   pub words : List (List ℕ)
   pub config : Reading
   pub script : Reading
+
+-- these words, and what was known of the bus file's source before and after, and of the lines'
+abbrev pub inputs_of : List (List ℕ) → SourceState → SourceState → SourceState → SourceState → BusInputs
+inputs_of words config_before config_after script_before script_after = record {
+  words = words;
+  config = record { before = config_before; after = config_after };
+  script = record { before = script_before; after = script_after };
+}
 
 -- ---- the bus file
 
@@ -59,8 +68,8 @@ OffersTask i (check bus) = Asks i.words (Lines lines.Check) × OffersBus i.confi
 OffersTask i (replay start bus) = Asks i.words (World (Replay start)) × OffersBus i.config bus
 
 -- what is done with the lines was set, and these were read whole; this holds of both
-abbrev pub Over : BusInputs → (Task → List ℕ → Type 0) → Type 0
-Over i P = (task : Task) × SetsTask i task × ((input : List ℕ) × ReadsWhole i.script input × P task input)
+abbrev pub OverLines : BusInputs → (Task → List ℕ → Type 0) → Type 0
+OverLines i P = (task : Task) × SetsTask i task × ((input : List ℕ) × ReadsWhole i.script input × P task input)
 
 -- what is done with the lines was set, and there are none, for this cause
 abbrev pub NoScript : BusInputs → InputFault → Type 0

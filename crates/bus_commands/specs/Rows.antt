@@ -13,9 +13,9 @@ use Rattle.bus_nodes.specs.Buses.{NamedBus, IsNamedBus}
 use Rattle.bus_machine.specs.declared.events.Event.{Event}
 use Rattle.bus_commands.specs.declared.summary.Summary.{Summary}
 use Rattle.bus_commands.specs.Words.{AsksNothing}
-use Rattle.bus_commands.specs.Texts.{usage, Prints, fault_of}
+use Rattle.bus_commands.specs.Texts.{usage, IsOutput, fault_of}
 use Rattle.bus_inputs.specs.BusFiles.{IsConfigFault}
-use Rattle.bus_commands.specs.Inputs.{BusInputs, AsksOverBus, NoConfig, NoScript, Over, OverReplay}
+use Rattle.bus_commands.specs.Inputs.{BusInputs, AsksOverBus, NoConfig, NoScript, OverLines, OverReplay}
 use Rattle.bus_commands.specs.Inputs.{OverTrial, OverWorld}
 use Rattle.bus_world.specs.StartAnswers.{DiskStates, ComesOfStart}
 use Rattle.bus_commands.specs.StartRows.{CommandDisks}
@@ -35,9 +35,9 @@ pub data ComesOfInputs (i : BusInputs) : Row → Type 0 where
   config_refused : (fault : ConfigFault) (text : List ℕ) → AsksOverBus i.words → IsConfigFault i.config fault
       → config_fault_text fault ≡ Some text → IsUnread i.script → ComesOfInputs i (row_of 3 text)
   no_script : (fault : InputFault) → NoScript i fault → ComesOfInputs i (input_row fault)
-  script_refused : (fault : Fault) → Over i (λ task input. fault_of task input ≡ Some fault)
+  script_refused : (fault : Fault) → OverLines i (λ task input. fault_of task input ≡ Some fault)
       → ComesOfInputs i (line_row fault)
-  done : (text : List ℕ) → Over i (λ task input. Prints task input text) → ComesOfInputs i (row_of 0 text)
+  done : (text : List ℕ) → OverLines i (λ task input. IsOutput task input text) → ComesOfInputs i (row_of 0 text)
 
 -- all events of a trial were done; over disks that tell their bytes they are one run of the machine
 pub record DoneTrial (bus : NamedBus) (events : List Event) (d : DiskStates) (summary : Summary) : Type 0 where
@@ -71,6 +71,6 @@ pub data ComesInRun {V : Type 0} (i : BusInputs) (d : CommandDisks V) : Row → 
   tried_without_memory : (summary : Summary) → TriesEvents i d.states summary → ComesInRun i d memory_row
 
 -- how a command ends: a row of the table comes, and is told; or a replay did its first events
-pub data EndsCommand {V : Type 0} (i : BusInputs) (d : CommandDisks V) (e : Ending) : Type 0 where
-  in_row : EndsInRow (ComesInRun i d) e → EndsCommand i d e
-  replayed : (result : Result (Unit {0}) Unwritten) → ReplaysScript i d.states e result → EndsCommand i d e
+pub data RowOrReplay {V : Type 0} (i : BusInputs) (d : CommandDisks V) (e : Ending) : Type 0 where
+  in_row : EndsInRow (ComesInRun i d) e → RowOrReplay i d e
+  replayed : (result : Result (Unit {0}) Unwritten) → ReplaysScript i d.states e result → RowOrReplay i d e

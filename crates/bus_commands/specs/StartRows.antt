@@ -1,5 +1,6 @@
 -- The disks of a command
-use Rattle.std.specs.Prelude.{◌≡◌, ℕ, ◌<◌, Some, List, length, get_or}
+use Rattle.std.specs.Prelude.{◌≡◌, ℕ, ◌<◌, Some, List, length, map, get_or, Vec}
+use Rattle.std.specs.declared.alloc.Global.{Global}
 use Rattle.cut_disk.specs.State.{DiskState, Told}
 use Rattle.bus_nodes.specs.declared.nodes.NodeLine.{NodeLine}
 use Rattle.bus_nodes.specs.Buses.{NamedBus}
@@ -12,6 +13,11 @@ pub record CommandDisks (V : Type 0) : Type 0 where
   pub old : V
   pub new : V
   pub states : DiskStates
+
+-- these disks before and after it, of which `state` says what is known
+abbrev pub disks_between : {D : Type 0} → (D → DiskState) → Vec D Global → Vec D Global → CommandDisks (Vec D Global)
+disks_between state old new =
+    record { old = old; new = new; states = record { before = map state old.items; after = map state new.items } }
 
 -- the disk of a node of the bus tells bytes over which it can't go on: nothing that a node keeps stands on them
 pub record HoldsNoNode (bus : NamedBus) (disks : List DiskState) : Type 0 where

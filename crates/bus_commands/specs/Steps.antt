@@ -33,7 +33,7 @@ use Rattle.bus_commands.specs.declared.summary.Summary.{Summary}
 use Rattle.bus_commands.specs.Tasks.{Task, frame, judge, check}
 use Rattle.bus_commands.specs.Texts.{TellsEach, TellsFrame, TellsJudgement}
 use Rattle.bus_commands.specs.Words.{Asks}
-use Rattle.bus_commands.specs.Inputs.{BusInputs, Over, SetsWorld}
+use Rattle.bus_commands.specs.Inputs.{BusInputs, OverLines, SetsWorld}
 use Rattle.bus_commands.specs.Summaries.{summary_text}
 use Rattle.bus_world.specs.StartAnswers.{DiskStates, ComesUnstarted}
 use Rattle.bus_world.specs.declared.start.Start.{Start}
@@ -105,7 +105,7 @@ IsJobOf task input job = ⊥
 
 -- how the first phase ends: in a job over inputs that were read whole, or in a row that comes
 abbrev pub Prepares : BusInputs → Result Job Row → Type 0
-Prepares i (Ok (Lines job)) = IsWholeLines job × Over i (λ task input. IsJobOf task input job)
+Prepares i (Ok (Lines job)) = IsWholeLines job × OverLines i (λ task input. IsJobOf task input job)
 Prepares i (Ok (World job)) = IsWholeWorld job × SetsWorld i job.command job.bus job.events.items
 Prepares i (Err row) = ComesOfInputs i row
 

@@ -38,12 +38,14 @@ TellsEach Tells (l ∷ lines) text =
     (first rest : List ℕ) × Tells l first × TellsEach Tells lines rest × (text ≡ first ++ rest)
 
 -- the text is what a task prints of an input; of a replay see the text that its run prints
-abbrev pub Prints : Task → List ℕ → List ℕ → Type 0
-Prints frame input text = (lines : List FrameLine) × (frames_of input ≡ Ok lines) × TellsEach TellsFrame lines text
-Prints judge input text = (lines : List JudgeLine) × (judges_of input ≡ Ok lines) × TellsEach TellsJudgement lines text
-Prints (check bus) input text =
+abbrev pub IsOutput : Task → List ℕ → List ℕ → Type 0
+IsOutput frame input text =
+    (lines : List FrameLine) × (frames_of input ≡ Ok lines) × TellsEach TellsFrame lines text
+IsOutput judge input text =
+    (lines : List JudgeLine) × (judges_of input ≡ Ok lines) × TellsEach TellsJudgement lines text
+IsOutput (check bus) input text =
     (events : List Event) × (events_of bus.nodes input ≡ Ok events) × (text ≡ flat_map (canon bus.nodes) events)
-Prints (replay start bus) input text = ⊥
+IsOutput (replay start bus) input text = ⊥
 
 -- the first fault of an input, if it has one
 abbrev pub fault_of : Task → List ℕ → Option Fault

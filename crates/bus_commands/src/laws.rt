@@ -1,4 +1,5 @@
 //! What holds of every replay and of every trial over disks that tell their bytes.
+ghost use Rattle.bus_commands.specs.Commands.{HeadlineIsWorldRun};
 ghost use Rattle.bus_commands.specs.Headline.{ReplaysAreRuns};
 ghost use Rattle.bus_commands.specs.TrialRuns.{TrialsAreRuns};
 
@@ -28,3 +29,8 @@ pub fn trials_are_runs()
     starts_begin_at_the_first_world();
     turns_are_world_runs();
 }
+
+/// The record of the headline has the members of the record of a run of a bus, which all programs share, and no others.
+pub fn the_headline_is_a_run_of_the_bus()
+    ensures { HeadlineIsWorldRun }
+{}

@@ -2,6 +2,8 @@
 ghost use Rattle.std.specs.Prelude.{◌≡◌, ◌≤◌, map, string_bytes};
 ghost use Rattle.answer_rows.specs.Endings.{EndsInRow};
 ghost use Rattle.bus_commands.specs.Commands.{RunsCommand, RunsMachine};
+ghost use Rattle.bus_commands.specs.Inputs.{inputs_of};
+ghost use Rattle.bus_commands.specs.StartRows.{disks_between};
 ghost use Rattle.bus_commands.specs.Steps.{Prepares, PreparesLines, PreparesWorld, HasFewEvents, FindsEvents};
 ghost use Rattle.bus_commands.specs.Steps.{IsWholeLines, IsWholeWorld, AnswersLines, AnswersWorld};
 ghost use Rattle.bus_nodes.specs.Buses.{NamedBus};
@@ -38,35 +40,22 @@ pub fn run<S: Source, T: Source, K: Sink, D: CutDisk>(
     sink: &mut K,
     disks: &mut Vec<D>,
 ) -> u8
-    // `RunsCommand` of specs/Commands.antt has a member for each promise, in the order of the table of answers.
+    // The table of answers: a member of the record for each promise. Both records stand in specs/Commands.antt, which
+    // says of each name what it means.
     ensures promises { RunsCommand
-        (record {
-          words = map string_bytes words.now;
-          config = record { before = S.state config.old; after = S.state config.new };
-          script = record { before = T.state script.old; after = T.state script.new };
-        })
-        (record {
-          old = disks.old;
-          new = disks.new;
-          states = record { before = map D.state disks.old.items; after = map D.state disks.new.items };
-        })
+        (inputs_of (map string_bytes words.now)
+        (S.state config.old) (S.state config.new) (T.state script.old) (T.state script.new))
+        (disks_between D.state disks.old disks.new)
         (record { before = K.state sink.old; after = K.state sink.new; status = result }) }
 
     // The headline: over disks that tell their bytes a replay is one run of the machine from the first world of the
-    // bus, and so is a trial; `node` is one from a world in which the bus goes on where its disks stand. `Replayed` and
-    // `Tried` have all that holds of it: `is_a_run`, `are_lines`, `rising`, `authentic`, `single`, `keys_kept`,
-    // `cuts_skip_little`, `covered`, `disks`, `failures` and `honest`.
+    // bus, and so is a trial; `node` is one from a world in which the bus goes on where its disks stand. `HeadlineRun`
+    // has all that holds of that run: `is_a_run`, `rising`, `authentic`, `single`, `keys_kept`, `disks`, `failures`,
+    // `honest` and what goes with them.
     ensures replayed { RunsMachine
-        (record {
-          words = map string_bytes words.now;
-          config = record { before = S.state config.old; after = S.state config.new };
-          script = record { before = T.state script.old; after = T.state script.new };
-        })
-        (record {
-          old = disks.old;
-          new = disks.new;
-          states = record { before = map D.state disks.old.items; after = map D.state disks.new.items };
-        })
+        (inputs_of (map string_bytes words.now)
+        (S.state config.old) (S.state config.new) (T.state script.old) (T.state script.new))
+        (disks_between D.state disks.old disks.new)
         (record { before = K.state sink.old; after = K.state sink.new; status = result }) }
 {
     match prepare(alloc, words, config, script) {

@@ -12,7 +12,7 @@ use Rattle.answer_rows.specs.EndingLaws.{EndsInRow-more}
 use Rattle.bus_commands.specs.Words.{NamesDisk}
 use Rattle.bus_commands.specs.Inputs.{BusInputs}
 use Rattle.bus_commands.specs.StartRows.{CommandDisks}
-use Rattle.bus_commands.specs.Rows.{ComesInRun, without_disks, not_started, tried, tried_without_memory, EndsCommand, in_row, replayed}
+use Rattle.bus_commands.specs.Rows.{ComesInRun, without_disks, not_started, tried, tried_without_memory, RowOrReplay, in_row, replayed}
 use Rattle.bus_commands.specs.Commands.{RunsCommand, RunsBus}
 use Rattle.bus_commands.proofs.Promises.{RunsCommand-ends}
 use Rattle.bus_commands.proofs.OneRun.{RunsMachine-command}
@@ -31,7 +31,7 @@ module _ {V : Type 0} (i : BusInputs) (d : CommandDisks V) (e : Ending) (keep : 
   row_known row (tried summary over) = tried summary over
   row_known row (tried_without_memory summary over) = tried_without_memory summary over
 
-  ends_known : EndsCommand i d e → EndsCommand i (known d) e
+  ends_known : RowOrReplay i d e → RowOrReplay i (known d) e
   ends_known (in_row ends) = in_row (EndsInRow-more row_known ends)
   ends_known (replayed result over) = replayed result over
 

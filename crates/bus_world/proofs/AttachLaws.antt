@@ -69,6 +69,7 @@ not_attached_store kind version config before after store.Memory room h = record
   stays = subst (λ (d : DiskState). StaysTold before d) (sym h.1) (stays_none before);
   cause = tt;
   counts = ap (λ (d : DiskState). d.faults) h.1;
+  at_fault = tt;
 }
 not_attached_store kind version config before after store.DiskFailed room h = record {
   runs = h.leaves.runs;
@@ -76,6 +77,7 @@ not_attached_store kind version config before after store.DiskFailed room h = re
   stays = h.leaves.stays;
   cause = h.leaves.rose;
   counts = h.leaves.rose;
+  at_fault = tt;
 }
 not_attached_store kind version config before after store.NotFormatted room h = record {
   runs = runs_more (reads kind (cells_in config)) (min_within (reads kind (cells_in config)) 1) h.leaves.runs;
@@ -83,6 +85,7 @@ not_attached_store kind version config before after store.NotFormatted room h = 
   stays = h.leaves.stays;
   cause = h.finds;
   counts = h.leaves.faults;
+  at_fault = tt;
 }
 not_attached_store kind version config before after (store.Damaged place) room h = record {
   runs = runs_more (reads kind (cells_in config)) (min_within (reads kind (cells_in config)) (reads_to kind (cells_in config) place)) h.leaves.runs;
@@ -90,6 +93,7 @@ not_attached_store kind version config before after (store.Damaged place) room h
   stays = h.leaves.stays;
   cause = h.finds;
   counts = h.leaves.faults;
+  at_fault = tt;
 }
 
 -- the cells are no node's
@@ -114,6 +118,7 @@ module _ (kind : Kind) (version : Version) (config : Config) (before after : Dis
     stays = stays;
     cause = λ t is. record { cells = s.cells; count = a.count; stands = a.stands t is; such = cause };
     counts = faults;
+    at_fault = (s.cells, a.count, cause);
   }
   not_attached_cells (cells.BadBound place) cause = record {
     runs = runs;
@@ -121,8 +126,10 @@ module _ (kind : Kind) (version : Version) (config : Config) (before after : Dis
     stays = stays;
     cause = λ t is. record { cells = s.cells; count = a.count; stands = a.stands t is; such = cause };
     counts = faults;
+    at_fault = (s.cells, a.count, cause);
   }
-  not_attached_cells cells.Memory cause = record { runs = runs; told = told; stays = stays; cause = tt; counts = faults }
+  not_attached_cells cells.Memory cause =
+      record { runs = runs; told = told; stays = stays; cause = tt; counts = faults; at_fault = tt }
 
 -- only the disk or memory is told by this refusal
 abbrev pub OnlyDiskOrMemory : OpenFault → Type 0

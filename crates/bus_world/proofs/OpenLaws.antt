@@ -58,6 +58,7 @@ not_opened_none start kind version config before = record {
   stays = untouched_stays start kind version config before;
   moved = tt;
   counts = refl;
+  at_fault = tt;
 }
 
 -- the format failed
@@ -76,6 +77,7 @@ not_opened_format kind version config before after store.DiskFailed size room h 
   stays = tt;
   moved = tt;
   counts = h.rose;
+  at_fault = tt;
 }
 not_opened_format kind version config before after store.NotFormatted size room h = absurd h
 not_opened_format kind version config before after (store.Damaged place) size room h = absurd h
@@ -165,6 +167,7 @@ not_opened_attach kind version config before mid after fault good f a = record {
   stays = tt;
   moved = untold_moved kind version config before after fault (open_cause kind version config before mid after fault good f a.cause);
   counts = subst (λ n. CountsRefusal fault n after.faults) f.faults a.counts;
+  at_fault = a.at_fault;
 }
 
 new_length : (config : Config) → IsConfig config → length (new_cells config) ≡ cells_in config

@@ -26,7 +26,7 @@ use Rattle.bus_world.specs.declared.start.Start.{Start}
 use Rattle.bus_world.specs.declared.start.Start.TheVariants.{Format, Attach}
 use Rattle.bus_world.specs.declared.start.StartFault.{StartFault}
 use Rattle.bus_world.specs.declared.start.StartFault.TheVariants as start_fault
-use Rattle.bus_world.specs.TakingUp.{new_cells, start_calls, KeptOn, LeftOver, LeavesDisk, StaysFound, RefusedFor, OpenCause, MovedFirst, CountsRefusal}
+use Rattle.bus_world.specs.TakingUp.{new_cells, start_calls, KeptOn, LeftOver, LeavesDisk, StaysFound, RefusedFor, OpenCause, MovedFirst, CountsRefusal, CellsAtFault}
 use Rattle.bus_world.specs.Starts.{disks_of, Opened, HasRoom, OfNumber, RefusedAt, StartCause, Broken, NotStarted, OpensTo, fault_of_node}
 use Rattle.bus_world.specs.StartRowLaws.{untouched_stays}
 use Rattle.bus_world.proofs.OpenLaws.{untouched_left, untouched_leaves}
@@ -97,25 +97,28 @@ module _ (start : Start) (bus : NamedBus) (before after : List DiskState) (place
   refused_at : (fault : OpenFault) → ((l : NodeLine) (d : DiskState) → RefusedFor start bus.kind bus.version (get_or bus.nodes place l).config (get_or before place d).told fault)
       → ((d : DiskState) → (get_or after place d).faults ≡ (get_or before place d).faults)
       → ((l : NodeLine) (d : DiskState) → MovedFirst bus.kind bus.version (get_or bus.nodes place l).config (get_or before place d).told (get_or after place d).told fault)
+      → ((l : NodeLine) → CellsAtFault (get_or bus.nodes place l).config fault)
       → RefusedAt start bus before after (place + 1) fault
-  refused_at fault h same moved =
+  refused_at fault h same moved cells =
       at_number
       (λ config old new.
-      RefusedFor start bus.kind bus.version config old.told fault × (new.faults ≡ old.faults) × MovedFirst bus.kind bus.version config old.told new.told fault)
-      (λ l d. (h l d, same d, moved l d))
+      RefusedFor start bus.kind bus.version config old.told fault × (new.faults ≡ old.faults)
+      × MovedFirst bus.kind bus.version config old.told new.told fault × CellsAtFault config fault)
+      (λ l d. (h l d, same d, moved l d, cells l))
 
   start_cause : (cause : OpenFault)
       → ((l : NodeLine) (d : DiskState) → OpenCause start bus.kind bus.version (get_or bus.nodes place l).config (get_or before place d) (get_or after place d) cause)
       → ((d : DiskState) → CountsRefusal cause (get_or before place d).faults (get_or after place d).faults)
       → ((l : NodeLine) (d : DiskState) → MovedFirst bus.kind bus.version (get_or bus.nodes place l).config (get_or before place d).told (get_or after place d).told cause)
+      → ((l : NodeLine) → CellsAtFault (get_or bus.nodes place l).config cause)
       → StartCause start bus before after (fault_of_node (place + 1) cause)
-  start_cause (open_fault.Store reread.DiskFailed) h counts moved = at_number (λ config old new. Rose old.faults new.faults) h
-  start_cause (open_fault.Store reread.NotFormatted) h counts moved = refused_at (open_fault.Store reread.NotFormatted) h counts moved
-  start_cause (open_fault.Store (reread.Damaged i)) h counts moved = refused_at (open_fault.Store (reread.Damaged i)) h counts moved
-  start_cause (open_fault.BadSlot slot) h counts moved = refused_at (open_fault.BadSlot slot) h counts moved
-  start_cause (open_fault.BadBound place) h counts moved = refused_at (open_fault.BadBound place) h counts moved
-  start_cause open_fault.TooSmall h counts moved = tt
-  start_cause open_fault.Memory h counts moved = tt
+  start_cause (open_fault.Store reread.DiskFailed) h counts moved cells = at_number (λ config old new. Rose old.faults new.faults) h
+  start_cause (open_fault.Store reread.NotFormatted) h counts moved cells = refused_at (open_fault.Store reread.NotFormatted) h counts moved cells
+  start_cause (open_fault.Store (reread.Damaged i)) h counts moved cells = refused_at (open_fault.Store (reread.Damaged i)) h counts moved cells
+  start_cause (open_fault.BadSlot slot) h counts moved cells = refused_at (open_fault.BadSlot slot) h counts moved cells
+  start_cause (open_fault.BadBound place) h counts moved cells = refused_at (open_fault.BadBound place) h counts moved cells
+  start_cause open_fault.TooSmall h counts moved cells = tt
+  start_cause open_fault.Memory h counts moved cells = tt
 
 -- want of memory of a start is that of a node
 of_memory : (n : ℕ) (cause : OpenFault) → fault_of_node n cause ≡ start_fault.Memory → cause ≡ open_fault.Memory
@@ -207,6 +210,9 @@ module _ (start : Start) (bus : NamedBus) (before mid after : List DiskState) (n
   open_moved l d =
       subst (λ (s : DiskState). MovedFirst bus.kind bus.version (get_or bus.nodes o.place l).config (get_or before o.place d).told s.told o.cause) (sym (here d)) (o.refused l d).moved
 
+  open_at_fault : (l : NodeLine) → CellsAtFault (get_or bus.nodes o.place l).config o.cause
+  open_at_fault l = (o.refused l o.disk).at_fault
+
   pub has_room : o.cause ≡ open_fault.TooSmall → ⊥
   has_room is = fits_on start bus.kind bus.version (get_or bus.nodes o.place no_line).config (get_or before o.place o.disk) (get_or after o.place o.disk)
       (subst (λ f. OpenCause start bus.kind bus.version (get_or bus.nodes o.place no_line).config (get_or before o.place o.disk) (get_or after o.place o.disk) f) is (open_cause no_line o.disk))
@@ -259,7 +265,7 @@ module _ (start : Start) (bus : NamedBus) (before mid after : List DiskState) (n
     count = count;
     left = left;
     rest = rest;
-    cause = start_cause start bus before after o.place o.inside unfailed taken later o.cause open_cause open_counts open_moved;
+    cause = start_cause start bus before after o.place o.inside unfailed taken later o.cause open_cause open_counts open_moved open_at_fault;
     leaves = leaves;
     stays = stays;
     memory = λ is. memory (of_memory (o.place + 1) o.cause is);

@@ -134,6 +134,7 @@ look_failed kind version config before after h =
       stays = λ t told found. h.stays;
       moved = tt;
       counts = h.rose;
+      at_fault = tt;
     }
 
 module _ (kind : Kind) (version : Version) (config : Config) (good : IsConfig config) (before mid : DiskState) (read : ReadOnly 2 before mid) where
@@ -150,6 +151,7 @@ module _ (kind : Kind) (version : Version) (config : Config) (good : IsConfig co
         stays = λ t told found. read.stays;
         moved = tt;
         counts = read.faults;
+        at_fault = tt;
       }
 
   -- ---- a store that stands
@@ -217,6 +219,7 @@ module _ (kind : Kind) (version : Version) (config : Config) (good : IsConfig co
           stays = λ t told found. stays_join read.runs read.told read.stays a.runs a.stays;
           moved = standing_moved after fault;
           counts = counts;
+          at_fault = a.at_fault;
         }
 
   -- ---- a blank disk
@@ -316,6 +319,7 @@ module _ (kind : Kind) (version : Version) (config : Config) (good : IsConfig co
           stays = blank_stays after;
           moved = blank_moved after fault;
           counts = counts;
+          at_fault = o.at_fault;
         }
 
 -- ---- an older store
@@ -404,6 +408,7 @@ module _ (kind : Kind) (config : Config) (good : IsConfig config) (before mid : 
         stays = older_stays after;
         moved = older_moved after fault m;
         counts = counts;
+        at_fault = m.at_fault;
       }
 
 -- what a look found, under other names

@@ -26,7 +26,7 @@ use Rattle.secoc_node.specs.Cells.{CellsOf, SlotsButNoBound}
 use Rattle.secoc_node.specs.State.{NodeState, FitsNow}
 use Rattle.bus_world.specs.declared.opening.OpenFault.{OpenFault}
 use Rattle.bus_world.specs.declared.opening.OpenFault.TheVariants as open_fault
-use Rattle.bus_world.specs.TakingUp.{cells_in, CountsRefusal, StandsSo}
+use Rattle.bus_world.specs.TakingUp.{cells_in, CountsRefusal, StandsSo, CellsAtFault}
 
 -- ---- one node over its store
 
@@ -75,6 +75,7 @@ pub record NotAttachedTo (kind : Kind) (version : Version) (config : Config) (be
   pub stays : StaysTold before after
   pub cause : AttachCauseOf kind version config before after fault
   pub counts : CountsRefusal fault before.faults after.faults
+  pub at_fault : CellsAtFault config fault
 
 -- ---- one node over a store that is moved to version 2
 
@@ -118,6 +119,7 @@ pub record NotMovedTo (kind : Kind) (config : Config) (before after : DiskState)
   pub runs : Runs [] (move_calls kind (cells_in config) + reads kind (cells_in config)) before after
   pub cause : MoveCauseOf kind config before after fault
   pub counts : CountsRefusal fault before.faults after.faults
+  pub at_fault : CellsAtFault config fault
   pub leaves : LeavesMoved kind (cells_in config) before.told after.told fault
   pub keeps : KeepsCounted kind (cells_in config) before.told after.told
   pub besides : LeavesBelow kind (cells_in config) before.told after.told

@@ -22,7 +22,7 @@ use Rattle.bus_world.specs.declared.start.Start.TheVariants.{Format, Attach}
 use Rattle.bus_world.specs.declared.start.StartFault.{StartFault}
 use Rattle.bus_world.specs.declared.start.StartFault.TheVariants as start_fault
 pub use Rattle.bus_world.specs.TakingUp.{cells_in, new_cells, start_calls, KeptOn, LeavesOpened, LeftOver, LeavesDisk}
-pub use Rattle.bus_world.specs.TakingUp.{StaysFound, RefusedFor, OpenCause, MovedFirst, CountsRefusal}
+pub use Rattle.bus_world.specs.TakingUp.{StaysFound, RefusedFor, OpenCause, MovedFirst, CountsRefusal, CellsAtFault}
 use Rattle.bus_world.specs.Worlds.{BusState}
 
 -- ---- one node
@@ -56,6 +56,7 @@ pub record NotOpened (start : Start) (kind : Kind) (version : Version) (config :
   pub stays : StaysFound start kind version config before after
   pub moved : MovedFirst kind version config before.told after.told fault
   pub counts : CountsRefusal fault before.faults after.faults
+  pub at_fault : CellsAtFault config fault
 
 -- ---- all nodes
 
@@ -102,12 +103,12 @@ pub record OfNumber (start : Start) (bus : NamedBus) (before after : List DiskSt
       → (kept : Kept) × KeptOn start bus.kind bus.version (get_or bus.nodes i l).config t.bytes kept
   pub later : (i : ℕ) (d : DiskState) → number ≤ i → get_or after i d ≡ get_or before i d
 
--- the node of this number is refused for the bytes of its disk, whose count of faults is as it was; a store in version
--- 1 was moved before its cells were looked at
+-- The node of this number is refused for the bytes of its disk, whose count of faults is as it was; a store in version
+-- 1 was moved before its cells were looked at. Over a disk that doesn't tell its bytes, too, the cells are no node's.
 abbrev pub RefusedAt : Start → NamedBus → List DiskState → List DiskState → ℕ → OpenFault → Type 0
 RefusedAt start bus before after number fault = OfNumber start bus before after number
     (λ config old new. RefusedFor start bus.kind bus.version config old.told fault × (new.faults ≡ old.faults)
-    × MovedFirst bus.kind bus.version config old.told new.told fault)
+    × MovedFirst bus.kind bus.version config old.told new.told fault × CellsAtFault config fault)
 
 abbrev pub StartCause : Start → NamedBus → List DiskState → List DiskState → StartFault → Type 0
 StartCause start bus before after (start_fault.Store number reread.DiskFailed) =

@@ -207,6 +207,18 @@ MovedFirst kind version config old new (open_fault.BadSlot slot) = MovesOlder ki
 MovedFirst kind version config old new (open_fault.BadBound place) = MovesOlder kind version config old new
 MovedFirst kind version config old new fault = Unit {0}
 
+-- a list of n cells of which this holds
+abbrev pub SomeCells : ℕ → (List (List ℕ) → Type 0) → Type 0
+SomeCells n P = (cells : List (List ℕ)) × (length cells ≡ n) × P cells
+
+-- the cells that were read are no node's, whether the disk tells its bytes or not: the lowest that isn't a slot or a
+-- bound of the node is this one
+abbrev pub CellsAtFault : Config → OpenFault → Type 0
+CellsAtFault config (open_fault.BadSlot slot) = SomeCells (cells_in config) (λ cells. FirstBadSlot cells slot)
+CellsAtFault config (open_fault.BadBound place) =
+    SomeCells (cells_in config) (λ cells. SlotsButNoBound config.routes cells place)
+CellsAtFault config fault = Unit {0}
+
 -- the count of faults rose where a refusal tells that the disk failed; else it is as it was
 abbrev pub CountsRefusal : OpenFault → ℕ → ℕ → Type 0
 CountsRefusal (open_fault.Store reread.DiskFailed) before after = Rose before after
