@@ -1,6 +1,6 @@
 -- A bus over blank disks that are enough and large enough finds room for its stores, and no disk of it fails as they
 -- are made
-use Rattle.std.specs.Prelude.{◌≡◌, ℕ, zero, suc, ◌+◌, ◌-◌, ◌≤◌, List, [], ◌∷◌, length, get_or, replicate, All}
+use Rattle.std.specs.Prelude.{◌≡◌, ℕ, zero, suc, ◌-◌, ◌≤◌, List, [], ◌∷◌, length, get_or, replicate, All}
 use Rattle.std.proofs.Common.{refl, ap, subst, arith}
 use Rattle.std.proofs.lemmas.List.{length-map, length-replicate}
 use Rattle.cut_disk.specs.declared.mem_disk.MemDisk.{MemDisk}
@@ -8,22 +8,17 @@ use Rattle.cut_disk.specs.State.{DiskState}
 use Rattle.cut_disk.specs.Calls.{IsQuiet}
 use Rattle.cut_disk.specs.Memory.{fresh, disk_of}
 use Rattle.cut_disk.specs.MemDisk.{contents}
-use Rattle.cell_store.specs.declared.kinds.Kind.{Kind}
-use Rattle.cell_store.specs.declared.kinds.Kind.TheVariants.{Twin, Log}
-use Rattle.cell_store.specs.declared.kinds.Version.{Version}
-use Rattle.cell_store.specs.declared.kinds.Version.TheVariants.{One, Two}
 use Rattle.cell_store.specs.declared.faults.Reread.TheVariants.{DiskFailed, NotFormatted, Damaged}
-use Rattle.cell_store.specs.Store.{store_size}
-use Rattle.any_cells.specs.Either.{layout}
 use Rattle.freshness_routes.specs.Config.{Config}
 use Rattle.bus_machine.specs.Bus.{no_config}
 use Rattle.bus_nodes.specs.declared.nodes.NodeLine.{NodeLine}
-use Rattle.bus_nodes.specs.Buses.{NamedBus, IsNamedBus, most_routes}
+use Rattle.bus_nodes.specs.Buses.{NamedBus, IsNamedBus}
 use Rattle.bus_world.specs.declared.start.Start.TheVariants.{Format}
 use Rattle.bus_world.specs.declared.start.StartFault.{StartFault}
 use Rattle.bus_world.specs.declared.start.StartFault.TheVariants.{TooFew, TooSmall, Store, BadSlot, BadBound, Memory}
 use Rattle.bus_world.specs.Starts.{FindsRoom, OfNumber}
 use Rattle.bus_world.specs.StartRows.{StoreCause}
+use Rattle.bus_world.specs.RoomLaws.{size_of_any}
 use Rattle.blank_disks.specs.Blank.{AreBlank, blank_state, disk_states}
 
 -- whatever stands where no node is
@@ -60,13 +55,6 @@ no_store_cause count size disks bus after (TooSmall number) are of = of
 no_store_cause count size disks bus after Memory are of = of
 
 -- ---- room is found
-
--- the greatest store has 54,564 bytes
-size_of_any : (kind : Kind) (version : Version) (routes : ℕ) → routes ≤ most_routes version → store_size (layout kind version) (14 + routes) ≤ 54564
-size_of_any Twin One routes most = omega (arith, most)
-size_of_any Twin Two routes most = omega (arith, most)
-size_of_any Log One routes most = omega (arith, most)
-size_of_any Log Two routes most = omega (arith, most)
 
 pub finds_room : (count size : ℕ) (disks : List MemDisk) (bus : NamedBus) (fault : StartFault) → length bus.nodes ≤ count → 54564 ≤ size → AreBlank count size disks → IsNamedBus bus
     → FindsRoom bus (disk_states disks) fault → ⊥

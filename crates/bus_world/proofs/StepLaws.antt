@@ -46,7 +46,7 @@ turn_is_step before e line after turn certain = record {
 }
 
 -- a disk that tells its bytes and fits makes every event certain
-certain_of : (e : Event) (n : NodeState) → TellsFitting n → IsCertain (mark_of e) n
+pub certain_of : (e : Event) (n : NodeState) → TellsFitting n → IsCertain (mark_of e) n
 certain_of (event.Send node id payload) n fits = tt
 certain_of (event.Deliver node number) n fits = tt
 certain_of (event.Inject node id pdu) n fits = tt
@@ -60,7 +60,7 @@ certain_of (event.Fail node calls) n fits = tt
 fits_now : (n : NodeState) → TellsFitting n → FitsNow n
 fits_now n fits = fits_store (node_keeping n.node) n.store fits
 
-turn_fits : (before : NodeState) (e : Event) (w : World) (line : Line) (after : NodeState) → NodeTurn before (duty_of w e) line after → TellsFitting before → TellsFitting after
+pub turn_fits : (before : NodeState) (e : Event) (w : World) (line : Line) (after : NodeState) → NodeTurn before (duty_of w e) line after → TellsFitting before → TellsFitting after
 turn_fits before e w line after turn fits =
     let tells = told_before after.store.disk.told before.store.disk.told (sym turn.runs.tells) fits.now fits.told in
     record { now = tells.0; told = tells.1; fits = turn.fits (fits_now before fits) tells.0 tells.1 }

@@ -7,3 +7,4 @@ pub mod StartRows
 pub mod StartRowLaws
 pub mod StartAnswers
 pub mod StartAnswerLaws
+pub mod RoomLaws

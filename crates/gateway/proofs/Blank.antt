@@ -1,5 +1,5 @@
 -- A gateway over the disk that the program makes is started, or wants memory
-use Rattle.std.specs.Prelude.{◌≡◌, ℕ, ◌+◌, ◌-◌, ◌≤◌, List, [], ◌∷◌, length, map, get_or, replicate}
+use Rattle.std.specs.Prelude.{◌≡◌, ℕ, ◌-◌, List, [], ◌∷◌, length, map, get_or, replicate}
 use Rattle.std.proofs.Common.{refl, ap, ◌∙◌, subst, arith}
 use Rattle.std.proofs.lemmas.List.{length-replicate}
 use Rattle.cut_disk.specs.declared.mem_disk.MemDisk.{MemDisk}
@@ -7,18 +7,13 @@ use Rattle.cut_disk.specs.State.{DiskState}
 use Rattle.cut_disk.specs.Calls.{IsQuiet}
 use Rattle.cut_disk.specs.Memory.{fresh, disk_of}
 use Rattle.cut_disk.specs.MemDisk.{contents}
-use Rattle.cell_store.specs.declared.kinds.Kind.{Kind}
-use Rattle.cell_store.specs.declared.kinds.Kind.TheVariants.{Twin, Log}
-use Rattle.cell_store.specs.declared.kinds.Version.{Version}
-use Rattle.cell_store.specs.declared.kinds.Version.TheVariants.{One, Two}
 use Rattle.cell_store.specs.declared.faults.Reread.TheVariants.{DiskFailed, NotFormatted, Damaged}
-use Rattle.cell_store.specs.Store.{store_size}
-use Rattle.any_cells.specs.Either.{layout}
-use Rattle.bus_nodes.specs.Buses.{NamedBus, IsNamedBus, most_routes}
+use Rattle.bus_nodes.specs.Buses.{NamedBus, IsNamedBus}
 use Rattle.bus_script.specs.EventForms.{no_node}
 use Rattle.freshness_routes.specs.Config.{Config}
 use Rattle.bus_world.specs.declared.start.Start.TheVariants.{Format}
 use Rattle.bus_world.specs.Starts.{FindsRoom, OfNumber}
+use Rattle.bus_world.specs.RoomLaws.{size_of_any}
 use Rattle.bus_world.specs.StartRows.{StoreCause}
 use Rattle.bus_world.specs.declared.start.StartFault.{StartFault}
 use Rattle.bus_world.specs.declared.start.StartFault.TheVariants.{TooFew, TooSmall, Store, BadSlot, BadBound, Memory}
@@ -38,13 +33,6 @@ blank_quiet : IsQuiet blank_state
 blank_quiet = record { quiet = refl; below = omega arith }
 
 -- ---- 9
-
--- the greatest store has 54,564 bytes
-size_of_any : (kind : Kind) (version : Version) (routes : ℕ) → routes ≤ most_routes version → store_size (layout kind version) (14 + routes) ≤ 54564
-size_of_any Twin One routes most = omega (arith, most)
-size_of_any Twin Two routes most = omega (arith, most)
-size_of_any Log One routes most = omega (arith, most)
-size_of_any Log Two routes most = omega (arith, most)
 
 finds_room : (bus : NamedBus) (fault : StartFault) → IsNamedBus bus → length bus.nodes ≡ 1 → FindsRoom bus (blank_state ∷ []) fault → ⊥
 finds_room bus TooFew is one few = omega (arith, few, one)

@@ -1,5 +1,5 @@
 -- A gateway over the disk that is made for it, and what that says of the words of the command line
-use Rattle.std.specs.Prelude.{◌≡◌, ◌≢◌, ◌⊎◌, ◌<◌, ℕ, List, [], ◌∷◌, length, map, Vec, Result, Ok, Err, IfErr}
+use Rattle.std.specs.Prelude.{◌≡◌, ◌≢◌, ◌⊎◌, ◌<◌, ℕ, List, [], ◌∷◌, length, map, Vec}
 use Rattle.std.specs.declared.alloc.Global.{Global}
 use Rattle.std.proofs.Common.{refl, sym, subst, arith}
 use Rattle.bus_port.specs.Source.{SourceState}
@@ -34,10 +34,6 @@ no_words f (x ∷ xs) none = absurd (let no : ⊥ = omega (arith, none) in no)
 pub some_words : {A : Type 0} (f : A → List ℕ) (xs : List A) → length xs ≢ 0 → map f xs ≢ []
 some_words f [] some = λ same. some refl
 some_words f (x ∷ xs) some = λ same. cc
-
-pub where_none : {A E : Type 0} (r : Result A E) (P : Type 0) → P → IfErr r (λ _. P)
-where_none (Ok a) P holds = tt
-where_none (Err e) P holds = holds
 
 -- ---- what runs over it
 
