@@ -219,8 +219,8 @@ no_other_arrow start ms last first run authentic front rest mark from whole kind
     sym (ap (λ (x : RowMark). x.kind) f.mark_is) ∙ kind in
     let a = accepts_from (commands_in ms) m.command m.line from told
     (λ id v number payload line.
-        let one = one_arrow start ms last first run authentic f.before f.behind m id v number payload f.whole line in
-        (node_of one.sender.command, origin_there ms number one.sender one.sender_is)) in
+    let one = one_arrow start ms last first run authentic f.before f.behind m id v number payload f.whole line in
+    (node_of one.sender.command, origin_there ms number one.sender one.sender_is)) in
     record {
       least = omega (arith, row, f.row_is);
       m = m;

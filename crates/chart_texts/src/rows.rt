@@ -25,7 +25,8 @@ pub(crate) fn push_rows(
 ) -> Result<(), AllocError>
     requires few { length events.now < 2 ^ 32 }
     requires as_many { length lines.now ≡ length events.now }
-    ensures { OnOk result (text.new.items ≡ text.old.items ++ rows_text (marks_of_rows events.now lines.now) events.now lines.now) }
+    ensures { OnOk result (text.new.items
+        ≡ text.old.items ++ rows_text (marks_of_rows events.now lines.now) events.now lines.now) }
 {
     for (place, line) in lines.iter().enumerate() {
         push_row(alloc, text, events, place as u32 + 1, &events[place], line)?;
