@@ -26,7 +26,8 @@ no_line : NodeLine
 no_line = record { name = []; config = no_config }
 
 -- whichever place is looked at
-all_blank : (size i : ℕ) (disks : List MemDisk) → All (λ (disk : MemDisk). contents disk ≡ fresh (replicate size 0)) disks
+all_blank : (size i : ℕ) (disks : List MemDisk)
+    → All (λ (disk : MemDisk). contents disk ≡ fresh (replicate size 0)) disks
     → get_or (disk_states disks) i (blank_state size) ≡ blank_state size
 all_blank size i [] all = refl
 all_blank size zero (disk ∷ disks) all = ap disk_of (all 0 disk (omega arith))
@@ -37,11 +38,15 @@ blank_quiet size = record { quiet = refl; below = omega arith }
 
 -- ---- no disk fails
 
-quiet_there : (count size : ℕ) (disks : List MemDisk) (bus : NamedBus) (after : List DiskState) (number : ℕ) (P : Config → DiskState → DiskState → Type 0)
+quiet_there : (count size : ℕ) (disks : List MemDisk) (bus : NamedBus) (after : List DiskState) (number : ℕ)
+    (P : Config → DiskState → DiskState → Type 0)
     → AreBlank count size disks → OfNumber Format bus (disk_states disks) after number P
     → P (get_or bus.nodes (number - 1) no_line).config (blank_state size) (get_or after (number - 1) (blank_state size))
 quiet_there count size disks bus after number P are of =
-    subst (λ (s : DiskState). P (get_or bus.nodes (number - 1) no_line).config s (get_or after (number - 1) (blank_state size))) (all_blank size (number - 1) disks are.blank) (of.disk no_line (blank_state size))
+    subst
+    (λ (s : DiskState). P (get_or bus.nodes (number - 1) no_line).config s
+    (get_or after (number - 1) (blank_state size)))
+    (all_blank size (number - 1) disks are.blank) (of.disk no_line (blank_state size))
 
 pub no_store_cause : (count size : ℕ) (disks : List MemDisk) (bus : NamedBus) (after : List DiskState) (fault : StartFault)
     → AreBlank count size disks → StoreCause Format bus (disk_states disks) after fault → ⊥
@@ -56,7 +61,8 @@ no_store_cause count size disks bus after Memory are of = of
 
 -- ---- room is found
 
-pub finds_room : (count size : ℕ) (disks : List MemDisk) (bus : NamedBus) (fault : StartFault) → length bus.nodes ≤ count → 54564 ≤ size → AreBlank count size disks → IsNamedBus bus
+pub finds_room : (count size : ℕ) (disks : List MemDisk) (bus : NamedBus) (fault : StartFault)
+    → length bus.nodes ≤ count → 54564 ≤ size → AreBlank count size disks → IsNamedBus bus
     → FindsRoom bus (disk_states disks) fault → ⊥
 finds_room count size disks bus TooFew enough large are is few =
     omega (arith, few, length-map disks (λ (disk : MemDisk). disk_of (contents disk)), are.count_is, enough)

@@ -88,4 +88,5 @@ pub record RunsChart (same : Type 0) (i : ChartInputs) (d : DiskStates) (e : End
       × ((fault : StartFault) × StoreCause Format bus d.before d.after fault × PrintsWhole e (start_row fault).text))
   -- What is valid is done, where no port failed and there was memory.
   pub complete : (bus : NamedBus) (input : List ℕ) (events : List Event) → OffersChart i bus → Offers i.script input
-      → events_of bus.nodes input ≡ Ok events → BusHasDisks Format bus d → ¬ SinkFailed e → (e.status ≡ 0) ⊎ (e.status ≡ 7)
+      → events_of bus.nodes input ≡ Ok events → BusHasDisks Format bus d → ¬ SinkFailed e
+      → (e.status ≡ 0) ⊎ (e.status ≡ 7)

@@ -74,7 +74,8 @@ text_at x y text =
 -- the title of a row, which is the line of a replay without the line feed; its band; and its number
 abbrev pub title_of_row : List ℕ → ℕ → Line → List ℕ
 title_of_row class row l =
-    codes "<g class=\"" ++ (class ++ (codes "\"><title>" ++ (decimal row ++ (spaced (told_words l) ++ codes "</title>"))))
+    codes "<g class=\"" ++ (class ++ (codes "\"><title>"
+    ++ (decimal row ++ (spaced (told_words l) ++ codes "</title>"))))
 
 abbrev pub band_text : ℕ → List ℕ
 band_text top = codes "<rect y=\"" ++ (decimal top ++ codes "\" width=\"100%\" height=\"28\"/>")
@@ -160,7 +161,8 @@ four_numbers events sent accepted failures =
 
 abbrev pub three_numbers : (keyed cuts refused : ℕ) → List ℕ
 three_numbers keyed cuts refused =
-    codes ", keyed " ++ (decimal keyed ++ (codes ", cuts " ++ (decimal cuts ++ (codes ", refused " ++ decimal refused))))
+    codes ", keyed " ++ (decimal keyed ++ (codes ", cuts " ++ (decimal cuts
+    ++ (codes ", refused " ++ decimal refused))))
 
 abbrev pub seven_numbers : (events sent accepted failures keyed cuts refused : ℕ) → List ℕ
 seven_numbers events sent accepted failures keyed cuts refused =
