@@ -48,25 +48,25 @@ quiet_there count size disks bus after number P are of =
     (get_or after (number - 1) (blank_state size)))
     (all_blank size (number - 1) disks are.blank) (of.disk no_line (blank_state size))
 
-pub no_store_cause : (count size : ℕ) (disks : List MemDisk) (bus : NamedBus) (after : List DiskState) (fault : StartFault)
+pub blank_no_cause : (count size : ℕ) (disks : List MemDisk) (bus : NamedBus) (after : List DiskState) (fault : StartFault)
     → AreBlank count size disks → StoreCause Format bus (disk_states disks) after fault → ⊥
-no_store_cause count size disks bus after (Store number DiskFailed) are of = (quiet_there count size disks bus after number _ are of).1 (blank_quiet size)
-no_store_cause count size disks bus after (Store number NotFormatted) are of = let none = (quiet_there count size disks bus after number _ are of).0 in cc
-no_store_cause count size disks bus after (Store number (Damaged place)) are of = let none = (quiet_there count size disks bus after number _ are of).0 in cc
-no_store_cause count size disks bus after (BadSlot number slot) are of = let none = (quiet_there count size disks bus after number _ are of).0 in cc
-no_store_cause count size disks bus after (BadBound number cell) are of = let none = (quiet_there count size disks bus after number _ are of).0 in cc
-no_store_cause count size disks bus after TooFew are of = of
-no_store_cause count size disks bus after (TooSmall number) are of = of
-no_store_cause count size disks bus after Memory are of = of
+blank_no_cause count size disks bus after (Store number DiskFailed) are of = (quiet_there count size disks bus after number _ are of).1 (blank_quiet size)
+blank_no_cause count size disks bus after (Store number NotFormatted) are of = let none = (quiet_there count size disks bus after number _ are of).0 in cc
+blank_no_cause count size disks bus after (Store number (Damaged place)) are of = let none = (quiet_there count size disks bus after number _ are of).0 in cc
+blank_no_cause count size disks bus after (BadSlot number slot) are of = let none = (quiet_there count size disks bus after number _ are of).0 in cc
+blank_no_cause count size disks bus after (BadBound number cell) are of = let none = (quiet_there count size disks bus after number _ are of).0 in cc
+blank_no_cause count size disks bus after TooFew are of = of
+blank_no_cause count size disks bus after (TooSmall number) are of = of
+blank_no_cause count size disks bus after Memory are of = of
 
 -- ---- room is found
 
-pub finds_room : (count size : ℕ) (disks : List MemDisk) (bus : NamedBus) (fault : StartFault)
+pub blank_has_room : (count size : ℕ) (disks : List MemDisk) (bus : NamedBus) (fault : StartFault)
     → length bus.nodes ≤ count → 54564 ≤ size → AreBlank count size disks → IsNamedBus bus
     → FindsRoom bus (disk_states disks) fault → ⊥
-finds_room count size disks bus TooFew enough large are is few =
+blank_has_room count size disks bus TooFew enough large are is few =
     omega (arith, few, length-map disks (λ (disk : MemDisk). disk_of (contents disk)), are.count_is, enough)
-finds_room count size disks bus (TooSmall number) enough large are is small =
+blank_has_room count size disks bus (TooSmall number) enough large are is small =
     let there = all_blank size (number - 1) disks are.blank in
     let routes = is.few_routes (number - 1) no_line (omega (arith, small.least, small.most)) in
     omega (
@@ -77,7 +77,7 @@ finds_room count size disks bus (TooSmall number) enough large are is small =
       large,
       size_of_any bus.kind bus.version (length (get_or bus.nodes (number - 1) no_line).config.routes) routes,
     )
-finds_room count size disks bus (Store number cause) enough large are is room = room
-finds_room count size disks bus (BadSlot number slot) enough large are is room = room
-finds_room count size disks bus (BadBound number cell) enough large are is room = room
-finds_room count size disks bus Memory enough large are is room = room
+blank_has_room count size disks bus (Store number cause) enough large are is room = room
+blank_has_room count size disks bus (BadSlot number slot) enough large are is room = room
+blank_has_room count size disks bus (BadBound number cell) enough large are is room = room
+blank_has_room count size disks bus Memory enough large are is room = room

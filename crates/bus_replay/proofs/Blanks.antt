@@ -10,7 +10,7 @@ use Rattle.bus_world.specs.declared.start.Start.{Start}
 use Rattle.bus_world.specs.declared.start.Start.TheVariants.{Format, Attach}
 use Rattle.bus_world.specs.declared.start.StartFault.{StartFault}
 use Rattle.blank_disks.specs.Blank.{disk_states}
-use Rattle.blank_disks.specs.BlankLaws.{finds_room, no_store_cause}
+use Rattle.blank_disks.specs.BlankLaws.{blank_has_room, blank_no_cause}
 use Rattle.bus_commands.specs.declared.words.Command.TheVariants.{World}
 use Rattle.bus_commands.specs.declared.words.WorldCommand.{WorldCommand}
 use Rattle.bus_commands.specs.declared.words.WorldCommand.TheVariants.{Replay, Trial}
@@ -36,10 +36,10 @@ formats words (Trial trial) asks none = refl
 pub never_9 : (i : BusInputs) (disks : List MemDisk) (after : List DiskState) (P : StartFault → Type 0) → AreGiven i.words disks
     → OverWorld i (λ start bus events. IsNamedBus bus × (after ≡ disk_states disks) × ((fault : StartFault) × FindsRoom bus (disk_states disks) fault × P fault)) → ⊥
 never_9 i disks after P given (c, bus, events, set, (is, same, (fault, finds, told))) =
-    finds_room 8 65536 disks bus fault is.most (omega arith) (given.0 (c, set.asks)) is finds
+    blank_has_room 8 65536 disks bus fault is.most (omega arith) (given.0 (c, set.asks)) is finds
 
 pub never_10 : (i : BusInputs) (disks : List MemDisk) (after : List DiskState) (P : StartFault → Type 0) → AreGiven i.words disks → ((name : List ℕ) → ¬ NamesDisk i.words name)
     → OverWorld i (λ start bus events. LeavesEach start bus (disk_states disks) after × ((fault : StartFault) × StoreCause start bus (disk_states disks) after fault × P fault)) → ⊥
 never_10 i disks after P given none (c, bus, events, set, (left, (fault, cause, told))) =
-    no_store_cause 8 65536 disks bus after fault (given.0 (c, set.asks))
+    blank_no_cause 8 65536 disks bus after fault (given.0 (c, set.asks))
     (subst (λ (s : Start). StoreCause s bus (disk_states disks) after fault) (formats i.words c set.asks none) cause)

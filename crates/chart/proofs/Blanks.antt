@@ -8,16 +8,16 @@ use Rattle.bus_world.specs.StartRows.{LeavesEach, StoreCause}
 use Rattle.bus_world.specs.declared.start.Start.TheVariants.{Format}
 use Rattle.bus_world.specs.declared.start.StartFault.{StartFault}
 use Rattle.blank_disks.specs.Blank.{disk_states}
-use Rattle.blank_disks.specs.BlankLaws.{finds_room, no_store_cause}
+use Rattle.blank_disks.specs.BlankLaws.{blank_has_room, blank_no_cause}
 use Rattle.chart_commands.specs.Inputs.{ChartInputs, OverChart, AsksChart}
 use Rattle.chart.specs.Given.{AreEightBlank}
 
 pub never_9 : (i : ChartInputs) (disks : List MemDisk) (after : List DiskState) (P : StartFault → Type 0) → (AsksChart i.words → AreEightBlank disks)
     → OverChart i (λ bus events. (after ≡ disk_states disks) × ((fault : StartFault) × FindsRoom bus (disk_states disks) fault × P fault)) → ⊥
 never_9 i disks after P given (bus, events, set, (same, (fault, finds, told))) =
-    finds_room 8 65536 disks bus fault set.set.is_bus.most (omega arith) (given set.set.asks) set.set.is_bus finds
+    blank_has_room 8 65536 disks bus fault set.set.is_bus.most (omega arith) (given set.set.asks) set.set.is_bus finds
 
 pub never_10 : (i : ChartInputs) (disks : List MemDisk) (after : List DiskState) (P : StartFault → Type 0) → (AsksChart i.words → AreEightBlank disks)
     → OverChart i (λ bus events. LeavesEach Format bus (disk_states disks) after × ((fault : StartFault) × StoreCause Format bus (disk_states disks) after fault × P fault)) → ⊥
 never_10 i disks after P given (bus, events, set, (left, (fault, cause, told))) =
-    no_store_cause 8 65536 disks bus after fault (given set.set.asks) cause
+    blank_no_cause 8 65536 disks bus after fault (given set.set.asks) cause
