@@ -1,8 +1,8 @@
 -- Laws of the marks and of the lifelines of all runs, as statements (own)
-use Rattle.std.specs.Prelude.{◌≡◌, ◌↔◌, ℕ, ◌+◌, ◌-◌, ◌<◌, ◌≤◌, ◌==◌, Bool, true, false, cond, filter, Option, None, Some, List, [], ◌∷◌, ◌++◌, length, take, slice_get}
+use Rattle.std.specs.Prelude.{◌≡◌, ◌↔◌, ◌⊎◌, ℕ, ◌+◌, ◌-◌, ◌<◌, ◌≤◌, ◌==◌, Bool, true, false, cond, filter, Option, None, Some, List, [], ◌∷◌, ◌++◌, length, take, slice_get}
 use Rattle.machine_runs.specs.Run.{commands_in, lines_in}
 use Rattle.bus_machine.specs.declared.events.Event.TheVariants.{Send}
-use Rattle.bus_machine.specs.declared.lines.Line.TheVariants.{Sent, Accepted}
+use Rattle.bus_machine.specs.declared.lines.Line.TheVariants.{Sent, Accepted, Up}
 use Rattle.bus_machine.specs.Bus.{World, Instant, Moments, node_of, node_at, state_after}
 use Rattle.bus_laws.specs.Laws.{EachRun}
 use Rattle.chart_marks.specs.declared.marks.Origin.{Origin}
@@ -100,12 +100,26 @@ pub record IsDrawnAt (drawn : List Stretch) (down : Bool) (height : ℕ) : Type 
 abbrev pub up_behind : World → Moments → ℕ → ℕ → Bool
 up_behind start ms row node = (node_at (state_after start (take row ms)) node).up
 
--- behind each row a lifeline is drawn down exactly where its node is then down, and drawn up only where it is up
+-- this height is beside the sign of a cut in which the node is up again: no more than 14 pixels above or below the axis
+pub record IsBesideCut (ms : Moments) (node height : ℕ) : Type 0 where
+  pub front : Moments
+  pub m : Instant
+  pub rest : Moments
+  pub whole : ms ≡ front ++ m ∷ rest
+  pub of_node : node_of m.command ≡ node
+  pub is_up : m.line ≡ Up
+  pub least : row_axis (length front + 1) ≤ height + 14
+  pub most : height < row_axis (length front + 1) + 14
+
+-- behind each row a lifeline is drawn down exactly where its node is then down, and drawn up exactly where it is up, but
+-- beside the sign of a cut, where it may be neither
 pub record LifelinesOf (start : World) (ms : Moments) : Type 0 where
   pub down : (node row height : ℕ) → node < length start.nodes → row ≤ length ms → IsBehindRow (length ms) row height
       → IsDrawnAt (run_lifeline node ms) true height ↔ (up_behind start ms row node ≡ false)
   pub up : (node row height : ℕ) → node < length start.nodes → row ≤ length ms → IsBehindRow (length ms) row height
       → IsDrawnAt (run_lifeline node ms) false height → up_behind start ms row node ≡ true
+  pub drawn_up : (node row height : ℕ) → node < length start.nodes → row ≤ length ms → IsBehindRow (length ms) row height
+      → up_behind start ms row node ≡ true → IsDrawnAt (run_lifeline node ms) false height ⊎ IsBesideCut ms node height
 
 abbrev pub DownIsDrawnDown : Type 0
 DownIsDrawnDown = EachRun (λ start ms last. LifelinesOf start ms)
