@@ -8,8 +8,8 @@ use Rattle.numbered_run.specs.declared.printing.Unwritten.TheVariants as unwritt
 use Rattle.bus_world.specs.declared.start.Start.{Start}
 use Rattle.bus_world.specs.declared.start.Start.TheVariants.{Format, Attach}
 use Rattle.bus_machine.specs.declared.events.Event.{Event}
-use Rattle.bus_machine.specs.Bus.{World}
-use Rattle.bus_nodes.specs.Buses.{NamedBus}
+use Rattle.bus_machine.specs.Bus.{World, First}
+use Rattle.bus_nodes.specs.Buses.{NamedBus, configs_of}
 use Rattle.bus_commands.specs.declared.summary.Summary.{Summary}
 use Rattle.bus_commands.specs.declared.trial_words.TrialWords.{TrialWords}
 use Rattle.bus_commands.specs.declared.words.Command.TheVariants.{Lines}
@@ -32,15 +32,16 @@ use Rattle.bus_world.specs.StartAnswerLaws.{Comes-leaves}
 
 -- ---- one run
 
+from_first : (bus : NamedBus) (d : DiskStates) (events : List Event) (e : Ending) (result : Result (Unit {0}) Unwritten) → ReplayedOver Format bus d.before d.after events e.before e.after result
+    → WrittenRun (First (configs_of bus)) bus d events e result
+from_first bus d events e result over =
+    let begins : over.first ≡ First (configs_of bus) = over.begins in
+    subst (λ (w : World). WrittenRun w bus d events e result) begins (written_run over.first bus d events e result over.replayed)
+
 -- what a replay with this start did
 one_replay : (start : Start) (i : BusInputs) (d : DiskStates) (e : Ending) (result : Result (Unit {0}) Unwritten) (bus : NamedBus) (events : List Event) → SetsWorld i (Replay start) bus events
     → (TellFor start bus d.before → ReplayedOver start bus d.before d.after events e.before e.after result) → ReplayIsRun start i d e result
-one_replay Format i d e result bus events set ran = (
-  bus,
-  events,
-  set,
-  λ tell. let over = ran tell in subst (λ (w : World). WrittenRun w bus d events e result) over.begins (written_run over.first bus d events e result over.replayed),
-)
+one_replay Format i d e result bus events set ran = (bus, events, set, λ tell. from_first bus d events e result (ran tell))
 one_replay Attach i d e result bus events set ran =
     (bus, events, set, λ tell. let over = ran tell in (over.first, over.begins, written_run over.first bus d events e result over.replayed))
 

@@ -1,76 +1,73 @@
 -- What `run` promises: the headline, and the table of answers.
 --
--- Everything is said of one call: `i` is what went in, `d` the disks, and `e` how it ended. What a name means that
--- comes from below is told beside its `use`.
+-- All is said of one call: `i` is what went in, `d` the disks, `e` how it ended. What a name from below means is told
+-- beside its `use`.
 use Rattle.std.specs.Prelude.{◌≡◌, ◌⊎◌, ℕ, ◌<◌, List, [], length, take, get_or, All, codes, Some, None, Result, Ok, Err}
 -- ---- what went in
 -- `BusInputs`: the words, and the sources of the bus file (`config`) and of the lines (`script`), before and after.
--- `Asks words c`: they ask for the command c; `AsksNothing`: for none; `AsksOverBus`: for one that reads a bus file;
--- `AsksWorld`: for a run over disks, which `replay`, `node` (a replay that attaches) and `trial` are.
-use Rattle.bus_commands.specs.Inputs.{BusInputs, AsksOverBus, AsksWorld}
+use Rattle.bus_commands.specs.Inputs.{BusInputs}
+-- `Asks words c`: they ask for the command c. `AsksNothing`: they are of no form. `AsksOverBus`: for a command that has
+-- a bus file. `AsksWorld`: for `replay`, `node` (a replay that attaches) or `trial`.
+use Rattle.bus_commands.specs.Inputs.{AsksOverBus, AsksWorld}
 use Rattle.bus_commands.specs.Words.{Asks, AsksNothing}
 use Rattle.bus_commands.specs.declared.words.Command.TheVariants as command
 use Rattle.bus_commands.specs.declared.words.WorldCommand.TheVariants.{Replay, Trial}
 use Rattle.bus_commands.specs.declared.trial_words.TrialWords.{TrialWords}
 use Rattle.bus_world.specs.declared.start.Start.{Start}
 use Rattle.bus_world.specs.declared.start.Start.TheVariants.{Format, Attach}
--- `OverLines i P`: a command that reads lines is asked for, all that it reads was read whole, and P holds of what it
--- does with the lines (its task) and of these. `OverReplayOf start i P`, `OverTrial i P`: a replay with this start, or a
--- trial, is asked for, all that it reads was read whole, and P holds of the bus and of the events. `OverWorld i P`: one
--- of both is, and P holds of its start, too. `OffersTask i task`, `OffersTrial i bus`: the same task, or a trial, is asked
--- for, of the bus that the source of the bus file tells. `Offers source text`: the source tells this, and didn't fail.
-use Rattle.bus_commands.specs.Inputs.{OverLines, OverReplayOf, OverTrial, OverWorld, OffersTask, OffersTrial}
+-- `Over.. i P`: such a command is asked for, all that it reads was read whole, and P holds of that: of the task and the
+-- lines (`OverLines`), or of the bus and the events of a replay, of a trial, or of both with the start (`OverWorld`).
+use Rattle.bus_commands.specs.Inputs.{OverLines, OverReplayOf, OverTrial, OverWorld}
 use Rattle.bus_commands.specs.Tasks.{Task, replay}
 use Rattle.bus_nodes.specs.Buses.{NamedBus, IsNamedBus, configs_of}
 use Rattle.bus_machine.specs.declared.events.Event.{Event}
--- `IsUnread`: nothing was asked of the source. `CountsFault`: its count of faults rose; `CountsTooMuch`: more bytes
--- came than an input may have. `NoConfig i fault`, `NoScript i fault`: for this cause there is no bus file, or no lines.
-use Rattle.answer_rows.specs.Inputs.{IsUnread, CountsFault, CountsTooMuch, Offers}
-use Rattle.command_edge.specs.declared.input.InputFault.TheVariants.{ReadFault, TooLong}
+-- `Offers..`: the source tells this (or it is asked for, over the bus that the source tells), and didn't fail.
+use Rattle.answer_rows.specs.Inputs.{Offers}
+use Rattle.bus_commands.specs.Inputs.{OffersTask, OffersTrial}
+-- `IsUnread`: nothing was asked of the source. `CountsFault`: its count of faults rose. `CountsTooMuch`: too much came.
+use Rattle.answer_rows.specs.Inputs.{IsUnread, CountsFault, CountsTooMuch}
+-- `NoConfig i fault`, `NoScript i fault`: why there is no bus file, or are no lines.
 use Rattle.bus_commands.specs.Inputs.{NoConfig, NoScript}
--- `bus_of`, `fault_of`: what the bus file means, and the first fault of the lines.
+use Rattle.command_edge.specs.declared.input.InputFault.TheVariants.{ReadFault, TooLong}
+-- `bus_of`, `fault_of`: what a bus file means; the first fault of lines.
 use Rattle.bus_config.specs.declared.fault.ConfigFault.{ConfigFault}
 use Rattle.bus_config.specs.BusFile.{bus_of}
 use Rattle.bus_config.specs.FaultTexts.{config_fault_text}
 use Rattle.bus_inputs.specs.BusFiles.{IsConfigFault}
+use Rattle.bus_commands.specs.Texts.{fault_of}
 use Rattle.text_lines.specs.Readings.{Fault}
 use Rattle.text_lines.specs.Texts.{fault_text_of}
 -- ---- the disks
--- `CommandDisks`: the disks themselves (`old`, `new`), and what was known of each (`states.before`, `states.after`).
+-- `CommandDisks`: the disks themselves (`old`, `new`), and what was known of them before and after (`states`).
 use Rattle.bus_commands.specs.StartRows.{CommandDisks, HoldsNoNode}
 use Rattle.bus_world.specs.StartAnswers.{DiskStates, BusHasDisks}
--- `TellEach`: the disk of each node tells its bytes; `TellFirm`: and a cut can't take any of them away.
--- `StartsOver`: a world in which each node goes on with what its disk's bytes stand for.
+-- `TellEach`: each node's disk tells its bytes; `TellFirm`: and a cut can take none of them away. `StartsOver`: a world
+-- in which each node goes on where its disk stands.
 use Rattle.world_runs.specs.NodeDisks.{TellEach}
 use Rattle.world_runs.specs.Turns.{TellFirm}
 use Rattle.bus_world.specs.Starts.{StartsOver}
--- `HasRoom`: there is a disk for each node, large enough; `FindsRoom`: why there isn't. `StoreCause`: why a node wasn't
--- started over its disk; `LeavesEach`: what is left of the disks then; `start_row`: the text and the status.
+-- `HasRoom`: each node has a disk that is large enough; `FindsRoom`: which hasn't. `StoreCause`: why a node wasn't
+-- started over its disk; `LeavesEach`: what is left of the disks then.
 use Rattle.bus_world.specs.Starts.{HasRoom, FindsRoom}
 use Rattle.bus_world.specs.declared.start.StartFault.{StartFault}
 use Rattle.bus_world.specs.StartRows.{start_row, StoreCause, LeavesEach}
 -- ---- how it ended
--- `Ending`: the sink before and after, and the status. `PrintsWhole e text`: exactly this was written, and the sink
--- didn't fail; `PrintsFront rows e`: a proper front of the text of one of these rows. `SinkFailed`: the sink's count of
--- faults rose, or stands at its last value; `CountsWriteFault`: it rose. `EndsIn n e`: the status is n or 6;
--- `MayEndIn n e`: it is n, 6 or 7.
-use Rattle.answer_rows.specs.Endings.{Ending, EndsIn, MayEndIn, PrintsWhole, PrintsFront, SinkFailed, CountsWriteFault}
--- `ComesInRun i d`: the rows that come, of which one is told; `RowOrReplay`: that, or a replay did its first events.
--- `ReplaysScript i d e result`, `TriesEvents i d summary`: a replay did its first events, a trial did all of its.
+-- `Ending`: the sink before and after, and the status. `PrintsWhole e text`: exactly this was written; `PrintsFront
+-- rows e`: a proper front of one of these rows. `EndsIn n e`: the status is n or 6; `MayEndIn n e`: it is n, 6 or 7.
+use Rattle.answer_rows.specs.Endings.{Ending, PrintsWhole, PrintsFront, EndsIn, MayEndIn}
+-- `CountsWriteFault`: the sink's count of faults rose; `SinkFailed`: it rose, or is full.
+use Rattle.answer_rows.specs.Endings.{CountsWriteFault, SinkFailed}
+-- `ComesInRun`: the rows that come. `ReplaysScript`: a replay did its first events; `TriesEvents`: a trial did all.
+use Rattle.bus_commands.specs.Rows.{ComesInRun, ReplaysScript, TriesEvents, RowOrReplay}
 use Rattle.answer_rows.specs.Rows.{memory_row}
-use Rattle.bus_commands.specs.Rows.{ReplaysScript, TriesEvents, ComesInRun, RowOrReplay}
 use Rattle.bus_commands.specs.Texts.{usage, IsOutput}
-use Rattle.bus_commands.specs.Texts.{fault_of}
 use Rattle.bus_commands.specs.declared.summary.Summary.{Summary}
 use Rattle.bus_commands.specs.Summaries.{summary_of, summary_text}
--- `Written text before after events result moments`: where the result is Ok, all events were done, and the text of each
--- line was written; at `SinkFailed` a proper front alone of that of the last event that was done, at `Memory` nothing.
 use Rattle.numbered_run.specs.declared.printing.Unwritten.{Unwritten}
 use Rattle.numbered_run.specs.declared.printing.Unwritten.TheVariants as unwritten
 use Rattle.numbered_run.specs.Printed.{Written}
 use Rattle.bus_texts.specs.LineTexts.{line_text}
--- ---- the machine
--- Each of the definitions of the headline's members; what they say is told at the member.
+-- ---- the machine: what these say is told at the members of the headline
 use Rattle.machine_runs.specs.Run.{Run, commands_in, lines_in}
 use Rattle.bus_machine.specs.Bus.{World, First, Moments, Step}
 use Rattle.bus_machine.specs.Freshness.{Rising, Single, AllCovered}
@@ -84,45 +81,41 @@ use Rattle.world_runs.specs.WorldRuns.{IsFirstOf, EachSkipsLittle, Honest, World
 
 -- ==== the headline
 
--- One run of the machine, from this first world, over the disks of the nodes. A moment is an event that was done, with
--- its line and the world behind it; `last` is the world behind them all.
+-- One run of the machine from `first`, over the disks of the nodes. A moment is an event that was done, with its line
+-- and the world behind it; `last` is the world behind them all.
 pub record HeadlineRun (first : World) (bus : NamedBus) (d : DiskStates) (events : List Event) (moments : Moments)
     (last : World) : Type 0 where
-  -- In the first world nothing was done or sent yet; it has as many nodes as the bus, each sound, up, and with its
-  -- counters at their kept bounds; and each Data ID has one sender.
+  -- Nothing was done or sent before, each node is sound, up and at its kept bounds, and each Data ID has one sender.
   pub begins : IsFirstOf bus first
-  -- Each moment is a step of the machine, and their events are the first of those that were asked for, in order.
+  -- Each moment is a step of the machine, and their events are the first of those that were asked for.
   pub is_a_run : Run Step first moments last
   pub of_events : commands_in moments ≡ take (length moments) events
-  -- Each line is one that its type has, so lists of lines are told apart by their texts.
+  -- Each line is one that its type has, so texts tell lists of lines apart.
   pub are_lines : All IsLine (lines_in moments)
-  -- Of two accepted lines of one node and one Data ID the later has the greater freshness.
+  -- Of one node and one Data ID, accepted freshness strictly rises.
   pub rising : Rising moments
-  -- An accepted PDU carries the CMAC of its Data ID, payload and freshness under the key that the receiver's slot held;
-  -- and the event that its line names sent just this.
+  -- What is accepted carries the CMAC under the key of the receiver's slot, and the event that its line names sent it.
   pub authentic : Authentic first moments
-  -- Of two sent lines of one Data ID the later has the greater freshness, so none is sent twice.
+  -- Of one Data ID, sent freshness strictly rises: none is sent twice.
   pub single : Single moments
-  -- An acknowledged update of a key isn't undone but by a later one of its slot, acknowledged or failed; and a slot's
-  -- counter doesn't fall.
+  -- An acknowledged update of a key is undone by a later update alone, and no slot's counter falls.
   pub keys_kept : KeysKept first moments
-  -- A power-up skips at most the reserve of a sending route, and less than that of a receiving one (counted from the
-  -- freshness of a PDU, where the disk failed as it was accepted).
+  -- A power-up skips at most one reserve of freshness.
   pub cuts_skip_little : EachSkipsLittle first moments
-  -- All freshness that was sent or accepted is at most what its node keeps as the bound, and at most its counter.
+  -- All freshness so far is at most its route's kept bound, and at most its counter.
   pub covered : AllCovered moments last
-  -- Each disk tells bytes that stand for what its node keeps in the last world, and still tells the past that it told,
-  -- to which these moments alone added; the disks behind those of the nodes are as before.
+  -- Each disk tells bytes that stand for what its node keeps at last, whatever a cut leaves of them; these moments
+  -- alone added to its told past; and disks that no node has are as before.
   pub disks : DisksFollow first bus d.before d.after moments last
-  -- The lines that tell a failed disk are at most the rise of its count of faults, and a quiet disk gives none before
-  -- an event arms it.
+  -- Lines that tell a failed disk are at most the rise of its count, and none before an event arms a quiet disk.
   pub failures : (i : ℕ) (disk : DiskState) → i < length bus.nodes
       → FailuresTold (mark_at i) (fails_at i) moments (get_or d.before i disk) (get_or d.after i disk)
-  -- A PDU that was sent, and comes in time to a node that is up and holds its key, is accepted as it was sent, or the
-  -- disk failed; and over quiet disks, without cuts and faults, the events alone determine the lines.
+  -- A PDU that comes in time, under the right key, is accepted as it was sent, or the disk failed; and over quiet disks,
+  -- without cuts and faults, the events alone determine the lines.
   pub honest : Honest first bus d.before events moments
 
--- what a replay did: one run from this first world, of which the sink has the texts of the lines
+-- What a replay did: one run, of which the sink has the texts of the lines. `Ok`: of all events. `Err`: of the first
+-- ones, and of the last of these a proper front alone (`SinkFailed`), or nothing (`Memory`).
 pub record WrittenRun (first : World) (bus : NamedBus) (d : DiskStates) (events : List Event) (e : Ending)
     (result : Result (Unit {0}) Unwritten) : Type 0 where
   pub moments : Moments
@@ -130,7 +123,7 @@ pub record WrittenRun (first : World) (bus : NamedBus) (d : DiskStates) (events 
   pub run : HeadlineRun first bus d events moments last
   pub written : Written line_text e.before e.after events result moments
 
--- what a trial did: one run of all its events, and the seven numbers are those of its lines
+-- what a trial did: one run of all its events, whose lines have these seven numbers
 pub record SummedRun (bus : NamedBus) (d : DiskStates) (events : List Event) (summary : Summary) : Type 0 where
   pub moments : Moments
   pub last : World
@@ -138,15 +131,15 @@ pub record SummedRun (bus : NamedBus) (d : DiskStates) (events : List Event) (su
   pub whole : commands_in moments ≡ events
   pub numbers : summary ≡ summary_of (lines_in moments)
 
--- a replay with this start is asked for, and what it did is one run: over disks that it formats, and that tell their
--- bytes, from the first world of the bus; over disks that it attaches from one in which the bus goes on where they stand
+-- a replay is asked for, and over disks that tell their bytes it is one run: where it formats them from the first world
+-- of the bus, where it attaches them from one in which the bus goes on where they stand
 abbrev pub ReplayIsRun : Start → BusInputs → DiskStates → Ending → Result (Unit {0}) Unwritten → Type 0
 ReplayIsRun Format i d e result = OverReplayOf Format i (λ bus events. (TellEach bus d.before
     → WrittenRun (First (configs_of bus)) bus d events e result))
 ReplayIsRun Attach i d e result = OverReplayOf Attach i (λ bus events. (TellFirm bus d.before
     → (first : World) × StartsOver bus d.before first × WrittenRun first bus d events e result))
 
--- a trial is asked for, and what it did over disks that tell their bytes is one run, from the first world of the bus
+-- a trial is asked for, and over disks that tell their bytes it is one run, from the first world of the bus
 abbrev pub TrialIsRun : BusInputs → DiskStates → Summary → Type 0
 TrialIsRun i d summary = OverTrial i (λ bus events. (TellEach bus d.before → SummedRun bus d events summary))
 
@@ -157,19 +150,18 @@ DoesNothing i d =
 
 -- THE HEADLINE, by what is asked for and by status
 pub record RunsMachine {V : Type 0} (i : BusInputs) (d : CommandDisks V) (e : Ending) : Type 0 where
-  -- 0 of `replay`: all events of the script are one run from the first world of the bus, and the sink has all lines.
+  -- 0 of `replay`: all events of the script are one run, and the sink has all lines.
   pub replayed : Asks i.words (command.World (Replay Format)) → e.status ≡ 0 → ReplayIsRun Format i d.states e (Ok tt)
-  -- 0 of `node`: the same, from a world in which the bus goes on where its disks stand.
+  -- 0 of `node`: the same.
   pub attached_run : Asks i.words (command.World (Replay Attach)) → e.status ≡ 0
       → ReplayIsRun Attach i d.states e (Ok tt)
-  -- 6 of both: no event was done, and a front of a row was written; or the first events, at least one, are one run, and
-  -- the sink has the lines before the last, and a front of that.
+  -- 6 of both: no event was done, and a front of a row was written; or the first events are one run.
   pub early_ends : (start : Start) → Asks i.words (command.World (Replay start)) → e.status ≡ 6
       → (DoesNothing i d × PrintsFront (ComesInRun i d) e) ⊎ ReplayIsRun start i d.states e (Err unwritten.SinkFailed)
-  -- 7 of both: no event was done, and nothing was written; or the same, with nothing of the last line.
+  -- 7 of both: no event was done, and nothing was written; or the first events are one run.
   pub early_ends_unwritten : (start : Start) → Asks i.words (command.World (Replay start)) → e.status ≡ 7
       → (DoesNothing i d × PrintsWhole e []) ⊎ ReplayIsRun start i d.states e (Err unwritten.Memory)
-  -- 0 of `trial`: all its events are one run, and the sink has the seven numbers over its lines.
+  -- 0 of `trial`: all its events are one run, and the sink has its seven numbers.
   pub tried : (trial : TrialWords) → Asks i.words (command.World (Trial trial)) → e.status ≡ 0
       → (summary : Summary) × TrialIsRun i d.states summary × PrintsWhole e (summary_text summary)
   -- 6, 7 of `trial`: no event was done, or all were, in one run.
