@@ -4,7 +4,7 @@ use Rattle.std.proofs.Common.{refl, sym, ap, ◌∙◌, subst, arith, inl, inr}
 use Rattle.bus_port.specs.Fault.{last_count}
 use Rattle.bus_port.specs.Source.{SourceState}
 use Rattle.bus_port.specs.Whole.{CameWithin}
-use Rattle.command_edge.specs.Input.{input_limit, input_fault_status, input_fault_text}
+use Rattle.command_edge.specs.Input.{input_limit, input_fault_status}
 use Rattle.command_edge.specs.declared.input.InputFault.{InputFault}
 use Rattle.command_edge.specs.declared.input.InputFault.TheVariants as input
 use Rattle.answer_rows.specs.Rows.{Row}

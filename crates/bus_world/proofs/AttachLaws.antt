@@ -140,17 +140,17 @@ OnlyDiskOrMemory fault = ⊥
 -- where told bytes stand for the cells of what a node keeps, no other cause is left
 pub of_kept_alone : (kind : Kind) (version : Version) (config : Config) (before after : DiskState) (fault : OpenFault) (t : Told) (kept : Kept) → IsConfig config → IsKept config kept
     → before.told ≡ Some t → Stands (layout kind version) t.bytes (CellsOf config kept) → AttachCauseOf kind version config before after fault → OnlyDiskOrMemory fault
-of_kept_alone kind version config before after (open_fault.Store reread.DiskFailed) t kept good is told stands cause = tt
-of_kept_alone kind version config before after (open_fault.Store reread.NotFormatted) t kept good is told stands cause =
-    cause t told (subst (λ n. HasHeader (layout kind version) n t.bytes) (length-CellsOf config kept is) stands.head)
-of_kept_alone kind version config before after (open_fault.Store (reread.Damaged i)) t kept good is told stands cause =
-    stands-whole (layout kind version) t.bytes (CellsOf config kept) (cells_in config) i stands (length-CellsOf config kept is) (cause t told).1
-of_kept_alone kind version config before after (open_fault.BadSlot slot) t kept good is told stands cause =
-    let c = cause t told in
+of_kept_alone kind version config before after (open_fault.Store reread.DiskFailed) t kept good is tells stands cause = tt
+of_kept_alone kind version config before after (open_fault.Store reread.NotFormatted) t kept good is tells stands cause =
+    cause t tells (subst (λ n. HasHeader (layout kind version) n t.bytes) (length-CellsOf config kept is) stands.head)
+of_kept_alone kind version config before after (open_fault.Store (reread.Damaged i)) t kept good is tells stands cause =
+    stands-whole (layout kind version) t.bytes (CellsOf config kept) (cells_in config) i stands (length-CellsOf config kept is) (cause t tells).1
+of_kept_alone kind version config before after (open_fault.BadSlot slot) t kept good is tells stands cause =
+    let c = cause t tells in
     no_bad_slot config kept slot is (subst (λ xs. FirstBadSlot xs slot) (stands_once (layout kind version) t.bytes c.cells (CellsOf config kept) c.stands stands) c.such)
-of_kept_alone kind version config before after (open_fault.BadBound place) t kept good is told stands cause =
-    let c = cause t told in
+of_kept_alone kind version config before after (open_fault.BadBound place) t kept good is tells stands cause =
+    let c = cause t tells in
     no_bad_bound config kept place good is
     (subst (λ xs. SlotsButNoBound config.routes xs place) (stands_once (layout kind version) t.bytes c.cells (CellsOf config kept) c.stands stands) c.such)
-of_kept_alone kind version config before after open_fault.TooSmall t kept good is told stands cause = cause
-of_kept_alone kind version config before after open_fault.Memory t kept good is told stands cause = tt
+of_kept_alone kind version config before after open_fault.TooSmall t kept good is tells stands cause = cause
+of_kept_alone kind version config before after open_fault.Memory t kept good is tells stands cause = tt

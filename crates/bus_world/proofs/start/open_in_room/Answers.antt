@@ -1,6 +1,9 @@
 use Rattle.std.specs.Prelude.{map}
-use Rattle.bus_world.proofs.StartLaws.{start_refused}
+use Rattle.bus_world.proofs.StartLaws.{start_refused, start_unopened}
 use Rattle.bus_world.proofs.start.open_in_room.Goals as goal
+
+pub returns-in_default-clause-refused : goal.returns-in_default-clause-refused
+returns-in_default-clause-refused g c = start_unopened c.args.start c.args.bus.now (map g.D.Disk.state c.args.disks.now.items) c.requires.room
 
 pub returns-in-Err-clause-refused : goal.returns-in-Err-clause-refused
 returns-in-Err-clause-refused g c =

@@ -4,6 +4,7 @@ use Rattle.bus_machine.specs.Bus.{World}
 use Rattle.bus_world.specs.Starts.{HasRoom}
 use Rattle.bus_world.specs.StartRowLaws.{room_not_9}
 use Rattle.bus_world.proofs.SoundLaws.{opened_sound}
+use Rattle.bus_world.proofs.StartLaws.{start_unopened}
 use Rattle.bus_world.proofs.world.World.start.Goals as goal
 
 pub invariant_of-result : goal.invariant_of-result
@@ -13,6 +14,11 @@ invariant_of-result g c =
 
 pub returns-in-Ok-open_in_room-clause-sound : goal.returns-in-Ok-open_in_room-clause-sound
 returns-in-Ok-open_in_room-clause-sound g c = invariant_of-result g c
+
+pub returns-in_default-clause-refused : goal.returns-in_default-clause-refused
+returns-in_default-clause-refused g c =
+    start_unopened c.args.start c.args.bus.now (map g.D.Disk.state c.args.disks.now.items)
+    (subst (λ ds. HasRoom c.args.bus.now (map g.D.Disk.state ds)) c.as_slice.ensures.value c.in-Ok.ensures)
 
 pub returns-in-Err-open_in_room-clause-unread : goal.returns-in-Err-open_in_room-clause-unread
 returns-in-Err-open_in_room-clause-unread g c = λ is.
