@@ -34,8 +34,8 @@ def y(row):                         # the axis of a row, on which its mark lies
     return row_top(row) + PITCH // 2
 
 
-def gutter(row):                    # how far right of its lifeline the PDU of a row waits: three places in turn
-    return 8 + 4 * (row % 3)
+def gutter(row):                    # how far right of its lifeline the PDU of a row waits: three places in turn, beside the marks, not over them
+    return 11 + 4 * (row % 3)
 
 
 def head_count(rows):               # one header also where there is no row

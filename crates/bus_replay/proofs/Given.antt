@@ -14,8 +14,9 @@ use Rattle.bus_commands.specs.Inputs.{BusInputs}
 use Rattle.bus_commands.specs.StartRows.{CommandDisks}
 use Rattle.bus_commands.specs.Commands.{RunsBus}
 use Rattle.bus_commands.specs.Named.{InputsAreNamed}
+use Rattle.blank_disks.specs.Blank.{disk_states}
 use Rattle.bus_replay.specs.Blank.{AreGiven}
-use Rattle.bus_replay.specs.Running.{disk_states, made_disks, HandedBack, RunsGiven, WantsDisks, RunsNamed, ran_in_memory, ran_over_disk, wanted_disks}
+use Rattle.bus_replay.specs.Running.{made_disks, HandedBack, RunsGiven, WantsDisks, RunsNamed, ran_in_memory, ran_over_disk, wanted_disks}
 use Rattle.bus_replay.proofs.Blanks.{never_9, never_10}
 use Rattle.bus_replay.proofs.Wanting.{names_node}
 

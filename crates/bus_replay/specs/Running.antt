@@ -1,12 +1,11 @@
 -- What the program runs
-use Rattle.std.specs.Prelude.{◌≡◌, ℕ, List, [], map, Vec}
+use Rattle.std.specs.Prelude.{◌≡◌, ℕ, List, [], Vec}
 use Rattle.std.specs.declared.alloc.Global.{Global}
 use Rattle.bus_port.specs.Source.{SourceState}
 use Rattle.named_sources.specs.NamedSources.{missing_source}
 use Rattle.cut_disk.specs.declared.mem_disk.MemDisk.{MemDisk}
 use Rattle.cut_disk.specs.State.{DiskState}
-use Rattle.cut_disk.specs.Memory.{disk_of}
-use Rattle.cut_disk.specs.MemDisk.{contents}
+use Rattle.blank_disks.specs.Blank.{disk_states}
 use Rattle.named_disks.specs.NamedDisks.{IsOpenedBy}
 use Rattle.answer_rows.specs.Endings.{Ending}
 use Rattle.bus_commands.specs.Words.{NamesDisk}
@@ -24,10 +23,6 @@ pub record HandedBack : Type 0 where
   pub disks : List DiskState
 
 -- ---- disks in memory
-
--- what the program's disks mean
-abbrev pub disk_states : List MemDisk → List DiskState
-disk_states disks = map (λ disk. disk_of (contents disk)) disks
 
 -- the disks that were made, and these as the command left them
 abbrev pub made_disks : Vec MemDisk Global → Vec MemDisk Global → CommandDisks (Vec MemDisk Global)

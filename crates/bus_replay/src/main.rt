@@ -5,7 +5,7 @@
 //! that are made in memory for a replay or a trial, and for `node` the one over the file that its last word names.
 #![tactic(auto)]
 
-ghost use Rattle.std.specs.Prelude.{◌≡◌, ◌⊎◌, ℕ, List, [], ◌^◌, ◌≤◌, drop, map, string_bytes, IfOk, IfErr, IsOk};
+ghost use Rattle.std.specs.Prelude.{◌≡◌, ◌⊎◌, ℕ, List, [], drop, map, string_bytes, IfOk, IfErr, IsOk};
 ghost use Rattle.bus_world.specs.declared.start.Start.TheVariants.{Attach};
 ghost use Rattle.bus_commands.specs.declared.words.Command.TheVariants.{World};
 ghost use Rattle.bus_commands.specs.declared.words.WorldCommand.TheVariants.{Replay};
@@ -14,9 +14,10 @@ ghost use Rattle.bus_commands.specs.Inputs.{BusInputs, AsksWorld};
 ghost use Rattle.bus_commands.specs.Commands.{RunsBus};
 ghost use Rattle.bus_commands.specs.Named.{InputsAreNamed};
 ghost use Rattle.named_sources.specs.NamedSources.{word_source, missing_source};
-ghost use Rattle.bus_replay.specs.Blank.{AreBlank, AreGiven};
+ghost use Rattle.bus_replay.specs.Blank.{AreGiven};
 ghost use Rattle.bus_replay.specs.Running.{RunsGiven, WantsDisks, RunsNamed};
 
+use blank_disks::blank_disks;
 use bus_commands::start::bus_words;
 use bus_commands::words::{Command, command_of, disk_word};
 use bus_port::{Sink, Source, StdSink, StdSource};
@@ -247,19 +248,4 @@ fn disks_of(alloc: Global, words: &[String]) -> Result<Vec<MemDisk>, AllocError>
         Some(Command::World(_)) => blank_disks(alloc, 8, 65_536),
         _ => Ok(Vec::new(alloc)),
     }
-}
-
-/// So many blank disks of so many bytes each.
-fn blank_disks(alloc: Global, count: usize, size: usize) -> Result<Vec<MemDisk>, AllocError>
-    requires { size ≤ 2 ^ 24 }
-    ensures { IfOk result (λ disks. AreBlank count size disks.items) }
-{
-    let mut disks = Vec::new(alloc);
-    for index in 0..count {
-        match MemDisk::new(alloc, size) {
-            Ok(disk) => disks.push(disk)?,
-            Err(_) => return Err(AllocError),
-        }
-    }
-    Ok(disks)
 }

@@ -36,7 +36,7 @@ inputs_tell i row (script_refused fault f) = inr (inr (set_calm i f.bus f.set, c
 
 pub row_tells : (same : Type 0) (i : ChartInputs) (d : DiskStates) (row : Row) → ChartRow same i d row → RowTells row i.config i.script
 row_tells same i d row (without_disks _ comes as_before) = inputs_tell i row comes
-row_tells same i d row (not_started _ (bus, events, set, start)) = inr (inr (calm_chart i bus events set))
+row_tells same i d row (not_started _ (bus, events, set, start) nine) = inr (inr (calm_chart i bus events set))
 row_tells same i d row (all_done _ (bus, events, set, done)) = inr (inr (calm_chart i bus events set))
 row_tells same i d row (done_without_memory kept (bus, events, set, done)) = inr (inr (calm_chart i bus events set))
 
@@ -51,7 +51,7 @@ inputs_ask i row (script_refused fault f) nothing = absurd (nothing f.set.asks)
 
 pub row_asks : (same : Type 0) (i : ChartInputs) (d : DiskStates) (row : Row) → ChartRow same i d row → ¬ AsksChart i.words → row.status ≡ 2
 row_asks same i d row (without_disks _ comes as_before) nothing = inputs_ask i row comes nothing
-row_asks same i d row (not_started _ (bus, events, set, start)) nothing = absurd (nothing set.set.asks)
+row_asks same i d row (not_started _ (bus, events, set, start) nine) nothing = absurd (nothing set.set.asks)
 row_asks same i d row (all_done _ (bus, events, set, done)) nothing = absurd (nothing set.set.asks)
 row_asks same i d row (done_without_memory kept (bus, events, set, done)) nothing = absurd (nothing set.set.asks)
 
@@ -68,7 +68,7 @@ inputs_refuse i row file fault (script_refused other f) asks offers err = absurd
 pub row_refuses : (same : Type 0) (i : ChartInputs) (d : DiskStates) (row : Row) (file : List ℕ) (fault : ConfigFault) → ChartRow same i d row
     → AsksChart i.words → Offers i.config file → bus_of file ≡ Err fault → (row.status ≡ 3) ⊎ (row.status ≡ 7)
 row_refuses same i d row file fault (without_disks _ comes as_before) asks offers err = inputs_refuse i row file fault comes asks offers err
-row_refuses same i d row file fault (not_started _ (bus, events, set, start)) asks offers err = absurd (bus_or_fault i.config bus file fault set.set.of_bus offers err)
+row_refuses same i d row file fault (not_started _ (bus, events, set, start) nine) asks offers err = absurd (bus_or_fault i.config bus file fault set.set.of_bus offers err)
 row_refuses same i d row file fault (all_done _ (bus, events, set, done)) asks offers err = absurd (bus_or_fault i.config bus file fault set.set.of_bus offers err)
 row_refuses same i d row file fault (done_without_memory kept (bus, events, set, done)) asks offers err = absurd (bus_or_fault i.config bus file fault set.set.of_bus offers err)
 
@@ -116,7 +116,7 @@ done_room i d bus over events kept set offers done =
 pub row_offered : (same : Type 0) (i : ChartInputs) (d : DiskStates) (row : Row) (bus : NamedBus) (input : List ℕ) → ChartRow same i d row
     → OffersChart i bus → Offers i.script input → OfOffered d row bus input
 row_offered same i d row bus input (without_disks _ comes as_before) offers lines = inputs_offered i d row bus input comes offers lines
-row_offered same i d row bus input (not_started _ (over, events, set, start)) offers lines =
+row_offered same i d row bus input (not_started _ (over, events, set, start) nine) offers lines =
     inr (inr (inl (
       events,
       set_events i bus over input events set offers lines,

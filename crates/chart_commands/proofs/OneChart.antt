@@ -1,6 +1,6 @@
 -- The run of a chart over disks that tell their bytes is one run of the machine, and its lines are those that were kept
 use Rattle.std.specs.Prelude.{Option, None, Some, List, length}
-use Rattle.std.proofs.Common.{sym, ◌∙◌, subst}
+use Rattle.std.proofs.Common.{sym, ap, ◌∙◌, subst}
 use Rattle.cut_disk.specs.State.{DiskState}
 use Rattle.machine_runs.specs.Run.{Moment}
 use Rattle.bus_machine.specs.declared.events.Event.{Event}
@@ -18,7 +18,7 @@ use Rattle.chart_commands.specs.Runs.{KeepsLines, ChartTurns, ChartsAreRuns}
 -- the same moments, seen as the machine's
 keeps_seen : (events : List Event) (kept : Option (List Line)) (ms : List (Moment Event Line BusState)) → KeepsLines events kept ms → KeepsLines events kept (seen ms)
 keeps_seen events (Some lines) ms keeps = (same_length ms ∙ keeps.0, keeps.1 ∙ sym (same_lines ms))
-keeps_seen events None ms keeps = tt
+keeps_seen events None ms keeps = ap seen keeps
 
 module _ (bus : NamedBus) (before after : List DiskState) (events : List Event) (kept : Option (List Line)) (ran : ChartTurns bus before after events kept) where
   turns_taken : TakesTurns bus before after events ran.start ran.turns.moments ran.now

@@ -56,7 +56,7 @@ module _ (same : Type 0) (i : ChartInputs) (d : DiskStates) (e : Ending) where
   row_0 row (without_disks _ (config_refused fault text asks has told unread) unused) is well = absurd (let no : ⊥ = omega (arith, is) in no)
   row_0 row (without_disks _ (no_script fault lack) unused) is well = absurd (let no : ⊥ = omega (arith, fault_is fault, is) in no)
   row_0 row (without_disks _ (script_refused fault f) unused) is well = absurd (let no : ⊥ = omega (arith, is) in no)
-  row_0 row (not_started _ (bus, events, set, start)) is well = absurd (let no : ⊥ = omega (arith, start_status Format bus d row start, is) in no)
+  row_0 row (not_started _ (bus, events, set, start) nine) is well = absurd (let no : ⊥ = omega (arith, start_status Format bus d row start, is) in no)
   row_0 row (all_done text over) is well = draws text over well
   row_0 row (done_without_memory kept over) is well = absurd (let no : ⊥ = omega (arith, is) in no)
 
@@ -66,7 +66,7 @@ module _ (same : Type 0) (i : ChartInputs) (d : DiskStates) (e : Ending) where
   row_2 row (without_disks _ (config_refused fault text asks has told unread) unused) is well = absurd (let no : ⊥ = omega (arith, is) in no)
   row_2 row (without_disks _ (no_script fault lack) unused) is well = absurd (let no : ⊥ = omega (arith, fault_is fault, is) in no)
   row_2 row (without_disks _ (script_refused fault f) unused) is well = absurd (let no : ⊥ = omega (arith, is) in no)
-  row_2 row (not_started _ (bus, events, set, start)) is well = absurd (let no : ⊥ = omega (arith, start_status Format bus d row start, is) in no)
+  row_2 row (not_started _ (bus, events, set, start) nine) is well = absurd (let no : ⊥ = omega (arith, start_status Format bus d row start, is) in no)
   row_2 row (all_done _ over) is well = absurd (let no : ⊥ = omega (arith, is) in no)
   row_2 row (done_without_memory kept over) is well = absurd (let no : ⊥ = omega (arith, is) in no)
 
@@ -80,7 +80,7 @@ module _ (same : Type 0) (i : ChartInputs) (d : DiskStates) (e : Ending) where
   row_3 row (without_disks _ (config_refused fault text asks has told unread) unused) is well = (asks, unread, (fault, text, has, told, well))
   row_3 row (without_disks _ (no_script fault lack) unused) is well = absurd (let no : ⊥ = omega (arith, fault_is fault, is) in no)
   row_3 row (without_disks _ (script_refused fault f) unused) is well = absurd (let no : ⊥ = omega (arith, is) in no)
-  row_3 row (not_started _ (bus, events, set, start)) is well = absurd (let no : ⊥ = omega (arith, start_status Format bus d row start, is) in no)
+  row_3 row (not_started _ (bus, events, set, start) nine) is well = absurd (let no : ⊥ = omega (arith, start_status Format bus d row start, is) in no)
   row_3 row (all_done _ over) is well = absurd (let no : ⊥ = omega (arith, is) in no)
   row_3 row (done_without_memory kept over) is well = absurd (let no : ⊥ = omega (arith, is) in no)
 
@@ -90,7 +90,7 @@ module _ (same : Type 0) (i : ChartInputs) (d : DiskStates) (e : Ending) where
   row_4 row (without_disks _ (config_refused fault text asks has told unread) unused) is well = absurd (let no : ⊥ = omega (arith, is) in no)
   row_4 row (without_disks _ (no_script fault lack) unused) is well = absurd (let no : ⊥ = omega (arith, fault_is fault, is) in no)
   row_4 row (without_disks _ (script_refused fault f) unused) is well = (fault, f, well)
-  row_4 row (not_started _ (bus, events, set, start)) is well = absurd (let no : ⊥ = omega (arith, start_status Format bus d row start, is) in no)
+  row_4 row (not_started _ (bus, events, set, start) nine) is well = absurd (let no : ⊥ = omega (arith, start_status Format bus d row start, is) in no)
   row_4 row (all_done _ over) is well = absurd (let no : ⊥ = omega (arith, is) in no)
   row_4 row (done_without_memory kept over) is well = absurd (let no : ⊥ = omega (arith, is) in no)
 
@@ -107,7 +107,7 @@ module _ (same : Type 0) (i : ChartInputs) (d : DiskStates) (e : Ending) where
   row_5 row (without_disks _ (no_script input.TooLong lack) unused) is well = absurd (let no : ⊥ = omega (arith, is) in no)
   row_5 row (without_disks _ (no_script input.Memory lack) unused) is well = absurd (let no : ⊥ = omega (arith, is) in no)
   row_5 row (without_disks _ (script_refused fault f) unused) is well = absurd (let no : ⊥ = omega (arith, is) in no)
-  row_5 row (not_started _ (bus, events, set, start)) is well = absurd (let no : ⊥ = omega (arith, start_status Format bus d row start, is) in no)
+  row_5 row (not_started _ (bus, events, set, start) nine) is well = absurd (let no : ⊥ = omega (arith, start_status Format bus d row start, is) in no)
   row_5 row (all_done _ over) is well = absurd (let no : ⊥ = omega (arith, is) in no)
   row_5 row (done_without_memory kept over) is well = absurd (let no : ⊥ = omega (arith, is) in no)
 
@@ -121,7 +121,7 @@ module _ (same : Type 0) (i : ChartInputs) (d : DiskStates) (e : Ending) where
   row_8 row (without_disks _ (no_script input.TooLong lack) unused) is well = (inr lack, well)
   row_8 row (without_disks _ (no_script input.Memory lack) unused) is well = absurd (let no : ⊥ = omega (arith, is) in no)
   row_8 row (without_disks _ (script_refused fault f) unused) is well = absurd (let no : ⊥ = omega (arith, is) in no)
-  row_8 row (not_started _ (bus, events, set, start)) is well = absurd (let no : ⊥ = omega (arith, start_status Format bus d row start, is) in no)
+  row_8 row (not_started _ (bus, events, set, start) nine) is well = absurd (let no : ⊥ = omega (arith, start_status Format bus d row start, is) in no)
   row_8 row (all_done _ over) is well = absurd (let no : ⊥ = omega (arith, is) in no)
   row_8 row (done_without_memory kept over) is well = absurd (let no : ⊥ = omega (arith, is) in no)
 
@@ -144,7 +144,7 @@ module _ (same : Type 0) (i : ChartInputs) (d : DiskStates) (e : Ending) where
 
   row_9 : (row : Row) → Comes row → row.status ≡ 9 → PrintsWhole e row.text → OverChart i (λ bus events. DisksTold bus)
   row_9 row (without_disks _ comes unused) is well = absurd (let no : ⊥ = omega (arith, inputs_low row comes, is) in no)
-  row_9 row (not_started _ (bus, events, set, start)) is well = (bus, events, set, start_9 bus row start is well)
+  row_9 row (not_started _ (bus, events, set, start) nine) is well = (bus, events, set, start_9 bus row start is well)
   row_9 row (all_done _ over) is well = absurd (let no : ⊥ = omega (arith, is) in no)
   row_9 row (done_without_memory kept over) is well = absurd (let no : ⊥ = omega (arith, is) in no)
 
@@ -158,13 +158,13 @@ module _ (same : Type 0) (i : ChartInputs) (d : DiskStates) (e : Ending) where
 
   row_10 : (row : Row) → Comes row → row.status ≡ 10 → PrintsWhole e row.text → OverChart i (λ bus events. StoreTold bus)
   row_10 row (without_disks _ comes unused) is well = absurd (let no : ⊥ = omega (arith, inputs_low row comes, is) in no)
-  row_10 row (not_started _ (bus, events, set, start)) is well = (bus, events, set, start_10 bus row start is well)
+  row_10 row (not_started _ (bus, events, set, start) nine) is well = (bus, events, set, start_10 bus row start is well)
   row_10 row (all_done _ over) is well = absurd (let no : ⊥ = omega (arith, is) in no)
   row_10 row (done_without_memory kept over) is well = absurd (let no : ⊥ = omega (arith, is) in no)
 
   row_not_6 : (row : Row) → Comes row → row.status ≢ 6
   row_not_6 row (without_disks _ comes unused) = λ is. omega (arith, inputs_low row comes, is)
-  row_not_6 row (not_started _ (bus, events, set, start)) = λ is. omega (arith, start_status Format bus d row start, is)
+  row_not_6 row (not_started _ (bus, events, set, start) nine) = λ is. omega (arith, start_status Format bus d row start, is)
   row_not_6 row (all_done _ over) = λ is. omega (arith, is)
   row_not_6 row (done_without_memory kept over) = λ is. omega (arith, is)
 
@@ -183,7 +183,7 @@ module _ (same : Type 0) (i : ChartInputs) (d : DiskStates) (e : Ending) where
 
   is_memory : (row : Row) → Comes row → row.status ≡ 7 → row ≡ memory_row
   is_memory row (without_disks _ comes unused) is = inputs_memory row comes is
-  is_memory row (not_started _ (bus, events, set, start)) is = start_memory Format bus d row start is
+  is_memory row (not_started _ (bus, events, set, start) nine) is = start_memory Format bus d row start is
   is_memory row (all_done _ over) is = absurd (let no : ⊥ = omega (arith, is) in no)
   is_memory row (done_without_memory kept over) is = refl
 
@@ -217,21 +217,22 @@ module _ (same : Type 0) (i : ChartInputs) (d : DiskStates) (e : Ending) where
   -- ---- the disks
 
   row_low : (row : Row) → Comes row
-      → (row.status ≡ 2) ⊎ (row.status ≡ 3) ⊎ (row.status ≡ 4) ⊎ (row.status ≡ 5) ⊎ (row.status ≡ 8) → same
+      → (row.status ≡ 2) ⊎ (row.status ≡ 3) ⊎ (row.status ≡ 4) ⊎ (row.status ≡ 5) ⊎ (row.status ≡ 8) ⊎ (row.status ≡ 9) → same
   row_low row (without_disks _ comes unused) low = unused
-  row_low row (not_started _ (bus, events, set, start)) low = absurd (let no : ⊥ = omega (arith, start_status Format bus d row start, low) in no)
+  row_low row (not_started _ (bus, events, set, start) nine) low =
+      nine (let is : row.status ≡ 9 = omega (arith, start_status Format bus d row start, low) in is)
   row_low row (all_done _ over) low = absurd (let no : ⊥ = omega (arith, low) in no)
   row_low row (done_without_memory kept over) low = absurd (let no : ⊥ = omega (arith, low) in no)
 
-  unused_of : EndsInRow Comes e → (e.status ≡ 2) ⊎ (e.status ≡ 3) ⊎ (e.status ≡ 4) ⊎ (e.status ≡ 5) ⊎ (e.status ≡ 8) → same
+  unused_of : EndsInRow Comes e → (e.status ≡ 2) ⊎ (e.status ≡ 3) ⊎ (e.status ≡ 4) ⊎ (e.status ≡ 5) ⊎ (e.status ≡ 8) ⊎ (e.status ≡ 9) → same
   unused_of ends low = elim ends.told [
-    | inl (status_is, well) ↦ row_low ends.row ends.comes (subst (λ (n : ℕ). (n ≡ 2) ⊎ (n ≡ 3) ⊎ (n ≡ 4) ⊎ (n ≡ 5) ⊎ (n ≡ 8)) status_is low)
+    | inl (status_is, well) ↦ row_low ends.row ends.comes (subst (λ (n : ℕ). (n ≡ 2) ⊎ (n ≡ 3) ⊎ (n ≡ 4) ⊎ (n ≡ 5) ⊎ (n ≡ 8) ⊎ (n ≡ 9)) status_is low)
     | inr (is, rose, part) ↦ absurd (let no : ⊥ = omega (arith, is, low) in no)
   ]
 
   row_leaves : (row : Row) → Comes row → LeavesChartDisks same i d
   row_leaves row (without_disks _ comes unused) = as_before unused
-  row_leaves row (not_started _ (bus, events, set, start)) = by_refused_start (bus, events, set, Comes-leaves Format bus d row start)
+  row_leaves row (not_started _ (bus, events, set, start) nine) = by_refused_start (bus, events, set, Comes-leaves Format bus d row start)
   row_leaves row (all_done _ (bus, events, set, (lines, done, text_is))) = by_chart (Some lines) (bus, events, set, done)
   row_leaves row (done_without_memory kept over) = by_chart kept over
 

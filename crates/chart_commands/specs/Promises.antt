@@ -29,8 +29,8 @@ pub record DrawsChart (bus : NamedBus) (events : List Event) (d : DiskStates) (e
   pub done : DoneChart bus events d (Some lines)
   pub drawn : PrintsWhole e (chart_text bus events lines)
 
--- what a chart leaves of the disks: all as before, or what a refused start leaves, or what a run of the first events
--- leaves
+-- what a chart leaves of the disks: all as before, or what a refused start leaves, or what a run of all events leaves,
+-- or of none
 pub data LeavesChartDisks (same : Type 0) (i : ChartInputs) (d : DiskStates) : Type 0 where
   as_before : same → LeavesChartDisks same i d
   by_refused_start : OverChart i (λ bus events. LeavesEach Format bus d.before d.after) → LeavesChartDisks same i d
@@ -42,8 +42,9 @@ pub data LeavesChartDisks (same : Type 0) (i : ChartInputs) (d : DiskStates) : T
 pub record RunsChart (same : Type 0) (i : ChartInputs) (d : DiskStates) (e : Ending) : Type 0 where
   -- A row of the table comes and is told; what this says of each status follows.
   pub ends : EndsChart same i d e
-  -- Every disk is as before at the status 2, 3, 4, 5 and 8.
-  pub disks_unused : (e.status ≡ 2) ⊎ (e.status ≡ 3) ⊎ (e.status ≡ 4) ⊎ (e.status ≡ 5) ⊎ (e.status ≡ 8) → same
+  -- Every disk is as before at the status 2, 3, 4, 5, 8 and 9.
+  pub disks_unused : (e.status ≡ 2) ⊎ (e.status ≡ 3) ⊎ (e.status ≡ 4) ⊎ (e.status ≡ 5) ⊎ (e.status ≡ 8)
+      ⊎ (e.status ≡ 9) → same
   pub leaves : LeavesChartDisks same i d
   -- 0: the inputs were read whole, all events were done, and exactly the chart of their lines was printed: over disks
   -- that tell their bytes these are the lines of one run of the machine.
@@ -69,7 +70,7 @@ pub record RunsChart (same : Type 0) (i : ChartInputs) (d : DiskStates) (e : End
   -- 6: exactly where the sink's count of faults rose; a front was written of a row that comes.
   pub write_fault : e.status ≡ 6 → SinkFailed e × PrintsFront (ChartRow same i d) e
   pub write_fault_only : CountsWriteFault e → e.status ≡ 6
-  -- 7: want of memory comes, and nothing was written.
+  -- 7: want of memory comes, and nothing was written; all events were done, or none was.
   pub no_memory : e.status ≡ 7 → ChartRow same i d memory_row × PrintsWhole e []
   -- 8: exactly where one byte more than an input may have came from a source.
   pub too_long : e.status ≡ 8
@@ -87,4 +88,5 @@ pub record RunsChart (same : Type 0) (i : ChartInputs) (d : DiskStates) (e : End
       × ((fault : StartFault) × StoreCause Format bus d.before d.after fault × PrintsWhole e (start_row fault).text))
   -- What is valid is done, where no port failed and there was memory.
   pub complete : (bus : NamedBus) (input : List ℕ) (events : List Event) → OffersChart i bus → Offers i.script input
-      → events_of bus.nodes input ≡ Ok events → BusHasDisks Format bus d → ¬ SinkFailed e → (e.status ≡ 0) ⊎ (e.status ≡ 7)
+      → events_of bus.nodes input ≡ Ok events → BusHasDisks Format bus d → ¬ SinkFailed e
+      → (e.status ≡ 0) ⊎ (e.status ≡ 7)

@@ -29,8 +29,8 @@ pub data ChartInputRow (i : ChartInputs) : Row → Type 0 where
   no_script : (fault : InputFault) → NoChartScript i fault → ChartInputRow i (input_row fault)
   script_refused : (fault : Fault) → HasBadEvent i fault → ChartInputRow i (line_row fault)
 
--- the first events were done, and these of their lines were kept; over disks that tell their bytes they are one run
--- of the machine from the first world of the bus, and all that holds of a replay's run holds of it
+-- all events were done, and these are their lines, or no event was; over disks that tell their bytes this is one run of
+-- the machine from the first world of the bus, and all that holds of a replay's run holds of it
 pub record DoneChart (bus : NamedBus) (events : List Event) (d : DiskStates) (kept : Option (List Line)) : Type 0 where
   pub ran : ChartTurns bus d.before d.after events kept
   pub stay : DisksStay bus d.before d.after (seen ran.turns.moments)
@@ -39,7 +39,8 @@ pub record DoneChart (bus : NamedBus) (events : List Event) (d : DiskStates) (ke
 -- the table: when each row comes, and what the disks are then; `same` is that every disk is as before
 pub data ChartRow (same : Type 0) (i : ChartInputs) (d : DiskStates) : Row → Type 0 where
   without_disks : (row : Row) → ChartInputRow i row → same → ChartRow same i d row
-  not_started : (row : Row) → OverChart i (λ bus events. ComesOfStart Format bus d row) → ChartRow same i d row
+  not_started : (row : Row) → OverChart i (λ bus events. ComesOfStart Format bus d row) → (row.status ≡ 9 → same)
+      → ChartRow same i d row
   all_done : (text : List ℕ)
       → OverChart i (λ bus events. (lines : List Line) × DoneChart bus events d (Some lines)
       × (text ≡ chart_text bus events lines))

@@ -1,5 +1,5 @@
 -- The run whose chart is drawn (own)
-use Rattle.std.specs.Prelude.{◌≡◌, Option, None, Some, List, ◌++◌, length, drop}
+use Rattle.std.specs.Prelude.{◌≡◌, Option, None, Some, List, [], ◌++◌, length, drop}
 use Rattle.cut_disk.specs.State.{DiskState}
 use Rattle.machine_runs.specs.Run.{Moment, lines_in}
 use Rattle.numbered_run.specs.Driven.{FirstDone}
@@ -13,18 +13,18 @@ use Rattle.bus_world.specs.Starts.{Started, disks_of}
 use Rattle.world_runs.specs.NodeDisks.{TellEach}
 use Rattle.world_runs.specs.WorldRuns.{WorldRun}
 
--- all events were done, and these are their lines; or there was no memory to keep a line, and the first ones were done
+-- all events were done, and these are their lines; or there was no memory to keep them, and no event was done
 abbrev pub KeepsLines : {S : Type 0} → List Event → Option (List Line) → List (Moment Event Line S) → Type 0
 KeepsLines events (Some lines) moments = (length moments ≡ length events) × (lines ≡ lines_in moments)
-KeepsLines events None moments = Unit {0}
+KeepsLines events None moments = moments ≡ []
 
 -- ---- over disks of any kind
 
--- the first events were done as turns, and these of their lines were kept
+-- the events were done as turns, and these are the lines that were kept of them, or none was
 abbrev pub KeptTurns : BusState → BusState → List Event → Option (List Line) → Type 0
 KeptTurns start now events kept = FirstDone BusTurn start now events (KeepsLines events kept)
 
--- the bus was started, and took the turns of the first events; the disks are back in their order
+-- the bus was started, and took the turns of the events, or of none; the disks are back in their order
 pub record ChartTurns (bus : NamedBus) (before after : List DiskState) (events : List Event)
     (kept : Option (List Line)) : Type 0 where
   pub is_bus : IsNamedBus bus
@@ -36,8 +36,8 @@ pub record ChartTurns (bus : NamedBus) (before after : List DiskState) (events :
 
 -- ---- over disks that tell their bytes
 
--- a run of the first events from the first world of the bus, with all that holds of a replay's, and these of its lines
--- were kept
+-- a run of the events, or of none, from the first world of the bus, with all that holds of a replay's, and these are
+-- the lines that were kept of it
 pub record Charted (bus : NamedBus) (before after : List DiskState) (events : List Event)
     (kept : Option (List Line)) : Type 0 where
   pub moments : Moments

@@ -1,5 +1,6 @@
 -- What the steps of the work say to one another
-use Rattle.std.specs.Prelude.{◌≡◌, ℕ, Option, None, Some, List, [], ◌∷◌, ◌++◌, ◌≤◌, length, All, Result, Ok, Err, Vec}
+use Rattle.std.specs.Prelude.{◌≡◌, ℕ, ◌+◌, Option, None, Some, List, [], ◌∷◌, ◌++◌, ◌≤◌, length, All, Result, Ok, Err, Vec}
+use Rattle.std.specs.Vec.{vec_len, vec_capacity}
 use Rattle.std.specs.declared.alloc.AllocError.{AllocError}
 use Rattle.std.specs.declared.alloc.Global.{Global}
 use Rattle.answer_rows.specs.Rows.{Row, row_of, memory_row}
@@ -9,7 +10,7 @@ use Rattle.bus_machine.specs.declared.events.Event.{Event}
 use Rattle.bus_machine.specs.declared.lines.Line.{Line}
 use Rattle.bus_nodes.specs.Buses.{NamedBus, IsNamedBus}
 use Rattle.bus_world.specs.declared.start.Start.TheVariants.{Format}
-use Rattle.bus_world.specs.StartAnswers.{DiskStates, ComesOfStart}
+use Rattle.bus_world.specs.StartAnswers.{DiskStates, ComesUnstarted}
 use Rattle.bus_script.specs.EventForms.{events_of}
 use Rattle.bus_script.specs.ScriptEvents.{IsScriptEvent}
 use Rattle.text_lines.specs.Readings.{most_lines}
@@ -47,10 +48,12 @@ PreparesChart i (Err row) = ChartInputRow i row
 
 -- ---- the second phase
 
--- a line was put behind those that are kept, or there was no memory for it
-abbrev pub KeepsLine : {L : Type 0} → List L → ℕ → L → List L → Result (Unit {0}) AllocError → Type 0
-KeepsLine before number line after (Ok _) = after ≡ before ++ line ∷ []
-KeepsLine before number line after (Err _) = Unit {0}
+-- a line was put behind those that are kept, and the room for them is no less; or there was no room for it
+abbrev pub KeepsLine : {L : Type 0} → Vec L Global → ℕ → L → Vec L Global → Result (Unit {0}) AllocError → Type 0
+KeepsLine before number line after (Ok _) =
+    (after.items ≡ before.items ++ line ∷ []) × (vec_len after ≡ vec_len before + 1)
+    × (vec_capacity before ≤ vec_capacity after)
+KeepsLine before number line after (Err _) = vec_capacity before ≤ vec_len before
 
 -- the lines that were kept, if all were
 abbrev pub kept_lines : Result (Vec Line Global) AllocError → Option (List Line)
@@ -68,8 +71,9 @@ pub data ToldOfLines (bus : NamedBus) (events : List Event) (kept : Option (List
       → ToldOfLines bus events kept (row_of 0 (chart_text bus events lines))
   no_chart : ToldOfLines bus events kept memory_row
 
--- what the second phase ends in: the bus isn't started, or the first events are done, and this is told of their lines
-pub data AnswersChart (bus : NamedBus) (events : List Event) (d : DiskStates) : Row → Type 0 where
-  refused_chart : (row : Row) → ComesOfStart Format bus d row → AnswersChart bus events d row
+-- what the second phase ends in: the bus isn't started, or the events are done, or none is, and this is told of their
+-- lines; `same` is that every disk is as before
+pub data AnswersChart (same : Type 0) (bus : NamedBus) (events : List Event) (d : DiskStates) : Row → Type 0 where
+  refused_chart : (row : Row) → ComesUnstarted same Format bus d row → AnswersChart same bus events d row
   charted : (kept : Option (List Line)) (row : Row) → DoneChart bus events d kept → ToldOfLines bus events kept row
-      → AnswersChart bus events d row
+      → AnswersChart same bus events d row

@@ -1,5 +1,5 @@
 //! A run over disks, and its chart.
-ghost use Rattle.std.specs.Prelude.{map};
+ghost use Rattle.std.specs.Prelude.{◌≡◌, map};
 ghost use Rattle.answer_rows.specs.Endings.{EndsInRow};
 ghost use Rattle.bus_nodes.specs.Buses.{IsNamedBus};
 ghost use Rattle.chart_commands.specs.Steps.{AreChartEvents, AnswersChart, ToldOfLines, AreOfEvents, kept_lines};
@@ -28,7 +28,7 @@ pub fn chart<K: Sink, D: CutDisk>(
 ) -> u8
     requires is_bus { IsNamedBus bus.now }
     requires are_events { AreChartEvents bus.now events.now }
-    ensures { EndsInRow (AnswersChart bus.now events.now
+    ensures { EndsInRow (AnswersChart (disks.new ≡ disks.old) bus.now events.now
         (record { before = map D.state disks.old.items; after = map D.state disks.new.items }))
         (record { before = K.state sink.old; after = K.state sink.new; status = result }) }
 {

@@ -17,14 +17,15 @@ struct LineKeeper<L: Drop> {
 }
 
 impl<L: Drop> Consumer<L> for LineKeeper<L> {
-    ghost use Rattle.std.specs.Prelude.{List};
+    ghost use Rattle.std.specs.Prelude.{Vec};
+    ghost use Rattle.std.specs.declared.alloc.Global.{Global};
     ghost use Rattle.chart_commands.specs.Steps.{KeepsLine};
 
     type Refusal = AllocError;
 
-    ghost State = { List L };
+    ghost State = { Vec L Global };
 
-    ghost state = { λ keeper. keeper.lines.items };
+    ghost state = { λ keeper. keeper.lines };
 
     ghost takes = { KeepsLine };
 

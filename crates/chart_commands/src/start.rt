@@ -14,39 +14,8 @@ use cut_disk::CutDisk;
 use named_sources::{MissingSource, Opener, WordSource, open_second, open_word};
 use std::alloc::Global;
 
-/// Draws the run of the script over the bus that two words name, as [`run_chart`] does, and gives the status that the
-/// program ends with; without a word it draws the example. `-` is the input, which is handed in once for each word;
-/// where both are `-`, the bus file has it, and the script is missing. Of other words nothing is opened.
-pub fn chart_words<O: Opener, I: Source + Drop, K: Sink, D: CutDisk>(
-    alloc: Global,
-    opener: &O,
-    bus_input: I,
-    script_input: I,
-    words: &[String],
-    sink: &mut K,
-    disks: &mut Vec<D>,
-) -> u8
-    // All that a chart promises, over the bus file and the script of the example.
-    ensures example { length words.now ≡ 0 → (i : ChartInputs) × IsExampleChart i × RunsChart (disks.new ≡ disks.old) i
-        (record { before = map D.state disks.old.items; after = map D.state disks.new.items })
-        (record { before = K.state sink.old; after = K.state sink.new; status = result }) }
-
-    // All that a chart promises, of these words, and over the sources that they name.
-    ensures named { 0 < length words.now → (i : ChartInputs)
-        × ChartSourcesAreNamed (O.opens opener.now) (I.state bus_input) (I.state script_input)
-        (map string_bytes words.now) i
-        × RunsChart (disks.new ≡ disks.old) i
-        (record { before = map D.state disks.old.items; after = map D.state disks.new.items })
-        (record { before = K.state sink.old; after = K.state sink.new; status = result }) }
-{
-    if words.is_empty() {
-        return run_example(alloc, sink, disks);
-    }
-    let (mut config, mut script) = open_chart(opener, bus_input, script_input, words);
-    run_chart(alloc, words, &mut config, &mut script, sink, disks)
-}
-
-/// The sources that two words name, the bus file's and the script's, of which nothing was read here. Of words of
+/// The sources of the bus file and of the script that two words name, of which nothing was read here. `-` is the input,
+/// which is handed in once for each; where both are `-`, the bus file has it, and the script is missing. Of words of
 /// another number nothing is opened, and both sources are missing.
 fn open_chart<O: Opener, I: Source + Drop>(
     opener: &O,
@@ -76,4 +45,41 @@ fn open_chart<O: Opener, I: Source + Drop>(
             (config, script)
         }
     }
+}
+
+/// Draws the run of the script over the bus that two words name, as [`run_chart`] does, and gives the status that the
+/// program ends with, and the sources of the bus file and of the script as the chart left them; without a word it draws
+/// the example, and both sources are missing.
+pub fn chart_words<O: Opener, I: Source + Drop, K: Sink, D: CutDisk>(
+    alloc: Global,
+    opener: &O,
+    bus_input: I,
+    script_input: I,
+    words: &[String],
+    sink: &mut K,
+    disks: &mut Vec<D>,
+) -> (u8, WordSource<O::Opened, I>, WordSource<O::Opened, I>)
+    // All that a chart promises, over the bus file and the script of the example.
+    ensures example { length words.now ≡ 0 → (i : ChartInputs) × IsExampleChart i × RunsChart (disks.new ≡ disks.old) i
+        (record { before = map D.state disks.old.items; after = map D.state disks.new.items })
+        (record { before = K.state sink.old; after = K.state sink.new; status = result.0 }) }
+
+    // All that a chart promises, of these words, over the sources that they name, which are those handed back.
+    ensures named { 0 < length words.now → (i : ChartInputs)
+        × ChartSourcesAreNamed (O.opens opener.now) (I.state bus_input) (I.state script_input)
+        (map string_bytes words.now) i
+        × (i.config.after ≡ word_source O.Opened.state I.state result.1)
+        × (i.script.after ≡ word_source O.Opened.state I.state result.2)
+        × RunsChart (disks.new ≡ disks.old) i
+        (record { before = map D.state disks.old.items; after = map D.state disks.new.items })
+        (record { before = K.state sink.old; after = K.state sink.new; status = result.0 }) }
+{
+    if words.is_empty() {
+        let config = WordSource::Missing(MissingSource::new());
+        let script = WordSource::Missing(MissingSource::new());
+        return (run_example(alloc, sink, disks), config, script);
+    }
+    let (mut config, mut script) = open_chart(opener, bus_input, script_input, words);
+    let status = run_chart(alloc, words, &mut config, &mut script, sink, disks);
+    (status, config, script)
 }

@@ -1,22 +1,23 @@
--- Each acceptance that names an event has one arrow, from the row of that event, and no other mark leads to one
+-- Each acceptance has one arrow, from the row of the event that it names, or from the left edge, and there is no other arrow to one
 use Rattle.std.specs.Prelude.{◌≡◌, ℕ, ◌+◌, ◌-◌, ◌<◌, ◌==◌, true, false, filter, option_map, Option, None, Some, List, [], ◌∷◌, ◌++◌, length, slice_get}
 use Rattle.std.proofs.Common.{refl, sym, ◌∙◌, ap, subst, arith, inl, inr, append_assoc, length-append}
 use Rattle.std.proofs.lemmas.Bool.{cond-true, cond-false, eq-eqb, ne_eqb}
 use Rattle.std.proofs.lemmas.Option.{slice_get-map}
 use Rattle.machine_runs.specs.Run.{Run, commands_in, lines_in}
 use Rattle.bus_machine.specs.declared.events.Event.{Event}
-use Rattle.bus_machine.specs.declared.events.Event.TheVariants.{Cut}
+use Rattle.bus_machine.specs.declared.events.Event.TheVariants.{Send, Cut}
 use Rattle.bus_machine.specs.declared.lines.Line.{Line}
 use Rattle.bus_machine.specs.declared.lines.Line.TheVariants.{Sent, Accepted, FreshnessFailure, VerificationFailure, Keyed, Loaded, Boot, Up, Armed, NoFrame, Refused}
 use Rattle.bus_machine.specs.Bus.{World, Instant, Moments, Step, node_of, state_after, AtSome}
 use Rattle.bus_machine.specs.Authentic.{SentAs, RightLine, Authentic}
 use Rattle.bus_laws.specs.Laws.{IsFirst}
-use Rattle.chart_marks.specs.declared.marks.Origin.TheVariants.{EventRow}
+use Rattle.chart_marks.specs.declared.marks.Origin.{Origin}
+use Rattle.chart_marks.specs.declared.marks.Origin.TheVariants.{EventRow, Outside}
 use Rattle.chart_marks.specs.declared.marks.MarkKind.{MarkKind}
 use Rattle.chart_marks.specs.declared.marks.MarkKind.TheVariants.{Arrow}
 use Rattle.chart_marks.specs.declared.marks.RowMark.{RowMark}
-use Rattle.chart_marks.specs.Marks.{origin_at, refused_mark, mark_kind, row_mark, marks_from}
-use Rattle.chart_marks.specs.MarkLaws.{run_marks, HasOneArrow, MarksAcceptance, ArrowsOf}
+use Rattle.chart_marks.specs.Marks.{origin_at, origin_of, refused_mark, mark_kind, row_mark, marks_from}
+use Rattle.chart_marks.specs.MarkLaws.{run_marks, HasOneArrow, HasEdgeArrow, origin_event, MarksAcceptance, ArrowsOf}
 
 -- ---- where a moment stands
 
@@ -71,11 +72,26 @@ one_there all row k (x ∷ front) m rest place =
     let other : row ≡ k → ⊥ = λ e. omega (arith, e, place) in
     cond-false (row == k) _ _ (ne_eqb row k other) ∙ one_there all (row + 1) k front m rest (omega arith)
 
--- the moment whose mark this is
+-- and so in the whole run
+alone_there : (ms front rest : Moments) (m : Instant) → ms ≡ front ++ m ∷ rest
+    → filter (λ (mark : RowMark). mark.row == length front + 1) (run_marks ms) ≡ row_mark (commands_in ms) (length front + 1) m.command m.line ∷ []
+alone_there ms front rest m whole =
+    subst (λ (xs : Moments). filter (λ (mark : RowMark). mark.row == length front + 1)
+    (marks_from (commands_in ms) 1 (commands_in xs) (lines_in xs)) ≡ row_mark (commands_in ms) (length front + 1) m.command m.line ∷ [])
+    (sym whole) (one_there (commands_in ms) 1 (length front + 1) front m rest (omega arith))
+
+-- one mark alone
+abbrev one_mark : ℕ → ℕ → MarkKind → List RowMark
+one_mark node row kind = record { node = node; row = row; kind = kind } ∷ []
+
+-- the moment whose mark this is, and what is before and behind it
 pub record MarkOf (all : List Event) (row : ℕ) (ms : Moments) (mark : RowMark) (k : ℕ) : Type 0 where
+  pub before : Moments
   pub m : Instant
+  pub behind : Moments
   pub at_row : ℕ
   pub row_is : at_row ≡ row + k
+  pub whole : ms ≡ before ++ m ∷ behind
   pub is_there : slice_get ms k ≡ Some m
   pub mark_is : mark ≡ row_mark all at_row m.command m.line
 
@@ -83,77 +99,37 @@ moment_of : (all : List Event) (row : ℕ) (ms : Moments) (front rest : List Row
     → marks_from all row (commands_in ms) (lines_in ms) ≡ front ++ mark ∷ rest → MarkOf all row ms mark (length front)
 moment_of all row [] [] rest mark e = cc
 moment_of all row [] (x ∷ front) rest mark e = cc
-moment_of all row (m ∷ ms) [] rest mark e = record { m = m; at_row = row; row_is = omega arith; is_there = refl; mark_is = cc }
+moment_of all row (m ∷ ms) [] rest mark e =
+    record { before = []; m = m; behind = ms; at_row = row; row_is = omega arith; whole = refl; is_there = refl; mark_is = cc }
 moment_of all row (m ∷ ms) (x ∷ front) rest mark e =
-    let behind : marks_from all (row + 1) (commands_in ms) (lines_in ms) ≡ front ++ mark ∷ rest = cc in
-    let f = moment_of all (row + 1) ms front rest mark behind in
+    let rows : marks_from all (row + 1) (commands_in ms) (lines_in ms) ≡ front ++ mark ∷ rest = cc in
+    let f = moment_of all (row + 1) ms front rest mark rows in
     let place = f.row_is in
-    record { m = f.m; at_row = f.at_row; row_is = omega (arith, place); is_there = f.is_there; mark_is = f.mark_is }
-
--- ---- arrows to acceptances
-
-origin_number : (n : ℕ) (sender : Option Event) (number node : ℕ) → origin_at n sender ≡ EventRow number node → n ≡ number
-origin_number n None number node e = cc
-origin_number n (Some event) number node e = cc
-
--- the line accepts what this event sent
-pub record AcceptsFrom (line : Line) (number : ℕ) : Type 0 where
-  pub id : ℕ
-  pub freshness : ℕ
-  pub payload : List ℕ
-  pub line_is : line ≡ Accepted id freshness payload (Some number)
-
-refused_no_arrow : (e : Event) (number node : ℕ) → refused_mark e ≡ Arrow (EventRow number node) true → ⊥
-refused_no_arrow (Cut place torn) number node k = cc
-refused_no_arrow _ number node k = cc
-
-accepts_from : (all : List Event) (e : Event) (line : Line) (number node : ℕ) → mark_kind all e line ≡ Arrow (EventRow number node) true
-    → AcceptsFrom line number
-accepts_from all e (Sent id v pdu) number node k = cc
-accepts_from all e (Accepted id v payload None) number node k = cc
-accepts_from all e (Accepted id v payload (Some n)) number node k =
-    let same : n ≡ number = origin_number n (slice_get all (n - 1)) number node cc in
-    record { id = id; freshness = v; payload = payload; line_is = ap (λ (x : ℕ). Accepted id v payload (Some x)) same }
-accepts_from all e FreshnessFailure number node k = cc
-accepts_from all e VerificationFailure number node k = cc
-accepts_from all e (Keyed slot) number node k = cc
-accepts_from all e (Loaded reply) number node k = cc
-accepts_from all e (Boot true) number node k = cc
-accepts_from all e (Boot false) number node k = cc
-accepts_from all e Up number node k = cc
-accepts_from all e Armed number node k = cc
-accepts_from all e NoFrame number node k = cc
-accepts_from all e (Refused refusal) number node k = absurd (refused_no_arrow e number node k)
-
-no_other_arrow : (ms : Moments) (front rest : List RowMark) (mark : RowMark) (number node : ℕ) → run_marks ms ≡ front ++ mark ∷ rest
-    → mark.kind ≡ Arrow (EventRow number node) true → MarksAcceptance ms mark number
-no_other_arrow ms front rest mark number node whole kind =
-    let f = moment_of (commands_in ms) 1 ms front rest mark whole in
-    let m : Instant = f.m in
-    let row : mark.row ≡ f.at_row = ap (λ (x : RowMark). x.row) f.mark_is in
-    let place : length front ≡ mark.row - 1 = omega (arith, row, f.row_is) in
-    let told : mark_kind (commands_in ms) m.command m.line ≡ Arrow (EventRow number node) true =
-    sym (ap (λ (x : RowMark). x.kind) f.mark_is) ∙ kind in
-    let a = accepts_from (commands_in ms) m.command m.line number node told in
     record {
-      least = omega (arith, row, f.row_is);
-      m = m;
-      is_there = subst (λ (k : ℕ). slice_get ms k ≡ Some m) place f.is_there;
-      node_is = ap (λ (x : RowMark). x.node) f.mark_is;
-      id = a.id;
-      freshness = a.freshness;
-      payload = a.payload;
-      accepts = a.line_is;
+      before = m ∷ f.before;
+      m = f.m;
+      behind = f.behind;
+      at_row = f.at_row;
+      row_is = omega (arith, place);
+      whole = ap (λ (xs : Moments). m ∷ xs) f.whole;
+      is_there = f.is_there;
+      mark_is = f.mark_is;
     }
 
--- one mark alone
-abbrev one_mark : ℕ → ℕ → MarkKind → List RowMark
-one_mark node row kind = record { node = node; row = row; kind = kind } ∷ []
+-- ---- arrows from an event
+
+-- the moment of this number is where the arrow of an acceptance from it begins
+origin_there : (ms : Moments) (number : ℕ) (sender : Instant) → slice_get ms (number - 1) ≡ Some sender
+    → origin_of (commands_in ms) number ≡ EventRow number (node_of sender.command)
+origin_there ms number sender there =
+    let event : slice_get (commands_in ms) (number - 1) ≡ Some sender.command =
+    slice_get-map (λ (x : Instant). x.command) ms (number - 1) ∙ ap (option_map (λ (x : Instant). x.command)) there in
+    ap (origin_at number) event
 
 -- what was sent, seen from the whole run: the event before the acceptance, and its place
 one_arrow : (start : World) (ms : Moments) (last : World) → IsFirst start → Run Step start ms last → Authentic start ms
     → (front rest : Moments) (m : Instant) (id v number : ℕ) (payload : List ℕ) → ms ≡ front ++ m ∷ rest
-    → m.line ≡ Accepted id v payload (Some number) → HasOneArrow ms (length front + 1) number m id v
+    → m.line ≡ Accepted id v payload (Some number) → HasOneArrow ms (length front + 1) number m id v payload
 one_arrow start ms last first run authentic front rest m id v number payload whole line =
     let right = subst (RightLine start front m) line (authentic front m rest whole) in
     let was = right.names number refl in
@@ -170,27 +146,95 @@ one_arrow start ms last first run authentic front rest m id v number payload who
     let there : slice_get ms (number - 1) ≡ Some f.m =
     subst (λ (k : ℕ). slice_get ms k ≡ Some f.m) index
     (subst (λ (xs : Moments). slice_get xs (length f.front) ≡ Some f.m) (sym all) (slice_get_behind f.front f.m (f.rest ++ m ∷ rest))) in
-    let sender : slice_get (commands_in ms) (number - 1) ≡ Some f.m.command =
-    slice_get-map (λ (x : Instant). x.command) ms (number - 1) ∙ ap (option_map (λ (x : Instant). x.command)) there in
     let kind : mark_kind (commands_in ms) m.command m.line ≡ Arrow (EventRow number (node_of f.m.command)) true =
-    ap (mark_kind (commands_in ms) m.command) line ∙ ap (λ (o : Option Event). Arrow (origin_at number o) true) sender in
+    ap (mark_kind (commands_in ms) m.command) line ∙ ap (λ (o : Origin). Arrow o true) (origin_there ms number f.m there) in
     record {
       sender = f.m;
       least = omega (arith, place);
       earlier = omega (arith, place, before);
       sender_is = there;
+      asked = f.holds.0
+          ∙ ap (λ (i : ℕ). Send (node_of f.m.command) i was.sent.payload) was.id_is
+          ∙ ap (λ (p : List ℕ). Send (node_of f.m.command) id p) was.payload_is;
       pdu = was.sent.pdu;
       it_sent = f.holds.1
           ∙ ap (λ (i : ℕ). Sent i was.sent.freshness was.sent.pdu) was.id_is
           ∙ ap (λ (w : ℕ). Sent id w was.sent.pdu) was.freshness_is;
-      only = subst (λ (xs : Moments). filter (λ (mark : RowMark). mark.row == length front + 1)
-          (marks_from (commands_in ms) 1 (commands_in xs) (lines_in xs)) ≡ row_mark (commands_in ms) (length front + 1) m.command m.line ∷ [])
-          (sym whole) (one_there (commands_in ms) 1 (length front + 1) front m rest (omega arith))
-          ∙ ap (one_mark (node_of m.command) (length front + 1)) kind;
+      only = alone_there ms front rest m whole ∙ ap (one_mark (node_of m.command) (length front + 1)) kind;
+    }
+
+-- ---- arrows from the left edge
+
+edge_arrow : (ms front rest : Moments) (m : Instant) (id v : ℕ) (payload : List ℕ) → ms ≡ front ++ m ∷ rest
+    → m.line ≡ Accepted id v payload None → HasEdgeArrow ms (length front + 1) m
+edge_arrow ms front rest m id v payload whole line =
+    let kind : mark_kind (commands_in ms) m.command m.line ≡ Arrow Outside true = ap (mark_kind (commands_in ms) m.command) line in
+    alone_there ms front rest m whole ∙ ap (one_mark (node_of m.command) (length front + 1)) kind
+
+-- ---- no other
+
+-- the line accepts what this event sent, or none
+pub record AcceptsFrom (line : Line) (source : Option ℕ) : Type 0 where
+  pub id : ℕ
+  pub freshness : ℕ
+  pub payload : List ℕ
+  pub line_is : line ≡ Accepted id freshness payload source
+
+refused_no_arrow : (e : Event) (from : Origin) → refused_mark e ≡ Arrow from true → ⊥
+refused_no_arrow (Cut place torn) from k = cc
+refused_no_arrow _ from k = cc
+
+-- where each event that an acceptance names is there
+accepts_from : (all : List Event) (e : Event) (line : Line) (from : Origin) → mark_kind all e line ≡ Arrow from true
+    → ((id v number : ℕ) (payload : List ℕ) → line ≡ Accepted id v payload (Some number) → (node : ℕ) × (origin_of all number ≡ EventRow number node))
+    → AcceptsFrom line (origin_event from)
+accepts_from all e (Sent id v pdu) from k found = cc
+accepts_from all e (Accepted id v payload None) from k found =
+    let same : Outside ≡ from = cc in
+    record { id = id; freshness = v; payload = payload; line_is = ap (λ (o : Origin). Accepted id v payload (origin_event o)) same }
+accepts_from all e (Accepted id v payload (Some number)) from k found =
+    let there = found id v number payload refl in
+    let drawn : origin_of all number ≡ from = cc in
+    record { id = id; freshness = v; payload = payload; line_is = ap (λ (o : Origin). Accepted id v payload (origin_event o)) (sym there.1 ∙ drawn) }
+accepts_from all e FreshnessFailure from k found = cc
+accepts_from all e VerificationFailure from k found = cc
+accepts_from all e (Keyed slot) from k found = cc
+accepts_from all e (Loaded reply) from k found = cc
+accepts_from all e (Boot true) from k found = cc
+accepts_from all e (Boot false) from k found = cc
+accepts_from all e Up from k found = cc
+accepts_from all e Armed from k found = cc
+accepts_from all e NoFrame from k found = cc
+accepts_from all e (Refused refusal) from k found = absurd (refused_no_arrow e from k)
+
+no_other_arrow : (start : World) (ms : Moments) (last : World) → IsFirst start → Run Step start ms last → Authentic start ms
+    → (front rest : List RowMark) (mark : RowMark) (from : Origin) → run_marks ms ≡ front ++ mark ∷ rest
+    → mark.kind ≡ Arrow from true → MarksAcceptance ms mark (origin_event from)
+no_other_arrow start ms last first run authentic front rest mark from whole kind =
+    let f = moment_of (commands_in ms) 1 ms front rest mark whole in
+    let m : Instant = f.m in
+    let row : mark.row ≡ f.at_row = ap (λ (x : RowMark). x.row) f.mark_is in
+    let place : length front ≡ mark.row - 1 = omega (arith, row, f.row_is) in
+    let told : mark_kind (commands_in ms) m.command m.line ≡ Arrow from true =
+    sym (ap (λ (x : RowMark). x.kind) f.mark_is) ∙ kind in
+    let a = accepts_from (commands_in ms) m.command m.line from told
+    (λ id v number payload line.
+    let one = one_arrow start ms last first run authentic f.before f.behind m id v number payload f.whole line in
+    (node_of one.sender.command, origin_there ms number one.sender one.sender_is)) in
+    record {
+      least = omega (arith, row, f.row_is);
+      m = m;
+      is_there = subst (λ (k : ℕ). slice_get ms k ≡ Some m) place f.is_there;
+      node_is = ap (λ (x : RowMark). x.node) f.mark_is;
+      id = a.id;
+      freshness = a.freshness;
+      payload = a.payload;
+      accepts = a.line_is;
     }
 
 pub arrows_of : (start : World) (ms : Moments) (last : World) → IsFirst start → Run Step start ms last → Authentic start ms → ArrowsOf ms
 arrows_of start ms last first run authentic = record {
   each = one_arrow start ms last first run authentic;
-  no_other = no_other_arrow ms;
+  from_none = edge_arrow ms;
+  no_other = no_other_arrow start ms last first run authentic;
 }

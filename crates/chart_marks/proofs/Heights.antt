@@ -114,6 +114,15 @@ up_behind_row node world ms row height inside behind =
     (ne_eqb row (length ms) (λ all. omega (arith, all, fewer))) behind.most in
     subst (λ (r : ℕ). height < row_axis r) same most)
 
+-- and below their beginning
+pub below_top : (rows row height : ℕ) → IsBehindRow rows row height → lifeline_top ≤ height
+below_top rows row height behind = elim (eqb_tells row 0) [
+  | inl same ↦ subst (λ (b : Bool). cond b lifeline_top (row_axis row) ≤ height) same.0 behind.least
+  | inr other ↦
+      let least : row_axis row ≤ height = subst (λ (b : Bool). cond b lifeline_top (row_axis row) ≤ height) other.0 behind.least in
+      omega (arith, least)
+]
+
 -- a height behind a row is above the end of the lifelines
 pub above_bottom : (rows row height : ℕ) → row ≤ rows → IsBehindRow rows row height → height < lifeline_bottom rows
 above_bottom rows row height inside behind = elim (eqb_tells row rows) [

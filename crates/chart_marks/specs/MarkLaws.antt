@@ -1,10 +1,12 @@
 -- Laws of the marks and of the lifelines of all runs, as statements (own)
-use Rattle.std.specs.Prelude.{◌≡◌, ◌↔◌, ℕ, ◌+◌, ◌-◌, ◌<◌, ◌≤◌, ◌==◌, Bool, true, false, cond, filter, Some, List, [], ◌∷◌, ◌++◌, length, take, slice_get}
+use Rattle.std.specs.Prelude.{◌≡◌, ◌↔◌, ◌⊎◌, ℕ, ◌+◌, ◌-◌, ◌<◌, ◌≤◌, ◌==◌, Bool, true, false, cond, filter, Option, None, Some, List, [], ◌∷◌, ◌++◌, length, take, slice_get}
 use Rattle.machine_runs.specs.Run.{commands_in, lines_in}
-use Rattle.bus_machine.specs.declared.lines.Line.TheVariants.{Sent, Accepted}
+use Rattle.bus_machine.specs.declared.events.Event.TheVariants.{Send}
+use Rattle.bus_machine.specs.declared.lines.Line.TheVariants.{Sent, Accepted, Up}
 use Rattle.bus_machine.specs.Bus.{World, Instant, Moments, node_of, node_at, state_after}
 use Rattle.bus_laws.specs.Laws.{EachRun}
-use Rattle.chart_marks.specs.declared.marks.Origin.TheVariants.{EventRow}
+use Rattle.chart_marks.specs.declared.marks.Origin.{Origin}
+use Rattle.chart_marks.specs.declared.marks.Origin.TheVariants.{EventRow, Outside}
 use Rattle.chart_marks.specs.declared.marks.MarkKind.TheVariants.{Arrow}
 use Rattle.chart_marks.specs.declared.marks.RowMark.{RowMark}
 use Rattle.chart_marks.specs.declared.lifelines.Stretch.{Stretch}
@@ -23,19 +25,31 @@ run_lifeline node ms = lifeline_of node (commands_in ms) (lines_in ms)
 
 -- in this row there is one mark: an arrow that leads from the row of an earlier event, and the lifeline of its node, to
 -- this row and the node of this moment; and what that event sent is what was accepted
-pub record HasOneArrow (ms : Moments) (row number : ℕ) (m : Instant) (id v : ℕ) : Type 0 where
+pub record HasOneArrow (ms : Moments) (row number : ℕ) (m : Instant) (id v : ℕ) (payload : List ℕ) : Type 0 where
   pub sender : Instant
   pub least : 1 ≤ number
   pub earlier : number < row
   pub sender_is : slice_get ms (number - 1) ≡ Some sender
+  pub asked : sender.command ≡ Send (node_of sender.command) id payload
   pub pdu : List ℕ
   pub it_sent : sender.line ≡ Sent id v pdu
   pub only : filter (λ mark. mark.row == row) (run_marks ms)
       ≡ record { node = node_of m.command; row = row; kind = Arrow (EventRow number (node_of sender.command)) true }
       ∷ []
 
--- the line of this row is an acceptance by the node of the mark, of what the event with this number sent
-pub record MarksAcceptance (ms : Moments) (mark : RowMark) (number : ℕ) : Type 0 where
+-- in this row there is one mark: an arrow that leads from the left edge to this row and the node of this moment
+abbrev pub HasEdgeArrow : Moments → ℕ → Instant → Type 0
+HasEdgeArrow ms row m =
+    filter (λ mark. mark.row == row) (run_marks ms)
+    ≡ record { node = node_of m.command; row = row; kind = Arrow Outside true } ∷ []
+
+-- the event that an arrow comes from, if it comes from one
+abbrev pub origin_event : Origin → Option ℕ
+origin_event Outside = None
+origin_event (EventRow number node) = Some number
+
+-- the line of this row is an acceptance by the node of the mark, of what this event sent, or none
+pub record MarksAcceptance (ms : Moments) (mark : RowMark) (source : Option ℕ) : Type 0 where
   pub least : 1 ≤ mark.row
   pub m : Instant
   pub is_there : slice_get ms (mark.row - 1) ≡ Some m
@@ -43,14 +57,17 @@ pub record MarksAcceptance (ms : Moments) (mark : RowMark) (number : ℕ) : Type
   pub id : ℕ
   pub freshness : ℕ
   pub payload : List ℕ
-  pub accepts : m.line ≡ Accepted id freshness payload (Some number)
+  pub accepts : m.line ≡ Accepted id freshness payload source
 
--- each acceptance that names an event has one arrow, and no other mark leads from an event to an acceptance
+-- each acceptance has one arrow, from the event that it names, or from the left edge where it names none; and there is
+-- no other arrow to an acceptance
 pub record ArrowsOf (ms : Moments) : Type 0 where
   pub each : (front rest : Moments) (m : Instant) (id v number : ℕ) (payload : List ℕ) → ms ≡ front ++ m ∷ rest
-      → m.line ≡ Accepted id v payload (Some number) → HasOneArrow ms (length front + 1) number m id v
-  pub no_other : (front rest : List RowMark) (mark : RowMark) (number sender : ℕ) → run_marks ms ≡ front ++ mark ∷ rest
-      → mark.kind ≡ Arrow (EventRow number sender) true → MarksAcceptance ms mark number
+      → m.line ≡ Accepted id v payload (Some number) → HasOneArrow ms (length front + 1) number m id v payload
+  pub from_none : (front rest : Moments) (m : Instant) (id v : ℕ) (payload : List ℕ) → ms ≡ front ++ m ∷ rest
+      → m.line ≡ Accepted id v payload None → HasEdgeArrow ms (length front + 1) m
+  pub no_other : (front rest : List RowMark) (mark : RowMark) (from : Origin) → run_marks ms ≡ front ++ mark ∷ rest
+      → mark.kind ≡ Arrow from true → MarksAcceptance ms mark (origin_event from)
 
 abbrev pub ArrowsAreAcceptances : Type 0
 ArrowsAreAcceptances = EachRun (λ start ms last. ArrowsOf ms)
@@ -83,12 +100,26 @@ pub record IsDrawnAt (drawn : List Stretch) (down : Bool) (height : ℕ) : Type 
 abbrev pub up_behind : World → Moments → ℕ → ℕ → Bool
 up_behind start ms row node = (node_at (state_after start (take row ms)) node).up
 
--- behind each row a lifeline is drawn down exactly where its node is then down, and drawn up only where it is up
+-- this height is beside the sign of a cut in which the node is up again: no more than 14 pixels above or below the axis
+pub record IsBesideCut (ms : Moments) (node height : ℕ) : Type 0 where
+  pub front : Moments
+  pub m : Instant
+  pub rest : Moments
+  pub whole : ms ≡ front ++ m ∷ rest
+  pub of_node : node_of m.command ≡ node
+  pub is_up : m.line ≡ Up
+  pub least : row_axis (length front + 1) ≤ height + 14
+  pub most : height < row_axis (length front + 1) + 14
+
+-- behind each row a lifeline is drawn down exactly where its node is then down, and drawn up exactly where it is up, but
+-- beside the sign of a cut, where it may be neither
 pub record LifelinesOf (start : World) (ms : Moments) : Type 0 where
   pub down : (node row height : ℕ) → node < length start.nodes → row ≤ length ms → IsBehindRow (length ms) row height
       → IsDrawnAt (run_lifeline node ms) true height ↔ (up_behind start ms row node ≡ false)
   pub up : (node row height : ℕ) → node < length start.nodes → row ≤ length ms → IsBehindRow (length ms) row height
       → IsDrawnAt (run_lifeline node ms) false height → up_behind start ms row node ≡ true
+  pub drawn_up : (node row height : ℕ) → node < length start.nodes → row ≤ length ms → IsBehindRow (length ms) row height
+      → up_behind start ms row node ≡ true → IsDrawnAt (run_lifeline node ms) false height ⊎ IsBesideCut ms node height
 
 abbrev pub DownIsDrawnDown : Type 0
 DownIsDrawnDown = EachRun (λ start ms last. LifelinesOf start ms)

@@ -24,7 +24,7 @@ row_axis row = row_top row + 14
 
 -- how far to the right of its lifeline what was sent in a row waits: three places in turn
 abbrev pub gutter : ℕ → ℕ
-gutter row = 8 + 4 * (row % 3)
+gutter row = 11 + 4 * (row % 3)
 
 -- how many headers there are over so many rows, and the upper edge of each, counted from 0
 abbrev pub head_count : ℕ → ℕ

@@ -41,7 +41,7 @@ pub fn row_axis(row: u32) -> u64
 pub fn gutter(row: u32) -> u64
     ensures { result ≡ gutter_of row }
 {
-    8 + 4 * u64::from(row % 3)
+    11 + 4 * u64::from(row % 3)
 }
 
 /// How many headers there are over so many rows, one for each forty, and one where there is no row.

@@ -13,6 +13,7 @@ use Rattle.bus_script.specs.ScriptEvents.{IsScriptEvent}
 use Rattle.bus_commands.specs.Summaries.{tells_sent, tells_accepted, tells_failed_verdict, tells_keyed, tells_up, tells_refused}
 use Rattle.chart_marks.specs.declared.lifelines.Stretch.{Stretch}
 use Rattle.chart_marks.specs.Places.{lifeline_x, head_count, head_top, chart_width, chart_height}
+use Rattle.chart_marks.specs.Marks.{row_marks}
 use Rattle.chart_marks.specs.Lifelines.{lifeline_of}
 use Rattle.chart_texts.specs.declared.constants.TheConstants.{STYLE, LEGEND}
 use Rattle.chart_texts.specs.Grammar.{is_content_text, Attribute, attribute_text, IsContent, nothing, element, empty_element, IsDocument}
@@ -336,7 +337,7 @@ IsContent-behind width height counts legend rest w h c l r =
 behind_page : NamedBus → List Event → List Line → List ℕ
 behind_page bus events lines =
     flat_map (lifeline_text events lines) (range_with_len 0 (length bus.nodes))
-    ++ (rows_text events 1 events lines ++ flat_map (header_text bus.nodes) (range_with_len 0 (head_count (length events))))
+    ++ (rows_text (row_marks events lines) events lines ++ flat_map (header_text bus.nodes) (range_with_len 0 (head_count (length events))))
 
 sized_is : (width height : ℕ) (bus : NamedBus) (events : List Event) (lines : List Line)
     → element (codes "svg") (svg_of (decimal width) (decimal height))
@@ -350,7 +351,7 @@ sized_is width height bus events lines =
     ∙ opening_is (decimal width) (decimal height) STYLE.now (behind ++ codes "</svg>\n")
     ∙ ap (λ (xs : List ℕ). opening_text width height ++ (xs ++ codes "</svg>\n")) (page_is (decimal width) (decimal height) counts LEGEND.now (behind_page bus events lines))
     ∙ ap (λ (xs : List ℕ). opening_text width height ++ xs)
-    (end_is (page_text width height counts) (flat_map (lifeline_text events lines) (range_with_len 0 (length bus.nodes))) (rows_text events 1 events lines)
+    (end_is (page_text width height counts) (flat_map (lifeline_text events lines) (range_with_len 0 (length bus.nodes))) (rows_text (row_marks events lines) events lines)
     (flat_map (header_text bus.nodes) (range_with_len 0 (head_count (length events)))) (codes "</svg>\n"))
 
 pub IsDocument-chart : (bus : NamedBus) (events : List Event) (lines : List Line) → IsNamedBus bus → All (IsScriptEvent bus.nodes) events → All IsLine lines
@@ -386,7 +387,7 @@ IsDocument-chart bus events lines is are told =
       );
       inner = IsContent-append (behind_front (decimal width) (decimal height) counts LEGEND.now (behind_page bus events lines)) (IsContent-front STYLE.now style_content)
           (IsContent-behind (decimal width) (decimal height) counts LEGEND.now (behind_page bus events lines) w h (counts_content (length events) lines) IsContent-legend
-          (IsContent-append (rows_text events 1 events lines ++ flat_map (header_text bus.nodes) (range_with_len 0 (head_count (length events))))
+          (IsContent-append (rows_text (row_marks events lines) events lines ++ flat_map (header_text bus.nodes) (range_with_len 0 (head_count (length events))))
           (IsContent-each (lifeline_text events lines) (IsContent-lifeline events lines) (range_with_len 0 (length bus.nodes)))
           (IsContent-append (flat_map (header_text bus.nodes) (range_with_len 0 (head_count (length events))))
           (IsContent-rows bus.nodes events 1 events lines are told)

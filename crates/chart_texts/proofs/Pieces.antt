@@ -8,8 +8,9 @@ use Rattle.bus_machine.specs.declared.lines.Line.{Line}
 use Rattle.bus_nodes.specs.declared.nodes.NodeLine.{NodeLine}
 use Rattle.chart_marks.specs.declared.lifelines.LifeTurn.{LifeTurn}
 use Rattle.chart_marks.specs.declared.lifelines.Stretch.{Stretch}
+use Rattle.chart_marks.specs.Marks.{row_mark, marks_from}
 use Rattle.chart_marks.specs.Lifelines.{life_turn, turns_from}
-use Rattle.chart_texts.specs.ChartTexts.{row_text, rows_text, stretch_text, is_among, life_strokes, path_text, life_path, name_box, name_boxes}
+use Rattle.chart_texts.specs.ChartTexts.{marked_row, rows_text, stretch_text, is_among, life_strokes, path_text, life_path, name_box, name_boxes}
 
 -- ---- lists, from an index on
 
@@ -17,13 +18,17 @@ use Rattle.chart_texts.specs.ChartTexts.{row_text, rows_text, stretch_text, is_a
 pub drop_first : {A : Type 0} (xs : List A) (i : ℕ) (x : A) → i < length xs → x ≡ get_or xs i x → drop i xs ≡ x ∷ drop (i + 1) xs
 drop_first xs i x within is = drop_more xs i x within ∙ ap (λ z. z ∷ drop (i + 1) xs) (sym is)
 
+-- the rows of some events and their lines, which are numbered from `row` on
+abbrev pub rows_from : List Event → ℕ → List Event → List Line → List ℕ
+rows_from all row events lines = rows_text (marks_from all row events lines) events lines
+
 -- the rows that are left begin with the row at the index
 pub rows_first : (all events : List Event) (lines : List Line) (row i : ℕ) (e : Event) (l : Line) → i < length events → i < length lines
     → e ≡ get_or events i e → l ≡ get_or lines i l
-    → rows_text all row (drop i events) (drop i lines) ≡ row_text all row e l ++ rows_text all (row + 1) (drop (i + 1) events) (drop (i + 1) lines)
+    → rows_from all row (drop i events) (drop i lines) ≡ marked_row (row_mark all row e l) e l ++ rows_from all (row + 1) (drop (i + 1) events) (drop (i + 1) lines)
 rows_first all events lines row i e l here there is also =
-    ap (λ (es : List Event). rows_text all row es (drop i lines)) (drop_first events i e here is)
-    ∙ ap (λ (ls : List Line). rows_text all row (e ∷ drop (i + 1) events) ls) (drop_first lines i l there also)
+    ap (λ (es : List Event). rows_from all row es (drop i lines)) (drop_first events i e here is)
+    ∙ ap (λ (ls : List Line). rows_from all row (e ∷ drop (i + 1) events) ls) (drop_first lines i l there also)
 
 -- and so do the turns of a life, where there is one in this row
 pub turns_first : (node : ℕ) (events : List Event) (lines : List Line) (row i : ℕ) (e : Event) (l : Line) → i < length events → i < length lines

@@ -21,7 +21,8 @@ use Rattle.chart_marks.specs.Marks.{row_mark}
 use Rattle.chart_marks.specs.Places.{row_top, row_axis, Placed, sign, edge, wait, arrow, places_of, label_x, label_y}
 use Rattle.chart_texts.specs.Grammar.{is_content_text, is_tag_name, IsContent, nothing, element, empty_element}
 use Rattle.chart_texts.specs.Labels.{label_text}
-use Rattle.chart_texts.specs.ChartTexts.{class_name, sign_strokes, head_strokes, place_text, label_of_row, marked_row, rows_text}
+use Rattle.chart_texts.specs.ChartTexts.{class_name, sign_strokes, head_strokes, place_text, label_of_row, marked_row}
+use Rattle.chart_texts.proofs.Pieces.{rows_from}
 use Rattle.chart_texts.proofs.Contents.{both_content, spaced_content, decimal_content}
 use Rattle.chart_texts.proofs.Joined.{one, both, same_text, row_of, valued, empty_pieces, element_pieces}
 use Rattle.chart_texts.proofs.Elements.{named_value, tag, IsContent-append, IsContent-text, IsContent-empty, IsContent-element, IsContent-each}
@@ -212,10 +213,10 @@ IsContent-row m e l has is =
     (IsContent-text (codes "\n") refl))
 
 pub IsContent-rows : (nodes : List NodeLine) (all : List Event) (row : ℕ) (events : List Event) (lines : List Line) → All (IsScriptEvent nodes) events → All IsLine lines
-    → IsContent (rows_text all row events lines)
+    → IsContent (rows_from all row events lines)
 IsContent-rows nodes all row [] lines are told = nothing
 IsContent-rows nodes all row (e ∷ events) [] are told = nothing
 IsContent-rows nodes all row (e ∷ events) (l ∷ lines) are told =
-    IsContent-append (rows_text all (row + 1) events lines)
+    IsContent-append (rows_from all (row + 1) events lines)
     (IsContent-row (row_mark all row e l) e l (All-head (IsScriptEvent nodes) e events are).fields (All-head IsLine l lines told))
     (IsContent-rows nodes all (row + 1) events lines (All-tail (IsScriptEvent nodes) e events are) (All-tail IsLine l lines told))

@@ -16,7 +16,7 @@ use Rattle.chart_marks.specs.declared.marks.RowMark.{RowMark}
 use Rattle.chart_marks.specs.declared.places.ArrowHead.{ArrowHead}
 use Rattle.chart_marks.specs.declared.places.ArrowHead.TheVariants.{ToRight, ToLeft, Cross}
 use Rattle.chart_marks.specs.declared.lifelines.Stretch.{Stretch}
-use Rattle.chart_marks.specs.Marks.{row_mark}
+use Rattle.chart_marks.specs.Marks.{row_marks}
 use Rattle.chart_marks.specs.Places.{lifeline_x, row_top, row_axis, head_count, head_top, chart_width, chart_height}
 use Rattle.chart_marks.specs.Places.{Placed, sign, edge, wait, arrow, places_of, label_x, label_y}
 use Rattle.chart_marks.specs.Lifelines.{lifeline_of}
@@ -74,7 +74,8 @@ text_at x y text =
 -- the title of a row, which is the line of a replay without the line feed; its band; and its number
 abbrev pub title_of_row : List ℕ → ℕ → Line → List ℕ
 title_of_row class row l =
-    codes "<g class=\"" ++ (class ++ (codes "\"><title>" ++ (decimal row ++ (spaced (told_words l) ++ codes "</title>"))))
+    codes "<g class=\"" ++ (class ++ (codes "\"><title>"
+    ++ (decimal row ++ (spaced (told_words l) ++ codes "</title>"))))
 
 abbrev pub band_text : ℕ → List ℕ
 band_text top = codes "<rect y=\"" ++ (decimal top ++ codes "\" width=\"100%\" height=\"28\"/>")
@@ -94,15 +95,12 @@ label_of_row m e l = text_at (label_x m) (label_y m) (label_text e l)
 abbrev pub marked_row : RowMark → Event → Line → List ℕ
 marked_row m e l = front_of_row m l ++ (flat_map place_text (places_of m) ++ (label_of_row m e l ++ codes "</g>\n"))
 
--- the row with this number, in a script of these events
-abbrev pub row_text : List Event → ℕ → Event → Line → List ℕ
-row_text all row e l = marked_row (row_mark all row e l) e l
-
--- the rows of some events and their lines, which are numbered from `row` on
-abbrev pub rows_text : List Event → ℕ → List Event → List Line → List ℕ
-rows_text all row [] lines = []
-rows_text all row (e ∷ events) [] = []
-rows_text all row (e ∷ events) (l ∷ lines) = row_text all row e l ++ rows_text all (row + 1) events lines
+-- the rows of some marks, of whose events and lines these are
+abbrev pub rows_text : List RowMark → List Event → List Line → List ℕ
+rows_text [] events lines = []
+rows_text (m ∷ marks) [] lines = []
+rows_text (m ∷ marks) (e ∷ events) [] = []
+rows_text (m ∷ marks) (e ∷ events) (l ∷ lines) = marked_row m e l ++ rows_text marks events lines
 
 -- ---- the lifelines
 
@@ -163,7 +161,8 @@ four_numbers events sent accepted failures =
 
 abbrev pub three_numbers : (keyed cuts refused : ℕ) → List ℕ
 three_numbers keyed cuts refused =
-    codes ", keyed " ++ (decimal keyed ++ (codes ", cuts " ++ (decimal cuts ++ (codes ", refused " ++ decimal refused))))
+    codes ", keyed " ++ (decimal keyed ++ (codes ", cuts " ++ (decimal cuts
+    ++ (codes ", refused " ++ decimal refused))))
 
 abbrev pub seven_numbers : (events sent accepted failures keyed cuts refused : ℕ) → List ℕ
 seven_numbers events sent accepted failures keyed cuts refused =
@@ -205,7 +204,7 @@ abbrev pub sized_chart : ℕ → ℕ → NamedBus → List Event → List Line �
 sized_chart width height bus events lines =
     opening_text width height ++ (page_text width height (chart_counts (length events) lines)
     ++ (flat_map (lifeline_text events lines) (range_with_len 0 (length bus.nodes))
-    ++ (rows_text events 1 events lines
+    ++ (rows_text (row_marks events lines) events lines
     ++ (flat_map (header_text bus.nodes) (range_with_len 0 (head_count (length events))) ++ codes "</svg>\n"))))
 
 -- the chart of a bus, of the events of a script over it, and of their lines

@@ -179,7 +179,7 @@ fn push_four(
     text.extend_from_slice(numbers.as_bytes())
 }
 
-// Adds the numbers of keys that were set or loaded, of cuts and of refusals.
+// Adds the numbers of keys that were set, of cuts and of refusals.
 fn push_three(
     alloc: Global,
     text: &mut Vec<u8>,

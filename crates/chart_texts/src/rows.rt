@@ -2,9 +2,10 @@
 ghost use Rattle.std.specs.Prelude.{◌≡◌, ◌+◌, ◌<◌, ◌^◌, ◌++◌, nat_lt, length, OnOk};
 ghost use Rattle.std.specs.List.{flat_map};
 ghost use Rattle.chart_marks.specs.Places.{sign, edge, wait, arrow, places_for, places_of as places_of_mark, lifeline_x as x_of_lifeline, row_axis as axis_of_row, gutter as gutter_of, arrow_end as end_of_arrow, arrow_head as head_of_arrow};
+ghost use Rattle.chart_marks.specs.Marks.{row_mark as mark_of_row, row_marks as marks_of_rows};
 ghost use Rattle.chart_marks.specs.declared.marks.Origin.TheVariants.{EventRow};
 ghost use Rattle.chart_marks.specs.declared.marks.MarkKind.TheVariants.{Arrow};
-ghost use Rattle.chart_texts.specs.ChartTexts.{class_name as name_of_class, sign_strokes as strokes_of_sign, head_strokes as strokes_of_head, place_text, title_of_row, band_text, number_text, front_of_row, label_of_row, marked_row, row_text, rows_text};
+ghost use Rattle.chart_texts.specs.ChartTexts.{class_name as name_of_class, sign_strokes as strokes_of_sign, head_strokes as strokes_of_head, place_text, title_of_row, band_text, number_text, front_of_row, label_of_row, marked_row, rows_text};
 
 use crate::labels::push_label;
 use bus_machine::{Event, Line};
@@ -24,7 +25,8 @@ pub(crate) fn push_rows(
 ) -> Result<(), AllocError>
     requires few { length events.now < 2 ^ 32 }
     requires as_many { length lines.now ≡ length events.now }
-    ensures { OnOk result (text.new.items ≡ text.old.items ++ rows_text events.now 1 events.now lines.now) }
+    ensures { OnOk result (text.new.items
+        ≡ text.old.items ++ rows_text (marks_of_rows events.now lines.now) events.now lines.now) }
 {
     for (place, line) in lines.iter().enumerate() {
         push_row(alloc, text, events, place as u32 + 1, &events[place], line)?;
@@ -41,7 +43,8 @@ fn push_row(
     event: &Event,
     line: &Line,
 ) -> Result<(), AllocError>
-    ensures { OnOk result (text.new.items ≡ text.old.items ++ row_text events.now row event.now line.now) }
+    ensures { OnOk result (text.new.items
+        ≡ text.old.items ++ marked_row (mark_of_row events.now row event.now line.now) event.now line.now) }
 {
     let mark = row_mark(events, row, event, line);
     push_marked_row(alloc, text, &mark, event, line)

@@ -1,6 +1,6 @@
 use Rattle.std.proofs.Common.{arith, rules}
 use Rattle.bus_world.specs.declared.start.Start.TheVariants.{Format}
-use Rattle.bus_world.specs.StartAnswerLaws.{Comes-not_started}
+use Rattle.bus_world.specs.StartAnswerLaws.{Comes-unstarted}
 use Rattle.world_runs.specs.TurnLaws.{as_many_nodes}
 use Rattle.chart_commands.specs.Steps.{refused_chart, kept_lines}
 use Rattle.chart_commands.proofs.Drawing.{of_events, Answers-charted}
@@ -23,13 +23,13 @@ pub returns-in-Err : goal.returns-in-Err
 returns-in-Err g c = record {
   row = c.start_refusal.result;
   comes = refused_chart c.start_refusal.result
-      (Comes-not_started Format c.args.bus.now _ c.in-Err.fault c.start_refusal.result c.in-Err.ensures.refused c.start_refusal.ensures);
+      (Comes-unstarted _ Format c.args.bus.now _ c.in-Err.fault c.start_refusal.result c.in-Err.ensures.refused c.in-Err.ensures.unread c.start_refusal.ensures);
   told = c.tell_refusal-in-Err.ensures;
 }
 
 pub returns : goal.returns
 returns g c =
-    Answers-charted c.starts_are_set_up.ensures c.turns_leave_disks.ensures c.charts_are_runs.ensures c.args.bus.now c.args.events.now _ _ (kept_lines c.lines_of_run-kept.result)
+    Answers-charted c.starts_are_set_up.ensures c.turns_leave_disks.ensures c.charts_are_runs.ensures _ c.args.bus.now c.args.events.now _ _ (kept_lines c.lines_of_run-kept.result)
     (record {
       is_bus = c.requires.is_bus;
       start = c.in-Ok.world;
