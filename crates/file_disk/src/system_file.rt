@@ -36,7 +36,7 @@ impl From<io::Error> for FileFailed {
 impl SystemFile {
     /// Opens the file at this path, or makes it with 65,536 zero bytes where none is there. A file that nobody may
     /// write, or this process may not, is opened for reading alone; a directory is no file, and neither is one that is
-    /// open elsewhere, or of which the system doesn't say that it stands on its device.
+    /// locked elsewhere, or of which the system doesn't say that it stands on its device.
     pub fn on(rt: &HostRuntime, path: &str) -> SystemFile
         ensures missing { is_there result ≡ false → length_of result ≡ FIRST_SIZE }
         ensures fresh { has_failed result ≡ false }
@@ -156,7 +156,7 @@ fn opened(rt: &HostRuntime, path: &str) -> io::Result<SystemFile>
     })
 }
 
-/// The file, which no other place has open.
+/// The file, which is locked nowhere else, and is here from now on.
 fn locked(file: File) -> io::Result<File> {
     file.try_lock()?;
     Ok(file)

@@ -7,14 +7,17 @@ use Rattle.cut_disk.specs.Images.{CutsTo}
 use Rattle.bus_machine.specs.Bus.{World, node_of, Instant, Moments, Step}
 use Rattle.bus_machine.specs.Freshness.{AcceptedRises, Rising, SentRises, Single}
 use Rattle.bus_laws.proofs.Lists.{AllPairs-Pairwise}
+use Rattle.bus_nodes.specs.declared.nodes.NodeLine.{NodeLine}
 use Rattle.bus_nodes.specs.Buses.{NamedBus}
 use Rattle.bus_world.specs.declared.start.Start.TheVariants.{Attach}
 use Rattle.world_runs.specs.Turns.{StartsSetUp, StartsGoOnFirst, TurnsAreWorldRuns, TellFirm}
-use Rattle.life_laws.specs.Lives.{Life, IsLifeOf, Follows, LivesBehind, LivesOf, moments_in, Stage, moment_passes, stages_in, world_behind, EachPowersUp, LivesGoOn, AttachedRunsFollow}
+use Rattle.life_laws.specs.Lives.{Life, IsLife, GoesOnAs, Follows, IsFirstLife, LivesBehind, LivesOf, moments_in, Stage}
+use Rattle.life_laws.specs.Lives.{moment_passes, stages_in, world_behind, EachPowersUp, LivesGoOn, EachLife, LeavesNodes}
+use Rattle.life_laws.specs.Lives.{OutlastsRefusals, AttachedRunsFollow}
 use Rattle.life_laws.proofs.Stages.{StagesFrom, stages_join, Restarts, Chained}
 use Rattle.life_laws.proofs.Rising.{moments_of, stages_rise, stages_are_single}
 use Rattle.life_laws.proofs.Keeping.{slots_outlast, updates_outlast}
-use Rattle.life_laws.proofs.Seams.{HasConfigs, over_configs, life_configs, restarts}
+use Rattle.life_laws.proofs.Seams.{HasConfigs, over_configs, life_configs, leaves_nodes, outlasts_refusals, as_many, restarts}
 
 -- ---- the stages of one life
 
@@ -27,27 +30,40 @@ life_ends start [] now run = run
 life_ends start (m ∷ ms) now run = life_ends m.after ms now run.1
 
 -- a life, and the stages behind it
-with_life : (bus : NamedBus) (life : Life) (more : List Stage) → IsLifeOf bus life → StagesFrom life.last more → StagesFrom life.first (map moment_passes life.moments ++ more)
-with_life bus life more run behind =
+with_life : (life : Life) (more : List Stage) → IsLife life → StagesFrom life.last more
+    → StagesFrom life.first (map moment_passes life.moments ++ more)
+with_life life more run behind =
     stages_join life.first (map moment_passes life.moments) more (life_stages life.first life.moments life.last run.is_a_run)
     (subst (λ (w : World). StagesFrom w more) (life_ends life.first life.moments life.last run.is_a_run) behind)
 
 -- ---- the stages of all
 
-behind_life : (bus : NamedBus) (life : Life) (lives : List Life) → HasConfigs bus life.first → IsLifeOf bus life → LivesBehind bus life lives → StagesFrom life.last (stages_in lives)
-behind_life bus life [] has run behind = tt
-behind_life bus life (next ∷ lives) has run behind = (
-  restarts bus life next has run behind.0,
-  with_life bus next (stages_in lives) behind.1 (behind_life bus next lives (over_configs bus next.before next.first behind.0.goes_on) behind.1 behind.2),
+behind_life : (life : Life) (lives : List Life) → HasConfigs life.bus life.first → IsLife life → LivesBehind life lives
+    → StagesFrom life.last (stages_in lives)
+behind_life life [] has run behind = tt
+behind_life life (next ∷ lives) has run behind = (
+  restarts life next has run behind.0,
+  with_life next (stages_in lives) behind.1
+      (behind_life next lives (over_configs next.bus next.before next.first behind.0.goes_on) behind.1 behind.2),
 )
 
 -- from the first world of the first life on
-all_stages : (bus : NamedBus) (life : Life) (lives : List Life) → LivesOf bus (life ∷ lives) → StagesFrom life.first (map moment_passes life.moments ++ stages_in lives)
-all_stages bus life lives are = with_life bus life (stages_in lives) are.1 (behind_life bus life lives (life_configs bus life are.0) are.1 are.2)
+all_stages : (life : Life) (lives : List Life) → IsFirstLife life → IsLife life → LivesBehind life lives
+    → StagesFrom life.first (map moment_passes life.moments ++ stages_in lives)
+all_stages life lives first run behind =
+    with_life life (stages_in lives) run (behind_life life lives (life_configs life first) run behind)
+
+-- as many nodes as the bus has
+same_count : (bus told : NamedBus) → told ≡ bus → length told.nodes ≡ length bus.nodes
+same_count bus told same = ap (λ (b : NamedBus). length b.nodes) same
 
 chained : (bus : NamedBus) (lives : List Life) → LivesOf bus lives → Chained (length bus.nodes) (stages_in lives)
 chained bus [] are = tt
-chained bus (life ∷ lives) are = record { count = are.1.begins.count; sound = are.1.begins.is_first.sound; stages = all_stages bus life lives are }
+chained bus (life ∷ lives) are = record {
+  count = are.2.begins.count ∙ same_count bus life.bus are.0;
+  sound = are.2.begins.is_first.sound;
+  stages = all_stages life lives are.1 are.2 are.3;
+}
 
 -- ---- their moments
 
@@ -66,29 +82,45 @@ freshness bus [] are = (
 )
 freshness bus (life ∷ lives) are =
     let stages : List Stage = map moment_passes life.moments ++ stages_in lives in
-    let run : StagesFrom life.first stages = all_stages bus life lives are in
-    let sound = are.1.begins.is_first.sound in (
+    let run : StagesFrom life.first stages = all_stages life lives are.1 are.2 are.3 in
+    let sound = are.2.begins.is_first.sound in (
       subst Rising (same_moments (life ∷ lives)) (stages_rise life.first stages sound run),
-      subst Single (same_moments (life ∷ lives)) (stages_are_single life.first stages sound are.1.begins.one_sender run),
+      subst Single (same_moments (life ∷ lives)) (stages_are_single life.first stages sound are.2.begins.one_sender run),
     )
 
 -- ---- from one life to the next
 
--- each node powers up, and there are as many as the bus has
-abbrev Seam : NamedBus → Life → Life → Type 0
-Seam bus life next = Restarts life.last next.first × (length next.first.nodes ≡ length bus.nodes)
+-- each node powers up, and there are so many
+abbrev Seam : ℕ → Life → Life → Type 0
+Seam nodes life next = Restarts life.last next.first × (length next.first.nodes ≡ nodes)
 
-seam : (bus : NamedBus) (life next : Life) → HasConfigs bus life.first → IsLifeOf bus life → Follows bus life next → Seam bus life next
-seam bus life next has run follows = (restarts bus life next has run follows, follows.goes_on.count)
+seam : (nodes : ℕ) (life next : Life) → length life.bus.nodes ≡ nodes → HasConfigs life.bus life.first → IsLife life
+    → Follows life next → Seam nodes life next
+seam nodes life next count has run follows = (
+  restarts life next has run follows,
+  follows.goes_on.count ∙ as_many life next has run follows ∙ count,
+)
 
-seam_behind : (bus : NamedBus) (before : Life) (done : List Life) (life next : Life) (later : List Life)
-    → LivesBehind bus before (done ++ life ∷ next ∷ later) → Seam bus life next
-seam_behind bus before [] life next later behind = seam bus life next (over_configs bus life.before life.first behind.0.goes_on) behind.1 behind.2.0
-seam_behind bus before (x ∷ done) life next later behind = seam_behind bus x done life next later behind.2
+-- as many nodes as the life before has
+goes_count : (nodes : ℕ) (life next : Life) → length life.bus.nodes ≡ nodes → Follows life next
+    → length next.bus.nodes ≡ nodes
+goes_count nodes life next count follows =
+    ap (λ (lines : List NodeLine). length lines) follows.as_bus.same_nodes ∙ count
 
-seam_in : (bus : NamedBus) (done : List Life) (life next : Life) (later : List Life) → LivesOf bus (done ++ life ∷ next ∷ later) → Seam bus life next
-seam_in bus [] life next later are = seam bus life next (life_configs bus life are.0) are.1 are.2.0
-seam_in bus (x ∷ done) life next later are = seam_behind bus x done life next later are.2
+seam_behind : (nodes : ℕ) (before : Life) (done : List Life) (life next : Life) (later : List Life)
+    → length before.bus.nodes ≡ nodes → LivesBehind before (done ++ life ∷ next ∷ later) → Seam nodes life next
+seam_behind nodes before [] life next later count behind =
+    seam nodes life next (goes_count nodes before life count behind.0)
+    (over_configs life.bus life.before life.first behind.0.goes_on) behind.1 behind.2.0
+seam_behind nodes before (x ∷ done) life next later count behind =
+    seam_behind nodes x done life next later (goes_count nodes before x count behind.0) behind.2
+
+seam_in : (bus : NamedBus) (done : List Life) (life next : Life) (later : List Life)
+    → LivesOf bus (done ++ life ∷ next ∷ later) → Seam (length bus.nodes) life next
+seam_in bus [] life next later are =
+    seam (length bus.nodes) life next (same_count bus life.bus are.0) (life_configs life are.1) are.2 are.3.0
+seam_in bus (x ∷ done) life next later are =
+    seam_behind (length bus.nodes) x done life next later (same_count bus x.bus are.0) are.3
 
 each_powers_up : (bus : NamedBus) (lives : List Life) → LivesOf bus lives → EachPowersUp (length bus.nodes) lives
 each_powers_up bus lives are = λ done life next later all i inside.
@@ -103,18 +135,59 @@ lives_go_on bus lives are = record {
   each_powers_up = each_powers_up bus lives are;
 }
 
+-- ---- what each life leaves
+
+-- of each life: it is one, and its nodes have the configurations of its bus
+record OneLife (life : Life) : Type 0 where
+  pub configs : HasConfigs life.bus life.first
+  pub run : IsLife life
+
+one_behind : (before : Life) (done : List Life) (life : Life) (later : List Life)
+    → LivesBehind before (done ++ life ∷ later) → OneLife life
+one_behind before [] life later behind = record {
+  configs = over_configs life.bus life.before life.first behind.0.goes_on;
+  run = behind.1;
+}
+one_behind before (x ∷ done) life later behind = one_behind x done life later behind.2
+
+one_in : (bus : NamedBus) (done : List Life) (life : Life) (later : List Life) → LivesOf bus (done ++ life ∷ later)
+    → OneLife life
+one_in bus [] life later are = record { configs = life_configs life are.1; run = are.2 }
+one_in bus (x ∷ done) life later are = one_behind x done life later are.3
+
+pub lives_can_go_on : EachLife LeavesNodes
+lives_can_go_on = λ bus done life later are.
+    let one = one_in bus done life later are in
+    leaves_nodes life one.configs one.run
+
+pub refused_starts_leave_lives : EachLife OutlastsRefusals
+refused_starts_leave_lives = λ bus done life later are.
+    let one = one_in bus done life later are in
+    outlasts_refusals life one.configs one.run
+
 -- ---- where lives come from
 
-cut_tells_firm : (bus : NamedBus) (life : Life) (before : List DiskState) → IsLifeOf bus life
-    → ((i : ℕ) (d : DiskState) → i < length bus.nodes → CutsTo (get_or life.after i d).told (get_or before i d).told) → TellFirm bus before
-cut_tells_firm bus life before run cuts = λ i d inside.
-    let fit = run.disks.fit i d inside in
-    let left = cuts i d inside fit.now fit.told in
+-- the same number of nodes
+many_as : (bus next : NamedBus) (found : List DiskState) → GoesOnAs bus next found → length next.nodes ≡ length bus.nodes
+many_as bus next found as_bus = ap (λ (lines : List NodeLine). length lines) as_bus.same_nodes
+
+-- what a power cut leaves tells its bytes, of which none is loose
+cut_tells_firm : (bus : NamedBus) (life : Life) (before : List DiskState) → IsLife life
+    → length bus.nodes ≡ length life.bus.nodes
+    → ((i : ℕ) (d : DiskState) → i < length life.bus.nodes → CutsTo (get_or life.after i d).told (get_or before i d).told)
+    → TellFirm bus before
+cut_tells_firm bus life before run many cuts = λ i d inside.
+    let within : i < length life.bus.nodes = omega (arith, inside, many) in
+    let fit = run.disks.fit i d within in
+    let left = cuts i d within fit.now fit.told in
     (left.left, left.now)
 
 pub attached_follow : StartsSetUp → StartsGoOnFirst → TurnsAreWorldRuns → AttachedRunsFollow
-attached_follow set_up go_on world_runs = λ bus life most before after events start moments now is run cuts started taken.
-    let first = go_on bus most before start is started (cut_tells_firm bus life before run cuts) in (
-      record { disks = λ i d inside. inr (cuts i d inside); goes_on = first.goes_on },
-      world_runs bus before after events start moments now (set_up Attach bus most before start started) first.fits first.is_first taken,
+attached_follow set_up go_on world_runs =
+    λ bus life most before after events start moments now is run as_bus cuts started taken.
+    let firm = cut_tells_firm bus life before run (many_as life.bus bus before as_bus) cuts in
+    let first = go_on bus most before start is started firm in (
+      record { as_bus = as_bus; disks = λ i d inside. inr (cuts i d inside); goes_on = first.goes_on },
+      world_runs bus before after events start moments now (set_up Attach bus most before start started) first.fits
+          first.is_first taken,
     )

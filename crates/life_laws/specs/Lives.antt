@@ -1,8 +1,12 @@
 -- The lives of a bus: its runs, one after another over the same disks
-use Rattle.std.specs.Prelude.{◌≡◌, ℕ, ◌<◌, ◌⊎◌, List, [], ◌∷◌, ◌++◌, length, map, get_or, AllPairs}
+use Rattle.std.specs.Prelude.{◌≡◌, ℕ, ◌<◌, ◌⊎◌, Some, List, [], ◌∷◌, ◌++◌, length, map, get_or, AllPairs}
 use Rattle.key_slots.specs.declared.memory.Slot.{Slot}
-use Rattle.cut_disk.specs.State.{DiskState}
-use Rattle.cut_disk.specs.Images.{CutsTo}
+use Rattle.cut_disk.specs.State.{DiskState, Told}
+use Rattle.cut_disk.specs.Images.{Image, CutsTo}
+use Rattle.cell_store.specs.declared.kinds.Kind.{Kind}
+use Rattle.cell_store.specs.declared.kinds.Version.{Version}
+use Rattle.cell_store.specs.declared.kinds.Version.TheVariants.{One, Two}
+use Rattle.cell_store.specs.Moving.{CountsAs}
 use Rattle.machine_runs.specs.Run.{Moment}
 use Rattle.bus_machine.specs.declared.events.Event.{Event}
 use Rattle.bus_machine.specs.declared.lines.Line.{Line}
@@ -10,18 +14,24 @@ use Rattle.bus_machine.specs.Steps.{PowersUp}
 use Rattle.bus_machine.specs.Bus.{World, First, Instant, Moments, node_at}
 use Rattle.bus_machine.specs.Freshness.{Rising, Single}
 use Rattle.bus_machine.specs.KeysKept.{slot_in, Acknowledges, FailsUpdate, GoesOn}
+use Rattle.bus_nodes.specs.declared.nodes.NodeLine.{NodeLine}
 use Rattle.bus_nodes.specs.Buses.{NamedBus, IsNamedBus, configs_of}
 use Rattle.bus_world.specs.declared.start.Start.TheVariants.{Attach}
+use Rattle.bus_world.specs.declared.start.StartFault.{StartFault}
 use Rattle.bus_world.specs.Worlds.{BusState, world_of}
-use Rattle.bus_world.specs.Starts.{Started, StartsOver}
+use Rattle.bus_world.specs.TakingUp.{cells_in}
+use Rattle.bus_world.specs.Starts.{Started, NotStarted, StartsOver}
+use Rattle.bus_world.specs.StartRows.{CanStart}
 use Rattle.world_runs.specs.WorldRuns.{WorldRun}
 use Rattle.world_runs.specs.Turns.{seen, TakesTurns}
 
--- One life of a bus: the disks that it found, its first world, what it was told to do, its moments, and the world and the
--- disks that they left. The program prints the lines of the moments, in order, for as long as it lives. One that is
--- killed between two calls of its disks has printed a front of the lines of a life; and one that is killed within an
--- event, a front of the lines of a life in which that event's next call was stopped, as by an event `stop` before it.
+-- One life of a bus: the bus as it was then told, the disks that it found, its first world, what it was told to do, its
+-- moments, and the world and the disks that they left. The program prints the lines of the moments, in order, for as
+-- long as it lives. One that is killed between two calls of its disks has printed a front of the lines of a life; and
+-- one that is killed within an event, a front of the lines of a life in which that event's next call was stopped, as by
+-- an event `stop` before it.
 pub record Life : Type 0 where
+  pub bus : NamedBus
   pub before : List DiskState
   pub first : World
   pub events : List Event
@@ -30,32 +40,57 @@ pub record Life : Type 0 where
   pub after : List DiskState
 
 -- it is a run of the bus over disks that tell their bytes
-abbrev pub IsLifeOf : NamedBus → Life → Type 0
-IsLifeOf bus life = WorldRun life.first bus life.before life.after life.events life.moments life.last
+abbrev pub IsLife : Life → Type 0
+IsLife life = WorldRun life.first life.bus life.before life.after life.events life.moments life.last
 
 -- a disk as the next life finds it: as it was left, or as a power cut may leave it
 abbrev pub LeftToNext : DiskState → DiskState → Type 0
 LeftToNext left found = (found.told ≡ left.told) ⊎ CutsTo left.told found.told
 
+-- the bytes x have no store of n cells that is newer than one of this version: beside a store of version 1 the header
+-- of version 2 might stand, at 32,768, and then that store counts
+abbrev pub NoNewer : Kind → Version → ℕ → List ℕ → Type 0
+NoNewer kind One n x = CountsAs kind n x One
+NoNewer kind Two n x = Unit {0}
+
+-- the disk of each node that tells its bytes has no newer store than the bus has
+abbrev pub NoneNewer : NamedBus → List DiskState → Type 0
+NoneNewer bus disks =
+    (i : ℕ) (l : NodeLine) (d : DiskState) (t : Told) → i < length bus.nodes → (get_or disks i d).told ≡ Some t
+    → NoNewer bus.kind bus.version (cells_in (get_or bus.nodes i l).config) t.bytes
+
+-- the stores of the bus are moved to version 2, where these disks have none of it yet
+abbrev pub MovesUp : NamedBus → NamedBus → List DiskState → Type 0
+MovesUp bus next found = (next.version ≡ Two) × NoneNewer bus found
+
+-- as which bus a bus goes on over these disks: with the same nodes over stores of the same kind, in the same version or
+-- moved to version 2
+pub record GoesOnAs (bus next : NamedBus) (found : List DiskState) : Type 0 where
+  pub same_nodes : next.nodes ≡ bus.nodes
+  pub same_kind : next.kind ≡ bus.kind
+  pub version : (next.version ≡ bus.version) ⊎ MovesUp bus next found
+
 -- a life goes on where the disks stand that the one before it left
-pub record Follows (bus : NamedBus) (life next : Life) : Type 0 where
-  pub disks : (i : ℕ) (d : DiskState) → i < length bus.nodes
+pub record Follows (life next : Life) : Type 0 where
+  pub as_bus : GoesOnAs life.bus next.bus next.before
+  pub disks : (i : ℕ) (d : DiskState) → i < length life.bus.nodes
       → LeftToNext (get_or life.after i d) (get_or next.before i d)
-  pub goes_on : StartsOver bus next.before next.first
+  pub goes_on : StartsOver next.bus next.before next.first
 
 -- the first of them begins at the first world of the bus, over formatted disks, or goes on where its disks stand
-abbrev pub IsFirstLife : NamedBus → Life → Type 0
-IsFirstLife bus life = (life.first ≡ First (configs_of bus)) ⊎ StartsOver bus life.before life.first
+abbrev pub IsFirstLife : Life → Type 0
+IsFirstLife life =
+    (life.first ≡ First (configs_of life.bus)) ⊎ StartsOver life.bus life.before life.first
 
 -- further lives, each of which follows the one before it
-abbrev pub LivesBehind : NamedBus → Life → List Life → Type 0
-LivesBehind bus life [] = Unit {0}
-LivesBehind bus life (next ∷ lives) = Follows bus life next × IsLifeOf bus next × LivesBehind bus next lives
+abbrev pub LivesBehind : Life → List Life → Type 0
+LivesBehind life [] = Unit {0}
+LivesBehind life (next ∷ lives) = Follows life next × IsLife next × LivesBehind next lives
 
--- the lives of a bus, in order
+-- the lives of a bus, in order, of which the first is of the bus as it is told here
 abbrev pub LivesOf : NamedBus → List Life → Type 0
 LivesOf bus [] = Unit {0}
-LivesOf bus (life ∷ lives) = IsFirstLife bus life × IsLifeOf bus life × LivesBehind bus life lives
+LivesOf bus (life ∷ lives) = (life.bus ≡ bus) × IsFirstLife life × IsLife life × LivesBehind life lives
 
 -- ---- what passes in them
 
@@ -101,8 +136,8 @@ SlotsOutlast nodes =
 abbrev pub RenewsSlot : ℕ → ℕ → Slot → World → Instant → Type 0
 RenewsSlot i t slot before m = Acknowledges i t slot before m ⊎ FailsUpdate i t slot before m
 
--- what slot t of node i holds behind stages that follow an acknowledged update to `slot`: that, or the whole update of a
--- later moment, which was acknowledged or failed
+-- what slot t of node i holds behind stages that follow an acknowledged update to `slot`: that, or the whole update of
+-- a later moment, which was acknowledged or failed
 abbrev pub HoldsLatest : ℕ → ℕ → Slot → World → List Stage → Type 0
 HoldsLatest i t slot world since =
     let now = slot_in (world_behind world since) i t in
@@ -116,15 +151,15 @@ UpdatesOutlast stages =
     → Acknowledges i t slot (world_at stage) m
     → HoldsLatest i t slot m.after since
 
--- each node of a life begins as it powers up from the last world of the life before: it keeps what it kept then, or that
--- with the change that was pending
+-- each node of a life begins as it powers up from the last world of the life before: it keeps what it kept then, or
+-- that with the change that was pending
 abbrev pub EachPowersUp : ℕ → List Life → Type 0
 EachPowersUp nodes lives =
     (done : List Life) (life next : Life) (later : List Life) → lives ≡ done ++ life ∷ next ∷ later
     → (i : ℕ) → i < nodes → PowersUp (node_at life.last i) (node_at next.first i)
 
--- Of two lines, from the first of the first life to the last of the last, the later has the greater freshness: where both
--- are accepted by one node under one Data ID, and where both are sent under one.
+-- Of two lines, from the first of the first life to the last of the last, the later has the greater freshness: where
+-- both are accepted by one node under one Data ID, and where both are sent under one.
 pub record LivesGoOn (bus : NamedBus) (lives : List Life) : Type 0 where
   pub freshness_rises : Rising (moments_in lives) × Single (moments_in lives)
   pub no_slot_goes_back : SlotsOutlast (length bus.nodes) (stages_in lives)
@@ -134,12 +169,40 @@ pub record LivesGoOn (bus : NamedBus) (lives : List Life) : Type 0 where
 abbrev pub AllLivesGoOn : Type 0
 AllLivesGoOn = (bus : NamedBus) (lives : List Life) → LivesOf bus lives → LivesGoOn bus lives
 
+-- ---- that the next one is started
+
+-- Whatever a power cut may leave of a disk of the life is such as its node is started over, in the same version or
+-- moved to version 2: so no next start is refused for these bytes.
+abbrev pub LeavesNodes : Life → Type 0
+LeavesNodes life =
+    (i : ℕ) (l : NodeLine) (d : DiskState) (t : Told) (x : List ℕ) (next : Version)
+    → i < length life.bus.nodes → (get_or life.after i d).told ≡ Some t → Image t x
+    → NoNewer life.bus.kind life.bus.version (cells_in (get_or life.bus.nodes i l).config) x
+    → (next ≡ life.bus.version) ⊎ (next ≡ Two)
+    → CanStart Attach life.bus.kind next (get_or life.bus.nodes i l).config x
+
+-- a start of its bus that is refused over the disks that it left, or over what a power cut left of them, leaves the
+-- bytes of each as they were: so the next life finds them as if that start hadn't been
+abbrev pub OutlastsRefusals : Life → Type 0
+OutlastsRefusals life =
+    (before after : List DiskState) (fault : StartFault)
+    → ((i : ℕ) (d : DiskState) → i < length life.bus.nodes → LeftToNext (get_or life.after i d) (get_or before i d))
+    → NoneNewer life.bus before → NotStarted Attach life.bus before after fault
+    → (i : ℕ) (d : DiskState) → i < length life.bus.nodes → (get_or after i d).told ≡ (get_or before i d).told
+
+-- each life of a bus does this
+abbrev pub EachLife : (Life → Type 0) → Type 0
+EachLife P =
+    (bus : NamedBus) (done : List Life) (life : Life) (later : List Life)
+    → LivesOf bus (done ++ life ∷ later) → P life
+
 -- ---- where they come from
 
 -- the life of turns of a bus
-abbrev pub life_of : List DiskState → List DiskState → List Event → BusState → List (Moment Event Line BusState)
-    → BusState → Life
-life_of before after events start moments now = record {
+abbrev pub life_of : NamedBus → List DiskState → List DiskState → List Event → BusState
+    → List (Moment Event Line BusState) → BusState → Life
+life_of bus before after events start moments now = record {
+  bus = bus;
   before = before;
   first = world_of start;
   events = events;
@@ -148,12 +211,14 @@ life_of before after events start moments now = record {
   after = after;
 }
 
--- turns of a bus that was started over attached disks, as a power cut may leave those of a life, are a life that follows
+-- turns of a bus that was started over attached disks, as a power cut may leave those of a life, are a life that
+-- follows
 abbrev pub AttachedRunsFollow : Type 0
 AttachedRunsFollow = (bus : NamedBus) (life : Life) (most : ℕ) (before after : List DiskState) (events : List Event)
     (start : BusState) (moments : List (Moment Event Line BusState)) (now : BusState)
-    → IsNamedBus bus → IsLifeOf bus life
-    → ((i : ℕ) (d : DiskState) → i < length bus.nodes → CutsTo (get_or life.after i d).told (get_or before i d).told)
+    → IsNamedBus bus → IsLife life → GoesOnAs life.bus bus before
+    → ((i : ℕ) (d : DiskState) → i < length life.bus.nodes
+    → CutsTo (get_or life.after i d).told (get_or before i d).told)
     → Started Attach bus most before start → TakesTurns bus before after events start moments now
-    → Follows bus life (life_of before after events start moments now)
-    × IsLifeOf bus (life_of before after events start moments now)
+    → Follows life (life_of bus before after events start moments now)
+    × IsLife (life_of bus before after events start moments now)

@@ -7,4 +7,6 @@
 
 mod laws;
 
-pub use laws::{attached_runs_are_next_lives, lives_go_on};
+pub use laws::{
+    attached_runs_are_next_lives, lives_can_go_on, lives_go_on, refused_starts_leave_lives,
+};
