@@ -1,6 +1,6 @@
 pub mod Turning
 mod Stepping
-pub mod FoundLaws
+mod FoundLaws
 mod AttachLaws
 mod OpenLaws
 mod MoveLaws

@@ -44,8 +44,10 @@ pub fn run_key<S: Source, K: Sink, D: Disk>(
         (record { before = K.state sink.old; after = K.state sink.new; status = result }) }
 {
     match prepare(alloc, behind_name(words)) {
-        Ok(Task::Words(task)) => do_job(alloc, &task, sink),
-        Ok(Task::Load { uid }) => load_over(alloc, uid, request, sink, disks),
+        Ok(asked) => match &asked {
+            Task::Words(task) => do_job(alloc, task, sink),
+            Task::Load { uid } => load_over(alloc, *uid, request, sink, disks),
+        },
         Err(refusal) => tell_refusal(sink, &refusal),
     }
 }
