@@ -29,13 +29,13 @@ use Rattle.secoc_node.proofs.FitsLaws.{told_before}
 use Rattle.bus_world.specs.declared.start.Start.TheVariants.{Format}
 use Rattle.bus_world.specs.Turns.{most_calls}
 use Rattle.bus_world.specs.Starts.{start_calls, Opened}
-use Rattle.bus_world.proofs.StepLaws.{certain_of}
 use Rattle.gateway_machine.specs.declared.lines.GatewayLine.{GatewayLine}
 use Rattle.gateway_machine.specs.Gateway.{departs_under, EventStep, GatewayStep, GatewayMoments, GatewayRun}
 use Rattle.gateway_machine.specs.Laws.{RunsForwardWhatArrived, ArrivalsRise, DeparturesRise}
 use Rattle.secoc_gateway.specs.State.{GatewayState, over}
 use Rattle.secoc_gateway.specs.Turns.{calls_under, most_gateway_calls, tells_gateway_failure, GatewayTurn}
 use Rattle.secoc_gateway.specs.Laws.{GatewayTurnsKeep}
+use Rattle.secoc_gateway.proofs.TurnLaws.{certain_by_mark}
 use Rattle.gateway_commands.specs.Texts.{gateway_text}
 use Rattle.gateway_commands.specs.Inputs.{gate_config, gate_node}
 use Rattle.gateway_commands.specs.Runs.{RanGateway}
@@ -88,7 +88,7 @@ module _ (keep : GatewayTurnsKeep) (l : Layout) (pairs : List (ℕ × ℕ)) wher
   turn_steps : (s : GatewayState) (e : Event) (line : GatewayLine) (t : GatewayState) → Holds l pairs s → GatewayTurn s e line t
       → GatewayStep EventStep pairs s.node e line t.node × Holds l pairs t
   turn_steps s e line t h turn = (
-    subst (λ (ps : List (ℕ × ℕ)). GatewayStep EventStep ps s.node e line t.node) h.pairs_are ((keep s e line t turn).step (certain_of e (over s) h.fitting)),
+    subst (λ (ps : List (ℕ × ℕ)). GatewayStep EventStep ps s.node e line t.node) h.pairs_are ((keep s e line t turn).step (certain_by_mark (mark_of e) (over s) h.fitting)),
     turn_holds s e line t h turn,
   )
 

@@ -12,7 +12,7 @@ use Rattle.bus_machine.specs.declared.lines.Line.TheVariants.{Sent, Accepted, Re
 use Rattle.bus_machine.specs.declared.lines.Refusal.{Refusal}
 use Rattle.bus_machine.specs.declared.lines.Refusal.TheVariants as refusal
 use Rattle.bus_machine.specs.Node.{Node, no_route, HasRoute, place_of, place_in, counter_at}
-use Rattle.bus_machine.specs.Steps.{Act, sends, receives, cuts, when, first_of, has_length, has_route, key_refusal, send_refusal, PowersUp, NodeStep}
+use Rattle.bus_machine.specs.Steps.{Act, sends, receives, when, first_of, has_length, has_route, key_refusal, send_refusal, PowersUp, NodeStep}
 use Rattle.bus_machine.specs.Bus.{SentLine}
 use Rattle.bus_machine.specs.Honest.{IsInTime, IsHeard}
 use Rattle.bus_laws.proofs.Effects.{Effect, effect_of, stays, sent, accepted, took, decided, faulted, powers, refused, routed}
@@ -217,9 +217,6 @@ heard_not id pdu payload v fault.Exhausted other heard = heard
 heard_not id pdu payload v fault.Faulted other heard = absurd (other refl)
 
 -- ---- the clauses of one arrival
-
-pub sends_no_cut : (id : ℕ) (payload : List ℕ) → sends id payload ≡ cuts → ⊥
-sends_no_cut id payload is = cc
 
 -- what was forwarded has the freshness that the arrival had, and the one above the outgoing counter
 pub forwards_right : (node between after : Node) (id out : ℕ) (pdu given payload : List ℕ) (w x v : ℕ) (frame : List ℕ) (source : Option ℕ) → HasRoute node out Sends

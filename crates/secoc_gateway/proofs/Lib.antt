@@ -2,4 +2,5 @@ pub mod Few
 pub mod Arriving
 pub mod Paired
 pub mod Turning
+pub mod NodeTurns
 pub mod TurnLaws

@@ -4,6 +4,7 @@ use Rattle.std.proofs.Common.{refl, sym, ◌∙◌, ap, subst, arith}
 use Rattle.machine_runs.specs.Run.{seen_as}
 use Rattle.machine_runs.specs.RunLaws.{Run-seen_as}
 use Rattle.cut_disk.specs.declared.Mark.{Mark}
+use Rattle.cut_disk.specs.declared.Mark.TheVariants as mark
 use Rattle.cut_disk.specs.Calls.{Runs}
 use Rattle.cut_disk.specs.CallLaws.{runs_join, runs_more}
 use Rattle.store_runs.specs.DiskTurns.{CountsFailure, DiskTurn}
@@ -16,8 +17,7 @@ use Rattle.bus_machine.specs.declared.lines.Refusal.TheVariants as refusal
 use Rattle.bus_machine.specs.Past.{mark_of, cell_count}
 use Rattle.bus_machine.specs.Sound.{Sound}
 use Rattle.bus_machine.specs.Bus.{node_of}
-use Rattle.bus_world.specs.Turns.{IsCertain, TellsFaults, LeavesAlone, LeavesCut, StaysBehind, silent, most_calls}
-use Rattle.bus_world.proofs.StepLaws.{turn_fits}
+use Rattle.bus_world.specs.Turns.{IsCertain, TellsFaults, LeavesAlone, LeavesCut, StaysBehind, most_calls}
 use Rattle.secoc_node.specs.State.{NodeState, FitsNow, TellsFitting}
 use Rattle.gateway_machine.specs.declared.lines.GatewayLine.{GatewayLine}
 use Rattle.gateway_machine.specs.declared.lines.GatewayLine.TheVariants.{Forwarded, Dropped, OfNode}
@@ -28,8 +28,14 @@ use Rattle.gateway_machine.proofs.Forwarding.{arriving}
 use Rattle.secoc_gateway.specs.State.{GatewayState, over}
 use Rattle.secoc_gateway.specs.Turns.{EventTurn, GatewayTurn, tells_gateway_failure, calls_under}
 use Rattle.secoc_gateway.specs.Laws.{TurnKeeps, GatewayTurnsAreOfTheNode}
+use Rattle.secoc_gateway.proofs.NodeTurns.{turn_fitting}
 
 -- ---- a step of the machine
+
+-- over a disk that tells its bytes and fits, whatever its mark
+pub certain_by_mark : (m : Option Mark) (s : NodeState) → TellsFitting s → IsCertain m s
+certain_by_mark (Some (mark.Cut torn)) s fits = fits
+certain_by_mark _ s fits = tt
 
 certain_departs : (place out : ℕ) (first : Line) (between : NodeState) (told : GatewayLine) (after : NodeState)
     → Departs EventTurn place out first between told after → Departs EventStep place out first between.node told after.node
@@ -70,7 +76,7 @@ kept_on s t u one two = record {
 
 kept_by : (s : NodeState) (event : Event) (told : Line) (t : NodeState) → EventTurn s event told t → Kept s t
 kept_by s event told t turn =
-    record { config = turn.config; layout = turn.layout; fits = turn.fits; fitting = turn_fits s event silent told t turn; sound = turn.sound }
+    record { config = turn.config; layout = turn.layout; fits = turn.fits; fitting = turn_fitting s event told t turn; sound = turn.sound }
 
 -- ---- what a line tells
 
@@ -130,11 +136,11 @@ departure_told id v second told l is of = absurd is
 
 -- ---- the disk
 
-record OnDisk (mark : Option Mark) (most : ℕ) (before : NodeState) (told : GatewayLine) (after : NodeState) : Type 0 where
-  pub disk : DiskTurn mark most (tells_gateway_failure told) before.store.disk after.store.disk
-  pub untouched : (l : Line) → told ≡ OfNode l → LeavesAlone mark l before after
-  pub image : LeavesCut mark before.store.disk after.store.disk
-  pub stays : StaysBehind mark before.store.disk after.store.disk
+record OnDisk (m : Option Mark) (most : ℕ) (before : NodeState) (told : GatewayLine) (after : NodeState) : Type 0 where
+  pub disk : DiskTurn m most (tells_gateway_failure told) before.store.disk after.store.disk
+  pub untouched : (l : Line) → told ≡ OfNode l → LeavesAlone m l before after
+  pub image : LeavesCut m before.store.disk after.store.disk
+  pub stays : StaysBehind m before.store.disk after.store.disk
 
 departs_on_disk : (place out : ℕ) (first : Line) (before between : NodeState) (told : GatewayLine) (after : NodeState)
     → Runs [] 6 before.store.disk between.store.disk → TellsFaults first before.store.disk.faults between.store.disk.faults → LeavesAlone None first before between
