@@ -156,7 +156,7 @@ fn a_pdu_has_the_freshness_above_the_counter(rt: HostRuntime) -> Result<(), Fail
         let (answer, counter) = answer_to(rt.alloc(), &running(4, size, bound), &mut out)?;
         let sent = answer?;
         let len = usize::from(sent.len);
-        same(&rt, "len", &len, &(size + 4));
+        holds(&rt, "len", len == size + 4);
         same(&rt, "sent.freshness", &sent.freshness, &(bound + 1));
         same(&rt, "counter", &counter, &(bound + 1));
         same(&rt, "&out[..size]", &&out[..size], &&PAYLOAD[..size]);
