@@ -1,4 +1,5 @@
 // Cells that are no ledger's.
+use crate::comparing::same;
 use crate::played::store_of;
 use cell_store::Cells;
 use key_campaign::Ledger;
@@ -44,13 +45,13 @@ fn named(alloc: Global, byte: usize, value: u8) -> Result<Option<u16>, Fail> {
 fn each_byte_of_an_entry_counts(rt: HostRuntime) -> Result<(), Fail> {
     let alloc = rt.alloc();
     for (byte, value) in [(0, 2), (0, 0), (16, 0), (16, 14), (17, 0x10), (21, 2)] {
-        assert_eq!(rt; named(alloc, byte, value)?, Some(255));
+        same(&rt, "named", &named(alloc, byte, value)?, &Some(255));
     }
     for byte in 22..32 {
-        assert_eq!(rt; named(alloc, byte, 1)?, Some(255));
+        same(&rt, "named", &named(alloc, byte, 1)?, &Some(255));
     }
     for (byte, value) in [(1, 9), (15, 9), (16, 1), (17, 0), (20, 0), (21, 0)] {
-        assert_eq!(rt; named(alloc, byte, value)?, None);
+        same(&rt, "named", &named(alloc, byte, value)?, &None);
     }
     Ok(())
 }
@@ -62,8 +63,18 @@ fn a_uid_and_a_counter_of_zeros_are_none(rt: HostRuntime) -> Result<(), Fail> {
     no_unit[1..16].copy_from_slice(&[0; 15]);
     let mut no_counter = ENTRY;
     no_counter[17..21].copy_from_slice(&[0; 4]);
-    assert_eq!(rt; bad_entry(alloc, &[(7, no_unit)])?, Some(7));
-    assert_eq!(rt; bad_entry(alloc, &[(0, no_counter)])?, Some(0));
+    same(
+        &rt,
+        "bad_entry",
+        &bad_entry(alloc, &[(7, no_unit)])?,
+        &Some(7),
+    );
+    same(
+        &rt,
+        "bad_entry",
+        &bad_entry(alloc, &[(0, no_counter)])?,
+        &Some(0),
+    );
     Ok(())
 }
 
@@ -71,16 +82,20 @@ fn a_uid_and_a_counter_of_zeros_are_none(rt: HostRuntime) -> Result<(), Fail> {
 fn the_lowest_bad_entry_is_named(rt: HostRuntime) -> Result<(), Fail> {
     let alloc = rt.alloc();
     // the same unit and slot, with another counter
-    assert_eq!(rt;
-        bad_entry(alloc, &[(3, ENTRY), (200, changed(20, 0)), (201, [9; 32])])?,
-        Some(200)
+    same(
+        &rt,
+        "bad_entry",
+        &bad_entry(alloc, &[(3, ENTRY), (200, changed(20, 0)), (201, [9; 32])])?,
+        &Some(200),
     );
-    assert_eq!(rt;
-        bad_entry(
+    same(
+        &rt,
+        "bad_entry",
+        &bad_entry(
             alloc,
-            &[(3, ENTRY), (200, changed(16, 12)), (201, changed(15, 1))]
+            &[(3, ENTRY), (200, changed(16, 12)), (201, changed(15, 1))],
         )?,
-        None
+        &None,
     );
     Ok(())
 }

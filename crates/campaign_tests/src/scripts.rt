@@ -1,4 +1,5 @@
 // Whole campaigns over disks in memory: a script, the disk that it meets, the status and what is printed.
+use crate::comparing::{holds, same};
 use bus_port::{CleanSource, MemSink};
 use campaign_commands::{run_campaign, run_example};
 use cell_store::TwinCells;
@@ -106,8 +107,8 @@ fn a_cut_finds_an_issue_or_loses_it(rt: HostRuntime) -> Result<(), Fail> {
         )?;
         let mut disks = disks_of(alloc, Medium::Zeros(65536))?;
         let (status, text) = played(alloc, script.as_str(), &mut disks)?;
-        assert_eq!(rt; status, 0);
-        assert!(rt; text.as_slice().starts_with(front.as_bytes()), "{torn}");
+        same(&rt, "status", &status, &0);
+        holds(&rt, torn, text.as_slice().starts_with(front.as_bytes()));
     }
     Ok(())
 }
@@ -118,8 +119,8 @@ fn a_second_campaign_reads_what_the_first_wrote(rt: HostRuntime) -> Result<(), F
     let mut disks = disks_of(alloc, Medium::Zeros(17440))?;
     let (first, _) = played(alloc, ISSUE, &mut disks)?;
     let (second, text) = played(alloc, "show 000000000000000000000000000001 4\n", &mut disks)?;
-    assert_eq!(rt; (first, second), (0, 0));
-    assert_eq!(rt; text.as_slice(), b"1 issued 1\n".as_slice());
+    same(&rt, "(first, second)", &(first, second), &(0, 0));
+    same(&rt, "text", &text.as_slice(), &b"1 issued 1\n".as_slice());
     Ok(())
 }
 
@@ -138,8 +139,8 @@ fn a_disk_without_a_ledger_is_refused(rt: HostRuntime) -> Result<(), Fail> {
     for (medium, status, output) in &ROWS {
         let mut disks = disks_of(alloc, *medium)?;
         let (answer, text) = played(alloc, "", &mut disks)?;
-        assert_eq!(rt; answer, *status);
-        assert_eq!(rt; text.as_slice(), output.as_bytes());
+        same(&rt, "answer", &answer, status);
+        same(&rt, "text", &text.as_slice(), &output.as_bytes());
     }
     Ok(())
 }
@@ -149,7 +150,7 @@ fn the_example_is_confirmed_once(rt: HostRuntime) -> Result<(), Fail> {
     let alloc = rt.alloc();
     let mut sink = MemSink::new(alloc, 1024, Vec::new(alloc), 1024)?;
     let wanted = format!(in alloc; "1{ISSUED}2 confirmed 1\n3 refused AlreadyConfirmed\n4 none\n")?;
-    assert_eq!(rt; run_example(alloc, &mut sink), 0);
-    assert_eq!(rt; sink.bytes(), wanted.as_bytes());
+    same(&rt, "run_example", &run_example(alloc, &mut sink), &0);
+    same(&rt, "sink.bytes()", &sink.bytes(), &wanted.as_bytes());
     Ok(())
 }

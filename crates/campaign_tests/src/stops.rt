@@ -1,4 +1,5 @@
 // A stop at each call of an issue and of a confirmation, with each cut.
+use crate::comparing::holds;
 use crate::played::{Act, Answer, blank, done};
 use cut_disk::Torn;
 use key_campaign::LedgerFault;
@@ -63,15 +64,17 @@ fn is_whole_or_absent(
 #[test]
 fn an_issue_is_whole_or_absent(rt: HostRuntime) -> Result<(), Fail> {
     for torn in &CUTS {
-        assert!(rt;
+        holds(
+            &rt,
+            "is_whole_or_absent",
             is_whole_or_absent(
                 rt.alloc(),
                 None,
                 Act::Issue(4, 1),
                 *torn,
                 Answer::Nothing,
-                Answer::Shown(1, false)
-            )?
+                Answer::Shown(1, false),
+            )?,
         );
     }
     Ok(())
@@ -80,15 +83,17 @@ fn an_issue_is_whole_or_absent(rt: HostRuntime) -> Result<(), Fail> {
 #[test]
 fn a_confirmation_is_whole_or_absent(rt: HostRuntime) -> Result<(), Fail> {
     for torn in &CUTS {
-        assert!(rt;
+        holds(
+            &rt,
+            "is_whole_or_absent",
             is_whole_or_absent(
                 rt.alloc(),
                 Some(Act::Issue(4, 1)),
                 Act::Confirm(4),
                 *torn,
                 Answer::Shown(1, false),
-                Answer::Shown(1, true)
-            )?
+                Answer::Shown(1, true),
+            )?,
         );
     }
     Ok(())

@@ -1,4 +1,5 @@
 // The worked runs of a ledger.
+use crate::comparing::{holds, same};
 use crate::played::{Act, Answer, blank, done, first_wrong};
 use cell_store::Cells;
 use cut_disk::Torn;
@@ -17,7 +18,7 @@ fn the_example_is_issued_and_confirmed_once(rt: HostRuntime) -> Result<(), Fail>
         ),
         (Act::Show(5), Answer::Nothing),
     ];
-    assert_eq!(rt; first_wrong(rt.alloc(), &ROWS)?, None);
+    same(&rt, "first_wrong", &first_wrong(rt.alloc(), &ROWS)?, &None);
     Ok(())
 }
 
@@ -31,7 +32,7 @@ fn an_issue_is_found_after_a_cut(rt: HostRuntime) -> Result<(), Fail> {
         (Act::Show(4), Answer::Shown(1, false)),
         (Act::Issue(4, 1), Answer::Issued(2)),
     ];
-    assert_eq!(rt; first_wrong(rt.alloc(), &ROWS)?, None);
+    same(&rt, "first_wrong", &first_wrong(rt.alloc(), &ROWS)?, &None);
     Ok(())
 }
 
@@ -44,7 +45,7 @@ fn an_issue_is_lost_at_a_cut(rt: HostRuntime) -> Result<(), Fail> {
         (Act::Show(4), Answer::Nothing),
         (Act::Issue(4, 1), Answer::Example),
     ];
-    assert_eq!(rt; first_wrong(rt.alloc(), &ROWS)?, None);
+    same(&rt, "first_wrong", &first_wrong(rt.alloc(), &ROWS)?, &None);
     Ok(())
 }
 
@@ -60,7 +61,7 @@ fn refusals_come_in_their_order(rt: HostRuntime) -> Result<(), Fail> {
         (Act::Confirm(4), Answer::Refused(LedgerFault::Down)),
         (Act::Show(4), Answer::Shown(2, false)),
     ];
-    assert_eq!(rt; first_wrong(rt.alloc(), &ROWS)?, None);
+    same(&rt, "first_wrong", &first_wrong(rt.alloc(), &ROWS)?, &None);
     Ok(())
 }
 
@@ -76,8 +77,12 @@ fn a_ledger_is_down_from_a_fault_to_the_next_power_up(rt: HostRuntime) -> Result
     let mut ledger = blank(rt.alloc())?;
     for (act, down) in &ROWS {
         done(&mut ledger, *act);
-        assert_eq!(rt; ledger.is_down(), *down);
+        same(&rt, "ledger.is_down()", &ledger.is_down(), down);
     }
-    assert_eq!(rt; ledger.release().count(), 256);
+    holds(
+        &rt,
+        "ledger.release().count()",
+        ledger.release().count() == 256,
+    );
     Ok(())
 }

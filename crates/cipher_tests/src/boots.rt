@@ -1,4 +1,5 @@
 //! Boot MACs as OpenSSL's CMAC gives them, and the decision over filled and empty slots.
+use crate::comparing::{holds, same};
 use key_slots::{Counter28, Erc, Flags, Slot, SlotId, Slots};
 use secure_boot::{BootState, boot_mac, decide};
 use she_aes::{Block, expand};
@@ -27,17 +28,26 @@ fn filled(key: u128, flags: u8) -> Result<Slot, &'static str> {
 #[test]
 fn the_length_counts_bits(rt: HostRuntime) -> Result<(), Fail> {
     let schedule = expand(&block(KEY));
-    assert_eq!(rt; number(&boot_mac(&schedule, &[0])), MAC_OF_ONE_ZERO);
+    same(
+        &rt,
+        "number",
+        &number(&boot_mac(&schedule, &[0])),
+        &MAC_OF_ONE_ZERO,
+    );
     let two_blocks = [1, 2, 3, 4, 5, 6, 7, 8, 9, 10, 11, 12, 13, 14, 15, 16, 17];
-    assert_eq!(rt;
-        number(&boot_mac(&schedule, &two_blocks)),
-        0x4bf8b9397016e788f461ef487af0a5a4
+    same(
+        &rt,
+        "number",
+        &number(&boot_mac(&schedule, &two_blocks)),
+        &0x4bf8b9397016e788f461ef487af0a5a4,
     );
     let most = vec![in rt.alloc(); 0u8; 65_536]?;
-    assert_eq!(rt; most.len(), 65_536);
-    assert_eq!(rt;
-        number(&boot_mac(&schedule, &most)),
-        0x31ed7e5e6a493ae8dbd126253c12cdcc
+    holds(&rt, "most.len()", most.len() == 65_536);
+    same(
+        &rt,
+        "number",
+        &number(&boot_mac(&schedule, &most)),
+        &0x31ed7e5e6a493ae8dbd126253c12cdcc,
     );
     Ok(())
 }
@@ -49,17 +59,29 @@ fn a_boot_succeeds_by_the_image_alone(rt: HostRuntime) -> Result<(), Fail> {
         SlotId::new(3).ok_or("slot 3")?,
     );
     let mut slots = Slots::empty();
-    assert!(rt; decide(&slots, &[0]) == Err(Erc::NoSecureBoot));
+    holds(
+        &rt,
+        "decide",
+        decide(&slots, &[0]) == Err(Erc::NoSecureBoot),
+    );
     slots.set(key, filled(KEY, 0)?);
-    assert!(rt; decide(&slots, &[0]) == Err(Erc::NoSecureBoot));
+    holds(
+        &rt,
+        "decide",
+        decide(&slots, &[0]) == Err(Erc::NoSecureBoot),
+    );
     slots.set(stored, filled(MAC_OF_ONE_ZERO, 31)?);
-    assert!(rt; decide(&slots, &[0]) == Ok(true));
-    assert!(rt; decide(&slots, &[1]) == Ok(false));
-    assert!(rt; decide(&slots, &[0, 0]) == Ok(false));
+    holds(&rt, "decide", decide(&slots, &[0]) == Ok(true));
+    holds(&rt, "decide", decide(&slots, &[1]) == Ok(false));
+    holds(&rt, "decide", decide(&slots, &[0, 0]) == Ok(false));
     slots.set(stored, filled(MAC_OF_ONE_ZERO ^ 1, 31)?);
-    assert!(rt; decide(&slots, &[0]) == Ok(false));
+    holds(&rt, "decide", decide(&slots, &[0]) == Ok(false));
     slots.set(key, Slot::Empty);
-    assert!(rt; decide(&slots, &[0]) == Err(Erc::NoSecureBoot));
+    holds(
+        &rt,
+        "decide",
+        decide(&slots, &[0]) == Err(Erc::NoSecureBoot),
+    );
     Ok(())
 }
 
@@ -71,7 +93,7 @@ fn a_boot_state_is_good_or_decided(rt: HostRuntime) {
         (BootState::decided(true), true, true),
         (BootState::decided(false), false, true),
     ] {
-        assert_eq!(rt; state.is_good(), good, "{state:?}");
-        assert_eq!(rt; state.is_decided(), decided, "{state:?}");
+        same(&rt, "state.is_good()", &state.is_good(), &good);
+        same(&rt, "state.is_decided()", &state.is_decided(), &decided);
     }
 }

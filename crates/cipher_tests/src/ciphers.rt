@@ -1,3 +1,4 @@
+use crate::comparing::same;
 use she_aes::*;
 
 mod known_answers;
@@ -55,9 +56,14 @@ fn the_vectors_of_the_standards_are_encrypted_and_decrypted(rt: HostRuntime) {
         let schedule = expand(&Block::of(key));
         let text = Block::of(text);
         let ciphertext = Block::of(ciphertext);
-        assert_eq!(rt; encrypt(&schedule, &text), ciphertext);
-        assert_eq!(rt; encrypt_by_tables(&schedule, &text), ciphertext);
-        assert_eq!(rt; decrypt(&schedule, &ciphertext), text);
+        same(&rt, "encrypt", &encrypt(&schedule, &text), &ciphertext);
+        same(
+            &rt,
+            "encrypt_by_tables",
+            &encrypt_by_tables(&schedule, &text),
+            &ciphertext,
+        );
+        same(&rt, "decrypt", &decrypt(&schedule, &ciphertext), &text);
     }
 }
 
@@ -66,17 +72,39 @@ fn two_blocks_are_encrypted_and_decrypted_by_each_mode(rt: HostRuntime) {
     let schedule = expand(&Block::of(KEY));
     let text = blocks(TEXT);
     let iv = Block::of(IV);
-    assert_eq!(rt; ecb_encrypt(&schedule, &text), blocks(BY_ECB));
-    assert_eq!(rt; ecb_decrypt(&schedule, &blocks(BY_ECB)), text);
-    assert_eq!(rt; cbc_encrypt(&schedule, &iv, &text), blocks(BY_CBC));
-    assert_eq!(rt; cbc_decrypt(&schedule, &iv, &blocks(BY_CBC)), text);
+    same(
+        &rt,
+        "ecb_encrypt",
+        &ecb_encrypt(&schedule, &text),
+        &blocks(BY_ECB),
+    );
+    same(
+        &rt,
+        "ecb_decrypt",
+        &ecb_decrypt(&schedule, &blocks(BY_ECB)),
+        &text,
+    );
+    same(
+        &rt,
+        "cbc_encrypt",
+        &cbc_encrypt(&schedule, &iv, &text),
+        &blocks(BY_CBC),
+    );
+    same(
+        &rt,
+        "cbc_decrypt",
+        &cbc_decrypt(&schedule, &iv, &blocks(BY_CBC)),
+        &text,
+    );
 }
 
 #[test]
 fn the_exclusive_or_of_blocks_goes_byte_by_byte(rt: HostRuntime) {
     let sum = Block::of(KEY).xor(&Block::of(IV));
-    assert_eq!(rt;
-        sum.bytes().as_slice(),
-        b"\x2b\x7f\x17\x15\x2c\xab\xd4\xa1\xa3\xfe\x1f\x83\x05\xc2\x41\x33".as_slice()
+    same(
+        &rt,
+        "sum.bytes()",
+        &sum.bytes().as_slice(),
+        &b"\x2b\x7f\x17\x15\x2c\xab\xd4\xa1\xa3\xfe\x1f\x83\x05\xc2\x41\x33".as_slice(),
     );
 }

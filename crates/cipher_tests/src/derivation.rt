@@ -1,3 +1,4 @@
+use crate::comparing::same;
 use she_aes::{Block, cbc_decrypt, cbc_encrypt, ecb_decrypt, ecb_encrypt, expand};
 use she_kdf::{Constant, compress, derive};
 
@@ -16,9 +17,14 @@ fn keys_of_the_she_example(rt: HostRuntime) {
         (Constant::Enc, 0x118a46447a770d87828a69c222e2d17e_u128),
         (Constant::Mac, 0x2ebb2a3da62dbd64b18ba6493e9fbe22),
     ] {
-        assert_eq!(rt; derive(&key, constant), block(derived));
+        same(&rt, "derive", &derive(&key, constant), &block(derived));
         let compressed = compress(&[key, constant.block()]);
-        assert_eq!(rt; compressed.as_slice(), derived.to_be_bytes().as_slice());
+        same(
+            &rt,
+            "compressed",
+            &compressed.as_slice(),
+            &derived.to_be_bytes().as_slice(),
+        );
     }
 }
 
@@ -26,7 +32,12 @@ fn keys_of_the_she_example(rt: HostRuntime) {
 #[test]
 fn zero_block_by_itself(rt: HostRuntime) {
     let compressed = compress(&[block(0)]);
-    assert_eq!(rt; compressed, block(0x66e94bd4ef8a2c3b884cfa59ca342b2e));
+    same(
+        &rt,
+        "compressed",
+        &compressed,
+        &block(0x66e94bd4ef8a2c3b884cfa59ca342b2e),
+    );
 }
 
 #[test]
@@ -37,12 +48,22 @@ fn texts_of_the_she_example(rt: HostRuntime) {
         block(0x2b111e2d93f486566bcbba1d7f7a9797),
         block(0xc94643b050fc5d4d7de14cff682203c3),
     ];
-    assert_eq!(rt; cbc_encrypt(&k1, &block(0), &plain), m2);
-    assert_eq!(rt; cbc_decrypt(&k1, &block(0), &m2), plain);
+    same(
+        &rt,
+        "cbc_encrypt",
+        &cbc_encrypt(&k1, &block(0), &plain),
+        &m2,
+    );
+    same(
+        &rt,
+        "cbc_decrypt",
+        &cbc_decrypt(&k1, &block(0), &m2),
+        &plain,
+    );
 
     let k3 = expand(&derive(&block(NEW_KEY), Constant::Enc));
     let counter = [block(0x00000018000000000000000000000000)];
     let m4_end = [block(0xb472e8d8727d70d57295e74849a27917)];
-    assert_eq!(rt; ecb_encrypt(&k3, &counter), m4_end);
-    assert_eq!(rt; ecb_decrypt(&k3, &m4_end), counter);
+    same(&rt, "ecb_encrypt", &ecb_encrypt(&k3, &counter), &m4_end);
+    same(&rt, "ecb_decrypt", &ecb_decrypt(&k3, &m4_end), &counter);
 }

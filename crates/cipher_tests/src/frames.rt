@@ -1,5 +1,6 @@
 //! Frames and verdicts under the key of NIST's examples for the CMAC. The first three frames have the inputs of 16, 40 and 64
 //! bytes of these examples; the authenticators of the others were made by OpenSSL.
+use crate::comparing::{holds, same};
 use secured_pdu::{
     Judgement, Parts, assemble, build, candidate_of, input_bytes, input_mac, judge, split,
 };
@@ -34,52 +35,67 @@ const PDU: [u8; 10] = [0xbe, 0xe2, 0x2e, 0x40, 0x9f, 0x96, 0x2a, 0x07, 0x0a, 0x1
 fn a_frame_has_the_payload_the_low_byte_and_three_bytes_of_the_cmac(rt: HostRuntime) {
     let schedule = expand(&Block::of(KEY));
     for (id, size, freshness, trailer) in FRAMES {
-        assert!(rt; size <= 60);
+        holds(&rt, "size <= 60", size <= 60);
         let mut out = [0xaa; 64];
         let length = build(&schedule, id, &PAYLOAD[..size], freshness, &mut out);
-        assert_eq!(rt; length, Some(size + 4));
-        assert_eq!(rt; &out[..size], &PAYLOAD[..size], "{size} bytes");
-        assert_eq!(rt; &out[size..size + 4], trailer.as_slice(), "{size} bytes");
+        same(&rt, "length", &length, &Some(size + 4));
+        same(&rt, size, &&out[..size], &&PAYLOAD[..size]);
+        same(&rt, size, &(&out[size..size + 4]), &trailer.as_slice());
     }
 }
 
 #[test]
 fn the_parts_of_a_frame_are_made_one_by_one(rt: HostRuntime) {
     let mut input = [0; 70];
-    assert_eq!(rt;
-        input_bytes(ID, &PAYLOAD[..6], 0xe93d7e11_7393172a, &mut input),
-        16
+    same(
+        &rt,
+        "input_bytes",
+        &input_bytes(ID, &PAYLOAD[..6], 0xe93d7e11_7393172a, &mut input),
+        &16,
     );
-    assert_eq!(rt; &input[..2], [0x6b, 0xc1].as_slice());
-    assert_eq!(rt; &input[2..16], &PAYLOAD[..14]);
+    same(&rt, "&input[..2]", &&input[..2], &[0x6b, 0xc1].as_slice());
+    same(&rt, "&input[2..16]", &&input[2..16], &&PAYLOAD[..14]);
     let mac = input_mac(
         &expand(&Block::of(KEY)),
         ID,
         &PAYLOAD[..6],
         0xe93d7e11_7393172a,
     );
-    assert_eq!(rt;
-        u128::from_be_bytes(*mac.bytes()),
-        0x070a16b4_6b4d4144_f79bdd9d_d04a287c
+    same(
+        &rt,
+        "u128::from_be_bytes",
+        &u128::from_be_bytes(*mac.bytes()),
+        &0x070a16b4_6b4d4144_f79bdd9d_d04a287c,
     );
     let mut out = [0; 64];
-    assert_eq!(rt;
-        assemble(&PAYLOAD[..6], 0xe93d7e11_7393172a, &mac, &mut out),
-        10
+    same(
+        &rt,
+        "assemble",
+        &assemble(&PAYLOAD[..6], 0xe93d7e11_7393172a, &mac, &mut out),
+        &10,
     );
-    assert_eq!(rt; &out[..10], PDU.as_slice());
+    same(&rt, "&out[..10]", &&out[..10], &PDU.as_slice());
 }
 
 #[test]
 fn other_lengths_are_refused(rt: HostRuntime) {
     let schedule = expand(&Block::of(KEY));
     let mut out = [0xaa; 64];
-    assert_eq!(rt; build(&schedule, ID, &[], 1, &mut out), None);
-    assert_eq!(rt; build(&schedule, ID, &[0; 61], 1, &mut out), None);
-    assert_eq!(rt; out, [0xaa; 64]);
-    assert!(rt; split(&[]).is_none());
-    assert!(rt; split(&PDU[6..]).is_none());
-    assert!(rt; split(&[0; 65]).is_none());
+    same(&rt, "build", &build(&schedule, ID, &[], 1, &mut out), &None);
+    same(
+        &rt,
+        "build",
+        &build(&schedule, ID, &[0; 61], 1, &mut out),
+        &None,
+    );
+    same(&rt, "out", &out, &[0xaa; 64]);
+    holds(&rt, "split(&[]).is_none()", split(&[]).is_none());
+    holds(
+        &rt,
+        "split(&PDU[6..]).is_none()",
+        split(&PDU[6..]).is_none(),
+    );
+    holds(&rt, "split(&[0; 65]).is_none()", split(&[0; 65]).is_none());
 }
 
 // the receiver's counter and window, what is changed in the last byte of the frame, and the verdict
@@ -100,7 +116,7 @@ const ACCEPTED: Judgement = Judgement::Accepted(0xe93d7e11_7393172a);
 fn a_frame_is_judged_by_its_freshness_and_its_tag(rt: HostRuntime) {
     let schedule = expand(&Block::of(KEY));
     let parts = split(&PDU).expect(&rt, "ten bytes");
-    assert_eq!(rt; parts.payload, &PAYLOAD[..6]);
+    same(&rt, "parts.payload", &parts.payload, &&PAYLOAD[..6]);
     for (counter, window, change, verdict) in VERDICTS {
         let [first, second, third] = parts.tag;
         let tag = [first, second, third ^ change];
@@ -109,11 +125,16 @@ fn a_frame_is_judged_by_its_freshness_and_its_tag(rt: HostRuntime) {
             low: parts.low,
             tag,
         };
-        assert!(rt; window >= 1 && window <= 256);
-        assert_eq!(rt;
-            judge(&schedule, ID, counter, window, &received),
-            verdict,
-            "{counter:x} {window}"
+        holds(
+            &rt,
+            "window >= 1 && window <= 256",
+            window >= 1 && window <= 256,
+        );
+        same(
+            &rt,
+            window,
+            &judge(&schedule, ID, counter, window, &received),
+            &verdict,
         );
     }
 }
@@ -135,11 +156,11 @@ const CANDIDATES: [(u64, u16, u8, Option<u64>); 10] = [
 #[test]
 fn the_candidate_is_one_to_the_window_ahead(rt: HostRuntime) {
     for (counter, window, low, candidate) in CANDIDATES {
-        assert!(rt; window >= 1 && window <= 256);
-        assert_eq!(rt;
-            candidate_of(counter, window, low),
-            candidate,
-            "{counter:x} {window} {low}"
+        holds(
+            &rt,
+            "window >= 1 && window <= 256",
+            window >= 1 && window <= 256,
         );
+        same(&rt, low, &candidate_of(counter, window, low), &candidate);
     }
 }

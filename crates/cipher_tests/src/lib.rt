@@ -7,6 +7,8 @@ mod boots;
 #[cfg(test)]
 mod ciphers;
 #[cfg(test)]
+mod comparing;
+#[cfg(test)]
 mod derivation;
 #[cfg(test)]
 mod frames;

@@ -1,4 +1,5 @@
 //! The examples of NIST for the CMAC over AES-128 (SP 800-38B, appendix D.1, and its example of 20 bytes), whole and in pieces.
+use crate::comparing::{holds, same};
 use she_aes::{Block, Schedule, expand};
 use she_cmac::{Mac, cmac, cmac_of_parts};
 
@@ -29,11 +30,12 @@ fn number(block: &Block) -> u128 {
 fn gives_the_values_of_the_standard(rt: HostRuntime) {
     let schedule = expand(&Block::of(KEY));
     for (length, mac) in MACS {
-        assert!(rt; length <= 64);
-        assert_eq!(rt;
-            number(&cmac(&schedule, &MESSAGE[..length])),
-            mac,
-            "{length} bytes"
+        holds(&rt, "length <= 64", length <= 64);
+        same(
+            &rt,
+            length,
+            &number(&cmac(&schedule, &MESSAGE[..length])),
+            &mac,
         );
     }
 }
@@ -45,9 +47,11 @@ fn gives_the_same_in_any_pieces(rt: HostRuntime) {
     mac.update(&MESSAGE[..1]);
     mac.update(&MESSAGE[1..16]);
     mac.update(&MESSAGE[16..]);
-    assert_eq!(rt;
-        number(&mac.finish()),
-        0x51f0bebf_7e3b9d92_fc497417_79363cfe
+    same(
+        &rt,
+        "number(&mac.finish())",
+        &number(&mac.finish()),
+        &0x51f0bebf_7e3b9d92_fc497417_79363cfe,
     );
 }
 
@@ -55,13 +59,19 @@ fn gives_the_same_in_any_pieces(rt: HostRuntime) {
 fn gives_the_same_of_parts(rt: HostRuntime) {
     let schedule = expand(&Block::of(KEY));
     let message: &[u8] = &MESSAGE;
-    assert_eq!(rt; number(&cmac_of_parts(&schedule, &[])), MACS[0].1);
+    same(
+        &rt,
+        "number",
+        &number(&cmac_of_parts(&schedule, &[])),
+        &MACS[0].1,
+    );
     for at in 0..65 {
         let parts = [&message[..at], &message[at..]];
-        assert_eq!(rt;
-            number(&cmac_of_parts(&schedule, &parts)),
-            MACS[4].1,
-            "parted at {at}"
+        same(
+            &rt,
+            at,
+            &number(&cmac_of_parts(&schedule, &parts)),
+            &MACS[4].1,
         );
     }
 }

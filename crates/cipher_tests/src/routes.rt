@@ -1,4 +1,5 @@
 //! A configuration one step within and one step past each of its bounds, and each call once.
+use crate::comparing::{holds, same};
 use freshness_routes::{Direction, NodeConfig, Route, Routes, receiver_change, sender_change};
 use key_slots::SlotId;
 use memory_update::Uid;
@@ -57,11 +58,7 @@ fn a_route_has_its_bounds(rt: HostRuntime) -> Result<(), Fail> {
             start: u64::MAX,
         };
         let made = NodeConfig::new(Uid::of(UID), vec![in rt.alloc(); route]?);
-        assert_eq!(rt;
-            made.is_some(),
-            is_one,
-            "{direction:?} {slot} {reserve} {window}"
-        );
+        same(&rt, window, &made.is_some(), &is_one);
     }
     Ok(())
 }
@@ -70,7 +67,7 @@ fn a_route_has_its_bounds(rt: HostRuntime) -> Result<(), Fail> {
 fn a_node_has_at_most_256_routes(rt: HostRuntime) -> Result<(), Fail> {
     for (count, is_one) in [(0, true), (1, true), (2, true), (256, true), (257, false)] {
         let made = NodeConfig::new(Uid::of(UID), numbered(rt.alloc(), count)?);
-        assert_eq!(rt; made.is_some(), is_one, "{count} routes");
+        same(&rt, count, &made.is_some(), &is_one);
     }
     Ok(())
 }
@@ -79,9 +76,17 @@ fn a_node_has_at_most_256_routes(rt: HostRuntime) -> Result<(), Fail> {
 fn data_ids_and_the_identifier_are_asked(rt: HostRuntime) -> Result<(), Fail> {
     let mut twice = numbered(rt.alloc(), 3)?;
     twice.push(receiving(0)?)?;
-    assert!(rt; NodeConfig::new(Uid::of(UID), twice).is_none());
+    holds(
+        &rt,
+        "NodeConfig::new",
+        NodeConfig::new(Uid::of(UID), twice).is_none(),
+    );
     let zero = Uid::of([0; 15]);
-    assert!(rt; NodeConfig::new(zero, numbered(rt.alloc(), 1)?).is_none());
+    holds(
+        &rt,
+        "NodeConfig::new",
+        NodeConfig::new(zero, numbered(rt.alloc(), 1)?).is_none(),
+    );
     Ok(())
 }
 
@@ -89,24 +94,53 @@ fn data_ids_and_the_identifier_are_asked(rt: HostRuntime) -> Result<(), Fail> {
 fn a_copy_is_equal(rt: HostRuntime) -> Result<(), Fail> {
     let config = NodeConfig::new(Uid::of(UID), numbered(rt.alloc(), 256)?).ok_or("a node")?;
     let copy = config.copy(rt.alloc())?;
-    assert!(rt; copy.uid == config.uid);
-    assert!(rt; copy.routes.as_slice() == config.routes.as_slice());
-    assert_eq!(rt; copy.routes.into_vec().len(), 256);
+    holds(&rt, "copy.uid == config.uid", copy.uid == config.uid);
+    holds(
+        &rt,
+        "copy.routes.as_slice",
+        copy.routes.as_slice() == config.routes.as_slice(),
+    );
+    holds(
+        &rt,
+        "copy.routes.into_vec().len()",
+        copy.routes.into_vec().len() == 256,
+    );
     let one = Routes::of(numbered(rt.alloc(), 1)?);
-    assert!(rt; one.as_slice() == [receiving(0)?].as_slice());
+    holds(
+        &rt,
+        "one.as_slice",
+        one.as_slice() == [receiving(0)?].as_slice(),
+    );
     Ok(())
 }
 
 #[test]
 fn bounds_move(rt: HostRuntime) {
-    assert_eq!(rt; sender_change(99, 99, 4), Some(103));
-    assert_eq!(rt; sender_change(99, 100, 4), None);
-    assert_eq!(rt;
-        sender_change(u64::MAX - 1, u64::MAX - 1, 128),
-        Some(u64::MAX)
+    same(&rt, "sender_change", &sender_change(99, 99, 4), &Some(103));
+    same(&rt, "sender_change", &sender_change(99, 100, 4), &None);
+    same(
+        &rt,
+        "sender_change",
+        &sender_change(u64::MAX - 1, u64::MAX - 1, 128),
+        &Some(u64::MAX),
     );
-    assert_eq!(rt; receiver_change(100, 8, 105), Some(112));
-    assert_eq!(rt; receiver_change(112, 8, 112), None);
-    assert_eq!(rt; receiver_change(112, 8, 113), Some(120));
-    assert_eq!(rt; receiver_change(100, 128, u64::MAX), Some(u64::MAX));
+    same(
+        &rt,
+        "receiver_change",
+        &receiver_change(100, 8, 105),
+        &Some(112),
+    );
+    same(&rt, "receiver_change", &receiver_change(112, 8, 112), &None);
+    same(
+        &rt,
+        "receiver_change",
+        &receiver_change(112, 8, 113),
+        &Some(120),
+    );
+    same(
+        &rt,
+        "receiver_change",
+        &receiver_change(100, 128, u64::MAX),
+        &Some(u64::MAX),
+    );
 }

@@ -1,4 +1,5 @@
 //! Vectors from the SHE specification, the printed names, and each call once.
+use crate::comparing::{holds, same};
 use key_slots::{Counter28, Erc, Flags, Purpose, Slot, SlotId, Slots, may_authorise, usable};
 use she_aes::Block;
 use std::test::Fail;
@@ -31,19 +32,30 @@ fn of_the_196_pairs_25_are_allowed(rt: HostRuntime) {
             }
         }
     }
-    assert_eq!(rt; allowed, 25);
+    same(&rt, "allowed", &allowed, &25);
 }
 
 #[test]
 fn slots_and_counters_have_their_bounds(rt: HostRuntime) -> Result<(), Fail> {
-    assert_eq!(rt; SlotId::new(13).ok_or("slot 13")?.number(), 13);
-    assert!(rt; SlotId::new(14).is_none());
-    assert!(rt; SlotId::new(255).is_none());
-    assert_eq!(rt;
-        Counter28::new(268435455).ok_or("the last")?.number(),
-        268435455
+    same(
+        &rt,
+        "SlotId::new",
+        &SlotId::new(13).ok_or("slot 13")?.number(),
+        &13,
     );
-    assert!(rt; Counter28::new(268435456).is_none());
+    holds(&rt, "SlotId::new(14).is_none()", SlotId::new(14).is_none());
+    holds(
+        &rt,
+        "SlotId::new(255).is_none()",
+        SlotId::new(255).is_none(),
+    );
+    same(
+        &rt,
+        "Counter28::new",
+        &Counter28::new(268435455).ok_or("the last")?.number(),
+        &268435455,
+    );
+    holds(&rt, "Counter28::new", Counter28::new(268435456).is_none());
     Ok(())
 }
 
@@ -86,8 +98,8 @@ fn flags_are_five_bits(rt: HostRuntime) {
             },
         ),
     ] {
-        assert_eq!(rt; flags.number(), number);
-        assert!(rt; Flags::of(flags.number()) == flags);
+        same(&rt, "flags.number()", &flags.number(), &number);
+        holds(&rt, "Flags::of", Flags::of(flags.number()) == flags);
     }
 }
 
@@ -96,8 +108,16 @@ fn a_slot_that_was_set_is_there(rt: HostRuntime) -> Result<(), Fail> {
     let mut slots = Slots::empty();
     let slot = filled(NO_FLAGS)?;
     slots.set(SlotId::new(13).ok_or("slot 13")?, slot);
-    assert!(rt; *slots.get(SlotId::new(13).ok_or("slot 13")?) == slot);
-    assert!(rt; *slots.get(SlotId::new(12).ok_or("slot 12")?) == Slot::Empty);
+    holds(
+        &rt,
+        "slots.get",
+        *slots.get(SlotId::new(13).ok_or("slot 13")?) == slot,
+    );
+    holds(
+        &rt,
+        "slots.get",
+        *slots.get(SlotId::new(12).ok_or("slot 12")?) == Slot::Empty,
+    );
     Ok(())
 }
 
@@ -121,7 +141,7 @@ fn the_first_refusal_is_answered(rt: HostRuntime) -> Result<(), Fail> {
         ),
         (protected()?, true, Purpose::Cipher, Ok(())),
     ] {
-        assert!(rt; usable(&slot, booted, purpose) == answer);
+        holds(&rt, "usable", usable(&slot, booted, purpose) == answer);
     }
     Ok(())
 }
@@ -137,8 +157,13 @@ fn refusals_have_their_printed_names(rt: HostRuntime) -> Result<(), Fail> {
         (Erc::KeyUpdateError, "KEY_UPDATE_ERROR"),
         (Erc::SequenceError, "SEQUENCE_ERROR"),
     ] {
-        assert_eq!(rt; refusal.name(), name);
-        assert_eq!(rt; format!(in rt.alloc(); "{refusal}")?.as_str(), name);
+        same(&rt, "refusal.name()", &refusal.name(), &name);
+        same(
+            &rt,
+            "format",
+            &format!(in rt.alloc(); "{refusal}")?.as_str(),
+            &name,
+        );
     }
     Ok(())
 }
@@ -147,11 +172,16 @@ fn refusals_have_their_printed_names(rt: HostRuntime) -> Result<(), Fail> {
 fn a_slot_is_shown_without_its_key(rt: HostRuntime) -> Result<(), Fail> {
     let slot = protected()?;
     let shown = "Filled { counter: 1, flags: 8, .. }";
-    assert_eq!(rt; format!(in rt.alloc(); "{slot:?}")?.as_str(), shown);
+    same(
+        &rt,
+        "format",
+        &format!(in rt.alloc(); "{slot:?}")?.as_str(),
+        &shown,
+    );
     let mut slots = Slots::empty();
     slots.set(SlotId::new(0).ok_or("slot 0")?, slot);
     let all = format!(in rt.alloc(); "{slots:?}")?;
     let front = "Slots { slots: [Filled { counter: 1, flags: 8, .. }, Empty, ";
-    assert!(rt; all.as_str().starts_with(front));
+    holds(&rt, "all.as_str", all.as_str().starts_with(front));
     Ok(())
 }

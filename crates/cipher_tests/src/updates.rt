@@ -1,4 +1,5 @@
 //! The example of a memory update in the SHE specification, and each call once.
+use crate::comparing::{holds, same};
 use key_slots::{Counter28, Flags, SlotId};
 use memory_update::{
     Reply, Request, Uid, Unseal, Update, build, confirm_for, head, is_confirmed, place, take,
@@ -80,17 +81,22 @@ fn request(m1: u128, m3: u128) -> Request {
 #[test]
 fn fields_are_counted_from_the_top(rt: HostRuntime) {
     let word = 0x0000001f800000000000000000000000;
-    assert_eq!(rt; take::<28>(word, 0), 1);
-    assert_eq!(rt; take::<5>(word, 28), 31);
+    same(&rt, "take", &take::<28>(word, 0), &1);
+    same(&rt, "take", &take::<5>(word, 28), &31);
     let counter = place::<28>(0, 0, 1);
-    assert_eq!(rt; counter, 0x00000010000000000000000000000000);
-    assert_eq!(rt; place::<1>(0, 127, 1), 1);
+    same(
+        &rt,
+        "counter",
+        &counter,
+        &0x00000010000000000000000000000000,
+    );
+    same(&rt, "place", &place::<1>(0, 127, 1), &1);
 }
 
 #[test]
 fn the_example_is_built(rt: HostRuntime) -> Result<(), Fail> {
     let made = build(&example()?, &block(AUTHORISING_KEY));
-    assert!(rt; made == request(M1, M3));
+    holds(&rt, "made", made == request(M1, M3));
     Ok(())
 }
 
@@ -102,15 +108,31 @@ fn a_slot_that_authorises_itself_is_updated(rt: HostRuntime) -> Result<(), Fail>
         m2: [block(first), block(second)],
         m3: block(m3),
     };
-    assert!(rt; build(&own_update()?, &block(NEW_KEY)) == request);
-    assert!(rt; unseal(&request, &block(NEW_KEY)) == Ok(own_update()?));
+    holds(
+        &rt,
+        "build",
+        build(&own_update()?, &block(NEW_KEY)) == request,
+    );
+    holds(
+        &rt,
+        "unseal",
+        unseal(&request, &block(NEW_KEY)) == Ok(own_update()?),
+    );
     let [front, back, m5] = OWN_REPLY;
     let reply = Reply {
         m4: [block(front), block(back)],
         m5: block(m5),
     };
-    assert!(rt; confirm_for(&own_update()?, own_update()?.uid) == reply);
-    assert!(rt; is_confirmed(&reply, &own_update()?, own_update()?.uid));
+    holds(
+        &rt,
+        "confirm_for",
+        confirm_for(&own_update()?, own_update()?.uid) == reply,
+    );
+    holds(
+        &rt,
+        "is_confirmed",
+        is_confirmed(&reply, &own_update()?, own_update()?.uid),
+    );
     Ok(())
 }
 
@@ -118,32 +140,41 @@ fn a_slot_that_authorises_itself_is_updated(rt: HostRuntime) -> Result<(), Fail>
 fn an_update_is_shown_without_its_key(rt: HostRuntime) -> Result<(), Fail> {
     let shown = "Update { id: 13, auth: 13, counter: 180150001, flags: 22, .. }";
     let update = own_update()?;
-    assert_eq!(rt; format!(in rt.alloc(); "{update:?}")?.as_str(), shown);
+    same(
+        &rt,
+        "format",
+        &format!(in rt.alloc(); "{update:?}")?.as_str(),
+        &shown,
+    );
     Ok(())
 }
 
 #[test]
 fn the_example_is_read(rt: HostRuntime) -> Result<(), Fail> {
     let update = unseal(&request(M1, M3), &block(AUTHORISING_KEY));
-    assert!(rt; update == Ok(example()?));
+    holds(&rt, "update == Ok(example()?)", update == Ok(example()?));
     let other_mac = unseal(&request(M1, M3 + 1), &block(AUTHORISING_KEY));
-    assert!(rt; other_mac == Err(Unseal::BadMac));
+    holds(&rt, "other_mac", other_mac == Err(Unseal::BadMac));
     let other_id = unseal(&request(0x1e1, M3), &block(AUTHORISING_KEY));
-    assert!(rt; other_id == Err(Unseal::BadId));
+    holds(&rt, "other_id", other_id == Err(Unseal::BadId));
     Ok(())
 }
 
 #[test]
 fn an_m1_says_who_is_updated(rt: HostRuntime) -> Result<(), Fail> {
     let found = head(&block(M1)).ok_or("a head")?;
-    assert!(rt; found.uid == uid());
-    assert!(rt; !found.uid.is_zero());
-    assert_eq!(rt; found.uid.as_slice().len(), 15);
-    assert_eq!(rt; found.uid.bytes()[14], 1);
-    assert_eq!(rt; found.id.number(), 4);
-    assert_eq!(rt; found.auth.number(), 1);
-    assert!(rt; head(&block(0x1e1)).is_none());
-    assert!(rt; head(&block(0x11e)).is_none());
+    holds(&rt, "found.uid == uid()", found.uid == uid());
+    holds(&rt, "!found.uid.is_zero()", !found.uid.is_zero());
+    holds(
+        &rt,
+        "found.uid.as_slice().len()",
+        found.uid.as_slice().len() == 15,
+    );
+    same(&rt, "found.uid.bytes()[14]", &found.uid.bytes()[14], &1);
+    same(&rt, "found.id.number()", &found.id.number(), &4);
+    same(&rt, "found.auth.number()", &found.auth.number(), &1);
+    holds(&rt, "head", head(&block(0x1e1)).is_none());
+    holds(&rt, "head", head(&block(0x11e)).is_none());
     Ok(())
 }
 
@@ -151,12 +182,20 @@ fn an_m1_says_who_is_updated(rt: HostRuntime) -> Result<(), Fail> {
 fn the_example_is_confirmed(rt: HostRuntime) -> Result<(), Fail> {
     let m4 = [block(M4[0]), block(M4[1])];
     let reply = Reply { m4, m5: block(M5) };
-    assert!(rt; confirm_for(&example()?, uid()) == reply);
-    assert!(rt; is_confirmed(&reply, &example()?, uid()));
+    holds(&rt, "confirm_for", confirm_for(&example()?, uid()) == reply);
+    holds(
+        &rt,
+        "is_confirmed",
+        is_confirmed(&reply, &example()?, uid()),
+    );
     let other = Reply {
         m4,
         m5: block(M5 + 1),
     };
-    assert!(rt; !is_confirmed(&other, &example()?, uid()));
+    holds(
+        &rt,
+        "is_confirmed",
+        !is_confirmed(&other, &example()?, uid()),
+    );
     Ok(())
 }

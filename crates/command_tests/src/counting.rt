@@ -1,4 +1,5 @@
 //! The words of a trial, and the summary of a run.
+use crate::comparing::same;
 use bus_commands::words::{Command, WorldCommand, command_of};
 use bus_commands::{Summary, TrialWords};
 use bus_machine::{Line, Refusal};
@@ -50,14 +51,15 @@ fn the_words_of_a_trial_are_read_by_their_form(rt: HostRuntime) -> Result<(), Fa
         let wanted = read.map(|(count, seed)| {
             Command::World(WorldCommand::Trial(TrialWords { count, seed }))
         });
-        assert_eq!(rt;
-            asked(rt.alloc(), "trial", count, seed)?,
-            wanted,
-            "{count} {seed}"
+        same(
+            &rt,
+            seed,
+            &asked(rt.alloc(), "trial", count, seed)?,
+            &wanted,
         );
     }
-    assert_eq!(rt; asked(rt.alloc(), "Trial", "1", "0")?, None);
-    assert_eq!(rt; asked(rt.alloc(), "replay", "1", "0")?, None);
+    same(&rt, "asked", &asked(rt.alloc(), "Trial", "1", "0")?, &None);
+    same(&rt, "asked", &asked(rt.alloc(), "replay", "1", "0")?, &None);
     Ok(())
 }
 
@@ -103,6 +105,6 @@ fn each_line_is_counted_by_what_it_tells(rt: HostRuntime) -> Result<(), Fail> {
     }
     let text = summary.text(rt.alloc())?;
     let wanted = "events 16\nsent 2\naccepted 1\nfailures 3\nkeyed 1\ncuts 2\nrefused 4\n";
-    assert_eq!(rt; text.as_slice(), wanted.as_bytes());
+    same(&rt, "text", &text.as_slice(), &wanted.as_bytes());
     Ok(())
 }

@@ -1,7 +1,8 @@
 //! Whole runs over ports in memory: the words, the bytes that come in, the status and the bytes that go out.
+use crate::comparing::{holds, same};
 use bus_commands::run::run;
 use bus_port::{CleanSource, MemSink, MemSource, Sink, Source};
-use cut_disk::MemDisk;
+use cut_disk::{CutDisk, MemDisk};
 use std::alloc::{AllocError, Global};
 use std::process::Abort;
 use std::test::Fail;
@@ -23,16 +24,55 @@ pub(crate) fn words_of(alloc: Global, line: &str) -> Result<Vec<String>, AllocEr
     Ok(words)
 }
 
+/// Runs the words of a command line over these ports and disks.
+pub(crate) fn does<C: Source, S: Source, K: Sink, D: CutDisk>(
+    alloc: Global,
+    line: &str,
+    config: &mut C,
+    script: &mut S,
+    sink: &mut K,
+    disks: &mut Vec<D>,
+) -> Result<u8, Fail> {
+    let words = words_of(alloc, line)?;
+    Ok(run(alloc, words.as_slice(), config, script, sink, disks))
+}
+
 /// Runs words that read no bus file over a source of lines.
 fn over_lines<T: Source, K: Sink>(
     alloc: Global,
-    words: &[String],
+    line: &str,
     script: &mut T,
     sink: &mut K,
-) -> u8 {
+) -> Result<u8, Fail> {
     let mut config = CleanSource::new(Vec::new(alloc));
     let mut disks: Vec<MemDisk> = Vec::new(alloc);
-    run(alloc, words, &mut config, script, sink, &mut disks)
+    does(alloc, line, &mut config, script, sink, &mut disks)
+}
+
+/// A source that reads without a fault.
+pub(crate) fn clean(alloc: Global, text: &str) -> Result<CleanSource, Fail> {
+    Ok(CleanSource::new(Vec::from_slice(alloc, text.as_bytes())?))
+}
+
+/// Runs the words over a source and a sink, and compares the status and the output.
+fn gives<T: Source>(
+    rt: &impl Abort,
+    alloc: Global,
+    line: &str,
+    script: &mut T,
+    sink: MemSink,
+    status: u8,
+    output: &[u8],
+) -> Result<(), Fail> {
+    let mut sink = sink;
+    same(
+        rt,
+        line,
+        &over_lines(alloc, line, script, &mut sink)?,
+        &status,
+    );
+    holds(rt, line, sink.bytes() == output);
+    Ok(())
 }
 
 /// Runs the words over an input, with room for all output, and compares the status and the output.
@@ -44,12 +84,11 @@ fn check(
     status: u8,
     output: &str,
 ) -> Result<(), Fail> {
-    let words = words_of(alloc, line)?;
-    let mut script = CleanSource::new(Vec::from_slice(alloc, input.as_bytes())?);
+    let mut script = clean(alloc, input)?;
     let mut sink = MemSink::new(alloc, 1024, Vec::new(alloc), 1024)?;
-    let answer = over_lines(alloc, words.as_slice(), &mut script, &mut sink);
-    assert_eq!(rt; answer, status, "{line}: {input}");
-    assert_eq!(rt; sink.bytes(), output.as_bytes(), "{line}: {input}");
+    let answer = over_lines(alloc, line, &mut script, &mut sink)?;
+    same(rt, input, &answer, &status);
+    same(rt, input, &sink.bytes(), &output.as_bytes());
     Ok(())
 }
 
@@ -91,28 +130,39 @@ fn each_line_has_its_answer(rt: HostRuntime) -> Result<(), Fail> {
     Ok(())
 }
 
-/// 15,196 lines and a comment make 1,048,576 bytes, the most that an input has.
-#[test]
-fn as_many_lines_as_an_input_has_are_answered(rt: HostRuntime) -> Result<(), Fail> {
-    let alloc = rt.alloc();
-    let mut input = Vec::new(alloc);
-    let mut output = Vec::new(alloc);
-    for _ in 0..15196 {
-        input.extend_from_slice(LINE.as_bytes())?;
-        output.extend_from_slice(PDU.as_bytes())?;
+/// A text so many times.
+fn repeated(alloc: Global, text: &str, times: u16) -> Result<Vec<u8>, Fail> {
+    let mut bytes = Vec::new(alloc);
+    for _ in 0..times {
+        bytes.extend_from_slice(text.as_bytes())?;
     }
+    Ok(bytes)
+}
+
+/// 15,196 lines and a comment make 1,048,576 bytes, the most that an input has.
+fn most_lines(alloc: Global) -> Result<CleanSource, Fail> {
+    let mut input = repeated(alloc, LINE, 15_196)?;
     for _ in input.len()..1_048_576 {
         input.push(b'#')?;
     }
-    let words = words_of(alloc, "frame F")?;
-    let mut script = CleanSource::new(input);
-    let mut sink = MemSink::new(alloc, 1_048_576, Vec::new(alloc), 1_048_576)?;
-    assert_eq!(rt;
-        over_lines(alloc, words.as_slice(), &mut script, &mut sink),
-        0
-    );
-    assert_eq!(rt; sink.bytes(), output.as_slice());
-    Ok(())
+    Ok(CleanSource::new(input))
+}
+
+#[test]
+fn as_many_lines_as_an_input_has_are_answered(rt: HostRuntime) -> Result<(), Fail> {
+    let alloc = rt.alloc();
+    let mut script = most_lines(alloc)?;
+    let output = repeated(alloc, PDU, 15_196)?;
+    let sink = MemSink::new(alloc, 1_048_576, Vec::new(alloc), 1_048_576)?;
+    gives(
+        &rt,
+        alloc,
+        "frame F",
+        &mut script,
+        sink,
+        0,
+        output.as_slice(),
+    )
 }
 
 #[test]
@@ -186,47 +236,50 @@ fn refused_words_and_lines_are_named(rt: HostRuntime) -> Result<(), Fail> {
     Ok(())
 }
 
+/// The source fails at its first read.
+fn source_fails(rt: &impl Abort, alloc: Global) -> Result<(), Fail> {
+    let mut script = source_of(alloc, LINE, true)?;
+    let sink = MemSink::new(alloc, 64, Vec::new(alloc), 64)?;
+    gives(rt, alloc, "frame F", &mut script, sink, 5, b"read fault\n")
+}
+
+/// The input is a comment of so many bytes.
+fn is_long(
+    rt: &impl Abort,
+    alloc: Global,
+    len: usize,
+    status: u8,
+    output: &[u8],
+) -> Result<(), Fail> {
+    let mut script = CleanSource::new(vec![in alloc; b'#'; len]?);
+    let sink = MemSink::new(alloc, 64, Vec::new(alloc), 64)?;
+    gives(rt, alloc, "frame F", &mut script, sink, status, output)
+}
+
+/// The sink has so much room, takes so many bytes in a call, and fails at this call.
+fn sink_fails(
+    rt: &impl Abort,
+    alloc: Global,
+    room: usize,
+    failing: u64,
+    piece: usize,
+    written: &[u8],
+) -> Result<(), Fail> {
+    let mut script = clean(alloc, LINE)?;
+    let sink = MemSink::new(alloc, room, vec![in alloc; failing]?, piece)?;
+    gives(rt, alloc, "frame F", &mut script, sink, 6, written)
+}
+
 #[test]
 fn faults_of_the_ports_and_a_long_input_are_told(rt: HostRuntime) -> Result<(), Fail> {
-    let alloc = rt.alloc();
-    let words = words_of(alloc, "frame F")?;
-    let text = LINE.as_bytes();
-
-    // The source fails at its first read.
-    let mut script = MemSource::new(Vec::from_slice(alloc, text)?, vec![in alloc; 1]?, 16);
-    let mut sink = MemSink::new(alloc, 64, Vec::new(alloc), 64)?;
-    assert_eq!(rt;
-        over_lines(alloc, words.as_slice(), &mut script, &mut sink),
-        5
-    );
-    assert_eq!(rt; sink.bytes(), b"read fault\n".as_slice());
-
-    // The input has one byte more than it may have; then as many as it may have, all of them a comment.
-    for (len, status, output) in [(1_048_577, 8, "input too long\n"), (1_048_576, 0, "")] {
-        let mut script = CleanSource::new(vec![in alloc; b'#'; len]?);
-        let mut sink = MemSink::new(alloc, 64, Vec::new(alloc), 64)?;
-        assert_eq!(rt;
-            over_lines(alloc, words.as_slice(), &mut script, &mut sink),
-            status
-        );
-        assert_eq!(rt; sink.bytes(), output.as_bytes());
-    }
-
-    // The sink fails at its first write, at a later one, and where its room is full.
-    for (room, failing, piece, written) in [
-        (64, 1, 64, ""),
-        (64, 6, 1, "bee22"),
-        (12, 0, 5, "bee22e409f96"),
-    ] {
-        let mut script = CleanSource::new(Vec::from_slice(alloc, text)?);
-        let mut sink = MemSink::new(alloc, room, vec![in alloc; failing]?, piece)?;
-        assert_eq!(rt;
-            over_lines(alloc, words.as_slice(), &mut script, &mut sink),
-            6
-        );
-        assert_eq!(rt; sink.bytes(), written.as_bytes());
-    }
-    Ok(())
+    source_fails(&rt, rt.alloc())?;
+    // One byte more than an input may have; then as many as it may have.
+    is_long(&rt, rt.alloc(), 1_048_577, 8, b"input too long\n")?;
+    is_long(&rt, rt.alloc(), 1_048_576, 0, b"")?;
+    // At its first write, at a later one, and where its room is full.
+    sink_fails(&rt, rt.alloc(), 64, 1, 64, b"")?;
+    sink_fails(&rt, rt.alloc(), 64, 6, 1, b"bee22")?;
+    sink_fails(&rt, rt.alloc(), 12, 0, 5, b"bee22e409f96")
 }
 
 /// A bus of two nodes: `left` sends 6bc1, and `right` receives it.
@@ -242,13 +295,13 @@ struct Given<'a> {
     script_fails: bool,
 }
 
-/// The calls of a source that fail: the first, or none.
-fn first_fails(alloc: Global, fails: bool) -> Result<Vec<u64>, AllocError> {
+/// A source of a text, whose first read fails, or none.
+fn source_of(alloc: Global, text: &str, fails: bool) -> Result<MemSource, Fail> {
     let mut calls = Vec::new(alloc);
     if fails {
         calls.push(1)?;
     }
-    Ok(calls)
+    Ok(MemSource::new(Vec::from_slice(alloc, text.as_bytes())?, calls, 64))
 }
 
 /// A sink that takes a byte in a call, and fails once so many bytes are written.
@@ -279,24 +332,14 @@ fn over_bus(
     status: u8,
     output: &str,
 ) -> Result<(), Fail> {
-    let words = words_of(alloc, line)?;
-    let config = Vec::from_slice(alloc, given.config.as_bytes())?;
-    let script = Vec::from_slice(alloc, given.script.as_bytes())?;
-    let mut config = MemSource::new(config, first_fails(alloc, given.config_fails)?, 64);
-    let mut script = MemSource::new(script, first_fails(alloc, given.script_fails)?, 64);
+    let mut config = source_of(alloc, given.config, given.config_fails)?;
+    let mut script = source_of(alloc, given.script, given.script_fails)?;
     let mut sink = sink_of(alloc, fails_behind)?;
     let mut disks: Vec<MemDisk> = Vec::new(alloc);
-    let answer = run(
-        alloc,
-        words.as_slice(),
-        &mut config,
-        &mut script,
-        &mut sink,
-        &mut disks,
-    );
+    let answer = does(alloc, line, &mut config, &mut script, &mut sink, &mut disks)?;
     let (status, output) = ending(fails_behind, status, output);
-    assert_eq!(rt; answer, status, "{line}: {}", given.script);
-    assert_eq!(rt; sink.bytes(), output, "{line}: {}", given.script);
+    same(rt, given.script, &answer, &status);
+    same(rt, given.script, &sink.bytes(), &output);
     Ok(())
 }
 

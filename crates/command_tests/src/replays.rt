@@ -1,7 +1,6 @@
 //! Whole replays over disks and ports in memory: what a program over disks of its own can't show. What it can is a row of checks/.
-use crate::lines::{BUS, ending, sink_of, words_of};
-use bus_commands::run::run;
-use bus_port::CleanSource;
+use crate::comparing::{holds, same};
+use crate::lines::{BUS, clean, does, ending, sink_of};
 use cut_disk::{CutDisk, Disk, DiskFailed, MemDisk, TapeDisk};
 use file_disk::{ByteFile, FileDisk, FileFailed};
 use std::alloc::{AllocError, Global};
@@ -70,23 +69,15 @@ pub(crate) fn runs<D: CutDisk>(
     output: &str,
 ) -> Result<(), Fail> {
     let [line, bus, script] = texts;
-    let words = words_of(alloc, line)?;
-    let mut config = CleanSource::new(Vec::from_slice(alloc, bus.as_bytes())?);
-    let mut source = CleanSource::new(Vec::from_slice(alloc, script.as_bytes())?);
+    let mut config = clean(alloc, bus)?;
+    let mut source = clean(alloc, script)?;
     let mut sink = sink_of(alloc, fails_behind)?;
     let number = disks.len();
-    let answer = run(
-        alloc,
-        words.as_slice(),
-        &mut config,
-        &mut source,
-        &mut sink,
-        disks,
-    );
+    let answer = does(alloc, line, &mut config, &mut source, &mut sink, disks)?;
     let (status, output) = ending(fails_behind, status, output);
-    assert_eq!(rt; answer, status, "{script}");
-    assert_eq!(rt; sink.bytes(), output, "{script}");
-    assert_eq!(rt; disks.len(), number, "every disk is back");
+    same(rt, script, &answer, &status);
+    same(rt, script, &sink.bytes(), &output);
+    holds(rt, "every disk is back", disks.len() == number);
     Ok(())
 }
 
@@ -105,32 +96,34 @@ fn replays<D: CutDisk>(
     runs(rt, alloc, disks, texts, fails_behind, status, output)
 }
 
+/// A script over two disks that tell their past.
+fn over_tapes(rt: &impl Abort, alloc: Global, texts: [&str; 2], lines: &str) -> Result<(), Fail> {
+    let mut tapes = Vec::new(alloc);
+    for _ in 0..2 {
+        tapes.push(TapeDisk::new(alloc, 2_048, 400)?)?;
+    }
+    replays(rt, alloc, &mut tapes, texts, None, 0, lines)?;
+    for tape in tapes.as_slice() {
+        holds(rt, "the past is told", tape.past().is_some());
+    }
+    Ok(())
+}
+
+/// A script over two disks that tell their past, and over two that don't.
+fn over_both(rt: &impl Abort, alloc: Global, script: &str, lines: &str) -> Result<(), Fail> {
+    let texts = [BUS, script];
+    let mut disks = disks_of(alloc, &[2_048, 2_048])?;
+    replays(rt, alloc, &mut disks, texts, None, 0, lines)?;
+    over_tapes(rt, alloc, texts, lines)
+}
+
 #[test]
 fn disks_that_tell_their_past_print_the_same(rt: HostRuntime) -> Result<(), Fail> {
-    let alloc = rt.alloc();
-    let mut rows = Vec::new(alloc);
-    rows.push((
-        String::from_str(alloc, ORDINARY)?,
-        String::from_str(alloc, ORDINARY_LINES)?,
-    ))?;
+    over_both(&rt, rt.alloc(), ORDINARY, ORDINARY_LINES)?;
     for (rest, lines) in POWER_CUTS {
-        rows.push((
-            format!(in alloc; "{SENT}{rest}")?,
-            format!(in alloc; "{SENT_LINES}{lines}")?,
-        ))?;
-    }
-    for (script, lines) in rows.as_slice() {
-        let texts = [BUS, script.as_str()];
-        let mut disks = disks_of(alloc, &[2_048, 2_048])?;
-        replays(&rt, alloc, &mut disks, texts, None, 0, lines.as_str())?;
-        let mut tapes = Vec::new(alloc);
-        for _ in 0..2 {
-            tapes.push(TapeDisk::new(alloc, 2_048, 400)?)?;
-        }
-        replays(&rt, alloc, &mut tapes, texts, None, 0, lines.as_str())?;
-        for tape in tapes.as_slice() {
-            assert!(rt; tape.past().is_some(), "the past is told");
-        }
+        let script = format!(in rt.alloc(); "{SENT}{rest}")?;
+        let lines = format!(in rt.alloc(); "{SENT_LINES}{lines}")?;
+        over_both(&rt, rt.alloc(), script.as_str(), lines.as_str())?;
     }
     Ok(())
 }
@@ -166,7 +159,7 @@ fn after_a_write_that_fails_nothing_more_is_written_or_done(rt: HostRuntime) -> 
                 return Err(Fail::from("no disk"));
             };
             let is_done = written / 10 >= lines;
-            assert_eq!(rt; byte_at(disk, at)? == 1, is_done, "{written}: {lines}");
+            same(&rt, lines, &(byte_at(disk, at)? == 1), &is_done);
         }
     }
     Ok(())

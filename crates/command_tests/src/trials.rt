@@ -1,8 +1,6 @@
 //! Whole trials over disks in memory: the bus file, the words, the status and the summary.
-use crate::lines::{BUS, ending, sink_of, words_of};
-use crate::replays::disks_of;
-use bus_commands::run::run;
-use bus_port::CleanSource;
+use crate::lines::BUS;
+use crate::replays::{disks_of, runs};
 use std::alloc::Global;
 use std::process::Abort;
 use std::test::Fail;
@@ -25,24 +23,9 @@ fn gives(
     status: u8,
     output: &str,
 ) -> Result<(), Fail> {
-    let words = words_of(alloc, line)?;
     let mut disks = disks_of(alloc, &[size, size])?;
-    let mut config = CleanSource::new(Vec::from_slice(alloc, BUS.as_bytes())?);
-    let mut script = CleanSource::new(Vec::from_slice(alloc, b"no script is read")?);
-    let mut sink = sink_of(alloc, fails_behind)?;
-    let answer = run(
-        alloc,
-        words.as_slice(),
-        &mut config,
-        &mut script,
-        &mut sink,
-        &mut disks,
-    );
-    let (status, output) = ending(fails_behind, status, output);
-    assert_eq!(rt; answer, status, "{line}");
-    assert_eq!(rt; sink.bytes(), output, "{line}");
-    assert_eq!(rt; disks.len(), 2, "every disk is back");
-    Ok(())
+    let texts = [line, BUS, "no script is read"];
+    runs(rt, alloc, &mut disks, texts, fails_behind, status, output)
 }
 
 #[test]

@@ -1,6 +1,7 @@
 // The cell of a bound as it is written down in the formats, and bounds over either store in memory.
 ghost use Rattle.std.specs.Prelude.{◌≡◌, ◌<◌, length, false, IfOk, OnOk};
 
+use crate::comparing::{holds, same};
 use cell_store::{Cells, LogCells, TwinCells, Version};
 use cut_disk::MemDisk;
 use freshness_store::{bound_in, *};
@@ -24,11 +25,30 @@ fn a_bound_has_the_cell_of_the_formats(rt: HostRuntime) {
         (0x6bc1, Direction::Sends, 0xe93d7e117393172d, SENDS),
         (u16::MAX, Direction::Receives, u64::MAX, RECEIVES),
     ] {
-        assert!(rt; bound_bytes(id, direction, bound) == cell);
-        assert_eq!(rt; bound_in(&cell, id, direction), Some(bound));
+        holds(
+            &rt,
+            "bound_bytes",
+            bound_bytes(id, direction, bound) == cell,
+        );
+        same(
+            &rt,
+            "bound_in",
+            &bound_in(&cell, id, direction),
+            &Some(bound),
+        );
     }
-    assert_eq!(rt; bound_in(&SENDS, 0x6bc1, Direction::Receives), None);
-    assert_eq!(rt; bound_in(&SENDS, 0x6bc0, Direction::Sends), None);
+    same(
+        &rt,
+        "bound_in",
+        &bound_in(&SENDS, 0x6bc1, Direction::Receives),
+        &None,
+    );
+    same(
+        &rt,
+        "bound_in",
+        &bound_in(&SENDS, 0x6bc0, Direction::Sends),
+        &None,
+    );
 }
 
 #[test]
@@ -38,7 +58,12 @@ fn every_other_content_is_no_bound(rt: HostRuntime) {
         if let Some(at) = cell.get_mut(place) {
             *at = byte;
         }
-        assert_eq!(rt; bound_in(&cell, 0x6bc1, Direction::Sends), None);
+        same(
+            &rt,
+            "bound_in",
+            &bound_in(&cell, 0x6bc1, Direction::Sends),
+            &None,
+        );
     }
 }
 
@@ -65,13 +90,38 @@ fn keeps_two<C: Cells>(rt: &impl Abort, cells: &mut C) -> Result<(), Fail>
     requires count { length (C.state cells.old).cells ≡ 2 }
     requires whole { (C.state cells.old).broken ≡ false }
 {
-    assert_eq!(rt; read_bound(cells, 1, 7, Direction::Sends), Err(BadBound(1)));
+    same(
+        rt,
+        "read_bound",
+        &read_bound(cells, 1, 7, Direction::Sends),
+        &Err(BadBound(1)),
+    );
     put_in(cells, 0, 7, Direction::Sends, 100)?;
     put_in(cells, 1, 8, Direction::Receives, u64::MAX)?;
-    assert_eq!(rt; read_bound(cells, 0, 7, Direction::Sends), Ok(100));
-    assert_eq!(rt; read_bound(cells, 1, 8, Direction::Receives), Ok(u64::MAX));
-    assert_eq!(rt; read_bound(cells, 1, 8, Direction::Sends), Err(BadBound(1)));
-    assert_eq!(rt; read_bound(cells, 0, 8, Direction::Sends), Err(BadBound(0)));
+    same(
+        rt,
+        "read_bound",
+        &read_bound(cells, 0, 7, Direction::Sends),
+        &Ok(100),
+    );
+    same(
+        rt,
+        "read_bound",
+        &read_bound(cells, 1, 8, Direction::Receives),
+        &Ok(u64::MAX),
+    );
+    same(
+        rt,
+        "read_bound",
+        &read_bound(cells, 1, 8, Direction::Sends),
+        &Err(BadBound(1)),
+    );
+    same(
+        rt,
+        "read_bound",
+        &read_bound(cells, 0, 8, Direction::Sends),
+        &Err(BadBound(0)),
+    );
     Ok(())
 }
 

@@ -4,6 +4,7 @@ ghost use Rattle.secured_pdu.specs.Frame.{IsWindow};
 ghost use Rattle.freshness_routes.specs.declared.routes.Direction.TheVariants.{Sends, Receives};
 ghost use Rattle.freshness_manager.specs.Counters.{KeepsBound};
 
+use crate::comparing::same;
 use cell_store::{Cells, CutCells, LogCells, PutFailed, TwinCells, Version};
 use cut_disk::{MemDisk, Torn};
 use freshness_manager::*;
@@ -99,9 +100,9 @@ fn gives<C: Cells>(
     ensures kept { OnOk result (KeepsBound (C.state cells.new).cells tx.new.place tx.new.id Sends tx.new.bound) }
 {
     let given = tx.next(cells)?;
-    assert_eq!(rt; given, freshness);
-    assert_eq!(rt; tx.counter(), freshness);
-    assert_eq!(rt; tx.bound(), bound);
+    same(rt, "given", &given, &freshness);
+    same(rt, "tx.counter()", &tx.counter(), &freshness);
+    same(rt, "tx.bound()", &tx.bound(), &bound);
     Ok(())
 }
 
@@ -118,13 +119,18 @@ fn accepts<C: Cells>(
     ensures whole { OnOk result ((C.state cells.new).broken ≡ false) }
     ensures kept { OnOk result (KeepsBound (C.state cells.new).cells rx.new.place rx.new.id Receives rx.new.bound) }
 {
-    assert_eq!(rt; rx.candidate(freshness.to_le_bytes()[0]), Some(freshness));
+    same(
+        rt,
+        "rx.candidate",
+        &rx.candidate(freshness.to_le_bytes()[0]),
+        &Some(freshness),
+    );
     if rx.counter() >= freshness {
         return Err(Fail::from("a freshness that isn't above the counter"));
     }
     rx.commit(cells, freshness)?;
-    assert_eq!(rt; rx.counter(), freshness);
-    assert_eq!(rt; rx.bound(), bound);
+    same(rt, "rx.counter()", &rx.counter(), &freshness);
+    same(rt, "rx.bound()", &rx.bound(), &bound);
     Ok(())
 }
 
@@ -133,14 +139,19 @@ fn sends<C: CutCells>(rt: &impl Abort, cells: &mut C) -> Result<(), Fail>
     requires whole { (C.state cells.old).broken ≡ false }
 {
     let mut tx = sender_in(cells, 4)?;
-    assert_eq!(rt; tx.reserve(), 4);
+    same(rt, "tx.reserve()", &tx.reserve(), &4);
     gives(rt, &mut tx, cells, 0xe93d7e117393172a, 0xe93d7e117393172d)?;
     cells.stop_at(1);
     gives(rt, &mut tx, cells, 0xe93d7e117393172b, 0xe93d7e117393172d)?;
     gives(rt, &mut tx, cells, 0xe93d7e117393172c, 0xe93d7e117393172d)?;
     gives(rt, &mut tx, cells, 0xe93d7e117393172d, 0xe93d7e117393172d)?;
-    assert_eq!(rt; tx.next(cells), Err(TxFault::PutFailed));
-    assert_eq!(rt; tx.counter(), 0xe93d7e117393172d);
+    same(
+        rt,
+        "tx.next(cells)",
+        &tx.next(cells),
+        &Err(TxFault::PutFailed),
+    );
+    same(rt, "tx.counter()", &tx.counter(), &0xe93d7e117393172d);
     cells.power_cut(Torn::Keep)?;
     let mut tx = sender_in(cells, 4)?;
     gives(rt, &mut tx, cells, 0xe93d7e117393172e, 0xe93d7e1173931731)?;
@@ -155,19 +166,24 @@ fn receives<C: CutCells>(rt: &impl Abort, cells: &mut C) -> Result<(), Fail>
     requires whole { (C.state cells.old).broken ≡ false }
 {
     let narrow = receiver_in(cells, 8, 4)?;
-    assert_eq!(rt; narrow.window(), 4);
-    assert_eq!(rt; narrow.candidate(105), None);
-    assert_eq!(rt; narrow.candidate(104), Some(104));
+    same(rt, "narrow.window()", &narrow.window(), &4);
+    same(rt, "narrow.candidate(105)", &narrow.candidate(105), &None);
+    same(
+        rt,
+        "narrow.candidate(104)",
+        &narrow.candidate(104),
+        &Some(104),
+    );
     let mut rx = receiver_in(cells, 8, 256)?;
-    assert_eq!(rt; rx.reserve(), 8);
+    same(rt, "rx.reserve()", &rx.reserve(), &8);
     accepts(rt, &mut rx, cells, 105, 112)?;
     cells.stop_at(1);
     accepts(rt, &mut rx, cells, 112, 112)?;
     if rx.counter() >= 113 {
         return Err(Fail::from("a counter that is too high"));
     }
-    assert_eq!(rt; rx.commit(cells, 113), Err(PutFailed));
-    assert_eq!(rt; rx.counter(), 112);
+    same(rt, "rx.commit", &rx.commit(cells, 113), &Err(PutFailed));
+    same(rt, "rx.counter()", &rx.counter(), &112);
     cells.power_cut(Torn::Keep)?;
     let mut rx = receiver_in(cells, 8, 256)?;
     accepts(rt, &mut rx, cells, 113, 120)?;
@@ -181,10 +197,15 @@ fn ends<C: Cells>(rt: &impl Abort, cells: &mut C) -> Result<(), Fail>
 {
     let mut tx = sender_in(cells, 128)?;
     gives(rt, &mut tx, cells, u64::MAX, u64::MAX)?;
-    assert_eq!(rt; tx.next(cells), Err(TxFault::Exhausted));
+    same(
+        rt,
+        "tx.next(cells)",
+        &tx.next(cells),
+        &Err(TxFault::Exhausted),
+    );
     let rx = Rx::restore(0, ID, 128, 256, tx.bound());
     for low in [0, 0x7f, 0xfe, 0xff] {
-        assert_eq!(rt; rx.candidate(low), None);
+        same(rt, "rx.candidate(low)", &rx.candidate(low), &None);
     }
     Ok(())
 }

@@ -3,6 +3,7 @@
 ghost use Rattle.std.specs.Prelude.{◌≡◌, ◌≤◌, false, length, IfOk, OnOk};
 ghost use Rattle.slot_disk.specs.Cell.{HoldSlots};
 
+use crate::comparing::{holds, same};
 use cell_store::{Cells, CutCells, TwinCells};
 use cut_disk::MemDisk;
 use key_slots::{Counter28, Erc, Flags, SlotId};
@@ -156,18 +157,32 @@ fn the_example_is_loaded_once(rt: HostRuntime) -> Result<(), Fail> {
     let mut store = empty_store(rt.alloc())?;
     let mut engine = attached(&store)?;
     let master = request_of(&own(1, 1, EMPTY, 1, 0, MASTER))?;
-    assert!(rt; answer_to(&mut engine, &mut store, &master)?.is_ok());
-    assert!(rt; answer_to(&mut engine, &mut store, &example)? == Ok(reply));
+    holds(
+        &rt,
+        "answer_to",
+        answer_to(&mut engine, &mut store, &master)?.is_ok(),
+    );
+    holds(
+        &rt,
+        "answer_to",
+        answer_to(&mut engine, &mut store, &example)? == Ok(reply),
+    );
     let mut cell = [0; 32];
     store.get(4, &mut cell);
-    assert_eq!(rt;
-        cell,
-        [
+    same(
+        &rt,
+        "cell",
+        &cell,
+        &[
             1, 0, 0, 0, 0, 1, 15, 14, 13, 12, 11, 10, 9, 8, 7, 6, 5, 4, 3, 2, 1, 0, 0, 0, 0, 0, 0,
-            0, 0, 0, 0, 0
-        ]
+            0, 0, 0, 0, 0,
+        ],
     );
-    assert!(rt; answer_to(&mut engine, &mut store, &example)? == Err(Erc::KeyUpdateError));
+    holds(
+        &rt,
+        "answer_to",
+        answer_to(&mut engine, &mut store, &example)? == Err(Erc::KeyUpdateError),
+    );
     Ok(())
 }
 
@@ -197,7 +212,7 @@ fn loads_are_refused_in_their_order(rt: HostRuntime) -> Result<(), Fail> {
         (own(7, 1, MASTER, 2, 0, KEY), None),
     ] {
         let answer = answer_to(&mut engine, &mut store, &request_of(&asked)?)?;
-        assert_eq!(rt; answer.err(), refusal);
+        same(&rt, "answer.err()", &answer.err(), &refusal);
     }
     Ok(())
 }
@@ -207,27 +222,56 @@ fn keys_serve_by_their_flags_as_they_are_now(rt: HostRuntime) -> Result<(), Fail
     let mut store = empty_store(rt.alloc())?;
     let mut engine = attached(&store)?;
     let (mac_slot, cipher_slot) = (slot(4)?, slot(13)?);
-    assert_eq!(rt; engine.usable_for_mac(mac_slot), Err(Erc::KeyEmpty));
-    assert_eq!(rt; engine.usable_for_mac(slot(3)?), Err(Erc::KeyInvalid));
+    same(
+        &rt,
+        "engine.usable_for_mac",
+        &engine.usable_for_mac(mac_slot),
+        &Err(Erc::KeyEmpty),
+    );
+    same(
+        &rt,
+        "engine.usable_for_mac",
+        &engine.usable_for_mac(slot(3)?),
+        &Err(Erc::KeyInvalid),
+    );
     for asked in [
         own(4, 4, EMPTY, 1, 2, MASTER),
         own(4, 4, MASTER, 2, 2, KEY),
         own(13, 13, EMPTY, 1, 0, KEY),
     ] {
-        assert!(rt; answer_to(&mut engine, &mut store, &request_of(&asked)?)?.is_ok());
+        holds(
+            &rt,
+            "answer_to",
+            answer_to(&mut engine, &mut store, &request_of(&asked)?)?.is_ok(),
+        );
     }
-    assert_eq!(rt; engine.usable_for_mac(mac_slot), Ok(()));
-    assert_eq!(rt; engine.usable_for_mac(cipher_slot), Err(Erc::KeyInvalid));
+    same(
+        &rt,
+        "engine.usable_for_mac",
+        &engine.usable_for_mac(mac_slot),
+        &Ok(()),
+    );
+    same(
+        &rt,
+        "engine.usable_for_mac",
+        &engine.usable_for_mac(cipher_slot),
+        &Err(Erc::KeyInvalid),
+    );
     let message = PLAIN[0].to_be_bytes();
     let mac = engine.generate_mac(mac_slot, &message)?;
-    assert!(rt; mac == block(0x070a16b46b4d4144f79bdd9dd04a287c));
+    holds(&rt, "mac", mac == block(0x070a16b46b4d4144f79bdd9dd04a287c));
     for (tag, good) in [
         (&[7, 10, 22][..], true),
         (&[7, 10, 23][..], false),
         (&[7][..], true),
         (&mac.as_slice()[..], true),
     ] {
-        assert_eq!(rt; engine.verify_mac(mac_slot, &message, tag), Ok(good));
+        same(
+            &rt,
+            "engine.verify_mac",
+            &engine.verify_mac(mac_slot, &message, tag),
+            &Ok(good),
+        );
     }
     Ok(())
 }
@@ -237,7 +281,11 @@ fn the_cipher_calls_give_the_examples(rt: HostRuntime) -> Result<(), Fail> {
     let mut store = empty_store(rt.alloc())?;
     let mut engine = attached(&store)?;
     let request = request_of(&own(13, 13, EMPTY, 1, 0, KEY))?;
-    assert!(rt; answer_to(&mut engine, &mut store, &request)?.is_ok());
+    holds(
+        &rt,
+        "answer_to",
+        answer_to(&mut engine, &mut store, &request)?.is_ok(),
+    );
     let at = slot(13)?;
     let iv = block(MASTER);
     let plain = [block(PLAIN[0]), block(PLAIN[1])];
@@ -249,11 +297,31 @@ fn the_cipher_calls_give_the_examples(rt: HostRuntime) -> Result<(), Fail> {
         block(0x7649abac8119b246cee98e9b12e9197d),
         block(0x5086cb9b507219ee95db113a917678b2),
     ];
-    assert!(rt; engine.encrypt_ecb(at, &plain) == Ok(ecb));
-    assert!(rt; engine.decrypt_ecb(at, &ecb) == Ok(plain));
-    assert!(rt; engine.encrypt_cbc(at, &iv, &plain) == Ok(cbc));
-    assert!(rt; engine.decrypt_cbc(at, &iv, &cbc) == Ok(plain));
-    assert!(rt; engine.encrypt_ecb(slot(12)?, &[iv]) == Err(Erc::KeyEmpty));
+    holds(
+        &rt,
+        "engine.encrypt_ecb",
+        engine.encrypt_ecb(at, &plain) == Ok(ecb),
+    );
+    holds(
+        &rt,
+        "engine.decrypt_ecb",
+        engine.decrypt_ecb(at, &ecb) == Ok(plain),
+    );
+    holds(
+        &rt,
+        "engine.encrypt_cbc",
+        engine.encrypt_cbc(at, &iv, &plain) == Ok(cbc),
+    );
+    holds(
+        &rt,
+        "engine.decrypt_cbc",
+        engine.decrypt_cbc(at, &iv, &cbc) == Ok(plain),
+    );
+    holds(
+        &rt,
+        "engine.encrypt_ecb",
+        engine.encrypt_ecb(slot(12)?, &[iv]) == Err(Erc::KeyEmpty),
+    );
     Ok(())
 }
 
@@ -261,22 +329,56 @@ fn the_cipher_calls_give_the_examples(rt: HostRuntime) -> Result<(), Fail> {
 fn a_boot_is_decided_once_in_a_life(rt: HostRuntime) -> Result<(), Fail> {
     let mut store = empty_store(rt.alloc())?;
     let mut engine = attached(&store)?;
-    assert_eq!(rt; engine.boot(&[0]), Err(Erc::NoSecureBoot));
+    same(
+        &rt,
+        "engine.boot(&[0])",
+        &engine.boot(&[0]),
+        &Err(Erc::NoSecureBoot),
+    );
     for asked in [
         own(2, 2, EMPTY, 1, 0, KEY),
         own(3, 2, KEY, 1, 0, MAC_OF_ONE_ZERO),
         own(4, 4, EMPTY, 1, 10, KEY),
     ] {
-        assert!(rt; answer_to(&mut engine, &mut store, &request_of(&asked)?)?.is_ok());
+        holds(
+            &rt,
+            "answer_to",
+            answer_to(&mut engine, &mut store, &request_of(&asked)?)?.is_ok(),
+        );
     }
     let protected = slot(4)?;
-    assert_eq!(rt; engine.boot(&[1]), Ok(false));
-    assert_eq!(rt; engine.boot(&[0]), Err(Erc::SequenceError));
-    assert_eq!(rt; engine.usable_for_mac(protected), Err(Erc::KeyNotAvailable));
+    same(&rt, "engine.boot(&[1])", &engine.boot(&[1]), &Ok(false));
+    same(
+        &rt,
+        "engine.boot(&[0])",
+        &engine.boot(&[0]),
+        &Err(Erc::SequenceError),
+    );
+    same(
+        &rt,
+        "engine.usable_for_mac",
+        &engine.usable_for_mac(protected),
+        &Err(Erc::KeyNotAvailable),
+    );
     let mut next_life = attached(&store)?;
-    assert_eq!(rt; next_life.boot(&[0]), Ok(true));
-    assert_eq!(rt; next_life.usable_for_mac(protected), Ok(()));
-    assert_eq!(rt; next_life.boot(&[0]), Err(Erc::SequenceError));
+    same(
+        &rt,
+        "next_life.boot(&[0])",
+        &next_life.boot(&[0]),
+        &Ok(true),
+    );
+    same(
+        &rt,
+        "next_life.usable_for_mac",
+        &next_life.usable_for_mac(protected),
+        &Ok(()),
+    );
+    same(
+        &rt,
+        "next_life.boot(&[0])",
+        &next_life.boot(&[0]),
+        &Err(Erc::SequenceError),
+    );
     Ok(())
 }
 
@@ -286,10 +388,28 @@ fn a_load_that_faults_leaves_the_slots(rt: HostRuntime) -> Result<(), Fail> {
     let mut engine = attached(&store)?;
     let first = request_of(&own(4, 4, EMPTY, 1, 2, KEY))?;
     let second = request_of(&own(5, 5, EMPTY, 1, 2, KEY))?;
-    assert!(rt; answer_to(&mut engine, &mut store, &first)?.is_ok());
+    holds(
+        &rt,
+        "answer_to",
+        answer_to(&mut engine, &mut store, &first)?.is_ok(),
+    );
     store.stop_at(6);
-    assert!(rt; engine.load_key(&mut store, &second) == Err(LoadFault::Faulted));
-    assert_eq!(rt; engine.usable_for_mac(slot(4)?), Ok(()));
-    assert_eq!(rt; engine.usable_for_mac(slot(5)?), Err(Erc::KeyEmpty));
+    holds(
+        &rt,
+        "engine.load_key",
+        engine.load_key(&mut store, &second) == Err(LoadFault::Faulted),
+    );
+    same(
+        &rt,
+        "engine.usable_for_mac",
+        &engine.usable_for_mac(slot(4)?),
+        &Ok(()),
+    );
+    same(
+        &rt,
+        "engine.usable_for_mac",
+        &engine.usable_for_mac(slot(5)?),
+        &Err(Erc::KeyEmpty),
+    );
     Ok(())
 }

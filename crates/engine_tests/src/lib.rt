@@ -5,6 +5,8 @@
 #[cfg(test)]
 mod bounds;
 #[cfg(test)]
+mod comparing;
+#[cfg(test)]
 mod counters;
 #[cfg(test)]
 mod engines;

@@ -4,6 +4,7 @@ ghost use Rattle.std.specs.Prelude.{◌≡◌, false, length, IfOk, OnOk};
 ghost use Rattle.freshness_routes.specs.declared.routes.Direction.TheVariants.{Receives};
 ghost use Rattle.freshness_manager.specs.Counters.{KeepsBound};
 
+use crate::comparing::same;
 use cell_store::{Cells, CutCells, TwinCells};
 use cut_disk::MemDisk;
 use freshness_manager::Rx;
@@ -178,8 +179,13 @@ fn a_pdu_is_accepted_up_to_its_window_ahead(rt: HostRuntime) -> Result<(), Fail>
         (running(4, 256, u64::MAX - 1), &LAST[..], u64::MAX),
     ] {
         let (answer, counter) = answer_to(rt.alloc(), &asked, pdu)?;
-        assert_eq!(rt; answer, accepted(freshness, (pdu.len() - 4) as u8));
-        assert_eq!(rt; counter, freshness);
+        same(
+            &rt,
+            "answer",
+            &answer,
+            &(accepted(freshness, (pdu.len() - 4) as u8)),
+        );
+        same(&rt, "counter", &counter, &freshness);
     }
     Ok(())
 }
@@ -235,8 +241,8 @@ fn the_first_refusal_or_failure_is_answered(rt: HostRuntime) -> Result<(), Fail>
         ),
     ] {
         let (said, counter) = answer_to(rt.alloc(), &asked, pdu)?;
-        assert_eq!(rt; said, answer);
-        assert_eq!(rt; counter, asked.bound);
+        same(&rt, "said", &said, &answer);
+        same(&rt, "counter", &counter, &asked.bound);
     }
     Ok(())
 }
@@ -259,7 +265,7 @@ fn says(
 {
     let route = route(4, 3, 256)?;
     let answer = receive(engine, rx, store, &route, pdu)?;
-    assert_eq!(rt; answer, said);
+    same(rt, "answer", &answer, &said);
     Ok(())
 }
 
@@ -309,12 +315,14 @@ fn no_freshness_is_accepted_twice(rt: HostRuntime) -> Result<(), Fail> {
         Reception::VerificationFailure,
     )?;
     let answer = receive(&engine, &mut rx, &mut store, &route(4, 3, 256)?, &FOURTH);
-    assert_eq!(rt;
-        answer,
-        Err(ReceiveFault::Faulted {
-            bound: 0xe93d7e11_7393172f
-        })
+    same(
+        &rt,
+        "answer",
+        &answer,
+        &Err(ReceiveFault::Faulted {
+            bound: 0xe93d7e11_7393172f,
+        }),
     );
-    assert_eq!(rt; rx.counter(), 0xe93d7e11_7393172c);
+    same(&rt, "rx.counter()", &rx.counter(), &0xe93d7e11_7393172c);
     Ok(())
 }

@@ -4,6 +4,7 @@ ghost use Rattle.std.specs.Prelude.{◌≡◌, false, length, IfOk, OnOk};
 ghost use Rattle.freshness_routes.specs.declared.routes.Direction.TheVariants.{Sends};
 ghost use Rattle.freshness_manager.specs.Counters.{KeepsBound};
 
+use crate::comparing::{holds, same};
 use cell_store::{Cells, CutCells, TwinCells};
 use cut_disk::MemDisk;
 use freshness_manager::Tx;
@@ -150,17 +151,22 @@ fn a_pdu_has_the_freshness_above_the_counter(rt: HostRuntime) -> Result<(), Fail
         (60, u64::MAX - 2, [0xfe, 0x30, 0x38, 0xa2]),
         (6, u64::MAX - 1, [0xff, 0x9a, 0x7f, 0x8d]),
     ] {
-        assert!(rt; size <= 60);
+        holds(&rt, "size <= 60", size <= 60);
         let mut out = [0xaa; 64];
         let (answer, counter) = answer_to(rt.alloc(), &running(4, size, bound), &mut out)?;
         let sent = answer?;
         let len = usize::from(sent.len);
-        assert_eq!(rt; len, size + 4);
-        assert_eq!(rt; sent.freshness, bound + 1);
-        assert_eq!(rt; counter, bound + 1);
-        assert_eq!(rt; &out[..size], &PAYLOAD[..size]);
-        assert_eq!(rt; &out[size..len], trailer.as_slice());
-        assert!(rt; out[len..].iter().all(|byte| *byte == 0xaa));
+        holds(&rt, "len", len == size + 4);
+        same(&rt, "sent.freshness", &sent.freshness, &(bound + 1));
+        same(&rt, "counter", &counter, &(bound + 1));
+        same(&rt, "&out[..size]", &&out[..size], &&PAYLOAD[..size]);
+        same(
+            &rt,
+            "&out[size..len]",
+            &&out[size..len],
+            &trailer.as_slice(),
+        );
+        holds(&rt, "out", out[len..].iter().all(|byte| *byte == 0xaa));
     }
     Ok(())
 }
@@ -189,9 +195,9 @@ fn the_first_refusal_that_applies_is_answered(rt: HostRuntime) -> Result<(), Fai
     ] {
         let mut out = [0xaa; 64];
         let (answer, counter) = answer_to(rt.alloc(), &asked, &mut out)?;
-        assert_eq!(rt; answer, Err(refusal));
-        assert_eq!(rt; counter, asked.bound);
-        assert_eq!(rt; out, [0xaa; 64]);
+        same(&rt, "answer", &answer, &Err(refusal));
+        same(&rt, "counter", &counter, &asked.bound);
+        same(&rt, "out", &out, &[0xaa; 64]);
     }
     Ok(())
 }
@@ -215,8 +221,8 @@ fn sends(
     let mut out = [0; 64];
     let route = route(4)?;
     let sent = send(engine, tx, store, &route, &PAYLOAD[..6], &mut out)?;
-    assert_eq!(rt; sent, Sent { freshness, len: 10 });
-    assert_eq!(rt; &out[6..10], trailer.as_slice());
+    same(rt, "sent", &sent, &Sent { freshness, len: 10 });
+    same(rt, "&out[6..10]", &&out[6..10], &trailer.as_slice());
     Ok(())
 }
 
@@ -268,13 +274,15 @@ fn no_freshness_is_sent_twice(rt: HostRuntime) -> Result<(), Fail> {
         &PAYLOAD[..6],
         &mut out,
     );
-    assert_eq!(rt;
-        answer,
-        Err(SendFault::Faulted {
-            bound: 0xe93d7e11_73931731
-        })
+    same(
+        &rt,
+        "answer",
+        &answer,
+        &Err(SendFault::Faulted {
+            bound: 0xe93d7e11_73931731,
+        }),
     );
-    assert_eq!(rt; tx.counter(), 0xe93d7e11_7393172d);
-    assert_eq!(rt; out, [0xaa; 64]);
+    same(&rt, "tx.counter()", &tx.counter(), &0xe93d7e11_7393172d);
+    same(&rt, "out", &out, &[0xaa; 64]);
     Ok(())
 }

@@ -1,6 +1,7 @@
 // Cells as they are written down in the formats, and slots over a store in memory.
 ghost use Rattle.std.specs.Prelude.{◌≡◌, length, false, IfOk};
 
+use crate::comparing::{holds, same};
 use cell_store::{Cells, TwinCells};
 use cut_disk::MemDisk;
 use key_slots::{Counter28, Flags, Slot, SlotId};
@@ -51,8 +52,12 @@ fn a_slot_has_the_cell_of_the_formats(rt: HostRuntime) -> Result<(), Fail> {
         (filled(1, 0)?, loaded),
         (filled(0x0fff_ffff, 31)?, FILLED),
     ] {
-        assert!(rt; slot_bytes(&slot) == cell);
-        assert!(rt; slot_in(&cell) == Some(slot));
+        holds(&rt, "slot_bytes(&slot) == cell", slot_bytes(&slot) == cell);
+        holds(
+            &rt,
+            "slot_in(&cell) == Some(slot)",
+            slot_in(&cell) == Some(slot),
+        );
     }
     Ok(())
 }
@@ -74,7 +79,11 @@ fn every_other_content_is_no_slot(rt: HostRuntime) {
         if let Some(at) = changed.get_mut(place) {
             *at = byte;
         }
-        assert!(rt; slot_in(&changed).is_none());
+        holds(
+            &rt,
+            "slot_in(&changed).is_none()",
+            slot_in(&changed).is_none(),
+        );
     }
 }
 
@@ -85,12 +94,24 @@ fn slots_are_put_and_read(rt: HostRuntime) -> Result<(), Fail> {
         SlotId::new(0).ok_or("slot 0")?,
         SlotId::new(13).ok_or("slot 13")?,
     );
-    assert!(rt; put_slot(&mut store, first, &filled(7, 2)?).is_ok());
-    assert!(rt; put_slot(&mut store, last, &filled(8, 16)?).is_ok());
+    holds(
+        &rt,
+        "put_slot",
+        put_slot(&mut store, first, &filled(7, 2)?).is_ok(),
+    );
+    holds(
+        &rt,
+        "put_slot",
+        put_slot(&mut store, last, &filled(8, 16)?).is_ok(),
+    );
     let slots = read_slots(&store)?;
-    assert!(rt; *slots.get(first) == filled(7, 2)?);
-    assert!(rt; *slots.get(last) == filled(8, 16)?);
-    assert!(rt; *slots.get(SlotId::new(5).ok_or("slot 5")?) == Slot::Empty);
+    holds(&rt, "slots.get", *slots.get(first) == filled(7, 2)?);
+    holds(&rt, "slots.get", *slots.get(last) == filled(8, 16)?);
+    holds(
+        &rt,
+        "slots.get",
+        *slots.get(SlotId::new(5).ok_or("slot 5")?) == Slot::Empty,
+    );
     Ok(())
 }
 
@@ -100,6 +121,11 @@ fn the_lowest_bad_slot_is_named(rt: HostRuntime) -> Result<(), Fail> {
     cells[3] = [3; 32];
     cells[9] = [9; 32];
     let store = store_of(rt.alloc(), &cells)?;
-    assert_eq!(rt; read_slots(&store).err().map(|bad| bad.0.number()), Some(3));
+    same(
+        &rt,
+        "read_slots",
+        &read_slots(&store).err().map(|bad| bad.0.number()),
+        &Some(3),
+    );
     Ok(())
 }

@@ -1,3 +1,4 @@
+use crate::comparing::same;
 use fault_count::*;
 
 #[test]
@@ -10,6 +11,6 @@ fn a_count_rises_by_one_and_stands_at_its_last_value(rt: HostRuntime) {
     ] {
         let mut faults = before;
         count_fault(&mut faults);
-        assert_eq!(rt; faults, after);
+        same(&rt, "faults", &faults, &after);
     }
 }

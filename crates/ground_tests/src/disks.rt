@@ -1,6 +1,7 @@
 // Each table is tried over a disk in memory and over one that tells its past.
 ghost use Rattle.std.specs.Prelude.{◌≤◌};
 
+use crate::comparing::{holds, same};
 use cut_disk::*;
 use std::test::Fail;
 
@@ -29,9 +30,14 @@ fn a_cut_leaves_loose_bytes_as_its_kind_says(rt: HostRuntime) -> Result<(), Fail
         (Torn::Fill(0xa7), 2, [0, 0, 0xa7, 0xa7, 0xa7, 0xa7]),
     ] {
         let mut memory = MemDisk::new(rt.alloc(), 6)?;
-        assert_eq!(rt; left_after(&mut memory, at, torn)?, left);
+        same(
+            &rt,
+            "left_after",
+            &left_after(&mut memory, at, torn)?,
+            &left,
+        );
         let mut tape = TapeDisk::new(rt.alloc(), 6, 4)?;
-        assert_eq!(rt; left_after(&mut tape, at, torn)?, left);
+        same(&rt, "left_after", &left_after(&mut tape, at, torn)?, &left);
     }
     Ok(())
 }
@@ -70,9 +76,19 @@ fn a_stop_lasts_until_a_cut_and_one_failure_comes_once(rt: HostRuntime) -> Resul
         (4, 3, b"..xx", b"...."),
     ] {
         let mut memory = MemDisk::new(rt.alloc(), 1)?;
-        assert_eq!(rt; armed_answers(&mut memory, stop, fail), [*before, *after]);
+        same(
+            &rt,
+            "armed_answers",
+            &armed_answers(&mut memory, stop, fail),
+            &[*before, *after],
+        );
         let mut tape = TapeDisk::new(rt.alloc(), 1, 1)?;
-        assert_eq!(rt; armed_answers(&mut tape, stop, fail), [*before, *after]);
+        same(
+            &rt,
+            "armed_answers",
+            &armed_answers(&mut tape, stop, fail),
+            &[*before, *after],
+        );
     }
     Ok(())
 }
@@ -82,26 +98,26 @@ fn a_new_arm_replaces_the_older_but_a_stop_goes_on(rt: HostRuntime) -> Result<()
     let mut disk = MemDisk::new(rt.alloc(), 1)?;
     disk.fail_at(1);
     disk.fail_at(3);
-    assert_eq!(rt; answers(&mut disk), *b"..x.");
+    same(&rt, "answers(&mut disk)", &answers(&mut disk), b"..x.");
     disk.stop_at(1);
     disk.stop_at(3);
-    assert_eq!(rt; answers(&mut disk), *b"..xx");
+    same(&rt, "answers(&mut disk)", &answers(&mut disk), b"..xx");
     disk.stop_at(3);
-    assert_eq!(rt; answers(&mut disk), *b"xxxx");
+    same(&rt, "answers(&mut disk)", &answers(&mut disk), b"xxxx");
     Ok(())
 }
 
 #[test]
 fn a_cut_is_the_last_sync_of_what_it_left(rt: HostRuntime) -> Result<(), Fail> {
     let mut disk = MemDisk::of(rt.alloc(), &[5, 6, 7])?;
-    assert_eq!(rt; disk.size(), 3);
+    same(&rt, "disk.size()", &disk.size(), &3);
     disk.write(1, &[9])?;
     disk.power_cut(Torn::Fill(8));
     disk.write(0, &[1, 1])?;
     disk.power_cut(Torn::Old);
     let mut out = [0; 3];
     disk.read(0, &mut out)?;
-    assert_eq!(rt; out, [5, 8, 7]);
+    same(&rt, "out", &out, &[5, 8, 7]);
     Ok(())
 }
 
@@ -128,9 +144,19 @@ fn a_write_and_a_sync_outlast_a_cut(rt: HostRuntime) -> Result<(), Fail> {
         (1, false, [0, 0xa7, 0xa7, 0]),
     ] {
         let mut memory = MemDisk::new(rt.alloc(), 4)?;
-        assert_eq!(rt; cut_short(&mut memory, stop)?, (is_ok, left));
+        same(
+            &rt,
+            "cut_short",
+            &cut_short(&mut memory, stop)?,
+            &(is_ok, left),
+        );
         let mut tape = TapeDisk::new(rt.alloc(), 4, 9)?;
-        assert_eq!(rt; cut_short(&mut tape, stop)?, (is_ok, left));
+        same(
+            &rt,
+            "cut_short",
+            &cut_short(&mut tape, stop)?,
+            &(is_ok, left),
+        );
     }
     Ok(())
 }
@@ -138,14 +164,14 @@ fn a_write_and_a_sync_outlast_a_cut(rt: HostRuntime) -> Result<(), Fail> {
 #[test]
 fn a_new_disk_reads_zeros(rt: HostRuntime) -> Result<(), Fail> {
     let mut disk = MemDisk::new(rt.alloc(), 100)?;
-    assert_eq!(rt; disk.size(), 100);
+    same(&rt, "disk.size()", &disk.size(), &100);
     let mut out = [9; 100];
     disk.read(0, &mut out)?;
-    assert_eq!(rt; out, [0; 100]);
+    same(&rt, "out", &out, &[0; 100]);
     write_and_sync(&mut disk, 98, &[1, 2])?;
     let mut end = [9; 3];
     disk.read(97, &mut end)?;
-    assert_eq!(rt; end, [0, 1, 2]);
+    same(&rt, "end", &end, &[0, 1, 2]);
     Ok(())
 }
 
@@ -168,9 +194,9 @@ fn one_of_each<D: CutDisk>(disk: &mut D) -> Result<bool, Fail> {
 #[test]
 fn a_tape_tells_the_state_and_the_mark_of_each_call(rt: HostRuntime) -> Result<(), Fail> {
     let mut disk = TapeDisk::new(rt.alloc(), 2, 8)?;
-    assert!(rt; one_of_each(&mut disk)?);
+    holds(&rt, "one_of_each(&mut disk)", one_of_each(&mut disk)?);
     let told = disk.past().ok_or("the past isn't told")?;
-    assert_eq!(rt; told.len(), 8);
+    holds(&rt, "told.len()", told.len() == 8);
     let wanted = [
         ([0, 0], [false, false], None),
         ([7, 0], [true, false], None),
@@ -182,11 +208,21 @@ fn a_tape_tells_the_state_and_the_mark_of_each_call(rt: HostRuntime) -> Result<(
         ([7, 0], [false, false], Some(Mark::Cut(Torn::Old))),
     ];
     for (entry, (bytes, loose, mark)) in told.iter().zip(wanted) {
-        assert_eq!(rt; entry.bytes.as_slice(), bytes.as_slice());
-        assert_eq!(rt; entry.loose.as_slice(), loose.as_slice());
-        assert_eq!(rt; entry.mark, mark);
+        same(
+            &rt,
+            "entry.bytes",
+            &entry.bytes.as_slice(),
+            &bytes.as_slice(),
+        );
+        same(
+            &rt,
+            "entry.loose",
+            &entry.loose.as_slice(),
+            &loose.as_slice(),
+        );
+        same(&rt, "entry.mark", &entry.mark, &mark);
     }
     disk.sync()?;
-    assert!(rt; disk.past().is_none());
+    holds(&rt, "disk.past().is_none()", disk.past().is_none());
     Ok(())
 }

@@ -1,4 +1,5 @@
 //! Inputs, endings and opened sources over memory.
+use crate::comparing::{holds, same};
 use bus_port::{CleanSource, MemSink, MemSource, read_all};
 use command_edge::{DONE, InputFault, WRITE_FAULT, open_named, read_input, tell, words_of};
 use std::test::Fail;
@@ -9,20 +10,24 @@ fn inputs_have_at_most_1048576_bytes(rt: HostRuntime) -> Result<(), Fail> {
     for len in [0, 1, 4096, 4097, 1_048_576] {
         let mut source = CleanSource::new(vec![in alloc; b'x'; len]?);
         let input = read_input(alloc, &mut source).ok().ok_or("no input")?;
-        assert_eq!(rt; input.len(), len);
+        holds(&rt, "input.len()", input.len() == len);
     }
     let mut source = CleanSource::new(vec![in alloc; b'x'; 1_048_577]?);
-    assert_eq!(rt;
-        read_input(alloc, &mut source).err(),
-        Some(InputFault::TooLong)
+    same(
+        &rt,
+        "read_input",
+        &read_input(alloc, &mut source).err(),
+        &Some(InputFault::TooLong),
     );
 
     // The second piece fails; the input isn't begun again.
     let bytes = vec![in alloc; b'x'; 40]?;
     let mut source = MemSource::new(bytes, vec![in alloc; 2]?, 16);
-    assert_eq!(rt;
-        read_input(alloc, &mut source).err(),
-        Some(InputFault::ReadFault)
+    same(
+        &rt,
+        "read_input",
+        &read_input(alloc, &mut source).err(),
+        &Some(InputFault::ReadFault),
     );
     Ok(())
 }
@@ -34,8 +39,8 @@ fn refused_inputs_have_their_status_and_text(rt: HostRuntime) -> Result<(), Fail
         (InputFault::TooLong, 8, "input too long\n"),
         (InputFault::Memory, 7, ""),
     ] {
-        assert_eq!(rt; fault.status(), status);
-        assert_eq!(rt; fault.text(), text);
+        same(&rt, "fault.status()", &fault.status(), &status);
+        same(&rt, "fault.text()", &fault.text(), &text);
     }
     Ok(())
 }
@@ -52,8 +57,8 @@ fn endings_are_told_whole_or_as_a_front_with_6(rt: HostRuntime) -> Result<(), Fa
         (8, 9, 3, WRITE_FAULT, 8),
     ] {
         let mut sink = MemSink::new(alloc, room, vec![in alloc; failing]?, piece)?;
-        assert_eq!(rt; tell(&mut sink, text, DONE), status);
-        assert_eq!(rt; sink.bytes(), &text[..written]);
+        same(&rt, "tell", &tell(&mut sink, text, DONE), &status);
+        same(&rt, "sink.bytes()", &sink.bytes(), &&text[..written]);
     }
     Ok(())
 }
@@ -63,20 +68,24 @@ fn words_name_standard_input_or_a_file(rt: HostRuntime) -> Result<(), Fail> {
     let alloc = rt.alloc();
     let stdin: &[u8] = b"from standard input";
     let mut source = open_named(&rt, stdin, "-");
-    assert_eq!(rt;
-        read_all(alloc, &mut source, 64)
+    same(
+        &rt,
+        "read_all",
+        &read_all(alloc, &mut source, 64)
             .ok()
             .ok_or("no input")?
             .as_slice(),
-        stdin
+        &stdin,
     );
     for word in ["no/such/file", "", "--"] {
         let mut source = open_named(&rt, stdin, word);
-        assert_eq!(rt;
-            read_input(alloc, &mut source).err(),
-            Some(InputFault::ReadFault)
+        same(
+            &rt,
+            "read_input",
+            &read_input(alloc, &mut source).err(),
+            &Some(InputFault::ReadFault),
         );
     }
-    assert!(rt; words_of(&rt)?.len() > 0);
+    holds(&rt, "words_of(&rt)?.len() > 0", words_of(&rt)?.len() > 0);
     Ok(())
 }

@@ -1,4 +1,5 @@
 //! The table of answers of the whole-stream calls over memory, and the standard streams' adapters.
+use crate::comparing::{holds, same};
 use bus_port::{
     CleanSource, MemSink, MemSource, ReadAll, Source, StdSink, StdSource, read_all, write_all,
 };
@@ -88,7 +89,7 @@ fn read_all_answers_by_its_limit_and_its_source(rt: HostRuntime) -> Result<(), F
         (&[4], 3, 5, Ok(b"hello")),
     ];
     for (failing, piece, limit, want) in cases {
-        assert!(rt; piece > 0 && limit < 10);
+        holds(&rt, "piece > 0 && limit < 10", piece > 0 && limit < 10);
         let bytes = b"hello".to_vec(rt.alloc())?;
         let failing = failing.to_vec(rt.alloc())?;
         let mut source = MemSource::new(bytes, failing, piece);
@@ -97,7 +98,7 @@ fn read_all_answers_by_its_limit_and_its_source(rt: HostRuntime) -> Result<(), F
             Ok(all) => Ok(all.as_slice()),
             Err(cause) => Err(*cause),
         };
-        assert_eq!(rt; got, want, "in pieces of {piece} up to {limit}");
+        same(&rt, limit, &got, &want);
     }
     Ok(())
 }
@@ -113,13 +114,13 @@ fn write_all_stops_at_the_failing_call_or_the_full_room(rt: HostRuntime) -> Resu
         (5, &[6], 1, true, b"hello"),
     ];
     for (room, failing, piece, want, written) in cases {
-        assert!(rt; piece > 0);
+        holds(&rt, "piece > 0", piece > 0);
         let failing = failing.to_vec(rt.alloc())?;
         let made = MemSink::new(rt.alloc(), room, failing, piece);
         let mut sink = made.ok().ok_or("no memory")?;
         let answer = write_all(&mut sink, b"hello");
-        assert_eq!(rt; answer.is_ok(), want, "room {room} in pieces of {piece}");
-        assert_eq!(rt; sink.bytes(), written, "room {room} in pieces of {piece}");
+        same(&rt, piece, &answer.is_ok(), &want);
+        same(&rt, piece, &sink.bytes(), &written);
     }
     Ok(())
 }
@@ -128,7 +129,7 @@ fn write_all_stops_at_the_failing_call_or_the_full_room(rt: HostRuntime) -> Resu
 fn a_clean_source_is_read_to_its_end(rt: HostRuntime) -> Result<(), Fail> {
     let mut source = CleanSource::new(b"hello".to_vec(rt.alloc())?);
     let all = read_all(rt.alloc(), &mut source, 5).ok().ok_or("refused")?;
-    assert_eq!(rt; all.as_slice(), b"hello".as_slice());
+    same(&rt, "all", &all.as_slice(), &b"hello".as_slice());
     Ok(())
 }
 
@@ -136,27 +137,33 @@ fn a_clean_source_is_read_to_its_end(rt: HostRuntime) -> Result<(), Fail> {
 fn standard_sources_give_what_their_readers_give(rt: HostRuntime) -> Result<(), Fail> {
     let mut source = StdSource::new(b"hello".as_slice());
     let mut out = [9u8; 7];
-    assert_eq!(rt; source.read(&mut out), Ok(5));
-    assert_eq!(rt;
-        out.as_slice(),
-        [b'h', b'e', b'l', b'l', b'o', 9, 9].as_slice()
+    same(&rt, "source.read(&mut out)", &source.read(&mut out), &Ok(5));
+    same(
+        &rt,
+        "out",
+        &out.as_slice(),
+        &[b'h', b'e', b'l', b'l', b'o', 9, 9].as_slice(),
     );
-    assert_eq!(rt; source.read(&mut out), Ok(0));
+    same(&rt, "source.read(&mut out)", &source.read(&mut out), &Ok(0));
 
     let mut source = StdSource::new(b"hello".as_slice());
     let all = read_all(rt.alloc(), &mut source, 5).ok().ok_or("refused")?;
-    assert_eq!(rt; all.as_slice(), b"hello".as_slice());
+    same(&rt, "all", &all.as_slice(), &b"hello".as_slice());
 
     let mut breaks = StdSource::new(Breaks { is_read: false });
-    assert_eq!(rt;
-        read_all(rt.alloc(), &mut breaks, 5).err(),
-        Some(ReadAll::Failed)
+    same(
+        &rt,
+        "read_all",
+        &read_all(rt.alloc(), &mut breaks, 5).err(),
+        &Some(ReadAll::Failed),
     );
 
     let mut missing = StdSource::<Breaks>::missing();
-    assert_eq!(rt;
-        read_all(rt.alloc(), &mut missing, 5).err(),
-        Some(ReadAll::Failed)
+    same(
+        &rt,
+        "read_all",
+        &read_all(rt.alloc(), &mut missing, 5).err(),
+        &Some(ReadAll::Failed),
     );
     Ok(())
 }
@@ -164,9 +171,18 @@ fn standard_sources_give_what_their_readers_give(rt: HostRuntime) -> Result<(), 
 #[test]
 fn standard_sinks_write_and_count_a_write_that_took_nothing(rt: HostRuntime) -> Result<(), Fail> {
     let mut text = Vec::new(rt.alloc());
-    assert_eq!(rt; write_all(&mut StdSink::new(&mut text), b"hello"), Ok(()));
-    assert_eq!(rt; text.as_slice(), b"hello".as_slice());
-    assert!(rt; write_all(&mut StdSink::new(Full), b"hello").is_err());
+    same(
+        &rt,
+        "write_all",
+        &write_all(&mut StdSink::new(&mut text), b"hello"),
+        &Ok(()),
+    );
+    same(&rt, "text", &text.as_slice(), &b"hello".as_slice());
+    holds(
+        &rt,
+        "write_all",
+        write_all(&mut StdSink::new(Full), b"hello").is_err(),
+    );
     Ok(())
 }
 
@@ -177,12 +193,14 @@ fn ports_that_failed_once_work_again(rt: HostRuntime) -> Result<(), Fail> {
         calls: 0,
     };
     let mut source = StdSource::new(reader);
-    assert_eq!(rt;
-        read_all(rt.alloc(), &mut source, 5).err(),
-        Some(ReadAll::Failed)
+    same(
+        &rt,
+        "read_all",
+        &read_all(rt.alloc(), &mut source, 5).err(),
+        &Some(ReadAll::Failed),
     );
     let all = read_all(rt.alloc(), &mut source, 5).ok().ok_or("refused")?;
-    assert_eq!(rt; all.as_slice(), b"hello".as_slice());
+    same(&rt, "all", &all.as_slice(), &b"hello".as_slice());
 
     let mut text = Vec::new(rt.alloc());
     let writer = FullFirst {
@@ -190,8 +208,8 @@ fn ports_that_failed_once_work_again(rt: HostRuntime) -> Result<(), Fail> {
         calls: 0,
     };
     let mut sink = StdSink::new(writer);
-    assert!(rt; write_all(&mut sink, b"hello").is_err());
-    assert_eq!(rt; write_all(&mut sink, b"hello"), Ok(()));
-    assert_eq!(rt; text.as_slice(), b"hello".as_slice());
+    holds(&rt, "write_all", write_all(&mut sink, b"hello").is_err());
+    same(&rt, "write_all", &write_all(&mut sink, b"hello"), &Ok(()));
+    same(&rt, "text", &text.as_slice(), &b"hello".as_slice());
     Ok(())
 }

@@ -3,6 +3,7 @@ ghost use Rattle.std.specs.Prelude.{◌≡◌, ℕ, ◌+◌, ◌^◌, ◌<◌, �
 ghost use Rattle.std.specs.Option.{option_map_or};
 ghost use Rattle.std.specs.Fmt.{decimal};
 
+use crate::comparing::{holds, same};
 use bus_port::{MemSink, Memory};
 use numbered_run::{
     EndingText, LineText, Machine, Stop, Tally, Unwritten, count_run, print_run,
@@ -115,10 +116,10 @@ fn a_sink_that_fails_at_its_nth_byte_has_the_bytes_before_it(rt: HostRuntime) ->
             16..=19 => (call - 1, 8, Err(Unwritten::SinkFailed)),
             _ => (19, 8, Ok(())),
         };
-        assert_eq!(rt; answer, want, "at call {call}");
-        assert!(rt; written <= 19);
-        assert_eq!(rt; sink.bytes(), &TEXT[..written as usize], "at call {call}");
-        assert_eq!(rt; adder.sum, sum, "no command is done after call {call}");
+        same(&rt, call, &answer, &want);
+        holds(&rt, "written <= 19", written <= 19);
+        same(&rt, call, &sink.bytes(), &(&TEXT[..written as usize]));
+        same(&rt, call, &adder.sum, &sum);
     }
     Ok(())
 }
@@ -142,9 +143,9 @@ fn a_last_line_is_written_whole_and_ends_the_run(rt: HostRuntime) -> Result<(), 
             &NUMBERS,
             &mut sink,
         );
-        assert_eq!(rt; answer, want, "at call {call}");
-        assert_eq!(rt; sink.bytes(), written, "at call {call}");
-        assert_eq!(rt; adder.sum, sum, "at call {call}");
+        same(&rt, call, &answer, &want);
+        same(&rt, call, &sink.bytes(), &written);
+        same(&rt, call, &adder.sum, &sum);
     }
     let mut sink = failing_sink(rt.alloc(), 9)?;
     let mut adder = Adder { sum: 0 };
@@ -154,23 +155,38 @@ fn a_last_line_is_written_whole_and_ends_the_run(rt: HostRuntime) -> Result<(), 
         &NUMBERS[..2],
         &mut sink,
     );
-    assert_eq!(rt; answer, Ok(()));
-    assert_eq!(rt; sink.bytes(), b"1 3\n2 7\n".as_slice());
+    same(&rt, "answer", &answer, &Ok(()));
+    same(
+        &rt,
+        "sink.bytes()",
+        &sink.bytes(),
+        &b"1 3\n2 7\n".as_slice(),
+    );
     Ok(())
 }
 
 #[test]
 fn each_end_of_a_run_has_its_status(rt: HostRuntime) {
-    assert_eq!(rt; status_of_run(Ok(())), 0);
-    assert_eq!(rt; status_of_run(Err(Unwritten::SinkFailed)), 6);
-    assert_eq!(rt; status_of_run(Err(Unwritten::Memory)), 7);
+    same(&rt, "status_of_run(Ok(()))", &status_of_run(Ok(())), &0);
+    same(
+        &rt,
+        "status_of_run",
+        &status_of_run(Err(Unwritten::SinkFailed)),
+        &6,
+    );
+    same(
+        &rt,
+        "status_of_run",
+        &status_of_run(Err(Unwritten::Memory)),
+        &7,
+    );
 }
 
 #[test]
 fn lines_are_counted_one_by_one(rt: HostRuntime) {
     let mut refused = Refused { lines: 0 };
     count_run(&mut Adder { sum: 0 }, &NUMBERS, &mut refused);
-    assert_eq!(rt; refused.lines, 1);
+    same(&rt, "refused.lines", &refused.lines, &1);
 }
 
 #[test]
@@ -178,9 +194,9 @@ fn no_commands_leave_all_as_it_was(rt: HostRuntime) -> Result<(), Fail> {
     let mut sink = failing_sink(rt.alloc(), 1)?;
     let mut adder = Adder { sum: 3 };
     let answer = print_run::<Adder, Text, MemSink>(rt.alloc(), &mut adder, &[], &mut sink);
-    assert_eq!(rt; answer, Ok(()));
-    assert_eq!(rt; sink.bytes(), b"".as_slice());
-    assert_eq!(rt; adder.sum, 3);
+    same(&rt, "answer", &answer, &Ok(()));
+    same(&rt, "sink.bytes()", &sink.bytes(), &b"".as_slice());
+    same(&rt, "adder.sum", &adder.sum, &3);
     Ok(())
 }
 
@@ -190,16 +206,20 @@ fn as_many_commands_as_a_script_has_are_done(rt: HostRuntime) -> Result<(), Fail
     for _ in 0..65_536u32 {
         ones.push(1u32).ok().ok_or("no memory")?;
     }
-    assert_eq!(rt; ones.len(), 65_536);
+    holds(&rt, "ones.len()", ones.len() == 65_536);
     let plan = Vec::new(rt.alloc());
     let made = MemSink::new(rt.alloc(), 1_048_576, plan, 65_536);
     let mut sink = made.ok().ok_or("no memory")?;
     let mut adder = Adder { sum: 0 };
     let answer = print_run::<Adder, Text, MemSink>(rt.alloc(), &mut adder, &ones, &mut sink);
-    assert_eq!(rt; answer, Ok(()));
-    assert_eq!(rt; adder.sum, 65_536);
+    same(&rt, "answer", &answer, &Ok(()));
+    same(&rt, "adder.sum", &adder.sum, &65_536);
     // 316,574 digits twice, a blank and a line feed each.
-    assert_eq!(rt; sink.bytes().len(), 764_220);
-    assert!(rt; sink.bytes().ends_with(b"\n65535 65535\n65536 65536\n"));
+    holds(&rt, "sink.bytes().len()", sink.bytes().len() == 764_220);
+    holds(
+        &rt,
+        "sink.bytes",
+        sink.bytes().ends_with(b"\n65535 65535\n65536 65536\n"),
+    );
     Ok(())
 }

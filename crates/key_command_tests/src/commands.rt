@@ -1,6 +1,7 @@
 //! Whole runs over ports in memory: the words, the status and the bytes that go out.
 ghost use Rattle.std.specs.Prelude.{◌≤◌};
 
+use crate::comparing::{holds, same};
 use bus_port::{CleanSource, MemSink};
 use cut_disk::MemDisk;
 use key_commands::{run_example, run_key};
@@ -47,7 +48,7 @@ fn status_of(
         [] => run_example(alloc, &mut request, sink, &mut disks),
         _ => run_key(alloc, words, &mut request, sink, &mut disks),
     };
-    assert_eq!(rt; disks.len(), 1);
+    holds(rt, "disks.len()", disks.len() == 1);
     Ok(status)
 }
 
@@ -61,8 +62,8 @@ fn check(
 ) -> Result<(), Fail> {
     let mut sink = MemSink::new(alloc, 1024, Vec::new(alloc), 1024)?;
     let answer = status_of(rt, alloc, words, &mut sink)?;
-    assert_eq!(rt; answer, status);
-    assert_eq!(rt; sink.bytes(), output.as_bytes());
+    same(rt, "answer", &answer, &status);
+    same(rt, "sink.bytes()", &sink.bytes(), &output.as_bytes());
     Ok(())
 }
 
@@ -104,8 +105,8 @@ fn check_failing(
     let words = words_of(alloc, CONFIRM)?;
     let mut sink = MemSink::new(alloc, room, vec![in alloc; failing]?, piece)?;
     let status = status_of(rt, alloc, words.as_slice(), &mut sink)?;
-    assert_eq!(rt; status, 6);
-    assert_eq!(rt; sink.bytes(), written.as_bytes());
+    same(rt, "status", &status, &6);
+    same(rt, "sink.bytes()", &sink.bytes(), &written.as_bytes());
     Ok(())
 }
 
@@ -134,8 +135,8 @@ fn check_without_disk(
     let mut sink = MemSink::new(alloc, 64, Vec::new(alloc), 64)?;
     let mut disks: Vec<MemDisk> = Vec::new(alloc);
     let answer = run_key(alloc, words.as_slice(), &mut request, &mut sink, &mut disks);
-    assert_eq!(rt; answer, status);
-    assert_eq!(rt; sink.bytes(), output.as_bytes());
+    same(rt, "answer", &answer, &status);
+    same(rt, "sink.bytes()", &sink.bytes(), &output.as_bytes());
     Ok(())
 }
 

@@ -1,6 +1,7 @@
 //! Requests that are loaded over disks in memory.
 ghost use Rattle.std.specs.Prelude.{◌≤◌};
 
+use crate::comparing::{holds, same};
 use any_cells::AnyCells;
 use bus_port::MemSink;
 use cell_store::{Kind, Version};
@@ -89,14 +90,24 @@ fn keys_are_loaded_once_in_either_store_and_version(rt: HostRuntime) -> Result<(
         for version in &[Version::One, Version::Two] {
             for cells in [14, 15] {
                 let played = play(alloc, fresh(alloc, *kind, *version, cells)?, 4096)?;
-                assert_eq!(rt; played.status, 0);
-                assert!(rt; played.output.starts_with(FIRST.as_bytes()));
-                assert!(rt; played.output.ends_with(SECOND.as_bytes()));
+                same(&rt, "played.status", &played.status, &0);
+                holds(
+                    &rt,
+                    "played.output.starts_with",
+                    played.output.starts_with(FIRST.as_bytes()),
+                );
+                holds(
+                    &rt,
+                    "played.output.ends_with",
+                    played.output.ends_with(SECOND.as_bytes()),
+                );
                 let again = play(alloc, played.disk, 4096)?;
-                assert_eq!(rt; again.status, 0);
-                assert_eq!(rt;
-                    again.output.as_slice(),
-                    b"refused KEY_UPDATE_ERROR\nrefused KEY_UPDATE_ERROR\n".as_slice()
+                same(&rt, "again.status", &again.status, &0);
+                same(
+                    &rt,
+                    "again.output",
+                    &again.output.as_slice(),
+                    &b"refused KEY_UPDATE_ERROR\nrefused KEY_UPDATE_ERROR\n".as_slice(),
                 );
             }
         }
@@ -143,7 +154,7 @@ fn a_newer_store_counts_where_it_is_of_the_same_kind_and_number(
 ) -> Result<(), Fail> {
     for (old, newer, counts) in &TWO_STORES {
         let found = changed(rt.alloc(), *old, *newer)?;
-        assert_eq!(rt; found, (!*counts, *counts));
+        same(&rt, "found", &found, &(!*counts, *counts));
     }
     Ok(())
 }
@@ -152,9 +163,17 @@ fn a_newer_store_counts_where_it_is_of_the_same_kind_and_number(
 fn check_sink(rt: &impl Abort, alloc: Global, room: usize, whole: &[u8]) -> Result<(), Fail> {
     let played = play(alloc, fresh(alloc, Kind::Twin, Version::One, 14)?, room)?;
     let status = if room < whole.len() { 6 } else { 0 };
-    assert_eq!(rt; played.status, status);
-    assert!(rt; whole.starts_with(played.output.as_slice()));
-    assert_eq!(rt; played.output.len(), room.min(whole.len()));
+    same(rt, "played.status", &played.status, &status);
+    holds(
+        rt,
+        "whole.starts_with",
+        whole.starts_with(played.output.as_slice()),
+    );
+    holds(
+        rt,
+        "played.output.len()",
+        played.output.len() == room.min(whole.len()),
+    );
     Ok(())
 }
 
@@ -176,19 +195,31 @@ fn check_stopped(rt: &impl Abort, alloc: Global, call: u64, torn: Torn) -> Resul
     let mut disk = fresh(alloc, Kind::Twin, Version::One, 14)?;
     disk.stop_at(call);
     let first = play(alloc, disk, 4096)?;
-    assert_eq!(rt; first.status, 10);
-    assert!(rt; first.output.starts_with(FIRST.as_bytes()));
-    assert!(rt; first.output.ends_with(b"\nrefused MEMORY_FAILURE\n"));
+    same(rt, "first.status", &first.status, &10);
+    holds(
+        rt,
+        "first.output.starts_with",
+        first.output.starts_with(FIRST.as_bytes()),
+    );
+    holds(
+        rt,
+        "first.output.ends_with",
+        first.output.ends_with(b"\nrefused MEMORY_FAILURE\n"),
+    );
     let mut disk = first.disk;
     disk.power_cut(torn);
     let second = play(alloc, disk, 4096)?;
-    assert_eq!(rt; second.status, 0);
-    assert!(rt; second.output.starts_with(b"refused KEY_UPDATE_ERROR\n"));
+    same(rt, "second.status", &second.status, &0);
+    holds(
+        rt,
+        "second.output.starts_with",
+        second.output.starts_with(b"refused KEY_UPDATE_ERROR\n"),
+    );
     let again = second.output.ends_with(SECOND.as_bytes());
     let there = second
         .output
         .ends_with(b"ERROR\nrefused KEY_UPDATE_ERROR\n");
-    assert!(rt; again != there);
+    holds(rt, "again != there", again != there);
     Ok(())
 }
 

@@ -2,6 +2,7 @@
 ghost use Rattle.std.specs.Prelude.{◌≡◌, ◌+◌, length, false};
 
 use crate::bench::{log_store, twin_store, uid};
+use crate::comparing::{holds, same};
 use crate::lives::{ID, START};
 use cell_store::{Cells, Version};
 use freshness_manager::{Direction, NodeConfig, Route};
@@ -59,14 +60,14 @@ fn refuses<C: Cells + Drop>(
         Ok(_) => return Err(Fail::from("a node")),
         Err(refused) => refused,
     };
-    assert_eq!(rt; refused.fault, fault);
+    same(rt, "refused.fault", &refused.fault, &fault);
     if usize::from(refused.cells.count()) != cells.len() {
         return Err(Fail::from("another number of cells"));
     }
     for place in 0..refused.cells.count() {
         let mut out = [1; 32];
         refused.cells.get(place, &mut out);
-        assert!(rt; out == cells[usize::from(place)]);
+        holds(rt, "out", out == cells[usize::from(place)]);
     }
     Ok(())
 }
@@ -89,7 +90,7 @@ fn the_lowest_cell_that_is_no_node_s_is_named(rt: HostRuntime) -> Result<(), Fai
         let mut cells = [[0; 32]; 270];
         let count = first_cells(&two_routes(alloc)?, &mut cells);
         for place in places {
-            assert!(rt; *place < 16);
+            holds(&rt, "*place < 16", *place < 16);
             cells[*place] = cell;
         }
         let cells = &cells[..count];

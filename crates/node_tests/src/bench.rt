@@ -2,6 +2,7 @@
 ghost use Rattle.std.specs.Prelude.{◌≡◌, ◌+◌, length, false, IfOk};
 ghost use Rattle.cell_store.specs.Store.{FewCells};
 
+use crate::comparing::{holds, same};
 use cell_store::{Cells, CutCells, Kind, LogCells, Reread, TwinCells, Version};
 use cut_disk::{MemDisk, Torn};
 use freshness_manager::{Direction, NodeConfig, Route};
@@ -313,18 +314,18 @@ fn play<C: CutCells>(rt: &impl Abort, node: &mut Node<C>, number: u8, given: &Gi
     for (place, row) in rows.iter().enumerate() {
         let mut out = buffer(&[]);
         let answer = does(node, number, given, &row.0, &mut out);
-        assert_eq!(rt; answer, row.1, "row {place}");
-        assert!(rt; out == buffer(row.2), "row {place}");
+        same(rt, place, &answer, &row.1);
+        holds(rt, place, out == buffer(row.2));
     }
 }
 
 /// The cells behind the slots begin with these bytes, and end in zeros.
 pub fn have_bounds(rt: &impl Abort, cells: &[[u8; 32]], bounds: &[[u8; 12]]) {
-    assert_eq!(rt; cells.len(), bounds.len());
+    holds(rt, "cells.len()", cells.len() == bounds.len());
     for (cell, bound) in cells.iter().zip(bounds) {
         let mut wanted = [0; 32];
         wanted[..12].copy_from_slice(bound);
-        assert!(rt; *cell == wanted);
+        holds(rt, "*cell == wanted", *cell == wanted);
     }
 }
 

@@ -6,6 +6,8 @@ mod attaching;
 #[cfg(test)]
 mod bench;
 #[cfg(test)]
+mod comparing;
+#[cfg(test)]
 mod lives;
 #[cfg(test)]
 mod routes;

@@ -2,6 +2,7 @@
 use crate::bench::{
     Act, Answer, NOTHING_GIVEN, Plan, Row, STORES, Way, config, have_bounds, plays, plays_over,
 };
+use crate::comparing::{holds, same};
 use crate::lives::{AFTER_CUT, EMPTY, FIRST, FIRST_KEY, ID, MAC, MASTER, PAYLOAD, START};
 use cut_disk::Torn;
 use freshness_manager::Direction;
@@ -78,10 +79,18 @@ const THREE: Plan<'static> = Plan {
 fn the_first_cells_are_empty_slots_and_starts(rt: HostRuntime) -> Result<(), Fail> {
     let mut cells = [[9; 32]; 270];
     let count = first_cells(&config(rt.alloc(), &THREE)?, &mut cells);
-    assert_eq!(rt; count, 17);
-    assert!(rt; cells[..14] == [[0; 32]; 14]);
+    same(&rt, "count", &count, &17);
+    holds(
+        &rt,
+        "cells[..14] == [[0; 32]; 14]",
+        cells[..14] == [[0; 32]; 14],
+    );
     have_bounds(&rt, &cells[14..17], &FIRST_BOUNDS);
-    assert!(rt; cells[17..] == [[9; 32]; 253]);
+    holds(
+        &rt,
+        "cells[17..] == [[9; 32]; 253]",
+        cells[17..] == [[9; 32]; 253],
+    );
     Ok(())
 }
 

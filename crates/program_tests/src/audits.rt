@@ -1,4 +1,5 @@
 //! Whole audits. The authenticators were made by Python's `cryptography`.
+use crate::comparing::same;
 use crate::shelf::{Shelf, input, words_of};
 use bus_port::{CleanSource, MemSink, MemSource};
 use named_sources::Paths;
@@ -60,8 +61,8 @@ fn check(rt: &impl Abort, alloc: Global, row: &Row) -> Result<(), Fail> {
     );
     let mut sink = MemSink::new(alloc, 1024, Vec::from_slice(alloc, row.3)?, 3)?;
     let status = run_audit(alloc, words.as_slice(), &mut map, &mut log, &mut sink);
-    assert_eq!(rt; status, row.4);
-    assert_eq!(rt; sink.bytes(), row.5.as_bytes());
+    same(rt, "status", &status, &row.4);
+    same(rt, "sink.bytes()", &sink.bytes(), &row.5.as_bytes());
     Ok(())
 }
 
@@ -106,8 +107,8 @@ fn check_named(rt: &impl Abort, alloc: Global, named: &Named) -> Result<(), Fail
         words.as_slice(),
         &mut sink,
     );
-    assert_eq!(rt; status, named.2);
-    assert_eq!(rt; sink.bytes(), named.3.as_bytes());
+    same(rt, "status", &status, &named.2);
+    same(rt, "sink.bytes()", &sink.bytes(), &named.3.as_bytes());
     Ok(())
 }
 
@@ -134,7 +135,12 @@ fn a_file_that_is_not_there_is_a_read_fault(rt: HostRuntime) -> Result<(), Fail>
         words.as_slice(),
         &mut sink,
     );
-    assert_eq!(rt; status, 5);
-    assert_eq!(rt; sink.bytes(), b"read fault\n".as_slice());
+    same(&rt, "status", &status, &5);
+    same(
+        &rt,
+        "sink.bytes()",
+        &sink.bytes(),
+        &b"read fault\n".as_slice(),
+    );
     Ok(())
 }

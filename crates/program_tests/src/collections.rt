@@ -1,4 +1,5 @@
 //! The parts of a collection, and how they join. The authenticators were made by Python's `cryptography`.
+use crate::comparing::{holds, same};
 use pdu_collection::{BadLength, Joiner, Linker};
 use she_aes::{Block, expand};
 use std::test::Fail;
@@ -21,7 +22,7 @@ fn links_are_1_to_4_bytes_of_the_first_60(rt: HostRuntime) {
         (60, 1, false),
         (255, 2, false),
     ] {
-        assert_eq!(rt; Linker::new(at, size).is_some(), good, "{at} {size}");
+        same(&rt, size, &Linker::new(at, size).is_some(), &good);
     }
 }
 
@@ -44,13 +45,9 @@ fn a_part_has_the_low_byte_the_authenticator_and_the_link(rt: HostRuntime) -> Re
         let mut out = [0xee; 8];
         let made = linker.part(&schedule, 0x6bc1, &payload, FRESHNESS, &mut out);
         match (made, wanted) {
-            (Some(length), Some(bytes)) => assert_eq!(rt;
-                &out[..length.min(8)],
-                bytes,
-                "{at} {size}"
-            ),
-            (None, None) => assert_eq!(rt; out, [0xee; 8]),
-            _ => assert!(rt; false, "{at} {size}"),
+            (Some(length), Some(bytes)) => same(&rt, size, &&out[..length.min(8)], &bytes),
+            (None, None) => same(&rt, "out", &out, &[0xee; 8]),
+            _ => holds(&rt, size, false),
         }
     }
     Ok(())
@@ -81,8 +78,13 @@ fn an_arrival_joins_the_latest_single_one_of_the_other_kind(rt: HostRuntime) -> 
         } else {
             joiner.cryptographic(pdu, &mut out)
         };
-        assert_eq!(rt; told, *wanted, "{number}");
+        same(&rt, number, &told, wanted);
     }
-    assert_eq!(rt; &out[..7], [1, 2, 8, 7, 7, 7, 7].as_slice());
+    same(
+        &rt,
+        "&out[..7]",
+        &&out[..7],
+        &[1, 2, 8, 7, 7, 7, 7].as_slice(),
+    );
     Ok(())
 }

@@ -1,4 +1,5 @@
 //! A receiver that keeps its counter. The authenticators were made by Python's `cryptography`.
+use crate::comparing::same;
 use counting_receiver::{WIDEST_WINDOW, push_verdict};
 use she_aes::{Block, expand};
 use std::alloc::{AllocError, Global};
@@ -61,8 +62,8 @@ fn verdict(alloc: Global, counter: u64, window: u16) -> Result<(Vec<u8>, u64), A
 fn the_counter_is_the_freshness_that_was_accepted_last(rt: HostRuntime) -> Result<(), Fail> {
     for (before, window, text, behind) in ROWS {
         let (told, counter) = verdict(rt.alloc(), before, window)?;
-        assert_eq!(rt; told.as_slice(), text.as_bytes());
-        assert_eq!(rt; counter, behind);
+        same(&rt, "told", &told.as_slice(), &text.as_bytes());
+        same(&rt, "counter", &counter, &behind);
     }
     Ok(())
 }

@@ -8,6 +8,8 @@ mod audits;
 #[cfg(test)]
 mod collections;
 #[cfg(test)]
+mod comparing;
+#[cfg(test)]
 mod counters;
 #[cfg(test)]
 mod pairs;

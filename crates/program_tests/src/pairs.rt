@@ -1,4 +1,5 @@
 //! Whole runs over scripts of pairs. The authenticators were made by Python's `cryptography`.
+use crate::comparing::same;
 use crate::shelf::{Shelf, input, words_of};
 use bus_port::{MemSink, MemSource};
 use pdu_collection::{pair_words, run_pairs};
@@ -51,8 +52,8 @@ fn check(rt: &impl Abort, alloc: Global, row: &Row) -> Result<(), Fail> {
     );
     let mut sink = MemSink::new(alloc, 1024, Vec::from_slice(alloc, row.3)?, 3)?;
     let status = run_pairs(alloc, words.as_slice(), &mut script, &mut sink);
-    assert_eq!(rt; status, row.4);
-    assert_eq!(rt; sink.bytes(), row.5.as_bytes());
+    same(rt, "status", &status, &row.4);
+    same(rt, "sink.bytes()", &sink.bytes(), &row.5.as_bytes());
     Ok(())
 }
 
@@ -82,8 +83,8 @@ fn check_named(rt: &impl Abort, alloc: Global, named: &Named) -> Result<(), Fail
     let words = words_of(alloc, named.0)?;
     let mut sink = MemSink::new(alloc, 1024, Vec::new(alloc), 1024)?;
     let (status, _) = pair_words(alloc, &SHELF, input(named.1), words.as_slice(), &mut sink);
-    assert_eq!(rt; status, named.2);
-    assert_eq!(rt; sink.bytes(), named.3.as_bytes());
+    same(rt, "status", &status, &named.2);
+    same(rt, "sink.bytes()", &sink.bytes(), &named.3.as_bytes());
     Ok(())
 }
 

@@ -1,4 +1,5 @@
 //! Whole watches of a log, where a port fails in its midst. The authenticator was made by Python's `cryptography`.
+use crate::comparing::same;
 use crate::shelf::words_of;
 use bus_port::{MemSink, MemSource};
 use log_watch::run_watch;
@@ -57,8 +58,8 @@ fn check(rt: &impl Abort, alloc: Global, row: &Row) -> Result<(), Fail> {
     );
     let mut sink = MemSink::new(alloc, 1024, Vec::from_slice(alloc, row.3)?, 3)?;
     let status = run_watch(alloc, words.as_slice(), &mut map, &mut log, &mut sink);
-    assert_eq!(rt; status, row.4);
-    assert_eq!(rt; sink.bytes(), row.5.as_bytes());
+    same(rt, "status", &status, &row.4);
+    same(rt, "sink.bytes()", &sink.bytes(), &row.5.as_bytes());
     Ok(())
 }
 

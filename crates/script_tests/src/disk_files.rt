@@ -1,6 +1,7 @@
 //! Disks over real files, each test in a folder of its own.
 ghost use Rattle.std.specs.Prelude.{◌≤◌, ◌^◌, length};
 
+use crate::comparing::{holds, same};
 use cut_disk::{CutDisk, Disk, DiskFailed, Torn};
 use file_disk::{FileDisk, SystemFile};
 use std::fs::OpenOptions;
@@ -54,20 +55,25 @@ fn a_file_is_made_and_keeps_what_was_synced(rt: HostRuntime) -> Result<(), Fail>
     let folder = empty_folder(&rt, "made")?;
     let path = format!(in rt.alloc(); "{folder}/disk")?;
     let mut disk = FileDisk::on(&rt, path.as_str());
-    assert_eq!(rt; disk.size(), 65536);
-    assert_eq!(rt; fs::metadata(&rt, path.as_str())?.len(), 65536);
+    same(&rt, "disk.size()", &disk.size(), &65536);
+    same(
+        &rt,
+        "fs::metadata",
+        &fs::metadata(&rt, path.as_str())?.len(),
+        &65536,
+    );
     let mut all = vec![in rt.alloc(); 9; 65536]?;
     read_at(&mut disk, 0, &mut all)?;
-    assert!(rt; all.iter().all(|byte| *byte == 0));
+    holds(&rt, "all.iter", all.iter().all(|byte| *byte == 0));
     write_at(&mut disk, 65534, &[7, 8])?;
     disk.sync()?;
     disk.power_cut(Torn::Old);
     drop(disk);
     let mut again = FileDisk::on(&rt, path.as_str());
-    assert_eq!(rt; again.size(), 65536);
+    same(&rt, "again.size()", &again.size(), &65536);
     let mut end = [9; 3];
     read_at(&mut again, 65533, &mut end)?;
-    assert_eq!(rt; end, [0, 7, 8]);
+    same(&rt, "end", &end, &[0, 7, 8]);
     fs::remove_dir_all(&rt, folder.as_str())?;
     Ok(())
 }
@@ -78,8 +84,8 @@ fn a_disk_over_no_file_has_65536_bytes_and_each_call_fails(rt: HostRuntime) -> R
     for path in ["/not/there", "", "/"] {
         let path = format!(in rt.alloc(); "{folder}{path}")?;
         let mut disk = FileDisk::on(&rt, path.as_str());
-        assert_eq!(rt; disk.size(), 65536);
-        assert_eq!(rt; answers(&mut disk), *b"xxx");
+        same(&rt, "disk.size()", &disk.size(), &65536);
+        same(&rt, "answers(&mut disk)", &answers(&mut disk), b"xxx");
     }
     fs::remove_dir_all(&rt, folder.as_str())?;
     Ok(())
@@ -94,13 +100,13 @@ fn a_write_protected_file_is_read_until_a_write_fails(rt: HostRuntime) -> Result
     permissions.set_readonly(true);
     fs::set_permissions(&rt, path.as_str(), permissions)?;
     let mut disk = FileDisk::on(&rt, path.as_str());
-    assert_eq!(rt; disk.size(), 3);
+    same(&rt, "disk.size()", &disk.size(), &3);
     let mut out = [9; 3];
     read_at(&mut disk, 0, &mut out)?;
-    assert_eq!(rt; out, [1, 2, 3]);
+    same(&rt, "out", &out, &[1, 2, 3]);
     disk.sync()?;
-    assert_eq!(rt; answers(&mut disk), *b".xx");
-    assert_eq!(rt; answers(&mut disk), *b"xxx");
+    same(&rt, "answers(&mut disk)", &answers(&mut disk), b".xx");
+    same(&rt, "answers(&mut disk)", &answers(&mut disk), b"xxx");
     fs::remove_dir_all(&rt, folder.as_str())?;
     Ok(())
 }
@@ -111,21 +117,33 @@ fn a_file_that_became_shorter_is_not_asked_again(rt: HostRuntime) -> Result<(), 
     let path = format!(in rt.alloc(); "{folder}/disk")?;
     fs::write(&rt, path.as_str(), [1, 2, 3, 4].as_slice())?;
     let mut disk = FileDisk::on(&rt, path.as_str());
-    assert_eq!(rt; answers(&mut disk), *b"...");
+    same(&rt, "answers(&mut disk)", &answers(&mut disk), b"...");
     let shortened = OpenOptions::new().write(true).open(&rt, path.as_str())?;
     shortened.set_len(3)?;
-    assert_eq!(rt; disk.size(), 4);
-    assert_eq!(rt; read_at(&mut disk, 2, &mut [0, 0]), Err(DiskFailed));
-    assert_eq!(rt; answers(&mut disk), *b".xx");
-    assert_eq!(rt;
-        fs::read(&rt, path.as_str())?.as_slice(),
-        [5, 6, 3].as_slice()
+    same(&rt, "disk.size()", &disk.size(), &4);
+    same(
+        &rt,
+        "read_at",
+        &read_at(&mut disk, 2, &mut [0, 0]),
+        &Err(DiskFailed),
+    );
+    same(&rt, "answers(&mut disk)", &answers(&mut disk), b".xx");
+    same(
+        &rt,
+        "fs::read",
+        &fs::read(&rt, path.as_str())?.as_slice(),
+        &[5, 6, 3].as_slice(),
     );
     shortened.set_len(4)?;
     disk.power_cut(Torn::Keep);
-    assert_eq!(rt; answers(&mut disk), *b"xxx");
+    same(&rt, "answers(&mut disk)", &answers(&mut disk), b"xxx");
     drop(disk);
-    assert_eq!(rt; answers(&mut FileDisk::on(&rt, path.as_str())), *b"...");
+    same(
+        &rt,
+        "answers",
+        &answers(&mut FileDisk::on(&rt, path.as_str())),
+        b"...",
+    );
     fs::remove_dir_all(&rt, folder.as_str())?;
     Ok(())
 }
@@ -165,13 +183,23 @@ fn arms_and_stops_are_those_of_the_disk_in_memory(rt: HostRuntime) -> Result<(),
         (4, 3, b"..xx", b"...."),
     ] {
         let mut disk = FileDisk::on(&rt, path.as_str());
-        assert_eq!(rt; armed_answers(&mut disk, stop, fail), [*before, *after]);
+        same(
+            &rt,
+            "armed_answers",
+            &armed_answers(&mut disk, stop, fail),
+            &[*before, *after],
+        );
     }
     let mut disk = FileDisk::on(&rt, path.as_str());
     disk.fail_at(2);
-    assert_eq!(rt; answers(&mut disk), *b".x.");
-    assert_eq!(rt; answers(&mut disk), *b"...");
-    assert_eq!(rt; fs::read(&rt, path.as_str())?.as_slice(), [5, 6].as_slice());
+    same(&rt, "answers(&mut disk)", &answers(&mut disk), b".x.");
+    same(&rt, "answers(&mut disk)", &answers(&mut disk), b"...");
+    same(
+        &rt,
+        "fs::read",
+        &fs::read(&rt, path.as_str())?.as_slice(),
+        &[5, 6].as_slice(),
+    );
     fs::remove_dir_all(&rt, folder.as_str())?;
     Ok(())
 }
@@ -182,10 +210,15 @@ fn an_empty_file_stays_one(rt: HostRuntime) -> Result<(), Fail> {
     let path = format!(in rt.alloc(); "{folder}/disk")?;
     fs::write(&rt, path.as_str(), [].as_slice())?;
     let mut disk = FileDisk::over(SystemFile::on(&rt, path.as_str()), 0);
-    assert_eq!(rt; disk.size(), 0);
+    same(&rt, "disk.size()", &disk.size(), &0);
     disk.sync()?;
     drop(disk);
-    assert_eq!(rt; FileDisk::on(&rt, path.as_str()).size(), 0);
+    same(
+        &rt,
+        "FileDisk::on",
+        &FileDisk::on(&rt, path.as_str()).size(),
+        &0,
+    );
     fs::remove_dir_all(&rt, folder.as_str())?;
     Ok(())
 }
@@ -197,12 +230,17 @@ fn a_file_is_open_in_one_place_at_a_time(rt: HostRuntime) -> Result<(), Fail> {
     fs::write(&rt, path.as_str(), [1, 2].as_slice())?;
     let mut disk = FileDisk::on(&rt, path.as_str());
     let mut other = FileDisk::on(&rt, path.as_str());
-    assert_eq!(rt; other.size(), 65536);
-    assert_eq!(rt; answers(&mut other), *b"xxx");
-    assert_eq!(rt; answers(&mut disk), *b"...");
+    same(&rt, "other.size()", &other.size(), &65536);
+    same(&rt, "answers(&mut other)", &answers(&mut other), b"xxx");
+    same(&rt, "answers(&mut disk)", &answers(&mut disk), b"...");
     drop(disk);
-    assert_eq!(rt; answers(&mut other), *b"xxx");
-    assert_eq!(rt; FileDisk::on(&rt, path.as_str()).size(), 2);
+    same(&rt, "answers(&mut other)", &answers(&mut other), b"xxx");
+    same(
+        &rt,
+        "FileDisk::on",
+        &FileDisk::on(&rt, path.as_str()).size(),
+        &2,
+    );
     fs::remove_dir_all(&rt, folder.as_str())?;
     Ok(())
 }

@@ -1,4 +1,5 @@
 //! Lines that were sent are found by the number of their event, and by what they carry.
+use crate::comparing::same;
 use bus_machine::Line;
 use byte_lists::Pdu;
 use sent_lines::History;
@@ -36,10 +37,20 @@ fn a_line_is_found_by_its_event_and_by_what_it_carries(rt: HostRuntime) -> Resul
             (0x6bc3, 7, 1, None),
         ] {
             let payload = [first, 2, 3, 4, 5, 6];
-            assert_eq!(rt; history.source(id, &payload, freshness), event);
+            same(
+                &rt,
+                "history.source",
+                &history.source(id, &payload, freshness),
+                &event,
+            );
         }
         for (number, id) in [(1, Some(0x6bc1)), (2, None), (3, Some(0x6bc2)), (9, None)] {
-            assert_eq!(rt; history.frame(number).map(|frame| frame.id), id);
+            same(
+                &rt,
+                "history.frame",
+                &history.frame(number).map(|frame| frame.id),
+                &id,
+            );
         }
         history = noted(history, &sent(0x6bc1, 8, 1)?)?;
     }

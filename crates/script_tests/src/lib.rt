@@ -5,6 +5,8 @@
 #[cfg(test)]
 mod buses;
 #[cfg(test)]
+mod comparing;
+#[cfg(test)]
 mod disk_files;
 #[cfg(test)]
 mod histories;

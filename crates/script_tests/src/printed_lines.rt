@@ -1,4 +1,5 @@
 //! Each kind of line, written as the text that is to be printed.
+use crate::comparing::same;
 use bus_machine::{Line, Refusal};
 use bus_texts::write_line;
 use byte_lists::Pdu;
@@ -73,8 +74,13 @@ fn lines_that_carry_bytes_are_written_in_lower_case_digits(rt: HostRuntime) -> R
     ];
     for (number, line, text) in rows {
         let mut out = Vec::new(rt.alloc());
-        assert_eq!(rt; write_line(rt.alloc(), number, &line, &mut out), Ok(()));
-        assert_eq!(rt; out.as_slice(), text);
+        same(
+            &rt,
+            "write_line",
+            &write_line(rt.alloc(), number, &line, &mut out),
+            &Ok(()),
+        );
+        same(&rt, "out", &out.as_slice(), &text);
     }
     Ok(())
 }
@@ -147,8 +153,13 @@ fn every_other_line_has_its_words(rt: HostRuntime) -> Result<(), Fail> {
     ];
     for (line, text) in rows {
         let mut out = Vec::new(rt.alloc());
-        assert_eq!(rt; write_line(rt.alloc(), 7, &line, &mut out), Ok(()));
-        assert_eq!(rt; out.as_slice(), text);
+        same(
+            &rt,
+            "write_line",
+            &write_line(rt.alloc(), 7, &line, &mut out),
+            &Ok(()),
+        );
+        same(&rt, "out", &out.as_slice(), &text);
     }
     Ok(())
 }
@@ -164,17 +175,29 @@ fn lines_stand_one_behind_the_other_and_the_longest_is_written_whole(
         from: Some(4_294_967_295),
     };
     let mut out = Vec::new(rt.alloc());
-    assert_eq!(rt; write_line(rt.alloc(), 1, &Line::Up, &mut out), Ok(()));
-    assert_eq!(rt; write_line(rt.alloc(), 2, &Line::Armed, &mut out), Ok(()));
-    assert_eq!(rt;
-        write_line(rt.alloc(), 4_294_967_295, &longest, &mut out),
-        Ok(())
+    same(
+        &rt,
+        "write_line",
+        &write_line(rt.alloc(), 1, &Line::Up, &mut out),
+        &Ok(()),
+    );
+    same(
+        &rt,
+        "write_line",
+        &write_line(rt.alloc(), 2, &Line::Armed, &mut out),
+        &Ok(()),
+    );
+    same(
+        &rt,
+        "write_line",
+        &write_line(rt.alloc(), 4_294_967_295, &longest, &mut out),
+        &Ok(()),
     );
     let mut want = b"1 up\n2 armed\n4294967295 accepted ffff ffffffffffffffff ".to_vec(rt.alloc())?;
     for _ in 0..64u32 {
         want.extend_from_slice(b"5a")?;
     }
     want.extend_from_slice(b" from 4294967295\n")?;
-    assert_eq!(rt; out.as_slice(), want.as_slice());
+    same(&rt, "out", &out.as_slice(), &want.as_slice());
     Ok(())
 }

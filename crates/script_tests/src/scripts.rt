@@ -1,5 +1,6 @@
 //! Scripts over a bus of two nodes: what is read, what is refused and where, and what is written.
 use crate::buses::bus_of;
+use crate::comparing::{holds, same};
 use bus_script::{BusConfig, Cause, ScriptFault, read_own_script, read_script, write_event};
 use freshness_routes::Direction;
 use std::alloc::Global;
@@ -45,9 +46,9 @@ fn every_event_is_read_and_written_in_canonical_form(rt: HostRuntime) -> Result<
     let canon =
         "send left 6bc1 bee22e409f96\nsend left 6bc1 -\ndeliver right 1\ninject right 6bc1 0a\nload left 00000000000000000000000000000141 2b111e2d93f486566bcbba1d7f7a9797c94643b050fc5d4d7de14cff682203c3 b9d745e5ace7d41860bc63c2b9f5bb46\nkey left 000000000000000000000000000001 1 2 ffffffffffffffffffffffffffffffff 268435455 10101 000102030405060708090a0b0c0d0e0f\nkey right 00000000000000000000000000000a 0 13 ffffffffffffffffffffffffffffffff 0 01010 000102030405060708090a0b0c0d0e0f\nboot left ff00\ncut left keep\ncut left old\ncut left half\ncut right a7\nstop left 1\nstop left 1000000\nfail right 7\ndeliver left 65536\n";
     let written = canonical(alloc, &bus, script)?;
-    assert_eq!(rt; written.as_slice(), canon.as_bytes());
+    same(&rt, "written", &written.as_slice(), &canon.as_bytes());
     let again = canonical(alloc, &bus, canon)?;
-    assert_eq!(rt; again.as_slice(), canon.as_bytes());
+    same(&rt, "again", &again.as_slice(), &canon.as_bytes());
     Ok(())
 }
 
@@ -55,12 +56,12 @@ fn every_event_is_read_and_written_in_canonical_form(rt: HostRuntime) -> Result<
 fn refused(rt: &impl Abort, alloc: Global, bus: &BusConfig, script: &str, line: u32, cause: Cause) {
     let text = script.as_bytes();
     if text.len() > MOST_BYTES {
-        assert!(rt; false, "a long script");
+        holds(rt, "a long script", false);
         return;
     }
     match read_script(alloc, text, bus) {
-        Err(fault) => assert_eq!(rt; fault, ScriptFault::At { line, cause }, "{script}"),
-        Ok(_) => assert!(rt; false, "{script}"),
+        Err(fault) => same(rt, script, &fault, &ScriptFault::At { line, cause }),
+        Ok(_) => holds(rt, script, false),
     }
 }
 
@@ -166,7 +167,7 @@ fn own_events_are_read_alone(rt: HostRuntime) -> Result<(), Fail> {
         }
         let events = read_own_script(alloc, script.as_slice(), &bus);
         let want = answer.map_err(|cause| ScriptFault::At { line: 8, cause });
-        assert_eq!(rt; events.map(|events| events.len()), want, "{behind}");
+        same(&rt, behind, &events.map(|events| events.len()), &want);
     }
     Ok(())
 }
@@ -190,7 +191,12 @@ fn as_many_events_as_a_script_has_are_read(rt: HostRuntime) -> Result<(), Fail> 
             return Err(Fail::from("a long script"));
         }
         let events = read_script(alloc, script.as_slice(), &bus);
-        assert_eq!(rt; events.map(|events| events.len()), answer);
+        same(
+            &rt,
+            "events.map",
+            &events.map(|events| events.len()),
+            &answer,
+        );
     }
     Ok(())
 }

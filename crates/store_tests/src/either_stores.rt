@@ -2,6 +2,7 @@
 ghost use Rattle.std.specs.Prelude.{◌≡◌, ◌≤◌, length, false, IfOk};
 ghost use Rattle.any_cells.specs.Either.{any_state};
 
+use crate::comparing::{holds, same};
 use crate::cutting::{ELEVENS, ZEROS, put_and_cut};
 use any_cells::{
     AnyCells, Found, look, migrate, open_store, probe_two, store_fault_text, store_size,
@@ -45,8 +46,8 @@ fn a_put_is_whole_or_absent_in_either_store(rt: HostRuntime) -> Result<(), Fail>
                     let mut store = fresh_store(rt.alloc(), *kind, *version)?;
                     let (done, cell) = put_and_cut(&mut store, 1, u64::from(call), *torn)?;
                     let new = done || (call >= *opening && *is_new);
-                    assert_eq!(rt; cell, if new { ELEVENS } else { ZEROS });
-                    assert_eq!(rt; done, call > *opening + 1);
+                    same(&rt, "cell", &cell, &(if new { ELEVENS } else { ZEROS }));
+                    same(&rt, "done", &done, &(call > *opening + 1));
                 }
             }
         }
@@ -58,26 +59,56 @@ fn a_put_is_whole_or_absent_in_either_store(rt: HostRuntime) -> Result<(), Fail>
 fn the_store_of_version_two_is_probed(rt: HostRuntime) -> Result<(), Fail> {
     for kind in &[Kind::Twin, Kind::Log] {
         let mut store = fresh_store(rt.alloc(), *kind, Version::Two)?;
-        assert_eq!(rt; store.count(), 2);
+        holds(&rt, "store.count()", store.count() == 2);
         store.fail_at(9);
         let mut disk = store.release();
         let found = Probe::Store {
             kind: *kind,
             cells: 2,
         };
-        assert_eq!(rt; probe_two(&mut disk), Ok(found));
+        same(
+            &rt,
+            "probe_two(&mut disk)",
+            &probe_two(&mut disk),
+            &Ok(found),
+        );
     }
     let mut disk = MemDisk::new(rt.alloc(), 32799)?;
-    assert_eq!(rt; probe_two(&mut disk), Err(StoreFault::TooSmall));
+    same(
+        &rt,
+        "probe_two(&mut disk)",
+        &probe_two(&mut disk),
+        &Err(StoreFault::TooSmall),
+    );
     Ok(())
 }
 
 #[test]
 fn sizes_are_those_of_kind_and_version(rt: HostRuntime) -> Result<(), Fail> {
-    assert_eq!(rt; store_size(Kind::Twin, Version::One, 15), 1052);
-    assert_eq!(rt; store_size(Kind::Log, Version::One, 15), 5476);
-    assert_eq!(rt; store_size(Kind::Twin, Version::Two, 15), 33820);
-    assert_eq!(rt; store_size(Kind::Log, Version::Two, 15), 38244);
+    same(
+        &rt,
+        "store_size",
+        &store_size(Kind::Twin, Version::One, 15),
+        &1052,
+    );
+    same(
+        &rt,
+        "store_size",
+        &store_size(Kind::Log, Version::One, 15),
+        &5476,
+    );
+    same(
+        &rt,
+        "store_size",
+        &store_size(Kind::Twin, Version::Two, 15),
+        &33820,
+    );
+    same(
+        &rt,
+        "store_size",
+        &store_size(Kind::Log, Version::Two, 15),
+        &38244,
+    );
     Ok(())
 }
 
@@ -154,8 +185,8 @@ fn a_migration_that_is_stopped_and_cut_keeps_the_cells(rt: HostRuntime) -> Resul
         for call in 1..*calls + 2 {
             for torn in &torn {
                 let (done, disk) = stop_and_migrate(rt.alloc(), *kind, u64::from(call), *torn)?;
-                assert_eq!(rt; done, call > *calls);
-                assert!(rt; has_fifteen(rt.alloc(), disk, *kind)?);
+                same(&rt, "done", &done, &(call > *calls));
+                holds(&rt, "has_fifteen", has_fifteen(rt.alloc(), disk, *kind)?);
             }
         }
     }
@@ -225,12 +256,17 @@ fn a_migration_is_refused_by_size_and_by_the_bytes_that_count(rt: HostRuntime) -
     ];
     for (kind, version, changes, fault) in &rows {
         let disk = disk_of_fifteen(rt.alloc(), *kind, *version)?;
-        assert_eq!(rt; migrated(rt.alloc(), disk, *kind, changes)?, *fault);
+        same(
+            &rt,
+            "migrated",
+            &migrated(rt.alloc(), disk, *kind, changes)?,
+            fault,
+        );
     }
     let disk = MemDisk::new(rt.alloc(), 33819)?;
     let unchanged = [(0, 0), (0, 0)];
     let fault = migrated(rt.alloc(), disk, Kind::Twin, &unchanged)?;
-    assert_eq!(rt; fault, Some(StoreFault::TooSmall));
+    same(&rt, "fault", &fault, &Some(StoreFault::TooSmall));
     Ok(())
 }
 
@@ -304,11 +340,26 @@ fn finds(
     version: Version,
     found: Found,
 ) -> Result<(), Fail> {
-    assert_eq!(rt; looked(alloc, laid, kind, version, 0)?, Ok(found));
+    same(
+        rt,
+        "looked",
+        &looked(alloc, laid, kind, version, 0)?,
+        &Ok(found),
+    );
     for stop in 1..3 {
-        assert_eq!(rt; looked(alloc, laid, kind, version, stop)?, Err(DiskFailed));
+        same(
+            rt,
+            "looked",
+            &looked(alloc, laid, kind, version, stop)?,
+            &Err(DiskFailed),
+        );
     }
-    assert_eq!(rt; looked(alloc, laid, kind, version, 3)?, Ok(found));
+    same(
+        rt,
+        "looked",
+        &looked(alloc, laid, kind, version, 3)?,
+        &Ok(found),
+    );
     Ok(())
 }
 
@@ -358,9 +409,11 @@ fn a_look_for_version_two_finds_by_both_headers(rt: HostRuntime) -> Result<(), F
 #[test]
 fn a_look_for_version_one_needs_no_place_for_version_two(rt: HostRuntime) -> Result<(), Fail> {
     let mut disk = MemDisk::new(rt.alloc(), 1052)?;
-    assert_eq!(rt;
-        look(&mut disk, Kind::Twin, Version::One, 15),
-        Ok(Found::Blank)
+    same(
+        &rt,
+        "look",
+        &look(&mut disk, Kind::Twin, Version::One, 15),
+        &Ok(Found::Blank),
     );
     Ok(())
 }
@@ -406,8 +459,8 @@ fn is_refused(
     let mut disk = disk_with(alloc, laid)?;
     let before = bytes_of(&mut disk)?;
     let (answer, mut after) = opened(alloc, disk, laid.kind, version);
-    assert_eq!(rt; answer, Err(fault));
-    assert!(rt; bytes_of(&mut after)? == before);
+    same(rt, "answer", &answer, &Err(fault));
+    holds(rt, "bytes_of", bytes_of(&mut after)? == before);
     Ok(())
 }
 
@@ -418,12 +471,12 @@ fn a_blank_disk_gets_a_store_that_is_found_again(rt: HostRuntime) -> Result<(), 
         for version in [Version::One, Version::Two] {
             let disk = MemDisk::new(alloc, 40000)?;
             let (made, disk) = opened(alloc, disk, kind, version);
-            assert_eq!(rt; made, Ok([0x22; 32]));
+            same(&rt, "made", &made, &Ok([0x22; 32]));
             let (found, _) = match open_store(alloc, disk, kind, version, &[ZEROS, ZEROS]) {
                 Ok(store) => opened(alloc, store.release(), kind, version),
                 Err(refused) => return Err(Fail::from(refused.fault)),
             };
-            assert_eq!(rt; found, Ok([0x22; 32]));
+            same(&rt, "found", &found, &Ok([0x22; 32]));
         }
     }
     Ok(())
@@ -449,16 +502,16 @@ fn a_damaged_store_and_a_small_disk_are_refused(rt: HostRuntime) -> Result<(), F
     let alloc = rt.alloc();
     for (kind, gate, number) in [(Kind::Twin, 100, 1), (Kind::Log, 32, 0)] {
         let (_, mut disk) = opened(alloc, MemDisk::new(alloc, 40000)?, kind, Version::One);
-        assert!(rt; gate <= 100);
-        assert!(rt; disk.size() == 40000);
+        holds(&rt, "gate <= 100", gate <= 100);
+        holds(&rt, "disk.size() == 40000", disk.size() == 40000);
         disk.write(gate, &[0])?;
         disk.write(gate + 34, &[0])?;
         let (answer, _) = opened(alloc, disk, kind, Version::One);
-        assert_eq!(rt; answer, Err(StoreFault::Damaged(number)));
+        same(&rt, "answer", &answer, &Err(StoreFault::Damaged(number)));
     }
     let (answer, disk) = opened(alloc, MemDisk::new(alloc, 167)?, Kind::Twin, Version::One);
-    assert_eq!(rt; answer, Err(StoreFault::TooSmall));
-    assert_eq!(rt; disk.size(), 167);
+    same(&rt, "answer", &answer, &Err(StoreFault::TooSmall));
+    holds(&rt, "disk.size()", disk.size() == 167);
     Ok(())
 }
 
@@ -470,10 +523,10 @@ fn opening_over_a_disk_that_stops_is_refused(rt: HostRuntime) -> Result<(), Fail
         let mut disk = MemDisk::new(alloc, 168)?;
         disk.stop_at(u64::from(call));
         let (answer, mut disk) = opened(alloc, disk, Kind::Twin, Version::One);
-        assert_eq!(rt; answer, Err(StoreFault::DiskFailed));
+        same(&rt, "answer", &answer, &Err(StoreFault::DiskFailed));
         disk.power_cut(Torn::Old);
         let (again, _) = opened(alloc, disk, Kind::Twin, Version::One);
-        assert_eq!(rt; again, Ok([0x22; 32]));
+        same(&rt, "again", &again, &Ok([0x22; 32]));
     }
     Ok(())
 }
@@ -488,7 +541,7 @@ fn faults_are_told_by_name_and_number(rt: HostRuntime) -> Result<(), Fail> {
         (StoreFault::TooSmall, "TooSmall"),
     ] {
         let told = store_fault_text(rt.alloc(), fault)?;
-        assert_eq!(rt; told.as_str(), text);
+        same(&rt, "told", &told.as_str(), &text);
     }
     Ok(())
 }

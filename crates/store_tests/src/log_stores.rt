@@ -1,6 +1,7 @@
 // Log stores over disks in memory.
 ghost use Rattle.std.specs.Prelude.{◌≡◌, length, false, IfOk};
 
+use crate::comparing::{holds, same};
 use crate::cutting::{ELEVENS, ZEROS, put_and_cut};
 use cell_store::*;
 use cut_disk::{Disk, MemDisk, Torn};
@@ -65,47 +66,57 @@ fn a_fresh_log_store_has_these_bytes(rt: HostRuntime) -> Result<(), Fail> {
     let mut disk = fresh_store(rt.alloc(), Version::One)?.release();
     let mut out = [0; 4580];
     read_from(&mut disk, Version::One, 0, &mut out)?;
-    assert_eq!(rt; out.as_slice(), fresh_bytes().as_slice());
+    same(&rt, "out", &out.as_slice(), &fresh_bytes().as_slice());
     let mut disk = fresh_store(rt.alloc(), Version::Two)?.release();
     let mut head = [0; 32];
     read_from(&mut disk, Version::Two, 0, &mut head)?;
-    assert_eq!(rt; head, head_of(Version::Two));
+    same(&rt, "head", &head, &head_of(Version::Two));
     let found = Probe::Store {
         kind: Kind::Log,
         cells: 1,
     };
-    assert_eq!(rt; probe(&mut disk), Ok(Probe::Blank));
-    assert_eq!(rt; probe_as(&mut disk, Version::Two), Ok(found));
+    same(
+        &rt,
+        "probe(&mut disk)",
+        &probe(&mut disk),
+        &Ok(Probe::Blank),
+    );
+    same(
+        &rt,
+        "probe_as",
+        &probe_as(&mut disk, Version::Two),
+        &Ok(found),
+    );
     Ok(())
 }
 
 #[test]
 fn a_smaller_disk_is_too_small_for_a_log(rt: HostRuntime) -> Result<(), Fail> {
     let alloc = rt.alloc();
-    assert_eq!(rt; log_size(1), 4580);
+    same(&rt, "log_size(1)", &log_size(1), &4580);
     let disk = MemDisk::new(alloc, 4579)?;
     let Err(refused) = LogCells::format(disk, &[ZEROS]) else {
         return Err(Fail::from("it was formatted"));
     };
-    assert_eq!(rt; refused.fault, StoreFault::TooSmall);
+    same(&rt, "refused.fault", &refused.fault, &StoreFault::TooSmall);
     let Err(refused) = LogCells::attach(alloc, refused.disk, 1) else {
         return Err(Fail::from("it was attached"));
     };
-    assert_eq!(rt; refused.fault, StoreFault::TooSmall);
+    same(&rt, "refused.fault", &refused.fault, &StoreFault::TooSmall);
     Ok(())
 }
 
 #[test]
 fn a_put_takes_the_first_free_place(rt: HostRuntime) -> Result<(), Fail> {
     let mut store = fresh_store(rt.alloc(), Version::One)?;
-    assert!(rt; store.put(0, &ELEVENS).is_ok());
+    holds(&rt, "store.put", store.put(0, &ELEVENS).is_ok());
     let mut disk = store.release();
     let mut out = [0; 4580];
     read_from(&mut disk, Version::One, 0, &mut out)?;
     let mut expected = fresh_bytes();
     expected[66] = 0xa7;
     expected[69..101].copy_from_slice(&ELEVENS);
-    assert_eq!(rt; out.as_slice(), expected.as_slice());
+    same(&rt, "out", &out.as_slice(), &expected.as_slice());
     Ok(())
 }
 
@@ -149,11 +160,11 @@ fn the_65th_and_the_130th_put_fill_the_other_bank(rt: HostRuntime) -> Result<(),
     let alloc = rt.alloc();
     let disk = fresh_store(alloc, Version::One)?.release();
     let (next_fails, out, disk) = fill_and_put(alloc, disk, 4, 2306)?;
-    assert!(rt; next_fails);
-    assert_eq!(rt; out, [0xa7, 1]);
+    holds(&rt, "next_fails", next_fails);
+    same(&rt, "out", &out, &[0xa7, 1]);
     let (next_fails, out, _) = fill_and_put(alloc, disk, 6, 32)?;
-    assert!(rt; next_fails);
-    assert_eq!(rt; out, [0xa7, 2]);
+    holds(&rt, "next_fails", next_fails);
+    same(&rt, "out", &out, &[0xa7, 2]);
     Ok(())
 }
 
@@ -176,7 +187,7 @@ fn damages_of_a_log_are_found(rt: HostRuntime) -> Result<(), Fail> {
             Ok(_) => None,
             Err(refused) => Some(refused.fault),
         };
-        assert_eq!(rt; found, *fault);
+        same(&rt, "found", &found, fault);
     }
     Ok(())
 }
@@ -199,8 +210,8 @@ fn a_record_is_whole_or_absent_after_a_cut(rt: HostRuntime) -> Result<(), Fail> 
             for (torn, is_new) in torn.iter().zip(row) {
                 let mut store = fresh_store(rt.alloc(), *version)?;
                 let (done, cell) = put_and_cut(&mut store, 0, stop as u64 + 1, *torn)?;
-                assert_eq!(rt; done, stop == 4);
-                assert_eq!(rt; cell, if *is_new { ELEVENS } else { ZEROS });
+                same(&rt, "done", &done, &(stop == 4));
+                same(&rt, "cell", &cell, &(if *is_new { ELEVENS } else { ZEROS }));
             }
         }
     }
@@ -221,6 +232,6 @@ fn a_log_store_has_up_to_1024_cells(rt: HostRuntime) -> Result<(), Fail> {
         Err(refused) => return Err(Fail::from(refused.fault)),
     };
     let read = put_and_cut(&mut store, 1023, 5, Torn::Old)?;
-    assert_eq!(rt; read, (true, ELEVENS));
+    same(&rt, "read", &read, &(true, ELEVENS));
     Ok(())
 }

@@ -1,6 +1,7 @@
 // A fresh image and a planned put, beside what a store over a disk in memory writes and reads.
 ghost use Rattle.std.specs.Prelude.{◌≡◌, ◌≤◌, length, IfOk};
 
+use crate::comparing::holds;
 use crate::cutting::ELEVENS;
 use cell_store::{Cells, TwinCells};
 use cut_disk::{Disk, MemDisk};
@@ -26,7 +27,11 @@ fn a_fresh_image_is_what_format_writes(rt: HostRuntime) -> Result<(), Fail> {
     };
     let mut image = [0xff; 168];
     make(&mut image, 2);
-    assert!(rt; image == bytes_of(&mut disk)?);
+    holds(
+        &rt,
+        "image == bytes_of(&mut disk)",
+        image == bytes_of(&mut disk)?,
+    );
     Ok(())
 }
 
@@ -44,7 +49,11 @@ fn a_planned_put_is_what_a_store_reads(rt: HostRuntime) -> Result<(), Fail> {
         }
         perform(&mut disk, &plan)?;
         done(&mut image, &mut plan);
-        assert!(rt; image == bytes_of(&mut disk)?);
+        holds(
+            &rt,
+            "image == bytes_of(&mut disk)",
+            image == bytes_of(&mut disk)?,
+        );
     }
     let store = match TwinCells::attach(rt.alloc(), disk, 2) {
         Ok(store) => store,
@@ -52,7 +61,7 @@ fn a_planned_put_is_what_a_store_reads(rt: HostRuntime) -> Result<(), Fail> {
     };
     let mut cell = [0; 32];
     store.get(1, &mut cell);
-    assert!(rt; cell == ELEVENS);
+    holds(&rt, "cell == ELEVENS", cell == ELEVENS);
     Ok(())
 }
 
@@ -61,12 +70,16 @@ fn a_write_of_no_byte_may_stand_anywhere(rt: HostRuntime) {
     let mut image = [0x5a; 168];
     let mut plan = Plan::NONE;
     plan.second.offset = 0xffff_ffff;
-    assert!(rt; is_within(&plan, 168));
+    holds(&rt, "is_within", is_within(&plan, 168));
     done(&mut image, &mut plan);
-    assert!(rt; image == [0x5a; 168] && plan == Plan::NONE);
+    holds(
+        &rt,
+        "image == [0x5a; 168] && plan == Plan::NONE",
+        image == [0x5a; 168] && plan == Plan::NONE,
+    );
     plan.second.offset = 168;
     plan.second.size = 1;
-    assert!(rt; !is_within(&plan, 168));
+    holds(&rt, "is_within", !is_within(&plan, 168));
     plan.second.offset = 167;
-    assert!(rt; is_within(&plan, 168));
+    holds(&rt, "is_within", is_within(&plan, 168));
 }

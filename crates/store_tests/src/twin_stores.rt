@@ -1,6 +1,7 @@
 // Stores over disks in memory.
 ghost use Rattle.std.specs.Prelude.{◌≡◌, length, false, IfOk};
 
+use crate::comparing::{holds, same};
 use crate::cutting::{ELEVENS, ZEROS, put_and_cut};
 use cell_store::*;
 use cut_disk::{CutDisk, Disk, MemDisk, Torn};
@@ -61,16 +62,18 @@ fn a_store_is_formatted_and_a_cell_is_put(rt: HostRuntime) -> Result<(), Fail> {
     let alloc = rt.alloc();
     for version in &VERSIONS {
         let mut store = fresh_store(alloc, *version)?;
-        assert_eq!(rt; store.count(), 1);
+        holds(&rt, "store.count()", store.count() == 1);
         let put = store.put(0, &ELEVENS);
-        assert!(rt; put.is_ok());
+        holds(&rt, "put.is_ok()", put.is_ok());
         let mut disk = store.release();
         let mut expected = fresh_bytes(*version);
         expected[67] = 1;
         expected[68..].copy_from_slice(&ELEVENS);
-        assert_eq!(rt;
-            bytes_of(&mut disk, *version)?.as_slice(),
-            expected.as_slice()
+        same(
+            &rt,
+            "bytes_of",
+            &bytes_of(&mut disk, *version)?.as_slice(),
+            &expected.as_slice(),
         );
     }
     Ok(())
@@ -80,9 +83,11 @@ fn a_store_is_formatted_and_a_cell_is_put(rt: HostRuntime) -> Result<(), Fail> {
 fn a_fresh_store_has_these_bytes(rt: HostRuntime) -> Result<(), Fail> {
     for version in &VERSIONS {
         let mut disk = fresh_store(rt.alloc(), *version)?.release();
-        assert_eq!(rt;
-            bytes_of(&mut disk, *version)?.as_slice(),
-            fresh_bytes(*version).as_slice()
+        same(
+            &rt,
+            "bytes_of",
+            &bytes_of(&mut disk, *version)?.as_slice(),
+            &fresh_bytes(*version).as_slice(),
         );
     }
     Ok(())
@@ -102,23 +107,23 @@ fn a_store_has_up_to_1024_cells(rt: HostRuntime) -> Result<(), Fail> {
         Err(refused) => return Err(Fail::from(refused.fault)),
     };
     let read = put_and_cut(&mut store, 1023, 7, Torn::Old)?;
-    assert_eq!(rt; read, (true, ELEVENS));
+    same(&rt, "read", &read, &(true, ELEVENS));
     Ok(())
 }
 
 #[test]
 fn a_smaller_disk_is_too_small(rt: HostRuntime) -> Result<(), Fail> {
     let alloc = rt.alloc();
-    assert_eq!(rt; twin_size(1), 100);
+    same(&rt, "twin_size(1)", &twin_size(1), &100);
     let disk = MemDisk::new(alloc, 99)?;
     let Err(refused) = TwinCells::format(disk, &[ZEROS]) else {
         return Err(Fail::from("it was formatted"));
     };
-    assert_eq!(rt; refused.fault, StoreFault::TooSmall);
+    same(&rt, "refused.fault", &refused.fault, &StoreFault::TooSmall);
     let Err(refused) = TwinCells::attach(alloc, refused.disk, 1) else {
         return Err(Fail::from("it was attached"));
     };
-    assert_eq!(rt; refused.fault, StoreFault::TooSmall);
+    same(&rt, "refused.fault", &refused.fault, &StoreFault::TooSmall);
     Ok(())
 }
 
@@ -146,7 +151,12 @@ fn damaged_bytes_are_found(rt: HostRuntime) -> Result<(), Fail> {
         ([(66, 0), (66, 0)], None),
     ];
     for (changes, fault) in &rows {
-        assert_eq!(rt; attach_damaged(rt.alloc(), changes)?, *fault);
+        same(
+            &rt,
+            "attach_damaged",
+            &attach_damaged(rt.alloc(), changes)?,
+            fault,
+        );
     }
     Ok(())
 }
@@ -169,8 +179,8 @@ fn a_put_is_whole_or_absent_after_a_cut(rt: HostRuntime) -> Result<(), Fail> {
         for (torn, is_new) in torn.iter().zip(row) {
             let mut store = fresh_store(rt.alloc(), Version::One)?;
             let (done, cell) = put_and_cut(&mut store, 0, calls, *torn)?;
-            assert_eq!(rt; done, calls == 7);
-            assert_eq!(rt; cell, if *is_new { ELEVENS } else { ZEROS });
+            same(&rt, "done", &done, &(calls == 7));
+            same(&rt, "cell", &cell, &(if *is_new { ELEVENS } else { ZEROS }));
         }
     }
     Ok(())
@@ -180,28 +190,60 @@ fn a_put_is_whole_or_absent_after_a_cut(rt: HostRuntime) -> Result<(), Fail> {
 fn the_first_bytes_are_probed(rt: HostRuntime) -> Result<(), Fail> {
     let alloc = rt.alloc();
     let mut disk = MemDisk::new(alloc, 32)?;
-    assert_eq!(rt; probe(&mut disk), Ok(Probe::Blank));
+    same(
+        &rt,
+        "probe(&mut disk)",
+        &probe(&mut disk),
+        &Ok(Probe::Blank),
+    );
     let mut disk = MemDisk::new(alloc, 31)?;
-    assert_eq!(rt; probe(&mut disk), Err(StoreFault::TooSmall));
+    same(
+        &rt,
+        "probe(&mut disk)",
+        &probe(&mut disk),
+        &Err(StoreFault::TooSmall),
+    );
     let mut bytes = fresh_bytes(Version::One);
     let mut disk = MemDisk::of(alloc, &bytes)?;
     let found = Probe::Store {
         kind: Kind::Twin,
         cells: 1,
     };
-    assert_eq!(rt; probe(&mut disk), Ok(found));
+    same(&rt, "probe(&mut disk)", &probe(&mut disk), &Ok(found));
     bytes[8] = 3;
     let mut disk = MemDisk::of(alloc, &bytes)?;
-    assert_eq!(rt; probe(&mut disk), Ok(Probe::Foreign));
+    same(
+        &rt,
+        "probe(&mut disk)",
+        &probe(&mut disk),
+        &Ok(Probe::Foreign),
+    );
     disk.stop_at(1);
-    assert_eq!(rt; probe(&mut disk), Err(StoreFault::DiskFailed));
+    same(
+        &rt,
+        "probe(&mut disk)",
+        &probe(&mut disk),
+        &Err(StoreFault::DiskFailed),
+    );
     let mut disk = fresh_store(alloc, Version::Two)?.release();
-    assert_eq!(rt; probe(&mut disk), Ok(Probe::Blank));
-    assert_eq!(rt; probe_as(&mut disk, Version::Two), Ok(found));
+    same(
+        &rt,
+        "probe(&mut disk)",
+        &probe(&mut disk),
+        &Ok(Probe::Blank),
+    );
+    same(
+        &rt,
+        "probe_as",
+        &probe_as(&mut disk, Version::Two),
+        &Ok(found),
+    );
     let mut disk = MemDisk::new(alloc, 32799)?;
-    assert_eq!(rt;
-        probe_as(&mut disk, Version::Two),
-        Err(StoreFault::TooSmall)
+    same(
+        &rt,
+        "probe_as",
+        &probe_as(&mut disk, Version::Two),
+        &Err(StoreFault::TooSmall),
     );
     Ok(())
 }
@@ -210,7 +252,17 @@ fn the_first_bytes_are_probed(rt: HostRuntime) -> Result<(), Fail> {
 fn a_call_that_fails_once_is_told(rt: HostRuntime) -> Result<(), Fail> {
     let mut store = fresh_store(rt.alloc(), Version::One)?;
     store.fail_at(2);
-    assert_eq!(rt; store.power_cut(Torn::Keep), Err(Reread::DiskFailed));
-    assert_eq!(rt; store.power_cut(Torn::Keep), Ok(()));
+    same(
+        &rt,
+        "store.power_cut(Torn::Keep)",
+        &store.power_cut(Torn::Keep),
+        &Err(Reread::DiskFailed),
+    );
+    same(
+        &rt,
+        "store.power_cut(Torn::Keep)",
+        &store.power_cut(Torn::Keep),
+        &Ok(()),
+    );
     Ok(())
 }

@@ -1,9 +1,11 @@
 //! Bus files that are read, and each fault, by itself and beside those that are looked for behind it.
+use crate::comparing::{holds, same};
 use bus_config::{ConfigFault, config_fault_text, read_config};
 use bus_nodes::BusConfig;
 use cell_store::{Kind, Version};
 use freshness_routes::{Direction, Route};
 use std::alloc::Global;
+use std::process::Abort;
 use std::test::Fail;
 
 const FAULTS: [(&str, ConfigFault); 75] = [
@@ -365,7 +367,7 @@ const TEXTS: [(ConfigFault, &str); 7] = [
 fn each_fault_is_told(rt: HostRuntime) {
     for (text, fault) in &FAULTS {
         let told = read_config(rt.alloc(), text.as_bytes()).err();
-        assert_eq!(rt; told, Some(*fault), "{text}");
+        same(&rt, text, &told, &Some(*fault));
     }
 }
 
@@ -373,21 +375,21 @@ fn each_fault_is_told(rt: HostRuntime) {
 fn the_first_of_two_faults_is_told(rt: HostRuntime) {
     for (text, fault) in &TWO_FAULTS {
         let told = read_config(rt.alloc(), text.as_bytes()).err();
-        assert_eq!(rt; told, Some(*fault), "{text}");
+        same(&rt, text, &told, &Some(*fault));
     }
 }
 
 #[test]
 fn bytes_that_are_no_text_are_no_document(rt: HostRuntime) {
     let told = read_config(rt.alloc(), b"store = \"\xff\"").err();
-    assert_eq!(rt; told, Some(ConfigFault::Toml));
+    same(&rt, "told", &told, &Some(ConfigFault::Toml));
 }
 
 #[test]
 fn buses_are_read(rt: HostRuntime) {
     for text in &READ {
         let told = read_config(rt.alloc(), text.as_bytes()).err();
-        assert_eq!(rt; told, None, "{text}");
+        same(&rt, text, &told, &None);
     }
 }
 
@@ -398,48 +400,82 @@ fn bus_of(alloc: Global, text: &str) -> Result<BusConfig, Fail> {
     }
 }
 
+/// A route: its Data ID, direction, slot, reserve, window and start.
+struct RouteRow(u16, Direction, u8, u16, u16, u64);
+
+fn is_route(rt: &impl Abort, route: &Route, row: &RouteRow) {
+    same(rt, "id", &route.id, &row.0);
+    same(rt, "direction", &route.direction, &row.1);
+    same(rt, "slot", &route.slot.number(), &row.2);
+    same(rt, "reserve", &route.reserve, &row.3);
+    same(rt, "window", &route.window, &row.4);
+    same(rt, "start", &route.start, &row.5);
+}
+
+/// The node at this place has this name, a UID with this last byte, and this as its first route.
+fn is_node(
+    rt: &impl Abort,
+    bus: &BusConfig,
+    place: usize,
+    name: &[u8],
+    uid: u8,
+    row: &RouteRow,
+) -> Result<(), Fail> {
+    let node = bus.nodes().get(place).ok_or("a node")?;
+    holds(rt, "name", node.name.bytes() == name);
+    let bytes = [0, 0, 0, 0, 0, 0, 0, 0, 0, 0, 0, 0, 0, 0, uid];
+    same(rt, "uid", node.config.uid.bytes(), &bytes);
+    let route = node.config.routes.as_slice().first().ok_or("a route")?;
+    is_route(rt, route, row);
+    Ok(())
+}
+
+fn is_store(rt: &impl Abort, bus: &BusConfig, kind: Kind, version: Version) {
+    same(rt, "kind", &bus.kind(), &kind);
+    same(rt, "version", &bus.version(), &version);
+}
+
+const START: u64 = 0xe93d_7e11_7393_1729;
+
+const SENT: RouteRow = RouteRow(0x6bc1, Direction::Sends, 4, 4, 256, START);
+
+const HEARD: RouteRow = RouteRow(0x6bc1, Direction::Receives, 4, 1, 256, START);
+
+const SPARE: RouteRow = RouteRow(15, Direction::Receives, 13, 1, 16, 0);
+
 #[test]
 fn what_is_told_is_in_the_bus(rt: HostRuntime) -> Result<(), Fail> {
     let bus = bus_of(rt.alloc(), BUS)?;
-    assert!(rt; bus.kind() == Kind::Twin && bus.version() == Version::One);
-    assert_eq!(rt; bus.nodes().len(), 2);
-    assert_eq!(rt; bus.find(b"right"), Some(1));
-    let left = bus.nodes().first().ok_or("a node")?;
-    assert!(rt; left.name.bytes() == b"left".as_slice());
-    assert!(rt; *left.config.uid.bytes() == [0, 0, 0, 0, 0, 0, 0, 0, 0, 0, 0, 0, 0, 0, 1]);
-    let sent = left.config.routes.as_slice().first().ok_or("a route")?;
-    assert_eq!(rt; sent.id, 0x6bc1);
-    assert_eq!(rt; sent.direction, Direction::Sends);
-    assert_eq!(rt; sent.slot.number(), 4);
-    assert_eq!(rt; (sent.reserve, sent.window), (4, 256));
-    assert_eq!(rt; sent.start, 0xe93d_7e11_7393_1729);
-    let right = bus.nodes().get(1).ok_or("a node")?;
-    let heard = right.config.routes.as_slice().first().ok_or("a route")?;
-    assert_eq!(rt; heard.direction, Direction::Receives);
-    assert_eq!(rt; (heard.reserve, heard.window), (1, 256));
-    let spare = bus_of(
+    is_store(&rt, &bus, Kind::Twin, Version::One);
+    same(&rt, "nodes", &bus.nodes().len(), &2);
+    same(&rt, "right", &bus.find(b"right"), &Some(1));
+    is_node(&rt, &bus, 0, b"left", 1, &SENT)?;
+    is_node(&rt, &bus, 1, b"right", 2, &HEARD)
+}
+
+#[test]
+fn what_is_not_told_has_its_default(rt: HostRuntime) -> Result<(), Fail> {
+    let bus = bus_of(
         rt.alloc(),
         r#"store="log"
 version=2
 node=[{name="a",uid="0000000000000000000000000000Ab",route=[{id="000F",direction="receive",slot=0xd,window=16}]}]"#,
     )?;
-    assert!(rt; spare.kind() == Kind::Log && spare.version() == Version::Two);
-    let config = &spare.nodes().first().ok_or("a node")?.config;
-    assert_eq!(rt; config.uid.bytes()[14], 0xab);
-    let route = config.routes.as_slice().first().ok_or("a route")?;
-    assert_eq!(rt; (route.id, route.slot.number()), (15, 13));
-    assert_eq!(rt; (route.reserve, route.window), (1, 16));
-    assert_eq!(rt; route.start, 0);
-    Ok(())
+    is_store(&rt, &bus, Kind::Log, Version::Two);
+    is_node(&rt, &bus, 0, b"a", 0xab, &SPARE)
 }
 
 #[test]
 fn each_fault_has_its_text(rt: HostRuntime) -> Result<(), Fail> {
     for (fault, text) in &TEXTS {
         let told = config_fault_text(rt.alloc(), fault).map_err(|_| "no memory")?;
-        assert_eq!(rt; told.as_str(), *text);
+        same(&rt, "told", &told.as_str(), text);
     }
-    assert!(rt; config_fault_text(rt.alloc(), &ConfigFault::Memory).is_err());
+    holds(
+        &rt,
+        "config_fault_text",
+        config_fault_text(rt.alloc(), &ConfigFault::Memory).is_err(),
+    );
     Ok(())
 }
 
@@ -475,13 +511,17 @@ fn nodes_have_as_many_routes_as_their_version_has(rt: HostRuntime) -> Result<(),
         let text = wide(rt.alloc(), version, nodes, routes)?;
         match read_config(rt.alloc(), text.as_bytes()) {
             Ok(bus) => {
-                assert_eq!(rt; fault, None, "{version} {nodes} {routes}");
-                assert_eq!(rt; bus.nodes().len(), nodes as usize);
+                same(&rt, routes, &fault, &None);
+                holds(
+                    &rt,
+                    "bus.nodes().len()",
+                    bus.nodes().len() == (nodes as usize),
+                );
                 let node = bus.nodes().first().ok_or("a node")?;
                 let read = node.config.routes.as_slice();
-                assert_eq!(rt; read.len(), routes as usize);
+                holds(&rt, "read.len()", read.len() == (routes as usize));
             }
-            Err(told) => assert_eq!(rt; Some(told), fault, "{version} {nodes} {routes}"),
+            Err(told) => same(&rt, routes, &Some(told), &fault),
         }
     }
     Ok(())

@@ -1,4 +1,5 @@
 //! Names and buses one step within and one step past each of their bounds, and each call once.
+use crate::comparing::{holds, same};
 use bus_nodes::{BusConfig, Name, NodeLine, most_routes, place_named, sent_again};
 use cell_store::{Kind, Version};
 use freshness_routes::{Direction, NodeConfig, Route};
@@ -30,9 +31,9 @@ const NAMES: [(&[u8], bool); 16] = [
 fn names_are_told_from_other_words(rt: HostRuntime) {
     for (word, is_one) in NAMES {
         let name = Name::of(word);
-        assert_eq!(rt; name.is_some(), is_one);
+        same(&rt, "name.is_some()", &name.is_some(), &is_one);
         if let Some(name) = name {
-            assert!(rt; name.bytes() == word);
+            holds(&rt, "name.bytes() == word", name.bytes() == word);
         }
     }
 }
@@ -62,27 +63,37 @@ fn node(alloc: Global, name: &[u8], routes: &[(u16, bool)]) -> Result<NodeLine, 
     })
 }
 
-#[test]
-fn a_bus_of_two_nodes_is_one_and_its_nodes_are_found(rt: HostRuntime) -> Result<(), Fail> {
-    let alloc = rt.alloc();
+fn two_nodes(alloc: Global) -> Result<BusConfig, Fail> {
     let mut nodes = Vec::new(alloc);
     nodes.push(node(alloc, b"left", &[(0x6bc1, true), (0x7bc1, false)])?)?;
     nodes.push(node(alloc, b"right", &[(0x6bc1, false), (0x7bc1, true)])?)?;
-    let bus = BusConfig::new(Kind::Log, Version::Two, nodes).ok_or("a bus")?;
-    assert!(rt; bus.kind() == Kind::Log && bus.version() == Version::Two);
-    assert_eq!(rt; bus.nodes().len(), 2);
-    assert_eq!(rt;
-        (most_routes(Version::One), most_routes(Version::Two)),
-        (64, 256)
-    );
-    assert_eq!(rt; bus.find(b"left"), Some(0));
-    assert_eq!(rt; bus.find(b"right"), Some(1));
-    assert_eq!(rt; bus.find(b"lef"), None);
-    assert_eq!(rt; bus.find(b"leftx"), None);
-    assert_eq!(rt; bus.find(b""), None);
-    assert_eq!(rt; place_named(bus.nodes(), b"right"), Some(1));
-    assert_eq!(rt; sent_again(bus.nodes()), None);
+    Ok(BusConfig::new(Kind::Log, Version::Two, nodes).ok_or("a bus")?)
+}
+
+#[test]
+fn a_bus_of_two_nodes_is_one_and_its_nodes_are_found(rt: HostRuntime) -> Result<(), Fail> {
+    let bus = two_nodes(rt.alloc())?;
+    same(&rt, "kind", &bus.kind(), &Kind::Log);
+    same(&rt, "version", &bus.version(), &Version::Two);
+    same(&rt, "nodes", &bus.nodes().len(), &2);
+    for (name, place) in [
+        (&b"left"[..], Some(0)),
+        (b"right", Some(1)),
+        (b"lef", None),
+        (b"leftx", None),
+        (b"", None),
+    ] {
+        same(&rt, name.len(), &bus.find(name), &place);
+    }
+    same(&rt, "place", &place_named(bus.nodes(), b"right"), &Some(1));
+    same(&rt, "sent again", &sent_again(bus.nodes()), &None);
     Ok(())
+}
+
+#[test]
+fn a_node_has_as_many_routes_as_its_version_has(rt: HostRuntime) {
+    same(&rt, "version 1", &most_routes(Version::One), &64);
+    same(&rt, "version 2", &most_routes(Version::Two), &256);
 }
 
 // A node that receives so many Data IDs, counted from 0.
@@ -121,7 +132,7 @@ fn a_bus_has_its_bounds(rt: HostRuntime) -> Result<(), Fail> {
             nodes.push(hearer(rt.alloc(), name, count)?)?;
         }
         let made = BusConfig::new(Kind::Twin, version, nodes);
-        assert_eq!(rt; made.is_some(), is_one, "{count} routes");
+        same(&rt, count, &made.is_some(), &is_one);
     }
     Ok(())
 }
@@ -132,9 +143,23 @@ fn a_data_id_is_sent_by_one_route(rt: HostRuntime) -> Result<(), Fail> {
     let mut nodes = Vec::new(alloc);
     nodes.push(node(alloc, b"a", &[(1, true), (2, true), (3, false)])?)?;
     nodes.push(node(alloc, b"b", &[(1, false), (3, true)])?)?;
-    assert_eq!(rt; sent_again(nodes.as_slice()), None);
+    same(
+        &rt,
+        "sent_again(nodes.as_slice())",
+        &sent_again(nodes.as_slice()),
+        &None,
+    );
     nodes.push(node(alloc, b"c", &[(4, true), (2, true), (1, true)])?)?;
-    assert_eq!(rt; sent_again(nodes.as_slice()), Some(2));
-    assert!(rt; BusConfig::new(Kind::Twin, Version::One, nodes).is_none());
+    same(
+        &rt,
+        "sent_again(nodes.as_slice())",
+        &sent_again(nodes.as_slice()),
+        &Some(2),
+    );
+    holds(
+        &rt,
+        "BusConfig::new",
+        BusConfig::new(Kind::Twin, Version::One, nodes).is_none(),
+    );
     Ok(())
 }

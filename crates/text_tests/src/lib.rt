@@ -7,4 +7,6 @@ mod bus_files;
 #[cfg(test)]
 mod buses;
 #[cfg(test)]
+mod comparing;
+#[cfg(test)]
 mod lines;

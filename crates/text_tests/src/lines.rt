@@ -1,3 +1,4 @@
+use crate::comparing::{holds, same};
 use byte_lists::Bytes;
 use cut_disk::Torn;
 use secoc_words::frames::{FrameReader, read_frames};
@@ -6,6 +7,8 @@ use secoc_words::loads::{LoadReader, read_loads};
 use secoc_words::verdicts::{push_bad_length, push_outcome};
 use secured_pdu::Judgement;
 use std::alloc::{AllocError, Global};
+use std::fmt::Display;
+use std::process::Abort;
 use std::test::Fail;
 use text_lines::fault::{Cause, LineFault, Memory, ScriptFault};
 use text_lines::pushing::{push_digits, push_line};
@@ -222,10 +225,11 @@ fn loads_shown(alloc: Global, text: &[u8]) -> Result<String, Fail> {
 #[test]
 fn frame_lines_are_read_or_refused(rt: HostRuntime) -> Result<(), Fail> {
     for (text, shown) in FRAMES {
-        assert_eq!(rt;
-            frames_shown(rt.alloc(), text.as_bytes())?.as_str(),
-            shown,
-            "{text}"
+        same(
+            &rt,
+            text,
+            &frames_shown(rt.alloc(), text.as_bytes())?.as_str(),
+            &shown,
         );
     }
     Ok(())
@@ -234,10 +238,11 @@ fn frame_lines_are_read_or_refused(rt: HostRuntime) -> Result<(), Fail> {
 #[test]
 fn judge_lines_are_read_or_refused(rt: HostRuntime) -> Result<(), Fail> {
     for (text, shown) in JUDGES {
-        assert_eq!(rt;
-            judges_shown(rt.alloc(), text.as_bytes())?.as_str(),
-            shown,
-            "{text}"
+        same(
+            &rt,
+            text,
+            &judges_shown(rt.alloc(), text.as_bytes())?.as_str(),
+            &shown,
         );
     }
     Ok(())
@@ -246,10 +251,11 @@ fn judge_lines_are_read_or_refused(rt: HostRuntime) -> Result<(), Fail> {
 #[test]
 fn load_lines_are_read_or_refused(rt: HostRuntime) -> Result<(), Fail> {
     for (text, shown) in LOADS {
-        assert_eq!(rt;
-            loads_shown(rt.alloc(), text.as_bytes())?.as_str(),
-            shown,
-            "{text}"
+        same(
+            &rt,
+            text,
+            &loads_shown(rt.alloc(), text.as_bytes())?.as_str(),
+            &shown,
         );
     }
     Ok(())
@@ -288,12 +294,22 @@ fn short_lines(
 #[test]
 fn one_line_may_be_too_many(rt: HostRuntime) -> Result<(), Fail> {
     for (count, most) in [(0, 0), (1, 1), (256, 256), (MOST_LINES, MOST_LINES)] {
-        assert_eq!(rt; short_lines(rt.alloc(), count, most)?, Ok(count));
+        same(
+            &rt,
+            "short_lines",
+            &short_lines(rt.alloc(), count, most)?,
+            &Ok(count),
+        );
         let fault = ScriptFault::At {
             line: count as u32 + 1,
             cause: Cause::TooMany,
         };
-        assert_eq!(rt; short_lines(rt.alloc(), count + 1, most)?, Err(fault));
+        same(
+            &rt,
+            "short_lines",
+            &(short_lines(rt.alloc(), count + 1, most)?),
+            &Err(fault),
+        );
     }
     Ok(())
 }
@@ -325,27 +341,34 @@ impl LineReader for FewLines {
 #[test]
 fn a_reader_sees_what_the_lines_before_gave(rt: HostRuntime) -> Result<(), Fail> {
     let read = read_lines(rt.alloc(), b"a\n#\nb\nc\n", MOST_LINES, &FewLines);
-    assert_eq!(rt;
-        read.map(|values| values.as_slice() == [0, 1, 2].as_slice()),
-        Ok(true)
+    same(
+        &rt,
+        "read.map",
+        &(read.map(|values| values.as_slice() == [0, 1, 2].as_slice())),
+        &Ok(true),
     );
     let fault = ScriptFault::At {
         line: 5,
         cause: Cause::Field(1),
     };
     let read = read_lines(rt.alloc(), b"a\n#\nb\nc\nd\n", MOST_LINES, &FewLines);
-    assert_eq!(rt; read.map(|values| values.len()), Err(fault));
+    same(
+        &rt,
+        "read.map",
+        &read.map(|values| values.len()),
+        &Err(fault),
+    );
     Ok(())
 }
 
 #[test]
 fn a_kind_of_line_is_read_through_its_reader(rt: HostRuntime) -> Result<(), Fail> {
     let read = read_lines(rt.alloc(), LINE.as_bytes(), 1, &FrameReader);
-    assert_eq!(rt; read.map(|lines| lines.len()), Ok(1));
+    same(&rt, "read.map", &read.map(|lines| lines.len()), &Ok(1));
     let read = read_lines(rt.alloc(), LINE.as_bytes(), 1, &JudgeReader);
-    assert_eq!(rt; read.map(|lines| lines.len()), Ok(1));
+    same(&rt, "read.map", &read.map(|lines| lines.len()), &Ok(1));
     let read = read_lines(rt.alloc(), b"# none", 1, &LoadReader);
-    assert_eq!(rt; read.map(|lines| lines.len()), Ok(0));
+    same(&rt, "read.map", &read.map(|lines| lines.len()), &Ok(0));
     laws::values_are_those_of_the_lines::<FrameReader>();
     laws::a_fault_is_the_first::<FewLines>();
     Ok(())
@@ -353,51 +376,65 @@ fn a_kind_of_line_is_read_through_its_reader(rt: HostRuntime) -> Result<(), Fail
 
 #[test]
 fn words_are_read_by_their_forms(rt: HostRuntime) -> Result<(), Fail> {
-    let alloc = rt.alloc();
-    assert_eq!(rt; secoc_words::data_id(b"6BC1"), Some(0x6bc1));
-    assert_eq!(rt; secoc_words::data_id(b"6bc"), None);
-    assert_eq!(rt;
-        secoc_words::fresh(b"e93d7e117393172a"),
-        Some(0xe93d_7e11_7393_172a)
-    );
+    same(&rt, "6BC1", &secoc_words::data_id(b"6BC1"), &Some(0x6bc1));
+    same(&rt, "6bc", &secoc_words::data_id(b"6bc"), &None);
+    let fresh = secoc_words::fresh(b"e93d7e117393172a");
+    same(&rt, "fresh", &fresh, &Some(0xe93d_7e11_7393_172a));
     let digits = b"000102030405060708090a0b0c0d0e0f0F0E0D0C0B0A09080706050403020100";
     let [first, second] = secoc_words::two(digits).ok_or("no two blocks")?;
-    assert_eq!(rt;
+    same(
+        &rt,
+        "first",
         first.bytes(),
-        b"\x00\x01\x02\x03\x04\x05\x06\x07\x08\x09\x0a\x0b\x0c\x0d\x0e\x0f"
+        b"\x00\x01\x02\x03\x04\x05\x06\x07\x08\x09\x0a\x0b\x0c\x0d\x0e\x0f",
     );
-    assert_eq!(rt;
+    same(
+        &rt,
+        "second",
         second.bytes(),
-        b"\x0f\x0e\x0d\x0c\x0b\x0a\x09\x08\x07\x06\x05\x04\x03\x02\x01\x00"
+        b"\x0f\x0e\x0d\x0c\x0b\x0a\x09\x08\x07\x06\x05\x04\x03\x02\x01\x00",
     );
-    assert_eq!(rt; secoc_words::key(digits), None);
-    let numbers: [(&[u8], Option<u64>); 9] = [
-        (b"0", Some(0)),
-        (b"65536", Some(65_536)),
-        (b"65537", None),
-        (b"01", None),
-        (b"00", None),
-        (b"+1", None),
-        (b"", None),
-        (b"1a", None),
-        (b"18446744073709551616", None),
-    ];
-    for (word, number) in numbers {
-        assert_eq!(rt; forms::number(word, 0, 65_536), number, "{word:?}");
+    same(&rt, "key", &secoc_words::key(digits), &None);
+    Ok(())
+}
+
+/// A word, the least and the most number, and the number that it is.
+const NUMBERS: [(&[u8], u64, u64, Option<u64>); 11] = [
+    (b"0", 0, 65_536, Some(0)),
+    (b"65536", 0, 65_536, Some(65_536)),
+    (b"65537", 0, 65_536, None),
+    (b"01", 0, 65_536, None),
+    (b"00", 0, 65_536, None),
+    (b"+1", 0, 65_536, None),
+    (b"", 0, 65_536, None),
+    (b"1a", 0, 65_536, None),
+    (b"18446744073709551616", 0, 65_536, None),
+    (b"3", 4, 13, None),
+    (b"18446744073709551615", 1, u64::MAX, Some(u64::MAX)),
+];
+
+#[test]
+fn numbers_are_read_between_their_bounds(rt: HostRuntime) {
+    for (place, (word, least, most, number)) in NUMBERS.iter().enumerate() {
+        same(&rt, place, &forms::number(word, *least, *most), number);
     }
-    assert_eq!(rt; forms::number(b"3", 4, 13), None);
-    assert_eq!(rt;
-        forms::number(b"18446744073709551615", 1, u64::MAX),
-        Some(u64::MAX)
-    );
-    let bytes: Option<Bytes> = forms::bytes(alloc, b"00fF")?;
-    assert_eq!(rt;
-        bytes.ok_or("no bytes")?.into_vec().as_slice(),
-        b"\x00\xff".as_slice()
-    );
-    let none: Option<Bytes> = forms::bytes(alloc, b"-")?;
-    assert_eq!(rt; none.ok_or("no form")?.bytes().len(), 0);
-    assert_eq!(rt; forms::bytes(alloc, b"")?.is_none(), true);
+}
+
+#[test]
+fn bytes_are_read_by_their_form(rt: HostRuntime) -> Result<(), Fail> {
+    for (word, bytes) in [
+        (&b"00fF"[..], Some(&b"\x00\xff"[..])),
+        (b"-", Some(b"")),
+        (b"", None),
+    ] {
+        let found: Option<Bytes> = forms::bytes(rt.alloc(), word)?;
+        same(
+            &rt,
+            word.len(),
+            &found.as_ref().map(|found| found.bytes()),
+            &bytes,
+        );
+    }
     Ok(())
 }
 
@@ -416,10 +453,15 @@ fn bytes_are_of_a_least_and_a_most_number(rt: HostRuntime) -> Result<(), Fail> {
     ];
     for (word, least, most, len) in words {
         let found: Option<Bytes> = forms::hex_bytes(rt.alloc(), word, least, most)?;
-        assert_eq!(rt; found.map(|bytes| bytes.bytes().len()), len, "{word:?}");
-        assert!(rt; most <= 64);
+        same(
+            &rt,
+            "found.map",
+            &found.map(|bytes| bytes.bytes().len()),
+            &len,
+        );
+        holds(&rt, "most <= 64", most <= 64);
         let pdu = secoc_words::pdu(word, least, most);
-        assert_eq!(rt; pdu.map(|bytes| bytes.bytes().len()), len, "{word:?}");
+        same(&rt, "pdu.map", &pdu.map(|bytes| bytes.bytes().len()), &len);
     }
     Ok(())
 }
@@ -433,9 +475,11 @@ fn a_text_is_cut_into_words_with_their_places(rt: HostRuntime) -> Result<(), Fai
             places.push((cut.line, span.at, span.len))?;
         }
     }
-    assert_eq!(rt;
-        places.as_slice(),
-        [(3, 6, 1), (3, 8, 2), (4, 13, 1)].as_slice()
+    same(
+        &rt,
+        "places",
+        &places.as_slice(),
+        &[(3, 6, 1), (3, 8, 2), (4, 13, 1)].as_slice(),
     );
     Ok(())
 }
@@ -443,39 +487,56 @@ fn a_text_is_cut_into_words_with_their_places(rt: HostRuntime) -> Result<(), Fai
 #[test]
 fn an_unknown_event_has_its_text(rt: HostRuntime) -> Result<(), Memory> {
     let text = fault_text(rt.alloc(), 4_294_967_295, &Cause::Event)?;
-    assert_eq!(rt; text.as_str(), "script: line 4294967295: unknown event\n");
+    same(
+        &rt,
+        "text",
+        &text.as_str(),
+        &("script: line 4294967295: unknown event\n"),
+    );
+    Ok(())
+}
+
+const ZERO: &[u8] = b"000000000000000000000000000000";
+
+#[test]
+fn identifiers_of_a_key_update_are_read_by_their_forms(rt: HostRuntime) -> Result<(), Fail> {
+    let uid = secoc_words::uid(b"0000000000000000000000000000fF").ok_or("no identifier")?;
+    same(&rt, "uid", &uid.bytes()[14], &255);
+    let short = secoc_words::uid(b"0000000000000000000000000000f");
+    holds(&rt, "29 digits", short.is_none());
+    let engine = secoc_words::engine_uid(b"000000000000000000000000000001").ok_or("no engine")?;
+    same(&rt, "engine", &engine.bytes()[14], &1);
+    holds(&rt, "an engine 0", secoc_words::engine_uid(ZERO).is_none());
+    holds(&rt, "an identifier 0", secoc_words::uid(ZERO).is_some());
     Ok(())
 }
 
 #[test]
-fn words_of_a_key_update_are_read_by_their_forms(rt: HostRuntime) -> Result<(), Fail> {
-    let uid = secoc_words::uid(b"0000000000000000000000000000fF").ok_or("no identifier")?;
-    assert_eq!(rt; uid.bytes()[14], 255);
-    assert_eq!(rt;
-        secoc_words::uid(b"0000000000000000000000000000f").is_none(),
-        true
-    );
-    let engine = secoc_words::engine_uid(b"000000000000000000000000000001").ok_or("no engine")?;
-    assert_eq!(rt; engine.bytes()[14], 1);
-    let zero = b"000000000000000000000000000000";
-    assert_eq!(rt; secoc_words::engine_uid(zero).is_none(), true);
-    assert_eq!(rt; secoc_words::uid(zero).is_some(), true);
+fn numbers_of_a_key_update_are_read_by_their_forms(rt: HostRuntime) -> Result<(), Fail> {
     let slot = secoc_words::slot(b"13").ok_or("no slot")?;
-    assert_eq!(rt; slot.number(), 13);
-    assert_eq!(rt; secoc_words::slot(b"14").is_none(), true);
+    same(&rt, "slot", &slot.number(), &13);
+    holds(&rt, "slot 14", secoc_words::slot(b"14").is_none());
     let counter = secoc_words::counter(b"268435455").ok_or("no counter")?;
-    assert_eq!(rt; counter.number(), 268_435_455);
-    assert_eq!(rt; secoc_words::counter(b"268435456").is_none(), true);
+    same(&rt, "counter", &counter.number(), &268_435_455);
+    let larger = secoc_words::counter(b"268435456");
+    holds(&rt, "counter 2^28", larger.is_none());
     let flags = secoc_words::flags(b"10010").ok_or("no flags")?;
-    assert_eq!(rt; flags.number(), 0b10010);
-    assert_eq!(rt; secoc_words::flags(b"10012").is_none(), true);
-    assert_eq!(rt; secoc_words::flags(b"1001").is_none(), true);
+    same(&rt, "flags", &flags.number(), &0b10010);
+    holds(&rt, "a digit 2", secoc_words::flags(b"10012").is_none());
+    holds(&rt, "four digits", secoc_words::flags(b"1001").is_none());
+    Ok(())
+}
+
+/// A fault's text is this.
+fn displays<T: Display>(rt: &impl Abort, alloc: Global, fault: &T, text: &str) -> Result<(), Fail> {
+    let told = format!(in alloc; "{}", *fault)?;
+    same(rt, text, &told.as_str(), &text);
     Ok(())
 }
 
 #[test]
 fn faults_are_displayed(rt: HostRuntime) -> Result<(), Fail> {
-    let causes = [
+    for (cause, text, with_line) in [
         (Cause::Event, "unknown event", "line 3: unknown event"),
         (
             Cause::Count,
@@ -484,24 +545,18 @@ fn faults_are_displayed(rt: HostRuntime) -> Result<(), Fail> {
         ),
         (Cause::Field(9), "word 9", "line 3: word 9"),
         (Cause::TooMany, "too many events", "line 3: too many events"),
-    ];
-    for (cause, text, with_line) in causes {
-        let refused = LineFault::Refused(cause);
-        let fault = ScriptFault::At { line: 3, cause };
-        assert_eq!(rt; format!(in rt.alloc(); "{cause}")?.as_str(), text);
-        assert_eq!(rt; format!(in rt.alloc(); "{refused}")?.as_str(), text);
-        assert_eq!(rt; format!(in rt.alloc(); "{fault}")?.as_str(), with_line);
+    ] {
+        displays(&rt, rt.alloc(), &cause, text)?;
+        displays(&rt, rt.alloc(), &LineFault::Refused(cause), text)?;
+        displays(
+            &rt,
+            rt.alloc(),
+            &ScriptFault::At { line: 3, cause },
+            with_line,
+        )?;
     }
-    let memory = (LineFault::OutOfMemory, ScriptFault::Memory);
-    assert_eq!(rt;
-        format!(in rt.alloc(); "{}", memory.0)?.as_str(),
-        "out of memory"
-    );
-    assert_eq!(rt;
-        format!(in rt.alloc(); "{}", memory.1)?.as_str(),
-        "out of memory"
-    );
-    Ok(())
+    displays(&rt, rt.alloc(), &LineFault::OutOfMemory, "out of memory")?;
+    displays(&rt, rt.alloc(), &ScriptFault::Memory, "out of memory")
 }
 
 #[test]
@@ -516,9 +571,11 @@ fn verdicts_have_their_texts(rt: HostRuntime) -> Result<(), Fail> {
     push_outcome(&mut text, b"\x00", &Judgement::VerificationFailure)?;
     push_bad_length(&mut text)?;
     push_line(&mut text, b"waiting")?;
-    assert_eq!(rt;
-        text.as_slice(),
-        b"VERIFICATIONSUCCESS e93d7e117393172a bee22e409f96\nFRESHNESSFAILURE\nVERIFICATIONFAILURE\nBadLength\nwaiting\n".as_slice()
+    same(
+        &rt,
+        "text",
+        &text.as_slice(),
+        &b"VERIFICATIONSUCCESS e93d7e117393172a bee22e409f96\nFRESHNESSFAILURE\nVERIFICATIONFAILURE\nBadLength\nwaiting\n".as_slice(),
     );
     Ok(())
 }
@@ -529,11 +586,12 @@ fn digits_of_any_number_of_bytes_are_added(rt: HostRuntime) -> Result<(), Fail> 
         let bytes = vec![in rt.alloc(); 0x0a; len]?;
         let mut text = Vec::new(rt.alloc());
         push_digits(&mut text, &bytes)?;
-        assert_eq!(rt; text.len(), 2 * len);
-        assert_eq!(rt;
-            text.chunks(2).all(|digits| digits == b"0a".as_slice()),
-            true,
-            "{len}"
+        holds(&rt, "text.len()", text.len() == (2 * len));
+        same(
+            &rt,
+            len,
+            &(text.chunks(2).all(|digits| digits == b"0a".as_slice())),
+            &true,
         );
     }
     Ok(())
@@ -554,7 +612,12 @@ fn what_a_power_cut_leaves_is_read(rt: HostRuntime) {
         (b"0a7", None),
     ];
     for (word, torn) in words {
-        assert_eq!(rt; secoc_words::torn(word), torn, "{word:?}");
+        same(
+            &rt,
+            "secoc_words::torn(word)",
+            &secoc_words::torn(word),
+            &torn,
+        );
     }
 }
 
@@ -568,6 +631,11 @@ fn a_number_of_disk_calls_is_read(rt: HostRuntime) {
         (b"1x", None),
     ];
     for (word, calls) in words {
-        assert_eq!(rt; secoc_words::calls(word), calls, "{word:?}");
+        same(
+            &rt,
+            "secoc_words::calls(word)",
+            &secoc_words::calls(word),
+            &calls,
+        );
     }
 }

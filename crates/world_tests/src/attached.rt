@@ -1,10 +1,13 @@
 //! Worlds that go on where their disks stand: further lives, stores that are moved to version 2, and the most routes.
-use crate::bench::{Bench, STORES, Turn, are_of, disk, disks, keyed, node, route, sent};
+use crate::bench::{
+    Act, Bench, NodeRow, RouteRow, Row, STORES, Told, are_of, bus_of, disk, disks, node, route,
+    starts,
+};
+use crate::comparing::{holds, same};
 use crate::lives::{marks, tape};
 use any_cells::AnyCells;
-use bus_machine::{Line, Refusal};
 use bus_nodes::BusConfig;
-use bus_world::{Start, StartFault, World};
+use bus_world::{Start, StartFault};
 use cell_store::{Kind, Reread, Version};
 use cut_disk::{CutDisk, Disk, MemDisk};
 use freshness_routes::Direction;
@@ -19,44 +22,42 @@ pub(crate) const ID: u16 = 0x6bc1;
 
 const START: u64 = 0xe93d_7e11_7393_1729;
 
-const PAYLOAD: [u8; 6] = [0xbe, 0xe2, 0x2e, 0x40, 0x9f, 0x96];
+const PAYLOAD: &[u8] = b"\xbe\xe2\x2e\x40\x9f\x96";
 
-const KEY: u128 = 0x2b7e151628aed2a6abf7158809cf4f3c;
+const KEY: Act = Act::Key(2, 4, 2, 0x2b7e151628aed2a6abf7158809cf4f3c);
 
-/// What `left` sends first, and what it sends first in its second life: its reserve is 4.
-const FIRST: (u64, &[u8]) = (START + 1, b"\xbe\xe2\x2e\x40\x9f\x96\x2a\x07\x0a\x16");
+/// `left` gets its key, which an empty slot takes, and sends.
+const FIRST_LIFE: &[Row] = &[
+    Row(0, KEY, Told::Keyed(4)),
+    Row(
+        0,
+        Act::Send(ID, PAYLOAD),
+        Told::Sent(ID, START + 1, b"\xbe\xe2\x2e\x40\x9f\x96\x2a\x07\x0a\x16"),
+    ),
+];
 
-const AFTER: (u64, &[u8]) = (START + 5, b"\xbe\xe2\x2e\x40\x9f\x96\x2e\x56\x7e\x86");
+/// A filled slot refuses it; the reserve is 4.
+const SECOND_LIFE: &[Row] = &[
+    Row(0, KEY, Told::Refused(Erc::KeyUpdateError)),
+    Row(
+        0,
+        Act::Send(ID, PAYLOAD),
+        Told::Sent(ID, START + 5, b"\xbe\xe2\x2e\x40\x9f\x96\x2e\x56\x7e\x86"),
+    ),
+];
+
+const PAIR: &[NodeRow] = &[
+    NodeRow(b"left", 2, &[RouteRow(ID, Direction::Sends, 4, 4, START)]),
+    NodeRow(
+        b"right",
+        3,
+        &[RouteRow(ID, Direction::Receives, 4, 1, START)],
+    ),
+];
 
 /// A bus of two nodes.
 pub(crate) fn pair(alloc: Global, kind: Kind, version: Version) -> Result<BusConfig, Fail> {
-    let mut nodes = Vec::new(alloc);
-    for (name, uid, direction, reserve) in [
-        (&b"left"[..], 2, Direction::Sends, 4),
-        (&b"right"[..], 3, Direction::Receives, 1),
-    ] {
-        let mut routes = Vec::new(alloc);
-        routes.push(route(ID, direction, 4, reserve, START)?)?;
-        nodes.push(node(name, uid, routes)?)?;
-    }
-    Ok(BusConfig::new(kind, version, nodes).ok_or("a bus")?)
-}
-
-/// `left` gets its key, which an empty slot takes and a filled one refuses, and sends.
-fn life_of_left(alloc: Global, is_keyed: bool, line: (u64, &[u8])) -> Result<Vec<Turn>, Fail> {
-    let mut turns = Vec::new(alloc);
-    let first = keyed(0, 2, 4, 2, KEY)?;
-    turns.push(if is_keyed {
-        Turn {
-            event: first.event,
-            line: Line::Refused(Refusal::Key(Erc::KeyUpdateError)),
-        }
-    } else {
-        first
-    })?;
-    let (freshness, frame) = line;
-    turns.push(sent(alloc, 0, ID, &PAYLOAD, freshness, frame)?)?;
-    Ok(turns)
+    bus_of(alloc, kind, version, PAIR)
 }
 
 /// A life over these disks, which come back.
@@ -64,11 +65,11 @@ fn lives<D: CutDisk + Drop>(
     rt: &impl Abort,
     bus: &BusConfig,
     disks: Vec<D>,
-    turns: &[Turn],
+    rows: &[Row],
     alloc: Global,
 ) -> Result<Vec<D>, Fail> {
     let mut bench = Bench::new(alloc, bus, disks, 2, Start::Attach)?;
-    bench.tells(rt, turns)?;
+    bench.tells(rt, alloc, rows)?;
     Ok(bench.end())
 }
 
@@ -80,10 +81,8 @@ fn two_lives<D: CutDisk + Drop>(
     disks: Vec<D>,
 ) -> Result<Vec<D>, Fail> {
     let bus = pair(alloc, store.0, store.1)?;
-    let first = life_of_left(alloc, false, FIRST)?;
-    let second = life_of_left(alloc, true, AFTER)?;
-    let disks = lives(rt, &bus, disks, first.as_slice(), alloc)?;
-    lives(rt, &bus, disks, second.as_slice(), alloc)
+    let disks = lives(rt, &bus, disks, FIRST_LIFE, alloc)?;
+    lives(rt, &bus, disks, SECOND_LIFE, alloc)
 }
 
 /// The size of each disk.
@@ -108,7 +107,7 @@ fn a_second_life_adds_to_the_past_of_its_disks(rt: HostRuntime) -> Result<(), Fa
         }
         let disks = two_lives(&rt, rt.alloc(), (kind, Version::One), disks)?;
         for disk in disks.as_slice() {
-            assert_eq!(rt; marks(rt.alloc(), disk)?.len(), 0);
+            same(&rt, "marks", &marks(rt.alloc(), disk)?.len(), &0);
         }
     }
     Ok(())
@@ -130,31 +129,44 @@ const HEADERS: [(Kind, &[u8]); 2] = [
     (Kind::Log, b"SECOCST1\x02\x02\x00\x0f"),
 ];
 
+/// The disks of a bus that lived over stores of version 1 and then over those of version 2.
+fn moved(rt: &impl Abort, alloc: Global, kind: Kind) -> Result<Vec<MemDisk>, Fail> {
+    let one = pair(alloc, kind, Version::One)?;
+    let disks = disks(alloc, &[65_536, 65_536])?;
+    let disks = lives(rt, &one, disks, FIRST_LIFE, alloc)?;
+    let two = pair(alloc, kind, Version::Two)?;
+    lives(rt, &two, disks, SECOND_LIFE, alloc)
+}
+
+/// Both disks have this header where a store of version 2 begins.
+fn are_headed(
+    rt: &impl Abort,
+    alloc: Global,
+    disks: &mut [MemDisk],
+    header: &[u8],
+) -> Result<(), Fail> {
+    holds(rt, "disks.len()", disks.len() == 2);
+    for disk in disks.iter_mut() {
+        holds(rt, "has", has(alloc, disk, 32_768, header)?);
+        holds(rt, "has", has(alloc, disk, 32_780, &[0; 20])?);
+    }
+    Ok(())
+}
+
 #[test]
 fn a_store_is_moved_and_counts_from_then_on(rt: HostRuntime) -> Result<(), Fail> {
     for (kind, header) in HEADERS {
         let alloc = rt.alloc();
+        let mut made = moved(&rt, alloc, kind)?;
+        are_headed(&rt, alloc, made.as_mut_slice(), header)?;
         let one = pair(alloc, kind, Version::One)?;
-        let two = pair(alloc, kind, Version::Two)?;
-        let first = life_of_left(alloc, false, FIRST)?;
-        let second = life_of_left(alloc, true, AFTER)?;
-        let made = lives(
-            &rt,
-            &one,
-            disks(alloc, &[65_536, 65_536])?,
-            first.as_slice(),
-            alloc,
-        )?;
-        let mut made = lives(&rt, &two, made, second.as_slice(), alloc)?;
-        for place in 0..2 {
-            if place < made.len() {
-                assert!(rt; has(alloc, &mut made[place], 32_768, header)?);
-                assert!(rt; has(alloc, &mut made[place], 32_780, &[0; 20])?);
-            }
-        }
         let fault = StartFault::Store(1, Reread::NotFormatted);
-        let started = World::start(alloc, &one, &mut made, 0, Start::Attach);
-        assert_eq!(rt; started.err(), Some(fault));
+        same(
+            &rt,
+            "starts",
+            &starts(alloc, &one, &mut made, Start::Attach),
+            &Some(fault),
+        );
         are_of(&rt, made.as_slice(), &[65_536, 65_536]);
     }
     Ok(())

@@ -3,15 +3,16 @@ ghost use Rattle.std.specs.Prelude.{◌≡◌, IsTrue};
 ghost use Rattle.bus_machine.specs.Bus.{node_of};
 ghost use Rattle.bus_world.specs.Turns.{CanBeDone};
 
-use bus_machine::{Event, Line};
+use crate::comparing::{holds, same};
+use bus_machine::{Event, Line, Refusal};
 use bus_nodes::{BusConfig, Name, NodeLine};
 use bus_world::{Start, StartFault, World};
 use byte_lists::{Bytes, Pdu};
 use cell_store::{Kind, Version};
-use cut_disk::{CutDisk, Disk, MemDisk};
+use cut_disk::{CutDisk, Disk, MemDisk, Torn};
 use freshness_routes::{Direction, NodeConfig, Route};
-use key_slots::{Counter28, Flags, SlotId};
-use memory_update::{Uid, Update};
+use key_slots::{Counter28, Erc, Flags, SlotId};
+use memory_update::{Reply, Request, Uid, Update};
 use she_aes::Block;
 use std::alloc::Global;
 use std::marker::Model;
@@ -70,44 +71,108 @@ pub(crate) fn disk(alloc: Global, size: usize) -> Result<MemDisk, Fail> {
 
 /// Disks have these sizes, in this order.
 pub(crate) fn are_of(rt: &impl Abort, disks: &[MemDisk], sizes: &[usize]) {
-    assert_eq!(rt; disks.len(), sizes.len());
+    holds(rt, "disks.len()", disks.len() == sizes.len());
     for (disk, size) in disks.iter().zip(sizes.iter()) {
-        assert_eq!(rt; disk.size(), *size as u64);
+        holds(rt, "disk.size()", disk.size() == (*size as u64));
     }
 }
 
-/// An event, and the line that tells what comes of it.
-#[derive(Drop)]
-pub(crate) struct Turn {
-    pub(crate) event: Event,
-    pub(crate) line: Line,
+/// A route: its Data ID, its direction, its slot, its reserve, and the freshness that it starts at.
+pub(crate) struct RouteRow(
+    pub(crate) u16,
+    pub(crate) Direction,
+    pub(crate) u8,
+    pub(crate) u16,
+    pub(crate) u64,
+);
+
+/// A node: its name, the last byte of its UID, and its routes.
+pub(crate) struct NodeRow(
+    pub(crate) &'static [u8],
+    pub(crate) u8,
+    pub(crate) &'static [RouteRow],
+);
+
+/// The routes of these rows.
+fn routes_of(alloc: Global, rows: &[RouteRow]) -> Result<Vec<Route>, Fail> {
+    let mut routes = Vec::new(alloc);
+    for row in rows {
+        routes.push(route(row.0, row.1, row.2, row.3, row.4)?)?;
+    }
+    Ok(routes)
 }
 
-pub(crate) fn pdu(bytes: &[u8]) -> Result<Pdu, Fail> {
+/// The bus of these nodes.
+pub(crate) fn bus_of(
+    alloc: Global,
+    kind: Kind,
+    version: Version,
+    rows: &[NodeRow],
+) -> Result<BusConfig, Fail> {
+    let mut nodes = Vec::new(alloc);
+    for row in rows {
+        nodes.push(node(row.0, row.1, routes_of(alloc, row.2)?)?)?;
+    }
+    Ok(BusConfig::new(kind, version, nodes).ok_or("a bus")?)
+}
+
+/// What is asked of a node.
+#[derive(Clone, Copy)]
+pub(crate) enum Act {
+    /// An empty slot gets a key: the last byte of the node's UID, the slot, the flags, and the key.
+    Key(u8, u8, u8, u128),
+    /// The request of the example of the SHE specification.
+    Load,
+    /// An image.
+    Boot(&'static [u8]),
+    /// A Data ID and a payload.
+    Send(u16, &'static [u8]),
+    /// The number of the event whose line is delivered.
+    Deliver(u32),
+    /// A Data ID and the bytes of a PDU.
+    Inject(u16, &'static [u8]),
+    /// The call at which the disk stops.
+    Stop(u32),
+    /// The call that fails.
+    Fail(u32),
+    Cut(Torn),
+}
+
+/// The line that tells what comes of it.
+#[derive(Clone, Copy)]
+pub(crate) enum Told {
+    /// The slot.
+    Keyed(u8),
+    /// The reply of the example.
+    Loaded,
+    /// The Data ID, the freshness and the PDU.
+    Sent(u16, u64, &'static [u8]),
+    /// The Data ID, the freshness, the payload, and the number of the event that sent it, 0 where none did.
+    Accepted(u16, u64, &'static [u8], u32),
+    VerificationFailure,
+    NoFrame,
+    Armed,
+    Up,
+    NoRoute,
+    Down,
+    MemoryFailure,
+    /// What the engine refuses.
+    Refused(Erc),
+}
+
+/// The number of the node, what is asked of it, and what it tells.
+pub(crate) struct Row(pub(crate) u8, pub(crate) Act, pub(crate) Told);
+
+fn pdu(bytes: &[u8]) -> Result<Pdu, Fail> {
     Ok(Pdu::of(bytes).ok_or("too long")?)
 }
 
-pub(crate) fn bytes(alloc: Global, bytes: &[u8]) -> Result<Bytes, Fail> {
+fn bytes(alloc: Global, bytes: &[u8]) -> Result<Bytes, Fail> {
     Ok(Bytes::of(Vec::from_slice(alloc, bytes)?))
 }
 
-/// The line of an accepted PDU.
-pub(crate) fn accepted(
-    id: u16,
-    freshness: u64,
-    payload: &[u8],
-    from: Option<u32>,
-) -> Result<Line, Fail> {
-    Ok(Line::Accepted {
-        id,
-        freshness,
-        payload: pdu(payload)?,
-        from,
-    })
-}
-
 /// An empty slot gets a key.
-pub(crate) fn keyed(node: u8, uid: u8, slot: u8, flags: u8, key: u128) -> Result<Turn, Fail> {
+fn key_event(node: u8, uid: u8, slot: u8, flags: u8, key: u128) -> Result<Event, Fail> {
     let id = SlotId::new(slot).ok_or("a slot")?;
     let update = Update {
         uid: Uid::of([0, 0, 0, 0, 0, 0, 0, 0, 0, 0, 0, 0, 0, 0, uid]),
@@ -118,42 +183,93 @@ pub(crate) fn keyed(node: u8, uid: u8, slot: u8, flags: u8, key: u128) -> Result
         key: Block::of(key.to_be_bytes()),
     };
     let authkey = Block::of([0xff; 16]);
-    Ok(Turn {
-        event: Event::Key {
-            node,
-            update,
-            authkey,
-        },
-        line: Line::Keyed { slot: id },
+    Ok(Event::Key {
+        node,
+        update,
+        authkey,
     })
 }
 
-/// A node sends this payload, with this freshness as this PDU.
-pub(crate) fn sent(
-    alloc: Global,
-    node: u8,
-    id: u16,
-    payload: &[u8],
-    freshness: u64,
-    frame: &[u8],
-) -> Result<Turn, Fail> {
-    let payload = bytes(alloc, payload)?;
-    Ok(Turn {
-        event: Event::Send { node, id, payload },
-        line: Line::Sent {
+/// The request of the example of the SHE specification, for slot 4 of the node with UID 1, whose slot 1 has the master key.
+fn example_request() -> Request {
+    let m1 = Block::of(0x00000000000000000000000000000141u128.to_be_bytes());
+    let m2 = [
+        Block::of(0x2b111e2d93f486566bcbba1d7f7a9797u128.to_be_bytes()),
+        Block::of(0xc94643b050fc5d4d7de14cff682203c3u128.to_be_bytes()),
+    ];
+    let m3 = Block::of(0xb9d745e5ace7d41860bc63c2b9f5bb46u128.to_be_bytes());
+    Request { m1, m2, m3 }
+}
+
+/// Its reply.
+fn example_reply() -> Reply {
+    let m4 = [
+        Block::of(0x00000000000000000000000000000141u128.to_be_bytes()),
+        Block::of(0xb472e8d8727d70d57295e74849a27917u128.to_be_bytes()),
+    ];
+    let m5 = Block::of(0x820d8d95dc11b4668878160cb2a4e23eu128.to_be_bytes());
+    Reply { m4, m5 }
+}
+
+/// The event of a row.
+pub(crate) fn event_of(alloc: Global, row: &Row) -> Result<Event, Fail> {
+    let Row(node, act, _) = *row;
+    Ok(match act {
+        Act::Key(uid, slot, flags, key) => key_event(node, uid, slot, flags, key)?,
+        Act::Load => Event::Load {
+            node,
+            request: example_request(),
+        },
+        Act::Boot(image) => Event::Boot {
+            node,
+            image: bytes(alloc, image)?,
+        },
+        Act::Send(id, payload) => Event::Send {
+            node,
+            id,
+            payload: bytes(alloc, payload)?,
+        },
+        Act::Deliver(event) => Event::Deliver { node, event },
+        Act::Inject(id, pdu) => Event::Inject {
+            node,
+            id,
+            pdu: bytes(alloc, pdu)?,
+        },
+        Act::Stop(calls) => Event::Stop { node, calls },
+        Act::Fail(calls) => Event::Fail { node, calls },
+        Act::Cut(torn) => Event::Cut { node, torn },
+    })
+}
+
+/// The line of a row.
+pub(crate) fn line_of(row: &Row) -> Result<Line, Fail> {
+    Ok(match row.2 {
+        Told::Keyed(slot) => Line::Keyed {
+            slot: SlotId::new(slot).ok_or("a slot")?,
+        },
+        Told::Loaded => Line::Loaded {
+            reply: example_reply(),
+        },
+        Told::Sent(id, freshness, frame) => Line::Sent {
             id,
             freshness,
             pdu: pdu(frame)?,
         },
+        Told::Accepted(id, freshness, payload, event) => Line::Accepted {
+            id,
+            freshness,
+            payload: pdu(payload)?,
+            from: if event == 0 { None } else { Some(event) },
+        },
+        Told::VerificationFailure => Line::VerificationFailure,
+        Told::NoFrame => Line::NoFrame,
+        Told::Armed => Line::Armed,
+        Told::Up => Line::Up,
+        Told::NoRoute => Line::Refused(Refusal::NoRoute),
+        Told::Down => Line::Refused(Refusal::Down),
+        Told::MemoryFailure => Line::Refused(Refusal::MemoryFailure),
+        Told::Refused(erc) => Line::Refused(Refusal::Key(erc)),
     })
-}
-
-/// A node gets what the event of this number sent.
-pub(crate) fn delivered(node: u8, event: u32, line: Line) -> Turn {
-    Turn {
-        event: Event::Deliver { node, event },
-        line,
-    }
 }
 
 /// The node of an event.
@@ -264,11 +380,17 @@ impl<D: CutDisk + Drop> Bench<D> {
         Ok(self.world.step(event))
     }
 
-    /// Does these events, and compares their lines.
-    pub(crate) fn tells(&mut self, rt: &impl Abort, turns: &[Turn]) -> Result<(), Fail> {
-        for turn in turns {
-            let line = self.answer(&turn.event)?;
-            assert_eq!(rt; line, turn.line);
+    /// Does the events of these rows, and compares their lines.
+    pub(crate) fn tells(
+        &mut self,
+        rt: &impl Abort,
+        alloc: Global,
+        rows: &[Row],
+    ) -> Result<(), Fail> {
+        for (place, row) in rows.iter().enumerate() {
+            let event = event_of(alloc, row)?;
+            let line = self.answer(&event)?;
+            same(rt, place, &line, &line_of(row)?);
         }
         Ok(())
     }

@@ -9,6 +9,8 @@ mod attached;
 #[cfg(test)]
 mod bench;
 #[cfg(test)]
+mod comparing;
+#[cfg(test)]
 mod lives;
 #[cfg(test)]
 mod refused;

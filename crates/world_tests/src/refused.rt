@@ -1,6 +1,7 @@
 //! What a start doesn't go on over: each fault with its node, and the disks as they were.
 use crate::attached::{SIZE, pair};
 use crate::bench::{bytes_of, disks, starts};
+use crate::comparing::same;
 use any_cells::AnyCells;
 use bus_world::{Start, StartFault};
 use cell_store::{Kind, Reread, Version};
@@ -194,14 +195,19 @@ fn refuses(rt: &impl Abort, alloc: Global, row: &Row) -> Result<(), Fail> {
     let Row(stood, store, number, _, refused) = row;
     let bus = pair(alloc, store.0, store.1)?;
     let fault = starts(alloc, &bus, &mut made, Start::Attach);
-    assert_eq!(rt; fault, Some(fault_of(*number, *refused)?));
+    same(rt, "fault", &fault, &Some(fault_of(*number, *refused)?));
     let place = usize::from(*number).saturating_sub(1);
     if place >= made.len() {
         return Err(Fail::from("a disk"));
     }
     let after = bytes_of(alloc, &mut made[place])?;
     let is_moved = stood.1 != store.1 && !matches!(refused, Refused::Store(_));
-    assert_eq!(rt; after.as_slice() == before.as_slice(), !is_moved);
+    same(
+        rt,
+        "after.as_slice() == before",
+        &(after.as_slice() == before.as_slice()),
+        &(!is_moved),
+    );
     Ok(())
 }
 

@@ -1,9 +1,10 @@
 //! Starts that are refused, and the most nodes.
 use crate::bench::{
-    Bench, STORES, Turn, accepted, are_of, delivered, disk, disks, keyed, node, route, sent,
+    Act, Bench, NodeRow, RouteRow, Row, STORES, Told, are_of, bus_of, disk, disks, starts,
 };
+use crate::comparing::same;
 use bus_nodes::BusConfig;
-use bus_world::{Start, StartFault, World};
+use bus_world::{Start, StartFault};
 use cell_store::{Kind, Reread, Version};
 use cut_disk::{CutDisk, MemDisk};
 use freshness_routes::Direction;
@@ -11,18 +12,20 @@ use std::alloc::Global;
 use std::process::Abort;
 use std::test::Fail;
 
+const HEARD: RouteRow = RouteRow(0, Direction::Receives, 4, 1, 0);
+
+const HEARD_TOO: RouteRow = RouteRow(1, Direction::Receives, 4, 1, 0);
+
 /// Three nodes, of which the second has a route more.
-fn unequal(alloc: Global, kind: Kind, version: Version) -> Result<BusConfig, Fail> {
-    let mut nodes = Vec::new(alloc);
-    for (name, count) in [(&b"a"[..], 2), (&b"b"[..], 3), (&b"c"[..], 2)] {
-        let mut routes = Vec::new(alloc);
-        for id in 0..count {
-            routes.push(route(id, Direction::Receives, 4, 1, 0)?)?;
-        }
-        nodes.push(node(name, 1, routes)?)?;
-    }
-    Ok(BusConfig::new(kind, version, nodes).ok_or("a bus")?)
-}
+const UNEQUAL: &[NodeRow] = &[
+    NodeRow(b"a", 1, &[HEARD, HEARD_TOO]),
+    NodeRow(
+        b"b",
+        1,
+        &[HEARD, HEARD_TOO, RouteRow(2, Direction::Receives, 4, 1, 0)],
+    ),
+    NodeRow(b"c", 1, &[HEARD, HEARD_TOO]),
+];
 
 /// A start that formats these disks answers this fault, and all disks are back in their order.
 fn refuses(
@@ -33,8 +36,12 @@ fn refuses(
     sizes: &[usize],
     refusal: StartFault,
 ) {
-    let started = World::start(alloc, bus, disks, 0, Start::Format);
-    assert_eq!(rt; started.err(), Some(refusal));
+    same(
+        rt,
+        "starts",
+        &starts(alloc, bus, disks, Start::Format),
+        &Some(refusal),
+    );
     are_of(rt, disks.as_slice(), sizes);
 }
 
@@ -69,7 +76,7 @@ const LEAST: [(Kind, Version, [usize; 3], [usize; 3]); 4] = [
 #[test]
 fn too_few_and_too_small_disks_are_named(rt: HostRuntime) -> Result<(), Fail> {
     for (kind, version, least, small) in LEAST {
-        let bus = unequal(rt.alloc(), kind, version)?;
+        let bus = bus_of(rt.alloc(), kind, version, UNEQUAL)?;
         let [first, second, third] = least;
         let [small_first, small_second, small_third] = small;
         for (sizes, number) in [
@@ -128,7 +135,7 @@ fn failing(alloc: Global, sizes: &[usize], number: u8, call: u64) -> Result<Vec<
 fn the_node_whose_disk_fails_is_named(rt: HostRuntime) -> Result<(), Fail> {
     let sizes = [39_000, 39_001, 39_002];
     for (kind, version) in STORES {
-        let bus = unequal(rt.alloc(), kind, version)?;
+        let bus = bus_of(rt.alloc(), kind, version, UNEQUAL)?;
         for call in [1, 20] {
             for number in 1..4 {
                 let mut made = failing(rt.alloc(), &sizes, number, call)?;
@@ -141,70 +148,184 @@ fn the_node_whose_disk_fails_is_named(rt: HostRuntime) -> Result<(), Fail> {
     Ok(())
 }
 
-/// A ring of eight nodes: a name, the Data ID that the node sends, and the one that it receives.
-const RING: [(&[u8], u16, u16); 8] = [
-    (b"a", 0, 7),
-    (b"b", 1, 0),
-    (b"c", 2, 1),
-    (b"d", 3, 2),
-    (b"e", 4, 3),
-    (b"f", 5, 4),
-    (b"g", 6, 5),
-    (b"h", 7, 6),
+/// A ring of eight nodes: each sends under the Data ID of its place, and receives what the one before it sends.
+const RING: &[NodeRow] = &[
+    NodeRow(
+        b"a",
+        1,
+        &[
+            RouteRow(0, Direction::Sends, 4, 4, 0),
+            RouteRow(7, Direction::Receives, 4, 1, 0),
+        ],
+    ),
+    NodeRow(
+        b"b",
+        1,
+        &[
+            RouteRow(1, Direction::Sends, 4, 4, 0),
+            RouteRow(0, Direction::Receives, 4, 1, 0),
+        ],
+    ),
+    NodeRow(
+        b"c",
+        1,
+        &[
+            RouteRow(2, Direction::Sends, 4, 4, 0),
+            RouteRow(1, Direction::Receives, 4, 1, 0),
+        ],
+    ),
+    NodeRow(
+        b"d",
+        1,
+        &[
+            RouteRow(3, Direction::Sends, 4, 4, 0),
+            RouteRow(2, Direction::Receives, 4, 1, 0),
+        ],
+    ),
+    NodeRow(
+        b"e",
+        1,
+        &[
+            RouteRow(4, Direction::Sends, 4, 4, 0),
+            RouteRow(3, Direction::Receives, 4, 1, 0),
+        ],
+    ),
+    NodeRow(
+        b"f",
+        1,
+        &[
+            RouteRow(5, Direction::Sends, 4, 4, 0),
+            RouteRow(4, Direction::Receives, 4, 1, 0),
+        ],
+    ),
+    NodeRow(
+        b"g",
+        1,
+        &[
+            RouteRow(6, Direction::Sends, 4, 4, 0),
+            RouteRow(5, Direction::Receives, 4, 1, 0),
+        ],
+    ),
+    NodeRow(
+        b"h",
+        1,
+        &[
+            RouteRow(7, Direction::Sends, 4, 4, 0),
+            RouteRow(6, Direction::Receives, 4, 1, 0),
+        ],
+    ),
 ];
 
-/// What is sent on it: the sender and who receives, the number of the event, payload, freshness and PDU. The Data ID is the sender's place.
-const LINES: [(u8, u8, u32, &[u8], u64, &[u8]); 16] = [
-    (0, 1, 9, b"\x00", 1, b"\x00\x01\xbe\xe0\x08"),
-    (1, 2, 10, b"\x01", 1, b"\x01\x01\xca\xb6\xd3"),
-    (2, 3, 11, b"\x02", 1, b"\x02\x01\x67\xaa\x37"),
-    (3, 4, 12, b"\x03", 1, b"\x03\x01\x5e\x0b\xc1"),
-    (4, 5, 13, b"\x04", 1, b"\x04\x01\x4b\x29\x75"),
-    (5, 6, 14, b"\x05", 1, b"\x05\x01\x05\xa7\x2b"),
-    (6, 7, 15, b"\x06", 1, b"\x06\x01\x87\x87\xee"),
-    (7, 0, 16, b"\x07", 1, b"\x07\x01\xbc\x6b\x0f"),
-    (0, 1, 17, b"\x00\xff", 2, b"\x00\xff\x02\x7b\xaa\xe8"),
-    (1, 2, 18, b"\x01\xff", 2, b"\x01\xff\x02\xd2\xbb\x9b"),
-    (2, 3, 19, b"\x02\xff", 2, b"\x02\xff\x02\x3d\x41\xc2"),
-    (3, 4, 20, b"\x03\xff", 2, b"\x03\xff\x02\xae\xcf\x94"),
-    (4, 5, 21, b"\x04\xff", 2, b"\x04\xff\x02\xfb\x18\x8c"),
-    (5, 6, 22, b"\x05\xff", 2, b"\x05\xff\x02\x5e\xae\x15"),
-    (6, 7, 23, b"\x06\xff", 2, b"\x06\xff\x02\xf4\xe3\x6e"),
-    (7, 0, 24, b"\x07\xff", 2, b"\x07\xff\x02\xcc\xc8\x2d"),
+const KEY: Act = Act::Key(1, 4, 2, 0x2b7e151628aed2a6abf7158809cf4f3c);
+
+const RING_LIFE: &[Row] = &[
+    // events 1 to 24: each node gets the key and sends twice
+    Row(0, KEY, Told::Keyed(4)),
+    Row(1, KEY, Told::Keyed(4)),
+    Row(2, KEY, Told::Keyed(4)),
+    Row(3, KEY, Told::Keyed(4)),
+    Row(4, KEY, Told::Keyed(4)),
+    Row(5, KEY, Told::Keyed(4)),
+    Row(6, KEY, Told::Keyed(4)),
+    Row(7, KEY, Told::Keyed(4)),
+    Row(
+        0,
+        Act::Send(0, b"\x00"),
+        Told::Sent(0, 1, b"\x00\x01\xbe\xe0\x08"),
+    ),
+    Row(
+        1,
+        Act::Send(1, b"\x01"),
+        Told::Sent(1, 1, b"\x01\x01\xca\xb6\xd3"),
+    ),
+    Row(
+        2,
+        Act::Send(2, b"\x02"),
+        Told::Sent(2, 1, b"\x02\x01\x67\xaa\x37"),
+    ),
+    Row(
+        3,
+        Act::Send(3, b"\x03"),
+        Told::Sent(3, 1, b"\x03\x01\x5e\x0b\xc1"),
+    ),
+    Row(
+        4,
+        Act::Send(4, b"\x04"),
+        Told::Sent(4, 1, b"\x04\x01\x4b\x29\x75"),
+    ),
+    Row(
+        5,
+        Act::Send(5, b"\x05"),
+        Told::Sent(5, 1, b"\x05\x01\x05\xa7\x2b"),
+    ),
+    Row(
+        6,
+        Act::Send(6, b"\x06"),
+        Told::Sent(6, 1, b"\x06\x01\x87\x87\xee"),
+    ),
+    Row(
+        7,
+        Act::Send(7, b"\x07"),
+        Told::Sent(7, 1, b"\x07\x01\xbc\x6b\x0f"),
+    ),
+    Row(
+        0,
+        Act::Send(0, b"\x00\xff"),
+        Told::Sent(0, 2, b"\x00\xff\x02\x7b\xaa\xe8"),
+    ),
+    Row(
+        1,
+        Act::Send(1, b"\x01\xff"),
+        Told::Sent(1, 2, b"\x01\xff\x02\xd2\xbb\x9b"),
+    ),
+    Row(
+        2,
+        Act::Send(2, b"\x02\xff"),
+        Told::Sent(2, 2, b"\x02\xff\x02\x3d\x41\xc2"),
+    ),
+    Row(
+        3,
+        Act::Send(3, b"\x03\xff"),
+        Told::Sent(3, 2, b"\x03\xff\x02\xae\xcf\x94"),
+    ),
+    Row(
+        4,
+        Act::Send(4, b"\x04\xff"),
+        Told::Sent(4, 2, b"\x04\xff\x02\xfb\x18\x8c"),
+    ),
+    Row(
+        5,
+        Act::Send(5, b"\x05\xff"),
+        Told::Sent(5, 2, b"\x05\xff\x02\x5e\xae\x15"),
+    ),
+    Row(
+        6,
+        Act::Send(6, b"\x06\xff"),
+        Told::Sent(6, 2, b"\x06\xff\x02\xf4\xe3\x6e"),
+    ),
+    Row(
+        7,
+        Act::Send(7, b"\x07\xff"),
+        Told::Sent(7, 2, b"\x07\xff\x02\xcc\xc8\x2d"),
+    ),
+    // events 25 to 40: each node gets both lines of the one before it
+    Row(1, Act::Deliver(9), Told::Accepted(0, 1, b"\x00", 9)),
+    Row(2, Act::Deliver(10), Told::Accepted(1, 1, b"\x01", 10)),
+    Row(3, Act::Deliver(11), Told::Accepted(2, 1, b"\x02", 11)),
+    Row(4, Act::Deliver(12), Told::Accepted(3, 1, b"\x03", 12)),
+    Row(5, Act::Deliver(13), Told::Accepted(4, 1, b"\x04", 13)),
+    Row(6, Act::Deliver(14), Told::Accepted(5, 1, b"\x05", 14)),
+    Row(7, Act::Deliver(15), Told::Accepted(6, 1, b"\x06", 15)),
+    Row(0, Act::Deliver(16), Told::Accepted(7, 1, b"\x07", 16)),
+    Row(1, Act::Deliver(17), Told::Accepted(0, 2, b"\x00\xff", 17)),
+    Row(2, Act::Deliver(18), Told::Accepted(1, 2, b"\x01\xff", 18)),
+    Row(3, Act::Deliver(19), Told::Accepted(2, 2, b"\x02\xff", 19)),
+    Row(4, Act::Deliver(20), Told::Accepted(3, 2, b"\x03\xff", 20)),
+    Row(5, Act::Deliver(21), Told::Accepted(4, 2, b"\x04\xff", 21)),
+    Row(6, Act::Deliver(22), Told::Accepted(5, 2, b"\x05\xff", 22)),
+    Row(7, Act::Deliver(23), Told::Accepted(6, 2, b"\x06\xff", 23)),
+    Row(0, Act::Deliver(24), Told::Accepted(7, 2, b"\x07\xff", 24)),
 ];
-
-fn ring(alloc: Global, kind: Kind, version: Version) -> Result<BusConfig, Fail> {
-    let mut nodes = Vec::new(alloc);
-    for (name, sends, receives) in RING {
-        let mut routes = Vec::new(alloc);
-        routes.push(route(sends, Direction::Sends, 4, 4, 0)?)?;
-        routes.push(route(receives, Direction::Receives, 4, 1, 0)?)?;
-        nodes.push(node(name, 1, routes)?)?;
-    }
-    Ok(BusConfig::new(kind, version, nodes).ok_or("a bus")?)
-}
-
-/// Events 1 to 24: each node gets the key and sends twice.
-fn ring_sends(alloc: Global) -> Result<Vec<Turn>, Fail> {
-    let mut turns = Vec::new(alloc);
-    for place in 0..8 {
-        turns.push(keyed(place, 1, 4, 2, 0x2b7e151628aed2a6abf7158809cf4f3c)?)?;
-    }
-    for (sender, _, _, payload, freshness, frame) in LINES {
-        turns.push(sent(alloc, sender, u16::from(sender), payload, freshness, frame)?)?;
-    }
-    Ok(turns)
-}
-
-/// Events 25 to 40: each node gets both lines of the one before it.
-fn ring_deliveries(alloc: Global) -> Result<Vec<Turn>, Fail> {
-    let mut turns = Vec::new(alloc);
-    for (sender, receiver, event, payload, freshness, _) in LINES {
-        let line = accepted(u16::from(sender), freshness, payload, Some(event))?;
-        turns.push(delivered(receiver, event, line))?;
-    }
-    Ok(turns)
-}
 
 #[test]
 fn eight_nodes_hear_one_another(rt: HostRuntime) -> Result<(), Fail> {
@@ -212,7 +333,7 @@ fn eight_nodes_hear_one_another(rt: HostRuntime) -> Result<(), Fail> {
         40_000, 40_001, 40_002, 40_003, 40_004, 40_005, 40_006, 40_007,
     ];
     for (kind, version) in STORES {
-        let bus = ring(rt.alloc(), kind, version)?;
+        let bus = bus_of(rt.alloc(), kind, version, RING)?;
         let mut bench = Bench::new(
             rt.alloc(),
             &bus,
@@ -220,8 +341,7 @@ fn eight_nodes_hear_one_another(rt: HostRuntime) -> Result<(), Fail> {
             40,
             Start::Format,
         )?;
-        bench.tells(&rt, ring_sends(rt.alloc())?.as_slice())?;
-        bench.tells(&rt, ring_deliveries(rt.alloc())?.as_slice())?;
+        bench.tells(&rt, rt.alloc(), RING_LIFE)?;
         are_of(&rt, bench.end().as_slice(), &sizes);
     }
     Ok(())

@@ -3,6 +3,7 @@ ghost use Rattle.std.specs.Prelude.{◌≤◌};
 
 use crate::attached::{SIZE, pair};
 use crate::bench::{bytes_of, disks, starts};
+use crate::comparing::{holds, same};
 use bus_nodes::BusConfig;
 use bus_world::{Start, StartFault};
 use cell_store::{Kind, Reread, Version};
@@ -97,8 +98,17 @@ fn is_moved(
     let made = stopping(alloc, laid, stop.0)?;
     let (fault, after) = stop_and_start(alloc, bus, made, stop.1)?;
     let refused = StartFault::Store(2, Reread::DiskFailed);
-    assert_eq!(rt; fault, if is_done { None } else { Some(refused) });
-    assert!(rt; after.as_slice() == laid.moved.as_slice());
+    same(
+        rt,
+        "fault",
+        &fault,
+        &(if is_done { None } else { Some(refused) }),
+    );
+    holds(
+        rt,
+        "after.as_slice",
+        after.as_slice() == laid.moved.as_slice(),
+    );
     Ok(())
 }
 
