@@ -1,7 +1,13 @@
 -- What `run` promises: the headline, and the table of answers.
 --
 -- All is said of one call: `i` is what went in, `d` the disks, `e` how it ended. What a name from below means is told
--- beside its `use`.
+-- beside its `use`. Between two calls of `node` over the same disks freshness rises, too: that is a law of the crate
+-- life_laws.
+--
+-- A row is a status with its text. A disk tells its bytes where they are known, as in memory, and nothing over a file; a
+-- cut is a power cut, which may leave anything of bytes that aren't synced. An event may arm a disk, so that calls of it
+-- fail; a quiet disk is one on which nothing is armed, and no call fails by itself. A route is a Data ID that a node
+-- sends or receives; its kept bound, a reserve ahead of its counter, is what the counter begins again at after a cut.
 use Rattle.std.specs.Prelude.{◌≡◌, ◌⊎◌, ℕ, ◌<◌, List, [], length, take, get_or, All, codes, Some, None, Result, Ok, Err}
 -- ---- what went in
 -- `BusInputs`: the words, and the sources of the bus file (`config`) and of the lines (`script`), before and after.
@@ -29,7 +35,8 @@ use Rattle.answer_rows.specs.Inputs.{IsUnread, CountsFault, CountsTooMuch}
 -- `NoConfig i fault`, `NoScript i fault`: why there is no bus file, or are no lines.
 use Rattle.bus_commands.specs.Inputs.{NoConfig, NoScript}
 use Rattle.command_edge.specs.declared.input.InputFault.TheVariants.{ReadFault, TooLong}
--- `bus_of`, `fault_of`: what a bus file means; the first fault of lines.
+-- `Task`: what is to be done with lines, those of a replay among them. `bus_of`, `fault_of`: what a bus file means, or
+-- its first fault; the first fault of lines.
 use Rattle.bus_config.specs.declared.fault.ConfigFault.{ConfigFault}
 use Rattle.bus_config.specs.BusFile.{bus_of}
 use Rattle.bus_config.specs.FaultTexts.{config_fault_text}
@@ -39,6 +46,8 @@ use Rattle.text_lines.specs.Readings.{Fault}
 use Rattle.text_lines.specs.Texts.{fault_text_of}
 -- ---- the disks
 -- `CommandDisks`: the disks themselves (`old`, `new`), and what was known of them before and after (`states`).
+-- `BusHasDisks`: each node has a disk that is large enough and was quiet, or whose count of faults didn't rise, and
+-- over which it can start. `HoldsNoNode`: the disk of a node tells bytes over which it can't go on.
 use Rattle.bus_commands.specs.StartRows.{CommandDisks, HoldsNoNode}
 use Rattle.bus_world.specs.StartAnswers.{DiskStates, BusHasDisks}
 -- `TellEach`: each node's disk tells its bytes; `TellFirm`: and a cut can take none of them away. `StartsOver`: a world
@@ -55,14 +64,18 @@ use Rattle.bus_world.specs.StartRows.{start_row, StoreCause, LeavesEach}
 -- `Ending`: the sink before and after, and the status. `PrintsWhole e text`: exactly this was written; `PrintsFront
 -- rows e`: a proper front of one of these rows. `EndsIn n e`: the status is n or 6; `MayEndIn n e`: it is n, 6 or 7.
 use Rattle.answer_rows.specs.Endings.{Ending, PrintsWhole, PrintsFront, EndsIn, MayEndIn}
--- `CountsWriteFault`: the sink's count of faults rose; `SinkFailed`: it rose, or is full.
+-- `CountsWriteFault`: the sink's count of faults rose; `SinkFailed`: it rose, or stands at its last value.
 use Rattle.answer_rows.specs.Endings.{CountsWriteFault, SinkFailed}
--- `ComesInRun`: the rows that come. `ReplaysScript`: a replay did its first events; `TriesEvents`: a trial did all.
+-- `ComesInRun`: the rows that come, each for its cause. `ReplaysScript`: a replay did its first events; `TriesEvents`: a
+-- trial did all. `RowOrReplay`: a row that comes was told, whole or at 6 by a front, or a replay did its first events.
+-- `IsOutput task input text`: the text is what the task prints of these lines.
 use Rattle.bus_commands.specs.Rows.{ComesInRun, ReplaysScript, TriesEvents, RowOrReplay}
 use Rattle.answer_rows.specs.Rows.{memory_row}
 use Rattle.bus_commands.specs.Texts.{usage, IsOutput}
 use Rattle.bus_commands.specs.declared.summary.Summary.{Summary}
 use Rattle.bus_commands.specs.Summaries.{summary_of, summary_text}
+-- `Written .. result moments`: of `Ok` these are moments of all events, and the text of each line was written; of an
+-- `Unwritten`, at least one event was done, and of the last line a proper front alone (`SinkFailed`) or nothing (`Memory`).
 use Rattle.numbered_run.specs.declared.printing.Unwritten.{Unwritten}
 use Rattle.numbered_run.specs.declared.printing.Unwritten.TheVariants as unwritten
 use Rattle.numbered_run.specs.Printed.{Written}
@@ -85,7 +98,7 @@ use Rattle.world_runs.specs.WorldRuns.{IsFirstOf, EachSkipsLittle, Honest, World
 -- and the world behind it; `last` is the world behind them all.
 pub record HeadlineRun (first : World) (bus : NamedBus) (d : DiskStates) (events : List Event) (moments : Moments)
     (last : World) : Type 0 where
-  -- Nothing was done or sent before, each node is sound, up and at its kept bounds, and each Data ID has one sender.
+  -- Each node is sound, up and at the bounds that it keeps; no event of this call was done; a Data ID has one sender.
   pub begins : IsFirstOf bus first
   -- Each moment is a step of the machine, and their events are the first of those that were asked for.
   pub is_a_run : Run Step first moments last
@@ -114,8 +127,7 @@ pub record HeadlineRun (first : World) (bus : NamedBus) (d : DiskStates) (events
   -- without cuts and faults, the events alone determine the lines.
   pub honest : Honest first bus d.before events moments
 
--- What a replay did: one run, of which the sink has the texts of the lines. `Ok`: of all events. `Err`: of the first
--- ones, and of the last of these a proper front alone (`SinkFailed`), or nothing (`Memory`).
+-- What a replay did: one run, of which the sink has the texts of the lines, as `Written` says it: at `Ok` of all events.
 pub record WrittenRun (first : World) (bus : NamedBus) (d : DiskStates) (events : List Event) (e : Ending)
     (result : Result (Unit {0}) Unwritten) : Type 0 where
   pub moments : Moments
@@ -131,8 +143,9 @@ pub record SummedRun (bus : NamedBus) (d : DiskStates) (events : List Event) (su
   pub whole : commands_in moments ≡ events
   pub numbers : summary ≡ summary_of (lines_in moments)
 
--- a replay is asked for, and over disks that tell their bytes it is one run: where it formats them from the first world
--- of the bus, where it attaches them from one in which the bus goes on where they stand
+-- A replay is asked for, and it is one run: where it formats its disks from the first world of the bus, if each tells its
+-- bytes; where it attaches them from a world in which the bus goes on where they stand, if each tells bytes of which a
+-- cut can take none away.
 abbrev pub ReplayIsRun : Start → BusInputs → DiskStates → Ending → Result (Unit {0}) Unwritten → Type 0
 ReplayIsRun Format i d e result = OverReplayOf Format i (λ bus events. (TellEach bus d.before
     → WrittenRun (First (configs_of bus)) bus d events e result))
@@ -143,28 +156,28 @@ ReplayIsRun Attach i d e result = OverReplayOf Attach i (λ bus events. (TellFir
 abbrev pub TrialIsRun : BusInputs → DiskStates → Summary → Type 0
 TrialIsRun i d summary = OverTrial i (λ bus events. (TellEach bus d.before → SummedRun bus d events summary))
 
--- no event was done: every disk is as before, or as a start that is refused leaves it
+-- no event touched a disk: each is as before, or as a start that is refused leaves it
 abbrev pub DoesNothing : {V : Type 0} → BusInputs → CommandDisks V → Type 0
 DoesNothing i d =
     (d.new ≡ d.old) ⊎ OverWorld i (λ start bus events. LeavesEach start bus d.states.before d.states.after)
 
--- THE HEADLINE, by what is asked for and by status
+-- THE HEADLINE, by what is asked for and by status. What is called a run here is one over disks that tell, as above.
 pub record RunsMachine {V : Type 0} (i : BusInputs) (d : CommandDisks V) (e : Ending) : Type 0 where
   -- 0 of `replay`: all events of the script are one run, and the sink has all lines.
   pub replayed : Asks i.words (command.World (Replay Format)) → e.status ≡ 0 → ReplayIsRun Format i d.states e (Ok tt)
-  -- 0 of `node`: the same.
+  -- 0 of `node`: the same, from a world in which the bus goes on.
   pub attached_run : Asks i.words (command.World (Replay Attach)) → e.status ≡ 0
       → ReplayIsRun Attach i d.states e (Ok tt)
-  -- 6 of both: no event was done, and a front of a row was written; or the first events are one run.
+  -- 6 of both: no event touched a disk, and a front of a row was written; or the first events are one run.
   pub early_ends : (start : Start) → Asks i.words (command.World (Replay start)) → e.status ≡ 6
       → (DoesNothing i d × PrintsFront (ComesInRun i d) e) ⊎ ReplayIsRun start i d.states e (Err unwritten.SinkFailed)
-  -- 7 of both: no event was done, and nothing was written; or the first events are one run.
+  -- 7 of both: no event touched a disk, and nothing was written; or the first events are one run.
   pub early_ends_unwritten : (start : Start) → Asks i.words (command.World (Replay start)) → e.status ≡ 7
       → (DoesNothing i d × PrintsWhole e []) ⊎ ReplayIsRun start i d.states e (Err unwritten.Memory)
   -- 0 of `trial`: all its events are one run, and the sink has its seven numbers.
   pub tried : (trial : TrialWords) → Asks i.words (command.World (Trial trial)) → e.status ≡ 0
       → (summary : Summary) × TrialIsRun i d.states summary × PrintsWhole e (summary_text summary)
-  -- 6, 7 of `trial`: no event was done, or all were, in one run.
+  -- 6, 7 of `trial`: no event touched a disk, or all were done, in one run.
   pub tried_untold : (trial : TrialWords) → Asks i.words (command.World (Trial trial)) → (e.status ≡ 6) ⊎ (e.status ≡ 7)
       → DoesNothing i d ⊎ ((summary : Summary) × TrialIsRun i d.states summary)
 
@@ -191,11 +204,12 @@ abbrev pub TaskHasDisks : Task → DiskStates → Type 0
 TaskHasDisks (replay start bus) d = BusHasDisks start bus d
 TaskHasDisks task d = Unit {0}
 
--- what a command promises that has these inputs and disks and ends so, in the order of the table of answers
+-- What a command promises that has these inputs and disks and ends so, in the order of the table of answers. Where a
+-- status comes "for just this cause", the cause brings it, but that a sink which fails makes it 6, and want of memory 7.
 pub record RunsCommand {V : Type 0} (i : BusInputs) (d : CommandDisks V) (e : Ending) : Type 0 where
-  -- A row of the table comes and is told, or a replay did its first events; what this says of each status follows.
+  -- A row that comes is told, or a replay did its first events; what this says of each status follows.
   pub ends : RowOrReplay i d e
-  -- Every disk is as before but where a replay or a trial is asked for, and where the status is 2, 3, 4, 5, 8 or 9.
+  -- Every disk is as before where no run is asked for, and also of a run where the status is 2, 3, 4, 5, 8 or 9.
   pub disks : ¬ AsksWorld i.words → d.new ≡ d.old
   pub disks_unused : (e.status ≡ 2) ⊎ (e.status ≡ 3) ⊎ (e.status ≡ 4) ⊎ (e.status ≡ 5) ⊎ (e.status ≡ 8)
       ⊎ (e.status ≡ 9) → d.new ≡ d.old
@@ -203,36 +217,35 @@ pub record RunsCommand {V : Type 0} (i : BusInputs) (d : CommandDisks V) (e : En
   -- 0: the inputs were read whole, and exactly what is asked of them was printed: of the lines, of a whole replay, or
   -- of a whole trial.
   pub done : e.status ≡ 0 → PrintsAnswers i e ⊎ (ReplaysScript i d.states e (Ok tt) ⊎ PrintsSummary i d.states e)
-  -- 2: exactly where the words are of no form; nothing was read.
+  -- 2: the words are of no form, for just this cause; nothing was read.
   pub usage_told : e.status ≡ 2 → AsksNothing i.words × IsUnread i.config × IsUnread i.script × PrintsWhole e usage
   pub usage_only : AsksNothing i.words → EndsIn 2 e
-  -- 3: the bus file was read whole, and its first fault is printed; of the lines nothing was read.
+  -- 3: the bus file was read whole, and its first fault is printed, for just this cause; of the lines nothing was read.
   pub config_refused : e.status ≡ 3 → AsksOverBus i.words × IsUnread i.script
       × ((fault : ConfigFault) × IsConfigFault i.config fault
       × (text : List ℕ) × (config_fault_text fault ≡ Some text) × PrintsWhole e text)
   pub config_refused_only : (file : List ℕ) (fault : ConfigFault) → AsksOverBus i.words
       → Offers i.config file → bus_of file ≡ Err fault → MayEndIn 3 e
-  -- 4: the inputs were read whole, and the first fault of the lines is printed.
+  -- 4: the inputs were read whole, and the first fault of the lines is printed, for just this cause.
   pub refused : e.status ≡ 4 → OverLines i (λ task input. (fault : Fault) × (fault_of task input ≡ Some fault)
       × PrintsWhole e (fault_text_of fault))
   pub refused_only : (task : Task) (input : List ℕ) (fault : Fault) → OffersTask i task
       → Offers i.script input → fault_of task input ≡ Some fault → MayEndIn 4 e
-  -- 5: exactly where the count of faults rose of the source that was read.
+  -- 5: the count of faults rose of the source that was read, for just this cause.
   pub read_fault : e.status ≡ 5 → (NoConfig i ReadFault ⊎ NoScript i ReadFault) × PrintsWhole e (codes "read fault\n")
   pub read_fault_only : CountsFault i.config ⊎ CountsFault i.script → EndsIn 5 e
-  -- 6: exactly where the sink's count of faults rose. A front was written of a row that comes; or of a replay the
-  -- texts of the lines before one, and a front of this.
+  -- 6: the sink's count of faults rose (and wherever it rose), or stands at its last value. A front was written of a row
+  -- that comes; or of a replay the texts of the lines before one, and a front of this.
   pub write_fault : e.status ≡ 6 → SinkFailed e
       × (PrintsFront (ComesInRun i d) e ⊎ ReplaysScript i d.states e (Err unwritten.SinkFailed))
   pub write_fault_only : CountsWriteFault e → e.status ≡ 6
-  -- 7: want of memory comes, and nothing was written; or of a replay the texts of the lines before one.
+  -- 7: want of memory, which no clause bounds, and nothing was written; or of a replay the lines before one.
   pub no_memory : e.status ≡ 7 → (ComesInRun i d memory_row × PrintsWhole e [])
       ⊎ ReplaysScript i d.states e (Err unwritten.Memory)
-  -- 8: exactly where one byte more than an input may have came from a source.
+  -- 8: a source gave a byte more than an input may have, for just this cause.
   pub too_long : e.status ≡ 8 → (NoConfig i TooLong ⊎ NoScript i TooLong) × PrintsWhole e (codes "input too long\n")
   pub too_long_only : CountsTooMuch i.config ⊎ CountsTooMuch i.script → EndsIn 8 e
-  -- 9: exactly where there are fewer disks than nodes, or the disk of a node is too small; the first such node is
-  -- named.
+  -- 9: there are fewer disks than nodes, or the disk of a node is too small, for just this cause; the first is named.
   pub disks_refused : e.status ≡ 9 → OverWorld i (λ start bus events.
       IsNamedBus bus × (d.states.after ≡ d.states.before)
       × ((fault : StartFault) × FindsRoom bus d.states.before fault × PrintsWhole e (start_row fault).text))
@@ -246,11 +259,12 @@ pub record RunsCommand {V : Type 0} (i : BusInputs) (d : CommandDisks V) (e : En
       LeavesEach start bus d.states.before d.states.after
       × ((fault : StartFault) × StoreCause start bus d.states.before d.states.after fault
       × PrintsWhole e (start_row fault).text))
-  -- Where the disk of a node tells bytes over which it can't go on, no event is done.
+  -- Where the disk of a node tells bytes over which it can't go on, a valid `node` ends in 10, but for a failing sink
+  -- and want of memory.
   pub store_refused_only : (bus : NamedBus) (input : List ℕ) → OffersTask i (replay Attach bus)
       → Offers i.script input → fault_of (replay Attach bus) input ≡ None → HasRoom bus d.states.before
       → HoldsNoNode bus d.states.before → MayEndIn 10 e
-  -- What is valid is done, where no port failed and there was memory.
+  -- What is valid is done, or there was no memory, where no port failed and a run has disks that serve.
   pub complete : (task : Task) (input : List ℕ) → OffersTask i task → Offers i.script input → fault_of task input ≡ None
       → TaskHasDisks task d.states → ¬ SinkFailed e → (e.status ≡ 0) ⊎ (e.status ≡ 7)
   pub trial_complete : (bus : NamedBus) → OffersTrial i bus → BusHasDisks Format bus d.states → ¬ SinkFailed e
@@ -262,7 +276,8 @@ RunsBus i d e = RunsCommand i d e × RunsMachine i d e
 
 -- ---- the headline's record, and the one that all programs share
 
--- they have the same members: of a replay's or a trial's run holds what holds of a run of a bus
+-- they have the same members: of a replay's or a trial's run holds what holds of a run of a bus. The function
+-- `the_headline_is_a_run_of_the_bus` of src/laws.rt proves it.
 abbrev pub HeadlineIsWorldRun : Type 0
 HeadlineIsWorldRun = (first : World) (bus : NamedBus) (d : DiskStates) (events : List Event) (moments : Moments)
     (last : World)

@@ -24,14 +24,16 @@ use std::alloc::{AllocError, Global};
 
 /// Runs the command that the words ask for, the program's name left out, and gives the status that the program ends
 /// with. `config` gives the bus file, which `check`, `replay`, `trial` and `node` read, and `script` the lines, which
-/// all but `trial` read. All reading comes before all printing, and every text that is printed ends with a line feed.
-/// A replay and a trial format one disk a node; with `node` each node goes on where its disk stands, and the word that
-/// names a disk isn't looked at. A replay writes each line as soon as its event is done, a trial its seven lines after
-/// all events.
+/// all but `trial` read. All reading comes before all printing, and every text that is printed whole ends with a line
+/// feed. A replay and a trial format one disk a node; with `node` each node goes on where its disk stands, and the word
+/// that names a disk isn't looked at. A replay writes each line as soon as its event is done, a trial its seven lines
+/// after all events.
 ///
-/// The statuses are looked for in the order 2, then 5, 8 and 3 of the bus file, then 5, 8 and 4 of the lines, then 9
-/// and 10 of the disks. A sink that fails makes the status 6, whatever was to be printed, and no further event is
-/// done. Want of memory, 7, prints nothing more.
+/// The statuses: 0 done, 2 the words are of no form, 3 the bus file is refused, 4 the lines are, 5 a source failed, 6
+/// the sink failed, 7 there was no memory, 8 an input is too long, 9 the disks are too few or too small, 10 a node isn't
+/// started over its disk. They are looked for in the order 2, then 5, 8 and 3 of the bus file, then 5, 8 and 4 of the
+/// lines, then 9 and 10 of the disks. A sink that fails makes the status 6, whatever was to be printed, and no further
+/// event is done. Want of memory prints nothing more.
 pub fn run<S: Source, T: Source, K: Sink, D: CutDisk>(
     alloc: Global,
     words: &[String],
@@ -49,9 +51,9 @@ pub fn run<S: Source, T: Source, K: Sink, D: CutDisk>(
         (record { before = K.state sink.old; after = K.state sink.new; status = result }) }
 
     // The headline: over disks that tell their bytes a replay is one run of the machine from the first world of the
-    // bus, and so is a trial; `node` is one from a world in which the bus goes on where its disks stand. `HeadlineRun`
-    // has all that holds of that run: `is_a_run`, `rising`, `authentic`, `single`, `keys_kept`, `disks`, `failures`,
-    // `honest` and what goes with them.
+    // bus, and so is a trial; `node` is one from a world in which the bus goes on where its disks stand, if a power cut
+    // can take none of these bytes away. `HeadlineRun` has all that holds of that run: `is_a_run`, `rising`,
+    // `authentic`, `single`, `keys_kept`, `disks`, `failures`, `honest` and what goes with them.
     ensures replayed { RunsMachine
         (inputs_of (map string_bytes words.now)
         (S.state config.old) (S.state config.new) (T.state script.old) (T.state script.new))
