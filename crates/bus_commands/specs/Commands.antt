@@ -4,10 +4,11 @@
 -- beside its `use`. Between two calls of `node` over the same disks freshness rises, too: that is a law of the crate
 -- life_laws.
 --
--- A row is a status with its text. A disk tells its bytes where they are known, as in memory, and nothing over a file; a
--- cut is a power cut, which may leave anything of bytes that aren't synced. An event may arm a disk, so that calls of it
--- fail; a quiet disk is one on which nothing is armed, and no call fails by itself. A route is a Data ID that a node
--- sends or receives; its kept bound, a reserve ahead of its counter, is what the counter begins again at after a cut.
+-- A row is a status with its text. A disk tells its bytes where they are known, as in memory, and nothing over a
+-- file; a cut is a power cut, which may leave anything of bytes that aren't synced. An event may arm a disk, so that
+-- calls of it fail; a quiet disk is one on which nothing is armed, and no call fails by itself. A route is a Data ID
+-- that a node sends or receives; its kept bound, a reserve ahead of its counter, is what the counter begins again at
+-- after a cut.
 use Rattle.std.specs.Prelude.{◌≡◌, ◌⊎◌, ℕ, ◌<◌, List, [], length, take, get_or, All, codes, Some, None, Result, Ok, Err}
 -- ---- what went in
 -- `BusInputs`: the words, and the sources of the bus file (`config`) and of the lines (`script`), before and after.
@@ -66,16 +67,17 @@ use Rattle.bus_world.specs.StartRows.{start_row, StoreCause, LeavesEach}
 use Rattle.answer_rows.specs.Endings.{Ending, PrintsWhole, PrintsFront, EndsIn, MayEndIn}
 -- `CountsWriteFault`: the sink's count of faults rose; `SinkFailed`: it rose, or stands at its last value.
 use Rattle.answer_rows.specs.Endings.{CountsWriteFault, SinkFailed}
--- `ComesInRun`: the rows that come, each for its cause. `ReplaysScript`: a replay did its first events; `TriesEvents`: a
--- trial did all. `RowOrReplay`: a row that comes was told, whole or at 6 by a front, or a replay did its first events.
--- `IsOutput task input text`: the text is what the task prints of these lines.
+-- `ComesInRun`: the rows that come, each for its cause. `ReplaysScript`: a replay did its first events;
+-- `TriesEvents`: a trial did all. `RowOrReplay`: a row that comes was told, whole or at 6 by a front, or a replay did
+-- its first events. `IsOutput task input text`: the text is what the task prints of these lines.
 use Rattle.bus_commands.specs.Rows.{ComesInRun, ReplaysScript, TriesEvents, RowOrReplay}
 use Rattle.answer_rows.specs.Rows.{memory_row}
 use Rattle.bus_commands.specs.Texts.{usage, IsOutput}
 use Rattle.bus_commands.specs.declared.summary.Summary.{Summary}
 use Rattle.bus_commands.specs.Summaries.{summary_of, summary_text}
 -- `Written .. result moments`: of `Ok` these are moments of all events, and the text of each line was written; of an
--- `Unwritten`, at least one event was done, and of the last line a proper front alone (`SinkFailed`) or nothing (`Memory`).
+-- `Unwritten`, at least one event was done, and of the last line a proper front alone (`SinkFailed`) or nothing
+-- (`Memory`).
 use Rattle.numbered_run.specs.declared.printing.Unwritten.{Unwritten}
 use Rattle.numbered_run.specs.declared.printing.Unwritten.TheVariants as unwritten
 use Rattle.numbered_run.specs.Printed.{Written}
@@ -123,11 +125,12 @@ pub record HeadlineRun (first : World) (bus : NamedBus) (d : DiskStates) (events
   -- Lines that tell a failed disk are at most the rise of its count, and none before an event arms a quiet disk.
   pub failures : (i : ℕ) (disk : DiskState) → i < length bus.nodes
       → FailuresTold (mark_at i) (fails_at i) moments (get_or d.before i disk) (get_or d.after i disk)
-  -- A PDU that comes in time, under the right key, is accepted as it was sent, or the disk failed; and over quiet disks,
-  -- without cuts and faults, the events alone determine the lines.
+  -- A PDU that comes in time, under the right key, is accepted as it was sent, or the disk failed; and over quiet
+  -- disks, without cuts and faults, the events alone determine the lines.
   pub honest : Honest first bus d.before events moments
 
--- What a replay did: one run, of which the sink has the texts of the lines, as `Written` says it: at `Ok` of all events.
+-- What a replay did: one run, of which the sink has the texts of the lines, as `Written` says it: at `Ok` of all
+-- events.
 pub record WrittenRun (first : World) (bus : NamedBus) (d : DiskStates) (events : List Event) (e : Ending)
     (result : Result (Unit {0}) Unwritten) : Type 0 where
   pub moments : Moments
@@ -143,9 +146,9 @@ pub record SummedRun (bus : NamedBus) (d : DiskStates) (events : List Event) (su
   pub whole : commands_in moments ≡ events
   pub numbers : summary ≡ summary_of (lines_in moments)
 
--- A replay is asked for, and it is one run: where it formats its disks from the first world of the bus, if each tells its
--- bytes; where it attaches them from a world in which the bus goes on where they stand, if each tells bytes of which a
--- cut can take none away.
+-- A replay is asked for, and it is one run: where it formats its disks from the first world of the bus, if each tells
+-- its bytes; where it attaches them from a world in which the bus goes on where they stand, if each tells bytes of
+-- which a cut can take none away.
 abbrev pub ReplayIsRun : Start → BusInputs → DiskStates → Ending → Result (Unit {0}) Unwritten → Type 0
 ReplayIsRun Format i d e result = OverReplayOf Format i (λ bus events. (TellEach bus d.before
     → WrittenRun (First (configs_of bus)) bus d events e result))
@@ -205,7 +208,8 @@ TaskHasDisks (replay start bus) d = BusHasDisks start bus d
 TaskHasDisks task d = Unit {0}
 
 -- What a command promises that has these inputs and disks and ends so, in the order of the table of answers. Where a
--- status comes "for just this cause", the cause brings it, but that a sink which fails makes it 6, and want of memory 7.
+-- status comes "for just this cause", the cause brings it, but that a sink which fails makes it 6, and want of memory
+-- 7.
 pub record RunsCommand {V : Type 0} (i : BusInputs) (d : CommandDisks V) (e : Ending) : Type 0 where
   -- A row that comes is told, or a replay did its first events; what this says of each status follows.
   pub ends : RowOrReplay i d e
@@ -234,8 +238,8 @@ pub record RunsCommand {V : Type 0} (i : BusInputs) (d : CommandDisks V) (e : En
   -- 5: the count of faults rose of the source that was read, for just this cause.
   pub read_fault : e.status ≡ 5 → (NoConfig i ReadFault ⊎ NoScript i ReadFault) × PrintsWhole e (codes "read fault\n")
   pub read_fault_only : CountsFault i.config ⊎ CountsFault i.script → EndsIn 5 e
-  -- 6: the sink's count of faults rose (and wherever it rose), or stands at its last value. A front was written of a row
-  -- that comes; or of a replay the texts of the lines before one, and a front of this.
+  -- 6: the sink's count of faults rose (and wherever it rose), or stands at its last value. A front was written of a
+  -- row that comes; or of a replay the texts of the lines before one, and a front of this.
   pub write_fault : e.status ≡ 6 → SinkFailed e
       × (PrintsFront (ComesInRun i d) e ⊎ ReplaysScript i d.states e (Err unwritten.SinkFailed))
   pub write_fault_only : CountsWriteFault e → e.status ≡ 6

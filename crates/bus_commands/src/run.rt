@@ -30,10 +30,10 @@ use std::alloc::{AllocError, Global};
 /// after all events.
 ///
 /// The statuses: 0 done, 2 the words are of no form, 3 the bus file is refused, 4 the lines are, 5 a source failed, 6
-/// the sink failed, 7 there was no memory, 8 an input is too long, 9 the disks are too few or too small, 10 a node isn't
-/// started over its disk. They are looked for in the order 2, then 5, 8 and 3 of the bus file, then 5, 8 and 4 of the
-/// lines, then 9 and 10 of the disks. A sink that fails makes the status 6, whatever was to be printed, and no further
-/// event is done. Want of memory prints nothing more.
+/// the sink failed, 7 there was no memory, 8 an input is too long, 9 the disks are too few or too small, 10 a node
+/// isn't started over its disk. They are looked for in the order 2, then 5, 8 and 3 of the bus file, then 5, 8 and 4
+/// of the lines, then 9 and 10 of the disks. A sink that fails makes the status 6, whatever was to be printed, and no
+/// further event is done. Want of memory prints nothing more.
 pub fn run<S: Source, T: Source, K: Sink, D: CutDisk>(
     alloc: Global,
     words: &[String],
