@@ -6,9 +6,10 @@
 --
 -- A row is a status with its text. A disk tells its bytes where they are known, as in memory, and nothing over a
 -- file; a cut is a power cut, which may leave anything of bytes that aren't synced. An event may arm a disk, so that
--- calls of it fail; a quiet disk is one on which nothing is armed, and no call fails by itself. A route is a Data ID
--- that a node sends or receives; its kept bound, a reserve ahead of its counter, is what the counter begins again at
--- after a cut.
+-- calls of it fail; a quiet disk is one on which nothing is armed, and no call fails by itself. Its past is the list of
+-- states that its calls left, where it tells them. A slot of a node holds a key, with the counter of its last update. A
+-- route is a Data ID that a node sends or receives; its kept bound, a reserve ahead of its counter, is what the counter
+-- begins again at after a cut.
 use Rattle.std.specs.Prelude.{◌≡◌, ◌⊎◌, ℕ, ◌<◌, List, [], length, take, get_or, All, codes, Some, None, Result, Ok, Err}
 -- ---- what went in
 -- `BusInputs`: the words, and the sources of the bus file (`config`) and of the lines (`script`), before and after.
@@ -36,8 +37,8 @@ use Rattle.answer_rows.specs.Inputs.{IsUnread, CountsFault, CountsTooMuch}
 -- `NoConfig i fault`, `NoScript i fault`: why there is no bus file, or are no lines.
 use Rattle.bus_commands.specs.Inputs.{NoConfig, NoScript}
 use Rattle.command_edge.specs.declared.input.InputFault.TheVariants.{ReadFault, TooLong}
--- `Task`: what is to be done with lines, those of a replay among them. `bus_of`, `fault_of`: what a bus file means, or
--- its first fault; the first fault of lines.
+-- `Task`: what is to be done with lines, those of a replay among them. `IsConfigFault`: the first fault of what was
+-- told. `bus_of`, `fault_of`: what a bus file means, or its first fault; the first fault of lines.
 use Rattle.bus_config.specs.declared.fault.ConfigFault.{ConfigFault}
 use Rattle.bus_config.specs.BusFile.{bus_of}
 use Rattle.bus_config.specs.FaultTexts.{config_fault_text}
@@ -57,7 +58,8 @@ use Rattle.world_runs.specs.NodeDisks.{TellEach}
 use Rattle.world_runs.specs.Turns.{TellFirm}
 use Rattle.bus_world.specs.Starts.{StartsOver}
 -- `HasRoom`: each node has a disk that is large enough; `FindsRoom`: which hasn't. `StoreCause`: why a node wasn't
--- started over its disk; `LeavesEach`: what is left of the disks then.
+-- started over its disk. `LeavesEach`: what is left of the disks then: each is as it was, or as a node that is open
+-- leaves it (formatted, or moved to version 2), or its count of faults rose; those that no node has are as they were.
 use Rattle.bus_world.specs.Starts.{HasRoom, FindsRoom}
 use Rattle.bus_world.specs.declared.start.StartFault.{StartFault}
 use Rattle.bus_world.specs.StartRows.{start_row, StoreCause, LeavesEach}
@@ -105,7 +107,7 @@ pub record HeadlineRun (first : World) (bus : NamedBus) (d : DiskStates) (events
   -- Each moment is a step of the machine, and their events are the first of those that were asked for.
   pub is_a_run : Run Step first moments last
   pub of_events : commands_in moments ≡ take (length moments) events
-  -- Each line is one that its type has, so texts tell lists of lines apart.
+  -- Each line is one that its type has.
   pub are_lines : All IsLine (lines_in moments)
   -- Of one node and one Data ID, accepted freshness strictly rises.
   pub rising : Rising moments
@@ -159,28 +161,30 @@ ReplayIsRun Attach i d e result = OverReplayOf Attach i (λ bus events. (TellFir
 abbrev pub TrialIsRun : BusInputs → DiskStates → Summary → Type 0
 TrialIsRun i d summary = OverTrial i (λ bus events. (TellEach bus d.before → SummedRun bus d events summary))
 
--- no event touched a disk: each is as before, or as a start that is refused leaves it
+-- every disk is as before, or as a start that is refused leaves it
 abbrev pub DoesNothing : {V : Type 0} → BusInputs → CommandDisks V → Type 0
 DoesNothing i d =
     (d.new ≡ d.old) ⊎ OverWorld i (λ start bus events. LeavesEach start bus d.states.before d.states.after)
 
--- THE HEADLINE, by what is asked for and by status. What is called a run here is one over disks that tell, as above.
+-- THE HEADLINE, by what is asked for and by status. What is called a run here, and the lines of it that the sink has,
+-- is one over disks that tell, as above; of a run over others, as over files, the table alone speaks.
 pub record RunsMachine {V : Type 0} (i : BusInputs) (d : CommandDisks V) (e : Ending) : Type 0 where
   -- 0 of `replay`: all events of the script are one run, and the sink has all lines.
   pub replayed : Asks i.words (command.World (Replay Format)) → e.status ≡ 0 → ReplayIsRun Format i d.states e (Ok tt)
   -- 0 of `node`: the same, from a world in which the bus goes on.
   pub attached_run : Asks i.words (command.World (Replay Attach)) → e.status ≡ 0
       → ReplayIsRun Attach i d.states e (Ok tt)
-  -- 6 of both: no event touched a disk, and a front of a row was written; or the first events are one run.
+  -- 6 of both: the disks are as before or as a refused start leaves them, and a front of a row was written; or the
+  -- first events are one run.
   pub early_ends : (start : Start) → Asks i.words (command.World (Replay start)) → e.status ≡ 6
       → (DoesNothing i d × PrintsFront (ComesInRun i d) e) ⊎ ReplayIsRun start i d.states e (Err unwritten.SinkFailed)
-  -- 7 of both: no event touched a disk, and nothing was written; or the first events are one run.
+  -- 7 of both: the disks are so, and nothing was written; or the first events are one run.
   pub early_ends_unwritten : (start : Start) → Asks i.words (command.World (Replay start)) → e.status ≡ 7
       → (DoesNothing i d × PrintsWhole e []) ⊎ ReplayIsRun start i d.states e (Err unwritten.Memory)
   -- 0 of `trial`: all its events are one run, and the sink has its seven numbers.
   pub tried : (trial : TrialWords) → Asks i.words (command.World (Trial trial)) → e.status ≡ 0
       → (summary : Summary) × TrialIsRun i d.states summary × PrintsWhole e (summary_text summary)
-  -- 6, 7 of `trial`: no event touched a disk, or all were done, in one run.
+  -- 6, 7 of `trial`: the disks are so; or all events are one run.
   pub tried_untold : (trial : TrialWords) → Asks i.words (command.World (Trial trial)) → (e.status ≡ 6) ⊎ (e.status ≡ 7)
       → DoesNothing i d ⊎ ((summary : Summary) × TrialIsRun i d.states summary)
 
@@ -208,8 +212,8 @@ TaskHasDisks (replay start bus) d = BusHasDisks start bus d
 TaskHasDisks task d = Unit {0}
 
 -- What a command promises that has these inputs and disks and ends so, in the order of the table of answers. Where a
--- status comes "for just this cause", the cause brings it, but that a sink which fails makes it 6, and want of memory
--- 7.
+-- status comes "for just this cause", the cause brings it, but that a sink which fails makes it 6, and at 3, 4, 9 and
+-- 10 want of memory 7.
 pub record RunsCommand {V : Type 0} (i : BusInputs) (d : CommandDisks V) (e : Ending) : Type 0 where
   -- A row that comes is told, or a replay did its first events; what this says of each status follows.
   pub ends : RowOrReplay i d e
@@ -243,7 +247,7 @@ pub record RunsCommand {V : Type 0} (i : BusInputs) (d : CommandDisks V) (e : En
   pub write_fault : e.status ≡ 6 → SinkFailed e
       × (PrintsFront (ComesInRun i d) e ⊎ ReplaysScript i d.states e (Err unwritten.SinkFailed))
   pub write_fault_only : CountsWriteFault e → e.status ≡ 6
-  -- 7: want of memory, which no clause bounds, and nothing was written; or of a replay the lines before one.
+  -- 7: want of memory, which no clause brings, and nothing was written; or of a replay the lines before one.
   pub no_memory : e.status ≡ 7 → (ComesInRun i d memory_row × PrintsWhole e [])
       ⊎ ReplaysScript i d.states e (Err unwritten.Memory)
   -- 8: a source gave a byte more than an input may have, for just this cause.
@@ -263,12 +267,13 @@ pub record RunsCommand {V : Type 0} (i : BusInputs) (d : CommandDisks V) (e : En
       LeavesEach start bus d.states.before d.states.after
       × ((fault : StartFault) × StoreCause start bus d.states.before d.states.after fault
       × PrintsWhole e (start_row fault).text))
-  -- Where the disk of a node tells bytes over which it can't go on, a valid `node` ends in 10, but for a failing sink
-  -- and want of memory.
+  -- Where the disks are large enough, and that of a node tells bytes over which it can't go on, a valid `node` ends in
+  -- 10, but for a failing sink and want of memory.
   pub store_refused_only : (bus : NamedBus) (input : List ℕ) → OffersTask i (replay Attach bus)
       → Offers i.script input → fault_of (replay Attach bus) input ≡ None → HasRoom bus d.states.before
       → HoldsNoNode bus d.states.before → MayEndIn 10 e
-  -- What is valid is done, or there was no memory, where no port failed and a run has disks that serve.
+  -- What is valid is done, or there was no memory, where no source failed, the sink's count of faults neither rose nor
+  -- stands at its last value, and a run has disks that serve.
   pub complete : (task : Task) (input : List ℕ) → OffersTask i task → Offers i.script input → fault_of task input ≡ None
       → TaskHasDisks task d.states → ¬ SinkFailed e → (e.status ≡ 0) ⊎ (e.status ≡ 7)
   pub trial_complete : (bus : NamedBus) → OffersTrial i bus → BusHasDisks Format bus d.states → ¬ SinkFailed e
@@ -280,7 +285,7 @@ RunsBus i d e = RunsCommand i d e × RunsMachine i d e
 
 -- ---- the headline's record, and the one that all programs share
 
--- they have the same members: of a replay's or a trial's run holds what holds of a run of a bus. The function
+-- each gives the other: of a replay's or a trial's run holds what holds of a run of a bus. The function
 -- `the_headline_is_a_run_of_the_bus` of src/laws.rt proves it.
 abbrev pub HeadlineIsWorldRun : Type 0
 HeadlineIsWorldRun = (first : World) (bus : NamedBus) (d : DiskStates) (events : List Event) (moments : Moments)
