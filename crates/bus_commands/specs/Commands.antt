@@ -260,9 +260,9 @@ pub record RunsCommand {V : Type 0} (i : BusInputs) (d : CommandDisks V) (e : En
   pub disks_refused_only : (start : Start) (bus : NamedBus) (input : List ℕ) → OffersTask i (replay start bus)
       → Offers i.script input → fault_of (replay start bus) input ≡ None → ¬ HasRoom bus d.states.before → MayEndIn 9 e
   pub trial_disks_refused_only : (bus : NamedBus) → OffersTrial i bus → ¬ HasRoom bus d.states.before → MayEndIn 9 e
-  -- 10: the disk of the named node failed, and wasn't quiet; or it is refused for its bytes, which are no node's that
-  -- could go on over them, and each node before it was taken. A disk that is formatted is refused for its bytes only
-  -- where it doesn't tell them.
+  -- 10: the disk of the named node failed, and wasn't quiet; or it is refused for its bytes, and didn't fail: where
+  -- they are told, they are no node's that could go on over them, and told ones of each node before it are one's. A
+  -- disk that is formatted is refused for its bytes only where it doesn't tell them.
   pub store_refused : e.status ≡ 10 → OverWorld i (λ start bus events.
       LeavesEach start bus d.states.before d.states.after
       × ((fault : StartFault) × StoreCause start bus d.states.before d.states.after fault

@@ -104,7 +104,8 @@ pub record OfNumber (start : Start) (bus : NamedBus) (before after : List DiskSt
   pub later : (i : ℕ) (d : DiskState) → number ≤ i → get_or after i d ≡ get_or before i d
 
 -- The node of this number is refused for the bytes of its disk, whose count of faults is as it was; a store in version
--- 1 was moved before its cells were looked at. Over a disk that doesn't tell its bytes, too, the cells are no node's.
+-- 1 was moved before its cells were looked at. Over a disk that doesn't tell its bytes a cell that is named is one of a
+-- slot or of a bound, and no more is said of it.
 abbrev pub RefusedAt : Start → NamedBus → List DiskState → List DiskState → ℕ → OpenFault → Type 0
 RefusedAt start bus before after number fault = OfNumber start bus before after number
     (λ config old new. RefusedFor start bus.kind bus.version config old.told fault × (new.faults ≡ old.faults)

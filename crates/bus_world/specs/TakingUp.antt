@@ -211,8 +211,8 @@ MovedFirst kind version config old new fault = Unit {0}
 abbrev pub SomeCells : ℕ → (List (List ℕ) → Type 0) → Type 0
 SomeCells n P = (cells : List (List ℕ)) × (length cells ≡ n) × P cells
 
--- the cells that were read are no node's, whether the disk tells its bytes or not: the lowest that isn't a slot or a
--- bound of the node is this one
+-- Of some list of as many cells this is the lowest that isn't a slot or a bound of the node. Over a disk that tells
+-- nothing that says no more than that the number is one of a slot, or of a bound.
 abbrev pub CellsAtFault : Config → OpenFault → Type 0
 CellsAtFault config (open_fault.BadSlot slot) = SomeCells (cells_in config) (λ cells. FirstBadSlot cells slot)
 CellsAtFault config (open_fault.BadBound place) =

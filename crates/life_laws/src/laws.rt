@@ -3,25 +3,27 @@ ghost use Rattle.life_laws.specs.Lives.{AllLivesGoOn, EachLife, LeavesNodes, Out
 
 use world_runs::{starts_are_set_up, starts_go_on_at_a_first_world, turns_are_world_runs};
 
-/// Over all lives of a bus, over disks that tell their bytes: freshness that is accepted or sent rises strictly, no slot
-/// goes back, no acknowledged update is lost, and each node begins a life as after a power cut in the one before.
+/// Over all lives of a bus, over disks that tell their bytes: freshness that is accepted or sent rises strictly, no
+/// slot goes back, no acknowledged update is lost, and each node begins a life as after a power cut in the one
+/// before.
 pub fn lives_go_on()
     ensures { AllLivesGoOn }
 {}
 
-/// Whatever a power cut leaves of the disks of a life, the next start isn't refused for their bytes: in version 1 where no
-/// header of version 2 stands there.
+/// Whatever a power cut leaves of the disks of a life, the next start isn't refused for their bytes: in version 1
+/// where no header of version 2 stands there.
 pub fn lives_can_go_on()
     ensures { EachLife LeavesNodes }
 {}
 
-/// A start between two lives that is refused, for want of memory or a failing disk, leaves the bytes as the life left
-/// them.
+/// A start of the same bus between two lives that is refused, for want of memory or a failing disk, leaves the bytes as
+/// it found them: in version 1 where no header of version 2 stands there.
 pub fn refused_starts_leave_lives()
     ensures { EachLife OutlastsRefusals }
 {}
 
-/// A run over attached disks is a next life: it follows the one that left these disks, whatever a power cut made of them.
+/// A run over attached disks is a next life: it follows the one that left these disks, whatever a power cut made of
+/// them.
 pub fn attached_runs_are_next_lives()
     ensures { AttachedRunsFollow }
 {

@@ -15,7 +15,7 @@ use Rattle.gateway_machine.specs.Parts.{AreAllParts}
 use Rattle.secoc_gateway.specs.State.{GatewayState, over}
 use Rattle.secoc_gateway.specs.Turns.{EventTurn, GatewayTurn, most_gateway_calls, tells_gateway_failure}
 
--- what each turn of a gateway keeps, put together from the turns of its node
+-- among what each turn of a gateway keeps, put together from the turns of its node
 pub record TurnKeeps (before : GatewayState) (event : Event) (line : GatewayLine) (after : GatewayState) : Type 0 where
   -- it is a step of the machine: always where the event is no cut, and where it is one, over a disk that tells its
   -- bytes and fits the node

@@ -5,7 +5,7 @@ ghost use Rattle.cut_disk.specs.State.{Told, Cut, Stop, Fail};
 ghost use Rattle.cut_disk.specs.Arming.{with_stop, with_fail};
 ghost use Rattle.cut_disk.specs.Calls.{Rose, Runs, Grows};
 ghost use Rattle.cut_disk.specs.Images.{CutsTo};
-ghost use Rattle.cell_store.specs.Reading.{NoStop};
+ghost use Rattle.cell_store.specs.Reading.{NoStop, CutStays};
 ghost use Rattle.cell_store.specs.Cells.{Settled, StandsNow};
 ghost use Rattle.secure_boot.specs.Booting.{IsImage};
 ghost use Rattle.memory_update.specs.declared.messages.Update.{Update};
@@ -278,6 +278,7 @@ impl<C: CutCells> Gateway<C> {
         ensures cause { IfErr result (CutCause self.old.node.config.routes self.old.store self.new.store) }
         ensures only { TellsFitting (over self.old) → IfErr result (λ fault. fault ≡ CutFault.Store Reread.DiskFailed) }
         ensures image { CutsTo self.old.store.disk.told self.new.store.disk.told }
+        ensures stays { CutStays torn self.old.store.disk self.new.store.disk }
         ensures stops { NoStop self.new.store.disk }
         ensures faults { OnOk result (self.new.store.disk.faults ≡ self.old.store.disk.faults) }
         ensures layout { self.new.store.layout ≡ self.old.store.layout }
