@@ -1,4 +1,6 @@
 //! Whole runs over ports in memory: the words, the bytes that come in, the status and the bytes that go out.
+ghost use Rattle.std.specs.Prelude.{◌≤◌};
+
 use crate::comparing::{holds, same};
 use bus_commands::run::run;
 use bus_port::{CleanSource, MemSink, MemSource, Sink, Source};
@@ -264,7 +266,9 @@ fn sink_fails(
     failing: u64,
     piece: usize,
     written: &[u8],
-) -> Result<(), Fail> {
+) -> Result<(), Fail>
+    requires { 1 ≤ piece }
+{
     let mut script = clean(alloc, LINE)?;
     let sink = MemSink::new(alloc, room, vec![in alloc; failing]?, piece)?;
     gives(rt, alloc, "frame F", &mut script, sink, 6, written)
