@@ -1,5 +1,5 @@
 -- What a command leaves unread, and what it did at 0, by the words that ask for it
-use Rattle.std.specs.Prelude.{◌≡◌, ℕ, List}
+use Rattle.std.specs.Prelude.{ℕ, List}
 use Rattle.std.proofs.Common.{subst}
 use Rattle.answer_rows.specs.Rows.{Row}
 use Rattle.answer_rows.specs.Inputs.{IsUnread, ReadsWhole}

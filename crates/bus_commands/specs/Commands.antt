@@ -26,9 +26,10 @@ use Rattle.bus_commands.specs.declared.words.WorldCommand.TheVariants.{Replay, T
 use Rattle.bus_commands.specs.declared.trial_words.TrialWords.{TrialWords}
 use Rattle.bus_world.specs.declared.start.Start.{Start}
 use Rattle.bus_world.specs.declared.start.Start.TheVariants.{Format, Attach}
--- `OverLines i P`: any command but a trial is asked for, what it reads was read whole, its bus file is valid, and P
--- holds of what is to be done (a `Task`) and of the lines. `OverReplayOf`, `OverTrial`, `OverWorld`: such a world is
--- asked for, all that it reads was read whole and is valid, and P holds of the bus and the events.
+-- `OverLines i P`: a command other than `trial` is asked for, what it reads was read whole, its bus file, if it has
+-- one, is valid, and P holds of what it is to do (its `Task`) and of the lines. `OverReplayOf`, `OverTrial`,
+-- `OverWorld`: such a world is asked for, all that it reads was read whole and is valid, and P holds of the bus and the
+-- events.
 use Rattle.bus_commands.specs.Inputs.{OverLines, OverReplayOf, OverTrial, OverWorld}
 use Rattle.bus_commands.specs.Tasks.{Task, replay}
 use Rattle.bus_nodes.specs.Buses.{NamedBus, IsNamedBus, configs_of}
@@ -74,8 +75,8 @@ use Rattle.bus_world.specs.declared.start.StartFault.{StartFault}
 use Rattle.bus_world.specs.StartRows.{start_row, StoreCause, LeavesEach}
 -- ---- how it ended
 -- `Ending`: the sink before and after, and the status. `PrintsWhole e text`: exactly this was written, without a fault;
--- `PrintsFront rows e`: a proper front of one of these rows. `EndsIn n e`: the status is n or 6; `MayEndIn n e`: it is
--- n, 6 or 7. `CountsWriteFault`: the sink's count of faults rose; `SinkFailed`: it rose, or is full.
+-- `PrintsFront rows e`: a proper front of a text of these rows. `EndsIn n e`: the status is n or 6; `MayEndIn n e`: n,
+-- 6 or 7. `CountsWriteFault`: the sink's count of faults rose; `SinkFailed`: it rose, or is full.
 use Rattle.answer_rows.specs.Endings.{Ending, PrintsWhole, PrintsFront, EndsIn, MayEndIn, CountsWriteFault, SinkFailed}
 -- `IsOutput`: the text answers each line, and has nothing else: for `frame` the digits of its Secured I-PDU, for
 -- `judge` the verdict of a receiver with the widest window, or the bad length, for `check` its canonical line.
@@ -238,9 +239,9 @@ abbrev pub TaskHasDisks : Task → DiskStates → Type 0
 TaskHasDisks (replay start bus) d = BusHasDisks start bus d
 TaskHasDisks task d = Unit {0}
 
--- THE TABLE OF ANSWERS. "Both ways": the status has this cause, and the cause brings the status, at 3, 4 and 9 where the
--- sources tell it and didn't fail. A sink whose count of faults rises makes it 6 instead; and 3, 4, 9 and 10 may give
--- way to 7, which is said to be want of memory: no clause says that it was, and none brings 7.
+-- THE TABLE OF ANSWERS. "Both ways": the status has this cause, and the cause brings the status, at 3, 4 and 9 where
+-- the sources tell it and didn't fail. A sink whose count of faults rises makes it 6 instead; and 3, 4, 9 and 10 may
+-- give way to 7, which is said to be want of memory: no clause says that it was, and none brings 7.
 pub record RunsCommand {V : Type 0} (i : BusInputs) (d : CommandDisks V) (e : Ending) : Type 0 where
   -- A row that comes is told, or a replay did its first events: what that says of each status follows.
   pub ends : RowOrReplay i d e
@@ -292,14 +293,14 @@ pub record RunsCommand {V : Type 0} (i : BusInputs) (d : CommandDisks V) (e : En
       → Offers i.script input → fault_of (replay start bus) input ≡ None → ¬ HasRoom bus d.states.before → MayEndIn 9 e
   pub trial_disks_refused_only : (bus : NamedBus) → OffersTrial i bus → ¬ HasRoom bus d.states.before → MayEndIn 9 e
   -- 10: the disks are large enough, and the disk of the named node failed, and wasn't quiet; or it didn't fail, and its
-  -- bytes are refused: told ones only where no node could go on over them, and never to be formatted. Told ones of the
-  -- nodes before it are good. The disks are as an unfinished start may leave them.
+  -- bytes are refused: told ones only where no node could go on over them, and never to be formatted; of others no
+  -- cause is said. Told ones of the nodes before it are good. The disks are as an unfinished start may leave them.
   pub store_refused : e.status ≡ 10 → OverWorld i (λ start bus events.
       HasRoom bus d.states.before × LeavesEach start bus d.states.before d.states.after
       × ((fault : StartFault) × StoreCause start bus d.states.before d.states.after fault
       × PrintsWhole e (start_row fault).text))
-  -- A valid `node` ends in 10, 6 or 7, where its disks are large enough and one tells bytes over which its node can't go
-  -- on.
+  -- A valid `node` ends in 10, 6 or 7 where its disks are large enough, and one tells bytes over which its node can't
+  -- go on.
   pub store_refused_only : (bus : NamedBus) (input : List ℕ) → OffersTask i (replay Attach bus)
       → Offers i.script input → fault_of (replay Attach bus) input ≡ None → HasRoom bus d.states.before
       → HoldsNoNode bus d.states.before → MayEndIn 10 e
