@@ -85,10 +85,10 @@ use Rattle.bus_commands.specs.Texts.{usage, IsOutput}
 use Rattle.bus_commands.specs.declared.summary.Summary.{Summary}
 use Rattle.bus_commands.specs.Summaries.{summary_of, summary_text}
 -- `ReplaysScript`: over disks of any kind, files too, a replay was started and did its first events, `Written` so. Each
--- was a turn of its node: a step of the machine, but that a cut over a disk that doesn't tell may leave the node up
--- with whatever its store has, or down. The count of the node's disk rose (or is full) where the line tells that it
--- failed, and nowhere else. Nothing is undone: the disks are as the last turn left them. `TriesEvents`: a trial did all
--- its events so, and their lines have this summary.
+-- was a turn of its node alone: a step of the machine, but that a cut over a disk that doesn't tell may leave the node
+-- up with whatever its store has, or down. The count of its disk rose (or is full) where the line tells that it failed,
+-- and nowhere else. Nothing is undone: the disks are as the last turn left them. `TriesEvents`: a trial did all its
+-- events so, and their lines have this summary.
 use Rattle.bus_commands.specs.Rows.{ReplaysScript, TriesEvents}
 -- `Written .. result moments`: at `Ok` they are all events, and exactly the texts of their lines were written; at an
 -- `Unwritten` those of the lines before the last, of which a proper front was (`SinkFailed`), or nothing (`Memory`).
@@ -124,7 +124,7 @@ pub record HeadlineRun (first : World) (bus : NamedBus) (d : DiskStates) (events
   -- Each moment is a step of the machine; their events are the first of those that were asked for.
   pub is_a_run : Run Step first moments last
   pub of_events : commands_in moments ≡ take (length moments) events
-  -- Each line is one that its type has.
+  -- The numbers and bytes of each line are such as its type has.
   pub are_lines : All IsLine (lines_in moments)
   -- Of one node and one Data ID, accepted freshness strictly rises.
   pub rising : Rising moments
@@ -247,7 +247,7 @@ pub record RunsCommand {V : Type 0} (i : BusInputs) (d : CommandDisks V) (e : En
   pub ends : RowOrReplay i d e
   -- No other status comes.
   pub statuses : (e.status ≡ 0) ⊎ ((2 ≤ e.status) × (e.status ≤ 10))
-  -- A bus file is read for a command alone that has one, and no lines are read for a trial.
+  -- Only a command that has a bus file reads one, and a trial reads no lines.
   pub config_unread : ¬ AsksOverBus i.words → IsUnread i.config
   pub lines_unread : (trial : TrialWords) → Asks i.words (command.World (Trial trial)) → IsUnread i.script
   -- Every disk is as before where no world is asked for, and at 2, 3, 4, 5, 8 and 9.
@@ -271,10 +271,10 @@ pub record RunsCommand {V : Type 0} (i : BusInputs) (d : CommandDisks V) (e : En
       × PrintsWhole e (fault_text_of fault))
   pub refused_only : (task : Task) (input : List ℕ) (fault : Fault) → OffersTask i task
       → Offers i.script input → fault_of task input ≡ Some fault → MayEndIn 4 e
-  -- 5, both ways: the count of faults of a source that was read rose; 5 comes also where it is full.
+  -- 5, both ways: the count of faults of a source that was read rose; 5 may come where it is full, too.
   pub read_fault : e.status ≡ 5 → (NoConfig i ReadFault ⊎ NoScript i ReadFault) × PrintsWhole e (codes "read fault\n")
   pub read_fault_only : CountsFault i.config ⊎ CountsFault i.script → EndsIn 5 e
-  -- 6, both ways: the sink's count of faults rose; 6 comes also where it is full. A front was written of a row that
+  -- 6, both ways: the sink's count of faults rose; 6 may come where it is full, too. A front was written of a row that
   -- comes; or of a replay the lines before one, and a front of this.
   pub write_fault : e.status ≡ 6 → SinkFailed e
       × (PrintsFront (ComesInRun i d) e ⊎ ReplaysScript i d.states e (Err unwritten.SinkFailed))
