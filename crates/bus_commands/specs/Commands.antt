@@ -29,7 +29,7 @@ use Rattle.bus_world.specs.declared.start.Start.TheVariants.{Format, Attach}
 -- `OverLines i P`: a command other than `trial` is asked for, what it reads was read whole, its bus file, if it has
 -- one, is valid, and P holds of what it is to do (its `Task`) and of the lines. `OverReplayOf`, `OverTrial`,
 -- `OverWorld`: such a world is asked for, all that it reads was read whole and is valid, and P holds of the bus and the
--- events.
+-- events. A `NamedBus` is a bus as bus files have them (`IsNamedBus`).
 use Rattle.bus_commands.specs.Inputs.{OverLines, OverReplayOf, OverTrial, OverWorld}
 use Rattle.bus_commands.specs.Tasks.{Task, replay}
 use Rattle.bus_nodes.specs.Buses.{NamedBus, IsNamedBus, configs_of}
@@ -245,7 +245,7 @@ TaskHasDisks task d = Unit {0}
 pub record RunsCommand {V : Type 0} (i : BusInputs) (d : CommandDisks V) (e : Ending) : Type 0 where
   -- A row that comes is told, or a replay did its first events: what that says of each status follows.
   pub ends : RowOrReplay i d e
-  -- No other status comes.
+  -- No status comes but 0 and 2 to 10.
   pub statuses : (e.status ≡ 0) ⊎ ((2 ≤ e.status) × (e.status ≤ 10))
   -- Only a command that has a bus file reads one, and a trial reads no lines.
   pub config_unread : ¬ AsksOverBus i.words → IsUnread i.config
@@ -305,7 +305,7 @@ pub record RunsCommand {V : Type 0} (i : BusInputs) (d : CommandDisks V) (e : En
       → Offers i.script input → fault_of (replay Attach bus) input ≡ None → HasRoom bus d.states.before
       → HoldsNoNode bus d.states.before → MayEndIn 10 e
   -- What is valid ends in 0 or 7, where the sources tell it and didn't fail, the sink's count of faults neither rose
-  -- nor is full, and a world has disks that serve.
+  -- nor is full, and a world has disks that serve, which tell their bytes.
   pub complete : (task : Task) (input : List ℕ) → OffersTask i task → Offers i.script input → fault_of task input ≡ None
       → TaskHasDisks task d.states → ¬ SinkFailed e → (e.status ≡ 0) ⊎ (e.status ≡ 7)
   pub trial_complete : (bus : NamedBus) → OffersTrial i bus → BusHasDisks Format bus d.states → ¬ SinkFailed e

@@ -1,7 +1,7 @@
 -- What a command that runs over the disks that are made for it says of the words of the command line
 use Rattle.std.specs.Prelude.{◌≡◌, ◌⊎◌, ℕ, List, [], Vec}
 use Rattle.std.specs.declared.alloc.Global.{Global}
-use Rattle.std.proofs.Common.{sym, ap, subst, arith, inl, inr}
+use Rattle.std.proofs.Common.{sym, subst, arith, inl, inr}
 use Rattle.bus_port.specs.Source.{SourceState}
 use Rattle.cut_disk.specs.declared.mem_disk.MemDisk.{MemDisk}
 use Rattle.cut_disk.specs.State.{DiskState}
