@@ -85,10 +85,10 @@ use Rattle.bus_commands.specs.Texts.{usage, IsOutput}
 use Rattle.bus_commands.specs.declared.summary.Summary.{Summary}
 use Rattle.bus_commands.specs.Summaries.{summary_of, summary_text}
 -- `ReplaysScript`: over disks of any kind, files too, a replay was started and did its first events, `Written` so. Each
--- was a turn of its node alone: a step of the machine, but that a cut over a disk that doesn't tell may leave the node
--- up with whatever its store has, or down. The count of its disk rose (or is full) where the line tells that it failed,
--- and nowhere else. Nothing is undone: the disks are as the last turn left them. `TriesEvents`: a trial did all its
--- events so, and their lines have this summary.
+-- was a turn of its node alone: a step of the machine, but that a cut over a disk that doesn't tell bytes that fit may
+-- leave the node up with whatever its store has, or down. The count of its disk rose (or is full) where the line tells
+-- that it failed, and nowhere else. Nothing is undone: the disks are as the last turn left them. `TriesEvents`: a trial
+-- did all its events so, and their lines have this summary.
 use Rattle.bus_commands.specs.Rows.{ReplaysScript, TriesEvents}
 -- `Written .. result moments`: at `Ok` they are all events, and exactly the texts of their lines were written; at an
 -- `Unwritten` those of the lines before the last, of which a proper front was (`SinkFailed`), or nothing (`Memory`).
@@ -135,7 +135,8 @@ pub record HeadlineRun (first : World) (bus : NamedBus) (d : DiskStates) (events
   pub single : Single moments
   -- An acknowledged update of a key is undone by a later update alone, and no slot's counter falls.
   pub keys_kept : KeysKept first moments
-  -- A power-up skips at most one reserve of freshness: above the counter, or above a PDU whose acceptance failed.
+  -- A power-up skips at most one reserve of a sender's freshness; of a receiver's less than one, above its counter or
+  -- above the freshness whose acceptance failed.
   pub cuts_skip_little : EachSkipsLittle first moments
   -- The freshness of these moments is at most its route's kept bound, and at most its counter, at last.
   pub covered : AllCovered moments last
