@@ -12,6 +12,7 @@ pub mod Asking
 pub mod Preparing
 pub mod Refusing
 pub mod RowFacts
+pub mod Failing
 pub mod Promises
 pub mod Headlines
 pub mod OneRun

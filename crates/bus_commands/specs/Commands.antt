@@ -51,7 +51,9 @@ use Rattle.text_lines.specs.Texts.{fault_text_of}
 -- `BusHasDisks`: each node has a disk that is large enough and was quiet, or whose count of faults didn't rise, and
 -- over which it can start. `HoldsNoNode`: the disk of a node tells bytes over which it can't go on.
 use Rattle.bus_commands.specs.StartRows.{CommandDisks, HoldsNoNode}
-use Rattle.bus_world.specs.StartAnswers.{DiskStates, BusHasDisks}
+-- `CountsFailure d place`: the count of faults of the disk at this place rose. `failed_row place`: the row that tells
+-- that the disk of the node at this place failed.
+use Rattle.bus_world.specs.StartAnswers.{DiskStates, BusHasDisks, CountsFailure, failed_row}
 -- `TellEach`: each node's disk tells its bytes; `TellFirm`: and a cut can take none of them away. `StartsOver`: a world
 -- in which each node goes on where its disk stands.
 use Rattle.world_runs.specs.NodeDisks.{TellEach}
@@ -66,7 +68,8 @@ use Rattle.bus_world.specs.StartRows.{start_row, StoreCause, LeavesEach}
 -- ---- how it ended
 -- `Ending`: the sink before and after, and the status. `PrintsWhole e text`: exactly this was written; `PrintsFront
 -- rows e`: a proper front of one of these rows. `EndsIn n e`: the status is n or 6; `MayEndIn n e`: it is n, 6 or 7.
-use Rattle.answer_rows.specs.Endings.{Ending, PrintsWhole, PrintsFront, EndsIn, MayEndIn}
+-- `EndsInRow rows e`: one of these rows was told, at 6 a front of it.
+use Rattle.answer_rows.specs.Endings.{Ending, PrintsWhole, PrintsFront, EndsIn, MayEndIn, EndsInRow}
 -- `CountsWriteFault`: the sink's count of faults rose; `SinkFailed`: it rose, or stands at its last value.
 use Rattle.answer_rows.specs.Endings.{CountsWriteFault, SinkFailed}
 -- `ComesInRun`: the rows that come, each for its cause. `ReplaysScript`: a replay did its first events;
@@ -206,6 +209,11 @@ pub data LeavesDisks {V : Type 0} (i : BusInputs) (d : CommandDisks V) (e : Endi
   by_replay : (result : Result (Unit {0}) Unwritten) → ReplaysScript i d.states e result → LeavesDisks i d e
   by_trial : (summary : Summary) → TriesEvents i d.states summary → LeavesDisks i d e
 
+-- a replay did its first events, or a trial all
+abbrev pub DoesEvents : BusInputs → DiskStates → Ending → Type 0
+DoesEvents i d e = ((result : Result (Unit {0}) Unwritten) × ReplaysScript i d e result)
+    ⊎ ((summary : Summary) × TriesEvents i d summary)
+
 -- where a replay is to be done, its bus has disks
 abbrev pub TaskHasDisks : Task → DiskStates → Type 0
 TaskHasDisks (replay start bus) d = BusHasDisks start bus d
@@ -272,6 +280,10 @@ pub record RunsCommand {V : Type 0} (i : BusInputs) (d : CommandDisks V) (e : En
   pub store_refused_only : (bus : NamedBus) (input : List ℕ) → OffersTask i (replay Attach bus)
       → Offers i.script input → fault_of (replay Attach bus) input ≡ None → HasRoom bus d.states.before
       → HoldsNoNode bus d.states.before → MayEndIn 10 e
+  -- A disk that fails at a start is told, and never as want of memory or as anything else: where the count of faults of
+  -- a disk rose though no event was done, the status is 10 with the row of its node, or 6 with a front of it.
+  pub failed_disk_told : (place : ℕ) → CountsFailure d.states place
+      → EndsInRow (λ row. row ≡ failed_row place) e ⊎ DoesEvents i d.states e
   -- What is valid is done, or there was no memory, where no source failed, the sink's count of faults neither rose nor
   -- stands at its last value, and a run has disks that serve.
   pub complete : (task : Task) (input : List ℕ) → OffersTask i task → Offers i.script input → fault_of task input ≡ None

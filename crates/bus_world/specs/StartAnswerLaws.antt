@@ -1,5 +1,6 @@
 -- A start that is refused: which row comes, and what that says of the disks
-use Rattle.std.specs.Prelude.{◌≡◌, ◌⊎◌, ℕ, ◌+◌, ◌-◌, ◌<◌, ◌≤◌, List, length, get_or}
+use Rattle.std.specs.Prelude.{◌≡◌, ◌⊎◌, ℕ, ◌+◌, ◌-◌, ◌<◌, ◌≤◌, List, length, map, get_or, Vec}
+use Rattle.std.specs.declared.alloc.Global.{Global}
 use Rattle.std.proofs.Common.{refl, sym, ap, subst, ◌∙◌, inl, inr, arith}
 use Rattle.std.proofs.lemmas.Bool.{cases_lt}
 use Rattle.answer_rows.specs.Rows.{Row, row_of, memory_row}
@@ -122,7 +123,12 @@ pub Comes-unstarted : (same : Type 0) (start : Start) (bus : NamedBus) (d : Disk
 Comes-unstarted same start bus d fault row few refused unread is =
     (Comes-not_started start bus d fault row few refused is, λ nine. unread (status_9 fault row is nine))
 
--- where a disk's count rose, the row tells that this disk failed
+-- of the same disks the same is known
+module _ {D : Type 0} (state : D → DiskState) where
+  pub same_known : (old new : Vec D Global) → new ≡ old → map state new.items ≡ map state old.items
+  same_known old new same = ap (λ (disks : Vec D Global). map state disks.items) same
+
+-- ---- where a disk's count rose, the row tells that this disk failed
 
 failed_at : (start : Start) (bus : NamedBus) (before after : List DiskState) (number place : ℕ)
     (P : Config → DiskState → DiskState → Type 0) → OfNumber start bus before after number P
@@ -157,11 +163,16 @@ cause_told start bus d (BadBound node cell) place cause rose =
     absurd (not_calm start bus d.before d.after node place (open_fault.BadBound cell) cause (rose no_disk))
 cause_told start bus d Memory place cause rose = absurd cause
 
+-- no count rose of disks that are as before
+pub none_counted : (d : DiskStates) (place : ℕ) → d.after ≡ d.before → CountsFailure d place → ⊥
+none_counted d place same rose =
+    let calm = ap (λ (disks : List DiskState). (get_or disks place no_disk).faults) same in
+    omega (arith, calm, rose no_disk)
+
 pub failure_told : (start : Start) (bus : NamedBus) (d : DiskStates) (row : Row) (place : ℕ)
     → ComesOfStart start bus d row → CountsFailure d place → row ≡ failed_row place
 failure_told start bus d row place (disks_refused fault finds same) rose =
-    let calm = ap (λ (disks : List DiskState). (get_or disks place no_disk).faults) same in
-    absurd (let no : ⊥ = omega (arith, calm, rose no_disk) in no)
+    absurd (none_counted d place same rose)
 failure_told start bus d row place (store_refused fault room cause left) rose =
     cause_told start bus d fault place cause rose
 failure_told start bus d row place (start_without_memory fault may refused calm) rose =
