@@ -14,6 +14,7 @@ pub mod Refusing
 pub mod RowFacts
 pub mod Unread
 pub mod Statuses
+pub mod Failing
 pub mod Promises
 pub mod Headlines
 pub mod OneRun

@@ -40,6 +40,7 @@ use Rattle.bus_commands.proofs.Statuses.{ends_in_table, replayed_in_table, row_l
 use Rattle.bus_commands.proofs.RowFacts.{row_tells, row_asks, row_refuses, OfTask, row_offered, replay_offered, OfTrial, row_tried, calm_world}
 use Rattle.bus_world.specs.StartAnswerLaws.{start_without_room, start_complete}
 use Rattle.bus_commands.proofs.Refusing.{start_in_room}
+use Rattle.bus_commands.proofs.Failing.{ends_failed}
 use Rattle.world_runs.proofs.DisksBack.{no_node}
 use Rattle.world_runs.proofs.Starting.{no_disk, no_line}
 use Rattle.bus_world.specs.Worlds.{BusState}
@@ -81,7 +82,7 @@ not_low n low high = omega (arith, low, high)
 start_status : {V : Type 0} (i : BusInputs) (d : CommandDisks V) (e : Ending) (start : Start) (bus : NamedBus) (row : Row) → ComesOfStart start bus d.states row → (row.status ≡ 0) ⊎ ((row.status ≡ 6) ⊎ ((row.status ≡ 7) ⊎ ((row.status ≡ 9) ⊎ (row.status ≡ 10))))
 start_status i d e start bus row (disks_refused fault finds same) = inr (inr (inr (inl refl)))
 start_status i d e start bus row (store_refused fault room cause left) = inr (inr (inr (inr refl)))
-start_status i d e start bus row (start_without_memory fault refused) = inr (inr (inl refl))
+start_status i d e start bus row (start_without_memory fault may refused calm) = inr (inr (inl refl))
 
 row_disks : {V : Type 0} (i : BusInputs) (d : CommandDisks V) (e : Ending) (row : Row) → ComesInRun i d row → ¬ AsksWorld i.words → d.new ≡ d.old
 row_disks i d e row (without_disks _ comes same) lacks = same
@@ -246,30 +247,30 @@ row_8 i d e row (tried_without_memory summary ran) is well = absurd (let no : �
 start_not_0 : {V : Type 0} (i : BusInputs) (d : CommandDisks V) (e : Ending) (start : Start) (bus : NamedBus) (row : Row) → ComesOfStart start bus d.states row → row.status ≡ 0 → ⊥
 start_not_0 i d e start bus row (disks_refused fault finds same) is = omega (arith, is)
 start_not_0 i d e start bus row (store_refused fault room cause left) is = omega (arith, is)
-start_not_0 i d e start bus row (start_without_memory fault refused) is = omega (arith, is)
+start_not_0 i d e start bus row (start_without_memory fault may refused calm) is = omega (arith, is)
 
 start_not_6 : {V : Type 0} (i : BusInputs) (d : CommandDisks V) (e : Ending) (start : Start) (bus : NamedBus) (row : Row) → ComesOfStart start bus d.states row → row.status ≢ 6
 start_not_6 i d e start bus row (disks_refused fault finds same) is = omega (arith, is)
 start_not_6 i d e start bus row (store_refused fault room cause left) is = omega (arith, is)
-start_not_6 i d e start bus row (start_without_memory fault refused) is = omega (arith, is)
+start_not_6 i d e start bus row (start_without_memory fault may refused calm) is = omega (arith, is)
 
 start_9 : {V : Type 0} (i : BusInputs) (d : CommandDisks V) (e : Ending) (start : Start) (bus : NamedBus) (row : Row) → ComesOfStart start bus d.states row → row.status ≡ 9 → PrintsWhole e row.text
     → (d.states.after ≡ d.states.before) × ((fault : StartFault) × FindsRoom bus d.states.before fault × PrintsWhole e (start_row fault).text)
 start_9 i d e start bus row (disks_refused fault finds same) is well = (same, (fault, finds, well))
 start_9 i d e start bus row (store_refused fault room cause left) is well = absurd (let no : ⊥ = omega (arith, is) in no)
-start_9 i d e start bus row (start_without_memory fault refused) is well = absurd (let no : ⊥ = omega (arith, is) in no)
+start_9 i d e start bus row (start_without_memory fault may refused calm) is well = absurd (let no : ⊥ = omega (arith, is) in no)
 
 start_10 : {V : Type 0} (i : BusInputs) (d : CommandDisks V) (e : Ending) (start : Start) (bus : NamedBus) (row : Row) → ComesOfStart start bus d.states row → row.status ≡ 10 → PrintsWhole e row.text
     → HasRoom bus d.states.before × LeavesEach start bus d.states.before d.states.after
     × ((fault : StartFault) × StoreCause start bus d.states.before d.states.after fault × PrintsWhole e (start_row fault).text)
 start_10 i d e start bus row (disks_refused fault finds same) is well = absurd (let no : ⊥ = omega (arith, is) in no)
 start_10 i d e start bus row (store_refused fault room cause left) is well = (room, left, (fault, cause, well))
-start_10 i d e start bus row (start_without_memory fault refused) is well = absurd (let no : ⊥ = omega (arith, is) in no)
+start_10 i d e start bus row (start_without_memory fault may refused calm) is well = absurd (let no : ⊥ = omega (arith, is) in no)
 
 start_7 : {V : Type 0} (i : BusInputs) (d : CommandDisks V) (e : Ending) (start : Start) (bus : NamedBus) (row : Row) → ComesOfStart start bus d.states row → row.status ≡ 7 → PrintsWhole e row.text → ComesOfStart start bus d.states memory_row × PrintsWhole e []
 start_7 i d e start bus row (disks_refused fault finds same) is well = absurd (let no : ⊥ = omega (arith, is) in no)
 start_7 i d e start bus row (store_refused fault room cause left) is well = absurd (let no : ⊥ = omega (arith, is) in no)
-start_7 i d e start bus row (start_without_memory fault refused) is well = (start_without_memory fault refused, well)
+start_7 i d e start bus row (start_without_memory fault may refused calm) is well = (start_without_memory fault may refused calm, well)
 
 row_0 : {V : Type 0} (i : BusInputs) (d : CommandDisks V) (e : Ending) (row : Row) → ComesInRun i d row → row.status ≡ 0 → PrintsWhole e row.text
     → AskedIsDone i d.states e
@@ -432,8 +433,8 @@ replay_no_trial i d e result over bus (trial, asks, of_bus) = apart i.words (Wor
 
 -- ---- put together
 
-of_row : {V : Type 0} (i : BusInputs) (d : CommandDisks V) (e : Ending) → EndsInRow (ComesInRun i d) e → RunsCommand i d e
-of_row i d e ends = record {
+of_row : {V : Type 0} (i : BusInputs) (d : CommandDisks V) (e : Ending) → (d.new ≡ d.old → d.states.after ≡ d.states.before) → EndsInRow (ComesInRun i d) e → RunsCommand i d e
+of_row i d e same ends = record {
   ends = in_row ends;
   statuses = ends_in_table i d e ends;
   config_unread = row_config_unread i d ends.row ends.comes;
@@ -463,6 +464,7 @@ of_row i d e ends = record {
   store_refused = EndsInRow-at ends 10 refl (row_10 i d e);
   store_refused_only = λ bus input offers lines none room holds.
       EndsInRow-may ends 10 (λ row comes. in_room_of i d e row Attach bus input none room (row_offered i d row (replay Attach bus) input comes offers lines));
+  failed_disk_told = λ place rose. ends_failed i d e same place rose ends;
   complete = λ task input offers lines none able well.
       EndsInRow-done ends well 0 (λ row comes. complete_of i d e row task input none able (row_offered i d row task input comes offers lines));
   trial_complete = λ bus offers able well. EndsInRow-done ends well 0 (λ row comes. trial_complete_of i d e row bus able (row_tried i d row bus comes offers));
@@ -496,11 +498,12 @@ of_replay i d e result over = record {
   trial_disks_refused_only = λ bus offers lacks. replay_no_trial i d e result over bus offers;
   store_refused = λ is. absurd (let no : ⊥ = omega (arith, status_of i d e result over, is) in no);
   store_refused_only = λ bus input offers lines none room holds. replay_taken i d e result over bus input offers lines holds;
+  failed_disk_told = λ place rose. inr (inl (result, over));
   complete = λ task input offers lines none able well. done_well i d e result over well;
   trial_complete = λ bus offers able well. replay_no_trial i d e result over bus offers;
 }
 
 -- how a command ends gives all that it promises
-pub RunsCommand-ends : {V : Type 0} (i : BusInputs) (d : CommandDisks V) (e : Ending) → RowOrReplay i d e → RunsCommand i d e
-RunsCommand-ends i d e (in_row ends) = of_row i d e ends
-RunsCommand-ends i d e (replayed result over) = of_replay i d e result over
+pub RunsCommand-ends : {V : Type 0} (i : BusInputs) (d : CommandDisks V) (e : Ending) → (d.new ≡ d.old → d.states.after ≡ d.states.before) → RowOrReplay i d e → RunsCommand i d e
+RunsCommand-ends i d e same (in_row ends) = of_row i d e same ends
+RunsCommand-ends i d e same (replayed result over) = of_replay i d e result over

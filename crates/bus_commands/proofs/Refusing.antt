@@ -12,4 +12,4 @@ use Rattle.bus_world.specs.StartAnswers.{DiskStates, ComesOfStart, disks_refused
 pub start_in_room : (start : Start) (bus : NamedBus) (d : DiskStates) (row : Row) → ComesOfStart start bus d row → HasRoom bus d.before → (row.status ≡ 10) ⊎ (row.status ≡ 7)
 start_in_room start bus d row (disks_refused fault finds same) room = absurd (no_room_fault bus d.before fault room finds)
 start_in_room start bus d row (store_refused fault also cause left) room = inl refl
-start_in_room start bus d row (start_without_memory fault refused) room = inr refl
+start_in_room start bus d row (start_without_memory fault may refused calm) room = inr refl

@@ -60,7 +60,9 @@ use Rattle.text_lines.specs.Texts.{fault_text_of}
 -- `BusHasDisks`: each node's disk is large enough, tells bytes over which the node can start, and was quiet, or its
 -- count of faults neither rose nor is full. `HoldsNoNode`: a node's disk tells bytes over which it can't go on.
 use Rattle.bus_commands.specs.StartRows.{CommandDisks, HoldsNoNode}
-use Rattle.bus_world.specs.StartAnswers.{DiskStates, BusHasDisks}
+-- `CountsFailure d place`: the count of faults of the disk at this place rose. `failed_row place`: the row that tells
+-- that the disk of the node at this place failed.
+use Rattle.bus_world.specs.StartAnswers.{DiskStates, BusHasDisks, CountsFailure, failed_row}
 -- `TellEach`: each node's disk tells its bytes; `TellFirm`: and a cut can take none of them away. `StartsOver`: a world
 -- in which each node goes on where its disk stands.
 use Rattle.world_runs.specs.NodeDisks.{TellEach}
@@ -76,8 +78,10 @@ use Rattle.bus_world.specs.StartRows.{start_row, StoreCause, LeavesEach}
 -- ---- how it ended
 -- `Ending`: the sink before and after, and the status. `PrintsWhole e text`: exactly this was written, without a fault;
 -- `PrintsFront rows e`: a proper front of a text of these rows. `EndsIn n e`: the status is n or 6; `MayEndIn n e`: n,
--- 6 or 7. `CountsWriteFault`: the sink's count of faults rose; `SinkFailed`: it rose, or is full.
-use Rattle.answer_rows.specs.Endings.{Ending, PrintsWhole, PrintsFront, EndsIn, MayEndIn, CountsWriteFault, SinkFailed}
+-- 6 or 7. `EndsInRow rows e`: one of these rows was told, at 6 a front of it. `CountsWriteFault`: the sink's count of
+-- faults rose; `SinkFailed`: it rose, or is full.
+use Rattle.answer_rows.specs.Endings.{Ending, PrintsWhole, PrintsFront, EndsIn, MayEndIn, EndsInRow}
+use Rattle.answer_rows.specs.Endings.{CountsWriteFault, SinkFailed}
 -- `IsOutput`: the text answers each line, and has nothing else: for `frame` the digits of its Secured I-PDU, for
 -- `judge` the verdict of a receiver with the widest window, or the bad length, for `check` its canonical line.
 -- `Summary`: how many events there were, and lines of sent, accepted, a failed verdict, keyed, up and refused.
@@ -235,6 +239,11 @@ pub data LeavesDisks {V : Type 0} (i : BusInputs) (d : CommandDisks V) (e : Endi
   by_replay : (result : Result (Unit {0}) Unwritten) → ReplaysScript i d.states e result → LeavesDisks i d e
   by_trial : (summary : Summary) → TriesEvents i d.states summary → LeavesDisks i d e
 
+-- a replay did its first events, or a trial all
+abbrev pub DoesEvents : BusInputs → DiskStates → Ending → Type 0
+DoesEvents i d e = ((result : Result (Unit {0}) Unwritten) × ReplaysScript i d e result)
+    ⊎ ((summary : Summary) × TriesEvents i d summary)
+
 -- where a replay is to be done, its bus has disks
 abbrev pub TaskHasDisks : Task → DiskStates → Type 0
 TaskHasDisks (replay start bus) d = BusHasDisks start bus d
@@ -242,7 +251,8 @@ TaskHasDisks task d = Unit {0}
 
 -- THE TABLE OF ANSWERS. "Both ways": the status has this cause, and the cause brings the status, at 3, 4 and 9 where
 -- the sources tell it and didn't fail. A sink whose count of faults rises makes it 6 instead; and 3, 4, 9 and 10 may
--- give way to 7, which is said to be want of memory: no clause says that it was, and none brings 7.
+-- give way to 7, which is said to be want of memory: no clause says that it was, and none brings 7; but a disk that
+-- fails at a start is told.
 pub record RunsCommand {V : Type 0} (i : BusInputs) (d : CommandDisks V) (e : Ending) : Type 0 where
   -- A row that comes is told, or a replay did its first events: what that says of each status follows.
   pub ends : RowOrReplay i d e
@@ -305,6 +315,10 @@ pub record RunsCommand {V : Type 0} (i : BusInputs) (d : CommandDisks V) (e : En
   pub store_refused_only : (bus : NamedBus) (input : List ℕ) → OffersTask i (replay Attach bus)
       → Offers i.script input → fault_of (replay Attach bus) input ≡ None → HasRoom bus d.states.before
       → HoldsNoNode bus d.states.before → MayEndIn 10 e
+  -- A disk that fails at a start is told, and never as want of memory or as anything else: where the count of faults of
+  -- a disk rose though no event was done, the status is 10 with the row of its node, or 6 with a front of it.
+  pub failed_disk_told : (place : ℕ) → CountsFailure d.states place
+      → EndsInRow (λ row. row ≡ failed_row place) e ⊎ DoesEvents i d.states e
   -- What is valid ends in 0 or 7, where the sources tell it and didn't fail, the sink's count of faults neither rose
   -- nor is full, and a world has disks that serve, which tell their bytes.
   pub complete : (task : Task) (input : List ℕ) → OffersTask i task → Offers i.script input → fault_of task input ≡ None

@@ -37,7 +37,7 @@ module _ {V : Type 0} (i : BusInputs) (d : CommandDisks V) (e : Ending) (keep : 
 
   runs_known : RunsBus i d e → RunsBus i (known d) e
   runs_known runs =
-      let command : RunsCommand i (known d) e = RunsCommand-ends i (known d) e (ends_known runs.0.ends) in
+      let command : RunsCommand i (known d) e = RunsCommand-ends i (known d) e (λ same. same) (ends_known runs.0.ends) in
       (command, RunsMachine-command i (known d) e command)
 
 -- ---- put together

@@ -35,18 +35,10 @@ use Rattle.bus_world.specs.declared.start.Start.TheVariants.{Format, Attach}
 use Rattle.bus_world.specs.TakingUp.{cells_in, new_cells, start_calls, KeptOn, LeftOver, LeavesDisk, OpenCause, MovedFirst, CountsRefusal}
 use Rattle.bus_world.specs.Opening.{AttachedTo, AttachCauseOf, NotAttachedTo, of_store}
 use Rattle.bus_world.specs.Starts.{Opened, NotOpened, OpenedFirst}
-use Rattle.bus_world.specs.StartRowLaws.{untouched_stays}
+use Rattle.bus_world.specs.StartRowLaws.{untouched_left, untouched_leaves, untouched_stays}
 use Rattle.bus_world.proofs.AttachLaws.{kept_powered, OnlyDiskOrMemory, of_kept_alone}
 
 -- ---- one node over a disk that is formatted
-
-pub untouched_left : (start : Start) (kind : Kind) (version : Version) (config : Config) (before : DiskState) → LeftOver start kind version config before before
-untouched_left Format kind version config before = inl refl
-untouched_left Attach kind version config before = (inl refl, λ t told. inl (told, refl))
-
-pub untouched_leaves : (start : Start) (kind : Kind) (version : Version) (config : Config) (before : DiskState) → LeavesDisk start kind version config before before
-untouched_leaves Format kind version config before = inl refl
-untouched_leaves Attach kind version config before = λ t told. inl (inl told, refl)
 
 -- want of memory before any call of the disk
 pub not_opened_none : (start : Start) (kind : Kind) (version : Version) (config : Config) (before : DiskState) → NotOpened start kind version config before before open_fault.Memory

@@ -27,9 +27,8 @@ use Rattle.bus_world.specs.declared.start.Start.TheVariants.{Format, Attach}
 use Rattle.bus_world.specs.declared.start.StartFault.{StartFault}
 use Rattle.bus_world.specs.declared.start.StartFault.TheVariants as start_fault
 use Rattle.bus_world.specs.TakingUp.{new_cells, start_calls, KeptOn, LeftOver, LeavesDisk, StaysFound, RefusedFor, OpenCause, MovedFirst, CountsRefusal, CellsAtFault}
-use Rattle.bus_world.specs.Starts.{disks_of, Opened, HasRoom, OfNumber, RefusedAt, StartCause, Broken, NotStarted, OpensTo, fault_of_node}
-use Rattle.bus_world.specs.StartRowLaws.{untouched_stays}
-use Rattle.bus_world.proofs.OpenLaws.{untouched_left, untouched_leaves}
+use Rattle.bus_world.specs.Starts.{disks_of, Opened, HasRoom, OfNumber, RefusedAt, StartCause, Broken, NotStarted, FindsRoom, OpensTo, fault_of_node}
+use Rattle.bus_world.specs.StartRowLaws.{no_line, untouched_left, untouched_leaves, untouched_stays}
 use Rattle.bus_world.proofs.TakingLaws.{left_of_leaves}
 
 pub opened_left : (start : Start) (kind : Kind) (version : Version) (config : Config) (before : DiskState) (n : NodeState) → Opened start kind version config before n
@@ -45,12 +44,9 @@ opened_leaves : (start : Start) (kind : Kind) (version : Version) (config : Conf
 opened_leaves Format kind version config before n o = inr (inl o.leaves)
 opened_leaves Attach kind version config before n o = λ t told. inl (o.leaves t told, o.faults)
 
--- something past the last node and the last line
+-- something past the last node
 abbrev no_node : NamedBus → DiskState → NodeState
 no_node bus d = record { node = first_node no_config; store = record { layout = layout bus.kind bus.version; cells = []; disk = d; broken = false } }
-
-abbrev no_line : NodeLine
-no_line = record { name = []; config = no_config }
 
 -- what is left of a disk
 abbrev Left : Start → NamedBus → List DiskState → List DiskState → ℕ → NodeLine → DiskState → Type 0
@@ -289,3 +285,12 @@ start_unopened start bus before room = record {
   stays = λ i l d inside. same_stays start bus before before i l d refl;
   memory = λ is i d. refl;
 }
+
+-- the disks are missing, or one is too small
+pub not_found : (bus : NamedBus) (disks : List DiskState) (fault : StartFault) → FindsRoom bus disks fault → (start : Start) → NotStarted start bus disks disks fault
+not_found bus disks start_fault.TooFew finds start = (finds, refl)
+not_found bus disks (start_fault.TooSmall node) finds start = (finds, refl)
+not_found bus disks (start_fault.Store node cause) finds start = absurd finds
+not_found bus disks (start_fault.BadSlot node slot) finds start = absurd finds
+not_found bus disks (start_fault.BadBound node cell) finds start = absurd finds
+not_found bus disks start_fault.Memory finds start = absurd finds

@@ -1,10 +1,12 @@
 -- Why a bus doesn't start: the rows that come then, whichever program runs it
-use Rattle.std.specs.Prelude.{◌≡◌, List}
+use Rattle.std.specs.Prelude.{◌≡◌, ℕ, ◌+◌, ◌<◌, List, get_or}
 use Rattle.answer_rows.specs.Rows.{Row, row_of, memory_row}
 use Rattle.cut_disk.specs.State.{DiskState}
+use Rattle.cell_store.specs.declared.faults.Reread.TheVariants as reread
 use Rattle.bus_nodes.specs.Buses.{NamedBus}
 use Rattle.bus_world.specs.declared.start.Start.{Start}
 use Rattle.bus_world.specs.declared.start.StartFault.{StartFault}
+use Rattle.bus_world.specs.declared.start.StartFault.TheVariants as fault
 use Rattle.bus_world.specs.Starts.{NotStarted, HasRoom, FindsRoom}
 use Rattle.bus_world.specs.StartRows.{start_row, StoreCause, LeavesEach, DisksDo}
 
@@ -12,6 +14,30 @@ use Rattle.bus_world.specs.StartRows.{start_row, StoreCause, LeavesEach, DisksDo
 pub record DiskStates : Type 0 where
   pub before : List DiskState
   pub after : List DiskState
+
+-- no disk failed: the count of faults of each is as it was
+abbrev pub NoDiskFailed : DiskStates → Type 0
+NoDiskFailed d = (i : ℕ) (disk : DiskState) → (get_or d.after i disk).faults ≡ (get_or d.before i disk).faults
+
+-- the count of faults of the disk at this place rose
+abbrev pub CountsFailure : DiskStates → ℕ → Type 0
+CountsFailure d place = (disk : DiskState) → (get_or d.before place disk).faults < (get_or d.after place disk).faults
+
+-- the row that tells that the disk of the node at this place failed
+abbrev pub failed_row : ℕ → Row
+failed_row place = start_row (fault.Store (place + 1) reread.DiskFailed)
+
+-- memory may be wanting for a start itself; and for the row of a start over a bus where it tells what is wrong in a
+-- node's cells
+abbrev pub MayWantMemory : StartFault → Type 0
+MayWantMemory fault.TooFew = ⊥
+MayWantMemory (fault.TooSmall node) = ⊥
+MayWantMemory (fault.Store node reread.DiskFailed) = ⊥
+MayWantMemory (fault.Store node reread.NotFormatted) = ⊥
+MayWantMemory (fault.Store node (reread.Damaged place)) = Unit {0}
+MayWantMemory (fault.BadSlot node slot) = Unit {0}
+MayWantMemory (fault.BadBound node cell) = Unit {0}
+MayWantMemory fault.Memory = Unit {0}
 
 -- the rows of a bus that doesn't start
 pub data ComesOfStart (start : Start) (bus : NamedBus) (d : DiskStates) : Row → Type 0 where
@@ -21,8 +47,9 @@ pub data ComesOfStart (start : Start) (bus : NamedBus) (d : DiskStates) : Row �
   -- the disk of a node fails, or a node is refused for its bytes
   store_refused : (fault : StartFault) → HasRoom bus d.before → StoreCause start bus d.before d.after fault
       → LeavesEach start bus d.before d.after → ComesOfStart start bus d (row_of 10 (start_row fault).text)
-  start_without_memory : (fault : StartFault) → NotStarted start bus d.before d.after fault
-      → ComesOfStart start bus d memory_row
+  -- there is no memory, and no disk failed
+  start_without_memory : (fault : StartFault) → MayWantMemory fault → NotStarted start bus d.before d.after fault
+      → NoDiskFailed d → ComesOfStart start bus d memory_row
 
 -- one of them comes; where it is that of 9 every disk is as before, and `same` says so of the disks themselves
 abbrev pub ComesUnstarted : Type 0 → Start → NamedBus → DiskStates → Row → Type 0

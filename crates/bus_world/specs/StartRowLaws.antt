@@ -25,7 +25,7 @@ use Rattle.bus_world.specs.Starts.{HasRoom, OfNumber, RefusedAt, Broken, NotStar
 use Rattle.bus_world.specs.StartRows.{start_row, StoreCause, LeavesEach, CanStart, DisksDo}
 
 -- something past the last node
-no_line : NodeLine
+pub no_line : NodeLine
 no_line = record { name = []; config = no_config }
 
 -- a quiet disk doesn't fail
@@ -74,12 +74,12 @@ left_of start bus before after f broken = record {
   stays = broken.stays;
 }
 
-untouched_left : (start : Start) (kind : Kind) (version : Version) (config : Config) (before : DiskState)
+pub untouched_left : (start : Start) (kind : Kind) (version : Version) (config : Config) (before : DiskState)
     → LeftOver start kind version config before before
 untouched_left Format kind version config before = inl refl
 untouched_left Attach kind version config before = (inl refl, λ t told. inl (told, refl))
 
-untouched_leaves : (start : Start) (kind : Kind) (version : Version) (config : Config) (before : DiskState)
+pub untouched_leaves : (start : Start) (kind : Kind) (version : Version) (config : Config) (before : DiskState)
     → LeavesDisk start kind version config before before
 untouched_leaves Format kind version config before = inl refl
 untouched_leaves Attach kind version config before = λ t told. inl (inl told, refl)
@@ -131,7 +131,7 @@ does_not_fail n old new runs rose (inl quiet) = quiet_stays n old new runs quiet
 does_not_fail n old new runs rose (inr calm) = calm rose
 
 -- any disk
-no_disk : DiskState
+pub no_disk : DiskState
 no_disk = record { size = 0; told = None; arms = no_arms; faults = 0; quiet = true; past = None }
 
 -- no disk of them is refused for what it has

@@ -4,7 +4,7 @@ ghost use Rattle.std.specs.Prelude.{OnOk};
 ghost use Rattle.std.specs.Vec.{vec_len, vec_capacity};
 ghost use Rattle.any_cells.specs.Either.{layout};
 ghost use Rattle.cell_store.specs.Store.{store_size as size_of};
-ghost use Rattle.bus_world.specs.declared.start.Start.TheVariants.{Format};
+ghost use Rattle.bus_world.specs.declared.start.Start.{Start};
 ghost use Rattle.bus_world.specs.Starts.{cells_in, HasRoom, FindsRoom, OpenedFirst, OpensNodes, OpensTo, NotStarted};
 ghost use Rattle.bus_world.specs.Starts.{fault_of_node as fault_numbered};
 ghost use Rattle.bus_world.specs.StartRows.{start_row};
@@ -60,10 +60,10 @@ impl<D: CutDisk> World<D> {
     /// The first world of a bus, over one disk a node from the front of `disks`, with room for the lines of so many
     /// events.
     ///
-    /// Numbers and sizes of the disks are looked at first: `TooFew`, and `TooSmall` with the first such node, come
-    /// before any call of a disk. Then node after node is opened, as the start says; a store that is moved is moved
-    /// before its cells are looked at. After a refusal all disks are back in `disks`, in their order. After `Ok` there
-    /// is room in `disks` for those that were taken.
+    /// Numbers and sizes of the disks decide first: `TooFew`, and `TooSmall` with the first such node, come before any
+    /// call of a disk, also where there is no memory for these lines. Then node after node is opened, as the start says
+    /// ([`open_nodes`]); a store that is moved is moved before its cells are looked at. After a refusal all disks are
+    /// back in `disks`, in their order. After `Ok` there is room in `disks` for those that were taken.
     pub fn start(
         alloc: Global,
         bus: &BusConfig,
@@ -80,14 +80,10 @@ impl<D: CutDisk> World<D> {
             (map D.state disks.new.items)) }
         ensures unread { IfErr result (λ fault. (start_row fault).status ≡ 9 → disks.new ≡ disks.old) }
     {
-        match find_room(bus, disks.as_slice()) {
-            Ok(()) => {}
-            Err(fault) => return Err(fault),
-        }
         let Ok(history) = History::new(alloc, events) else {
-            return Err(StartFault::Memory);
+            return Err(without_records(bus, disks.as_slice()));
         };
-        match open_in_room(alloc, bus, disks, start) {
+        match open_nodes(alloc, bus, disks, start) {
             Ok(nodes) => Ok(World { nodes, history }),
             Err(fault) => Err(fault),
         }
@@ -103,25 +99,36 @@ impl<D: CutDisk> World<D> {
     }
 }
 
-/// The nodes of a bus, each over a disk from the front of `disks` that is formatted for it, as [`World::start`] opens
-/// them. After a refusal all disks are back in `disks`, in their order. After `Ok` there is room in `disks` for those
-/// that were taken; [`close_nodes`] puts them back.
+/// The nodes of a bus, each opened over a disk from the front of `disks` as the start says; a world has them with its
+/// records. `TooFew` and `TooSmall` come before any call of a disk. After a refusal all disks are back in `disks`, in
+/// their order. After `Ok` there is room in `disks` for those that were taken; [`close_nodes`] puts them back.
 pub fn open_nodes<D: CutDisk>(
     alloc: Global,
     bus: &BusConfig,
     disks: &mut Vec<D>,
+    start: Start,
 ) -> Result<Vec<Node<AnyCells<D>>>, StartFault>
-    ensures opened { IfOk result (λ nodes. OpensNodes Format bus.now (map D.state disks.old.items) nodes.items) }
+    ensures opened { IfOk result (λ nodes. OpensNodes start bus.now (map D.state disks.old.items) nodes.items) }
     ensures rest { OnOk result (map D.state disks.new.items
         ≡ drop (length bus.now.nodes) (map D.state disks.old.items)) }
     ensures room { OnOk result (vec_len disks.new + length bus.now.nodes ≤ vec_capacity disks.new) }
-    ensures refused { IfErr result (NotStarted Format bus.now (map D.state disks.old.items)
+    ensures refused { IfErr result (NotStarted start bus.now (map D.state disks.old.items)
         (map D.state disks.new.items)) }
     ensures unread { IfErr result (λ fault. (start_row fault).status ≡ 9 → disks.new ≡ disks.old) }
 {
     match find_room(bus, disks.as_slice()) {
-        Ok(()) => open_in_room(alloc, bus, disks, Start::Format),
+        Ok(()) => open_in_room(alloc, bus, disks, start),
         Err(fault) => Err(fault),
+    }
+}
+
+/// Why a world isn't started for whose lines there is no memory: missing and small disks are told before that.
+fn without_records<D: CutDisk>(bus: &BusConfig, disks: &[D]) -> StartFault
+    ensures { (start : Start) → NotStarted start bus.now (map D.state disks.now) (map D.state disks.now) result }
+{
+    match find_room(bus, disks) {
+        Ok(()) => StartFault::Memory,
+        Err(fault) => fault,
     }
 }
 

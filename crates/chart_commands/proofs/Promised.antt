@@ -1,6 +1,7 @@
 -- How a chart ends gives all that it promises
-use Rattle.std.specs.Prelude.{◌≡◌, ◌≢◌, ◌⊎◌, ℕ, List, [], Some, Result, Ok, Err, codes}
+use Rattle.std.specs.Prelude.{◌≡◌, ◌≢◌, ◌⊎◌, ℕ, List, [], Option, Some, Result, Ok, Err, codes}
 use Rattle.std.proofs.Common.{refl, subst, arith, inl, inr}
+use Rattle.command_edge.specs.Told.{EndingTold}
 use Rattle.command_edge.specs.Input.{input_fault_status}
 use Rattle.command_edge.specs.declared.input.InputFault.{InputFault}
 use Rattle.command_edge.specs.declared.input.InputFault.TheVariants as input
@@ -14,15 +15,16 @@ use Rattle.bus_config.specs.declared.fault.ConfigFault.{ConfigFault}
 use Rattle.bus_config.specs.FaultTexts.{config_fault_text}
 use Rattle.bus_machine.specs.declared.events.Event.{Event}
 use Rattle.bus_machine.specs.declared.lines.Line.{Line}
+use Rattle.bus_machine.specs.declared.lines.Line.{Line}
 use Rattle.bus_nodes.specs.Buses.{NamedBus}
 use Rattle.bus_script.specs.EventForms.{events_of}
 use Rattle.bus_world.specs.declared.start.Start.TheVariants.{Format}
 use Rattle.bus_world.specs.declared.start.StartFault.{StartFault}
 use Rattle.bus_world.specs.Starts.{HasRoom, FindsRoom}
 use Rattle.bus_world.specs.StartRows.{start_row, StoreCause, LeavesEach}
-use Rattle.bus_world.specs.StartAnswers.{DiskStates, ComesOfStart, BusHasDisks}
+use Rattle.bus_world.specs.StartAnswers.{DiskStates, ComesOfStart, BusHasDisks, CountsFailure, failed_row}
 use Rattle.bus_world.specs.StartAnswers as answer
-use Rattle.bus_world.specs.StartAnswerLaws.{Comes-leaves, start_status, start_memory, start_without_room, start_complete}
+use Rattle.bus_world.specs.StartAnswerLaws.{Comes-leaves, start_status, start_memory, start_without_room, start_complete, none_counted, failure_told}
 use Rattle.bus_inputs.specs.BusFiles.{IsConfigFault}
 use Rattle.bus_inputs.specs.BusFileLaws.{told_fault, told_too_much}
 use Rattle.chart_texts.specs.ChartTexts.{chart_text}
@@ -140,7 +142,7 @@ module _ (same : Type 0) (i : ChartInputs) (d : DiskStates) (e : Ending) where
   start_9 : (bus : NamedBus) (row : Row) → ComesOfStart Format bus d row → row.status ≡ 9 → PrintsWhole e row.text → DisksTold bus
   start_9 bus row (answer.disks_refused fault finds unused) is well = (unused, (fault, finds, well))
   start_9 bus row (answer.store_refused fault room cause left) is well = absurd (let no : ⊥ = omega (arith, is) in no)
-  start_9 bus row (answer.start_without_memory fault refused) is well = absurd (let no : ⊥ = omega (arith, is) in no)
+  start_9 bus row (answer.start_without_memory fault may refused calm) is well = absurd (let no : ⊥ = omega (arith, is) in no)
 
   row_9 : (row : Row) → Comes row → row.status ≡ 9 → PrintsWhole e row.text → OverChart i (λ bus events. DisksTold bus)
   row_9 row (without_disks _ comes unused) is well = absurd (let no : ⊥ = omega (arith, inputs_low row comes, is) in no)
@@ -154,7 +156,7 @@ module _ (same : Type 0) (i : ChartInputs) (d : DiskStates) (e : Ending) where
   start_10 : (bus : NamedBus) (row : Row) → ComesOfStart Format bus d row → row.status ≡ 10 → PrintsWhole e row.text → StoreTold bus
   start_10 bus row (answer.disks_refused fault finds unused) is well = absurd (let no : ⊥ = omega (arith, is) in no)
   start_10 bus row (answer.store_refused fault room cause left) is well = (left, (fault, cause, well))
-  start_10 bus row (answer.start_without_memory fault refused) is well = absurd (let no : ⊥ = omega (arith, is) in no)
+  start_10 bus row (answer.start_without_memory fault may refused calm) is well = absurd (let no : ⊥ = omega (arith, is) in no)
 
   row_10 : (row : Row) → Comes row → row.status ≡ 10 → PrintsWhole e row.text → OverChart i (λ bus events. StoreTold bus)
   row_10 row (without_disks _ comes unused) is well = absurd (let no : ⊥ = omega (arith, inputs_low row comes, is) in no)
@@ -236,10 +238,24 @@ module _ (same : Type 0) (i : ChartInputs) (d : DiskStates) (e : Ending) where
   row_leaves row (all_done _ (bus, events, set, (lines, done, text_is))) = by_chart (Some lines) (bus, events, set, done)
   row_leaves row (done_without_memory kept over) = by_chart kept over
 
+  -- ---- a disk that failed is told, or the bus was started
+
+  abbrev FailureTold : ℕ → Type 0
+  FailureTold place = EndsInRow (λ row. row ≡ failed_row place) e
+      ⊎ ((kept : Option (List Line)) × OverChart i (λ bus events. DoneChart bus events d kept))
+
+  row_failed : (same → d.after ≡ d.before) → (place : ℕ) → CountsFailure d place → (row : Row) → Comes row
+      → EndingTold e.before e.after row.text row.status e.status → FailureTold place
+  row_failed states place rose row (without_disks _ comes unused) told = absurd (none_counted d place (states unused) rose)
+  row_failed states place rose row (not_started _ (bus, events, set, start) nine) told =
+      inl (record { row = row; comes = failure_told Format bus d row place start rose; told = told })
+  row_failed states place rose row (all_done text (bus, events, set, (lines, done, text_is))) told = inr (Some lines, (bus, events, set, done))
+  row_failed states place rose row (done_without_memory kept over) told = inr (kept, over)
+
   -- ---- all of it
 
-  pub RunsChart-ends : EndsChart same i d e → RunsChart same i d e
-  RunsChart-ends ends = record {
+  pub RunsChart-ends : (same → d.after ≡ d.before) → EndsChart same i d e → RunsChart same i d e
+  RunsChart-ends states ends = record {
     ends = ends;
     disks_unused = unused_of ends;
     leaves = row_leaves ends.row ends.comes;
@@ -262,6 +278,7 @@ module _ (same : Type 0) (i : ChartInputs) (d : DiskStates) (e : Ending) where
     disks_refused_only = λ bus text events offers lines is lacks.
         EndsInRow-may ends 9 (λ row comes. without_room_of row bus text events is lacks (row_offered same i d row bus text comes offers lines));
     store_refused = EndsInRow-at ends 10 refl row_10;
+    failed_disk_told = λ place rose. row_failed states place rose ends.row ends.comes ends.told;
     complete = λ bus text events offers lines is able well.
         EndsInRow-done ends well 0 (λ row comes. complete_of row bus text events is able (row_offered same i d row bus text comes offers lines));
   }

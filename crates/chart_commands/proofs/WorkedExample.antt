@@ -35,12 +35,12 @@ unread_example = record {
 }
 
 -- there was no memory for the example, and the disks are as before
-pub no_example : (same : Type 0) → same → (d : DiskStates) (sink : SinkState)
+pub no_example : (same : Type 0) → same → (d : DiskStates) (sink : SinkState) → (same → d.after ≡ d.before)
     → (i : ChartInputs) × IsExampleChart i × RunsChart same i d (record { before = sink; after = sink; status = 7 })
-no_example same unused d sink =
+no_example same unused d sink states =
     let i : ChartInputs = unread_example in (
       i,
       record { two = refl; config = Offers-clean i.config BUS.now refl short_bus refl; script = Offers-clean i.script SCRIPT.now refl short_script refl },
-      RunsChart-ends same i d _
+      RunsChart-ends same i d _ states
           (EndsInRow-memory (ChartRow same i d) sink (without_disks _ (no_config input.Memory (refl, Lacks-unread i.config refl, refl)) unused)),
     )

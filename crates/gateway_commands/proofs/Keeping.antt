@@ -2,6 +2,7 @@
 use Rattle.std.specs.Prelude.{◌≡◌, ◌≢◌, ◌⊎◌, ℕ, List, Result, Ok, Err, codes}
 use Rattle.std.proofs.Common.{refl, subst, arith, inl, inr}
 use Rattle.command_edge.specs.Input.{input_fault_status}
+use Rattle.command_edge.specs.Told.{EndingTold}
 use Rattle.command_edge.specs.declared.input.InputFault.{InputFault}
 use Rattle.command_edge.specs.declared.input.InputFault.TheVariants as input
 use Rattle.text_lines.specs.Readings.{Fault}
@@ -22,8 +23,8 @@ use Rattle.bus_world.specs.declared.start.Start.TheVariants.{Format}
 use Rattle.bus_world.specs.declared.start.StartFault.{StartFault}
 use Rattle.bus_world.specs.Starts.{HasRoom, FindsRoom}
 use Rattle.bus_world.specs.StartRows.{start_row, StoreCause, LeavesEach}
-use Rattle.bus_world.specs.StartAnswers.{DiskStates, ComesOfStart, disks_refused, store_refused, start_without_memory, BusHasDisks}
-use Rattle.bus_world.specs.StartAnswerLaws.{Comes-leaves, start_status, start_memory, start_without_room, start_complete}
+use Rattle.bus_world.specs.StartAnswers.{DiskStates, ComesOfStart, disks_refused, store_refused, start_without_memory, BusHasDisks, CountsFailure, failed_row}
+use Rattle.bus_world.specs.StartAnswerLaws.{Comes-leaves, start_status, start_memory, start_without_room, start_complete, none_counted, failure_told}
 use Rattle.numbered_run.specs.Statuses.{unwritten_status}
 use Rattle.bus_inputs.specs.BusFiles.{OffersBus}
 use Rattle.bus_inputs.specs.BusFileLaws.{same_bus, told_fault, told_too_much, bus_or_fault}
@@ -118,7 +119,7 @@ module _ (same : Type 0) (i : GatewayInputs) (d : DiskStates) (e : Ending) where
   start_9 : (bus : NamedBus) (row : Row) → ComesOfStart Format bus d row → row.status ≡ 9 → PrintsWhole e row.text → DisksTold bus
   start_9 bus row (disks_refused fault finds as_before) is well = (as_before, (fault, finds, well))
   start_9 bus row (store_refused fault room cause left) is well = absurd (let no : ⊥ = omega (arith, is) in no)
-  start_9 bus row (start_without_memory fault refused) is well = absurd (let no : ⊥ = omega (arith, is) in no)
+  start_9 bus row (start_without_memory fault may refused calm) is well = absurd (let no : ⊥ = omega (arith, is) in no)
 
   row_9 : (row : Row) → Comes row → row.status ≡ 9 → PrintsWhole e row.text → OverGateway i (λ bus pairs events. DisksTold bus)
   row_9 row (without_disks _ comes as_before) is well = absurd (let no : ⊥ = omega (arith, inputs_low row comes, is) in no)
@@ -130,7 +131,7 @@ module _ (same : Type 0) (i : GatewayInputs) (d : DiskStates) (e : Ending) where
   start_10 : (bus : NamedBus) (row : Row) → ComesOfStart Format bus d row → row.status ≡ 10 → PrintsWhole e row.text → StoreTold bus
   start_10 bus row (disks_refused fault finds as_before) is well = absurd (let no : ⊥ = omega (arith, is) in no)
   start_10 bus row (store_refused fault room cause left) is well = (left, (fault, cause, well))
-  start_10 bus row (start_without_memory fault refused) is well = absurd (let no : ⊥ = omega (arith, is) in no)
+  start_10 bus row (start_without_memory fault may refused calm) is well = absurd (let no : ⊥ = omega (arith, is) in no)
 
   row_10 : (row : Row) → Comes row → row.status ≡ 10 → PrintsWhole e row.text → OverGateway i (λ bus pairs events. StoreTold bus)
   row_10 row (without_disks _ comes as_before) is well = absurd (let no : ⊥ = omega (arith, inputs_low row comes, is) in no)
@@ -212,8 +213,19 @@ module _ (same : Type 0) (i : GatewayInputs) (d : DiskStates) (e : Ending) where
   row_done : EndsInRow Comes e → e.status ≡ 0 → Ended (Ok tt)
   row_done ends = EndsInRow-at ends 0 refl (λ row comes is well. absurd (row_not_0 row comes is))
 
-  of_row : EndsInRow Comes e → RunsGateway same i d e
-  of_row ends = record {
+  -- a disk that failed is told, or events were done
+  abbrev FailureTold : ℕ → Type 0
+  FailureTold place = EndsInRow (λ row. row ≡ failed_row place) e
+      ⊎ ((result : Result (Unit {0}) Unwritten) × Ended result)
+
+  row_failed : (same → d.after ≡ d.before) → (place : ℕ) → CountsFailure d place → (row : Row) → Comes row
+      → EndingTold e.before e.after row.text row.status e.status → FailureTold place
+  row_failed states place rose row (without_disks _ comes as_before) told = absurd (none_counted d place (states as_before) rose)
+  row_failed states place rose row (not_started _ (bus, pairs, events, set, start) nine) told =
+      inl (record { row = row; comes = failure_told Format bus d row place start rose; told = told })
+
+  of_row : (same → d.after ≡ d.before) → EndsInRow Comes e → RunsGateway same i d e
+  of_row states ends = record {
     ends = in_row ends;
     disks_unused = unused ends;
     done = row_done ends;
@@ -237,6 +249,7 @@ module _ (same : Type 0) (i : GatewayInputs) (d : DiskStates) (e : Ending) where
     disks_refused_only = λ bus pairs text events offers lines is lacks.
         EndsInRow-may ends 9 (λ row comes. without_room_of row bus text events is lacks (row_offered same i d row bus pairs text comes offers lines));
     store_refused = EndsInRow-at ends 10 refl row_10;
+    failed_disk_told = λ place rose. row_failed states place rose ends.row ends.comes ends.told;
     complete = λ bus pairs text events offers lines is able well.
         EndsInRow-done ends well 0 (λ row comes. complete_of row bus text events is able (row_offered same i d row bus pairs text comes offers lines));
   }
@@ -327,9 +340,10 @@ module _ (same : Type 0) (i : GatewayInputs) (d : DiskStates) (e : Ending) where
     disks_refused = λ is. absurd (let no : ⊥ = omega (arith, status_of result over, is) in no);
     disks_refused_only = λ bus pairs text events offers lines is lacks. absurd (lacks (ran_room result over bus pairs offers));
     store_refused = λ is. absurd (let no : ⊥ = omega (arith, status_of result over, is) in no);
+    failed_disk_told = λ place rose. inr (result, over);
     complete = λ bus pairs text events offers lines is able well. done_well result over well;
   }
 
-  pub RunsGateway-ends : EndsGateway same i d e → RunsGateway same i d e
-  RunsGateway-ends (in_row ends) = of_row ends
-  RunsGateway-ends (ran result over) = of_run result over
+  pub RunsGateway-ends : (same → d.after ≡ d.before) → EndsGateway same i d e → RunsGateway same i d e
+  RunsGateway-ends states (in_row ends) = of_row states ends
+  RunsGateway-ends states (ran result over) = of_run result over

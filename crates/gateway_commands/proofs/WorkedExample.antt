@@ -46,9 +46,9 @@ unread_example = record {
 }
 
 -- there was no memory for the example
-pub no_example : (same : Type 0) (d : DiskStates) (sink : SinkState) → same
+pub no_example : (same : Type 0) (d : DiskStates) (sink : SinkState) → (same → d.after ≡ d.before) → same
     → (i : GatewayInputs) × IsExampleGateway i × RunsGateway same i d (record { before = sink; after = sink; status = 7 })
-no_example same d sink as_before =
+no_example same d sink states as_before =
     let i : GatewayInputs = unread_example in (
       i,
       record {
@@ -56,6 +56,6 @@ no_example same d sink as_before =
         config = Offers-clean i.config BUS.now refl short_bus refl;
         script = Offers-clean i.script SCRIPT.now refl short_script refl;
       },
-      RunsGateway-ends same i d _ (in_row (EndsInRow-memory (RowOfGateway same i d) sink
+      RunsGateway-ends same i d _ states (in_row (EndsInRow-memory (RowOfGateway same i d) sink
           (without_disks _ (no_config input.Memory ((0x6bc2, 0x6bc1) ∷ [], asks, Lacks-unread i.config refl, refl)) as_before))),
     )

@@ -1,11 +1,12 @@
 -- What a gateway promises
-use Rattle.std.specs.Prelude.{◌≡◌, ◌⊎◌, ℕ, List, [], Ok, Err, codes}
+use Rattle.std.specs.Prelude.{◌≡◌, ◌⊎◌, ℕ, List, [], Result, Ok, Err, codes}
 use Rattle.command_edge.specs.declared.input.InputFault.TheVariants.{ReadFault, TooLong}
 use Rattle.text_lines.specs.Readings.{Fault}
 use Rattle.text_lines.specs.Texts.{fault_text_of}
 use Rattle.answer_rows.specs.Rows.{Row, memory_row}
 use Rattle.answer_rows.specs.Inputs.{IsUnread, CountsFault, CountsTooMuch, Offers}
-use Rattle.answer_rows.specs.Endings.{Ending, EndsIn, MayEndIn, PrintsWhole, PrintsFront, SinkFailed, CountsWriteFault}
+use Rattle.answer_rows.specs.Endings.{Ending, EndsInRow, EndsIn, MayEndIn, PrintsWhole, PrintsFront, SinkFailed}
+use Rattle.answer_rows.specs.Endings.{CountsWriteFault}
 use Rattle.numbered_run.specs.declared.printing.Unwritten.{Unwritten}
 use Rattle.numbered_run.specs.declared.printing.Unwritten.TheVariants as unwritten
 use Rattle.bus_config.specs.declared.fault.ConfigFault.{ConfigFault}
@@ -17,7 +18,7 @@ use Rattle.bus_world.specs.declared.start.Start.TheVariants.{Format}
 use Rattle.bus_world.specs.declared.start.StartFault.{StartFault}
 use Rattle.bus_world.specs.Starts.{HasRoom, FindsRoom}
 use Rattle.bus_world.specs.StartRows.{start_row, StoreCause, LeavesEach}
-use Rattle.bus_world.specs.StartAnswers.{DiskStates, ComesOfStart, BusHasDisks}
+use Rattle.bus_world.specs.StartAnswers.{DiskStates, ComesOfStart, BusHasDisks, CountsFailure, failed_row}
 use Rattle.bus_inputs.specs.BusFiles.{OffersBus}
 use Rattle.gateway_commands.specs.Words.{AsksGateway, AsksNoGateway}
 use Rattle.gateway_commands.specs.Texts.{gateway_usage}
@@ -95,6 +96,11 @@ pub record RunsGateway (same : Type 0) (i : GatewayInputs) (d : DiskStates) (e :
   -- 10: the disk failed, and wasn't quiet; over a disk that doesn't tell its bytes also what was read again.
   pub store_refused : e.status ≡ 10 → OverGateway i (λ bus pairs events. LeavesEach Format bus d.before d.after
       × ((fault : StartFault) × StoreCause Format bus d.before d.after fault × PrintsWhole e (start_row fault).text))
+  -- A disk that fails at the start is told, and never as want of memory: where the count of faults of a disk rose
+  -- though no event was done, the status is 10 with the row of its node, or 6 with a front of it.
+  pub failed_disk_told : (place : ℕ) → CountsFailure d place → EndsInRow (λ row. row ≡ failed_row place) e
+      ⊎ ((result : Result (Unit {0}) Unwritten)
+      × OverGateway i (λ bus pairs events. DoneGateway bus pairs events d e result))
   -- What is valid is done, where no port failed and there was memory.
   pub complete : (bus : NamedBus) (pairs : List (ℕ × ℕ)) (input : List ℕ) (events : List Event)
       → OffersGateway i bus pairs → Offers i.script input → own_events_of bus.nodes input ≡ Ok events

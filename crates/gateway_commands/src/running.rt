@@ -10,7 +10,7 @@ use crate::texts::GatewayTexts;
 use answer_rows::tell_refusal;
 use bus_port::Sink;
 use bus_script::Event;
-use bus_world::{close_nodes, open_nodes, start_refusal};
+use bus_world::{Start, close_nodes, open_nodes, start_refusal};
 use cell_store::CutCells;
 use cut_disk::CutDisk;
 use numbered_run::{Unwritten, print_run, status_of_run};
@@ -33,7 +33,7 @@ pub fn do_job<K: Sink, D: CutDisk>(
 {
     gateways_are_runs();
     let GatewayJob { bus, pairs, events } = job;
-    let mut nodes = match open_nodes(alloc, &bus, disks) {
+    let mut nodes = match open_nodes(alloc, &bus, disks, Start::Format) {
         Ok(nodes) => nodes,
         Err(fault) => return tell_refusal(sink, &start_refusal(alloc, &fault)),
     };

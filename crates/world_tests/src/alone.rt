@@ -3,7 +3,7 @@ use crate::bench::{
     Act, NodeRow, RouteRow, Row, Told, are_of, bus_of, can_be_done, disks, event_of, line_of,
 };
 use crate::comparing::same;
-use bus_world::{StartFault, close_nodes, open_nodes, own_turn, start_refusal};
+use bus_world::{Start, StartFault, close_nodes, open_nodes, own_turn, start_refusal};
 use cell_store::{CutCells, Kind, Reread, Version};
 use freshness_routes::Direction;
 use key_slots::SlotId;
@@ -63,7 +63,7 @@ fn tells<C: CutCells>(
 fn a_node_takes_its_turns_alone(rt: HostRuntime) -> Result<(), Fail> {
     let bus = bus_of(rt.alloc(), Kind::Twin, Version::One, ONE_NODE)?;
     let mut made = disks(rt.alloc(), &[40_000, 40_001])?;
-    let mut nodes = match open_nodes(rt.alloc(), &bus, &mut made) {
+    let mut nodes = match open_nodes(rt.alloc(), &bus, &mut made, Start::Format) {
         Ok(nodes) => nodes,
         Err(fault) => return Err(Fail::from(fault)),
     };

@@ -20,7 +20,7 @@ pub returns-in-Err : goal.returns-in-Err
 returns-in-Err g c = record {
   row = c.start_refusal.result;
   comes = refused_trial c.start_refusal.result
-      (Comes-unstarted _ Format c.args.bus.now _ c.in-Err.fault c.start_refusal.result c.in-Err.ensures.refused c.in-Err.ensures.unread c.start_refusal.ensures);
+      (Comes-unstarted _ Format c.args.bus.now _ c.in-Err.fault c.start_refusal.result c.requires.is_bus.most c.in-Err.ensures.refused c.in-Err.ensures.unread c.start_refusal.ensures);
   told = c.tell_refusal-in-Err.ensures;
 }
 

@@ -27,4 +27,4 @@ returns-in-Ok g c =
     )
 
 pub returns-in-Err : goal.returns-in-Err
-returns-in-Err g c = no_example _ refl _ _
+returns-in-Err g c = no_example _ refl _ _ (λ _. refl)

@@ -21,4 +21,4 @@ returns-in-Ok g c =
     )
 
 pub returns-in-Err : goal.returns-in-Err
-returns-in-Err g c = no_example _ _ _ refl
+returns-in-Err g c = no_example _ _ _ (λ _. refl) refl

@@ -1,13 +1,14 @@
 use Rattle.std.proofs.Common.{refl}
+use Rattle.bus_world.specs.StartAnswerLaws.{same_known}
 use Rattle.gateway_commands.specs.Rows.{without_disks, in_row}
 use Rattle.gateway_commands.proofs.Doing.{ends_job}
 use Rattle.gateway_commands.proofs.Keeping.{RunsGateway-ends}
 use Rattle.gateway_commands.proofs.run.run_gateway.Goals as goal
 
 pub returns-in-Ok : goal.returns-in-Ok
-returns-in-Ok g c = RunsGateway-ends _ _ _ _ (ends_job _ _ _ _ _ _ _ c.in-Ok.ensures.1 c.do_job.ensures)
+returns-in-Ok g c = RunsGateway-ends _ _ _ _ (same_known g.D.Disk.state c.args.disks.now c.do_job.new.disks) (ends_job _ _ _ _ _ _ _ c.in-Ok.ensures.1 c.do_job.ensures)
 
 pub returns-in-Err : goal.returns-in-Err
 returns-in-Err g c =
-    RunsGateway-ends _ _ _ _
+    RunsGateway-ends _ _ _ _ (λ _. refl)
     (in_row (record { row = c.in-Err.refusal; comes = without_disks c.in-Err.refusal c.in-Err.ensures refl; told = c.tell_refusal.ensures }))

@@ -23,7 +23,7 @@ print_turns-node-requires-clause-ready g c =
 pub returns-in-Err : goal.returns-in-Err
 returns-in-Err g c = refused_start (record {
   row = c.start_refusal.result;
-  comes = Comes-unstarted _ Format c.args.job.bus _ c.in-Err.fault c.start_refusal.result c.in-Err.ensures.refused c.in-Err.ensures.unread c.start_refusal.ensures;
+  comes = Comes-unstarted _ Format c.args.job.bus _ c.in-Err.fault c.start_refusal.result c.requires.is_bus.most c.in-Err.ensures.refused c.in-Err.ensures.unread c.start_refusal.ensures;
   told = c.tell_refusal-in-Err.ensures;
 })
 
