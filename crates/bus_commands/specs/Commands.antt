@@ -1,7 +1,8 @@
--- What `run` promises: the headline, and the table of answers. Read the records, which begin behind the list of names
--- from below, and look up here what most of these mean, above their `use`. All is said of one call: `i` is what went
--- in, `d` the disks or what was known of them, `e` how it ended. That freshness rises from one call of `node` to the
--- next over the same disks, too, is a law of the crate life_laws.
+-- What `run` promises: the headline, and the table of answers.
+--
+-- Read the records, which begin behind the list of names from below, and look up in it what most of these mean, above
+-- their `use`. All is said of one call: `i` is what went in, `d` the disks or what was known of them, `e` how it ended.
+-- That freshness rises from one call of `node` to the next over the same disks, too, is a law of the crate life_laws.
 --
 -- A source or a disk *tells* its bytes where they are known, as in memory; a file and standard input tell nothing. A
 -- count of faults never falls, and is full at its last value. A row is a status with its text. A cut is a power cut,
@@ -119,8 +120,8 @@ use Rattle.world_runs.specs.WorldRuns.{IsFirstOf, EachSkipsLittle, Honest}
 -- ==== the headline
 
 -- One run of the machine from `first`, over the disks of the nodes. A moment is an event that was done, with its line
--- and the world behind it; `last` is the world behind them all. All programs share these members: `WorldRun` of
--- world_runs has the same, as a law in src/laws.rt says. They stand here once more so that they are read in one place.
+-- and the world behind it; `last` is the world behind them all. `WorldRun` of world_runs, which all programs share, has
+-- the same members (a law in src/laws.rt); they stand here once more to be read in one place.
 pub record HeadlineRun (first : World) (bus : NamedBus) (d : DiskStates) (events : List Event) (moments : Moments)
     (last : World) : Type 0 where
   -- Each node is sound, up and at the bounds that it keeps; no event of this call was done; a Data ID has one sender.
@@ -249,10 +250,10 @@ abbrev pub TaskHasDisks : Task → DiskStates → Type 0
 TaskHasDisks (replay start bus) d = BusHasDisks start bus d
 TaskHasDisks task d = Unit {0}
 
--- THE TABLE OF ANSWERS. "Both ways": the status has this cause, and the cause brings the status, at 3, 4 and 9 where
--- the sources tell it and didn't fail. A sink whose count of faults rises makes it 6 instead; and 3, 4, 9 and 10 may
--- give way to 7, which is said to be want of memory: no clause says that it was, and none brings 7; but a disk that
--- fails at a start is told.
+-- THE TABLE OF ANSWERS: what a command promises, by status. "Both ways": the status has this cause, and the cause brings
+-- the status, at 3, 4 and 9 where the sources tell it and didn't fail. A sink whose count of faults rises makes it 6
+-- instead; and 3, 4, 9 and 10 may give way to 7, which is said to be want of memory: no clause says that it was, and
+-- none brings 7; but a disk that fails at a start is told.
 pub record RunsCommand {V : Type 0} (i : BusInputs) (d : CommandDisks V) (e : Ending) : Type 0 where
   -- A row that comes is told, or a replay did its first events: what that says of each status follows.
   pub ends : RowOrReplay i d e
