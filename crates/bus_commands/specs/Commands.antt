@@ -250,10 +250,10 @@ abbrev pub TaskHasDisks : Task → DiskStates → Type 0
 TaskHasDisks (replay start bus) d = BusHasDisks start bus d
 TaskHasDisks task d = Unit {0}
 
--- THE TABLE OF ANSWERS: what a command promises, by status. "Both ways": the status has this cause, and the cause brings
--- the status, at 3, 4 and 9 where the sources tell it and didn't fail. A sink whose count of faults rises makes it 6
--- instead; and 3, 4, 9 and 10 may give way to 7, which is said to be want of memory: no clause says that it was, and
--- none brings 7; but a disk that fails at a start is told.
+-- THE TABLE OF ANSWERS: what a command promises, by status. "Both ways": the status has this cause, and the cause
+-- brings the status, at 3, 4 and 9 where the sources tell it and didn't fail. A sink whose count of faults rises makes
+-- it 6 instead; and 3, 4, 9 and 10 may give way to 7, which is said to be want of memory: no clause says that it was,
+-- and none brings 7; but a disk that fails at a start is told.
 pub record RunsCommand {V : Type 0} (i : BusInputs) (d : CommandDisks V) (e : Ending) : Type 0 where
   -- A row that comes is told, or a replay did its first events: what that says of each status follows.
   pub ends : RowOrReplay i d e
