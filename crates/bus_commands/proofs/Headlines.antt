@@ -10,7 +10,8 @@ use Rattle.world_runs.specs.WorldRuns.{WorldRun}
 use Rattle.bus_commands.specs.declared.summary.Summary.{Summary}
 use Rattle.bus_commands.specs.Headline.{Replayed}
 use Rattle.bus_commands.specs.TrialRuns.{Tried}
-use Rattle.bus_commands.specs.Commands.{HeadlineRun, WrittenRun, SummedRun, HeadlineIsWorldRun}
+use Rattle.bus_commands.specs.Commands.{HeadlineRun, WrittenRun, SummedRun}
+use Rattle.bus_commands.specs.SharedRuns.{HeadlineIsWorldRun}
 
 headline_of : (first : World) (bus : NamedBus) (d : DiskStates) (events : List Event) (moments : Moments) (last : World) → WorldRun first bus d.before d.after events moments last
     → HeadlineRun first bus d events moments last

@@ -12,6 +12,8 @@ pub mod Asking
 pub mod Preparing
 pub mod Refusing
 pub mod RowFacts
+pub mod Unread
+pub mod Statuses
 pub mod Failing
 pub mod Promises
 pub mod Headlines

@@ -12,22 +12,19 @@ use Rattle.bus_machine.specs.Bus.{World, First}
 use Rattle.bus_nodes.specs.Buses.{NamedBus, configs_of}
 use Rattle.bus_commands.specs.declared.summary.Summary.{Summary}
 use Rattle.bus_commands.specs.declared.trial_words.TrialWords.{TrialWords}
-use Rattle.bus_commands.specs.declared.words.Command.TheVariants.{Lines}
 use Rattle.bus_commands.specs.declared.words.Command.TheVariants as command
-use Rattle.bus_commands.specs.declared.words.LineCommand.TheVariants as lines
 use Rattle.bus_commands.specs.declared.words.WorldCommand.TheVariants.{Replay, Trial}
 use Rattle.bus_commands.specs.Words.{Asks}
-use Rattle.bus_commands.specs.Tasks.{Task, frame, judge, check, replay}
-use Rattle.bus_commands.specs.Texts.{IsOutput}
-use Rattle.bus_commands.specs.Inputs.{BusInputs, SetsTask, SetsWorld, start_of}
+use Rattle.bus_commands.specs.Inputs.{BusInputs, SetsWorld, start_of}
 use Rattle.bus_commands.specs.Headline.{TellFor, ReplayedOver}
 use Rattle.bus_commands.specs.Summaries.{summary_text}
 use Rattle.bus_world.specs.StartAnswers.{DiskStates}
 use Rattle.bus_commands.specs.StartRows.{CommandDisks}
 use Rattle.bus_commands.specs.Rows.{ReplaysScript, TriesEvents, ComesInRun, without_disks, not_started, tried, tried_without_memory}
-use Rattle.bus_commands.specs.Commands.{PrintsAnswers, PrintsSummary, RunsCommand, ReplayIsRun, WrittenRun, TrialIsRun, DoesNothing, RunsMachine}
+use Rattle.bus_commands.specs.Commands.{RunsCommand, ReplayIsRun, WrittenRun, TrialIsRun, LeavesUnstarted, RunsMachine}
 use Rattle.bus_commands.proofs.Headlines.{written_run, summed_run}
-use Rattle.bus_commands.proofs.Asking.{apart, asks_one, same_start, no_trial, set_asks}
+use Rattle.bus_commands.proofs.Asking.{apart, asks_one, same_start}
+use Rattle.bus_commands.proofs.Unread.{AskedIsDone, done_of}
 use Rattle.bus_world.specs.StartAnswerLaws.{Comes-leaves}
 
 -- ---- one run
@@ -56,25 +53,16 @@ trial_is_run i d summary (trial, bus, events, set, ran) = (trial, bus, events, s
 
 -- ---- a replay
 
--- words that ask for a replay set no task that prints an input
-no_answers : {A : Type 0} (i : BusInputs) (start : Start) (task : Task) (read text : List ℕ) → Asks i.words (command.World (Replay start)) → SetsTask i task → IsOutput task read text → A
-no_answers i start frame read text asks set prints = apart i.words (Lines lines.Frame) (command.World (Replay start)) set.0 asks (λ x. cc)
-no_answers i start judge read text asks set prints = apart i.words (Lines lines.Judge) (command.World (Replay start)) set.0 asks (λ x. cc)
-no_answers i start (check bus) read text asks set prints = apart i.words (Lines lines.Check) (command.World (Replay start)) set.0 asks (λ x. cc)
-no_answers i start (replay how bus) read text asks set prints = absurd prints
-
--- they ask for no trial
+-- words that ask for a replay ask for no trial
 asks_no_trial : {A : Type 0} (words : List (List ℕ)) (start : Start) (trial : TrialWords) → Asks words (command.World (Replay start)) → Asks words (command.World (Trial trial)) → A
 asks_no_trial words start trial asks tries = apart words (command.World (Trial trial)) (command.World (Replay start)) tries asks (λ x. cc)
 
-replay_done : {V : Type 0} (i : BusInputs) (d : CommandDisks V) (e : Ending) (start : Start) → Asks i.words (command.World (Replay start))
-    → PrintsAnswers i e ⊎ (ReplaysScript i d.states e (Ok tt) ⊎ PrintsSummary i d.states e) → ReplayIsRun start i d.states e (Ok tt)
-replay_done i d e start asks (inl (task, set, (read, whole, (text, prints, well)))) = no_answers i start task read text asks set prints
-replay_done i d e start asks (inr (inl over)) = replay_is_run i d.states e start (Ok tt) asks over
-replay_done i d e start asks (inr (inr (summary, (trial, bus, events, set, ran), well))) = asks_no_trial i.words start trial asks set.asks
+replay_done : {V : Type 0} (i : BusInputs) (d : CommandDisks V) (e : Ending) (start : Start) → Asks i.words (command.World (Replay start)) → AskedIsDone i d.states e
+    → ReplayIsRun start i d.states e (Ok tt)
+replay_done i d e start asks does = replay_is_run i d.states e start (Ok tt) asks (done_of i d.states e (command.World (Replay start)) asks does)
 
--- where a row comes, no event of a replay was done
-replay_row : {V : Type 0} (i : BusInputs) (d : CommandDisks V) (row : Row) (start : Start) → Asks i.words (command.World (Replay start)) → ComesInRun i d row → DoesNothing i d
+-- where a row comes of a replay, the disks are as before or as an unfinished start leaves them
+replay_row : {V : Type 0} (i : BusInputs) (d : CommandDisks V) (row : Row) (start : Start) → Asks i.words (command.World (Replay start)) → ComesInRun i d row → LeavesUnstarted i d
 replay_row i d row start asks (without_disks _ comes same) = inl same
 replay_row i d row start asks (not_started _ (c, bus, events, set, comes) nine) = inr (c, bus, events, set, Comes-leaves (start_of c) bus d.states row comes.1)
 replay_row i d row start asks (tried summary (trial, bus, events, set, ran)) = asks_no_trial i.words start trial asks set.asks
@@ -82,13 +70,13 @@ replay_row i d row start asks (tried_without_memory summary (trial, bus, events,
 
 replay_6 : {V : Type 0} (i : BusInputs) (d : CommandDisks V) (e : Ending) (start : Start) → Asks i.words (command.World (Replay start))
     → PrintsFront (ComesInRun i d) e ⊎ ReplaysScript i d.states e (Err unwritten.SinkFailed)
-    → (DoesNothing i d × PrintsFront (ComesInRun i d) e) ⊎ ReplayIsRun start i d.states e (Err unwritten.SinkFailed)
+    → (LeavesUnstarted i d × PrintsFront (ComesInRun i d) e) ⊎ ReplayIsRun start i d.states e (Err unwritten.SinkFailed)
 replay_6 i d e start asks (inl (row, comes, part)) = inl (replay_row i d row start asks comes, (row, comes, part))
 replay_6 i d e start asks (inr over) = inr (replay_is_run i d.states e start (Err unwritten.SinkFailed) asks over)
 
 replay_7 : {V : Type 0} (i : BusInputs) (d : CommandDisks V) (e : Ending) (start : Start) → Asks i.words (command.World (Replay start))
     → (ComesInRun i d memory_row × PrintsWhole e []) ⊎ ReplaysScript i d.states e (Err unwritten.Memory)
-    → (DoesNothing i d × PrintsWhole e []) ⊎ ReplayIsRun start i d.states e (Err unwritten.Memory)
+    → (LeavesUnstarted i d × PrintsWhole e []) ⊎ ReplayIsRun start i d.states e (Err unwritten.Memory)
 replay_7 i d e start asks (inl (comes, well)) = inl (replay_row i d memory_row start asks comes, well)
 replay_7 i d e start asks (inr over) = inr (replay_is_run i d.states e start (Err unwritten.Memory) asks over)
 
@@ -99,32 +87,31 @@ no_replay : {V : Type 0} {A : Type 0} (i : BusInputs) (d : CommandDisks V) (e : 
     → ReplaysScript i d.states e result → A
 no_replay i d e trial result asks (start, bus, events, set, ran) = asks_no_trial i.words start trial set.asks asks
 
-trial_done : {V : Type 0} (i : BusInputs) (d : CommandDisks V) (e : Ending) (trial : TrialWords) → Asks i.words (command.World (Trial trial))
-    → PrintsAnswers i e ⊎ (ReplaysScript i d.states e (Ok tt) ⊎ PrintsSummary i d.states e)
+trial_done : {V : Type 0} (i : BusInputs) (d : CommandDisks V) (e : Ending) (trial : TrialWords) → Asks i.words (command.World (Trial trial)) → AskedIsDone i d.states e
     → (summary : Summary) × TrialIsRun i d.states summary × PrintsWhole e (summary_text summary)
-trial_done i d e trial asks (inl (task, set, answers)) = no_trial i.words task trial (set_asks i task set) asks
-trial_done i d e trial asks (inr (inl over)) = no_replay i d e trial (Ok tt) asks over
-trial_done i d e trial asks (inr (inr (summary, over, well))) = (summary, trial_is_run i d.states summary over, well)
+trial_done i d e trial asks does =
+    let (summary, over, well) = done_of i d.states e (command.World (Trial trial)) asks does in
+    (summary, trial_is_run i d.states summary over, well)
 
--- where a row comes, no event of a trial was done, or all were
-trial_row : {V : Type 0} (i : BusInputs) (d : CommandDisks V) (row : Row) → ComesInRun i d row → DoesNothing i d ⊎ ((summary : Summary) × TrialIsRun i d.states summary)
+-- where a row comes of a trial, the disks are so, or all events were done
+trial_row : {V : Type 0} (i : BusInputs) (d : CommandDisks V) (row : Row) → ComesInRun i d row → LeavesUnstarted i d ⊎ ((summary : Summary) × TrialIsRun i d.states summary)
 trial_row i d row (without_disks _ comes same) = inl (inl same)
 trial_row i d row (not_started _ (c, bus, events, set, comes) nine) = inl (inr (c, bus, events, set, Comes-leaves (start_of c) bus d.states row comes.1))
 trial_row i d row (tried summary over) = inr (summary, trial_is_run i d.states summary over)
 trial_row i d row (tried_without_memory summary over) = inr (summary, trial_is_run i d.states summary over)
 
 trial_6 : {V : Type 0} (i : BusInputs) (d : CommandDisks V) (e : Ending) (trial : TrialWords) → Asks i.words (command.World (Trial trial))
-    → PrintsFront (ComesInRun i d) e ⊎ ReplaysScript i d.states e (Err unwritten.SinkFailed) → DoesNothing i d ⊎ ((summary : Summary) × TrialIsRun i d.states summary)
+    → PrintsFront (ComesInRun i d) e ⊎ ReplaysScript i d.states e (Err unwritten.SinkFailed) → LeavesUnstarted i d ⊎ ((summary : Summary) × TrialIsRun i d.states summary)
 trial_6 i d e trial asks (inl (row, comes, part)) = trial_row i d row comes
 trial_6 i d e trial asks (inr over) = no_replay i d e trial (Err unwritten.SinkFailed) asks over
 
 trial_7 : {V : Type 0} (i : BusInputs) (d : CommandDisks V) (e : Ending) (trial : TrialWords) → Asks i.words (command.World (Trial trial))
-    → (ComesInRun i d memory_row × PrintsWhole e []) ⊎ ReplaysScript i d.states e (Err unwritten.Memory) → DoesNothing i d ⊎ ((summary : Summary) × TrialIsRun i d.states summary)
+    → (ComesInRun i d memory_row × PrintsWhole e []) ⊎ ReplaysScript i d.states e (Err unwritten.Memory) → LeavesUnstarted i d ⊎ ((summary : Summary) × TrialIsRun i d.states summary)
 trial_7 i d e trial asks (inl (comes, well)) = trial_row i d memory_row comes
 trial_7 i d e trial asks (inr over) = no_replay i d e trial (Err unwritten.Memory) asks over
 
 trial_untold : {V : Type 0} (i : BusInputs) (d : CommandDisks V) (e : Ending) → RunsCommand i d e → (trial : TrialWords) → Asks i.words (command.World (Trial trial)) → (e.status ≡ 6) ⊎ (e.status ≡ 7)
-    → DoesNothing i d ⊎ ((summary : Summary) × TrialIsRun i d.states summary)
+    → LeavesUnstarted i d ⊎ ((summary : Summary) × TrialIsRun i d.states summary)
 trial_untold i d e runs trial asks (inl six) = trial_6 i d e trial asks (runs.write_fault six).1
 trial_untold i d e runs trial asks (inr seven) = trial_7 i d e trial asks (runs.no_memory seven)
 

@@ -12,7 +12,6 @@ use Rattle.bus_nodes.specs.Buses.{NamedBus, IsNamedBus}
 use Rattle.secoc_words.specs.declared.frames.FrameLine.{FrameLine}
 use Rattle.secoc_words.specs.declared.judges.JudgeLine.{JudgeLine}
 use Rattle.secoc_words.specs.Frames.{frames_of, judges_of}
-use Rattle.bus_config.specs.declared.fault.ConfigFault.TheVariants as config
 use Rattle.bus_machine.specs.declared.events.Event.{Event}
 use Rattle.bus_script.specs.EventForms.{events_of}
 use Rattle.bus_commands.specs.declared.words.Command.TheVariants as command

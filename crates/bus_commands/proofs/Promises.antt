@@ -33,10 +33,12 @@ use Rattle.bus_world.specs.StartRows.{start_row, StoreCause, LeavesEach}
 use Rattle.bus_world.specs.StartAnswers.{ComesOfStart, disks_refused, store_refused, start_without_memory, BusHasDisks}
 use Rattle.bus_commands.specs.StartRows.{CommandDisks, HoldsNoNode}
 use Rattle.bus_commands.specs.Rows.{ReplaysScript, ComesOfInputs, no_form, no_config, config_refused, no_script, script_refused, done, ComesInRun, without_disks, not_started, tried, tried_without_memory, RowOrReplay, in_row, replayed}
-use Rattle.bus_commands.specs.Commands.{PrintsAnswers, PrintsSummary, LeavesDisks, as_before, by_refused_start, by_replay, by_trial, TaskHasDisks, RunsCommand}
+use Rattle.bus_commands.specs.Commands.{by_replay, TaskHasDisks, RunsCommand}
 use Rattle.bus_commands.proofs.Asking.{apart}
+use Rattle.bus_commands.proofs.Unread.{row_config_unread, row_lines_unread, AskedIsDone, answers_done}
+use Rattle.bus_commands.proofs.Statuses.{ends_in_table, replayed_in_table, row_leaves}
 use Rattle.bus_commands.proofs.RowFacts.{row_tells, row_asks, row_refuses, OfTask, row_offered, replay_offered, OfTrial, row_tried, calm_world}
-use Rattle.bus_world.specs.StartAnswerLaws.{Comes-leaves, start_without_room, start_complete}
+use Rattle.bus_world.specs.StartAnswerLaws.{start_without_room, start_complete}
 use Rattle.bus_commands.proofs.Refusing.{start_in_room}
 use Rattle.bus_commands.proofs.Failing.{ends_failed}
 use Rattle.world_runs.proofs.DisksBack.{no_node}
@@ -101,16 +103,10 @@ unused i d e ends low = elim ends.told [
   | inr (six, rose, part) ↦ absurd (not_low e.status low (inr (inl six)))
 ]
 
-row_leaves : {V : Type 0} (i : BusInputs) (d : CommandDisks V) (e : Ending) (row : Row) → ComesInRun i d row → LeavesDisks i d e
-row_leaves i d e row (without_disks _ comes same) = as_before same
-row_leaves i d e row (not_started _ (c, bus, events, set, comes) nine) = by_refused_start (c, bus, events, set, Comes-leaves (start_of c) bus d.states row comes.1)
-row_leaves i d e row (tried summary ran) = by_trial summary ran
-row_leaves i d e row (tried_without_memory summary ran) = by_trial summary ran
-
 -- the rows of each status
 
 inputs_0 : {V : Type 0} (i : BusInputs) (d : CommandDisks V) (e : Ending) (row : Row) → ComesOfInputs i row → row.status ≡ 0 → PrintsWhole e row.text
-    → PrintsAnswers i e
+    → AskedIsDone i d.states e
 inputs_0 i d e row (no_form none config script) is well = absurd (let no : ⊥ = omega (arith, is) in no)
 inputs_0 i d e row (no_config input.ReadFault of) is well = absurd (let no : ⊥ = omega (arith, is) in no)
 inputs_0 i d e row (no_config input.TooLong of) is well = absurd (let no : ⊥ = omega (arith, is) in no)
@@ -120,7 +116,7 @@ inputs_0 i d e row (no_script input.ReadFault of) is well = absurd (let no : ⊥
 inputs_0 i d e row (no_script input.TooLong of) is well = absurd (let no : ⊥ = omega (arith, is) in no)
 inputs_0 i d e row (no_script input.Memory of) is well = absurd (let no : ⊥ = omega (arith, is) in no)
 inputs_0 i d e row (script_refused fault of) is well = absurd (let no : ⊥ = omega (arith, is) in no)
-inputs_0 i d e row (done text (task, set, (read, whole, prints))) is well = (task, set, (read, whole, (text, prints, well)))
+inputs_0 i d e row (done text (task, set, (read, whole, prints))) is well = answers_done i d.states e task read text set whole prints well
 
 inputs_2 : {V : Type 0} (i : BusInputs) (d : CommandDisks V) (e : Ending) (row : Row) → ComesOfInputs i row → row.status ≡ 2 → PrintsWhole e row.text
     → AsksNothing i.words × IsUnread i.config × IsUnread i.script × PrintsWhole e usage
@@ -265,9 +261,10 @@ start_9 i d e start bus row (store_refused fault room cause left) is well = absu
 start_9 i d e start bus row (start_without_memory fault may refused calm) is well = absurd (let no : ⊥ = omega (arith, is) in no)
 
 start_10 : {V : Type 0} (i : BusInputs) (d : CommandDisks V) (e : Ending) (start : Start) (bus : NamedBus) (row : Row) → ComesOfStart start bus d.states row → row.status ≡ 10 → PrintsWhole e row.text
-    → LeavesEach start bus d.states.before d.states.after × ((fault : StartFault) × StoreCause start bus d.states.before d.states.after fault × PrintsWhole e (start_row fault).text)
+    → HasRoom bus d.states.before × LeavesEach start bus d.states.before d.states.after
+    × ((fault : StartFault) × StoreCause start bus d.states.before d.states.after fault × PrintsWhole e (start_row fault).text)
 start_10 i d e start bus row (disks_refused fault finds same) is well = absurd (let no : ⊥ = omega (arith, is) in no)
-start_10 i d e start bus row (store_refused fault room cause left) is well = (left, (fault, cause, well))
+start_10 i d e start bus row (store_refused fault room cause left) is well = (room, left, (fault, cause, well))
 start_10 i d e start bus row (start_without_memory fault may refused calm) is well = absurd (let no : ⊥ = omega (arith, is) in no)
 
 start_7 : {V : Type 0} (i : BusInputs) (d : CommandDisks V) (e : Ending) (start : Start) (bus : NamedBus) (row : Row) → ComesOfStart start bus d.states row → row.status ≡ 7 → PrintsWhole e row.text → ComesOfStart start bus d.states memory_row × PrintsWhole e []
@@ -276,10 +273,10 @@ start_7 i d e start bus row (store_refused fault room cause left) is well = absu
 start_7 i d e start bus row (start_without_memory fault may refused calm) is well = (start_without_memory fault may refused calm, well)
 
 row_0 : {V : Type 0} (i : BusInputs) (d : CommandDisks V) (e : Ending) (row : Row) → ComesInRun i d row → row.status ≡ 0 → PrintsWhole e row.text
-    → PrintsAnswers i e ⊎ (ReplaysScript i d.states e (Ok tt) ⊎ PrintsSummary i d.states e)
-row_0 i d e row (without_disks _ comes same) is well = inl (inputs_0 i d e row comes is well)
+    → AskedIsDone i d.states e
+row_0 i d e row (without_disks _ comes same) is well = inputs_0 i d e row comes is well
 row_0 i d e row (not_started _ (c, bus, events, set, comes) nine) is well = absurd (start_not_0 i d e (start_of c) bus row comes.1 is)
-row_0 i d e row (tried summary ran) is well = inr (inr (summary, ran, well))
+row_0 i d e row (tried summary (trial, bus, events, set, ran)) is well = (World (Trial trial), set.asks, (summary, (trial, bus, events, set, ran), well))
 row_0 i d e row (tried_without_memory summary ran) is well = absurd (let no : ⊥ = omega (arith, is) in no)
 
 row_7 : {V : Type 0} (i : BusInputs) (d : CommandDisks V) (e : Ending) (row : Row) → ComesInRun i d row → row.status ≡ 7 → PrintsWhole e row.text → ComesInRun i d memory_row × PrintsWhole e []
@@ -298,7 +295,8 @@ row_9 i d e row (tried summary ran) is well = absurd (let no : ⊥ = omega (arit
 row_9 i d e row (tried_without_memory summary ran) is well = absurd (let no : ⊥ = omega (arith, is) in no)
 
 row_10 : {V : Type 0} (i : BusInputs) (d : CommandDisks V) (e : Ending) (row : Row) → ComesInRun i d row → row.status ≡ 10 → PrintsWhole e row.text
-    → OverWorld i (λ start bus events. LeavesEach start bus d.states.before d.states.after × ((fault : StartFault) × StoreCause start bus d.states.before d.states.after fault × PrintsWhole e (start_row fault).text))
+    → OverWorld i (λ start bus events. HasRoom bus d.states.before × LeavesEach start bus d.states.before d.states.after
+    × ((fault : StartFault) × StoreCause start bus d.states.before d.states.after fault × PrintsWhole e (start_row fault).text))
 row_10 i d e row (without_disks _ comes same) is well = absurd (let no : ⊥ = omega (arith, (inputs_not i d e row comes).0, is) in no)
 row_10 i d e row (not_started _ (c, bus, events, set, comes) nine) is well = (c, bus, events, set, start_10 i d e (start_of c) bus row comes.1 is well)
 row_10 i d e row (tried summary ran) is well = absurd (let no : ⊥ = omega (arith, is) in no)
@@ -438,9 +436,12 @@ replay_no_trial i d e result over bus (trial, asks, of_bus) = apart i.words (Wor
 of_row : {V : Type 0} (i : BusInputs) (d : CommandDisks V) (e : Ending) → (d.new ≡ d.old → d.states.after ≡ d.states.before) → EndsInRow (ComesInRun i d) e → RunsCommand i d e
 of_row i d e same ends = record {
   ends = in_row ends;
+  statuses = ends_in_table i d e ends;
+  config_unread = row_config_unread i d ends.row ends.comes;
+  lines_unread = λ trial. row_lines_unread i d ends.row trial ends.comes;
   disks = row_disks i d e ends.row ends.comes;
   disks_unused = unused i d e ends;
-  leaves = row_leaves i d e ends.row ends.comes;
+  leaves = row_leaves i d e ends.row ends.comes ends.told;
   done = EndsInRow-at ends 0 refl (row_0 i d e);
   usage_told = EndsInRow-at ends 2 refl (row_2 i d e);
   usage_only = λ nothing. EndsInRow-only ends 2 (λ row comes. row_asks i d row comes nothing);
@@ -472,10 +473,13 @@ of_row i d e same ends = record {
 of_replay : {V : Type 0} (i : BusInputs) (d : CommandDisks V) (e : Ending) → (result : Result (Unit {0}) Unwritten) → ReplaysScript i d.states e result → RunsCommand i d e
 of_replay i d e result over = record {
   ends = replayed result over;
+  statuses = replayed_in_table e.status (status_of i d e result over);
+  config_unread = λ lacks. absurd (lacks (World (Replay over.0), over.3.asks, tt));
+  lines_unread = λ trial asks. apart i.words (World (Replay over.0)) (World (Trial trial)) over.3.asks asks (λ x. cc);
   disks = λ lacks. absurd (lacks (Replay over.0, over.3.asks));
   disks_unused = λ low. absurd (not_low e.status low (status_of i d e result over));
   leaves = by_replay result over;
-  done = λ is. inr (inl (done_0 i d e result over is));
+  done = λ is. (World (Replay over.0), over.3.asks, done_0 i d e result over is);
   usage_told = λ is. absurd (let no : ⊥ = omega (arith, status_of i d e result over, is) in no);
   usage_only = λ nothing. absurd (nothing (World (Replay over.0)) over.3.asks);
   config_refused = λ is. absurd (let no : ⊥ = omega (arith, status_of i d e result over, is) in no);

@@ -2,7 +2,6 @@
 use Rattle.std.specs.Prelude.{ℕ, ◌≤◌, List, length, get_or, All}
 use Rattle.std.proofs.Common.{sym, subst, arith}
 use Rattle.bus_machine.specs.declared.events.Event.{Event}
-use Rattle.bus_machine.specs.declared.events.Event.TheVariants as event
 use Rattle.bus_nodes.specs.declared.nodes.NodeLine.{NodeLine}
 use Rattle.bus_nodes.specs.Buses.{NamedBus}
 use Rattle.bus_script.specs.ScriptEvents.{IsScriptEvent}

@@ -14,7 +14,7 @@ use Rattle.bus_texts.specs.LineTexts.{line_text}
 use Rattle.bus_world.specs.declared.start.Start.{Start}
 use Rattle.bus_world.specs.declared.start.Start.TheVariants.{Format, Attach}
 use Rattle.bus_world.specs.Worlds.{BusState, world_of, EachFits}
-use Rattle.world_runs.specs.NodeDisks.{TellEach, DisksStay}
+use Rattle.world_runs.specs.NodeDisks.{DisksStay}
 use Rattle.world_runs.specs.WorldRuns.{IsFirstOf}
 use Rattle.world_runs.specs.Turns.{seen, TakesTurns, TurnsLeaveDisks, TurnsAreWorldRuns, StartsSetUp, StartsBeginAtFirst, StartsGoOnFirst}
 use Rattle.world_runs.specs.TurnLaws.{same_lines, same_length}

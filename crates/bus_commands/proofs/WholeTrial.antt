@@ -1,9 +1,9 @@
 -- A trial over disks that tell their bytes is one run of the machine, over whose lines the seven numbers are
-use Rattle.std.specs.Prelude.{◌≡◌, List, length}
+use Rattle.std.specs.Prelude.{List, length}
 use Rattle.std.proofs.Common.{sym, ap, ◌∙◌, subst, arith}
 use Rattle.std.proofs.lemmas.List.{take_all}
 use Rattle.cut_disk.specs.State.{DiskState}
-use Rattle.machine_runs.specs.Run.{Moment, commands_in}
+use Rattle.machine_runs.specs.Run.{Moment}
 use Rattle.bus_machine.specs.declared.events.Event.{Event}
 use Rattle.bus_machine.specs.declared.lines.Line.{Line}
 use Rattle.bus_machine.specs.Bus.{World}

@@ -1,44 +1,53 @@
--- What `run` promises: the headline, and the table of answers.
+-- What `run` promises: the headline, and the table of answers. Read the records, which begin behind the list of names
+-- from below, and look up here what most of these mean, above their `use`. All is said of one call: `i` is what went
+-- in, `d` the disks or what was known of them, `e` how it ended. That freshness rises from one call of `node` to the
+-- next over the same disks, too, is a law of the crate life_laws.
 --
--- All is said of one call: `i` is what went in, `d` the disks, `e` how it ended. What a name from below means is told
--- beside its `use`. Between two calls of `node` over the same disks freshness rises, too: that is a law of the crate
--- life_laws.
---
--- A row is a status with its text. A disk tells its bytes where they are known, as in memory, and nothing over a
--- file; a cut is a power cut, which may leave anything of bytes that aren't synced. An event may arm a disk, so that
--- calls of it fail; a quiet disk is one on which nothing is armed, and no call fails by itself. Its past is the list of
--- states that its calls left, where it tells them. A slot of a node holds a key, with the counter of its last update. A
--- route is a Data ID that a node sends or receives; its kept bound, a reserve ahead of its counter, is what the counter
--- begins again at after a cut.
-use Rattle.std.specs.Prelude.{◌≡◌, ◌⊎◌, ℕ, ◌<◌, List, [], length, take, get_or, All, codes, Some, None, Result, Ok, Err}
+-- A source or a disk *tells* its bytes where they are known, as in memory; a file and standard input tell nothing. A
+-- count of faults never falls, and is full at its last value. A row is a status with its text. A cut is a power cut,
+-- which may leave anything of bytes that aren't synced. An event may arm a disk, so that calls of it fail; a quiet disk
+-- has nothing armed, and no call fails by itself. The past of a disk has each state that a call left, where it tells
+-- it. A slot holds a key, with the counter of its last update. A route is a Data ID that a node sends or receives; its
+-- kept bound, a reserve ahead of its counter, is what the counter begins again at after a cut.
+use Rattle.std.specs.Prelude.{◌≡◌, ◌⊎◌, ℕ, ◌<◌, ◌≤◌, List, [], length, take, get_or, All, codes, Some, None}
+use Rattle.std.specs.Prelude.{Result, Ok, Err}
 -- ---- what went in
 -- `BusInputs`: the words, and the sources of the bus file (`config`) and of the lines (`script`), before and after.
 use Rattle.bus_commands.specs.Inputs.{BusInputs}
--- `Asks words c`: they ask for the command c. `AsksNothing`: they are of no form. `AsksOverBus`: for a command that has
--- a bus file. `AsksWorld`: for `replay`, `node` (a replay that attaches) or `trial`.
+-- `Asks words c`: they ask for the command c, and for no other. It is of lines (`frame`, `judge`, `check`), or runs a
+-- world over disks: `Replay Format` is `replay`, `Replay Attach` is `node`, `Trial` is `trial` with its number of
+-- events and its seed. `AsksNothing`: they are of no form. `AsksOverBus`: for a command with a bus file. `AsksWorld`:
+-- for one that runs a world.
 use Rattle.bus_commands.specs.Inputs.{AsksOverBus, AsksWorld}
 use Rattle.bus_commands.specs.Words.{Asks, AsksNothing}
+use Rattle.bus_commands.specs.declared.words.Command.{Command}
 use Rattle.bus_commands.specs.declared.words.Command.TheVariants as command
 use Rattle.bus_commands.specs.declared.words.WorldCommand.TheVariants.{Replay, Trial}
 use Rattle.bus_commands.specs.declared.trial_words.TrialWords.{TrialWords}
 use Rattle.bus_world.specs.declared.start.Start.{Start}
 use Rattle.bus_world.specs.declared.start.Start.TheVariants.{Format, Attach}
--- `Over.. i P`: such a command is asked for, all that it reads was read whole, and P holds of that: of the task and the
--- lines (`OverLines`), or of the bus and the events of a replay, of a trial, or of both with the start (`OverWorld`).
+-- `OverLines i P`: a command other than `trial` is asked for, what it reads was read whole, its bus file, if it has
+-- one, is valid, and P holds of what it is to do (its `Task`) and of the lines. `OverReplayOf`, `OverTrial`,
+-- `OverWorld`: such a world is asked for, all that it reads was read whole and is valid, and P holds of the bus and the
+-- events.
 use Rattle.bus_commands.specs.Inputs.{OverLines, OverReplayOf, OverTrial, OverWorld}
 use Rattle.bus_commands.specs.Tasks.{Task, replay}
 use Rattle.bus_nodes.specs.Buses.{NamedBus, IsNamedBus, configs_of}
 use Rattle.bus_machine.specs.declared.events.Event.{Event}
--- `Offers..`: the source tells this (or it is asked for, over the bus that the source tells), and didn't fail.
+-- `Offers`: the source tells these bytes, at most 1,048,576, and didn't fail. `OffersTask`, `OffersTrial`: it is asked
+-- for, and the source of its bus file so tells one with this bus.
 use Rattle.answer_rows.specs.Inputs.{Offers}
 use Rattle.bus_commands.specs.Inputs.{OffersTask, OffersTrial}
--- `IsUnread`: nothing was asked of the source. `CountsFault`: its count of faults rose. `CountsTooMuch`: too much came.
+-- `IsUnread`: nothing was asked of the source. `CountsFault`: its count of faults rose. `CountsTooMuch`: by its count
+-- of bytes more than 1,048,576 came.
 use Rattle.answer_rows.specs.Inputs.{IsUnread, CountsFault, CountsTooMuch}
--- `NoConfig i fault`, `NoScript i fault`: why there is no bus file, or are no lines.
+-- `NoConfig`: a bus file was asked for and not had, and of the lines nothing was read. `NoScript`: the lines weren't
+-- had, and the bus file is valid, if one is read. Why: `ReadFault`, the source's count of faults rose or is full; or
+-- `TooLong`, it stood still, and one byte more than 1,048,576 came.
 use Rattle.bus_commands.specs.Inputs.{NoConfig, NoScript}
 use Rattle.command_edge.specs.declared.input.InputFault.TheVariants.{ReadFault, TooLong}
--- `Task`: what is to be done with lines, those of a replay among them. `IsConfigFault`: the first fault of what was
--- told. `bus_of`, `fault_of`: what a bus file means, or its first fault; the first fault of lines.
+-- `bus_of`: the bus of a bus file, or its first fault. `IsConfigFault`: it was read whole, and this is its first fault.
+-- `fault_of`: the first fault of lines, if they have one.
 use Rattle.bus_config.specs.declared.fault.ConfigFault.{ConfigFault}
 use Rattle.bus_config.specs.BusFile.{bus_of}
 use Rattle.bus_config.specs.FaultTexts.{config_fault_text}
@@ -48,8 +57,8 @@ use Rattle.text_lines.specs.Readings.{Fault}
 use Rattle.text_lines.specs.Texts.{fault_text_of}
 -- ---- the disks
 -- `CommandDisks`: the disks themselves (`old`, `new`), and what was known of them before and after (`states`).
--- `BusHasDisks`: each node has a disk that is large enough and was quiet, or whose count of faults didn't rise, and
--- over which it can start. `HoldsNoNode`: the disk of a node tells bytes over which it can't go on.
+-- `BusHasDisks`: each node's disk is large enough, tells bytes over which the node can start, and was quiet, or its
+-- count of faults neither rose nor is full. `HoldsNoNode`: a node's disk tells bytes over which it can't go on.
 use Rattle.bus_commands.specs.StartRows.{CommandDisks, HoldsNoNode}
 -- `CountsDiskFault d place`: the count of faults of the disk at this place rose. `failed_row place`: the row that tells
 -- that the disk of the node at this place failed.
@@ -59,35 +68,43 @@ use Rattle.bus_world.specs.StartAnswers.{DiskStates, BusHasDisks, CountsDiskFaul
 use Rattle.world_runs.specs.NodeDisks.{TellEach}
 use Rattle.world_runs.specs.Turns.{TellFirm}
 use Rattle.bus_world.specs.Starts.{StartsOver}
--- `HasRoom`: each node has a disk that is large enough; `FindsRoom`: which hasn't. `StoreCause`: why a node wasn't
--- started over its disk. `LeavesEach`: what is left of the disks then: each is as it was, or as a node that is open
--- leaves it (formatted, or moved to version 2), or its count of faults rose; those that no node has are as they were.
+-- `HasRoom`: each node has a disk that is large enough; `FindsRoom`: they are too few, or which is the first too small.
+-- `StoreCause`: why a node wasn't started over its disk. `start_row`: how that is told. `LeavesEach`: what a start may
+-- leave that isn't finished: each disk is as it was, or as that of an open node (formatted, or moved to version 2), or
+-- its count of faults rose; those that no node has are as they were.
 use Rattle.bus_world.specs.Starts.{HasRoom, FindsRoom}
 use Rattle.bus_world.specs.declared.start.StartFault.{StartFault}
 use Rattle.bus_world.specs.StartRows.{start_row, StoreCause, LeavesEach}
 -- ---- how it ended
--- `Ending`: the sink before and after, and the status. `PrintsWhole e text`: exactly this was written; `PrintsFront
--- rows e`: a proper front of one of these rows. `EndsIn n e`: the status is n or 6; `MayEndIn n e`: it is n, 6 or 7.
--- `EndsInRow rows e`: one of these rows was told, at 6 a front of it.
+-- `Ending`: the sink before and after, and the status. `PrintsWhole e text`: exactly this was written, without a fault;
+-- `PrintsFront rows e`: a proper front of a text of these rows. `EndsIn n e`: the status is n or 6; `MayEndIn n e`: n,
+-- 6 or 7. `EndsInRow rows e`: one of these rows was told, at 6 a front of it. `CountsWriteFault`: the sink's count of
+-- faults rose; `SinkFailed`: it rose, or is full.
 use Rattle.answer_rows.specs.Endings.{Ending, PrintsWhole, PrintsFront, EndsIn, MayEndIn, EndsInRow}
--- `CountsWriteFault`: the sink's count of faults rose; `SinkFailed`: it rose, or stands at its last value.
 use Rattle.answer_rows.specs.Endings.{CountsWriteFault, SinkFailed}
--- `ComesInRun`: the rows that come, each for its cause. `ReplaysScript`: a replay did its first events;
--- `TriesEvents`: a trial did all. `RowOrReplay`: a row that comes was told, whole or at 6 by a front, or a replay did
--- its first events. `IsOutput task input text`: the text is what the task prints of these lines.
-use Rattle.bus_commands.specs.Rows.{ComesInRun, ReplaysScript, TriesEvents, RowOrReplay}
-use Rattle.answer_rows.specs.Rows.{memory_row}
+-- `IsOutput`: the text answers each line, and has nothing else: for `frame` the digits of its Secured I-PDU, for
+-- `judge` the verdict of a receiver with the widest window, or the bad length, for `check` its canonical line.
+-- `Summary`: how many events there were, and lines of sent, accepted, a failed verdict, keyed, up and refused.
 use Rattle.bus_commands.specs.Texts.{usage, IsOutput}
 use Rattle.bus_commands.specs.declared.summary.Summary.{Summary}
 use Rattle.bus_commands.specs.Summaries.{summary_of, summary_text}
--- `Written .. result moments`: of `Ok` these are moments of all events, and the text of each line was written; of an
--- `Unwritten`, at least one event was done, and of the last line a proper front alone (`SinkFailed`) or nothing
--- (`Memory`).
+-- `ReplaysScript`: over disks of any kind, files too, a replay was started and did its first events, `Written` so. Each
+-- was a turn of its node alone: a step of the machine, but that a cut over a disk that doesn't tell may leave the node
+-- up with whatever its store has, or down. The count of its disk rose (or is full) where the line tells that it failed,
+-- and nowhere else. Nothing is undone: the disks are as the last turn left them. `TriesEvents`: a trial did all its
+-- events so, and their lines have this summary.
+use Rattle.bus_commands.specs.Rows.{ReplaysScript, TriesEvents}
+-- `Written .. result moments`: at `Ok` they are all events, and exactly the texts of their lines were written; at an
+-- `Unwritten` those of the lines before the last, of which a proper front was (`SinkFailed`), or nothing (`Memory`).
 use Rattle.numbered_run.specs.declared.printing.Unwritten.{Unwritten}
 use Rattle.numbered_run.specs.declared.printing.Unwritten.TheVariants as unwritten
 use Rattle.numbered_run.specs.Printed.{Written}
 use Rattle.bus_texts.specs.LineTexts.{line_text}
--- ---- the machine: what these say is told at the members of the headline
+-- `ComesInRun`: the rows that come, each for its cause; `memory_row`: 7 without a text. `RowOrReplay`: a row that comes
+-- was told, whole or at 6 by a front; or `ReplaysScript`.
+use Rattle.bus_commands.specs.Rows.{ComesInRun, RowOrReplay}
+use Rattle.answer_rows.specs.Rows.{memory_row}
+-- ---- the machine: what these say is told at the members of `HeadlineRun`
 use Rattle.machine_runs.specs.Run.{Run, commands_in, lines_in}
 use Rattle.bus_machine.specs.Bus.{World, First, Moments, Step}
 use Rattle.bus_machine.specs.Freshness.{Rising, Single, AllCovered}
@@ -97,45 +114,48 @@ use Rattle.bus_texts.specs.LineKinds.{IsLine}
 use Rattle.cut_disk.specs.State.{DiskState}
 use Rattle.store_runs.specs.DiskTurns.{FailuresTold}
 use Rattle.world_runs.specs.NodeDisks.{mark_at, fails_at, DisksFollow}
-use Rattle.world_runs.specs.WorldRuns.{IsFirstOf, EachSkipsLittle, Honest, WorldRun}
+use Rattle.world_runs.specs.WorldRuns.{IsFirstOf, EachSkipsLittle, Honest}
 
 -- ==== the headline
 
 -- One run of the machine from `first`, over the disks of the nodes. A moment is an event that was done, with its line
--- and the world behind it; `last` is the world behind them all.
+-- and the world behind it; `last` is the world behind them all. All programs share these members: `WorldRun` of
+-- world_runs has the same, as a law in src/laws.rt says. They stand here once more so that they are read in one place.
 pub record HeadlineRun (first : World) (bus : NamedBus) (d : DiskStates) (events : List Event) (moments : Moments)
     (last : World) : Type 0 where
   -- Each node is sound, up and at the bounds that it keeps; no event of this call was done; a Data ID has one sender.
   pub begins : IsFirstOf bus first
-  -- Each moment is a step of the machine, and their events are the first of those that were asked for.
+  -- Each moment is a step of the machine; their events are the first of those that were asked for.
   pub is_a_run : Run Step first moments last
   pub of_events : commands_in moments ≡ take (length moments) events
-  -- Each line is one that its type has.
+  -- The numbers and bytes of each line are such as its type has.
   pub are_lines : All IsLine (lines_in moments)
   -- Of one node and one Data ID, accepted freshness strictly rises.
   pub rising : Rising moments
-  -- What is accepted carries the CMAC under the key of the receiver's slot, and the event that its line names sent it.
+  -- What is accepted carries the CMAC under the key of the receiver's slot; an event that its line names came before it
+  -- in this run, and sent it.
   pub authentic : Authentic first moments
   -- Of one Data ID, sent freshness strictly rises: none is sent twice.
   pub single : Single moments
   -- An acknowledged update of a key is undone by a later update alone, and no slot's counter falls.
   pub keys_kept : KeysKept first moments
-  -- A power-up skips at most one reserve of freshness.
+  -- A power-up skips at most one reserve of freshness: above the counter, or above a PDU whose acceptance failed.
   pub cuts_skip_little : EachSkipsLittle first moments
-  -- All freshness so far is at most its route's kept bound, and at most its counter.
+  -- The freshness of these moments is at most its route's kept bound, and at most its counter, at last.
   pub covered : AllCovered moments last
-  -- Each disk tells bytes that stand for what its node keeps at last, whatever a cut leaves of them; these moments
-  -- alone added to its told past; and disks that no node has are as before.
+  -- Each disk tells bytes that stand for what its node keeps at last, whatever a cut leaves of them; the start and
+  -- these moments alone added to its told past; what is known of disks that no node has is as before.
   pub disks : DisksFollow first bus d.before d.after moments last
-  -- Lines that tell a failed disk are at most the rise of its count, and none before an event arms a quiet disk.
+  -- Lines that tell a failed disk are at most the rise of its count, unless it is full; on a quiet disk none comes
+  -- before an event arms it.
   pub failures : (i : ℕ) (disk : DiskState) → i < length bus.nodes
       → FailuresTold (mark_at i) (fails_at i) moments (get_or d.before i disk) (get_or d.after i disk)
-  -- A PDU that comes in time, under the right key, is accepted as it was sent, or the disk failed; and over quiet
-  -- disks, without cuts and faults, the events alone determine the lines.
+  -- A PDU that is delivered in time (to a node that is up, within the window above its counter), under the right key,
+  -- is accepted as it was sent, or the node's disk failed. Over quiet disks, without cuts and faults, the first world
+  -- and the events alone determine the lines.
   pub honest : Honest first bus d.before events moments
 
--- What a replay did: one run, of which the sink has the texts of the lines, as `Written` says it: at `Ok` of all
--- events.
+-- what a replay did: one run, of which the sink has the texts of the lines, as `Written` says it
 pub record WrittenRun (first : World) (bus : NamedBus) (d : DiskStates) (events : List Event) (e : Ending)
     (result : Result (Unit {0}) Unwritten) : Type 0 where
   pub moments : Moments
@@ -151,9 +171,8 @@ pub record SummedRun (bus : NamedBus) (d : DiskStates) (events : List Event) (su
   pub whole : commands_in moments ≡ events
   pub numbers : summary ≡ summary_of (lines_in moments)
 
--- A replay is asked for, and it is one run: where it formats its disks from the first world of the bus, if each tells
--- its bytes; where it attaches them from a world in which the bus goes on where they stand, if each tells bytes of
--- which a cut can take none away.
+-- A replay is asked for, and it is one run: of `replay` from the first world of the bus, if each disk tells its bytes;
+-- of `node` from a world in which the bus goes on where its disks stand, if a cut can take none of these bytes away.
 abbrev pub ReplayIsRun : Start → BusInputs → DiskStates → Ending → Result (Unit {0}) Unwritten → Type 0
 ReplayIsRun Format i d e result = OverReplayOf Format i (λ bus events. (TellEach bus d.before
     → WrittenRun (First (configs_of bus)) bus d events e result))
@@ -164,36 +183,39 @@ ReplayIsRun Attach i d e result = OverReplayOf Attach i (λ bus events. (TellFir
 abbrev pub TrialIsRun : BusInputs → DiskStates → Summary → Type 0
 TrialIsRun i d summary = OverTrial i (λ bus events. (TellEach bus d.before → SummedRun bus d events summary))
 
--- every disk is as before, or as a start that is refused leaves it
-abbrev pub DoesNothing : {V : Type 0} → BusInputs → CommandDisks V → Type 0
-DoesNothing i d =
+-- every disk is as before; or a world is asked for, and they are as a start that isn't finished may leave them
+abbrev pub LeavesUnstarted : {V : Type 0} → BusInputs → CommandDisks V → Type 0
+LeavesUnstarted i d =
     (d.new ≡ d.old) ⊎ OverWorld i (λ start bus events. LeavesEach start bus d.states.before d.states.after)
 
--- THE HEADLINE, by what is asked for and by status. What is called a run here, and the lines of it that the sink has,
--- is one over disks that tell, as above; of a run over others, as over files, the table alone speaks.
+-- THE HEADLINE, by what is asked for and by status. Runs, and their lines in the sink, are promised here over disks
+-- that tell, and of `node` over bytes that a cut can't take away. Over others, as files, the table alone speaks, by
+-- `ReplaysScript` and `TriesEvents`.
 pub record RunsMachine {V : Type 0} (i : BusInputs) (d : CommandDisks V) (e : Ending) : Type 0 where
   -- 0 of `replay`: all events of the script are one run, and the sink has all lines.
   pub replayed : Asks i.words (command.World (Replay Format)) → e.status ≡ 0 → ReplayIsRun Format i d.states e (Ok tt)
   -- 0 of `node`: the same, from a world in which the bus goes on.
   pub attached_run : Asks i.words (command.World (Replay Attach)) → e.status ≡ 0
       → ReplayIsRun Attach i d.states e (Ok tt)
-  -- 6 of both: the disks are as before or as a refused start leaves them, and a front of a row was written; or the
-  -- first events are one run.
+  -- 6 of both: the disks are as before or as an unfinished start may leave them, and a front of a row was written; or
+  -- the first events are one run, of whose last line a front was written.
   pub early_ends : (start : Start) → Asks i.words (command.World (Replay start)) → e.status ≡ 6
-      → (DoesNothing i d × PrintsFront (ComesInRun i d) e) ⊎ ReplayIsRun start i d.states e (Err unwritten.SinkFailed)
-  -- 7 of both: the disks are so, and nothing was written; or the first events are one run.
+      → (LeavesUnstarted i d × PrintsFront (ComesInRun i d) e)
+      ⊎ ReplayIsRun start i d.states e (Err unwritten.SinkFailed)
+  -- 7 of both: the disks are so, and nothing was written; or the first events are one run, of whose last line nothing
+  -- was.
   pub early_ends_unwritten : (start : Start) → Asks i.words (command.World (Replay start)) → e.status ≡ 7
-      → (DoesNothing i d × PrintsWhole e []) ⊎ ReplayIsRun start i d.states e (Err unwritten.Memory)
+      → (LeavesUnstarted i d × PrintsWhole e []) ⊎ ReplayIsRun start i d.states e (Err unwritten.Memory)
   -- 0 of `trial`: all its events are one run, and the sink has its seven numbers.
   pub tried : (trial : TrialWords) → Asks i.words (command.World (Trial trial)) → e.status ≡ 0
       → (summary : Summary) × TrialIsRun i d.states summary × PrintsWhole e (summary_text summary)
   -- 6, 7 of `trial`: the disks are so; or all events are one run.
   pub tried_untold : (trial : TrialWords) → Asks i.words (command.World (Trial trial)) → (e.status ≡ 6) ⊎ (e.status ≡ 7)
-      → DoesNothing i d ⊎ ((summary : Summary) × TrialIsRun i d.states summary)
+      → LeavesUnstarted i d ⊎ ((summary : Summary) × TrialIsRun i d.states summary)
 
 -- ==== the table of answers
 
--- exactly what is asked of the lines was printed
+-- exactly what `frame`, `judge` or `check` answers to the lines was printed
 abbrev pub PrintsAnswers : BusInputs → Ending → Type 0
 PrintsAnswers i e = OverLines i (λ task input. (text : List ℕ) × IsOutput task input text × PrintsWhole e text)
 
@@ -201,11 +223,18 @@ PrintsAnswers i e = OverLines i (λ task input. (text : List ℕ) × IsOutput ta
 abbrev pub PrintsSummary : BusInputs → DiskStates → Ending → Type 0
 PrintsSummary i d e = (summary : Summary) × TriesEvents i d summary × PrintsWhole e (summary_text summary)
 
--- what a command leaves of the disks
+-- what 0 says of each command: of lines, their answers; of a replay and of `node`, that all events were done and all
+-- lines written; of a trial, all events and its summary
+abbrev pub DoesAll : Command → BusInputs → DiskStates → Ending → Type 0
+DoesAll (command.Lines asked) i d e = PrintsAnswers i e
+DoesAll (command.World (Replay start)) i d e = ReplaysScript i d e (Ok tt)
+DoesAll (command.World (Trial trial)) i d e = PrintsSummary i d e
+
+-- what a command leaves of the disks; that of an unfinished start comes at 6, 7 and 10 alone
 pub data LeavesDisks {V : Type 0} (i : BusInputs) (d : CommandDisks V) (e : Ending) : Type 0 where
   as_before : d.new ≡ d.old → LeavesDisks i d e
-  by_refused_start : OverWorld i (λ start bus events. LeavesEach start bus d.states.before d.states.after)
-      → LeavesDisks i d e
+  by_unfinished_start : (e.status ≡ 6) ⊎ (e.status ≡ 7) ⊎ (e.status ≡ 10)
+      → OverWorld i (λ start bus events. LeavesEach start bus d.states.before d.states.after) → LeavesDisks i d e
   by_replay : (result : Result (Unit {0}) Unwritten) → ReplaysScript i d.states e result → LeavesDisks i d e
   by_trial : (summary : Summary) → TriesEvents i d.states summary → LeavesDisks i d e
 
@@ -219,64 +248,69 @@ abbrev pub TaskHasDisks : Task → DiskStates → Type 0
 TaskHasDisks (replay start bus) d = BusHasDisks start bus d
 TaskHasDisks task d = Unit {0}
 
--- What a command promises that has these inputs and disks and ends so, in the order of the table of answers. Where a
--- status comes "for just this cause", the cause brings it, but that a sink which fails makes it 6, and at 3, 4, 9 and
--- 10 want of memory 7.
+-- THE TABLE OF ANSWERS. "Both ways": the status has this cause, and the cause brings the status, at 3, 4 and 9 where
+-- the sources tell it and didn't fail. A sink whose count of faults rises makes it 6 instead; and 3, 4, 9 and 10 may
+-- give way to 7, which is said to be want of memory: no clause says that it was, and none brings 7; but a disk that
+-- fails at a start is told.
 pub record RunsCommand {V : Type 0} (i : BusInputs) (d : CommandDisks V) (e : Ending) : Type 0 where
-  -- A row that comes is told, or a replay did its first events; what this says of each status follows.
+  -- A row that comes is told, or a replay did its first events: what that says of each status follows.
   pub ends : RowOrReplay i d e
-  -- Every disk is as before where no run is asked for, and also of a run where the status is 2, 3, 4, 5, 8 or 9.
+  -- No other status comes.
+  pub statuses : (e.status ≡ 0) ⊎ ((2 ≤ e.status) × (e.status ≤ 10))
+  -- Only a command that has a bus file reads one, and a trial reads no lines.
+  pub config_unread : ¬ AsksOverBus i.words → IsUnread i.config
+  pub lines_unread : (trial : TrialWords) → Asks i.words (command.World (Trial trial)) → IsUnread i.script
+  -- Every disk is as before where no world is asked for, and at 2, 3, 4, 5, 8 and 9.
   pub disks : ¬ AsksWorld i.words → d.new ≡ d.old
   pub disks_unused : (e.status ≡ 2) ⊎ (e.status ≡ 3) ⊎ (e.status ≡ 4) ⊎ (e.status ≡ 5) ⊎ (e.status ≡ 8)
       ⊎ (e.status ≡ 9) → d.new ≡ d.old
   pub leaves : LeavesDisks i d e
-  -- 0: the inputs were read whole, and exactly what is asked of them was printed: of the lines, of a whole replay, or
-  -- of a whole trial.
-  pub done : e.status ≡ 0 → PrintsAnswers i e ⊎ (ReplaysScript i d.states e (Ok tt) ⊎ PrintsSummary i d.states e)
-  -- 2: the words are of no form, for just this cause; nothing was read.
+  -- 0: the command that is asked for read its inputs whole, and did all.
+  pub done : e.status ≡ 0 → (asked : Command) × Asks i.words asked × DoesAll asked i d.states e
+  -- 2, both ways: the words are of no form; nothing was read; the usage line is printed.
   pub usage_told : e.status ≡ 2 → AsksNothing i.words × IsUnread i.config × IsUnread i.script × PrintsWhole e usage
   pub usage_only : AsksNothing i.words → EndsIn 2 e
-  -- 3: the bus file was read whole, and its first fault is printed, for just this cause; of the lines nothing was read.
+  -- 3, both ways: the bus file was read whole, and has a fault, the first of which is printed; no lines were read.
   pub config_refused : e.status ≡ 3 → AsksOverBus i.words × IsUnread i.script
       × ((fault : ConfigFault) × IsConfigFault i.config fault
       × (text : List ℕ) × (config_fault_text fault ≡ Some text) × PrintsWhole e text)
   pub config_refused_only : (file : List ℕ) (fault : ConfigFault) → AsksOverBus i.words
       → Offers i.config file → bus_of file ≡ Err fault → MayEndIn 3 e
-  -- 4: the inputs were read whole, and the first fault of the lines is printed, for just this cause.
+  -- 4, both ways: the inputs were read whole, and the lines have a fault, the first of which is printed.
   pub refused : e.status ≡ 4 → OverLines i (λ task input. (fault : Fault) × (fault_of task input ≡ Some fault)
       × PrintsWhole e (fault_text_of fault))
   pub refused_only : (task : Task) (input : List ℕ) (fault : Fault) → OffersTask i task
       → Offers i.script input → fault_of task input ≡ Some fault → MayEndIn 4 e
-  -- 5: the count of faults rose of the source that was read, for just this cause.
+  -- 5, both ways: the count of faults of a source that was read rose; 5 may come where it is full, too.
   pub read_fault : e.status ≡ 5 → (NoConfig i ReadFault ⊎ NoScript i ReadFault) × PrintsWhole e (codes "read fault\n")
   pub read_fault_only : CountsFault i.config ⊎ CountsFault i.script → EndsIn 5 e
-  -- 6: the sink's count of faults rose (and wherever it rose), or stands at its last value. A front was written of a
-  -- row that comes; or of a replay the texts of the lines before one, and a front of this.
+  -- 6, both ways: the sink's count of faults rose; 6 may come where it is full, too. A front was written of a row that
+  -- comes; or of a replay the lines before one, and a front of this.
   pub write_fault : e.status ≡ 6 → SinkFailed e
       × (PrintsFront (ComesInRun i d) e ⊎ ReplaysScript i d.states e (Err unwritten.SinkFailed))
   pub write_fault_only : CountsWriteFault e → e.status ≡ 6
-  -- 7: want of memory, which no clause brings, and nothing was written; or of a replay the lines before one.
+  -- 7: nothing was written; or of a replay the lines before one, and nothing of this.
   pub no_memory : e.status ≡ 7 → (ComesInRun i d memory_row × PrintsWhole e [])
       ⊎ ReplaysScript i d.states e (Err unwritten.Memory)
-  -- 8: a source gave a byte more than an input may have, for just this cause.
+  -- 8, both ways: one byte more than 1,048,576 came from a source.
   pub too_long : e.status ≡ 8 → (NoConfig i TooLong ⊎ NoScript i TooLong) × PrintsWhole e (codes "input too long\n")
   pub too_long_only : CountsTooMuch i.config ⊎ CountsTooMuch i.script → EndsIn 8 e
-  -- 9: there are fewer disks than nodes, or the disk of a node is too small, for just this cause; the first is named.
+  -- 9, both ways: there are fewer disks than nodes, or the disk of a node is too small, of which the first is named.
   pub disks_refused : e.status ≡ 9 → OverWorld i (λ start bus events.
       IsNamedBus bus × (d.states.after ≡ d.states.before)
       × ((fault : StartFault) × FindsRoom bus d.states.before fault × PrintsWhole e (start_row fault).text))
   pub disks_refused_only : (start : Start) (bus : NamedBus) (input : List ℕ) → OffersTask i (replay start bus)
       → Offers i.script input → fault_of (replay start bus) input ≡ None → ¬ HasRoom bus d.states.before → MayEndIn 9 e
   pub trial_disks_refused_only : (bus : NamedBus) → OffersTrial i bus → ¬ HasRoom bus d.states.before → MayEndIn 9 e
-  -- 10: the disk of the named node failed, and wasn't quiet; or it is refused for its bytes, and didn't fail: where
-  -- they are told, they are no node's that could go on over them, and told ones of each node before it are one's. A
-  -- disk that is formatted is refused for its bytes only where it doesn't tell them.
+  -- 10: the disks are large enough, and the disk of the named node failed, and wasn't quiet; or it didn't fail, and its
+  -- bytes are refused: told ones only where no node could go on over them, and never to be formatted; of others no
+  -- cause is said. Told ones of the nodes before it are good. The disks are as an unfinished start may leave them.
   pub store_refused : e.status ≡ 10 → OverWorld i (λ start bus events.
-      LeavesEach start bus d.states.before d.states.after
+      HasRoom bus d.states.before × LeavesEach start bus d.states.before d.states.after
       × ((fault : StartFault) × StoreCause start bus d.states.before d.states.after fault
       × PrintsWhole e (start_row fault).text))
-  -- Where the disks are large enough, and that of a node tells bytes over which it can't go on, a valid `node` ends in
-  -- 10, but for a failing sink and want of memory.
+  -- A valid `node` ends in 10, 6 or 7 where its disks are large enough, and one tells bytes over which its node can't
+  -- go on.
   pub store_refused_only : (bus : NamedBus) (input : List ℕ) → OffersTask i (replay Attach bus)
       → Offers i.script input → fault_of (replay Attach bus) input ≡ None → HasRoom bus d.states.before
       → HoldsNoNode bus d.states.before → MayEndIn 10 e
@@ -284,8 +318,8 @@ pub record RunsCommand {V : Type 0} (i : BusInputs) (d : CommandDisks V) (e : En
   -- a disk rose though no event was done, the status is 10 with the row of its node, or 6 with a front of it.
   pub failed_disk_told : (place : ℕ) → CountsDiskFault d.states place
       → EndsInRow (λ row. row ≡ failed_row place) e ⊎ DoesEvents i d.states e
-  -- What is valid is done, or there was no memory, where no source failed, the sink's count of faults neither rose nor
-  -- stands at its last value, and a run has disks that serve.
+  -- What is valid ends in 0 or 7, where the sources tell it and didn't fail, the sink's count of faults neither rose
+  -- nor is full, and a world has disks that serve.
   pub complete : (task : Task) (input : List ℕ) → OffersTask i task → Offers i.script input → fault_of task input ≡ None
       → TaskHasDisks task d.states → ¬ SinkFailed e → (e.status ≡ 0) ⊎ (e.status ≡ 7)
   pub trial_complete : (bus : NamedBus) → OffersTrial i bus → BusHasDisks Format bus d.states → ¬ SinkFailed e
@@ -294,13 +328,3 @@ pub record RunsCommand {V : Type 0} (i : BusInputs) (d : CommandDisks V) (e : En
 -- all that a command promises, and the headline
 abbrev pub RunsBus : {V : Type 0} → BusInputs → CommandDisks V → Ending → Type 0
 RunsBus i d e = RunsCommand i d e × RunsMachine i d e
-
--- ---- the headline's record, and the one that all programs share
-
--- each gives the other: of a replay's or a trial's run holds what holds of a run of a bus. The function
--- `the_headline_is_a_run_of_the_bus` of src/laws.rt proves it.
-abbrev pub HeadlineIsWorldRun : Type 0
-HeadlineIsWorldRun = (first : World) (bus : NamedBus) (d : DiskStates) (events : List Event) (moments : Moments)
-    (last : World)
-    → (WorldRun first bus d.before d.after events moments last → HeadlineRun first bus d events moments last)
-    × (HeadlineRun first bus d events moments last → WorldRun first bus d.before d.after events moments last)

@@ -11,5 +11,6 @@ pub mod Headline
 pub mod TrialRuns
 pub mod Rows
 pub mod Commands
+pub mod SharedRuns
 pub mod Named
 pub mod Steps

@@ -1,5 +1,5 @@
 //! What holds of every replay and of every trial over disks that tell their bytes.
-ghost use Rattle.bus_commands.specs.Commands.{HeadlineIsWorldRun};
+ghost use Rattle.bus_commands.specs.SharedRuns.{HeadlineIsWorldRun};
 ghost use Rattle.bus_commands.specs.Headline.{ReplaysAreRuns};
 ghost use Rattle.bus_commands.specs.TrialRuns.{TrialsAreRuns};
 

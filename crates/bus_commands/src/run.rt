@@ -23,15 +23,19 @@ use cut_disk::CutDisk;
 use std::alloc::{AllocError, Global};
 
 /// Runs the command that the words ask for, the program's name left out, and gives the status that the program ends
-/// with. `config` gives the bus file, which `check`, `replay`, `trial` and `node` read, and `script` the lines, which
-/// all but `trial` read; `frame` and `judge` read lines alone. A replay and a trial format one disk a node; with `node`
-/// each node goes on where its disk stands. A replay does no event behind a line that wasn't written whole; a trial
-/// writes its seven lines after all events.
+/// with. `frame` and `judge` answer the lines of `script`. `check`, `replay` and `node` read the bus file of `config`,
+/// and the events of `script`: `check` prints them in their canonical form, `replay` does them over disks that it
+/// formats, one a node, and `node` over disks on which each node goes on; both write the line of each event, and do no
+/// event behind a line that wasn't written whole. `trial` reads the bus file, does the events that its seed gives over
+/// formatted disks, and then writes seven numbers.
 ///
-/// The statuses: 0 done, 2 the words are of no form, 3 the bus file is refused, 4 the lines are, 5 a source failed, 6
-/// the sink failed, 7 there was no memory, 8 an input is too long, 9 the disks are too few or too small, 10 a node
-/// isn't started over its disk. They are looked for in the order 2, then 5, 8 and 3 of the bus file, then 5, 8 and 4 of
-/// the lines, then 9 and 10 of the disks; a sink that fails makes the status 6, whatever was to be printed.
+/// The statuses, of which no other comes: 0 done, 2 the words are of no form, 3 the bus file is refused, 4 the lines
+/// are, 5 a source failed, 6 the sink failed, 7 said to be want of memory (no clause says that it was), 8 an input is
+/// too long, 9 the disks are too few or too small, 10 a node isn't started over its disk.
+///
+/// Their order, as the clauses force it: at 2 nothing is read; at 3, and at 5 and 8 of the bus file, no line; at 4, and
+/// at 5 and 8 of the lines, the bus file, if one is read, is valid; at 9 and 10 all that is read is, and at 10 the
+/// disks are large enough. 5 and 8 of one source exclude each other. Where the sink's count of faults rises it is 6.
 ///
 /// Rows of `checks/`, and no clause, show that all is read before anything is printed, that a line is written as soon
 /// as its event is done, and that the word that names a disk isn't looked at.
@@ -44,19 +48,18 @@ pub fn run<S: Source, T: Source, K: Sink, D: CutDisk>(
     disks: &mut Vec<D>,
 ) -> u8
     // The table of answers: a member of the record for each promise. Both records stand in specs/Commands.antt, which
-    // tells beside its `use` what a name from below means. What went in are the words and the two sources before and
-    // after (`inputs_of`), and the disks with what was known of them (`disks_between`).
+    // tells above its `use` what most names from below mean. `inputs_of`: the words, and both sources before and after.
+    // `disks_between`: the disks themselves, and what was known of them, before and after.
     ensures promises { RunsCommand
         (inputs_of (map string_bytes words.now)
         (S.state config.old) (S.state config.new) (T.state script.old) (T.state script.new))
         (disks_between D.state disks.old disks.new)
         (record { before = K.state sink.old; after = K.state sink.new; status = result }) }
 
-    // The headline: over disks that tell their bytes what a replay did is one run of the machine from the first world
-    // of the bus, and so it is of a trial; of `node` it is one from a world in which the bus goes on where its disks
-    // stand, if a power cut can take none of these bytes away. `HeadlineRun` has what holds of that run: `is_a_run`,
-    // `rising`, `authentic`, `single`, `keys_kept`, `disks`, `failures`, `honest` and what goes with them.
-    ensures replayed { RunsMachine
+    // The headline: over disks that tell their bytes what was done of a replay is one run of the machine from the first
+    // world of the bus, and so it is of a trial; of `node` it is one from a world in which the bus goes on where its
+    // disks stand, if a power cut can take none of these bytes away. What holds of that run: `HeadlineRun`.
+    ensures headline { RunsMachine
         (inputs_of (map string_bytes words.now)
         (S.state config.old) (S.state config.new) (T.state script.old) (T.state script.new))
         (disks_between D.state disks.old disks.new)

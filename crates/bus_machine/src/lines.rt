@@ -59,7 +59,7 @@ pub enum Line {
 /// Why an event is refused.
 #[derive(Clone, Copy, Debug, PartialEq, Eq)]
 pub enum Refusal {
-    /// The node is down: a call of its disk failed since the last power-up.
+    /// The node is down: a call of its disk failed since the last power-up, or a power-up was refused.
     Down,
     /// The node has no route of this Data ID and direction.
     NoRoute,
@@ -71,7 +71,7 @@ pub enum Refusal {
     Exhausted,
     /// The disk failed.
     MemoryFailure,
-    /// After a cut, on a disk that doesn't tell its bytes: there is no store of the node's kind.
+    /// After a cut, on a disk that doesn't tell bytes that fit the node: there is no store of the node's kind.
     NotFormatted,
     /// After a cut, on such a disk: this place of the store is damaged.
     Damaged(u16),

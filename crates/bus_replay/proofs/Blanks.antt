@@ -4,7 +4,7 @@ use Rattle.std.proofs.Common.{refl, subst, arith}
 use Rattle.cut_disk.specs.declared.mem_disk.MemDisk.{MemDisk}
 use Rattle.cut_disk.specs.State.{DiskState}
 use Rattle.bus_nodes.specs.Buses.{IsNamedBus}
-use Rattle.bus_world.specs.Starts.{FindsRoom}
+use Rattle.bus_world.specs.Starts.{HasRoom, FindsRoom}
 use Rattle.bus_world.specs.StartRows.{LeavesEach, StoreCause}
 use Rattle.bus_world.specs.declared.start.Start.{Start}
 use Rattle.bus_world.specs.declared.start.Start.TheVariants.{Format, Attach}
@@ -39,7 +39,8 @@ never_9 i disks after P given (c, bus, events, set, (is, same, (fault, finds, to
     blank_has_room 8 65536 disks bus fault is.most (omega arith) (given.0 (c, set.asks)) is finds
 
 pub never_10 : (i : BusInputs) (disks : List MemDisk) (after : List DiskState) (P : StartFault → Type 0) → AreGiven i.words disks → ((name : List ℕ) → ¬ NamesDisk i.words name)
-    → OverWorld i (λ start bus events. LeavesEach start bus (disk_states disks) after × ((fault : StartFault) × StoreCause start bus (disk_states disks) after fault × P fault)) → ⊥
-never_10 i disks after P given none (c, bus, events, set, (left, (fault, cause, told))) =
+    → OverWorld i (λ start bus events. HasRoom bus (disk_states disks) × LeavesEach start bus (disk_states disks) after × ((fault : StartFault) × StoreCause start bus (disk_states disks) after fault × P fault))
+    → ⊥
+never_10 i disks after P given none (c, bus, events, set, (room, left, (fault, cause, told))) =
     blank_no_cause 8 65536 disks bus after fault (given.0 (c, set.asks))
     (subst (λ (s : Start). StoreCause s bus (disk_states disks) after fault) (formats i.words c set.asks none) cause)

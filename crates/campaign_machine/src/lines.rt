@@ -28,7 +28,7 @@ pub enum LedgerLine {
 /// Why a command is refused.
 #[derive(Clone, Copy, Debug, PartialEq, Eq)]
 pub enum LedgerRefusal {
-    /// A call of the disk failed since the last power-up.
+    /// A call of the disk failed since the last power-up, or a power-up was refused.
     Down,
     /// The key of the one slot may not authorise an update of the other.
     BadPair,
@@ -44,7 +44,7 @@ pub enum LedgerRefusal {
     NotConfirmed,
     /// The disk failed.
     MemoryFailure,
-    /// After a cut, on a disk that doesn't tell its bytes: there is no store of the ledger's kind.
+    /// After a cut, on a disk that doesn't tell bytes that fit the ledger: there is no store of the ledger's kind.
     NotFormatted,
     /// After a cut, on such a disk: this cell of the store is damaged.
     Damaged(u16),

@@ -30,7 +30,7 @@ use Rattle.bus_inputs.specs.BusFileLaws.{told_fault, told_too_much}
 use Rattle.chart_texts.specs.ChartTexts.{chart_text}
 use Rattle.chart_commands.specs.Inputs.{ChartInputs, AsksChart, chart_usage, NoChartConfig, NoChartScript, HasBadEvent, OverChart}
 use Rattle.chart_commands.specs.Rows.{ChartInputRow, no_form, no_config, config_refused, no_script, script_refused, DoneChart, ChartRow, without_disks, not_started, all_done, done_without_memory, EndsChart}
-use Rattle.chart_commands.specs.Promises.{DrawsChart, LeavesChartDisks, as_before, by_refused_start, by_chart, RunsChart}
+use Rattle.chart_commands.specs.Promises.{DrawsChart, LeavesChartDisks, as_before, by_unfinished_start, by_chart, RunsChart}
 use Rattle.chart_commands.proofs.Facts.{row_tells, row_asks, row_refuses, OfOffered, row_offered}
 
 Ok_not_Err : (r : Result (List Event) Fault) (events : List Event) (fault : Fault) → r ≡ Ok events → r ≡ Err fault → ⊥
@@ -234,7 +234,7 @@ module _ (same : Type 0) (i : ChartInputs) (d : DiskStates) (e : Ending) where
 
   row_leaves : (row : Row) → Comes row → LeavesChartDisks same i d
   row_leaves row (without_disks _ comes unused) = as_before unused
-  row_leaves row (not_started _ (bus, events, set, start) nine) = by_refused_start (bus, events, set, Comes-leaves Format bus d row start)
+  row_leaves row (not_started _ (bus, events, set, start) nine) = by_unfinished_start (bus, events, set, Comes-leaves Format bus d row start)
   row_leaves row (all_done _ (bus, events, set, (lines, done, text_is))) = by_chart (Some lines) (bus, events, set, done)
   row_leaves row (done_without_memory kept over) = by_chart kept over
 

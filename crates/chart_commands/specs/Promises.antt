@@ -30,11 +30,11 @@ pub record DrawsChart (bus : NamedBus) (events : List Event) (d : DiskStates) (e
   pub done : DoneChart bus events d (Some lines)
   pub drawn : PrintsWhole e (chart_text bus events lines)
 
--- what a chart leaves of the disks: all as before, or what a refused start leaves, or what a run of all events leaves,
--- or of none
+-- what a chart leaves of the disks: all as before, or what an unfinished start leaves, or what a run of all events
+-- leaves, or of none
 pub data LeavesChartDisks (same : Type 0) (i : ChartInputs) (d : DiskStates) : Type 0 where
   as_before : same → LeavesChartDisks same i d
-  by_refused_start : OverChart i (λ bus events. LeavesEach Format bus d.before d.after) → LeavesChartDisks same i d
+  by_unfinished_start : OverChart i (λ bus events. LeavesEach Format bus d.before d.after) → LeavesChartDisks same i d
   by_chart : (kept : Option (List Line)) → OverChart i (λ bus events. DoneChart bus events d kept)
       → LeavesChartDisks same i d
 

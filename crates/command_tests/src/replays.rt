@@ -1,7 +1,7 @@
 //! Whole replays over disks and ports in memory: what a program over disks of its own can't show. What it can is a row of checks/.
 use crate::comparing::{holds, same};
 use crate::lines::{BUS, clean, does, ending, sink_of};
-use cut_disk::{CutDisk, Disk, DiskFailed, MemDisk, TapeDisk};
+use cut_disk::{CutDisk, Disk, DiskFailed, MemDisk, TapeDisk, Torn};
 use file_disk::{ByteFile, FileDisk, FileFailed};
 use std::alloc::{AllocError, Global};
 use std::process::Abort;
@@ -249,6 +249,8 @@ impl ByteFile for WornFile {
 
     ghost calls = { λ _. None };
 
+    ghost told = { λ _. None };
+
     fn read_at(&mut self, at: u64, out: &mut [u8]) -> Result<(), FileFailed> {
         for (place, byte) in out.iter_mut().enumerate() {
             let address = (at as usize).saturating_add(place);
@@ -274,6 +276,10 @@ impl ByteFile for WornFile {
     fn sync_all(&mut self) -> Result<(), FileFailed> {
         Ok(())
     }
+
+    fn lose_write(&mut self, _at: u64, _bytes: &[u8]) {}
+
+    fn lose_power(&mut self, _torn: Torn) {}
 }
 
 /// Over disks that tell no bytes, and read otherwise than they were written: of the second node the first byte of the header, the mark of a copy

@@ -3,3 +3,5 @@
 
 #[cfg(test)]
 mod file_stores;
+#[cfg(test)]
+mod told_files;

@@ -9,7 +9,7 @@
 //! - **its arms**: which of the calls to come are to fail, because [`CutDisk::stop_at`] or [`CutDisk::fail_at`] said so.
 //! - **its count of faults**, which rises at each read, write and sync that fails, and at no other call.
 //! - whether it is **quiet**: no call of it fails until one is armed. A disk that isn't quiet may fail at any call.
-//! - **its past**, if it tells that: one entry for each call so far, with the bytes and the loose marks that the call left,
+//! - **its past**, if it tells that: its first state, and one entry for each call so far, with the bytes and the loose marks that the call left,
 //!   and the mark of the call where it was a cut, a stop or a failure that was armed.
 //!
 //! # What a power cut may leave

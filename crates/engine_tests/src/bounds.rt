@@ -1,9 +1,9 @@
 // The cell of a bound as it is written down in the formats, and bounds over either store in memory.
-ghost use Rattle.std.specs.Prelude.{◌≡◌, ◌<◌, length, false, IfOk, OnOk};
+ghost use Rattle.std.specs.Prelude.{◌≡◌, length, false, IfOk, OnOk};
 
+use crate::bench::{STORES, log_store, twin_store};
 use crate::comparing::{holds, same};
-use cell_store::{Cells, LogCells, TwinCells, Version};
-use cut_disk::MemDisk;
+use cell_store::{Cells, Kind, Version};
 use freshness_store::{bound_in, *};
 use std::alloc::Global;
 use std::process::Abort;
@@ -19,70 +19,68 @@ const RECEIVES: [u8; 32] = [
     0, 0, 0, 0, 0, 0, 0, 0, 0, 0, 0, 0,
 ];
 
+/// A Data ID, a direction and a bound, and their cell.
+const BOUNDS: &[(u16, Direction, u64, [u8; 32])] = &[
+    (0x6bc1, Direction::Sends, 0xe93d7e117393172d, SENDS),
+    (u16::MAX, Direction::Receives, u64::MAX, RECEIVES),
+];
+
 #[test]
 fn a_bound_has_the_cell_of_the_formats(rt: HostRuntime) {
-    for (id, direction, bound, cell) in [
-        (0x6bc1, Direction::Sends, 0xe93d7e117393172d, SENDS),
-        (u16::MAX, Direction::Receives, u64::MAX, RECEIVES),
-    ] {
-        holds(
-            &rt,
-            "bound_bytes",
-            bound_bytes(id, direction, bound) == cell,
-        );
-        same(
-            &rt,
-            "bound_in",
-            &bound_in(&cell, id, direction),
-            &Some(bound),
-        );
+    for (id, direction, bound, cell) in BOUNDS {
+        let bytes = bound_bytes(*id, *direction, *bound);
+        holds(&rt, "bound_bytes", bytes == *cell);
     }
-    same(
-        &rt,
-        "bound_in",
-        &bound_in(&SENDS, 0x6bc1, Direction::Receives),
-        &None,
-    );
-    same(
-        &rt,
-        "bound_in",
-        &bound_in(&SENDS, 0x6bc0, Direction::Sends),
-        &None,
-    );
 }
+
+/// A cell, whose it is asked to be, and the bound that it then has.
+const CELLS: &[([u8; 32], u16, Direction, Option<u64>)] = &[
+    (SENDS, 0x6bc1, Direction::Sends, Some(0xe93d7e117393172d)),
+    (RECEIVES, u16::MAX, Direction::Receives, Some(u64::MAX)),
+    (SENDS, 0x6bc1, Direction::Receives, None),
+    (SENDS, 0x6bc0, Direction::Sends, None),
+];
+
+#[test]
+fn a_cell_is_one_bound_s(rt: HostRuntime) {
+    for (cell, id, direction, bound) in CELLS {
+        same(&rt, "bound_in", &bound_in(cell, *id, *direction), bound);
+    }
+}
+
+/// A byte that the cell of no bound has at this place.
+const OTHERS: &[(usize, u8)] = &[(0, 0), (0, 1), (0, 3), (1, 0), (1, 3), (12, 1), (31, 0x80)];
 
 #[test]
 fn every_other_content_is_no_bound(rt: HostRuntime) {
-    for (place, byte) in [(0, 0), (0, 1), (0, 3), (1, 0), (1, 3), (12, 1), (31, 0x80)] {
+    for (place, byte) in OTHERS {
         let mut cell = SENDS;
-        if let Some(at) = cell.get_mut(place) {
-            *at = byte;
+        if let Some(at) = cell.get_mut(*place) {
+            *at = *byte;
         }
-        same(
-            &rt,
-            "bound_in",
-            &bound_in(&cell, 0x6bc1, Direction::Sends),
-            &None,
-        );
+        let found = bound_in(&cell, 0x6bc1, Direction::Sends);
+        same(&rt, "bound_in", &found, &None);
     }
 }
 
-// Puts a bound that is looked for afterwards.
-fn put_in<C: Cells>(
-    cells: &mut C,
-    place: u16,
-    id: u16,
-    direction: Direction,
-    bound: u64,
-) -> Result<(), Fail>
-    requires place { place < length (C.state cells.old).cells }
-    requires whole { (C.state cells.old).broken ≡ false }
-    ensures count { OnOk result (length (C.state cells.new).cells ≡ length (C.state cells.old).cells) }
-    ensures whole { OnOk result ((C.state cells.new).broken ≡ false) }
-{
-    match put_bound(cells, place, id, direction, bound) {
-        Ok(()) => Ok(()),
-        Err(_) => Err(Fail::from("a put failed")),
+/// A place, whose bound is read there, and what is answered.
+type Read = (u16, u16, Direction, Result<u64, BadBound>);
+
+/// Before the bounds are put, and after.
+const EMPTY: &[Read] = &[(1, 7, Direction::Sends, Err(BadBound(1)))];
+
+const PUT: &[Read] = &[
+    (0, 7, Direction::Sends, Ok(100)),
+    (1, 8, Direction::Receives, Ok(u64::MAX)),
+    (1, 8, Direction::Sends, Err(BadBound(1))),
+    (0, 8, Direction::Sends, Err(BadBound(0))),
+];
+
+fn reads<C: Cells>(rt: &impl Abort, cells: &C, rows: &[Read]) {
+    for (place, id, direction, answer) in rows {
+        holds(rt, "a place", *place < cells.count());
+        let read = read_bound(cells, *place, *id, *direction);
+        same(rt, "read_bound", &read, answer);
     }
 }
 
@@ -90,78 +88,30 @@ fn keeps_two<C: Cells>(rt: &impl Abort, cells: &mut C) -> Result<(), Fail>
     requires count { length (C.state cells.old).cells ≡ 2 }
     requires whole { (C.state cells.old).broken ≡ false }
 {
-    same(
-        rt,
-        "read_bound",
-        &read_bound(cells, 1, 7, Direction::Sends),
-        &Err(BadBound(1)),
-    );
-    put_in(cells, 0, 7, Direction::Sends, 100)?;
-    put_in(cells, 1, 8, Direction::Receives, u64::MAX)?;
-    same(
-        rt,
-        "read_bound",
-        &read_bound(cells, 0, 7, Direction::Sends),
-        &Ok(100),
-    );
-    same(
-        rt,
-        "read_bound",
-        &read_bound(cells, 1, 8, Direction::Receives),
-        &Ok(u64::MAX),
-    );
-    same(
-        rt,
-        "read_bound",
-        &read_bound(cells, 1, 8, Direction::Sends),
-        &Err(BadBound(1)),
-    );
-    same(
-        rt,
-        "read_bound",
-        &read_bound(cells, 0, 8, Direction::Sends),
-        &Err(BadBound(0)),
-    );
+    reads(rt, cells, EMPTY);
+    put_bound(cells, 0, 7, Direction::Sends, 100)?;
+    put_bound(cells, 1, 8, Direction::Receives, u64::MAX)?;
+    reads(rt, cells, PUT);
     Ok(())
 }
 
-fn twin_store(alloc: Global, version: Version) -> Result<TwinCells<MemDisk>, Fail>
-    ensures count { IfOk result (λ s. length s.cells ≡ 2) }
-    ensures whole { IfOk result (λ s. s.broken ≡ false) }
-{
-    let disk = MemDisk::new(alloc, 32_936)?;
-    let disk = match TwinCells::format_as(disk, version, &[[0; 32]; 2]) {
-        Ok(disk) => disk,
-        Err(refused) => return Err(Fail::from(refused.fault)),
-    };
-    match TwinCells::attach_as(alloc, disk, version, 2) {
-        Ok(store) => Ok(store),
-        Err(refused) => Err(Fail::from(refused.fault)),
-    }
-}
-
-fn log_store(alloc: Global, version: Version) -> Result<LogCells<MemDisk>, Fail>
-    ensures count { IfOk result (λ s. length s.cells ≡ 2) }
-    ensures whole { IfOk result (λ s. s.broken ≡ false) }
-{
-    let disk = MemDisk::new(alloc, 37_412)?;
-    let disk = match LogCells::format_as(disk, version, &[[0; 32]; 2]) {
-        Ok(disk) => disk,
-        Err(refused) => return Err(Fail::from(refused.fault)),
-    };
-    match LogCells::attach_as(alloc, disk, version, 2) {
-        Ok(store) => Ok(store),
-        Err(refused) => Err(Fail::from(refused.fault)),
+fn keeps_two_in(rt: &impl Abort, alloc: Global, kind: Kind, version: Version) -> Result<(), Fail> {
+    match kind {
+        Kind::Twin => {
+            let mut store = twin_store(alloc, 32_936, version, &[[0; 32]; 2])?;
+            keeps_two(rt, &mut store)
+        }
+        Kind::Log => {
+            let mut store = log_store(alloc, 37_412, version, &[[0; 32]; 2])?;
+            keeps_two(rt, &mut store)
+        }
     }
 }
 
 #[test]
 fn bounds_are_put_and_read(rt: HostRuntime) -> Result<(), Fail> {
-    for version in [Version::One, Version::Two] {
-        let mut twin = twin_store(rt.alloc(), version)?;
-        keeps_two(&rt, &mut twin)?;
-        let mut log = log_store(rt.alloc(), version)?;
-        keeps_two(&rt, &mut log)?;
+    for (kind, version) in STORES {
+        keeps_two_in(&rt, rt.alloc(), kind, version)?;
     }
     Ok(())
 }

@@ -2,29 +2,30 @@
 use Rattle.std.specs.Prelude.{◌≡◌, ℕ, Bool, true, false, if◌then◌else◌, List, Option, None}
 use Rattle.fault_count.specs.FaultCount.{counted}
 use Rattle.cut_disk.specs.declared.arming.Arms.{Arms}
-use Rattle.cut_disk.specs.State.{DiskState}
+use Rattle.cut_disk.specs.State.{Told, DiskState}
 use Rattle.cut_disk.specs.Arming.{no_arms, fails, after_call, after_cut}
 use Rattle.cut_disk.specs.Memory.{faults_after}
 use Rattle.file_disk.specs.declared.byte_file.ByteFile.{Ghosts}
 use Rattle.file_disk.specs.declared.file_disk.FileDisk.{FileDisk}
 use Rattle.file_disk.specs.FileCalls.{FileCall, SyncAll, Notes}
 
--- the size, which calls are to fail, how many have failed, whether there is a file, and its calls, if it tells them
+-- the size, which calls are to fail, how many have failed, whether there is a file, its calls and its bytes, if it tells them
 pub record FileContents : Type 0 where
   pub size : ℕ
   pub arms : Arms
   pub faults : ℕ
   pub is_open : Bool
   pub calls : Option (List FileCall)
+  pub told : Option Told
 
--- what the disk means: it tells no bytes and no past, and is never quiet
+-- what the disk means: it tells what its file tells, and no past, and is never quiet
 abbrev pub file_disk_of : FileContents → DiskState
-file_disk_of c = record { size = c.size; told = None; arms = c.arms; faults = c.faults; quiet = false; past = None }
+file_disk_of c = record { size = c.size; told = c.told; arms = c.arms; faults = c.faults; quiet = false; past = None }
 
 -- nothing is armed, and nothing has failed
-abbrev pub fresh_file_disk : ℕ → Bool → Option (List FileCall) → FileContents
-fresh_file_disk size is_open calls =
-    record { size = size; arms = no_arms; faults = 0; is_open = is_open; calls = calls }
+abbrev pub fresh_file_disk : ℕ → Bool → Option (List FileCall) → Option Told → FileContents
+fresh_file_disk size is_open calls told =
+    record { size = size; arms = no_arms; faults = 0; is_open = is_open; calls = calls; told = told }
 
 -- one call was counted, and its failure where it was armed to fail
 abbrev pub counted_call : FileContents → FileContents
@@ -61,4 +62,5 @@ file_contents {F} {g} disk =
       faults = disk.faults;
       is_open = g.is_open disk.file;
       calls = g.calls disk.file;
+      told = g.told disk.file;
     }

@@ -3,14 +3,16 @@ use Rattle.std.proofs.Common.{◌≡◌, ◌^◌, ◌<◌, ◌≤◌, Some, None
 use Rattle.std.proofs.lemmas.Bool.{false≢true}
 use Rattle.fault_count.specs.FaultCount.{last_count}
 use Rattle.cut_disk.specs.Calls.{IsDisk}
+use Rattle.file_disk.specs.FileBytes.{TellsSize}
 use Rattle.file_disk.specs.FileDisk.{FileContents, file_disk_of}
 
-pub file_is_a_disk : (c : FileContents) → c.size < 2 ^ 64 → c.faults ≤ last_count → IsDisk (file_disk_of c)
-file_is_a_disk c sized counted = record {
+pub file_is_a_disk : (c : FileContents) → c.size < 2 ^ 64 → c.faults ≤ last_count → TellsSize c.size c.told
+    → IsDisk (file_disk_of c)
+file_is_a_disk c sized counted tells = record {
   sized = sized;
   counted = counted;
   quiet = λ q. absurd (false≢true q);
-  bytes_sized = λ t is. absurd (cc);
-  loose_sized = λ t is. absurd (cc);
+  bytes_sized = λ t is. (tells t is).bytes;
+  loose_sized = λ t is. (tells t is).loose;
   now = λ all is. absurd (cc);
 }

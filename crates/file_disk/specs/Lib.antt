@@ -1,3 +1,4 @@
+pub mod FileBytes
 pub mod FileCalls
 pub mod FileDisk
 pub mod FileLaws

@@ -1,9 +1,11 @@
 //! The disk over a file.
-ghost use Rattle.std.specs.Prelude.{◌≡◌, ◌+◌, ◌^◌, ◌<◌, ◌≤◌, length, Some, None, false, not, is_ok, if◌then◌else◌};
+ghost use Rattle.std.specs.Prelude.{◌≡◌, ◌+◌, ◌^◌, ◌<◌, ◌≤◌, length, Some, None, false, not, is_ok, if◌then◌else◌, OnOk, OnErr};
 ghost use Rattle.fault_count.specs.FaultCount.{last_count, counted};
 ghost use Rattle.cut_disk.specs.State.{Cut, Stop, Fail};
 ghost use Rattle.cut_disk.specs.Arming.{fails, after_cut, with_stop, with_fail};
+ghost use Rattle.cut_disk.specs.Images.{ReadsAs, WritesLoose, Tears, Syncs, CutsTo};
 ghost use Rattle.cut_disk.specs.Calls.{Call};
+ghost use Rattle.file_disk.specs.FileBytes.{TellsSize};
 ghost use Rattle.file_disk.specs.FileCalls.{ReadAt, WriteAt, SyncAll};
 
 use crate::byte_file::{ByteFile, FileFailed};
@@ -11,8 +13,9 @@ use crate::system_file::SystemFile;
 use cut_disk::{Arms, CutDisk, Disk, DiskFailed, Torn, count_call};
 use fault_count::count_fault;
 
-/// A disk over one file. It tells no bytes and no past, and is never quiet: any call of the file may fail. A power cut takes
-/// nothing from the file and syncs it, so that what is read behind it is what a cut of the system's own power leaves.
+/// A disk over one file. It tells the bytes that its file tells, if that tells any, and no past, and is never quiet: any call
+/// of the file may fail. A power cut syncs the file, so that what is read behind it is what a cut of the system's own power
+/// leaves; from a file of the system it takes nothing.
 #[derive(Drop)]
 pub struct FileDisk<F: ByteFile = SystemFile> {
     file: F,
@@ -22,6 +25,7 @@ pub struct FileDisk<F: ByteFile = SystemFile> {
     faults: u64,
     ghost sized: { size < 2 ^ 64 },
     ghost all_counted: { faults ≤ last_count },
+    ghost as_told: { TellsSize size (F.told file) },
 }
 
 impl FileDisk<SystemFile> {
@@ -32,7 +36,7 @@ impl FileDisk<SystemFile> {
     /// syncs fails.
     pub fn on(rt: &HostRuntime, path: &str) -> FileDisk<SystemFile>
         ensures fresh { file_contents result
-            ≡ fresh_file_disk (file_contents result).size (file_contents result).is_open None }
+            ≡ fresh_file_disk (file_contents result).size (file_contents result).is_open None None }
         ensures missing { (file_contents result).is_open ≡ false → (file_contents result).size ≡ 65536 }
     {
         let file = SystemFile::on(rt, path);
@@ -44,9 +48,10 @@ impl FileDisk<SystemFile> {
 impl<F: ByteFile> FileDisk<F> {
     ghost use Rattle.file_disk.specs.FileDisk.{file_contents, fresh_file_disk, counted_call};
 
-    /// A disk over the first so many bytes of this file.
+    /// A disk over the first so many bytes of this file, which are all that it tells, if it tells any.
     pub fn over(file: F, size: u64) -> FileDisk<F>
-        ensures { file_contents result ≡ fresh_file_disk size (F.is_open file) (F.calls file) }
+        requires { TellsSize size (F.told file) }
+        ensures { file_contents result ≡ fresh_file_disk size (F.is_open file) (F.calls file) (F.told file) }
     {
         FileDisk {
             file,
@@ -92,6 +97,8 @@ impl<F: ByteFile> Disk for FileDisk<F> {
         ensures call { Call None (file_disk_of (file_contents self.old)) (file_disk_of (file_contents self.new)) }
         ensures passes { Passes (ReadAt at out.new (is_ok result)) (is_ok result) (file_contents self.old)
             (file_contents self.new) }
+        ensures same { (file_contents self.new).told ≡ (file_contents self.old).told }
+        ensures bytes { OnOk result (ReadsAs (file_contents self.old).told at out.new) }
     {
         self.count()?;
         let outcome = self.file.read_at(at, out);
@@ -103,8 +110,15 @@ impl<F: ByteFile> Disk for FileDisk<F> {
         ensures call { Call None (file_disk_of (file_contents self.old)) (file_disk_of (file_contents self.new)) }
         ensures passes { Passes (WriteAt at bytes.now (is_ok result)) (is_ok result) (file_contents self.old)
             (file_contents self.new) }
+        ensures written { OnOk result
+            (WritesLoose at bytes.now (file_contents self.old).told (file_contents self.new).told) }
+        ensures torn { OnErr result
+            (Tears at (length bytes.now) (file_contents self.old).told (file_contents self.new).told) }
     {
-        self.count()?;
+        if let Err(failed) = self.count() {
+            self.file.lose_write(at, bytes);
+            return Err(failed);
+        }
         let outcome = self.file.write_at(at, bytes);
         count_outcome(&mut self.faults, outcome)
     }
@@ -113,25 +127,29 @@ impl<F: ByteFile> Disk for FileDisk<F> {
         ensures call { Call None (file_disk_of (file_contents self.old)) (file_disk_of (file_contents self.new)) }
         ensures passes { Passes (SyncAll (is_ok result)) (is_ok result) (file_contents self.old)
             (file_contents self.new) }
+        ensures synced { OnOk result (Syncs (file_contents self.old).told (file_contents self.new).told) }
+        ensures same { OnErr result ((file_contents self.new).told ≡ (file_contents self.old).told) }
     {
         self.count()?;
         let outcome = self.file.sync_all();
         count_outcome(&mut self.faults, outcome)
     }
 
-    ghost is_disk = { λ disk. file_is_a_disk (file_contents disk) disk.sized disk.all_counted };
+    ghost is_disk = { λ disk. file_is_a_disk (file_contents disk) disk.sized disk.all_counted disk.as_told };
 }
 
 impl<F: ByteFile> CutDisk for FileDisk<F> {
     ghost use Rattle.file_disk.specs.FileDisk.{file_contents, file_disk_of, LosesPower};
 
-    fn power_cut(&mut self, _torn: Torn)
-        ensures call { Call (Some (Cut _torn)) (file_disk_of (file_contents self.old))
+    fn power_cut(&mut self, torn: Torn)
+        ensures call { Call (Some (Cut torn)) (file_disk_of (file_contents self.old))
             (file_disk_of (file_contents self.new)) }
         ensures contents { LosesPower (file_contents self.old) (file_contents self.new) }
+        ensures left { CutsTo (file_contents self.old).told (file_contents self.new).told }
     {
         self.arms.cut();
         let _ = self.file.sync_all();
+        self.file.lose_power(torn);
     }
 
     fn stop_at(&mut self, calls: u64)

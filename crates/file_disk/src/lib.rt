@@ -2,9 +2,12 @@
 //!
 //! [`FileDisk`] is a [`Disk`](cut_disk::Disk) that passes each call on to a [`ByteFile`]. What is proved is what it passes on: which
 //! call of the file, over which range and with which bytes; that it answers Ok exactly where that call did, and failed
-//! and raised its count where it didn't; and that a call that is armed to fail doesn't touch the file.
+//! and raised its count where it didn't; and that a call that is armed to fail makes no call of the file's that counts.
 //!
-//! [`SystemFile`] is a file of the system, and the trusted edge: no clause says what such a file holds, or when
+//! A [`ByteFile`] may tell its bytes, and which of them a power cut may change. One that does keeps the model of disks, and the disk
+//! over it tells just these: so all that is promised over disks that tell their bytes is promised of a disk over such a file.
+//!
+//! [`SystemFile`] is a file of the system, and the trusted edge: it tells nothing, and no clause says what such a file holds, or when
 //! its calls fail. A read is `pread`, a write `fstat` and `pwrite`, a sync `fstat` and `fsync`, each again until the whole range is done or
 //! a call fails; opening is `stat`, `open` and `flock`, `ftruncate` where the file is made, and `fsync` of the file and of its folder.
 //! That each call fails after a write or a sync of the file failed is proved.
@@ -12,6 +15,7 @@
 
 mod byte_file;
 mod file_disk;
+pub mod laws;
 mod system_file;
 
 pub use byte_file::{ByteFile, FileFailed};

@@ -4,6 +4,7 @@ ghost use Rattle.file_disk.specs.FileCalls.{ReadAt, WriteAt, SyncAll, Notes};
 ghost use Rattle.file_disk.specs.SystemFile.{is_there, length_of, has_failed};
 
 use crate::byte_file::{ByteFile, FileFailed};
+use cut_disk::Torn;
 use std::fs::{File, OpenOptions};
 use std::io::ErrorKind;
 use std::os::unix::fs::{FileExt, OpenOptionsExt};
@@ -13,7 +14,8 @@ use std::{fs, io};
 /// The bytes of a file that is made, and of a disk over one that can't be opened.
 pub const FIRST_SIZE: u64 = 65536;
 
-/// A file of the system, or none, where it could be neither opened nor made. It tells no calls. Each call of no file fails.
+/// A file of the system, or none, where it could be neither opened nor made. It tells no calls and no bytes. Each call of no
+/// file fails.
 ///
 /// It is open in one place at a time, and stands durably on its device before it is read. Once a write or a
 /// sync of it has failed each further call fails: the system may have dropped what it couldn't write, and
@@ -101,6 +103,8 @@ impl ByteFile for SystemFile {
 
     ghost calls = { λ _. None };
 
+    ghost told = { λ _. None };
+
     fn read_at(&mut self, at: u64, out: &mut [u8]) -> Result<(), FileFailed>
         ensures open { is_there self.new ≡ is_there self.old }
         ensures closed { is_there self.old ≡ false → IsErr result }
@@ -134,6 +138,15 @@ impl ByteFile for SystemFile {
         self.failed = outcome.is_err();
         outcome
     }
+
+    fn lose_write(&mut self, _at: u64, _bytes: &[u8])
+        ensures as_before { self.new ≡ self.old }
+    {}
+
+    // The sync before it has made all that was written reach the device, or each further call fails.
+    fn lose_power(&mut self, _torn: Torn)
+        ensures as_before { self.new ≡ self.old }
+    {}
 }
 
 /// Opens the file, or makes it, and syncs it and its folder: what a program that was killed has left is then what

@@ -1,5 +1,5 @@
-//! Bounds of freshness in the cells of a store. A sender's bound is at least each freshness that it
-//! used, a receiver's at least each that it accepted, so a counter that begins again at its bound
+//! Bounds of freshness in the cells of a store. A sender's bound is to be at least each freshness that
+//! it used, a receiver's at least each that it accepted: then a counter that begins again at its bound
 //! never falls back.
 //!
 //! A bound's cell has 32 bytes: the byte 2, a byte for the direction (1 sends, 2 receives), the Data

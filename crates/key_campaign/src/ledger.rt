@@ -4,7 +4,7 @@ ghost use Rattle.cut_disk.specs.State.{Told, Cut, Stop, Fail};
 ghost use Rattle.cut_disk.specs.Arming.{with_stop, with_fail};
 ghost use Rattle.cut_disk.specs.Calls.{Rose, Runs, Grows};
 ghost use Rattle.cut_disk.specs.Images.{CutsTo};
-ghost use Rattle.cell_store.specs.Reading.{NoStop};
+ghost use Rattle.cell_store.specs.Reading.{NoStop, CutStays};
 ghost use Rattle.cell_store.specs.Cells.{Settled, StandsNow};
 ghost use Rattle.key_slots.specs.Authority.{is_pair};
 ghost use Rattle.campaign_machine.specs.declared.entries.PendingEntry.{PendingEntry};
@@ -276,6 +276,7 @@ impl<C: CutCells> Ledger<C> {
         ensures cause { IfErr result (LedgerCutCause self.old.store self.new.store) }
         ensures only { TellsLedger self.old → IfErr result (λ fault. fault ≡ LedgerCut.Store Reread.DiskFailed) }
         ensures image { CutsTo self.old.store.disk.told self.new.store.disk.told }
+        ensures stays { CutStays torn self.old.store.disk self.new.store.disk }
         ensures stops { NoStop self.new.store.disk }
         ensures faults { OnOk result (self.new.store.disk.faults ≡ self.old.store.disk.faults) }
         ensures layout { self.new.store.layout ≡ self.old.store.layout }

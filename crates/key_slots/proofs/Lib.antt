@@ -1,2 +1,1 @@
 mod PairRule
-pub mod Places

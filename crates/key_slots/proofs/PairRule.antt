@@ -1,8 +1,8 @@
 -- The pairs are those of their rule
-use Rattle.std.proofs.Common.{◌≡◌, ℕ, ◌-◌, ◌<◌, ◌≤◌, get_or, Bool, true, not, ◌&&◌, ◌||◌, ◌==◌, nat_le, Contains, refl, sym, ap, ◌∙◌, arith, subst, inl, inr}
+use Rattle.std.proofs.Common.{◌≡◌, ℕ, ◌-◌, ◌<◌, ◌≤◌, get_or, Bool, true, not, ◌&&◌, ◌||◌, ◌==◌, nat_le, Contains, ◌↔◌, IsTrue, refl, sym, ap, ◌∙◌, arith, subst, inl, inr}
 use Rattle.std.specs.List.{range_with_len}
 use Rattle.std.proofs.lemmas.Bool.{and_parts, or_cases, eqb-true}
-use Rattle.std.proofs.lemmas.Bool.Decides.{nat_tests}
+use Rattle.std.proofs.lemmas.Bool.Decides.{nat_tests, Decides-eqb}
 use Rattle.std.proofs.lemmas.List.FromFn.{get_or-range_with_len}
 use Rattle.key_slots.specs.Authority.{pairs, Authorises, is_pair}
 use Rattle.key_slots.specs.AuthorityLaws.{is_pair_listed, passes_at}
@@ -48,3 +48,39 @@ pair_of_rule target auth r =
         | inr pair ↦ subst With (sym own.1) (is_pair_listed target target pair)
       ]
     ]
+
+-- an answer that is true just where the rule allows it is right of the pairs
+decides : (answer : Bool) (target auth : ℕ) → (answer ≡ true → Authorises target auth)
+    → (Authorises target auth → answer ≡ true) → IsTrue answer ↔ Contains pairs (target, auth)
+decides answer target auth to from = (λ h. pair_of_rule target auth (to h), λ p. from (rule_of_pair target auth p))
+
+-- the same of equal numbers
+pub of_same : (answer : Bool) (x y target auth : ℕ) → x ≡ target → y ≡ auth → IsTrue answer ↔ Contains pairs (x, y)
+    → IsTrue answer ↔ Contains pairs (target, auth)
+of_same answer x y target auth e f h =
+    let First : ℕ → Type 0 = λ n. IsTrue answer ↔ Contains pairs (n, y) in
+    let Second : ℕ → Type 0 = λ n. IsTrue answer ↔ Contains pairs (target, n) in
+    subst Second f (subst First e h)
+
+module _ (target auth : ℕ) (updated : target ≡ 0 → ⊥) (slot : target < 14) where
+  pub by_master : auth ≡ 1 → IsTrue true ↔ Contains pairs (target, auth)
+  by_master master = decides true target auth (λ _. (omega arith, omega arith, inl master)) (λ _. refl)
+
+  module _ (other : auth ≡ 1 → ⊥) where
+    pub by_second : target ≡ 3 → IsTrue (auth == 2) ↔ Contains pairs (target, auth)
+    by_second three = decides (auth == 2) target auth
+        (λ h. (omega arith, omega arith, inr (inl (three, eqb-true auth 2 h))))
+        (λ r. elim r.2 [
+          | inl master ↦ absurd (other master)
+          | inr (inl second) ↦ (Decides-eqb auth 2).1 second.1
+          | inr (inr own) ↦ absurd (own.0 three)
+        ])
+
+    pub by_own : (target ≡ 3 → ⊥) → IsTrue (auth == target) ↔ Contains pairs (target, auth)
+    by_own not_three = decides (auth == target) target auth
+        (λ h. (omega arith, omega arith, inr (inr (not_three, eqb-true auth target h))))
+        (λ r. elim r.2 [
+          | inl master ↦ absurd (other master)
+          | inr (inl second) ↦ absurd (not_three second.0)
+          | inr (inr own) ↦ (Decides-eqb auth target).1 own.1
+        ])

@@ -13,6 +13,6 @@ pub use laws::{
     failures_are_within_the_rise_of_the_count, front_of_a_run_is_a_run, no_moment_is_a_run,
     past_of_a_run_is_traced, run_and_a_further_moment_is_a_run, run_is_a_run_of_each_member,
     run_is_a_run_of_the_machine_that_it_is_seen_as, run_is_quiet_until_something_is_armed,
-    what_each_step_keeps_holds_at_the_end,
+    run_of_made_steps_is_a_run_of_their_parts, what_each_step_keeps_holds_at_the_end,
 };
 pub use steps::{Claim, Composite, Faults, Members, Past, Steps, View};

@@ -36,7 +36,7 @@ impl<'a> DiskOpener for DiskPaths<'a> {
 
     type Opened = FileDisk<SystemFile>;
 
-    // No call of it was made yet, and what the file holds isn't known.
+    // Nothing is armed on it, no call of it has failed yet, and what the file holds isn't known.
     ghost opens = { λ _ _ disk. IsFreshFileDisk disk };
 
     fn open(&self, word: &str) -> FileDisk<SystemFile> {

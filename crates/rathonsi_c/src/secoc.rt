@@ -18,7 +18,8 @@ pub struct RathonsiVerdict {
     pub status: i32,
     /// The length in bytes of the payload, which stands at the front of the PDU; 0 where the PDU isn't accepted.
     pub payload_length: u32,
-    /// The full freshness, which is the receiver's next counter; 0 where the PDU isn't accepted.
+    /// The full freshness, which is the receiver's next counter; 0 where the PDU isn't accepted, but for the status RESERVE
+    /// of `rathonsi_route_receive`, with which it is the freshness to reserve.
     pub freshness: u64,
 }
 

@@ -8,7 +8,7 @@ use Rattle.she_aes.specs.Substitution.{pair}
 use Rattle.she_aes.specs.Pairs.{pair_of, in_pairs, without_constant}
 use Rattle.she_aes.specs.declared.substitution.TheConstants.{BYTE_OF_LOWER, BYTE_OF_UPPER}
 use Rattle.she_aes.specs.declared.by_tables.TheConstants.{BYTES}
-use Rattle.she_aes.proofs.SBoxFacts.{same_at_bytes}
+use Rattle.she_aes.proofs.SBoxTable.{same_at_bytes}
 use Rattle.she_aes.proofs.MixingLanes.{four_more}
 use Rattle.she_aes.proofs.Pairing.{byte_rule}
 use Rattle.she_aes.proofs.PairLanes.{over_bytes, IsBlock-without_constant, constant_again}

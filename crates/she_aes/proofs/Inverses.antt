@@ -6,9 +6,10 @@ use Rattle.std.specs.Int.Bits.{bit_xor, xor_self}
 use Rattle.std.specs.List.{range_with_len}
 use Rattle.std.proofs.lemmas.Bool.{agree_below, agree_below_at, eqb-true, lt-ltb}
 use Rattle.std.proofs.lemmas.Nat.Bits.{bit_at-lt}
-use Rattle.she_aes.specs.Field.{product, cancelled, remainder, sum_below, mul, inv}
+use Rattle.she_aes.specs.Field.{product, cancelled, remainder, sum_below, mul, inv, inv_affine}
 use Rattle.she_aes.specs.FieldFacts.{mul-xor, inv-lt}
-use Rattle.she_aes.proofs.SBoxFacts.{same_at_bytes}
+use Rattle.she_aes.proofs.SBoxTable.{same_at_bytes}
+use Rattle.she_aes.proofs.SBoxFacts.{inv_of, inv_of_is}
 use Rattle.she_aes.proofs.Tables.{none_rule}
 
 -- a byte by its bits
@@ -29,14 +30,15 @@ times_one = same_at_bytes (λ b. mul b 1) (λ b. b) one_ok
 abbrev powers_kept : ℕ → ℕ → Bool
 powers_kept b a = agree_below (λ i. mul b (mul a (2 ^ i)) == 2 ^ i) (λ _. true) 8
 
-powers_ok : agree_below (λ a. nat_lt 0 a) (λ a. powers_kept (inv a) a) 256 ≡ true
-unfolding product cancelled remainder mul inv
+powers_ok : agree_below (λ a. nat_lt 0 a) (λ a. powers_kept (inv_of a) a) 256 ≡ true
+unfolding product cancelled remainder mul inv_affine
 powers_ok = refl
 
 power_kept : (a : ℕ) → 0 < a → a < 256 → (i : ℕ) → i < 8 → mul (inv a) (mul a (2 ^ i)) ≡ 2 ^ i
 power_kept a some fits i within =
-    let kept = sym (agree_below_at (λ a. nat_lt 0 a) (λ a. powers_kept (inv a) a) 256 a powers_ok fits) ∙ lt-ltb 0 a some in
-    eqb-true (mul (inv a) (mul a (2 ^ i))) (2 ^ i) (agree_below_at (λ i. mul (inv a) (mul a (2 ^ i)) == 2 ^ i) (λ _. true) 8 i kept within)
+    let kept = sym (agree_below_at (λ a. nat_lt 0 a) (λ a. powers_kept (inv_of a) a) 256 a powers_ok fits) ∙ lt-ltb 0 a some in
+    ap (λ x. mul x (mul a (2 ^ i))) (sym (inv_of_is a fits))
+    ∙ eqb-true (mul (inv_of a) (mul a (2 ^ i))) (2 ^ i) (agree_below_at (λ i. mul (inv_of a) (mul a (2 ^ i)) == 2 ^ i) (λ _. true) 8 i kept within)
 
 module _ (a : ℕ) (some : 0 < a) (fits : a < 256) where
   both : ℕ → ℕ

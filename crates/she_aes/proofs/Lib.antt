@@ -1,3 +1,4 @@
+mod SBoxTable
 pub mod SBoxFacts
 pub mod Mixing
 pub mod Undoing

@@ -6,7 +6,7 @@ use Rattle.std.specs.Simd.Lanes.{zip2, sel_l, top, pick_l, Each1}
 use Rattle.std.proofs.lemmas.Bool.{agree_below}
 use Rattle.she_aes.specs.Field.{product, cancelled, remainder, mul}
 use Rattle.she_aes.specs.FieldFacts.{mul-xor}
-use Rattle.she_aes.proofs.SBoxFacts.{same_at_bytes}
+use Rattle.she_aes.proofs.SBoxTable.{same_at_bytes}
 use Rattle.she_aes.specs.Cipher.{block_of, on_columns, circulant, mix_columns, inv_mix_columns}
 use Rattle.she_aes.specs.CipherFacts.{IsBlock-bytes, block_of_self}
 use Rattle.she_aes.proofs.Mixing.{mix_columns-first}

@@ -4,13 +4,13 @@ use Rattle.std.specs.Prelude.{◌==◌}
 use Rattle.std.specs.Int.Bits.{bit_xor, xor_assoc, xor_zero_r, xor_lt}
 use Rattle.std.proofs.lemmas.Nat.{and_mask, xor_mod, xor_shr, mod_below, div_below}
 use Rattle.std.proofs.lemmas.Bool.{agree_below, agree_below_at, eqb-true}
-use Rattle.she_aes.specs.Field.{product, cancelled, remainder, mul, inv, affine, sub_byte}
+use Rattle.she_aes.specs.Field.{product, cancelled, remainder, mul, sub_byte}
 use Rattle.she_aes.specs.FieldFacts.{xor_swap}
 use Rattle.she_aes.specs.Lookups.{entry}
 use Rattle.she_aes.specs.Substitution.{low_nibble, high_nibble, pair, inverse_by}
 use Rattle.she_aes.specs.Pairs.{pair_of, in_pairs}
 use Rattle.she_aes.specs.declared.substitution.TheConstants.{LOW, HIGH, LEFT, RIGHT, LEFT_PAIR, RIGHT_PAIR, LEFT_PAIR_DOUBLED, RIGHT_PAIR_DOUBLED, BYTE_OF_LOWER, BYTE_OF_UPPER}
-use Rattle.she_aes.proofs.SBoxFacts.{same_at_bytes}
+use Rattle.she_aes.proofs.SBoxTable.{same_at_bytes, s_box, s_box_is}
 
 -- ---- the pair of a sum
 
@@ -80,26 +80,32 @@ pair_less_constant b h = ap (bit_xor (pair_of b)) (sym pair_of-constant) ∙ sym
 
 -- ---- what the tables give, for all 256 bytes
 
-s_box_ok : agree_below (λ b. inverse_by LEFT RIGHT (pair_of b) == bit_xor (sub_byte b) 0x63) (λ _. true) 256 ≡ true
-unfolding product cancelled remainder mul inv affine sub_byte pair_of
+s_box_ok : agree_below (λ b. inverse_by LEFT RIGHT (pair_of b) == bit_xor (s_box b) 0x63) (λ _. true) 256 ≡ true
+unfolding pair_of
 s_box_ok = refl
 
 pub s_box_rule : (b : ℕ) → b < 256 → inverse_by LEFT RIGHT (pair_of b) ≡ bit_xor (sub_byte b) 0x63
-s_box_rule = same_at_bytes (λ b. inverse_by LEFT RIGHT (pair_of b)) (λ b. bit_xor (sub_byte b) 0x63) s_box_ok
+s_box_rule b lt =
+    same_at_bytes (λ b. inverse_by LEFT RIGHT (pair_of b)) (λ b. bit_xor (s_box b) 0x63) s_box_ok b lt
+    ∙ ap (λ s. bit_xor s 0x63) (s_box_is b lt)
 
-once_ok : agree_below (λ b. inverse_by LEFT_PAIR RIGHT_PAIR (pair_of b) == pair_of (bit_xor (sub_byte b) 0x63)) (λ _. true) 256 ≡ true
-unfolding product cancelled remainder mul inv affine sub_byte pair_of
+once_ok : agree_below (λ b. inverse_by LEFT_PAIR RIGHT_PAIR (pair_of b) == pair_of (bit_xor (s_box b) 0x63)) (λ _. true) 256 ≡ true
+unfolding pair_of
 once_ok = refl
 
 pub once_rule : (b : ℕ) → b < 256 → inverse_by LEFT_PAIR RIGHT_PAIR (pair_of b) ≡ pair_of (bit_xor (sub_byte b) 0x63)
-once_rule = same_at_bytes (λ b. inverse_by LEFT_PAIR RIGHT_PAIR (pair_of b)) (λ b. pair_of (bit_xor (sub_byte b) 0x63)) once_ok
+once_rule b lt =
+    same_at_bytes (λ b. inverse_by LEFT_PAIR RIGHT_PAIR (pair_of b)) (λ b. pair_of (bit_xor (s_box b) 0x63)) once_ok b lt
+    ∙ ap (λ s. pair_of (bit_xor s 0x63)) (s_box_is b lt)
 
-doubled_ok : agree_below (λ b. inverse_by LEFT_PAIR_DOUBLED RIGHT_PAIR_DOUBLED (pair_of b) == pair_of (mul 2 (bit_xor (sub_byte b) 0x63))) (λ _. true) 256 ≡ true
-unfolding product cancelled remainder mul inv affine sub_byte pair_of
+doubled_ok : agree_below (λ b. inverse_by LEFT_PAIR_DOUBLED RIGHT_PAIR_DOUBLED (pair_of b) == pair_of (mul 2 (bit_xor (s_box b) 0x63))) (λ _. true) 256 ≡ true
+unfolding product cancelled remainder mul pair_of
 doubled_ok = refl
 
 pub doubled_rule : (b : ℕ) → b < 256 → inverse_by LEFT_PAIR_DOUBLED RIGHT_PAIR_DOUBLED (pair_of b) ≡ pair_of (mul 2 (bit_xor (sub_byte b) 0x63))
-doubled_rule = same_at_bytes (λ b. inverse_by LEFT_PAIR_DOUBLED RIGHT_PAIR_DOUBLED (pair_of b)) (λ b. pair_of (mul 2 (bit_xor (sub_byte b) 0x63))) doubled_ok
+doubled_rule b lt =
+    same_at_bytes (λ b. inverse_by LEFT_PAIR_DOUBLED RIGHT_PAIR_DOUBLED (pair_of b)) (λ b. pair_of (mul 2 (bit_xor (s_box b) 0x63))) doubled_ok b lt
+    ∙ ap (λ s. pair_of (mul 2 (bit_xor s 0x63))) (s_box_is b lt)
 
 byte_ok : agree_below (λ b. pair BYTE_OF_LOWER BYTE_OF_UPPER (pair_of b) == bit_xor b 0x63) (λ _. true) 256 ≡ true
 unfolding pair_of

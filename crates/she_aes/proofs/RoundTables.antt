@@ -8,9 +8,9 @@ use Rattle.std.proofs.lemmas.Bool.{agree_below, agree_below_at, eqb-true}
 use Rattle.byte_lists.specs.Bytes.{IsBytes}
 use Rattle.byte_lists.specs.Numbers.{number_of}
 use Rattle.byte_lists.specs.NumberLaws.{to_be_bytes-is, bytes_of-number_of}
-use Rattle.she_aes.specs.Field.{product, cancelled, remainder, mul, inv, affine, sub_byte}
+use Rattle.she_aes.specs.Field.{product, cancelled, remainder, mul, sub_byte}
 use Rattle.she_aes.specs.FieldFacts.{mul-lt, sub_byte-lt}
-use Rattle.she_aes.proofs.SBoxFacts.{same_at_bytes}
+use Rattle.she_aes.proofs.SBoxTable.{s_box, s_box_is}
 use Rattle.she_aes.specs.Cipher.{column, circulant, sub_bytes, shift_rows, mix_columns}
 use Rattle.she_aes.specs.CipherFacts.{block_of_self}
 use Rattle.she_aes.proofs.Mixing.{four, turned}
@@ -21,47 +21,47 @@ use Rattle.she_aes.specs.declared.by_tables.TheConstants.{ROW_0, ROW_1, ROW_2, R
 abbrev is_entry : ℕ → (ℕ → List ℕ) → ℕ → Bool
 is_entry entry column b = entry == mixed_column (column b)
 
-row_0_ok : agree_below (λ s. is_entry (slice_index ROW_0 s) (λ b. b ∷ 0 ∷ 0 ∷ 0 ∷ []) (sub_byte s)) (λ _. true) 256 ≡ true
-unfolding product cancelled remainder mul inv affine sub_byte circulant number_of
+row_0_ok : agree_below (λ s. is_entry (slice_index ROW_0 s) (λ b. b ∷ 0 ∷ 0 ∷ 0 ∷ []) (s_box s)) (λ _. true) 256 ≡ true
+unfolding product cancelled remainder mul circulant number_of
 row_0_ok = refl
 
-row_1_ok : agree_below (λ s. is_entry (slice_index ROW_1 s) (λ b. 0 ∷ b ∷ 0 ∷ 0 ∷ []) (sub_byte s)) (λ _. true) 256 ≡ true
-unfolding product cancelled remainder mul inv affine sub_byte circulant number_of
+row_1_ok : agree_below (λ s. is_entry (slice_index ROW_1 s) (λ b. 0 ∷ b ∷ 0 ∷ 0 ∷ []) (s_box s)) (λ _. true) 256 ≡ true
+unfolding product cancelled remainder mul circulant number_of
 row_1_ok = refl
 
-row_2_ok : agree_below (λ s. is_entry (slice_index ROW_2 s) (λ b. 0 ∷ 0 ∷ b ∷ 0 ∷ []) (sub_byte s)) (λ _. true) 256 ≡ true
-unfolding product cancelled remainder mul inv affine sub_byte circulant number_of
+row_2_ok : agree_below (λ s. is_entry (slice_index ROW_2 s) (λ b. 0 ∷ 0 ∷ b ∷ 0 ∷ []) (s_box s)) (λ _. true) 256 ≡ true
+unfolding product cancelled remainder mul circulant number_of
 row_2_ok = refl
 
-row_3_ok : agree_below (λ s. is_entry (slice_index ROW_3 s) (λ b. 0 ∷ 0 ∷ 0 ∷ b ∷ []) (sub_byte s)) (λ _. true) 256 ≡ true
-unfolding product cancelled remainder mul inv affine sub_byte circulant number_of
+row_3_ok : agree_below (λ s. is_entry (slice_index ROW_3 s) (λ b. 0 ∷ 0 ∷ 0 ∷ b ∷ []) (s_box s)) (λ _. true) 256 ≡ true
+unfolding product cancelled remainder mul circulant number_of
 row_3_ok = refl
 
 row_0_rule : (s : ℕ) → s < 256 → slice_index ROW_0 s ≡ mixed_column (sub_byte s ∷ 0 ∷ 0 ∷ 0 ∷ [])
 row_0_rule s fits =
-    eqb-true (slice_index ROW_0 s) (mixed_column (sub_byte s ∷ 0 ∷ 0 ∷ 0 ∷ [])) (agree_below_at (λ s. is_entry (slice_index ROW_0 s) (λ b. b ∷ 0 ∷ 0 ∷ 0 ∷ []) (sub_byte s)) (λ _. true) 256 s row_0_ok fits)
+    eqb-true (slice_index ROW_0 s) (mixed_column (s_box s ∷ 0 ∷ 0 ∷ 0 ∷ [])) (agree_below_at (λ s. is_entry (slice_index ROW_0 s) (λ b. b ∷ 0 ∷ 0 ∷ 0 ∷ []) (s_box s)) (λ _. true) 256 s row_0_ok fits)
+    ∙ ap (λ b. mixed_column (b ∷ 0 ∷ 0 ∷ 0 ∷ [])) (s_box_is s fits)
 
 row_1_rule : (s : ℕ) → s < 256 → slice_index ROW_1 s ≡ mixed_column (0 ∷ sub_byte s ∷ 0 ∷ 0 ∷ [])
 row_1_rule s fits =
-    eqb-true (slice_index ROW_1 s) (mixed_column (0 ∷ sub_byte s ∷ 0 ∷ 0 ∷ [])) (agree_below_at (λ s. is_entry (slice_index ROW_1 s) (λ b. 0 ∷ b ∷ 0 ∷ 0 ∷ []) (sub_byte s)) (λ _. true) 256 s row_1_ok fits)
+    eqb-true (slice_index ROW_1 s) (mixed_column (0 ∷ s_box s ∷ 0 ∷ 0 ∷ [])) (agree_below_at (λ s. is_entry (slice_index ROW_1 s) (λ b. 0 ∷ b ∷ 0 ∷ 0 ∷ []) (s_box s)) (λ _. true) 256 s row_1_ok fits)
+    ∙ ap (λ b. mixed_column (0 ∷ b ∷ 0 ∷ 0 ∷ [])) (s_box_is s fits)
 
 row_2_rule : (s : ℕ) → s < 256 → slice_index ROW_2 s ≡ mixed_column (0 ∷ 0 ∷ sub_byte s ∷ 0 ∷ [])
 row_2_rule s fits =
-    eqb-true (slice_index ROW_2 s) (mixed_column (0 ∷ 0 ∷ sub_byte s ∷ 0 ∷ [])) (agree_below_at (λ s. is_entry (slice_index ROW_2 s) (λ b. 0 ∷ 0 ∷ b ∷ 0 ∷ []) (sub_byte s)) (λ _. true) 256 s row_2_ok fits)
+    eqb-true (slice_index ROW_2 s) (mixed_column (0 ∷ 0 ∷ s_box s ∷ 0 ∷ [])) (agree_below_at (λ s. is_entry (slice_index ROW_2 s) (λ b. 0 ∷ 0 ∷ b ∷ 0 ∷ []) (s_box s)) (λ _. true) 256 s row_2_ok fits)
+    ∙ ap (λ b. mixed_column (0 ∷ 0 ∷ b ∷ 0 ∷ [])) (s_box_is s fits)
 
 row_3_rule : (s : ℕ) → s < 256 → slice_index ROW_3 s ≡ mixed_column (0 ∷ 0 ∷ 0 ∷ sub_byte s ∷ [])
 row_3_rule s fits =
-    eqb-true (slice_index ROW_3 s) (mixed_column (0 ∷ 0 ∷ 0 ∷ sub_byte s ∷ [])) (agree_below_at (λ s. is_entry (slice_index ROW_3 s) (λ b. 0 ∷ 0 ∷ 0 ∷ b ∷ []) (sub_byte s)) (λ _. true) 256 s row_3_ok fits)
+    eqb-true (slice_index ROW_3 s) (mixed_column (0 ∷ 0 ∷ 0 ∷ s_box s ∷ [])) (agree_below_at (λ s. is_entry (slice_index ROW_3 s) (λ b. 0 ∷ 0 ∷ 0 ∷ b ∷ []) (s_box s)) (λ _. true) 256 s row_3_ok fits)
+    ∙ ap (λ b. mixed_column (0 ∷ 0 ∷ 0 ∷ b ∷ [])) (s_box_is s fits)
 
 pub round_tables : AreRoundTables
 round_tables = record { row_0 = row_0_rule; row_1 = row_1_rule; row_2 = row_2_rule; row_3 = row_3_rule }
 
-third_ok : agree_below (λ s. bit_and (slice_index ROW_0 s / 2 ^ 8) 255 == sub_byte s) (λ _. true) 256 ≡ true
-unfolding product cancelled remainder mul inv affine sub_byte
-third_ok = refl
-
 pub third_rule : (s : ℕ) → s < 256 → bit_and (slice_index ROW_0 s / 2 ^ 8) 255 ≡ sub_byte s
-third_rule = same_at_bytes (λ s. bit_and (slice_index ROW_0 s / 2 ^ 8) 255) sub_byte third_ok
+third_rule = s_box_is
 
 -- ---- the sum of four words, as bytes
 

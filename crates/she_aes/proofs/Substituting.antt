@@ -7,8 +7,10 @@ use Rattle.std.proofs.lemmas.Bool.{agree_below, agree_below_at}
 use Rattle.std.proofs.lemmas.Float.{T_from_true}
 use Rattle.std.proofs.lemmas.List.{get_or-map, length-map, ext_get_or}
 use Rattle.std.proofs.lemmas.Simd.{Each1-from_get_or, zip2_of_maps, splat_is_map, map-map, swz_l, SwzOk, SwzOk-from_Each1, length-swz_l, get_or-swz_l}
-use Rattle.she_aes.specs.Field.{product, cancelled, remainder, mul, inv, inv_affine, inv_sub_byte}
-use Rattle.she_aes.proofs.SBoxFacts.{same_at_bytes}
+use Rattle.she_aes.specs.Field.{inv_affine, inv_sub_byte}
+use Rattle.she_aes.specs.FieldFacts.{inv_affine-lt}
+use Rattle.she_aes.proofs.SBoxTable.{same_at_bytes}
+use Rattle.she_aes.proofs.SBoxFacts.{inv_of, inv_of_is}
 use Rattle.she_aes.specs.Cipher.{inv_sub_bytes}
 use Rattle.she_aes.specs.Lookups.{is_place, entry}
 use Rattle.she_aes.specs.Substitution.{low_nibble, high_nibble, pair, total, from_upper, from_total, first, second, inverse_by}
@@ -66,12 +68,14 @@ second_fits = fits_at second refl
 abbrev by_tables_of_inverse : ℕ → ℕ
 by_tables_of_inverse b = inverse_by LEFT_OF_INVERSE RIGHT_OF_INVERSE (pair LOW_OF_INVERSE HIGH_OF_INVERSE b)
 
-inverse_s_box_ok : agree_below (λ b. by_tables_of_inverse b == inv_sub_byte b) (λ _. true) 256 ≡ true
-unfolding product cancelled remainder mul inv inv_affine inv_sub_byte
+inverse_s_box_ok : agree_below (λ b. by_tables_of_inverse b == inv_of (inv_affine b)) (λ _. true) 256 ≡ true
+unfolding inv_affine
 inverse_s_box_ok = refl
 
 inverse_s_box_rule : (b : ℕ) → b < 256 → by_tables_of_inverse b ≡ inv_sub_byte b
-inverse_s_box_rule = same_at_bytes by_tables_of_inverse inv_sub_byte inverse_s_box_ok
+unfolding inv_sub_byte
+inverse_s_box_rule b lt =
+    same_at_bytes by_tables_of_inverse (λ b. inv_of (inv_affine b)) inverse_s_box_ok b lt ∙ inv_of_is (inv_affine b) (inv_affine-lt b)
 
 -- ---- each vector, as a map of the bytes
 

@@ -6,7 +6,7 @@
 //! No call refuses, and none takes memory.
 //!
 //! All of them work on the 16 bytes of a block at once. Where the processor shuffles bytes, none but [`encrypt_by_tables`], which stands beside
-//! for those that don't, reads a table at a place that depends on a key or a text.
+//! for those that don't, reads a table at a place that depends on a key or a text (as seen in the code that was built; no clause speaks of it).
 #![tactic(auto)]
 
 mod by_tables;

@@ -22,5 +22,5 @@ returns g c =
       },
       refl,
       refl,
-      (c.run-status.ensures.promises, c.run-status.ensures.replayed),
+      (c.run-status.ensures.promises, c.run-status.ensures.headline),
     )

@@ -1,0 +1,77 @@
+-- Which status a command ends with, and what it leaves of the disks then
+use Rattle.std.specs.Prelude.{◌≡◌, ◌⊎◌, ℕ, ◌≤◌, List}
+use Rattle.std.proofs.Common.{refl, sym, ◌∙◌, subst, inl, inr, arith}
+use Rattle.command_edge.specs.declared.input.InputFault.TheVariants as input
+use Rattle.command_edge.specs.Told.{EndingTold}
+use Rattle.answer_rows.specs.Rows.{Row}
+use Rattle.answer_rows.specs.Endings.{Ending, EndsInRow}
+use Rattle.bus_nodes.specs.Buses.{NamedBus}
+use Rattle.bus_machine.specs.declared.events.Event.{Event}
+use Rattle.bus_world.specs.StartAnswers.{ComesOfStart}
+use Rattle.bus_world.specs.StartAnswerLaws as start
+use Rattle.bus_commands.specs.declared.words.WorldCommand.{WorldCommand}
+use Rattle.bus_commands.specs.Inputs.{BusInputs, SetsWorld, start_of}
+use Rattle.bus_commands.specs.StartRows.{CommandDisks}
+use Rattle.bus_commands.specs.Rows.{ComesOfInputs, no_form, no_config, config_refused, no_script, script_refused, done, ComesInRun, without_disks, not_started, tried, tried_without_memory}
+use Rattle.bus_commands.specs.Commands.{LeavesDisks, as_before, by_unfinished_start, by_trial}
+
+-- ---- the status
+
+-- 0, or 2 to 10
+abbrev pub InTable : ℕ → Type 0
+InTable n = (n ≡ 0) ⊎ ((2 ≤ n) × (n ≤ 10))
+
+inputs_in_table : (i : BusInputs) (row : Row) → ComesOfInputs i row → InTable row.status
+inputs_in_table i row (no_form none config script) = inr (omega arith, omega arith)
+inputs_in_table i row (no_config input.ReadFault of) = inr (omega arith, omega arith)
+inputs_in_table i row (no_config input.TooLong of) = inr (omega arith, omega arith)
+inputs_in_table i row (no_config input.Memory of) = inr (omega arith, omega arith)
+inputs_in_table i row (config_refused fault text asks of told unread) = inr (omega arith, omega arith)
+inputs_in_table i row (no_script input.ReadFault of) = inr (omega arith, omega arith)
+inputs_in_table i row (no_script input.TooLong of) = inr (omega arith, omega arith)
+inputs_in_table i row (no_script input.Memory of) = inr (omega arith, omega arith)
+inputs_in_table i row (script_refused fault of) = inr (omega arith, omega arith)
+inputs_in_table i row (done text of) = inl refl
+
+-- that of a bus that isn't started
+unstarted_in_table : (n : ℕ) → (n ≡ 9) ⊎ ((n ≡ 10) ⊎ (n ≡ 7)) → InTable n
+unstarted_in_table n is = inr (omega (arith, is), omega (arith, is))
+
+-- that of a replay
+pub replayed_in_table : (n : ℕ) → (n ≡ 0) ⊎ ((n ≡ 6) ⊎ (n ≡ 7)) → InTable n
+replayed_in_table n (inl zero) = inl zero
+replayed_in_table n (inr is) = inr (omega (arith, is), omega (arith, is))
+
+module _ {V : Type 0} where
+  row_in_table : (i : BusInputs) (d : CommandDisks V) (row : Row) → ComesInRun i d row → InTable row.status
+  row_in_table i d row (without_disks _ comes same) = inputs_in_table i row comes
+  row_in_table i d row (not_started _ (c, bus, events, set, comes) nine) = unstarted_in_table row.status (start.start_status (start_of c) bus d.states row comes.1)
+  row_in_table i d row (tried summary ran) = inl refl
+  row_in_table i d row (tried_without_memory summary ran) = inr (omega arith, omega arith)
+
+  -- no other status comes of a row
+  pub ends_in_table : (i : BusInputs) (d : CommandDisks V) (e : Ending) → EndsInRow (ComesInRun i d) e → InTable e.status
+  ends_in_table i d e ends = elim ends.told [
+    | inl (status_is, well) ↦ subst InTable (sym status_is) (row_in_table i d ends.row ends.comes)
+    | inr (six, rose, part) ↦ inr (omega (arith, six), omega (arith, six))
+  ]
+
+  -- ---- the disks
+
+  -- a start that isn't finished ends in 6, 7 or 10; at 9 no disk was called
+  unfinished : (i : BusInputs) (d : CommandDisks V) (e : Ending) (c : WorldCommand) (bus : NamedBus) (events : List Event) (row : Row) → SetsWorld i c bus events
+      → ComesOfStart (start_of c) bus d.states row → (row.status ≡ 9 → d.new ≡ d.old) → EndingTold e.before e.after row.text row.status e.status → LeavesDisks i d e
+  unfinished i d e c bus events row set comes nine (inr (six, rose, part)) =
+      by_unfinished_start (inl six) (c, bus, events, set, start.Comes-leaves (start_of c) bus d.states row comes)
+  unfinished i d e c bus events row set comes nine (inl (status_is, well)) = elim (start.start_status (start_of c) bus d.states row comes) [
+    | inl is ↦ as_before (nine is)
+    | inr (inl ten) ↦ by_unfinished_start (inr (inr (status_is ∙ ten))) (c, bus, events, set, start.Comes-leaves (start_of c) bus d.states row comes)
+    | inr (inr seven) ↦ by_unfinished_start (inr (inl (status_is ∙ seven))) (c, bus, events, set, start.Comes-leaves (start_of c) bus d.states row comes)
+  ]
+
+  -- what a row leaves
+  pub row_leaves : (i : BusInputs) (d : CommandDisks V) (e : Ending) (row : Row) → ComesInRun i d row → EndingTold e.before e.after row.text row.status e.status → LeavesDisks i d e
+  row_leaves i d e row (without_disks _ comes same) told = as_before same
+  row_leaves i d e row (not_started _ (c, bus, events, set, comes) nine) told = unfinished i d e c bus events row set comes.1 nine told
+  row_leaves i d e row (tried summary ran) told = by_trial summary ran
+  row_leaves i d e row (tried_without_memory summary ran) told = by_trial summary ran

@@ -1,7 +1,0 @@
--- The store is whole and holds the engine's slots.
-use Rattle.std.proofs.Common.{◌≡◌, false}
-use Rattle.slot_disk.specs.Cell.{HoldSlots}
-use Rattle.engine_tests.proofs.engines.keys_serve_by_their_flags_as_they_are_now.Given as goal
-
-abbrev pub invariant-loop-asked : goal.invariant-loop-asked
-invariant-loop-asked g l = (l.store.broken ≡ false) × HoldSlots l.store.cells l.engine.slots

@@ -1,0 +1,116 @@
+//! What all tests here are made of: slots, and stores in memory.
+ghost use Rattle.std.specs.Prelude.{◌≡◌, length, false, IfOk};
+ghost use Rattle.cell_store.specs.Store.{FewCells};
+
+use cell_store::{Kind, LogCells, TwinCells, Version};
+use cut_disk::MemDisk;
+use freshness_routes::Direction;
+use freshness_store::bound_bytes;
+use key_slots::{Counter28, Flags, Slot, SlotId};
+use she_aes::Block;
+use slot_disk::slot_bytes;
+use std::alloc::Global;
+use std::test::Fail;
+
+/// The key of the examples of SP 800-38A and SP 800-38B.
+pub(crate) const KEY: u128 = 0x2b7e151628aed2a6abf7158809cf4f3c;
+
+/// The Data ID of every route.
+pub(crate) const ID: u16 = 0x6bc1;
+
+pub(crate) const UID: [u8; 15] = [0, 0, 0, 0, 0, 0, 0, 0, 0, 0, 0, 0, 0, 0, 1];
+
+/// Either store in both versions.
+pub(crate) const STORES: [(Kind, Version); 4] = [
+    (Kind::Twin, Version::One),
+    (Kind::Twin, Version::Two),
+    (Kind::Log, Version::One),
+    (Kind::Log, Version::Two),
+];
+
+pub(crate) fn block(number: u128) -> Block {
+    Block::of(number.to_be_bytes())
+}
+
+pub(crate) fn slot(number: u8) -> Result<SlotId, &'static str> {
+    SlotId::new(number).ok_or("a slot's number")
+}
+
+pub(crate) fn filled(key: u128, counter: u32, flags: u8) -> Result<Slot, &'static str> {
+    Ok(Slot::Filled {
+        key: block(key),
+        counter: Counter28::new(counter).ok_or("a counter")?,
+        flags: Flags::of(flags % 32),
+    })
+}
+
+/// A twin store of these cells, on a disk of so many bytes.
+pub(crate) fn twin_store(
+    alloc: Global,
+    room: u16,
+    version: Version,
+    cells: &[[u8; 32]],
+) -> Result<TwinCells<MemDisk>, Fail>
+    requires { FewCells (length cells.now) }
+    ensures count { IfOk result (λ store. length store.cells ≡ length cells.now) }
+    ensures whole { IfOk result (λ store. store.broken ≡ false) }
+{
+    let disk = MemDisk::new(alloc, usize::from(room))?;
+    let disk = match TwinCells::format_as(disk, version, cells) {
+        Ok(disk) => disk,
+        Err(refused) => return Err(Fail::from(refused.fault)),
+    };
+    match TwinCells::attach_as(alloc, disk, version, cells.len() as u16) {
+        Ok(store) => Ok(store),
+        Err(refused) => Err(Fail::from(refused.fault)),
+    }
+}
+
+/// A log store of these cells, on a disk of so many bytes.
+pub(crate) fn log_store(
+    alloc: Global,
+    room: u16,
+    version: Version,
+    cells: &[[u8; 32]],
+) -> Result<LogCells<MemDisk>, Fail>
+    requires { FewCells (length cells.now) }
+    ensures count { IfOk result (λ store. length store.cells ≡ length cells.now) }
+    ensures whole { IfOk result (λ store. store.broken ≡ false) }
+{
+    let disk = MemDisk::new(alloc, usize::from(room))?;
+    let disk = match LogCells::format_as(disk, version, cells) {
+        Ok(disk) => disk,
+        Err(refused) => return Err(Fail::from(refused.fault)),
+    };
+    match LogCells::attach_as(alloc, disk, version, cells.len() as u16) {
+        Ok(store) => Ok(store),
+        Err(refused) => Err(Fail::from(refused.fault)),
+    }
+}
+
+/// Whom the key serves, by its flags: MACs, MACs after a secure boot, ciphers.
+const SERVES: [(usize, u8); 3] = [(4, 2), (5, 10), (6, 0)];
+
+/// The cells of fourteen slots, three of them with the key, and of a bound.
+fn cells_with(direction: Direction, bound: u64) -> Result<[[u8; 32]; 15], &'static str> {
+    let mut cells = [[0; 32]; 15];
+    for (number, flags) in SERVES {
+        cells[number] = slot_bytes(&filled(KEY, 1, flags)?);
+    }
+    cells[14] = bound_bytes(ID, direction, bound);
+    Ok(cells)
+}
+
+/// A twin store of these slots and this bound: the key of slot 4 serves MACs, that of slot 5 only after a secure boot, that of slot 6
+/// ciphers, and slot 7 is empty.
+pub(crate) fn store_with(
+    alloc: Global,
+    direction: Direction,
+    bound: u64,
+) -> Result<TwinCells<MemDisk>, Fail>
+    ensures whole { IfOk result (λ store. store.broken ≡ false) }
+    ensures count { IfOk result (λ store. length store.cells ≡ 15) }
+{
+    let cells = cells_with(direction, bound)?;
+    twin_store(alloc, 1_052, Version::One, &cells)
+}
