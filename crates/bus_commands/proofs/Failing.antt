@@ -4,7 +4,7 @@ use Rattle.std.proofs.Common.{inl, inr}
 use Rattle.command_edge.specs.Told.{EndingTold}
 use Rattle.answer_rows.specs.Rows.{Row}
 use Rattle.answer_rows.specs.Endings.{Ending, EndsInRow}
-use Rattle.bus_world.specs.StartAnswers.{CountsFailure, failed_row}
+use Rattle.bus_world.specs.StartAnswers.{CountsDiskFault, failed_row}
 use Rattle.bus_world.specs.StartAnswerLaws.{none_counted, failure_told}
 use Rattle.bus_commands.specs.Inputs.{BusInputs, start_of}
 use Rattle.bus_commands.specs.StartRows.{CommandDisks}
@@ -12,7 +12,7 @@ use Rattle.bus_commands.specs.Rows.{ComesInRun, without_disks, not_started, trie
 use Rattle.bus_commands.specs.Commands.{DoesEvents}
 
 module _ {V : Type 0} (i : BusInputs) (d : CommandDisks V) (e : Ending) (same : d.new ≡ d.old → d.states.after ≡ d.states.before) (place : ℕ)
-    (rose : CountsFailure d.states place) where
+    (rose : CountsDiskFault d.states place) where
   row_failed : (row : Row) → ComesInRun i d row → EndingTold e.before e.after row.text row.status e.status
       → EndsInRow (λ row. row ≡ failed_row place) e ⊎ DoesEvents i d.states e
   row_failed row (without_disks _ comes unused) told = absurd (none_counted d.states place (same unused) rose)

@@ -61,9 +61,9 @@ use Rattle.text_lines.specs.Texts.{fault_text_of}
 -- `BusHasDisks`: each node's disk is large enough, tells bytes over which the node can start, and was quiet, or its
 -- count of faults neither rose nor is full. `HoldsNoNode`: a node's disk tells bytes over which it can't go on.
 use Rattle.bus_commands.specs.StartRows.{CommandDisks, HoldsNoNode}
--- `CountsFailure d place`: the count of faults of the disk at this place rose. `failed_row place`: the row that tells
+-- `CountsDiskFault d place`: the count of faults of the disk at this place rose. `failed_row place`: the row that tells
 -- that the disk of the node at this place failed.
-use Rattle.bus_world.specs.StartAnswers.{DiskStates, BusHasDisks, CountsFailure, failed_row}
+use Rattle.bus_world.specs.StartAnswers.{DiskStates, BusHasDisks, CountsDiskFault, failed_row}
 -- `TellEach`: each node's disk tells its bytes; `TellFirm`: and a cut can take none of them away. `StartsOver`: a world
 -- in which each node goes on where its disk stands.
 use Rattle.world_runs.specs.NodeDisks.{TellEach}
@@ -318,7 +318,7 @@ pub record RunsCommand {V : Type 0} (i : BusInputs) (d : CommandDisks V) (e : En
       → HoldsNoNode bus d.states.before → MayEndIn 10 e
   -- A disk that fails at a start is told, and never as want of memory or as anything else: where the count of faults of
   -- a disk rose though no event was done, the status is 10 with the row of its node, or 6 with a front of it.
-  pub failed_disk_told : (place : ℕ) → CountsFailure d.states place
+  pub failed_disk_told : (place : ℕ) → CountsDiskFault d.states place
       → EndsInRow (λ row. row ≡ failed_row place) e ⊎ DoesEvents i d.states e
   -- What is valid ends in 0 or 7, where the sources tell it and didn't fail, the sink's count of faults neither rose
   -- nor is full, and a world has disks that serve, which tell their bytes.

@@ -144,7 +144,7 @@ counted_whole kind n i x cells count s d = whole_counted kind n i x cells s.vers
 -- ---- bytes that are no node's
 
 -- a store isn't blank, nor foreign
-store_is : (kind : Kind) (version : Version) (n : ℕ) (x : List ℕ) (found : Found) → HasNodeStore kind version n x → IsFound kind version n x found
+pub store_is : (kind : Kind) (version : Version) (n : ℕ) (x : List ℕ) (found : Found) → HasNodeStore kind version n x → IsFound kind version n x found
     → (Standing ≡ found → ⊥) → (Older ≡ found → ⊥) → ⊥
 store_is kind version n x found store is no_standing no_older = elim store [
   | inl standing ↦ no_standing (same_found kind version n x Standing found standing is)

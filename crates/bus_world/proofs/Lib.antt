@@ -1,11 +1,10 @@
-mod Turning
+pub mod Turning
 mod Stepping
-mod FoundLaws
+pub mod FoundLaws
 mod AttachLaws
 mod OpenLaws
 mod MoveLaws
 mod TakingLaws
-mod StepLaws
+pub mod StepLaws
 mod StartLaws
-mod RowOfFault
 mod SoundLaws

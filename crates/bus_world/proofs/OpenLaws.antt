@@ -31,8 +31,8 @@ use Rattle.secoc_node.proofs.KeptLaws.{kept_once}
 use Rattle.bus_world.specs.declared.opening.OpenFault.{OpenFault}
 use Rattle.bus_world.specs.declared.opening.OpenFault.TheVariants as open_fault
 use Rattle.bus_world.specs.declared.start.Start.{Start}
-use Rattle.bus_world.specs.declared.start.Start.TheVariants.{Format, Attach}
-use Rattle.bus_world.specs.TakingUp.{cells_in, new_cells, start_calls, KeptOn, LeftOver, LeavesDisk, OpenCause, MovedFirst, CountsRefusal}
+use Rattle.bus_world.specs.declared.start.Start.TheVariants.{Format}
+use Rattle.bus_world.specs.TakingUp.{cells_in, new_cells, start_calls, KeptOn, OpenCause, MovedFirst, CountsRefusal}
 use Rattle.bus_world.specs.Opening.{AttachedTo, AttachCauseOf, NotAttachedTo, of_store}
 use Rattle.bus_world.specs.Starts.{Opened, NotOpened, OpenedFirst}
 use Rattle.bus_world.specs.StartRowLaws.{untouched_left, untouched_leaves, untouched_stays}

@@ -85,6 +85,9 @@ calm_turn before after act line step other layout runs fits faults untouched sou
   stays = tt;
 }
 
+pub sends_no_cut : (id : ℕ) (payload : List ℕ) → sends id payload ≡ cuts → ⊥
+sends_no_cut id payload is = cc
+
 pub receives_no_cut : (id : ℕ) (pdu : List ℕ) → receives id pdu ≡ cuts → ⊥
 receives_no_cut id pdu is = cc
 

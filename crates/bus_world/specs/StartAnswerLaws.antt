@@ -17,7 +17,7 @@ use Rattle.bus_world.specs.Starts.{NotStarted, HasRoom, OfNumber, RefusedAt}
 use Rattle.bus_world.specs.StartRows.{start_row, HasMadeText, IsStartRow, StoreCause, LeavesEach}
 use Rattle.bus_world.specs.StartRowLaws.{no_line, no_disk, refused_at_10, leaves_same, start_leaves, no_room_fault}
 use Rattle.bus_world.specs.StartRowLaws.{no_store_cause}
-use Rattle.bus_world.specs.StartAnswers.{DiskStates, NoDiskFailed, CountsFailure, failed_row, MayWantMemory}
+use Rattle.bus_world.specs.StartAnswers.{DiskStates, NoDiskFailed, CountsDiskFault, failed_row, MayWantMemory}
 use Rattle.bus_world.specs.StartAnswers.{ComesOfStart, disks_refused, store_refused, start_without_memory, BusHasDisks}
 use Rattle.bus_world.specs.StartAnswers.{ComesUnstarted}
 
@@ -146,7 +146,7 @@ not_calm start bus before after number place f of rose =
     omega (arith, refused_calm start bus before after number f of place no_disk, rose)
 
 cause_told : (start : Start) (bus : NamedBus) (d : DiskStates) (fault : StartFault) (place : ℕ)
-    → StoreCause start bus d.before d.after fault → CountsFailure d place
+    → StoreCause start bus d.before d.after fault → CountsDiskFault d place
     → row_of 10 (start_row fault).text ≡ failed_row place
 cause_told start bus d TooFew place cause rose = absurd cause
 cause_told start bus d (TooSmall node) place cause rose = absurd cause
@@ -164,13 +164,13 @@ cause_told start bus d (BadBound node cell) place cause rose =
 cause_told start bus d Memory place cause rose = absurd cause
 
 -- no count rose of disks that are as before
-pub none_counted : (d : DiskStates) (place : ℕ) → d.after ≡ d.before → CountsFailure d place → ⊥
+pub none_counted : (d : DiskStates) (place : ℕ) → d.after ≡ d.before → CountsDiskFault d place → ⊥
 none_counted d place same rose =
     let calm = ap (λ (disks : List DiskState). (get_or disks place no_disk).faults) same in
     omega (arith, calm, rose no_disk)
 
 pub failure_told : (start : Start) (bus : NamedBus) (d : DiskStates) (row : Row) (place : ℕ)
-    → ComesOfStart start bus d row → CountsFailure d place → row ≡ failed_row place
+    → ComesOfStart start bus d row → CountsDiskFault d place → row ≡ failed_row place
 failure_told start bus d row place (disks_refused fault finds same) rose =
     absurd (none_counted d place same rose)
 failure_told start bus d row place (store_refused fault room cause left) rose =

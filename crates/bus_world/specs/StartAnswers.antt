@@ -20,8 +20,8 @@ abbrev pub NoDiskFailed : DiskStates → Type 0
 NoDiskFailed d = (i : ℕ) (disk : DiskState) → (get_or d.after i disk).faults ≡ (get_or d.before i disk).faults
 
 -- the count of faults of the disk at this place rose
-abbrev pub CountsFailure : DiskStates → ℕ → Type 0
-CountsFailure d place = (disk : DiskState) → (get_or d.before place disk).faults < (get_or d.after place disk).faults
+abbrev pub CountsDiskFault : DiskStates → ℕ → Type 0
+CountsDiskFault d place = (disk : DiskState) → (get_or d.before place disk).faults < (get_or d.after place disk).faults
 
 -- the row that tells that the disk of the node at this place failed
 abbrev pub failed_row : ℕ → Row

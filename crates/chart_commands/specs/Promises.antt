@@ -18,7 +18,7 @@ use Rattle.bus_world.specs.declared.start.Start.TheVariants.{Format}
 use Rattle.bus_world.specs.declared.start.StartFault.{StartFault}
 use Rattle.bus_world.specs.Starts.{HasRoom, FindsRoom}
 use Rattle.bus_world.specs.StartRows.{start_row, StoreCause, LeavesEach}
-use Rattle.bus_world.specs.StartAnswers.{DiskStates, BusHasDisks, CountsFailure, failed_row}
+use Rattle.bus_world.specs.StartAnswers.{DiskStates, BusHasDisks, CountsDiskFault, failed_row}
 use Rattle.bus_inputs.specs.BusFiles.{IsConfigFault}
 use Rattle.chart_texts.specs.ChartTexts.{chart_text}
 use Rattle.chart_commands.specs.Inputs.{ChartInputs, AsksChart, chart_usage, NoChartConfig, NoChartScript, HasBadEvent, OverChart, OffersChart}
@@ -89,7 +89,7 @@ pub record RunsChart (same : Type 0) (i : ChartInputs) (d : DiskStates) (e : End
       × ((fault : StartFault) × StoreCause Format bus d.before d.after fault × PrintsWhole e (start_row fault).text))
   -- A disk that fails at the start is told, and never as want of memory: where the count of faults of a disk rose
   -- though the bus wasn't started, the status is 10 with the row of its node, or 6 with a front of it.
-  pub failed_disk_told : (place : ℕ) → CountsFailure d place → EndsInRow (λ row. row ≡ failed_row place) e
+  pub failed_disk_told : (place : ℕ) → CountsDiskFault d place → EndsInRow (λ row. row ≡ failed_row place) e
       ⊎ ((kept : Option (List Line)) × OverChart i (λ bus events. DoneChart bus events d kept))
   -- What is valid is done, where no port failed and there was memory.
   pub complete : (bus : NamedBus) (input : List ℕ) (events : List Event) → OffersChart i bus → Offers i.script input

@@ -23,7 +23,7 @@ use Rattle.bus_world.specs.declared.start.Start.TheVariants.{Format}
 use Rattle.bus_world.specs.declared.start.StartFault.{StartFault}
 use Rattle.bus_world.specs.Starts.{HasRoom, FindsRoom}
 use Rattle.bus_world.specs.StartRows.{start_row, StoreCause, LeavesEach}
-use Rattle.bus_world.specs.StartAnswers.{DiskStates, ComesOfStart, disks_refused, store_refused, start_without_memory, BusHasDisks, CountsFailure, failed_row}
+use Rattle.bus_world.specs.StartAnswers.{DiskStates, ComesOfStart, disks_refused, store_refused, start_without_memory, BusHasDisks, CountsDiskFault, failed_row}
 use Rattle.bus_world.specs.StartAnswerLaws.{Comes-leaves, start_status, start_memory, start_without_room, start_complete, none_counted, failure_told}
 use Rattle.numbered_run.specs.Statuses.{unwritten_status}
 use Rattle.bus_inputs.specs.BusFiles.{OffersBus}
@@ -218,7 +218,7 @@ module _ (same : Type 0) (i : GatewayInputs) (d : DiskStates) (e : Ending) where
   FailureTold place = EndsInRow (λ row. row ≡ failed_row place) e
       ⊎ ((result : Result (Unit {0}) Unwritten) × Ended result)
 
-  row_failed : (same → d.after ≡ d.before) → (place : ℕ) → CountsFailure d place → (row : Row) → Comes row
+  row_failed : (same → d.after ≡ d.before) → (place : ℕ) → CountsDiskFault d place → (row : Row) → Comes row
       → EndingTold e.before e.after row.text row.status e.status → FailureTold place
   row_failed states place rose row (without_disks _ comes as_before) told = absurd (none_counted d place (states as_before) rose)
   row_failed states place rose row (not_started _ (bus, pairs, events, set, start) nine) told =

@@ -18,7 +18,7 @@ use Rattle.bus_world.specs.declared.start.Start.TheVariants.{Format}
 use Rattle.bus_world.specs.declared.start.StartFault.{StartFault}
 use Rattle.bus_world.specs.Starts.{HasRoom, FindsRoom}
 use Rattle.bus_world.specs.StartRows.{start_row, StoreCause, LeavesEach}
-use Rattle.bus_world.specs.StartAnswers.{DiskStates, ComesOfStart, BusHasDisks, CountsFailure, failed_row}
+use Rattle.bus_world.specs.StartAnswers.{DiskStates, ComesOfStart, BusHasDisks, CountsDiskFault, failed_row}
 use Rattle.bus_inputs.specs.BusFiles.{OffersBus}
 use Rattle.gateway_commands.specs.Words.{AsksGateway, AsksNoGateway}
 use Rattle.gateway_commands.specs.Texts.{gateway_usage}
@@ -98,7 +98,7 @@ pub record RunsGateway (same : Type 0) (i : GatewayInputs) (d : DiskStates) (e :
       × ((fault : StartFault) × StoreCause Format bus d.before d.after fault × PrintsWhole e (start_row fault).text))
   -- A disk that fails at the start is told, and never as want of memory: where the count of faults of a disk rose
   -- though no event was done, the status is 10 with the row of its node, or 6 with a front of it.
-  pub failed_disk_told : (place : ℕ) → CountsFailure d place → EndsInRow (λ row. row ≡ failed_row place) e
+  pub failed_disk_told : (place : ℕ) → CountsDiskFault d place → EndsInRow (λ row. row ≡ failed_row place) e
       ⊎ ((result : Result (Unit {0}) Unwritten)
       × OverGateway i (λ bus pairs events. DoneGateway bus pairs events d e result))
   -- What is valid is done, where no port failed and there was memory.
