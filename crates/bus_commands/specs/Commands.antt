@@ -96,7 +96,8 @@ use Rattle.bus_commands.specs.Summaries.{summary_of, summary_text}
 -- did all its events so, and their lines have this summary.
 use Rattle.bus_commands.specs.Rows.{ReplaysScript, TriesEvents}
 -- `Written .. result moments`: at `Ok` they are all events, and exactly the texts of their lines were written; at an
--- `Unwritten` those of the lines before the last, of which a proper front was (`SinkFailed`), or nothing (`Memory`).
+-- `Unwritten` those of all but the last, whose event was done, too: of its line a proper front was written
+-- (`SinkFailed`), or nothing (`Memory`).
 use Rattle.numbered_run.specs.declared.printing.Unwritten.{Unwritten}
 use Rattle.numbered_run.specs.declared.printing.Unwritten.TheVariants as unwritten
 use Rattle.numbered_run.specs.Printed.{Written}
