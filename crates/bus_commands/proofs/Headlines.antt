@@ -1,4 +1,4 @@
--- The headline's record has the members of the record of a run of a bus
+-- The headline's record and that of a run of a bus give each other
 use Rattle.std.specs.Prelude.{List, Result}
 use Rattle.answer_rows.specs.Endings.{Ending}
 use Rattle.numbered_run.specs.declared.printing.Unwritten.{Unwritten}
