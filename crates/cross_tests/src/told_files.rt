@@ -63,7 +63,10 @@ fn twice<D: CutDisk>(disk: D) -> FileDisk<DiskFile<D>>
 }
 
 /// Two writes, of which the first alone was synced, and a cut: whether the second was Ok, and the bytes then.
-fn cut_behind_two_writes<D: CutDisk>(disk: &mut D, torn: Torn) -> Result<(bool, [u8; 4]), DiskFailed>
+fn cut_behind_two_writes<D: CutDisk>(
+    disk: &mut D,
+    torn: Torn,
+) -> Result<(bool, [u8; 4]), DiskFailed>
     requires size { (D.state disk.old).size ≡ 4 }
 {
     disk.write(1, &[5, 6])?;
