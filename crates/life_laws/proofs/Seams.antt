@@ -11,12 +11,11 @@ use Rattle.cell_store.specs.declared.kinds.Version.{Version}
 use Rattle.cell_store.specs.declared.kinds.Version.TheVariants.{One, Two}
 use Rattle.cell_store.specs.Layout.{layout}
 use Rattle.cell_store.specs.Store.{HasHeader, Stands}
-use Rattle.cell_store.specs.Moving.{CountsAs, StandsAsCounted}
-use Rattle.cell_store.proofs.StoreLaws.{stands_once, header-not_blank}
+use Rattle.cell_store.specs.Moving.{StandsAsCounted}
+use Rattle.cell_store.proofs.StoreLaws.{header-not_blank}
 use Rattle.any_cells.specs.declared.looking.Found.{Found}
 use Rattle.any_cells.specs.declared.looking.Found.TheVariants.{Blank, Standing, Older, Foreign}
 use Rattle.any_cells.specs.Looking.{IsBlank, IsFound}
-use Rattle.any_cells.proofs.LookingLaws.{found-once}
 use Rattle.store_runs.specs.Keeping.{MayKeep}
 use Rattle.freshness_routes.specs.Config.{Config}
 use Rattle.bus_machine.specs.Node.{Node, Kept, Change, changed, powered}
@@ -32,6 +31,8 @@ use Rattle.secoc_node.specs.Fits.{node_keeping, FitsNode}
 use Rattle.secoc_node.proofs.CellsLaws.{length-CellsOf}
 use Rattle.secoc_node.proofs.KeptLaws.{kept_of_sound, kept_changed, kept_once}
 use Rattle.secoc_node.proofs.FitsLaws.{FoundCells}
+use Rattle.bus_world.proofs.FoundLaws.{same_found, standing_not_blank, standing_not_older, standing_not_foreign}
+use Rattle.bus_world.proofs.FoundLaws.{older_not_blank, older_not_foreign, blank_not_foreign, counted_once, store_is}
 use Rattle.bus_world.specs.declared.start.Start.TheVariants.{Attach}
 use Rattle.bus_world.specs.TakingUp.{cells_in, HasNodeStore, KeptOn, LeavesDisk}
 use Rattle.bus_world.specs.Starts.{StartsOver}
@@ -45,40 +46,6 @@ use Rattle.life_laws.proofs.Stages.{Restarts}
 
 one_not_two : One ≡ Two → ⊥
 one_not_two e = cc
-
-blank_not_foreign : Blank ≡ Foreign → ⊥
-blank_not_foreign e = cc
-
-standing_not_foreign : Standing ≡ Foreign → ⊥
-standing_not_foreign e = cc
-
-standing_not_blank : Standing ≡ Blank → ⊥
-standing_not_blank e = cc
-
-standing_not_older : Standing ≡ Older → ⊥
-standing_not_older e = cc
-
-older_not_foreign : Older ≡ Foreign → ⊥
-older_not_foreign e = cc
-
-older_not_blank : Older ≡ Blank → ⊥
-older_not_blank e = cc
-
--- bytes are found to be one thing
-same_found : (kind : Kind) (version : Version) (n : ℕ) (x : List ℕ) (one other : Found) → IsFound kind version n x one
-    → IsFound kind version n x other → one ≡ other
-same_found kind version n x one other a b = let once = found-once kind version n x in once.2 one a ∙ sym (once.2 other b)
-
--- and stand for one list of n cells in the version that counts
-one_list : (kind : Kind) (n : ℕ) (x : List ℕ) (one other : List (List ℕ)) (v w : Version) → length one ≡ n → length other ≡ n
-    → CountsAs kind (length one) x v → CountsAs kind (length other) x w → Stands (layout kind v) x one
-    → Stands (layout kind w) x other → one ≡ other
-one_list kind n x one other One One a b c d s t = stands_once (layout kind One) x one other s t
-one_list kind n x one other Two Two a b c d s t = stands_once (layout kind Two) x one other s t
-one_list kind n x one other One Two a b c d s t =
-    absurd (c (subst (λ (k : ℕ). HasHeader (layout kind Two) k x) (b ∙ sym a) d))
-one_list kind n x one other Two One a b c d s t =
-    absurd (d (subst (λ (k : ℕ). HasHeader (layout kind Two) k x) (a ∙ sym b) c))
 
 -- where bytes are found to be anything but foreign, they have no newer store than the bus
 no_newer_found : (kind : Kind) (version : Version) (n : ℕ) (x : List ℕ) (found : Found) → (found ≡ Foreign → ⊥)
@@ -151,14 +118,6 @@ found_store kind Two One n x cells size stands none goes = elim goes [
   | inr never ↦ absurd (one_not_two never)
 ]
 
--- then the bytes aren't blank
-store_not_blank : (kind : Kind) (version : Version) (n : ℕ) (x : List ℕ) → HasNodeStore kind version n x
-    → IsFound kind version n x Blank → ⊥
-store_not_blank kind version n x store blank = elim store [
-  | inl standing ↦ standing_not_blank (same_found kind version n x Standing Blank standing blank)
-  | inr older ↦ older_not_blank (same_found kind version n x Older Blank older blank)
-]
-
 -- ---- one node
 
 mapped : {A B : Type 0} (f : A → B) (o : Option A) (y : B) → option_map f o ≡ Some y → (x : A) × (o ≡ Some x) × (y ≡ f x)
@@ -180,10 +139,11 @@ kept_cells : (kind : Kind) (next : Version) (config : Config) (x : List ℕ) (ce
     → length cells ≡ cells_in config → FoundStore kind next (cells_in config) cells x
     → KeptOn Attach kind next config x kept → CellsOf config kept ≡ cells
 kept_cells kind next config x cells kept size store k = elim k.kept_as [
-  | inl blank ↦ absurd (store_not_blank kind next (cells_in config) x store.has blank.0)
+  | inl blank ↦
+      absurd (store_is kind next (cells_in config) x Blank store.has blank.0 standing_not_blank older_not_blank)
   | inr stood ↦
-      one_list kind (cells_in config) x (CellsOf config kept) cells stood.1.version store.counted.version
-      (length-CellsOf config kept k.is_kept) size stood.1.counting store.counted.counting stood.1.stands store.counted.stands
+      counted_once kind (cells_in config) x (CellsOf config kept) cells (length-CellsOf config kept k.is_kept) size
+      stood.1 store.counted
 ]
 
 -- and so a node is started over bytes that stand for what is found of a node

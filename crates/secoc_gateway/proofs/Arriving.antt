@@ -7,15 +7,14 @@ use Rattle.cut_disk.specs.Calls.{IsQuiet, Rose, Runs}
 use Rattle.key_slots.specs.declared.refusals.Erc.{Erc}
 use Rattle.freshness_routes.specs.declared.routes.Direction.TheVariants.{Sends, Receives}
 use Rattle.freshness_routes.specs.Changes.{last_freshness}
-use Rattle.bus_machine.specs.declared.lines.Line.{Line}
 use Rattle.bus_machine.specs.declared.lines.Line.TheVariants.{Sent, Accepted, Refused}
 use Rattle.bus_machine.specs.declared.lines.Refusal.{Refusal}
 use Rattle.bus_machine.specs.declared.lines.Refusal.TheVariants as refusal
 use Rattle.bus_machine.specs.Node.{Node, no_route, HasRoute, place_of, place_in, counter_at}
-use Rattle.bus_machine.specs.Steps.{Act, sends, receives, when, first_of, has_length, has_route, key_refusal, send_refusal, PowersUp, NodeStep}
+use Rattle.bus_machine.specs.Steps.{sends, receives, when, first_of, has_length, has_route, key_refusal, send_refusal, NodeStep}
 use Rattle.bus_machine.specs.Bus.{SentLine}
 use Rattle.bus_machine.specs.Honest.{IsInTime, IsHeard}
-use Rattle.bus_laws.proofs.Effects.{Effect, effect_of, stays, sent, accepted, took, decided, faulted, powers, refused, routed}
+use Rattle.bus_laws.proofs.Effects.{routed}
 use Rattle.bus_laws.proofs.SoundSteps.{place_is, Receives≢Sends}
 use Rattle.secoc_node.specs.declared.faults.NodeFault.{NodeFault}
 use Rattle.secoc_node.specs.declared.faults.NodeFault.TheVariants as fault
@@ -23,27 +22,6 @@ use Rattle.secoc_node.specs.Lines.{refusal_of_fault}
 use Rattle.secoc_node.specs.State.{NodeState}
 use Rattle.gateway_machine.proofs.Forwarding.{SameKeys, accepted_keys, same_key}
 use Rattle.secoc_gateway.specs.Arrivals.{IsReason, CanForward}
-
--- ---- a configuration stays
-
-powers_config : (node after : Node) → PowersUp node after → after.config ≡ node.config
-powers_config node after power = elim power [
-  | inl old ↦ ap (λ (n : Node). n.config) old
-  | inr made ↦ ap (λ (n : Node). n.config) made.2
-]
-
-effect_config : (node after : Node) → Effect node after → after.config ≡ node.config
-effect_config node after (stays e) = ap (λ (n : Node). n.config) e
-effect_config node after (sent id payload v pdu step) = ap (λ (n : Node). n.config) step.after_is
-effect_config node after (accepted id pdu payload v step) = ap (λ (n : Node). n.config) step.after_is
-effect_config node after (took request u takes e) = ap (λ (n : Node). n.config) e
-effect_config node after (decided good e) = ap (λ (n : Node). n.config) e
-effect_config node after (faulted act f) = ap (λ (n : Node). n.config) f.2
-effect_config node after (powers p) = powers_config node after p
-effect_config node after (refused e) = ap (λ (n : Node). n.config) e
-
-pub step_config : (node : Node) (act : Act) (line : Line) (after : Node) → NodeStep node act line after → after.config ≡ node.config
-step_config node act line after step = effect_config node after (effect_of node act line after step)
 
 -- ---- quiet disks
 

@@ -2,5 +2,4 @@ pub mod Few
 pub mod Arriving
 pub mod Paired
 pub mod Turning
-pub mod NodeTurns
 pub mod TurnLaws

@@ -15,7 +15,7 @@ use Rattle.gateway_machine.specs.StepLaws.{PassesOn-keeps}
 use Rattle.secoc_gateway.specs.declared.arrival.Arrival.{Arrival}
 use Rattle.secoc_gateway.specs.Arrivals.{arrival_line}
 use Rattle.secoc_gateway.specs.Pairs.{pair_in, AreGood}
-use Rattle.secoc_gateway.proofs.Arriving.{step_config}
+use Rattle.bus_world.proofs.Turning.{step_config}
 
 -- ---- good pairs
 

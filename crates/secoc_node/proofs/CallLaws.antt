@@ -37,6 +37,15 @@ pub record Done (known : Known) (store : CellsState) (act : Act) (line : Line) (
   pub step : NodeStep (node_in known) act line (node_in after)
   pub served : Served (state_in known store) (state_in after left)
 
+-- the state before the call, by another name
+module _ {known : Known} {store : CellsState} {act : Act} {line : Line} {after : Known} {left : CellsState} (old : NodeState) (view : state_in known store ≡ old)
+    (done : Done known store act line after left) where
+  pub step_from : NodeStep old.node act line (node_in after)
+  step_from = subst (λ (s : NodeState). NodeStep s.node act line (node_in after)) view done.step
+
+  pub served_from : Served old (state_in after left)
+  served_from = subst (λ (s : NodeState). Served s (state_in after left)) view done.served
+
 -- the disk tells what it told
 pub fits_told : (old new : NodeState) → new.node ≡ old.node → new.store.layout ≡ old.store.layout → new.store.disk.told ≡ old.store.disk.told → FitsNow old → FitsNow new
 fits_told old new node layout told fits now is = rw (node, layout) (fits now (sym told ∙ is))

@@ -20,15 +20,20 @@ use Rattle.secoc_node.specs.declared.counters.RouteCounter.{RouteCounter}
 use Rattle.secoc_node.specs.declared.counters.RouteCounter.TheVariants as of_route
 use Rattle.secoc_node.specs.declared.known.Known.{Known}
 use Rattle.secoc_node.specs.Counters.{freshness_in, bound_in, counter_in}
-use Rattle.secoc_node.specs.State.{IsCovered}
-use Rattle.secoc_node.specs.Lines.{received_line, IfAcceptedWith}
+use Rattle.secoc_node.specs.State.{NodeState, IsCovered}
+use Rattle.secoc_node.specs.Lines.{received_line, IfAcceptedWith, IfLeftAlone}
 use Rattle.secoc_node.specs.Keeping.{node_in, state_in, IsNode, FindsRoute}
 use Rattle.bus_machine.specs.Sound.{Sound}
 use Rattle.bus_machine.specs.Bus.{SentLine}
 use Rattle.bus_machine.specs.Honest.{IsInTime, IsHeard}
 use Rattle.bus_laws.proofs.Hearing.{facts, heard_line}
 use Rattle.secoc_node.proofs.CallLaws.{Done}
-use Rattle.secoc_node.proofs.RouteLaws.{with_counter_at, place_at, route_id, got_here, made_of, keeps_its_bound, counter_is, bound_is, moved_done, same_done, failed_done}
+use Rattle.secoc_node.proofs.RouteLaws.{with_counter_at, place_at, route_id, got_here, made_of, keeps_its_bound, counter_is, bound_is, moved_done, same_state, same_done, failed_done}
+
+pub said_length : (said : Reception) (count : ℕ) → IfAccepted (Ok said) (λ v len. len + 4 ≡ count) → IfAcceptedWith (Ok said) (λ v len. len + 4 ≡ count)
+said_length (reception.Accepted v len) count is = is
+said_length reception.FreshnessFailure count is = tt
+said_length reception.VerificationFailure count is = tt
 
 -- the receiver in a counter
 abbrev receiver_in : ReceiverCounter → RouteCounter → ReceiverCounter
@@ -73,6 +78,25 @@ module _ (known : Known) (store : CellsState) (is : IsNode known store) (up : kn
     -- a receiver that is as before is the one at the place
     pub got_again : (rx' : ReceiverCounter) → rx' ≡ rx → of_route.Receives rx' ≡ get_or known.counters.items place (of_route.Receives rx')
     got_again rx' same = subst (λ d. d ≡ get_or known.counters.items place d) (of ∙ ap (λ (t : ReceiverCounter). of_route.Receives t) (sym same)) got
+
+    pub refused_state : (rx' : ReceiverCounter) (left : CellsState) → rx' ≡ rx → left ≡ store → state_in (with_counter_at known place (of_route.Receives rx')) left ≡ state_in known store
+    refused_state rx' left same untouched = same_state known store is up id Receives place route finds (of_route.Receives rx') left (got_again rx' same) untouched
+
+    -- nothing was said of the PDU
+    pub receive_refused : (pdu : List ℕ) (line : Line) (rx' : ReceiverCounter) (left : CellsState) → rx' ≡ rx → left ≡ store
+        → NodeStep (node_in known) (receives route.id pdu) line (node_in known)
+        → Done known store (receives id pdu) line (with_counter_at known place (of_route.Receives rx')) left
+    receive_refused pdu line rx' left same untouched step =
+        same_done known store is up id Receives place route finds (of_route.Receives rx') left (got_again rx' same) untouched (receives id pdu) line
+        (subst (λ i. NodeStep (node_in known) (receives i pdu) line (node_in known)) (route_id known store is up id Receives place route finds) step)
+
+    -- where no payload was accepted, the node is as before
+    pub said_untouched : (old : NodeState) (said : Reception) (rx' : ReceiverCounter) (left : CellsState) → state_in known store ≡ old
+        → IfNotAccepted (Ok said) (rx' ≡ rx) → IfUnmoved (Ok said) (left ≡ store)
+        → IfLeftAlone (Ok said) (state_in (with_counter_at known place (of_route.Receives rx')) left ≡ old)
+    said_untouched old (reception.Accepted v len) rx' left view same untouched = tt
+    said_untouched old reception.FreshnessFailure rx' left view same untouched = refused_state rx' left same untouched ∙ view
+    said_untouched old reception.VerificationFailure rx' left view same untouched = refused_state rx' left same untouched ∙ view
 
     abbrev change : ℕ → Option ℕ
     change v = receiver_change rx.bound rx.reserve v

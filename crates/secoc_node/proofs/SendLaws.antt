@@ -1,5 +1,5 @@
 -- A send of an up node under a Data ID for which it has a route
-use Rattle.std.proofs.Common.{◌≡◌, ℕ, ◌+◌, ◌<◌, ◌≤◌, true, false, List, length, get_or, take, refl, sym, ap, subst, ◌∙◌}
+use Rattle.std.proofs.Common.{◌≡◌, ℕ, ◌+◌, ◌<◌, ◌≤◌, true, false, List, length, get_or, take, refl, sym, ap, subst, ◌∙◌, arith}
 use Rattle.std.specs.Prelude.{Option, Some, option_map, unwrap_or}
 use Rattle.cell_store.specs.Cells.{CellsState}
 use Rattle.freshness_routes.specs.declared.routes.Direction.TheVariants.{Sends, Receives}
@@ -8,6 +8,7 @@ use Rattle.freshness_routes.specs.Changes.{sender_change}
 use Rattle.freshness_manager.specs.Counters.{SenderCounter, KeepsBound}
 use Rattle.freshness_manager.specs.Changing.{MakesChange, FailsChange}
 use Rattle.secoc_sender.specs.declared.sender.Sent.{Sent as Sending}
+use Rattle.bus_machine.specs.declared.lines.Line.{Line}
 use Rattle.bus_machine.specs.declared.lines.Line.TheVariants.{Sent, Refused}
 use Rattle.bus_machine.specs.declared.lines.Refusal.TheVariants.{MemoryFailure}
 use Rattle.bus_machine.specs.Handlers.{ServesRoute}
@@ -21,7 +22,11 @@ use Rattle.secoc_node.specs.State.{IsCovered}
 use Rattle.secoc_node.specs.Keeping.{node_in, state_in, IsNode, FindsRoute}
 use Rattle.secoc_node.proofs.CallLaws.{Done}
 use Rattle.secoc_node.proofs.CoveredLaws.{covered_same, covered_past}
-use Rattle.secoc_node.proofs.RouteLaws.{with_counter_at, place_at, route_id, got_here, made_of, keeps_its_bound, counter_is, bound_is, moved_done, failed_done}
+use Rattle.secoc_node.proofs.RouteLaws.{with_counter_at, place_at, route_id, got_here, made_of, keeps_its_bound, counter_is, bound_is, moved_done, same_state, same_done, failed_done}
+
+-- the PDU of a payload of at most 60 bytes
+pub fits_a_pdu : (len count : ℕ) → len ≡ count + 4 → (1 ≤ count) × (count ≤ 60) → len ≤ 64
+fits_a_pdu len count is most = omega arith
 
 -- the sender in a counter
 abbrev sender_in : SenderCounter → RouteCounter → SenderCounter
@@ -118,6 +123,20 @@ module _ (known : Known) (store : CellsState) (is : IsNode known store) (up : kn
     sent_others tx' left made =
         covered_past known store is up id place route finds (of_route.Sends tx') change left
         (subst (λ i. MakesChange (14 + place) i Sends change store left) tx_id (subst (λ p. MakesChange p tx.id Sends change store left) tx_place made))
+
+    -- the payload was refused
+    tx_again : (tx' : SenderCounter) → tx' ≡ tx → of_route.Sends tx' ≡ get_or known.counters.items place (of_route.Sends tx')
+    tx_again tx' same = subst (λ d. d ≡ get_or known.counters.items place d) (of ∙ ap (λ (t : SenderCounter). of_route.Sends t) (sym same)) got
+
+    pub refused_state : (tx' : SenderCounter) (left : CellsState) → tx' ≡ tx → left ≡ store → state_in (with_counter_at known place (of_route.Sends tx')) left ≡ state_in known store
+    refused_state tx' left same untouched = same_state known store is up id Sends place route finds (of_route.Sends tx') left (tx_again tx' same) untouched
+
+    pub send_refused : (payload : List ℕ) (line : Line) (tx' : SenderCounter) (left : CellsState) → tx' ≡ tx → left ≡ store
+        → NodeStep (node_in known) (sends route.id payload) line (node_in known)
+        → Done known store (sends id payload) line (with_counter_at known place (of_route.Sends tx')) left
+    send_refused payload line tx' left same untouched step =
+        same_done known store is up id Sends place route finds (of_route.Sends tx') left (tx_again tx' same) untouched (sends id payload) line
+        (subst (λ i. NodeStep (node_in known) (sends i payload) line (node_in known)) (route_id known store is up id Sends place route finds) step)
 
     -- the disk failed as the bound was put
     pub send_failed : (payload : List ℕ) (bound : ℕ) (tx' : SenderCounter) (left : CellsState) (fallen : Known) → tx' ≡ tx

@@ -7,7 +7,7 @@ use Rattle.bus_machine.specs.Steps.{sends, receives}
 use Rattle.secoc_node.specs.declared.faults.NodeFault.{NodeFault}
 use Rattle.secoc_node.specs.Lines.{refusal_of_fault}
 use Rattle.secoc_gateway.proofs.Arriving.{reason_of, brought_line, in_time, forwards_right, drops_not, refuses_not}
-use Rattle.secoc_gateway.proofs.NodeTurns.{sends_no_cut, receives_no_cut, unmarked_turn, refuses, left_alone}
+use Rattle.bus_world.proofs.Turning.{calm_turn, sends_no_cut, receives_no_cut, faults_told, alone_told, unmoved_by}
 use Rattle.secoc_gateway.proofs.passing.pass_on.Goals as goal
 
 -- ---- what was accepted departed
@@ -28,12 +28,12 @@ pub returns-in-Ok-clause-turn : goal.returns-in-Ok-clause-turn
 returns-in-Ok-clause-turn g c place = record {
   first = Accepted c.args.id c.in-Ok-Accepted.freshness (take c.in-Ok-Accepted.len c.args.pdu.now) None;
   between = c.receive.new.self;
-  arrives = unmarked_turn c.args.node.now c.receive.new.self (receives c.args.id c.args.pdu.now) _
+  arrives = calm_turn c.args.node.now c.receive.new.self (receives c.args.id c.args.pdu.now) _
       (rw c.in-Ok-Accepted.field-0-is at (c.in-Ok-Accepted.ensures.step None))
       (receives_no_cut c.args.id c.args.pdu.now) c.receive.ensures.layout c.receive.ensures.runs c.receive.ensures.fits c.in-Ok-Accepted.ensures.faults tt c.receive.ensures.sound;
   departs = (
     Sent c.args.second c.in-Ok.sent.freshness (take c.in-Ok.sent.len c.send.new.out),
-    unmarked_turn c.receive.new.self c.send.new.self (sends c.args.second (take c.in-Ok-Accepted.len c.args.pdu.now)) _
+    calm_turn c.receive.new.self c.send.new.self (sends c.args.second (take c.in-Ok-Accepted.len c.args.pdu.now)) _
         (rw c.front-payload.ensures at c.in-Ok.ensures.step)
         (sends_no_cut c.args.second (take c.in-Ok-Accepted.len c.args.pdu.now)) c.send.ensures.layout c.send.ensures.runs c.send.ensures.fits
         c.in-Ok.ensures.faults
@@ -80,16 +80,16 @@ pub returns-in-Err-send-clause-turn : goal.returns-in-Err-send-clause-turn
 returns-in-Err-send-clause-turn g c place = record {
   first = Accepted c.args.id c.in-Ok-Accepted.freshness (take c.in-Ok-Accepted.len c.args.pdu.now) None;
   between = c.receive.new.self;
-  arrives = unmarked_turn c.args.node.now c.receive.new.self (receives c.args.id c.args.pdu.now) _
+  arrives = calm_turn c.args.node.now c.receive.new.self (receives c.args.id c.args.pdu.now) _
       (rw c.in-Ok-Accepted.field-0-is at (c.in-Ok-Accepted.ensures.step None))
       (receives_no_cut c.args.id c.args.pdu.now) c.receive.ensures.layout c.receive.ensures.runs c.receive.ensures.fits c.in-Ok-Accepted.ensures.faults tt c.receive.ensures.sound;
   departs = (
     Refused (refusal_of_fault c.in-Err-send.fault),
-    unmarked_turn c.receive.new.self c.send.new.self (sends c.args.second (take c.in-Ok-Accepted.len c.args.pdu.now)) _
+    calm_turn c.receive.new.self c.send.new.self (sends c.args.second (take c.in-Ok-Accepted.len c.args.pdu.now)) _
         (rw c.front-payload.ensures at c.in-Err-send.ensures.step)
         (sends_no_cut c.args.second (take c.in-Ok-Accepted.len c.args.pdu.now)) c.send.ensures.layout c.send.ensures.runs c.send.ensures.fits
-        (refuses c.in-Err-send.fault c.receive.new.self c.send.new.self (λ e. c.in-Err-send.ensures.faulted (ap Err e)) c.in-Err-send.ensures.untouched).faults
-        (refuses c.in-Err-send.fault c.receive.new.self c.send.new.self (λ e. c.in-Err-send.ensures.faulted (ap Err e)) c.in-Err-send.ensures.untouched).alone c.send.ensures.sound,
+        (faults_told c.in-Err-send.fault c.receive.new.self c.send.new.self (λ e. c.in-Err-send.ensures.faulted (ap Err e)) c.in-Err-send.ensures.untouched)
+        (alone_told c.in-Err-send.fault c.receive.new.self c.send.new.self c.in-Err-send.ensures.untouched) c.send.ensures.sound,
     refl,
   );
 }
@@ -128,7 +128,7 @@ pub returns-in-Ok-FreshnessFailure-clause-turn : goal.returns-in-Ok-FreshnessFai
 returns-in-Ok-FreshnessFailure-clause-turn g c place = record {
   first = FreshnessFailure;
   between = c.receive.new.self;
-  arrives = unmarked_turn c.args.node.now c.receive.new.self (receives c.args.id c.args.pdu.now) _
+  arrives = calm_turn c.args.node.now c.receive.new.self (receives c.args.id c.args.pdu.now) _
       (rw c.in-Ok-FreshnessFailure.field-0-is at (c.in-Ok-FreshnessFailure.ensures.step None))
       (receives_no_cut c.args.id c.args.pdu.now) c.receive.ensures.layout c.receive.ensures.runs c.receive.ensures.fits c.in-Ok-FreshnessFailure.ensures.faults
       (rw c.in-Ok-FreshnessFailure.field-0-is at c.in-Ok-FreshnessFailure.ensures.untouched) c.receive.ensures.sound;
@@ -155,7 +155,7 @@ pub returns-in-Ok-VerificationFailure-clause-turn : goal.returns-in-Ok-Verificat
 returns-in-Ok-VerificationFailure-clause-turn g c place = record {
   first = VerificationFailure;
   between = c.receive.new.self;
-  arrives = unmarked_turn c.args.node.now c.receive.new.self (receives c.args.id c.args.pdu.now) _
+  arrives = calm_turn c.args.node.now c.receive.new.self (receives c.args.id c.args.pdu.now) _
       (rw c.in-Ok-VerificationFailure.field-0-is at (c.in-Ok-VerificationFailure.ensures.step None))
       (receives_no_cut c.args.id c.args.pdu.now) c.receive.ensures.layout c.receive.ensures.runs c.receive.ensures.fits c.in-Ok-VerificationFailure.ensures.faults
       (rw c.in-Ok-VerificationFailure.field-0-is at c.in-Ok-VerificationFailure.ensures.untouched) c.receive.ensures.sound;
@@ -181,11 +181,11 @@ pub returns-in-Err-clause-turn : goal.returns-in-Err-clause-turn
 returns-in-Err-clause-turn g c place = record {
   first = Refused (refusal_of_fault c.in-Err.fault);
   between = c.receive.new.self;
-  arrives = unmarked_turn c.args.node.now c.receive.new.self (receives c.args.id c.args.pdu.now) _
+  arrives = calm_turn c.args.node.now c.receive.new.self (receives c.args.id c.args.pdu.now) _
       (c.in-Err.ensures.step None)
       (receives_no_cut c.args.id c.args.pdu.now) c.receive.ensures.layout c.receive.ensures.runs c.receive.ensures.fits
-      (refuses c.in-Err.fault c.args.node.now c.receive.new.self (λ e. c.in-Err.ensures.faulted (ap Err e)) (left_alone c.in-Err.fault _ c.in-Err.ensures.untouched)).faults
-      (refuses c.in-Err.fault c.args.node.now c.receive.new.self (λ e. c.in-Err.ensures.faulted (ap Err e)) (left_alone c.in-Err.fault _ c.in-Err.ensures.untouched)).alone
+      (faults_told c.in-Err.fault c.args.node.now c.receive.new.self (λ e. c.in-Err.ensures.faulted (ap Err e)) (unmoved_by c.in-Err.fault _ c.in-Err.ensures.untouched))
+      (alone_told c.in-Err.fault c.args.node.now c.receive.new.self (unmoved_by c.in-Err.fault _ c.in-Err.ensures.untouched))
       c.receive.ensures.sound;
   departs = (refl, refl);
 }

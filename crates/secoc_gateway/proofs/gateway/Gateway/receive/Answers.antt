@@ -4,7 +4,7 @@ use Rattle.bus_machine.specs.Steps.{receives}
 use Rattle.secoc_node.specs.Lines.{received_line}
 use Rattle.secoc_node.specs.State.{FitsNow}
 use Rattle.secoc_gateway.specs.State.{over}
-use Rattle.secoc_gateway.proofs.Arriving.{step_config}
+use Rattle.bus_world.proofs.Turning.{step_config}
 use Rattle.secoc_gateway.proofs.Paired.{AreGood-same}
 use Rattle.secoc_gateway.proofs.gateway.Gateway.receive.Goals as goal
 

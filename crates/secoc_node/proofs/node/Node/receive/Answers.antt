@@ -1,19 +1,25 @@
-use Rattle.std.proofs.Common.{◌≡◌, ap, sym, subst, Ok, Err}
-use Rattle.std.specs.Prelude.{None}
+use Rattle.std.proofs.Common.{◌≡◌, ℕ, ap, sym, subst, ◌∙◌, Ok, Err, length}
+use Rattle.std.specs.Prelude.{Option, None}
+use Rattle.cut_disk.specs.Calls.{Rose}
 use Rattle.bus_machine.specs.declared.lines.Line.TheVariants.{Refused}
-use Rattle.bus_machine.specs.declared.lines.Refusal.TheVariants.{BadLength, MemoryFailure}
-use Rattle.bus_machine.specs.Honest.{IsInTime}
+use Rattle.bus_machine.specs.declared.lines.Refusal.TheVariants.{BadLength, Key, MemoryFailure}
+use Rattle.bus_machine.specs.Honest.{IsInTime, IsHeard}
 use Rattle.bus_machine.specs.Node.{place_of}
 use Rattle.bus_machine.specs.Steps.{receives, NodeStep}
 use Rattle.freshness_routes.specs.declared.routes.Direction.TheVariants.{Receives}
 use Rattle.secoc_receiver.specs.Receiving.{IfUnmoved, line_of_receive, after_receive}
+use Rattle.secoc_receiver.specs.declared.receiver.Reception.{Reception}
 use Rattle.secoc_receiver.specs.declared.receiver.ReceiveFault.{ReceiveFault}
 use Rattle.secoc_node.specs.declared.counters.RouteCounter.TheVariants as of_route
-use Rattle.secoc_node.specs.Lines.{received_line}
-use Rattle.secoc_node.specs.State.{NodeState, FitsNow}
+use Rattle.secoc_node.specs.declared.faults.NodeFault.{NodeFault}
+use Rattle.secoc_node.specs.declared.faults.NodeFault.TheVariants as fault
+use Rattle.secoc_node.specs.Lines.{received_line, IfLeftAlone}
+use Rattle.secoc_node.specs.State.{NodeState}
 use Rattle.secoc_node.specs.Keeping.{node_in, state_in}
-use Rattle.secoc_node.proofs.RouteLaws.{with_counter_at, fits_same, route_id}
-use Rattle.secoc_node.proofs.ReceiveLaws.{no_sender, rx_kept, has_receiver, got_again, said_done, said_covered, receive_failed, heard_by}
+use Rattle.secoc_node.proofs.CallLaws.{Done, step_from, served_from}
+use Rattle.secoc_node.proofs.RouteLaws.{with_counter_at, PastRoute, not_down, not_unrouted, no_fault}
+use Rattle.secoc_node.proofs.ReceiveLaws.{no_sender, rx_kept, has_receiver, said_done, said_length, said_covered, said_untouched, refused_state, receive_refused, receive_failed, heard_by}
+use Rattle.secoc_node.proofs.node.Node.receive.Given.{Over}
 use Rattle.secoc_node.proofs.node.Node.receive.Goals as goal
 
 pub unreachable-requires : goal.unreachable-requires
@@ -28,22 +34,42 @@ receive-requires-clause-kept g c =
 
 -- ---- a verdict was given
 
-pub invariant_of-self : goal.invariant_of-self
-invariant_of-self g c =
-    (said_done c.self.inside.known (g.C.Cells.state c.self.inside.cells) c.self.invariant c.if-not-self.false c.args.id c.in-Some.place c.in-Some.route c.in-Some.ensures
-    c.index_mut.result.now c.index_mut.ensures.value c.in-Receives.rx c.in-Receives.is
-    c.args.pdu.now None c.in-Ok.said c.receive.new.rx (g.C.Cells.state c.receive.new.cells) c.in-Ok.ensures.counted c.in-Ok.ensures.made c.in-Ok.ensures.as_before c.in-Ok.ensures.untouched
-    (c.in-Ok.ensures.step (node_in c.self.inside.known) None (has_receiver c.self.inside.known (g.C.Cells.state c.self.inside.cells) c.self.invariant c.if-not-self.false c.args.id c.in-Some.place c.in-Some.route c.in-Some.ensures
-    c.index_mut.result.now c.index_mut.ensures.value c.in-Receives.rx c.in-Receives.is))).node
-
-pub returns-in-Ok-clause-step : goal.returns-in-Ok-clause-step
-returns-in-Ok-clause-step g c source =
-    subst (λ (s : NodeState). NodeStep s.node (receives c.args.id c.args.pdu.now) (received_line c.args.id c.args.pdu.now source (Ok c.in-Ok.said)) (node_in (with_counter_at c.self.inside.known c.in-Some.place (of_route.Receives c.receive.new.rx)))) c.self.view_is
-    (said_done c.self.inside.known (g.C.Cells.state c.self.inside.cells) c.self.invariant c.if-not-self.false c.args.id c.in-Some.place c.in-Some.route c.in-Some.ensures
+said : (g : Over) (c : goal.In-Ok g) (source : Option ℕ)
+    → Done c.self.inside.known (g.C.Cells.state c.self.inside.cells) (receives c.args.id c.args.pdu.now) (received_line c.args.id c.args.pdu.now source (Ok c.in-Ok.said))
+    (with_counter_at c.self.inside.known c.in-Some.place (of_route.Receives c.receive.new.rx)) (g.C.Cells.state c.receive.new.cells)
+said g c source =
+    said_done c.self.inside.known (g.C.Cells.state c.self.inside.cells) c.self.invariant c.if-not-self.false c.args.id c.in-Some.place c.in-Some.route c.in-Some.ensures
     c.index_mut.result.now c.index_mut.ensures.value c.in-Receives.rx c.in-Receives.is
     c.args.pdu.now source c.in-Ok.said c.receive.new.rx (g.C.Cells.state c.receive.new.cells) c.in-Ok.ensures.counted c.in-Ok.ensures.made c.in-Ok.ensures.as_before c.in-Ok.ensures.untouched
     (c.in-Ok.ensures.step (node_in c.self.inside.known) source (has_receiver c.self.inside.known (g.C.Cells.state c.self.inside.cells) c.self.invariant c.if-not-self.false c.args.id c.in-Some.place c.in-Some.route c.in-Some.ensures
-    c.index_mut.result.now c.index_mut.ensures.value c.in-Receives.rx c.in-Receives.is))).step
+    c.index_mut.result.now c.index_mut.ensures.value c.in-Receives.rx c.in-Receives.is))
+
+pub invariant_of-self : goal.invariant_of-self
+invariant_of-self g c = (said g c None).node
+
+pub returns-in-Ok-clause-step : goal.returns-in-Ok-clause-step
+returns-in-Ok-clause-step g c source = step_from c.args.self.now c.self.view_is (said g c source)
+
+pub returns-in-Ok-clause-down : goal.returns-in-Ok-clause-down
+returns-in-Ok-clause-down g c = not_down c.self.inside.known (g.C.Cells.state c.self.inside.cells) c.self.invariant c.if-not-self.false c.args.id Receives c.in-Some.place c.in-Some.route c.in-Some.ensures c.args.self.now c.self.view_is Reception (Ok c.in-Ok.said) tt
+
+pub returns-in-Ok-clause-no_route : goal.returns-in-Ok-clause-no_route
+returns-in-Ok-clause-no_route g c = not_unrouted c.self.inside.known (g.C.Cells.state c.self.inside.cells) c.self.invariant c.if-not-self.false c.args.id Receives c.in-Some.place c.in-Some.route c.in-Some.ensures c.args.self.now c.self.view_is Reception (Ok c.in-Ok.said) tt
+
+pub returns-in-Ok-clause-layout : goal.returns-in-Ok-clause-layout
+returns-in-Ok-clause-layout g c = (served_from c.args.self.now c.self.view_is (said g c None)).layout
+
+pub returns-in-Ok-clause-runs : goal.returns-in-Ok-clause-runs
+returns-in-Ok-clause-runs g c = (served_from c.args.self.now c.self.view_is (said g c None)).runs
+
+pub returns-in-Ok-clause-fits : goal.returns-in-Ok-clause-fits
+returns-in-Ok-clause-fits g c = (served_from c.args.self.now c.self.view_is (said g c None)).fits
+
+pub returns-in-Ok-clause-sound : goal.returns-in-Ok-clause-sound
+returns-in-Ok-clause-sound g c = (said g c None).node.sound
+
+pub returns-in-Ok-clause-length : goal.returns-in-Ok-clause-length
+returns-in-Ok-clause-length g c = said_length c.in-Ok.said (length c.args.pdu.now) c.in-Ok.ensures.length
 
 pub returns-in-Ok-clause-covered : goal.returns-in-Ok-clause-covered
 returns-in-Ok-clause-covered g c =
@@ -54,57 +80,132 @@ returns-in-Ok-clause-covered g c =
 pub returns-in-Ok-clause-honest : goal.returns-in-Ok-clause-honest
 returns-in-Ok-clause-honest g c sent source id_is pdu_is in_time fits =
     heard_by (node_in c.self.inside.known) c.args.id c.args.pdu.now (received_line c.args.id c.args.pdu.now source (Ok c.in-Ok.said)) (node_in (with_counter_at c.self.inside.known c.in-Some.place (of_route.Receives c.receive.new.rx))) c.self.invariant.sound
-    (said_done c.self.inside.known (g.C.Cells.state c.self.inside.cells) c.self.invariant c.if-not-self.false c.args.id c.in-Some.place c.in-Some.route c.in-Some.ensures
-    c.index_mut.result.now c.index_mut.ensures.value c.in-Receives.rx c.in-Receives.is
-    c.args.pdu.now source c.in-Ok.said c.receive.new.rx (g.C.Cells.state c.receive.new.cells) c.in-Ok.ensures.counted c.in-Ok.ensures.made c.in-Ok.ensures.as_before c.in-Ok.ensures.untouched
-    (c.in-Ok.ensures.step (node_in c.self.inside.known) source (has_receiver c.self.inside.known (g.C.Cells.state c.self.inside.cells) c.self.invariant c.if-not-self.false c.args.id c.in-Some.place c.in-Some.route c.in-Some.ensures
-    c.index_mut.result.now c.index_mut.ensures.value c.in-Receives.rx c.in-Receives.is))).step sent id_is pdu_is (subst (λ (s : NodeState). IsInTime s.node sent (place_of s.node c.args.id Receives)) (sym c.self.view_is) in_time) fits
+    (said g c source).step sent id_is pdu_is (subst (λ (s : NodeState). IsInTime s.node sent (place_of s.node c.args.id Receives)) (sym c.self.view_is) in_time) fits
 
-pub returns-in-Ok-clause-fits : goal.returns-in-Ok-clause-fits
-returns-in-Ok-clause-fits g c =
-    subst (λ s. FitsNow s → FitsNow (state_in (with_counter_at c.self.inside.known c.in-Some.place (of_route.Receives c.receive.new.rx)) (g.C.Cells.state c.receive.new.cells))) c.self.view_is
-    (said_done c.self.inside.known (g.C.Cells.state c.self.inside.cells) c.self.invariant c.if-not-self.false c.args.id c.in-Some.place c.in-Some.route c.in-Some.ensures
+pub returns-in-Ok-clause-untouched : goal.returns-in-Ok-clause-untouched
+returns-in-Ok-clause-untouched g c =
+    said_untouched c.self.inside.known (g.C.Cells.state c.self.inside.cells) c.self.invariant c.if-not-self.false c.args.id c.in-Some.place c.in-Some.route c.in-Some.ensures
     c.index_mut.result.now c.index_mut.ensures.value c.in-Receives.rx c.in-Receives.is
-    c.args.pdu.now None c.in-Ok.said c.receive.new.rx (g.C.Cells.state c.receive.new.cells) c.in-Ok.ensures.counted c.in-Ok.ensures.made c.in-Ok.ensures.as_before c.in-Ok.ensures.untouched
-    (c.in-Ok.ensures.step (node_in c.self.inside.known) None (has_receiver c.self.inside.known (g.C.Cells.state c.self.inside.cells) c.self.invariant c.if-not-self.false c.args.id c.in-Some.place c.in-Some.route c.in-Some.ensures
-    c.index_mut.result.now c.index_mut.ensures.value c.in-Receives.rx c.in-Receives.is))).served.fits
+    c.args.self.now c.in-Ok.said c.receive.new.rx (g.C.Cells.state c.receive.new.cells) c.self.view_is c.in-Ok.ensures.as_before c.in-Ok.ensures.untouched
+
+pub returns-in-Ok-clause-faulted : goal.returns-in-Ok-clause-faulted
+returns-in-Ok-clause-faulted g c = no_fault Reception _ (Ok c.in-Ok.said) tt
+
+pub returns-in-Ok-clause-faults : goal.returns-in-Ok-clause-faults
+returns-in-Ok-clause-faults g c = c.in-Ok.ensures.faults ∙ ap (λ (s : NodeState). s.store.disk.faults) c.self.view_is
 
 -- ---- it was refused
 
-pub returns-in-Err-BadLength-clause-honest : goal.returns-in-Err-BadLength-clause-honest
-returns-in-Err-BadLength-clause-honest g c sent source id_is pdu_is in_time fits =
-    let known = c.self.inside.known in
-    let step = subst (λ (f : ReceiveFault). NodeStep (node_in known) (receives c.in-Some.route.id c.args.pdu.now) (line_of_receive c.in-Some.route.id c.args.pdu.now source (Err f))
-    (after_receive (node_in known) c.in-Some.route.id (Err f))) c.in-Err-BadLength.field-0-is
-    (c.in-Err-BadLength.ensures.step (node_in known) source (has_receiver c.self.inside.known (g.C.Cells.state c.self.inside.cells) c.self.invariant c.if-not-self.false c.args.id c.in-Some.place c.in-Some.route c.in-Some.ensures
-    c.index_mut.result.now c.index_mut.ensures.value c.in-Receives.rx c.in-Receives.is)) in
-    let mine = subst (λ i. NodeStep (node_in known) (receives i c.args.pdu.now) (Refused BadLength) (node_in known)) (route_id c.self.inside.known (g.C.Cells.state c.self.inside.cells) c.self.invariant c.if-not-self.false c.args.id Receives c.in-Some.place c.in-Some.route c.in-Some.ensures) step in
-    heard_by (node_in known) c.args.id c.args.pdu.now (Refused BadLength) (node_in known) c.self.invariant.sound mine sent id_is pdu_is
-    (subst (λ (s : NodeState). IsInTime s.node sent (place_of s.node c.args.id Receives)) (sym c.self.view_is) in_time) fits
+bad_length : (g : Over) (c : goal.In-Err-BadLength g)
+    → Done c.self.inside.known (g.C.Cells.state c.self.inside.cells) (receives c.args.id c.args.pdu.now) (Refused BadLength) (with_counter_at c.self.inside.known c.in-Some.place (of_route.Receives c.receive.new.rx)) (g.C.Cells.state c.receive.new.cells)
+bad_length g c =
+    receive_refused c.self.inside.known (g.C.Cells.state c.self.inside.cells) c.self.invariant c.if-not-self.false c.args.id c.in-Some.place c.in-Some.route c.in-Some.ensures
+    c.index_mut.result.now c.index_mut.ensures.value c.in-Receives.rx c.in-Receives.is
+    c.args.pdu.now (Refused BadLength) c.receive.new.rx (g.C.Cells.state c.receive.new.cells) c.in-Err-BadLength.ensures.as_before
+    (subst (λ (f : ReceiveFault). IfUnmoved (Err f) (g.C.Cells.state c.receive.new.cells ≡ g.C.Cells.state c.self.inside.cells)) c.in-Err-BadLength.field-0-is c.in-Err-BadLength.ensures.untouched)
+    (subst (λ (f : ReceiveFault). NodeStep (node_in c.self.inside.known) (receives c.in-Some.route.id c.args.pdu.now) (line_of_receive c.in-Some.route.id c.args.pdu.now None (Err f))
+    (after_receive (node_in c.self.inside.known) c.in-Some.route.id (Err f))) c.in-Err-BadLength.field-0-is
+    (c.in-Err-BadLength.ensures.step (node_in c.self.inside.known) None (has_receiver c.self.inside.known (g.C.Cells.state c.self.inside.cells) c.self.invariant c.if-not-self.false c.args.id c.in-Some.place c.in-Some.route c.in-Some.ensures
+    c.index_mut.result.now c.index_mut.ensures.value c.in-Receives.rx c.in-Receives.is)))
+
+pub invariant_of-self-in-Err-BadLength : goal.invariant_of-self-in-Err-BadLength
+invariant_of-self-in-Err-BadLength g c = (bad_length g c).node
+
+pub returns-in-Err-BadLength-clause-step : goal.returns-in-Err-BadLength-clause-step
+returns-in-Err-BadLength-clause-step g c source = step_from c.args.self.now c.self.view_is (bad_length g c)
+
+pub returns-in-Err-BadLength-clause-down : goal.returns-in-Err-BadLength-clause-down
+returns-in-Err-BadLength-clause-down g c = not_down c.self.inside.known (g.C.Cells.state c.self.inside.cells) c.self.invariant c.if-not-self.false c.args.id Receives c.in-Some.place c.in-Some.route c.in-Some.ensures c.args.self.now c.self.view_is Reception (Err fault.BadLength) tt
+
+pub returns-in-Err-BadLength-clause-no_route : goal.returns-in-Err-BadLength-clause-no_route
+returns-in-Err-BadLength-clause-no_route g c = not_unrouted c.self.inside.known (g.C.Cells.state c.self.inside.cells) c.self.invariant c.if-not-self.false c.args.id Receives c.in-Some.place c.in-Some.route c.in-Some.ensures c.args.self.now c.self.view_is Reception (Err fault.BadLength) tt
+
+pub returns-in-Err-BadLength-clause-layout : goal.returns-in-Err-BadLength-clause-layout
+returns-in-Err-BadLength-clause-layout g c = (served_from c.args.self.now c.self.view_is (bad_length g c)).layout
+
+pub returns-in-Err-BadLength-clause-runs : goal.returns-in-Err-BadLength-clause-runs
+returns-in-Err-BadLength-clause-runs g c = (served_from c.args.self.now c.self.view_is (bad_length g c)).runs
 
 pub returns-in-Err-BadLength-clause-fits : goal.returns-in-Err-BadLength-clause-fits
-returns-in-Err-BadLength-clause-fits g c =
-    let left = g.C.Cells.state c.receive.new.cells in
-    let untouched = subst (λ (f : ReceiveFault). IfUnmoved (Err f) (left ≡ g.C.Cells.state c.self.inside.cells)) c.in-Err-BadLength.field-0-is c.in-Err-BadLength.ensures.untouched in
-    subst (λ s. FitsNow s → FitsNow (state_in (with_counter_at c.self.inside.known c.in-Some.place (of_route.Receives c.receive.new.rx)) left)) c.self.view_is
-    (fits_same c.self.inside.known (g.C.Cells.state c.self.inside.cells) c.self.invariant c.if-not-self.false c.args.id Receives c.in-Some.place c.in-Some.route c.in-Some.ensures (of_route.Receives c.receive.new.rx) left
-    (got_again c.self.inside.known (g.C.Cells.state c.self.inside.cells) c.self.invariant c.if-not-self.false c.args.id c.in-Some.place c.in-Some.route c.in-Some.ensures
-    c.index_mut.result.now c.index_mut.ensures.value c.in-Receives.rx c.in-Receives.is c.receive.new.rx c.in-Err-BadLength.ensures.as_before) untouched)
+returns-in-Err-BadLength-clause-fits g c = (served_from c.args.self.now c.self.view_is (bad_length g c)).fits
+
+pub returns-in-Err-BadLength-clause-sound : goal.returns-in-Err-BadLength-clause-sound
+returns-in-Err-BadLength-clause-sound g c = (bad_length g c).node.sound
+
+pub returns-in-Err-BadLength-clause-honest : goal.returns-in-Err-BadLength-clause-honest
+returns-in-Err-BadLength-clause-honest g c sent source id_is pdu_is in_time fits =
+    heard_by (node_in c.self.inside.known) c.args.id c.args.pdu.now (Refused BadLength) (node_in (with_counter_at c.self.inside.known c.in-Some.place (of_route.Receives c.receive.new.rx))) c.self.invariant.sound
+    (bad_length g c).step sent id_is pdu_is (subst (λ (s : NodeState). IsInTime s.node sent (place_of s.node c.args.id Receives)) (sym c.self.view_is) in_time) fits
+
+pub returns-in-Err-BadLength-clause-untouched : goal.returns-in-Err-BadLength-clause-untouched
+returns-in-Err-BadLength-clause-untouched g c =
+    refused_state c.self.inside.known (g.C.Cells.state c.self.inside.cells) c.self.invariant c.if-not-self.false c.args.id c.in-Some.place c.in-Some.route c.in-Some.ensures
+    c.index_mut.result.now c.index_mut.ensures.value c.in-Receives.rx c.in-Receives.is
+    c.receive.new.rx (g.C.Cells.state c.receive.new.cells) c.in-Err-BadLength.ensures.as_before
+    (subst (λ (f : ReceiveFault). IfUnmoved (Err f) (g.C.Cells.state c.receive.new.cells ≡ g.C.Cells.state c.self.inside.cells)) c.in-Err-BadLength.field-0-is c.in-Err-BadLength.ensures.untouched)
+    ∙ c.self.view_is
+
+pub returns-in-Err-BadLength-clause-faulted : goal.returns-in-Err-BadLength-clause-faulted
+returns-in-Err-BadLength-clause-faulted g c = no_fault Reception _ (Err fault.BadLength) tt
+
+key : (g : Over) (c : goal.In-Err-Key g)
+    → Done c.self.inside.known (g.C.Cells.state c.self.inside.cells) (receives c.args.id c.args.pdu.now) (Refused (Key c.in-Err-Key.refusal)) (with_counter_at c.self.inside.known c.in-Some.place (of_route.Receives c.receive.new.rx)) (g.C.Cells.state c.receive.new.cells)
+key g c =
+    receive_refused c.self.inside.known (g.C.Cells.state c.self.inside.cells) c.self.invariant c.if-not-self.false c.args.id c.in-Some.place c.in-Some.route c.in-Some.ensures
+    c.index_mut.result.now c.index_mut.ensures.value c.in-Receives.rx c.in-Receives.is
+    c.args.pdu.now (Refused (Key c.in-Err-Key.refusal)) c.receive.new.rx (g.C.Cells.state c.receive.new.cells) c.in-Err-Key.ensures.as_before
+    (subst (λ (f : ReceiveFault). IfUnmoved (Err f) (g.C.Cells.state c.receive.new.cells ≡ g.C.Cells.state c.self.inside.cells)) c.in-Err-Key.field-0-is c.in-Err-Key.ensures.untouched)
+    (subst (λ (f : ReceiveFault). NodeStep (node_in c.self.inside.known) (receives c.in-Some.route.id c.args.pdu.now) (line_of_receive c.in-Some.route.id c.args.pdu.now None (Err f))
+    (after_receive (node_in c.self.inside.known) c.in-Some.route.id (Err f))) c.in-Err-Key.field-0-is
+    (c.in-Err-Key.ensures.step (node_in c.self.inside.known) None (has_receiver c.self.inside.known (g.C.Cells.state c.self.inside.cells) c.self.invariant c.if-not-self.false c.args.id c.in-Some.place c.in-Some.route c.in-Some.ensures
+    c.index_mut.result.now c.index_mut.ensures.value c.in-Receives.rx c.in-Receives.is)))
+
+pub invariant_of-self-in-Err-Key : goal.invariant_of-self-in-Err-Key
+invariant_of-self-in-Err-Key g c = (key g c).node
+
+pub returns-in-Err-Key-clause-step : goal.returns-in-Err-Key-clause-step
+returns-in-Err-Key-clause-step g c source = step_from c.args.self.now c.self.view_is (key g c)
+
+pub returns-in-Err-Key-clause-down : goal.returns-in-Err-Key-clause-down
+returns-in-Err-Key-clause-down g c = not_down c.self.inside.known (g.C.Cells.state c.self.inside.cells) c.self.invariant c.if-not-self.false c.args.id Receives c.in-Some.place c.in-Some.route c.in-Some.ensures c.args.self.now c.self.view_is Reception (Err (fault.Key c.in-Err-Key.refusal)) tt
+
+pub returns-in-Err-Key-clause-no_route : goal.returns-in-Err-Key-clause-no_route
+returns-in-Err-Key-clause-no_route g c = not_unrouted c.self.inside.known (g.C.Cells.state c.self.inside.cells) c.self.invariant c.if-not-self.false c.args.id Receives c.in-Some.place c.in-Some.route c.in-Some.ensures c.args.self.now c.self.view_is Reception (Err (fault.Key c.in-Err-Key.refusal)) tt
+
+pub returns-in-Err-Key-clause-layout : goal.returns-in-Err-Key-clause-layout
+returns-in-Err-Key-clause-layout g c = (served_from c.args.self.now c.self.view_is (key g c)).layout
+
+pub returns-in-Err-Key-clause-runs : goal.returns-in-Err-Key-clause-runs
+returns-in-Err-Key-clause-runs g c = (served_from c.args.self.now c.self.view_is (key g c)).runs
 
 pub returns-in-Err-Key-clause-fits : goal.returns-in-Err-Key-clause-fits
-returns-in-Err-Key-clause-fits g c =
-    let left = g.C.Cells.state c.receive.new.cells in
-    let untouched = subst (λ (f : ReceiveFault). IfUnmoved (Err f) (left ≡ g.C.Cells.state c.self.inside.cells)) c.in-Err-Key.field-0-is c.in-Err-Key.ensures.untouched in
-    subst (λ s. FitsNow s → FitsNow (state_in (with_counter_at c.self.inside.known c.in-Some.place (of_route.Receives c.receive.new.rx)) left)) c.self.view_is
-    (fits_same c.self.inside.known (g.C.Cells.state c.self.inside.cells) c.self.invariant c.if-not-self.false c.args.id Receives c.in-Some.place c.in-Some.route c.in-Some.ensures (of_route.Receives c.receive.new.rx) left
-    (got_again c.self.inside.known (g.C.Cells.state c.self.inside.cells) c.self.invariant c.if-not-self.false c.args.id c.in-Some.place c.in-Some.route c.in-Some.ensures
-    c.index_mut.result.now c.index_mut.ensures.value c.in-Receives.rx c.in-Receives.is c.receive.new.rx c.in-Err-Key.ensures.as_before) untouched)
+returns-in-Err-Key-clause-fits g c = (served_from c.args.self.now c.self.view_is (key g c)).fits
+
+pub returns-in-Err-Key-clause-sound : goal.returns-in-Err-Key-clause-sound
+returns-in-Err-Key-clause-sound g c = (key g c).node.sound
+
+pub returns-in-Err-Key-clause-honest : goal.returns-in-Err-Key-clause-honest
+returns-in-Err-Key-clause-honest g c sent source id_is pdu_is in_time fits =
+    heard_by (node_in c.self.inside.known) c.args.id c.args.pdu.now (Refused (Key c.in-Err-Key.refusal)) (node_in (with_counter_at c.self.inside.known c.in-Some.place (of_route.Receives c.receive.new.rx))) c.self.invariant.sound
+    (key g c).step sent id_is pdu_is (subst (λ (s : NodeState). IsInTime s.node sent (place_of s.node c.args.id Receives)) (sym c.self.view_is) in_time) fits
+
+pub returns-in-Err-Key-clause-untouched : goal.returns-in-Err-Key-clause-untouched
+returns-in-Err-Key-clause-untouched g c =
+    refused_state c.self.inside.known (g.C.Cells.state c.self.inside.cells) c.self.invariant c.if-not-self.false c.args.id c.in-Some.place c.in-Some.route c.in-Some.ensures
+    c.index_mut.result.now c.index_mut.ensures.value c.in-Receives.rx c.in-Receives.is
+    c.receive.new.rx (g.C.Cells.state c.receive.new.cells) c.in-Err-Key.ensures.as_before
+    (subst (λ (f : ReceiveFault). IfUnmoved (Err f) (g.C.Cells.state c.receive.new.cells ≡ g.C.Cells.state c.self.inside.cells)) c.in-Err-Key.field-0-is c.in-Err-Key.ensures.untouched)
+    ∙ c.self.view_is
+
+pub returns-in-Err-Key-clause-faulted : goal.returns-in-Err-Key-clause-faulted
+returns-in-Err-Key-clause-faulted g c = no_fault Reception _ (Err (fault.Key c.in-Err-Key.refusal)) tt
 
 -- ---- the disk failed
 
-pub invariant_of-self-in-Err-Faulted : goal.invariant_of-self-in-Err-Faulted
-invariant_of-self-in-Err-Faulted g c =
-    (receive_failed c.self.inside.known (g.C.Cells.state c.self.inside.cells) c.self.invariant c.if-not-self.false c.args.id c.in-Some.place c.in-Some.route c.in-Some.ensures
+faulted : (g : Over) (c : goal.After-fail_at g)
+    → Done c.self.inside.known (g.C.Cells.state c.self.inside.cells) (receives c.args.id c.args.pdu.now) (Refused MemoryFailure) c.fail_at.new.self (g.C.Cells.state c.receive.new.cells)
+faulted g c =
+    receive_failed c.self.inside.known (g.C.Cells.state c.self.inside.cells) c.self.invariant c.if-not-self.false c.args.id c.in-Some.place c.in-Some.route c.in-Some.ensures
     c.index_mut.result.now c.index_mut.ensures.value c.in-Receives.rx c.in-Receives.is
     c.args.pdu.now c.in-Err-Faulted.bound c.receive.new.rx (g.C.Cells.state c.receive.new.cells) c.fail_at.new.self c.in-Err-Faulted.ensures.as_before
     (c.in-Err-Faulted.ensures.faulted c.in-Err-Faulted.bound (ap (λ (f : ReceiveFault). Err f) c.in-Err-Faulted.field-0-is)).failed.1
@@ -112,52 +213,41 @@ invariant_of-self-in-Err-Faulted g c =
     (after_receive (node_in c.self.inside.known) c.in-Some.route.id (Err f))) c.in-Err-Faulted.field-0-is
     (c.in-Err-Faulted.ensures.step (node_in c.self.inside.known) None (has_receiver c.self.inside.known (g.C.Cells.state c.self.inside.cells) c.self.invariant c.if-not-self.false c.args.id c.in-Some.place c.in-Some.route c.in-Some.ensures
     c.index_mut.result.now c.index_mut.ensures.value c.in-Receives.rx c.in-Receives.is)))
-    c.fail_at.ensures.down).node
+    c.fail_at.ensures.down
+
+past : (g : Over) (c : goal.After-fail_at g) → PastRoute {T = Reception} (Err c.fail_at.result)
+past g c = subst (λ (f : NodeFault). PastRoute {T = Reception} (Err f)) (sym c.fail_at.ensures.fault) tt
+
+pub invariant_of-self-in-Err-Faulted : goal.invariant_of-self-in-Err-Faulted
+invariant_of-self-in-Err-Faulted g c = (faulted g c).node
 
 pub returns-in-Err-Faulted-clause-step : goal.returns-in-Err-Faulted-clause-step
-returns-in-Err-Faulted-clause-step g c source =
-    rw c.fail_at.ensures.fault
-    (subst (λ (s : NodeState). NodeStep s.node (receives c.args.id c.args.pdu.now) (Refused MemoryFailure) (node_in c.fail_at.new.self)) c.self.view_is
-    (receive_failed c.self.inside.known (g.C.Cells.state c.self.inside.cells) c.self.invariant c.if-not-self.false c.args.id c.in-Some.place c.in-Some.route c.in-Some.ensures
-    c.index_mut.result.now c.index_mut.ensures.value c.in-Receives.rx c.in-Receives.is
-    c.args.pdu.now c.in-Err-Faulted.bound c.receive.new.rx (g.C.Cells.state c.receive.new.cells) c.fail_at.new.self c.in-Err-Faulted.ensures.as_before
-    (c.in-Err-Faulted.ensures.faulted c.in-Err-Faulted.bound (ap (λ (f : ReceiveFault). Err f) c.in-Err-Faulted.field-0-is)).failed.1
-    (subst (λ (f : ReceiveFault). NodeStep (node_in c.self.inside.known) (receives c.in-Some.route.id c.args.pdu.now) (line_of_receive c.in-Some.route.id c.args.pdu.now None (Err f))
-    (after_receive (node_in c.self.inside.known) c.in-Some.route.id (Err f))) c.in-Err-Faulted.field-0-is
-    (c.in-Err-Faulted.ensures.step (node_in c.self.inside.known) None (has_receiver c.self.inside.known (g.C.Cells.state c.self.inside.cells) c.self.invariant c.if-not-self.false c.args.id c.in-Some.place c.in-Some.route c.in-Some.ensures
-    c.index_mut.result.now c.index_mut.ensures.value c.in-Receives.rx c.in-Receives.is)))
-    c.fail_at.ensures.down).step)
+returns-in-Err-Faulted-clause-step g c source = rw c.fail_at.ensures.fault (step_from c.args.self.now c.self.view_is (faulted g c))
+
+pub returns-in-Err-Faulted-clause-down : goal.returns-in-Err-Faulted-clause-down
+returns-in-Err-Faulted-clause-down g c = not_down c.self.inside.known (g.C.Cells.state c.self.inside.cells) c.self.invariant c.if-not-self.false c.args.id Receives c.in-Some.place c.in-Some.route c.in-Some.ensures c.args.self.now c.self.view_is Reception (Err c.fail_at.result) (past g c)
+
+pub returns-in-Err-Faulted-clause-no_route : goal.returns-in-Err-Faulted-clause-no_route
+returns-in-Err-Faulted-clause-no_route g c = not_unrouted c.self.inside.known (g.C.Cells.state c.self.inside.cells) c.self.invariant c.if-not-self.false c.args.id Receives c.in-Some.place c.in-Some.route c.in-Some.ensures c.args.self.now c.self.view_is Reception (Err c.fail_at.result) (past g c)
 
 pub returns-in-Err-Faulted-clause-layout : goal.returns-in-Err-Faulted-clause-layout
-returns-in-Err-Faulted-clause-layout g c =
-    subst (λ (s : NodeState). (g.C.Cells.state c.receive.new.cells).layout ≡ s.store.layout) c.self.view_is
-    (receive_failed c.self.inside.known (g.C.Cells.state c.self.inside.cells) c.self.invariant c.if-not-self.false c.args.id c.in-Some.place c.in-Some.route c.in-Some.ensures
-    c.index_mut.result.now c.index_mut.ensures.value c.in-Receives.rx c.in-Receives.is
-    c.args.pdu.now c.in-Err-Faulted.bound c.receive.new.rx (g.C.Cells.state c.receive.new.cells) c.fail_at.new.self c.in-Err-Faulted.ensures.as_before
-    (c.in-Err-Faulted.ensures.faulted c.in-Err-Faulted.bound (ap (λ (f : ReceiveFault). Err f) c.in-Err-Faulted.field-0-is)).failed.1
-    (subst (λ (f : ReceiveFault). NodeStep (node_in c.self.inside.known) (receives c.in-Some.route.id c.args.pdu.now) (line_of_receive c.in-Some.route.id c.args.pdu.now None (Err f))
-    (after_receive (node_in c.self.inside.known) c.in-Some.route.id (Err f))) c.in-Err-Faulted.field-0-is
-    (c.in-Err-Faulted.ensures.step (node_in c.self.inside.known) None (has_receiver c.self.inside.known (g.C.Cells.state c.self.inside.cells) c.self.invariant c.if-not-self.false c.args.id c.in-Some.place c.in-Some.route c.in-Some.ensures
-    c.index_mut.result.now c.index_mut.ensures.value c.in-Receives.rx c.in-Receives.is)))
-    c.fail_at.ensures.down).served.layout
+returns-in-Err-Faulted-clause-layout g c = (served_from c.args.self.now c.self.view_is (faulted g c)).layout
+
+pub returns-in-Err-Faulted-clause-runs : goal.returns-in-Err-Faulted-clause-runs
+returns-in-Err-Faulted-clause-runs g c = (served_from c.args.self.now c.self.view_is (faulted g c)).runs
 
 pub returns-in-Err-Faulted-clause-fits : goal.returns-in-Err-Faulted-clause-fits
-returns-in-Err-Faulted-clause-fits g c =
-    subst (λ s. FitsNow s → FitsNow (state_in c.fail_at.new.self (g.C.Cells.state c.receive.new.cells))) c.self.view_is
-    (receive_failed c.self.inside.known (g.C.Cells.state c.self.inside.cells) c.self.invariant c.if-not-self.false c.args.id c.in-Some.place c.in-Some.route c.in-Some.ensures
-    c.index_mut.result.now c.index_mut.ensures.value c.in-Receives.rx c.in-Receives.is
-    c.args.pdu.now c.in-Err-Faulted.bound c.receive.new.rx (g.C.Cells.state c.receive.new.cells) c.fail_at.new.self c.in-Err-Faulted.ensures.as_before
-    (c.in-Err-Faulted.ensures.faulted c.in-Err-Faulted.bound (ap (λ (f : ReceiveFault). Err f) c.in-Err-Faulted.field-0-is)).failed.1
-    (subst (λ (f : ReceiveFault). NodeStep (node_in c.self.inside.known) (receives c.in-Some.route.id c.args.pdu.now) (line_of_receive c.in-Some.route.id c.args.pdu.now None (Err f))
-    (after_receive (node_in c.self.inside.known) c.in-Some.route.id (Err f))) c.in-Err-Faulted.field-0-is
-    (c.in-Err-Faulted.ensures.step (node_in c.self.inside.known) None (has_receiver c.self.inside.known (g.C.Cells.state c.self.inside.cells) c.self.invariant c.if-not-self.false c.args.id c.in-Some.place c.in-Some.route c.in-Some.ensures
-    c.index_mut.result.now c.index_mut.ensures.value c.in-Receives.rx c.in-Receives.is)))
-    c.fail_at.ensures.down).served.fits
-
--- ---- it is sound whatever came of it
-
-pub returns-in-Ok-clause-sound : goal.returns-in-Ok-clause-sound
-returns-in-Ok-clause-sound g c = (invariant_of-self g c).sound
+returns-in-Err-Faulted-clause-fits g c = (served_from c.args.self.now c.self.view_is (faulted g c)).fits
 
 pub returns-in-Err-Faulted-clause-sound : goal.returns-in-Err-Faulted-clause-sound
-returns-in-Err-Faulted-clause-sound g c = (invariant_of-self-in-Err-Faulted g c).sound
+returns-in-Err-Faulted-clause-sound g c = (faulted g c).node.sound
+
+pub returns-in-Err-Faulted-clause-honest : goal.returns-in-Err-Faulted-clause-honest
+returns-in-Err-Faulted-clause-honest g c sent source id_is pdu_is in_time fits = subst (λ (f : NodeFault). IsHeard sent (received_line c.args.id c.args.pdu.now source (Err f))) (sym c.fail_at.ensures.fault) tt
+
+pub returns-in-Err-Faulted-clause-untouched : goal.returns-in-Err-Faulted-clause-untouched
+returns-in-Err-Faulted-clause-untouched g c =
+    subst (λ (f : NodeFault). IfLeftAlone (Err f) (state_in c.fail_at.new.self (g.C.Cells.state c.receive.new.cells) ≡ c.args.self.now)) (sym c.fail_at.ensures.fault) tt
+
+pub returns-in-Err-Faulted-clause-faulted : goal.returns-in-Err-Faulted-clause-faulted
+returns-in-Err-Faulted-clause-faulted g c e = subst (λ (s : NodeState). Rose s.store.disk.faults (g.C.Cells.state c.receive.new.cells).disk.faults) c.self.view_is (c.in-Err-Faulted.ensures.rose c.in-Err-Faulted.bound (ap (λ (f : ReceiveFault). Err f) c.in-Err-Faulted.field-0-is))

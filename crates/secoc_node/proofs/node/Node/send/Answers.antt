@@ -1,20 +1,23 @@
-use Rattle.std.proofs.Common.{◌≡◌, get_or, refl, ap, sym, subst, ◌∙◌, Err}
-use Rattle.bus_machine.specs.declared.lines.Line.TheVariants.{Sent, Refused}
-use Rattle.bus_machine.specs.declared.lines.Refusal.TheVariants.{MemoryFailure}
-use Rattle.bus_machine.specs.Steps.{sends, NodeStep}
+use Rattle.std.proofs.Common.{◌≡◌, ap, sym, subst, ◌∙◌, Ok, Err, length}
 use Rattle.std.specs.Prelude.{IfSome, take}
-use Rattle.freshness_manager.specs.Counters.{SenderCounter}
+use Rattle.cut_disk.specs.Calls.{Rose}
+use Rattle.bus_machine.specs.declared.lines.Line.TheVariants.{Sent, Refused}
+use Rattle.bus_machine.specs.declared.lines.Refusal.TheVariants.{BadLength, Key, Exhausted, MemoryFailure}
+use Rattle.bus_machine.specs.Steps.{sends, NodeStep}
 use Rattle.freshness_routes.specs.declared.routes.Direction.TheVariants.{Sends, Receives}
 use Rattle.secoc_sender.specs.Sending.{refusal_of_send, line_of_send, after_send}
+use Rattle.secoc_sender.specs.declared.sender.Sent.{Sent as Sending}
 use Rattle.secoc_sender.specs.declared.sender.SendFault.{SendFault}
 use Rattle.secoc_node.specs.declared.counters.RouteCounter.TheVariants as of_route
-use Rattle.secoc_node.specs.State.{NodeState, FitsNow, IsCovered}
-use Rattle.cell_store.specs.Cells.{CellsState}
+use Rattle.secoc_node.specs.declared.faults.NodeFault.{NodeFault}
+use Rattle.secoc_node.specs.declared.faults.NodeFault.TheVariants as fault
+use Rattle.secoc_node.specs.State.{NodeState, IsCovered}
 use Rattle.secoc_node.specs.declared.known.Known.{Known}
 use Rattle.secoc_node.specs.Keeping.{node_in, state_in}
-use Rattle.secoc_node.proofs.CoveredLaws.{covered_same}
-use Rattle.secoc_node.proofs.RouteLaws.{with_counter_at, fits_same}
-use Rattle.secoc_node.proofs.SendLaws.{no_receiver, tx_kept, has_sender, sent_done, sent_covered, sent_others, send_failed, failed_others}
+use Rattle.secoc_node.proofs.CallLaws.{Done, step_from, served_from}
+use Rattle.secoc_node.proofs.RouteLaws.{with_counter_at, PastRoute, not_down, not_unrouted, no_fault}
+use Rattle.secoc_node.proofs.SendLaws.{fits_a_pdu, no_receiver, tx_kept, has_sender, sent_done, sent_covered, sent_others, refused_state, send_refused, send_failed, failed_others}
+use Rattle.secoc_node.proofs.node.Node.send.Given.{Over}
 use Rattle.secoc_node.proofs.node.Node.send.Goals as goal
 
 pub unreachable-requires : goal.unreachable-requires
@@ -29,23 +32,48 @@ send-requires-clause-kept g c =
 
 -- ---- the payload was sent
 
-pub invariant_of-self : goal.invariant_of-self
-invariant_of-self g c =
-    (sent_done c.self.inside.known (g.C.Cells.state c.self.inside.cells) c.self.invariant c.if-not-self.false c.args.id c.in-Some.place c.in-Some.route c.in-Some.ensures
+sent : (g : Over) (c : goal.In-Ok g)
+    → Done c.self.inside.known (g.C.Cells.state c.self.inside.cells) (sends c.args.id c.args.payload.now) (Sent c.args.id c.in-Ok.sent.freshness (take c.in-Ok.sent.len c.send.new.out))
+    (with_counter_at c.self.inside.known c.in-Some.place (of_route.Sends c.send.new.tx)) (g.C.Cells.state c.send.new.cells)
+sent g c =
+    sent_done c.self.inside.known (g.C.Cells.state c.self.inside.cells) c.self.invariant c.if-not-self.false c.args.id c.in-Some.place c.in-Some.route c.in-Some.ensures
     c.index_mut.result.now c.index_mut.ensures.value c.in-Sends.tx c.in-Sends.is
     c.args.payload.now c.in-Ok.sent c.send.new.out c.send.new.tx (g.C.Cells.state c.send.new.cells) c.in-Ok.ensures.counted c.in-Ok.ensures.next c.in-Ok.ensures.made
     (c.in-Ok.ensures.step (node_in c.self.inside.known) (has_sender c.self.inside.known (g.C.Cells.state c.self.inside.cells) c.self.invariant c.if-not-self.false c.args.id c.in-Some.place c.in-Some.route c.in-Some.ensures
-    c.index_mut.result.now c.index_mut.ensures.value c.in-Sends.tx c.in-Sends.is))).node
+    c.index_mut.result.now c.index_mut.ensures.value c.in-Sends.tx c.in-Sends.is))
+
+pub invariant_of-self : goal.invariant_of-self
+invariant_of-self g c = (sent g c).node
 
 pub returns-in-Ok-clause-step : goal.returns-in-Ok-clause-step
-returns-in-Ok-clause-step g c =
-    subst (λ (s : NodeState). NodeStep s.node (sends c.args.id c.args.payload.now) (Sent c.args.id c.in-Ok.sent.freshness (take c.in-Ok.sent.len c.send.new.out))
-    (node_in (with_counter_at c.self.inside.known c.in-Some.place (of_route.Sends c.send.new.tx)))) c.self.view_is
-    (sent_done c.self.inside.known (g.C.Cells.state c.self.inside.cells) c.self.invariant c.if-not-self.false c.args.id c.in-Some.place c.in-Some.route c.in-Some.ensures
-    c.index_mut.result.now c.index_mut.ensures.value c.in-Sends.tx c.in-Sends.is
-    c.args.payload.now c.in-Ok.sent c.send.new.out c.send.new.tx (g.C.Cells.state c.send.new.cells) c.in-Ok.ensures.counted c.in-Ok.ensures.next c.in-Ok.ensures.made
-    (c.in-Ok.ensures.step (node_in c.self.inside.known) (has_sender c.self.inside.known (g.C.Cells.state c.self.inside.cells) c.self.invariant c.if-not-self.false c.args.id c.in-Some.place c.in-Some.route c.in-Some.ensures
-    c.index_mut.result.now c.index_mut.ensures.value c.in-Sends.tx c.in-Sends.is))).step
+returns-in-Ok-clause-step g c = step_from c.args.self.now c.self.view_is (sent g c)
+
+pub returns-in-Ok-clause-down : goal.returns-in-Ok-clause-down
+returns-in-Ok-clause-down g c = not_down c.self.inside.known (g.C.Cells.state c.self.inside.cells) c.self.invariant c.if-not-self.false c.args.id Sends c.in-Some.place c.in-Some.route c.in-Some.ensures c.args.self.now c.self.view_is Sending (Ok c.in-Ok.sent) tt
+
+pub returns-in-Ok-clause-no_route : goal.returns-in-Ok-clause-no_route
+returns-in-Ok-clause-no_route g c = not_unrouted c.self.inside.known (g.C.Cells.state c.self.inside.cells) c.self.invariant c.if-not-self.false c.args.id Sends c.in-Some.place c.in-Some.route c.in-Some.ensures c.args.self.now c.self.view_is Sending (Ok c.in-Ok.sent) tt
+
+pub returns-in-Ok-clause-layout : goal.returns-in-Ok-clause-layout
+returns-in-Ok-clause-layout g c = (served_from c.args.self.now c.self.view_is (sent g c)).layout
+
+pub returns-in-Ok-clause-runs : goal.returns-in-Ok-clause-runs
+returns-in-Ok-clause-runs g c = (served_from c.args.self.now c.self.view_is (sent g c)).runs
+
+pub returns-in-Ok-clause-fits : goal.returns-in-Ok-clause-fits
+returns-in-Ok-clause-fits g c = (served_from c.args.self.now c.self.view_is (sent g c)).fits
+
+pub returns-in-Ok-clause-sound : goal.returns-in-Ok-clause-sound
+returns-in-Ok-clause-sound g c = (sent g c).node.sound
+
+pub returns-in-Ok-clause-length : goal.returns-in-Ok-clause-length
+returns-in-Ok-clause-length g c = c.in-Ok.ensures.length
+
+pub returns-in-Ok-clause-within : goal.returns-in-Ok-clause-within
+returns-in-Ok-clause-within g c = fits_a_pdu c.in-Ok.sent.len (length c.args.payload.now) c.in-Ok.ensures.length c.in-Ok.ensures.secured.is_payload
+
+pub returns-in-Ok-clause-rest : goal.returns-in-Ok-clause-rest
+returns-in-Ok-clause-rest g c = c.in-Ok.ensures.rest
 
 pub returns-in-Ok-clause-covered : goal.returns-in-Ok-clause-covered
 returns-in-Ok-clause-covered g c =
@@ -53,136 +81,244 @@ returns-in-Ok-clause-covered g c =
     c.index_mut.result.now c.index_mut.ensures.value c.in-Sends.tx c.in-Sends.is
     c.send.new.tx (g.C.Cells.state c.send.new.cells) c.in-Ok.sent.freshness c.in-Ok.ensures.counted c.in-Ok.ensures.kept c.in-Ok.ensures.covered
 
-pub returns-in-Ok-clause-fits : goal.returns-in-Ok-clause-fits
-returns-in-Ok-clause-fits g c =
-    subst (λ s. FitsNow s → FitsNow (state_in (with_counter_at c.self.inside.known c.in-Some.place (of_route.Sends c.send.new.tx)) (g.C.Cells.state c.send.new.cells))) c.self.view_is
-    (sent_done c.self.inside.known (g.C.Cells.state c.self.inside.cells) c.self.invariant c.if-not-self.false c.args.id c.in-Some.place c.in-Some.route c.in-Some.ensures
-    c.index_mut.result.now c.index_mut.ensures.value c.in-Sends.tx c.in-Sends.is
-    c.args.payload.now c.in-Ok.sent c.send.new.out c.send.new.tx (g.C.Cells.state c.send.new.cells) c.in-Ok.ensures.counted c.in-Ok.ensures.next c.in-Ok.ensures.made
-    (c.in-Ok.ensures.step (node_in c.self.inside.known) (has_sender c.self.inside.known (g.C.Cells.state c.self.inside.cells) c.self.invariant c.if-not-self.false c.args.id c.in-Some.place c.in-Some.route c.in-Some.ensures
-    c.index_mut.result.now c.index_mut.ensures.value c.in-Sends.tx c.in-Sends.is))).served.fits
-
--- ---- it was refused
-
-pub returns-in-Err-BadLength-clause-fits : goal.returns-in-Err-BadLength-clause-fits
-returns-in-Err-BadLength-clause-fits g c =
-    let left = g.C.Cells.state c.send.new.cells in
-    let tx' = of_route.Sends c.send.new.tx in
-    let same = ap (λ (t : SenderCounter). of_route.Sends t) c.in-Err-BadLength.ensures.as_before ∙ sym c.in-Sends.is in
-    let untouched = subst (λ (f : SendFault). IfSome (refusal_of_send (Err f)) (λ _. left ≡ g.C.Cells.state c.self.inside.cells)) c.in-Err-BadLength.field-0-is c.in-Err-BadLength.ensures.untouched in
-    subst (λ s. FitsNow s → FitsNow (state_in (with_counter_at c.self.inside.known c.in-Some.place tx') left)) c.self.view_is
-    (fits_same c.self.inside.known (g.C.Cells.state c.self.inside.cells) c.self.invariant c.if-not-self.false c.args.id Sends c.in-Some.place c.in-Some.route c.in-Some.ensures tx' left
-    (subst (λ d. d ≡ get_or c.self.inside.known.counters.items c.in-Some.place d) (sym same) c.index_mut.ensures.value) untouched)
-
-pub returns-in-Err-Key-clause-fits : goal.returns-in-Err-Key-clause-fits
-returns-in-Err-Key-clause-fits g c =
-    let left = g.C.Cells.state c.send.new.cells in
-    let tx' = of_route.Sends c.send.new.tx in
-    let same = ap (λ (t : SenderCounter). of_route.Sends t) c.in-Err-Key.ensures.as_before ∙ sym c.in-Sends.is in
-    let untouched = subst (λ (f : SendFault). IfSome (refusal_of_send (Err f)) (λ _. left ≡ g.C.Cells.state c.self.inside.cells)) c.in-Err-Key.field-0-is c.in-Err-Key.ensures.untouched in
-    subst (λ s. FitsNow s → FitsNow (state_in (with_counter_at c.self.inside.known c.in-Some.place tx') left)) c.self.view_is
-    (fits_same c.self.inside.known (g.C.Cells.state c.self.inside.cells) c.self.invariant c.if-not-self.false c.args.id Sends c.in-Some.place c.in-Some.route c.in-Some.ensures tx' left
-    (subst (λ d. d ≡ get_or c.self.inside.known.counters.items c.in-Some.place d) (sym same) c.index_mut.ensures.value) untouched)
-
-pub returns-in-Err-Exhausted-clause-fits : goal.returns-in-Err-Exhausted-clause-fits
-returns-in-Err-Exhausted-clause-fits g c =
-    let left = g.C.Cells.state c.send.new.cells in
-    let tx' = of_route.Sends c.send.new.tx in
-    let same = ap (λ (t : SenderCounter). of_route.Sends t) c.in-Err-Exhausted.ensures.as_before ∙ sym c.in-Sends.is in
-    let untouched = subst (λ (f : SendFault). IfSome (refusal_of_send (Err f)) (λ _. left ≡ g.C.Cells.state c.self.inside.cells)) c.in-Err-Exhausted.field-0-is c.in-Err-Exhausted.ensures.untouched in
-    subst (λ s. FitsNow s → FitsNow (state_in (with_counter_at c.self.inside.known c.in-Some.place tx') left)) c.self.view_is
-    (fits_same c.self.inside.known (g.C.Cells.state c.self.inside.cells) c.self.invariant c.if-not-self.false c.args.id Sends c.in-Some.place c.in-Some.route c.in-Some.ensures tx' left
-    (subst (λ d. d ≡ get_or c.self.inside.known.counters.items c.in-Some.place d) (sym same) c.index_mut.ensures.value) untouched)
-
--- ---- the disk failed
-
-pub invariant_of-self-in-Err-Faulted : goal.invariant_of-self-in-Err-Faulted
-invariant_of-self-in-Err-Faulted g c =
-    (send_failed c.self.inside.known (g.C.Cells.state c.self.inside.cells) c.self.invariant c.if-not-self.false c.args.id c.in-Some.place c.in-Some.route c.in-Some.ensures
-    c.index_mut.result.now c.index_mut.ensures.value c.in-Sends.tx c.in-Sends.is
-    c.args.payload.now c.in-Err-Faulted.bound c.send.new.tx (g.C.Cells.state c.send.new.cells) c.fail_at.new.self c.in-Err-Faulted.ensures.as_before
-    (c.in-Err-Faulted.ensures.failed c.in-Err-Faulted.bound (ap (λ (f : SendFault). Err f) c.in-Err-Faulted.field-0-is))
-    (subst (λ (f : SendFault). NodeStep (node_in c.self.inside.known) (sends c.in-Some.route.id c.args.payload.now) (line_of_send c.in-Some.route.id (Err f) c.send.new.out)
-    (after_send (node_in c.self.inside.known) c.in-Some.route.id (Err f))) c.in-Err-Faulted.field-0-is
-    (c.in-Err-Faulted.ensures.step (node_in c.self.inside.known) (has_sender c.self.inside.known (g.C.Cells.state c.self.inside.cells) c.self.invariant c.if-not-self.false c.args.id c.in-Some.place c.in-Some.route c.in-Some.ensures
-    c.index_mut.result.now c.index_mut.ensures.value c.in-Sends.tx c.in-Sends.is)))
-    c.fail_at.ensures.down).node
-
-pub returns-in-Err-Faulted-clause-step : goal.returns-in-Err-Faulted-clause-step
-returns-in-Err-Faulted-clause-step g c =
-    rw c.fail_at.ensures.fault
-    (subst (λ (s : NodeState). NodeStep s.node (sends c.args.id c.args.payload.now) (Refused MemoryFailure) (node_in c.fail_at.new.self)) c.self.view_is
-    (send_failed c.self.inside.known (g.C.Cells.state c.self.inside.cells) c.self.invariant c.if-not-self.false c.args.id c.in-Some.place c.in-Some.route c.in-Some.ensures
-    c.index_mut.result.now c.index_mut.ensures.value c.in-Sends.tx c.in-Sends.is
-    c.args.payload.now c.in-Err-Faulted.bound c.send.new.tx (g.C.Cells.state c.send.new.cells) c.fail_at.new.self c.in-Err-Faulted.ensures.as_before
-    (c.in-Err-Faulted.ensures.failed c.in-Err-Faulted.bound (ap (λ (f : SendFault). Err f) c.in-Err-Faulted.field-0-is))
-    (subst (λ (f : SendFault). NodeStep (node_in c.self.inside.known) (sends c.in-Some.route.id c.args.payload.now) (line_of_send c.in-Some.route.id (Err f) c.send.new.out)
-    (after_send (node_in c.self.inside.known) c.in-Some.route.id (Err f))) c.in-Err-Faulted.field-0-is
-    (c.in-Err-Faulted.ensures.step (node_in c.self.inside.known) (has_sender c.self.inside.known (g.C.Cells.state c.self.inside.cells) c.self.invariant c.if-not-self.false c.args.id c.in-Some.place c.in-Some.route c.in-Some.ensures
-    c.index_mut.result.now c.index_mut.ensures.value c.in-Sends.tx c.in-Sends.is)))
-    c.fail_at.ensures.down).step)
-
-pub returns-in-Err-Faulted-clause-fits : goal.returns-in-Err-Faulted-clause-fits
-returns-in-Err-Faulted-clause-fits g c =
-    subst (λ s. FitsNow s → FitsNow (state_in c.fail_at.new.self (g.C.Cells.state c.send.new.cells))) c.self.view_is
-    (send_failed c.self.inside.known (g.C.Cells.state c.self.inside.cells) c.self.invariant c.if-not-self.false c.args.id c.in-Some.place c.in-Some.route c.in-Some.ensures
-    c.index_mut.result.now c.index_mut.ensures.value c.in-Sends.tx c.in-Sends.is
-    c.args.payload.now c.in-Err-Faulted.bound c.send.new.tx (g.C.Cells.state c.send.new.cells) c.fail_at.new.self c.in-Err-Faulted.ensures.as_before
-    (c.in-Err-Faulted.ensures.failed c.in-Err-Faulted.bound (ap (λ (f : SendFault). Err f) c.in-Err-Faulted.field-0-is))
-    (subst (λ (f : SendFault). NodeStep (node_in c.self.inside.known) (sends c.in-Some.route.id c.args.payload.now) (line_of_send c.in-Some.route.id (Err f) c.send.new.out)
-    (after_send (node_in c.self.inside.known) c.in-Some.route.id (Err f))) c.in-Err-Faulted.field-0-is
-    (c.in-Err-Faulted.ensures.step (node_in c.self.inside.known) (has_sender c.self.inside.known (g.C.Cells.state c.self.inside.cells) c.self.invariant c.if-not-self.false c.args.id c.in-Some.place c.in-Some.route c.in-Some.ensures
-    c.index_mut.result.now c.index_mut.ensures.value c.in-Sends.tx c.in-Sends.is)))
-    c.fail_at.ensures.down).served.fits
-
--- ---- what is covered of the routes that receive
-
 pub returns-in-Ok-clause-others : goal.returns-in-Ok-clause-others
 returns-in-Ok-clause-others g c other v =
-    let now = state_in (with_counter_at c.self.inside.known c.in-Some.place (of_route.Sends c.send.new.tx)) (g.C.Cells.state c.send.new.cells) in
-    subst (λ (s : NodeState). IsCovered s other Receives v → IsCovered now other Receives v) c.self.view_is
+    subst (λ (s : NodeState). IsCovered s other Receives v → IsCovered (state_in (with_counter_at c.self.inside.known c.in-Some.place (of_route.Sends c.send.new.tx)) (g.C.Cells.state c.send.new.cells)) other Receives v) c.self.view_is
     (sent_others c.self.inside.known (g.C.Cells.state c.self.inside.cells) c.self.invariant c.if-not-self.false c.args.id c.in-Some.place c.in-Some.route c.in-Some.ensures
     c.index_mut.result.now c.index_mut.ensures.value c.in-Sends.tx c.in-Sends.is
     c.send.new.tx (g.C.Cells.state c.send.new.cells) c.in-Ok.ensures.made other v)
 
+pub returns-in-Ok-clause-faulted : goal.returns-in-Ok-clause-faulted
+returns-in-Ok-clause-faulted g c = no_fault Sending _ (Ok c.in-Ok.sent) tt
+
+pub returns-in-Ok-clause-faults : goal.returns-in-Ok-clause-faults
+returns-in-Ok-clause-faults g c = c.in-Ok.ensures.faults ∙ ap (λ (s : NodeState). s.store.disk.faults) c.self.view_is
+
+-- ---- it was refused
+
+bad_length : (g : Over) (c : goal.In-Err-BadLength g)
+    → Done c.self.inside.known (g.C.Cells.state c.self.inside.cells) (sends c.args.id c.args.payload.now) (Refused BadLength) (with_counter_at c.self.inside.known c.in-Some.place (of_route.Sends c.send.new.tx)) (g.C.Cells.state c.send.new.cells)
+bad_length g c =
+    send_refused c.self.inside.known (g.C.Cells.state c.self.inside.cells) c.self.invariant c.if-not-self.false c.args.id c.in-Some.place c.in-Some.route c.in-Some.ensures
+    c.index_mut.result.now c.index_mut.ensures.value c.in-Sends.tx c.in-Sends.is
+    c.args.payload.now (Refused BadLength) c.send.new.tx (g.C.Cells.state c.send.new.cells) c.in-Err-BadLength.ensures.as_before
+    (subst (λ (f : SendFault). IfSome (refusal_of_send (Err f)) (λ _. g.C.Cells.state c.send.new.cells ≡ g.C.Cells.state c.self.inside.cells)) c.in-Err-BadLength.field-0-is c.in-Err-BadLength.ensures.untouched)
+    (subst (λ (f : SendFault). NodeStep (node_in c.self.inside.known) (sends c.in-Some.route.id c.args.payload.now) (line_of_send c.in-Some.route.id (Err f) c.send.new.out)
+    (after_send (node_in c.self.inside.known) c.in-Some.route.id (Err f))) c.in-Err-BadLength.field-0-is
+    (c.in-Err-BadLength.ensures.step (node_in c.self.inside.known) (has_sender c.self.inside.known (g.C.Cells.state c.self.inside.cells) c.self.invariant c.if-not-self.false c.args.id c.in-Some.place c.in-Some.route c.in-Some.ensures
+    c.index_mut.result.now c.index_mut.ensures.value c.in-Sends.tx c.in-Sends.is)))
+
+bad_length_same : (g : Over) (c : goal.In-Err-BadLength g) → state_in (with_counter_at c.self.inside.known c.in-Some.place (of_route.Sends c.send.new.tx)) (g.C.Cells.state c.send.new.cells) ≡ c.args.self.now
+bad_length_same g c =
+    refused_state c.self.inside.known (g.C.Cells.state c.self.inside.cells) c.self.invariant c.if-not-self.false c.args.id c.in-Some.place c.in-Some.route c.in-Some.ensures
+    c.index_mut.result.now c.index_mut.ensures.value c.in-Sends.tx c.in-Sends.is
+    c.send.new.tx (g.C.Cells.state c.send.new.cells) c.in-Err-BadLength.ensures.as_before
+    (subst (λ (f : SendFault). IfSome (refusal_of_send (Err f)) (λ _. g.C.Cells.state c.send.new.cells ≡ g.C.Cells.state c.self.inside.cells)) c.in-Err-BadLength.field-0-is c.in-Err-BadLength.ensures.untouched)
+    ∙ c.self.view_is
+
+pub invariant_of-self-in-Err-BadLength : goal.invariant_of-self-in-Err-BadLength
+invariant_of-self-in-Err-BadLength g c = (bad_length g c).node
+
+pub returns-in-Err-BadLength-clause-step : goal.returns-in-Err-BadLength-clause-step
+returns-in-Err-BadLength-clause-step g c = step_from c.args.self.now c.self.view_is (bad_length g c)
+
+pub returns-in-Err-BadLength-clause-down : goal.returns-in-Err-BadLength-clause-down
+returns-in-Err-BadLength-clause-down g c = not_down c.self.inside.known (g.C.Cells.state c.self.inside.cells) c.self.invariant c.if-not-self.false c.args.id Sends c.in-Some.place c.in-Some.route c.in-Some.ensures c.args.self.now c.self.view_is Sending (Err fault.BadLength) tt
+
+pub returns-in-Err-BadLength-clause-no_route : goal.returns-in-Err-BadLength-clause-no_route
+returns-in-Err-BadLength-clause-no_route g c = not_unrouted c.self.inside.known (g.C.Cells.state c.self.inside.cells) c.self.invariant c.if-not-self.false c.args.id Sends c.in-Some.place c.in-Some.route c.in-Some.ensures c.args.self.now c.self.view_is Sending (Err fault.BadLength) tt
+
+pub returns-in-Err-BadLength-clause-layout : goal.returns-in-Err-BadLength-clause-layout
+returns-in-Err-BadLength-clause-layout g c = (served_from c.args.self.now c.self.view_is (bad_length g c)).layout
+
+pub returns-in-Err-BadLength-clause-runs : goal.returns-in-Err-BadLength-clause-runs
+returns-in-Err-BadLength-clause-runs g c = (served_from c.args.self.now c.self.view_is (bad_length g c)).runs
+
+pub returns-in-Err-BadLength-clause-fits : goal.returns-in-Err-BadLength-clause-fits
+returns-in-Err-BadLength-clause-fits g c = (served_from c.args.self.now c.self.view_is (bad_length g c)).fits
+
+pub returns-in-Err-BadLength-clause-sound : goal.returns-in-Err-BadLength-clause-sound
+returns-in-Err-BadLength-clause-sound g c = (bad_length g c).node.sound
+
 pub returns-in-Err-BadLength-clause-others : goal.returns-in-Err-BadLength-clause-others
-returns-in-Err-BadLength-clause-others g c other v =
-    let left = g.C.Cells.state c.send.new.cells in
-    let now = state_in (with_counter_at c.self.inside.known c.in-Some.place (of_route.Sends c.send.new.tx)) left in
-    let untouched = subst (λ (f : SendFault). IfSome (refusal_of_send (Err f)) (λ _. left ≡ g.C.Cells.state c.self.inside.cells)) c.in-Err-BadLength.field-0-is c.in-Err-BadLength.ensures.untouched in
-    subst (λ (s : NodeState). IsCovered s other Receives v → IsCovered now other Receives v) c.self.view_is
-    (covered_same (state_in c.self.inside.known (g.C.Cells.state c.self.inside.cells)) now refl (ap (λ (s : CellsState). s.cells) untouched) other v)
+returns-in-Err-BadLength-clause-others g c other v covered = subst (λ (s : NodeState). IsCovered s other Receives v) (sym (bad_length_same g c)) covered
+
+pub returns-in-Err-BadLength-clause-untouched : goal.returns-in-Err-BadLength-clause-untouched
+returns-in-Err-BadLength-clause-untouched g c other = bad_length_same g c
+
+pub returns-in-Err-BadLength-clause-unwritten : goal.returns-in-Err-BadLength-clause-unwritten
+returns-in-Err-BadLength-clause-unwritten g c = c.in-Err-BadLength.ensures.unwritten
+
+pub returns-in-Err-BadLength-clause-faulted : goal.returns-in-Err-BadLength-clause-faulted
+returns-in-Err-BadLength-clause-faulted g c = no_fault Sending _ (Err fault.BadLength) tt
+
+key : (g : Over) (c : goal.In-Err-Key g)
+    → Done c.self.inside.known (g.C.Cells.state c.self.inside.cells) (sends c.args.id c.args.payload.now) (Refused (Key c.in-Err-Key.refusal)) (with_counter_at c.self.inside.known c.in-Some.place (of_route.Sends c.send.new.tx)) (g.C.Cells.state c.send.new.cells)
+key g c =
+    send_refused c.self.inside.known (g.C.Cells.state c.self.inside.cells) c.self.invariant c.if-not-self.false c.args.id c.in-Some.place c.in-Some.route c.in-Some.ensures
+    c.index_mut.result.now c.index_mut.ensures.value c.in-Sends.tx c.in-Sends.is
+    c.args.payload.now (Refused (Key c.in-Err-Key.refusal)) c.send.new.tx (g.C.Cells.state c.send.new.cells) c.in-Err-Key.ensures.as_before
+    (subst (λ (f : SendFault). IfSome (refusal_of_send (Err f)) (λ _. g.C.Cells.state c.send.new.cells ≡ g.C.Cells.state c.self.inside.cells)) c.in-Err-Key.field-0-is c.in-Err-Key.ensures.untouched)
+    (subst (λ (f : SendFault). NodeStep (node_in c.self.inside.known) (sends c.in-Some.route.id c.args.payload.now) (line_of_send c.in-Some.route.id (Err f) c.send.new.out)
+    (after_send (node_in c.self.inside.known) c.in-Some.route.id (Err f))) c.in-Err-Key.field-0-is
+    (c.in-Err-Key.ensures.step (node_in c.self.inside.known) (has_sender c.self.inside.known (g.C.Cells.state c.self.inside.cells) c.self.invariant c.if-not-self.false c.args.id c.in-Some.place c.in-Some.route c.in-Some.ensures
+    c.index_mut.result.now c.index_mut.ensures.value c.in-Sends.tx c.in-Sends.is)))
+
+key_same : (g : Over) (c : goal.In-Err-Key g) → state_in (with_counter_at c.self.inside.known c.in-Some.place (of_route.Sends c.send.new.tx)) (g.C.Cells.state c.send.new.cells) ≡ c.args.self.now
+key_same g c =
+    refused_state c.self.inside.known (g.C.Cells.state c.self.inside.cells) c.self.invariant c.if-not-self.false c.args.id c.in-Some.place c.in-Some.route c.in-Some.ensures
+    c.index_mut.result.now c.index_mut.ensures.value c.in-Sends.tx c.in-Sends.is
+    c.send.new.tx (g.C.Cells.state c.send.new.cells) c.in-Err-Key.ensures.as_before
+    (subst (λ (f : SendFault). IfSome (refusal_of_send (Err f)) (λ _. g.C.Cells.state c.send.new.cells ≡ g.C.Cells.state c.self.inside.cells)) c.in-Err-Key.field-0-is c.in-Err-Key.ensures.untouched)
+    ∙ c.self.view_is
+
+pub invariant_of-self-in-Err-Key : goal.invariant_of-self-in-Err-Key
+invariant_of-self-in-Err-Key g c = (key g c).node
+
+pub returns-in-Err-Key-clause-step : goal.returns-in-Err-Key-clause-step
+returns-in-Err-Key-clause-step g c = step_from c.args.self.now c.self.view_is (key g c)
+
+pub returns-in-Err-Key-clause-down : goal.returns-in-Err-Key-clause-down
+returns-in-Err-Key-clause-down g c = not_down c.self.inside.known (g.C.Cells.state c.self.inside.cells) c.self.invariant c.if-not-self.false c.args.id Sends c.in-Some.place c.in-Some.route c.in-Some.ensures c.args.self.now c.self.view_is Sending (Err (fault.Key c.in-Err-Key.refusal)) tt
+
+pub returns-in-Err-Key-clause-no_route : goal.returns-in-Err-Key-clause-no_route
+returns-in-Err-Key-clause-no_route g c = not_unrouted c.self.inside.known (g.C.Cells.state c.self.inside.cells) c.self.invariant c.if-not-self.false c.args.id Sends c.in-Some.place c.in-Some.route c.in-Some.ensures c.args.self.now c.self.view_is Sending (Err (fault.Key c.in-Err-Key.refusal)) tt
+
+pub returns-in-Err-Key-clause-layout : goal.returns-in-Err-Key-clause-layout
+returns-in-Err-Key-clause-layout g c = (served_from c.args.self.now c.self.view_is (key g c)).layout
+
+pub returns-in-Err-Key-clause-runs : goal.returns-in-Err-Key-clause-runs
+returns-in-Err-Key-clause-runs g c = (served_from c.args.self.now c.self.view_is (key g c)).runs
+
+pub returns-in-Err-Key-clause-fits : goal.returns-in-Err-Key-clause-fits
+returns-in-Err-Key-clause-fits g c = (served_from c.args.self.now c.self.view_is (key g c)).fits
+
+pub returns-in-Err-Key-clause-sound : goal.returns-in-Err-Key-clause-sound
+returns-in-Err-Key-clause-sound g c = (key g c).node.sound
 
 pub returns-in-Err-Key-clause-others : goal.returns-in-Err-Key-clause-others
-returns-in-Err-Key-clause-others g c other v =
-    let left = g.C.Cells.state c.send.new.cells in
-    let now = state_in (with_counter_at c.self.inside.known c.in-Some.place (of_route.Sends c.send.new.tx)) left in
-    let untouched = subst (λ (f : SendFault). IfSome (refusal_of_send (Err f)) (λ _. left ≡ g.C.Cells.state c.self.inside.cells)) c.in-Err-Key.field-0-is c.in-Err-Key.ensures.untouched in
-    subst (λ (s : NodeState). IsCovered s other Receives v → IsCovered now other Receives v) c.self.view_is
-    (covered_same (state_in c.self.inside.known (g.C.Cells.state c.self.inside.cells)) now refl (ap (λ (s : CellsState). s.cells) untouched) other v)
+returns-in-Err-Key-clause-others g c other v covered = subst (λ (s : NodeState). IsCovered s other Receives v) (sym (key_same g c)) covered
+
+pub returns-in-Err-Key-clause-untouched : goal.returns-in-Err-Key-clause-untouched
+returns-in-Err-Key-clause-untouched g c other = key_same g c
+
+pub returns-in-Err-Key-clause-unwritten : goal.returns-in-Err-Key-clause-unwritten
+returns-in-Err-Key-clause-unwritten g c = c.in-Err-Key.ensures.unwritten
+
+pub returns-in-Err-Key-clause-faulted : goal.returns-in-Err-Key-clause-faulted
+returns-in-Err-Key-clause-faulted g c = no_fault Sending _ (Err (fault.Key c.in-Err-Key.refusal)) tt
+
+exhausted : (g : Over) (c : goal.In-Err-Exhausted g)
+    → Done c.self.inside.known (g.C.Cells.state c.self.inside.cells) (sends c.args.id c.args.payload.now) (Refused Exhausted) (with_counter_at c.self.inside.known c.in-Some.place (of_route.Sends c.send.new.tx)) (g.C.Cells.state c.send.new.cells)
+exhausted g c =
+    send_refused c.self.inside.known (g.C.Cells.state c.self.inside.cells) c.self.invariant c.if-not-self.false c.args.id c.in-Some.place c.in-Some.route c.in-Some.ensures
+    c.index_mut.result.now c.index_mut.ensures.value c.in-Sends.tx c.in-Sends.is
+    c.args.payload.now (Refused Exhausted) c.send.new.tx (g.C.Cells.state c.send.new.cells) c.in-Err-Exhausted.ensures.as_before
+    (subst (λ (f : SendFault). IfSome (refusal_of_send (Err f)) (λ _. g.C.Cells.state c.send.new.cells ≡ g.C.Cells.state c.self.inside.cells)) c.in-Err-Exhausted.field-0-is c.in-Err-Exhausted.ensures.untouched)
+    (subst (λ (f : SendFault). NodeStep (node_in c.self.inside.known) (sends c.in-Some.route.id c.args.payload.now) (line_of_send c.in-Some.route.id (Err f) c.send.new.out)
+    (after_send (node_in c.self.inside.known) c.in-Some.route.id (Err f))) c.in-Err-Exhausted.field-0-is
+    (c.in-Err-Exhausted.ensures.step (node_in c.self.inside.known) (has_sender c.self.inside.known (g.C.Cells.state c.self.inside.cells) c.self.invariant c.if-not-self.false c.args.id c.in-Some.place c.in-Some.route c.in-Some.ensures
+    c.index_mut.result.now c.index_mut.ensures.value c.in-Sends.tx c.in-Sends.is)))
+
+exhausted_same : (g : Over) (c : goal.In-Err-Exhausted g) → state_in (with_counter_at c.self.inside.known c.in-Some.place (of_route.Sends c.send.new.tx)) (g.C.Cells.state c.send.new.cells) ≡ c.args.self.now
+exhausted_same g c =
+    refused_state c.self.inside.known (g.C.Cells.state c.self.inside.cells) c.self.invariant c.if-not-self.false c.args.id c.in-Some.place c.in-Some.route c.in-Some.ensures
+    c.index_mut.result.now c.index_mut.ensures.value c.in-Sends.tx c.in-Sends.is
+    c.send.new.tx (g.C.Cells.state c.send.new.cells) c.in-Err-Exhausted.ensures.as_before
+    (subst (λ (f : SendFault). IfSome (refusal_of_send (Err f)) (λ _. g.C.Cells.state c.send.new.cells ≡ g.C.Cells.state c.self.inside.cells)) c.in-Err-Exhausted.field-0-is c.in-Err-Exhausted.ensures.untouched)
+    ∙ c.self.view_is
+
+pub invariant_of-self-in-Err-Exhausted : goal.invariant_of-self-in-Err-Exhausted
+invariant_of-self-in-Err-Exhausted g c = (exhausted g c).node
+
+pub returns-in-Err-Exhausted-clause-step : goal.returns-in-Err-Exhausted-clause-step
+returns-in-Err-Exhausted-clause-step g c = step_from c.args.self.now c.self.view_is (exhausted g c)
+
+pub returns-in-Err-Exhausted-clause-down : goal.returns-in-Err-Exhausted-clause-down
+returns-in-Err-Exhausted-clause-down g c = not_down c.self.inside.known (g.C.Cells.state c.self.inside.cells) c.self.invariant c.if-not-self.false c.args.id Sends c.in-Some.place c.in-Some.route c.in-Some.ensures c.args.self.now c.self.view_is Sending (Err fault.Exhausted) tt
+
+pub returns-in-Err-Exhausted-clause-no_route : goal.returns-in-Err-Exhausted-clause-no_route
+returns-in-Err-Exhausted-clause-no_route g c = not_unrouted c.self.inside.known (g.C.Cells.state c.self.inside.cells) c.self.invariant c.if-not-self.false c.args.id Sends c.in-Some.place c.in-Some.route c.in-Some.ensures c.args.self.now c.self.view_is Sending (Err fault.Exhausted) tt
+
+pub returns-in-Err-Exhausted-clause-layout : goal.returns-in-Err-Exhausted-clause-layout
+returns-in-Err-Exhausted-clause-layout g c = (served_from c.args.self.now c.self.view_is (exhausted g c)).layout
+
+pub returns-in-Err-Exhausted-clause-runs : goal.returns-in-Err-Exhausted-clause-runs
+returns-in-Err-Exhausted-clause-runs g c = (served_from c.args.self.now c.self.view_is (exhausted g c)).runs
+
+pub returns-in-Err-Exhausted-clause-fits : goal.returns-in-Err-Exhausted-clause-fits
+returns-in-Err-Exhausted-clause-fits g c = (served_from c.args.self.now c.self.view_is (exhausted g c)).fits
+
+pub returns-in-Err-Exhausted-clause-sound : goal.returns-in-Err-Exhausted-clause-sound
+returns-in-Err-Exhausted-clause-sound g c = (exhausted g c).node.sound
 
 pub returns-in-Err-Exhausted-clause-others : goal.returns-in-Err-Exhausted-clause-others
-returns-in-Err-Exhausted-clause-others g c other v =
-    let left = g.C.Cells.state c.send.new.cells in
-    let now = state_in (with_counter_at c.self.inside.known c.in-Some.place (of_route.Sends c.send.new.tx)) left in
-    let untouched = subst (λ (f : SendFault). IfSome (refusal_of_send (Err f)) (λ _. left ≡ g.C.Cells.state c.self.inside.cells)) c.in-Err-Exhausted.field-0-is c.in-Err-Exhausted.ensures.untouched in
-    subst (λ (s : NodeState). IsCovered s other Receives v → IsCovered now other Receives v) c.self.view_is
-    (covered_same (state_in c.self.inside.known (g.C.Cells.state c.self.inside.cells)) now refl (ap (λ (s : CellsState). s.cells) untouched) other v)
+returns-in-Err-Exhausted-clause-others g c other v covered = subst (λ (s : NodeState). IsCovered s other Receives v) (sym (exhausted_same g c)) covered
+
+pub returns-in-Err-Exhausted-clause-untouched : goal.returns-in-Err-Exhausted-clause-untouched
+returns-in-Err-Exhausted-clause-untouched g c other = exhausted_same g c
+
+pub returns-in-Err-Exhausted-clause-unwritten : goal.returns-in-Err-Exhausted-clause-unwritten
+returns-in-Err-Exhausted-clause-unwritten g c = c.in-Err-Exhausted.ensures.unwritten
+
+pub returns-in-Err-Exhausted-clause-faulted : goal.returns-in-Err-Exhausted-clause-faulted
+returns-in-Err-Exhausted-clause-faulted g c = no_fault Sending _ (Err fault.Exhausted) tt
+
+-- ---- the disk failed
+
+faulted : (g : Over) (c : goal.After-fail_at g)
+    → Done c.self.inside.known (g.C.Cells.state c.self.inside.cells) (sends c.args.id c.args.payload.now) (Refused MemoryFailure) c.fail_at.new.self (g.C.Cells.state c.send.new.cells)
+faulted g c =
+    send_failed c.self.inside.known (g.C.Cells.state c.self.inside.cells) c.self.invariant c.if-not-self.false c.args.id c.in-Some.place c.in-Some.route c.in-Some.ensures
+    c.index_mut.result.now c.index_mut.ensures.value c.in-Sends.tx c.in-Sends.is
+    c.args.payload.now c.in-Err-Faulted.bound c.send.new.tx (g.C.Cells.state c.send.new.cells) c.fail_at.new.self c.in-Err-Faulted.ensures.as_before
+    (c.in-Err-Faulted.ensures.failed c.in-Err-Faulted.bound (ap (λ (f : SendFault). Err f) c.in-Err-Faulted.field-0-is))
+    (subst (λ (f : SendFault). NodeStep (node_in c.self.inside.known) (sends c.in-Some.route.id c.args.payload.now) (line_of_send c.in-Some.route.id (Err f) c.send.new.out)
+    (after_send (node_in c.self.inside.known) c.in-Some.route.id (Err f))) c.in-Err-Faulted.field-0-is
+    (c.in-Err-Faulted.ensures.step (node_in c.self.inside.known) (has_sender c.self.inside.known (g.C.Cells.state c.self.inside.cells) c.self.invariant c.if-not-self.false c.args.id c.in-Some.place c.in-Some.route c.in-Some.ensures
+    c.index_mut.result.now c.index_mut.ensures.value c.in-Sends.tx c.in-Sends.is)))
+    c.fail_at.ensures.down
+
+past : (g : Over) (c : goal.After-fail_at g) → PastRoute {T = Sending} (Err c.fail_at.result)
+past g c = subst (λ (f : NodeFault). PastRoute {T = Sending} (Err f)) (sym c.fail_at.ensures.fault) tt
+
+pub invariant_of-self-in-Err-Faulted : goal.invariant_of-self-in-Err-Faulted
+invariant_of-self-in-Err-Faulted g c = (faulted g c).node
+
+pub returns-in-Err-Faulted-clause-step : goal.returns-in-Err-Faulted-clause-step
+returns-in-Err-Faulted-clause-step g c = rw c.fail_at.ensures.fault (step_from c.args.self.now c.self.view_is (faulted g c))
+
+pub returns-in-Err-Faulted-clause-down : goal.returns-in-Err-Faulted-clause-down
+returns-in-Err-Faulted-clause-down g c = not_down c.self.inside.known (g.C.Cells.state c.self.inside.cells) c.self.invariant c.if-not-self.false c.args.id Sends c.in-Some.place c.in-Some.route c.in-Some.ensures c.args.self.now c.self.view_is Sending (Err c.fail_at.result) (past g c)
+
+pub returns-in-Err-Faulted-clause-no_route : goal.returns-in-Err-Faulted-clause-no_route
+returns-in-Err-Faulted-clause-no_route g c = not_unrouted c.self.inside.known (g.C.Cells.state c.self.inside.cells) c.self.invariant c.if-not-self.false c.args.id Sends c.in-Some.place c.in-Some.route c.in-Some.ensures c.args.self.now c.self.view_is Sending (Err c.fail_at.result) (past g c)
+
+pub returns-in-Err-Faulted-clause-layout : goal.returns-in-Err-Faulted-clause-layout
+returns-in-Err-Faulted-clause-layout g c = (served_from c.args.self.now c.self.view_is (faulted g c)).layout
+
+pub returns-in-Err-Faulted-clause-runs : goal.returns-in-Err-Faulted-clause-runs
+returns-in-Err-Faulted-clause-runs g c = (served_from c.args.self.now c.self.view_is (faulted g c)).runs
+
+pub returns-in-Err-Faulted-clause-fits : goal.returns-in-Err-Faulted-clause-fits
+returns-in-Err-Faulted-clause-fits g c = (served_from c.args.self.now c.self.view_is (faulted g c)).fits
+
+pub returns-in-Err-Faulted-clause-sound : goal.returns-in-Err-Faulted-clause-sound
+returns-in-Err-Faulted-clause-sound g c = (faulted g c).node.sound
 
 pub returns-in-Err-Faulted-clause-others : goal.returns-in-Err-Faulted-clause-others
 returns-in-Err-Faulted-clause-others g c other v =
-    let now = state_in c.fail_at.new.self (g.C.Cells.state c.send.new.cells) in
-    subst (λ (s : NodeState). IsCovered s other Receives v → IsCovered now other Receives v) c.self.view_is
+    subst (λ (s : NodeState). IsCovered s other Receives v → IsCovered (state_in c.fail_at.new.self (g.C.Cells.state c.send.new.cells)) other Receives v) c.self.view_is
     (failed_others c.self.inside.known (g.C.Cells.state c.self.inside.cells) c.self.invariant c.if-not-self.false c.args.id c.in-Some.place c.in-Some.route c.in-Some.ensures
     c.index_mut.result.now c.index_mut.ensures.value c.in-Sends.tx c.in-Sends.is
-    c.in-Err-Faulted.bound (g.C.Cells.state c.send.new.cells) c.fail_at.new.self
-    (c.in-Err-Faulted.ensures.failed c.in-Err-Faulted.bound (ap (λ (f : SendFault). Err f) c.in-Err-Faulted.field-0-is))
+    c.in-Err-Faulted.bound (g.C.Cells.state c.send.new.cells) c.fail_at.new.self (c.in-Err-Faulted.ensures.failed c.in-Err-Faulted.bound (ap (λ (f : SendFault). Err f) c.in-Err-Faulted.field-0-is))
     (ap (λ (k : Known). k.config) c.fail_at.ensures.down) other v)
 
--- ---- it is sound whatever came of it
+pub returns-in-Err-Faulted-clause-untouched : goal.returns-in-Err-Faulted-clause-untouched
+returns-in-Err-Faulted-clause-untouched g c apart = absurd (apart c.fail_at.ensures.fault)
 
-pub returns-in-Ok-clause-sound : goal.returns-in-Ok-clause-sound
-returns-in-Ok-clause-sound g c = (invariant_of-self g c).sound
+pub returns-in-Err-Faulted-clause-unwritten : goal.returns-in-Err-Faulted-clause-unwritten
+returns-in-Err-Faulted-clause-unwritten g c = c.in-Err-Faulted.ensures.unwritten
 
-pub returns-in-Err-Faulted-clause-sound : goal.returns-in-Err-Faulted-clause-sound
-returns-in-Err-Faulted-clause-sound g c = (invariant_of-self-in-Err-Faulted g c).sound
+pub returns-in-Err-Faulted-clause-faulted : goal.returns-in-Err-Faulted-clause-faulted
+returns-in-Err-Faulted-clause-faulted g c e = subst (λ (s : NodeState). Rose s.store.disk.faults (g.C.Cells.state c.send.new.cells).disk.faults) c.self.view_is (c.in-Err-Faulted.ensures.rose c.in-Err-Faulted.bound (ap (λ (f : SendFault). Err f) c.in-Err-Faulted.field-0-is))
