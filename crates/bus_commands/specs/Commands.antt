@@ -4,8 +4,13 @@
 -- their `use`. All is said of one call: `i` is what went in, `d` the disks or what was known of them, `e` how it ended.
 -- That freshness rises from one call of `node` to the next over the same disks, too, is a law of the crate life_laws.
 --
--- A source or a disk *tells* its bytes where they are known, as in memory; a file and standard input tell nothing. A
--- count of faults never falls, and is full at its last value. A row is a status with its text. A cut is a power cut,
+-- A source or a disk *tells* its bytes where they are known, as in memory; a file and standard input tell nothing. What
+-- was *read whole* of a source is all that came from it up to its end: of one that tells nothing that is some bytes, as
+-- many as it counts. So each status has its cause over files, too, but 0, 3, 4 and 9 are brought by what sources tell,
+-- and 10 by what a disk tells or by its count. That the disks are as before (`d.new ≡ d.old`) says nothing of the bytes
+-- of one that doesn't tell them.
+--
+-- A count of faults never falls, and is full at its last value. A row is a status with its text. A cut is a power cut,
 -- which may leave anything of bytes that aren't synced. An event may arm a disk, so that calls of it fail; a quiet disk
 -- has nothing armed, and no call fails by itself. The past of a disk has each state that a call left, where it tells
 -- it. A slot holds a key, with the counter of its last update. A route is a Data ID that a node sends or receives; its
@@ -16,9 +21,9 @@ use Rattle.std.specs.Prelude.{Result, Ok, Err}
 -- `BusInputs`: the words, and the sources of the bus file (`config`) and of the lines (`script`), before and after.
 use Rattle.bus_commands.specs.Inputs.{BusInputs}
 -- `Asks words c`: they ask for the command c, and for no other. It is of lines (`frame`, `judge`, `check`), or runs a
--- world over disks: `Replay Format` is `replay`, `Replay Attach` is `node`, `Trial` is `trial` with its number of
--- events and its seed. `AsksNothing`: they are of no form. `AsksOverBus`: for a command with a bus file. `AsksWorld`:
--- for one that runs a world.
+-- world over disks: `Replay Format` is `replay`, `Replay Attach` is `node` (*a replay* is either), `Trial` is `trial`
+-- with its number of events and its seed. `AsksNothing`: they are of no form. `AsksOverBus`: for a command with a bus
+-- file. `AsksWorld`: for one that runs a world.
 use Rattle.bus_commands.specs.Inputs.{AsksOverBus, AsksWorld}
 use Rattle.bus_commands.specs.Words.{Asks, AsksNothing}
 use Rattle.bus_commands.specs.declared.words.Command.{Command}
@@ -30,13 +35,13 @@ use Rattle.bus_world.specs.declared.start.Start.TheVariants.{Format, Attach}
 -- `OverLines i P`: a command other than `trial` is asked for, what it reads was read whole, its bus file, if it has
 -- one, is valid, and P holds of what it is to do (its `Task`) and of the lines. `OverReplayOf`, `OverTrial`,
 -- `OverWorld`: such a world is asked for, all that it reads was read whole and is valid, and P holds of the bus and the
--- events. A `NamedBus` is a bus as bus files have them (`IsNamedBus`).
+-- events. `IsNamedBus`: a bus as bus files have them.
 use Rattle.bus_commands.specs.Inputs.{OverLines, OverReplayOf, OverTrial, OverWorld}
 use Rattle.bus_commands.specs.Tasks.{Task, replay}
 use Rattle.bus_nodes.specs.Buses.{NamedBus, IsNamedBus, configs_of}
 use Rattle.bus_machine.specs.declared.events.Event.{Event}
 -- `Offers`: the source tells these bytes, at most 1,048,576, and didn't fail. `OffersTask`, `OffersTrial`: it is asked
--- for, and the source of its bus file so tells one with this bus.
+-- for, and the source of its bus file, if it has one, so tells one with this bus.
 use Rattle.answer_rows.specs.Inputs.{Offers}
 use Rattle.bus_commands.specs.Inputs.{OffersTask, OffersTrial}
 -- `IsUnread`: nothing was asked of the source. `CountsFault`: its count of faults rose. `CountsTooMuch`: by its count
@@ -102,8 +107,9 @@ use Rattle.numbered_run.specs.declared.printing.Unwritten.{Unwritten}
 use Rattle.numbered_run.specs.declared.printing.Unwritten.TheVariants as unwritten
 use Rattle.numbered_run.specs.Printed.{Written}
 use Rattle.bus_texts.specs.LineTexts.{line_text}
--- `ComesInRun`: the rows that come, each for its cause; `memory_row`: 7 without a text. `RowOrReplay`: a row that comes
--- was told, whole or at 6 by a front; or `ReplaysScript`.
+-- `ComesInRun`: the rows that come, each for its cause; `memory_row`: 7 without a text, which comes as an input is
+-- read, at a start at which no disk failed, or behind all events of a trial. `RowOrReplay`: a row that comes was told,
+-- whole or at 6 by a front; or `ReplaysScript`.
 use Rattle.bus_commands.specs.Rows.{ComesInRun, RowOrReplay}
 use Rattle.answer_rows.specs.Rows.{memory_row}
 -- ---- the machine: what these say is told at the members of `HeadlineRun`
@@ -134,8 +140,8 @@ pub record HeadlineRun (first : World) (bus : NamedBus) (d : DiskStates) (events
   pub are_lines : All IsLine (lines_in moments)
   -- Of one node and one Data ID, accepted freshness strictly rises.
   pub rising : Rising moments
-  -- What is accepted carries the CMAC under the key of the receiver's slot; an event that its line names came before it
-  -- in this run, and sent it.
+  -- What is accepted carries the CMAC of its payload and freshness under the key of the receiver's slot. The event that
+  -- its line names, if it names one, is a `send` before it in this run, of the same payload with the same freshness.
   pub authentic : Authentic first moments
   -- Of one Data ID, sent freshness strictly rises: none is sent twice.
   pub single : Single moments
@@ -174,26 +180,27 @@ pub record SummedRun (bus : NamedBus) (d : DiskStates) (events : List Event) (su
   pub whole : commands_in moments ≡ events
   pub numbers : summary ≡ summary_of (lines_in moments)
 
--- A replay is asked for, and it is one run: of `replay` from the first world of the bus, if each disk tells its bytes;
--- of `node` from a world in which the bus goes on where its disks stand, if a cut can take none of these bytes away.
+-- A valid replay is asked for, and it is one run: of `replay` from the first world of the bus, if each disk tells its
+-- bytes; of `node` from a world in which the bus goes on where its disks stand, if a cut can take none of these bytes
+-- away.
 abbrev pub ReplayIsRun : Start → BusInputs → DiskStates → Ending → Result (Unit {0}) Unwritten → Type 0
 ReplayIsRun Format i d e result = OverReplayOf Format i (λ bus events. (TellEach bus d.before
     → WrittenRun (First (configs_of bus)) bus d events e result))
 ReplayIsRun Attach i d e result = OverReplayOf Attach i (λ bus events. (TellFirm bus d.before
     → (first : World) × StartsOver bus d.before first × WrittenRun first bus d events e result))
 
--- a trial is asked for, and over disks that tell their bytes it is one run, from the first world of the bus
+-- a valid trial is asked for, and over disks that tell their bytes it is one run, from the first world of the bus
 abbrev pub TrialIsRun : BusInputs → DiskStates → Summary → Type 0
 TrialIsRun i d summary = OverTrial i (λ bus events. (TellEach bus d.before → SummedRun bus d events summary))
 
--- every disk is as before; or a world is asked for, and they are as a start that isn't finished may leave them
+-- every disk is as before; or a valid world is asked for, and they are as a start that isn't finished may leave them
 abbrev pub LeavesUnstarted : {V : Type 0} → BusInputs → CommandDisks V → Type 0
 LeavesUnstarted i d =
     (d.new ≡ d.old) ⊎ OverWorld i (λ start bus events. LeavesEach start bus d.states.before d.states.after)
 
 -- THE HEADLINE, by what is asked for and by status. Runs, and their lines in the sink, are promised here over disks
--- that tell, and of `node` over bytes that a cut can't take away. Over others, as files, the table alone speaks, by
--- `ReplaysScript` and `TriesEvents`.
+-- that tell, and of `node` over bytes that a cut can't take away. Of what was done over others, as files, the table
+-- alone speaks, by `ReplaysScript` and `TriesEvents`.
 pub record RunsMachine {V : Type 0} (i : BusInputs) (d : CommandDisks V) (e : Ending) : Type 0 where
   -- 0 of `replay`: all events of the script are one run, and the sink has all lines.
   pub replayed : Asks i.words (command.World (Replay Format)) → e.status ≡ 0 → ReplayIsRun Format i d.states e (Ok tt)
@@ -226,8 +233,8 @@ PrintsAnswers i e = OverLines i (λ task input. (text : List ℕ) × IsOutput ta
 abbrev pub PrintsSummary : BusInputs → DiskStates → Ending → Type 0
 PrintsSummary i d e = (summary : Summary) × TriesEvents i d summary × PrintsWhole e (summary_text summary)
 
--- what 0 says of each command: of lines, their answers; of a replay and of `node`, that all events were done and all
--- lines written; of a trial, all events and its summary
+-- what 0 says of each command: of lines, their answers; of a replay, that all events were done and all lines written;
+-- of a trial, all events and its summary
 abbrev pub DoesAll : Command → BusInputs → DiskStates → Ending → Type 0
 DoesAll (command.Lines asked) i d e = PrintsAnswers i e
 DoesAll (command.World (Replay start)) i d e = ReplaysScript i d e (Ok tt)
@@ -246,17 +253,17 @@ abbrev pub DoesEvents : BusInputs → DiskStates → Ending → Type 0
 DoesEvents i d e = ((result : Result (Unit {0}) Unwritten) × ReplaysScript i d e result)
     ⊎ ((summary : Summary) × TriesEvents i d summary)
 
--- where a replay is to be done, its bus has disks
+-- where a replay is to be done, its bus has disks that serve
 abbrev pub TaskHasDisks : Task → DiskStates → Type 0
 TaskHasDisks (replay start bus) d = BusHasDisks start bus d
 TaskHasDisks task d = Unit {0}
 
 -- THE TABLE OF ANSWERS: what a command promises, by status. "Both ways": the status has this cause, and the cause
 -- brings the status, at 3, 4 and 9 where the sources tell it and didn't fail. A sink whose count of faults rises makes
--- it 6 instead; and 3, 4, 9 and 10 may give way to 7, which is said to be want of memory: no clause says that it was,
--- and none brings 7; but a disk that fails at a start is told.
+-- it 6 instead; and 0, 3, 4, 9 and 10 may give way to 7, which is said to be want of memory: no clause says that it
+-- was, and none brings 7; but a disk that fails at a start is told.
 pub record RunsCommand {V : Type 0} (i : BusInputs) (d : CommandDisks V) (e : Ending) : Type 0 where
-  -- A row that comes is told, or a replay did its first events: what that says of each status follows.
+  -- A row that comes is told, or a replay did its first events or all: what that says of each status follows.
   pub ends : RowOrReplay i d e
   -- No status comes but 0 and 2 to 10.
   pub statuses : (e.status ≡ 0) ⊎ ((2 ≤ e.status) × (e.status ≤ 10))
@@ -292,33 +299,36 @@ pub record RunsCommand {V : Type 0} (i : BusInputs) (d : CommandDisks V) (e : En
   pub write_fault : e.status ≡ 6 → SinkFailed e
       × (PrintsFront (ComesInRun i d) e ⊎ ReplaysScript i d.states e (Err unwritten.SinkFailed))
   pub write_fault_only : CountsWriteFault e → e.status ≡ 6
-  -- 7: nothing was written; or of a replay the lines before one, and nothing of this.
+  -- 7: its row comes, and nothing was written; or of a replay the lines before one, and nothing of this.
   pub no_memory : e.status ≡ 7 → (ComesInRun i d memory_row × PrintsWhole e [])
       ⊎ ReplaysScript i d.states e (Err unwritten.Memory)
-  -- 8, both ways: one byte more than 1,048,576 came from a source.
+  -- 8, both ways: one byte more than 1,048,576 came from a source, whose count of faults stood still.
   pub too_long : e.status ≡ 8 → (NoConfig i TooLong ⊎ NoScript i TooLong) × PrintsWhole e (codes "input too long\n")
   pub too_long_only : CountsTooMuch i.config ⊎ CountsTooMuch i.script → EndsIn 8 e
-  -- 9, both ways: there are fewer disks than nodes, or the disk of a node is too small, of which the first is named.
+  -- 9, both ways: all that is read is valid, and there are fewer disks than nodes, or the disk of a node is too small,
+  -- of which the first is named.
   pub disks_refused : e.status ≡ 9 → OverWorld i (λ start bus events.
       IsNamedBus bus × (d.states.after ≡ d.states.before)
       × ((fault : StartFault) × FindsRoom bus d.states.before fault × PrintsWhole e (start_row fault).text))
   pub disks_refused_only : (start : Start) (bus : NamedBus) (input : List ℕ) → OffersTask i (replay start bus)
       → Offers i.script input → fault_of (replay start bus) input ≡ None → ¬ HasRoom bus d.states.before → MayEndIn 9 e
   pub trial_disks_refused_only : (bus : NamedBus) → OffersTrial i bus → ¬ HasRoom bus d.states.before → MayEndIn 9 e
-  -- 10: the disks are large enough, and the disk of the named node failed, and wasn't quiet; or it didn't fail, and its
-  -- bytes are refused: told ones only where no node could go on over them, and never to be formatted; of others no
-  -- cause is said. Told ones of the nodes before it are good. The disks are as an unfinished start may leave them.
+  -- 10: all that is read is valid, the disks are large enough, and the row of a node is printed: its disk failed, and
+  -- wasn't quiet; or it didn't fail, and its bytes are refused: told ones only of `node`, where no node could go on
+  -- over them; of others no cause is said. Told ones of the nodes before it are good. The disks are as an unfinished
+  -- start may leave them.
   pub store_refused : e.status ≡ 10 → OverWorld i (λ start bus events.
       HasRoom bus d.states.before × LeavesEach start bus d.states.before d.states.after
       × ((fault : StartFault) × StoreCause start bus d.states.before d.states.after fault
       × PrintsWhole e (start_row fault).text))
-  -- A valid `node` ends in 10, 6 or 7 where its disks are large enough, and one tells bytes over which its node can't
-  -- go on.
+  -- A valid `node`, which the sources tell without a fault, ends in 10, 6 or 7 where its disks are large enough, and
+  -- one tells bytes over which its node can't go on.
   pub store_refused_only : (bus : NamedBus) (input : List ℕ) → OffersTask i (replay Attach bus)
       → Offers i.script input → fault_of (replay Attach bus) input ≡ None → HasRoom bus d.states.before
       → HoldsNoNode bus d.states.before → MayEndIn 10 e
   -- A disk that fails at a start is told, and never as want of memory or as anything else: where the count of faults of
-  -- a disk rose though no event was done, the status is 10 with the row of its node, or 6 with a front of it.
+  -- a disk rose though no replay and no trial began, the status is 10 with the row of its node, or 6 with a front of
+  -- it.
   pub failed_disk_told : (place : ℕ) → CountsDiskFault d.states place
       → EndsInRow (λ row. row ≡ failed_row place) e ⊎ DoesEvents i d.states e
   -- What is valid ends in 0 or 7, where the sources tell it and didn't fail, the sink's count of faults neither rose

@@ -30,12 +30,14 @@ use std::alloc::{AllocError, Global};
 /// formatted disks, and then writes seven numbers.
 ///
 /// The statuses, of which no other comes: 0 done, 2 the words are of no form, 3 the bus file is refused, 4 the lines
-/// are, 5 a source failed, 6 the sink failed, 7 said to be want of memory (no clause says that it was), 8 an input is
-/// too long, 9 the disks are too few or too small, 10 a node isn't started over its disk.
+/// are, 5 a source failed, 6 the sink failed (both also where a count of faults is full), 7 said to be want of memory
+/// (no clause says that it was), 8 an input is too long, 9 the disks are too few or too small, 10 a node isn't started
+/// over its disk.
 ///
 /// Their order, as the clauses force it: at 2 nothing is read; at 3, and at 5 and 8 of the bus file, no line; at 4, and
 /// at 5 and 8 of the lines, the bus file, if one is read, is valid; at 9 and 10 all that is read is, and at 10 the
-/// disks are large enough. 5 and 8 of one source exclude each other. Where the sink's count of faults rises it is 6.
+/// disks are large enough. Where too much came of a source it is 8, and not 5. Where the sink's count of faults rises
+/// it is 6.
 ///
 /// Rows of `checks/`, and no clause, show that all is read before anything is printed, that a line is written as soon
 /// as its event is done, and that the word that names a disk isn't looked at.
@@ -56,7 +58,7 @@ pub fn run<S: Source, T: Source, K: Sink, D: CutDisk>(
         (disks_between D.state disks.old disks.new)
         (record { before = K.state sink.old; after = K.state sink.new; status = result }) }
 
-    // The headline: over disks that tell their bytes what was done of a replay is one run of the machine from the first
+    // The headline: over disks that tell their bytes what was done of `replay` is one run of the machine from the first
     // world of the bus, and so it is of a trial; of `node` it is one from a world in which the bus goes on where its
     // disks stand, if a power cut can take none of these bytes away. What holds of that run: `HeadlineRun`.
     ensures headline { RunsMachine
