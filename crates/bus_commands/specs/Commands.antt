@@ -261,7 +261,7 @@ TaskHasDisks task d = Unit {0}
 -- THE TABLE OF ANSWERS: what a command promises, by status. "Both ways": the status has this cause, and the cause
 -- brings the status, at 3, 4 and 9 where the sources tell it and didn't fail. A sink whose count of faults rises makes
 -- it 6 instead; and 0, 3, 4, 9 and 10 may give way to 7, which is said to be want of memory: no clause says that it
--- was, and none brings 7; but a disk that fails at a start is told.
+-- was, and none brings 7 (of a disk that fails at a start: `failed_disk_told`).
 pub record RunsCommand {V : Type 0} (i : BusInputs) (d : CommandDisks V) (e : Ending) : Type 0 where
   -- A row that comes is told, or a replay did its first events or all: what that says of each status follows.
   pub ends : RowOrReplay i d e
@@ -326,9 +326,9 @@ pub record RunsCommand {V : Type 0} (i : BusInputs) (d : CommandDisks V) (e : En
   pub store_refused_only : (bus : NamedBus) (input : List ℕ) → OffersTask i (replay Attach bus)
       → Offers i.script input → fault_of (replay Attach bus) input ≡ None → HasRoom bus d.states.before
       → HoldsNoNode bus d.states.before → MayEndIn 10 e
-  -- A disk that fails at a start is told, and never as want of memory or as anything else: where the count of faults of
-  -- a disk rose though no replay and no trial began, the status is 10 with the row of its node, or 6 with a front of
-  -- it.
+  -- Where the count of faults of a disk rose, the status is 10 with the row of its node, or 6 with a front of it; or the
+  -- ending is one of a replay or a trial that was started: over a disk that tells nothing that may be any whose first
+  -- event fails it. (That a start answers want of memory only where no count rose is a clause of `World::start`.)
   pub failed_disk_told : (place : ℕ) → CountsDiskFault d.states place
       → EndsInRow (λ row. row ≡ failed_row place) e ⊎ DoesEvents i d.states e
   -- What is valid ends in 0 or 7, where the sources tell it and didn't fail, the sink's count of faults neither rose
