@@ -326,8 +326,8 @@ pub record RunsCommand {V : Type 0} (i : BusInputs) (d : CommandDisks V) (e : En
   pub store_refused_only : (bus : NamedBus) (input : List ℕ) → OffersTask i (replay Attach bus)
       → Offers i.script input → fault_of (replay Attach bus) input ≡ None → HasRoom bus d.states.before
       → HoldsNoNode bus d.states.before → MayEndIn 10 e
-  -- Where the count of faults of a disk rose, the status is 10 with the row of its node, or 6 with a front of it; or the
-  -- ending is one of a replay or a trial that was started: over a disk that tells nothing, of any whose first event
+  -- Where the count of faults of a disk rose, the status is 10 with the row of its node, or 6 with a front of it; or
+  -- the ending is one of a replay or a trial that was started: over a disk that tells nothing, of any whose first event
   -- fails it. (That a start answers want of memory only where no count rose is a clause of `World::start`.)
   pub failed_disk_told : (place : ℕ) → CountsDiskFault d.states place
       → EndsInRow (λ row. row ≡ failed_row place) e ⊎ DoesEvents i d.states e
