@@ -1,7 +1,7 @@
 //! Two nodes that go on where their disks in memory stand. What one node over a file shows is a row of checks/.
 use crate::lines::BUS;
-use crate::replays::{disks_of, runs};
-use cut_disk::{CutDisk, TapeDisk};
+use crate::replays::{disks_of, runs, tapes_of};
+use cut_disk::CutDisk;
 use std::alloc::Global;
 use std::process::Abort;
 use std::test::Fail;
@@ -26,10 +26,28 @@ const SENT_LINE: &str = "1 sent 6bc1 e93d7e117393172e bee22e409f962e567e86\n";
 
 const FOREIGN: &str = "store: node 1: NotFormatted\n";
 
-/// The layout of the stores in version 1, that of the other kind, and that in version 2.
-const LAYOUTS: [(&str, &str, &str); 2] = [
-    ("", "store = \"log\"\n", "version = 2\n"),
-    ("store = \"log\"\n", "", "store = \"log\"\nversion = 2\n"),
+const LOG: &str = "store = \"log\"\n";
+
+const TWO: &str = "version = 2\n";
+
+const LOG_TWO: &str = "store = \"log\"\nversion = 2\n";
+
+/// Lives over the same disks: the layout, the script, the status and the text. Behind the first come one with stores of the other kind, one
+/// that moves the stores to version 2, and one of version 1.
+type Lives = [(&'static str, &'static str, u8, &'static str); 4];
+
+const TWIN_LIVES: Lives = [
+    ("", KEYED, 0, KEYED_LINES),
+    (LOG, SEND, 10, FOREIGN),
+    (TWO, SEND, 0, SENT_LINE),
+    ("", SEND, 10, FOREIGN),
+];
+
+const LOG_LIVES: Lives = [
+    (LOG, KEYED, 0, KEYED_LINES),
+    ("", SEND, 10, FOREIGN),
+    (LOG_TWO, SEND, 0, SENT_LINE),
+    (LOG, SEND, 10, FOREIGN),
 ];
 
 /// A run of the bus with stores of this layout over these disks.
@@ -48,42 +66,37 @@ fn goes_on<D: CutDisk>(
     runs(rt, alloc, disks, texts, fails_behind, status, output)
 }
 
-#[test]
-fn a_bus_goes_on_where_its_disks_stand(rt: HostRuntime) -> Result<(), Fail> {
-    for (own, other, newer) in LAYOUTS {
-        let mut disks = disks_of(rt.alloc(), &[65_536, 65_536])?;
-        for (layout, script, status, output) in [
-            (own, KEYED, 0, KEYED_LINES),
-            (other, SEND, 10, FOREIGN),
-            (newer, SEND, 0, SENT_LINE),
-            (own, SEND, 10, FOREIGN),
-        ] {
-            let texts = [layout, script];
-            goes_on(&rt, rt.alloc(), &mut disks, texts, None, status, output)?;
-        }
+fn lives(rt: &impl Abort, alloc: Global, lives: &Lives) -> Result<(), Fail> {
+    let mut disks = disks_of(alloc, &[65_536, 65_536])?;
+    for (layout, script, status, output) in lives {
+        let texts = [*layout, *script];
+        goes_on(rt, alloc, &mut disks, texts, None, *status, output)?;
     }
     Ok(())
+}
+
+#[test]
+fn a_bus_goes_on_where_its_disks_stand(rt: HostRuntime) -> Result<(), Fail> {
+    lives(&rt, rt.alloc(), &TWIN_LIVES)?;
+    lives(&rt, rt.alloc(), &LOG_LIVES)
+}
+
+/// A life over a sink that fails, and the next.
+fn two_lives(
+    rt: &impl Abort,
+    alloc: Global,
+    fails_behind: Option<usize>,
+    output: &str,
+) -> Result<(), Fail> {
+    let mut disks = tapes_of(alloc)?;
+    let texts = ["", KEYED];
+    goes_on(rt, alloc, &mut disks, texts, fails_behind, 0, KEYED_LINES)?;
+    goes_on(rt, alloc, &mut disks, texts, None, 0, output)
 }
 
 /// The first event was done, and its line wasn't written whole: what it did is there in the next life.
 #[test]
 fn a_life_behind_a_write_fault_keeps_what_was_done(rt: HostRuntime) -> Result<(), Fail> {
-    for (fails_behind, output) in [(None, AGAIN_LINES), (Some(4), KEPT_LINES)] {
-        let mut disks = Vec::new(rt.alloc());
-        for _ in 0..2 {
-            disks.push(TapeDisk::new(rt.alloc(), 2_048, 400)?)?;
-        }
-        for (fails_behind, output) in [(fails_behind, KEYED_LINES), (None, output)] {
-            goes_on(
-                &rt,
-                rt.alloc(),
-                &mut disks,
-                ["", KEYED],
-                fails_behind,
-                0,
-                output,
-            )?;
-        }
-    }
-    Ok(())
+    two_lives(&rt, rt.alloc(), None, AGAIN_LINES)?;
+    two_lives(&rt, rt.alloc(), Some(4), KEPT_LINES)
 }

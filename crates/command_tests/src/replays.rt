@@ -1,6 +1,7 @@
 //! Whole replays over disks and ports in memory: what a program over disks of its own can't show. What it can is a row of checks/.
 use crate::comparing::{holds, same};
 use crate::lines::{BUS, clean, does, ending, sink_of};
+use bus_port::MemSink;
 use cut_disk::{CutDisk, Disk, DiskFailed, MemDisk, TapeDisk, Torn};
 use file_disk::{ByteFile, FileDisk, FileFailed};
 use std::alloc::{AllocError, Global};
@@ -57,8 +58,21 @@ pub(crate) fn disks_of(alloc: Global, sizes: &[usize]) -> Result<Vec<MemDisk>, A
     Ok(disks)
 }
 
-/// Runs these words, which ask for a run over disks, over a bus file and a script, these disks and a sink that takes a byte in a call, and compares
-/// the status and the output. Where the sink fails once so many bytes are written, the status is 6, and these bytes are all of the output.
+/// Runs these words, which ask for a run over disks, over a bus file and a script, these disks and this sink.
+fn answer_to<D: CutDisk>(
+    alloc: Global,
+    texts: [&str; 3],
+    disks: &mut Vec<D>,
+    sink: &mut MemSink,
+) -> Result<u8, Fail> {
+    let [line, bus, script] = texts;
+    let mut config = clean(alloc, bus)?;
+    let mut source = clean(alloc, script)?;
+    does(alloc, line, &mut config, &mut source, sink, disks)
+}
+
+/// The same over a sink that takes a byte in a call; compares the status and the output. Where the sink fails once so many bytes are
+/// written, the status is 6, and these bytes are all of the output.
 pub(crate) fn runs<D: CutDisk>(
     rt: &impl Abort,
     alloc: Global,
@@ -68,15 +82,12 @@ pub(crate) fn runs<D: CutDisk>(
     status: u8,
     output: &str,
 ) -> Result<(), Fail> {
-    let [line, bus, script] = texts;
-    let mut config = clean(alloc, bus)?;
-    let mut source = clean(alloc, script)?;
-    let mut sink = sink_of(alloc, fails_behind)?;
     let number = disks.len();
-    let answer = does(alloc, line, &mut config, &mut source, &mut sink, disks)?;
+    let mut sink = sink_of(alloc, fails_behind)?;
+    let answer = answer_to(alloc, texts, disks, &mut sink)?;
     let (status, output) = ending(fails_behind, status, output);
-    same(rt, script, &answer, &status);
-    same(rt, script, &sink.bytes(), &output);
+    same(rt, texts[2], &answer, &status);
+    same(rt, texts[2], &sink.bytes(), &output);
     holds(rt, "every disk is back", disks.len() == number);
     Ok(())
 }
@@ -96,12 +107,18 @@ fn replays<D: CutDisk>(
     runs(rt, alloc, disks, texts, fails_behind, status, output)
 }
 
-/// A script over two disks that tell their past.
-fn over_tapes(rt: &impl Abort, alloc: Global, texts: [&str; 2], lines: &str) -> Result<(), Fail> {
+/// Two disks that tell their past.
+pub(crate) fn tapes_of(alloc: Global) -> Result<Vec<TapeDisk>, Fail> {
     let mut tapes = Vec::new(alloc);
     for _ in 0..2 {
         tapes.push(TapeDisk::new(alloc, 2_048, 400)?)?;
     }
+    Ok(tapes)
+}
+
+/// A script over two disks that tell their past.
+fn over_tapes(rt: &impl Abort, alloc: Global, texts: [&str; 2], lines: &str) -> Result<(), Fail> {
+    let mut tapes = tapes_of(alloc)?;
     replays(rt, alloc, &mut tapes, texts, None, 0, lines)?;
     for tape in tapes.as_slice() {
         holds(rt, "the past is told", tape.past().is_some());
@@ -109,21 +126,31 @@ fn over_tapes(rt: &impl Abort, alloc: Global, texts: [&str; 2], lines: &str) -> 
     Ok(())
 }
 
+/// A script over two disks in memory.
+fn over_memory(rt: &impl Abort, alloc: Global, texts: [&str; 2], lines: &str) -> Result<(), Fail> {
+    let mut disks = disks_of(alloc, &[2_048, 2_048])?;
+    replays(rt, alloc, &mut disks, texts, None, 0, lines)
+}
+
 /// A script over two disks that tell their past, and over two that don't.
 fn over_both(rt: &impl Abort, alloc: Global, script: &str, lines: &str) -> Result<(), Fail> {
     let texts = [BUS, script];
-    let mut disks = disks_of(alloc, &[2_048, 2_048])?;
-    replays(rt, alloc, &mut disks, texts, None, 0, lines)?;
+    over_memory(rt, alloc, texts, lines)?;
     over_tapes(rt, alloc, texts, lines)
+}
+
+/// The same of [`SENT`] and what stands behind it.
+fn over_both_behind(rt: &impl Abort, alloc: Global, rest: &str, lines: &str) -> Result<(), Fail> {
+    let script = format!(in alloc; "{SENT}{rest}")?;
+    let lines = format!(in alloc; "{SENT_LINES}{lines}")?;
+    over_both(rt, alloc, script.as_str(), lines.as_str())
 }
 
 #[test]
 fn disks_that_tell_their_past_print_the_same(rt: HostRuntime) -> Result<(), Fail> {
     over_both(&rt, rt.alloc(), ORDINARY, ORDINARY_LINES)?;
     for (rest, lines) in POWER_CUTS {
-        let script = format!(in rt.alloc(); "{SENT}{rest}")?;
-        let lines = format!(in rt.alloc(); "{SENT_LINES}{lines}")?;
-        over_both(&rt, rt.alloc(), script.as_str(), lines.as_str())?;
+        over_both_behind(&rt, rt.alloc(), rest, lines)?;
     }
     Ok(())
 }
@@ -138,29 +165,36 @@ fn byte_at<D: Disk>(disk: &mut D, at: u64) -> Result<u8, DiskFailed> {
     Ok(out[0])
 }
 
-/// The first four events put the cell of slot 1 and then that of slot 4, of the first node and then of the second, and have a line of ten bytes
-/// each. The mark of the second copy of a cell is 2 in a new twin store, and 1 behind the first put.
+/// Behind how many lines the byte at an address of a node's disk is 1: the first four events put the cell of slot 1 and then that of slot
+/// 4, of the first node and then of the second, and have a line of ten bytes each. The mark of the second copy of a cell is 2 in a new twin
+/// store, and 1 behind the first put.
+const PUTS: &[(usize, usize, u64)] = &[(0, 0, 135), (1, 1, 135), (2, 0, 339), (3, 1, 339)];
+
+/// The byte at an address of the disk of this node.
+fn byte_of(disks: &mut [MemDisk], node: usize, at: u64) -> Result<u8, Fail> {
+    match disks.get_mut(node) {
+        Some(disk) => Ok(byte_at(disk, at)?),
+        None => Err(Fail::from("no disk")),
+    }
+}
+
+/// The events whose lines were begun are done, and no others.
+fn are_done(rt: &impl Abort, disks: &mut [MemDisk], written: usize) -> Result<(), Fail> {
+    for (lines, node, at) in PUTS {
+        let is_done = byte_of(disks, *node, *at)? == 1;
+        same(rt, written, &is_done, &(written / 10 >= *lines));
+    }
+    Ok(())
+}
+
 #[test]
 fn after_a_write_that_fails_nothing_more_is_written_or_done(rt: HostRuntime) -> Result<(), Fail> {
+    let texts = [BUS, ORDINARY];
     for written in 0..40 {
         let mut disks = disks_of(rt.alloc(), &[2_048, 2_048])?;
-        let texts = [BUS, ORDINARY];
-        replays(
-            &rt,
-            rt.alloc(),
-            &mut disks,
-            texts,
-            Some(written),
-            0,
-            ORDINARY_LINES,
-        )?;
-        for (lines, node, at) in [(0, 0, 135), (1, 1, 135), (2, 0, 339), (3, 1, 339)] {
-            let Some(disk) = disks.as_mut_slice().get_mut(node) else {
-                return Err(Fail::from("no disk"));
-            };
-            let is_done = written / 10 >= lines;
-            same(&rt, lines, &(byte_at(disk, at)? == 1), &is_done);
-        }
+        let fails = Some(written);
+        replays(&rt, rt.alloc(), &mut disks, texts, fails, 0, ORDINARY_LINES)?;
+        are_done(&rt, disks.as_mut_slice(), written)?;
     }
     Ok(())
 }
@@ -173,63 +207,108 @@ const LAYOUTS: [(&str, usize); 4] = [
     ("store = \"log\"\nversion = 2\n", 38_244),
 ];
 
+/// The bytes of a disk: as many as the store takes, one fewer, or a number.
+#[derive(Clone, Copy)]
+enum Size {
+    Least,
+    OneLess,
+    Of(usize),
+}
+
+/// Disks, and the status and the text over them.
+const DISKS: &[(&[Size], u8, &str)] = &[
+    (&[], 9, "disks: too few\n"),
+    (&[Size::Least], 9, "disks: too few\n"),
+    (
+        &[Size::Of(100), Size::Of(100)],
+        9,
+        "disks: node 1 too small\n",
+    ),
+    (
+        &[Size::Least, Size::OneLess],
+        9,
+        "disks: node 2 too small\n",
+    ),
+    (&[Size::Least, Size::Least], 0, SENT_LINES),
+    (
+        &[Size::Of(65_536), Size::Of(65_536), Size::Of(0)],
+        0,
+        SENT_LINES,
+    ),
+];
+
+/// Disks of these sizes.
+fn sized_disks(alloc: Global, least: usize, sizes: &[Size]) -> Result<Vec<MemDisk>, AllocError> {
+    let mut numbers = Vec::new(alloc);
+    for size in sizes {
+        let number = match size {
+            Size::Least => least,
+            Size::OneLess => least.saturating_sub(1),
+            Size::Of(number) => *number,
+        };
+        numbers.push(number)?;
+    }
+    disks_of(alloc, numbers.as_slice())
+}
+
+/// Over a sink that takes all, and over one that fails behind seven bytes.
+fn starts_or_not(
+    rt: &impl Abort,
+    alloc: Global,
+    bus: &str,
+    least: usize,
+    row: &(&[Size], u8, &str),
+) -> Result<(), Fail> {
+    for fails_behind in [None, Some(7)] {
+        let mut disks = sized_disks(alloc, least, row.0)?;
+        let texts = [bus, SENT];
+        replays(rt, alloc, &mut disks, texts, fails_behind, row.1, row.2)?;
+    }
+    Ok(())
+}
+
 #[test]
 fn disks_that_are_too_few_or_too_small_are_told(rt: HostRuntime) -> Result<(), Fail> {
-    let alloc = rt.alloc();
     for (layout, least) in LAYOUTS {
-        let bus = format!(in alloc; "{layout}{BUS}")?;
-        let texts = [bus.as_str(), SENT];
-        for (sizes, status, output) in [
-            (&[][..], 9, "disks: too few\n"),
-            (&[least][..], 9, "disks: too few\n"),
-            (&[100, 100][..], 9, "disks: node 1 too small\n"),
-            (
-                &[least, least.saturating_sub(1)][..],
-                9,
-                "disks: node 2 too small\n",
-            ),
-            (&[least, least][..], 0, SENT_LINES),
-            (&[65_536, 65_536, 0][..], 0, SENT_LINES),
-        ] {
-            let mut disks = disks_of(alloc, sizes)?;
-            replays(&rt, alloc, &mut disks, texts, None, status, output)?;
-            let mut disks = disks_of(alloc, sizes)?;
-            replays(&rt, alloc, &mut disks, texts, Some(7), status, output)?;
+        let bus = format!(in rt.alloc(); "{layout}{BUS}")?;
+        for row in DISKS {
+            starts_or_not(&rt, rt.alloc(), bus.as_str(), least, row)?;
         }
     }
     Ok(())
 }
 
-/// A start over a twin store of fifteen cells makes twenty calls to format it and sixteen to read it.
+/// A node whose disk fails, the call at which it does, where the sink fails, the status and the text. A start over a twin store of fifteen
+/// cells makes twenty calls to format it and sixteen to read it.
+const FAILURES: &[(usize, u64, Option<usize>, u8, &str)] = &[
+    (0, 1, None, 10, "store: node 1: DiskFailed\n"),
+    (0, 20, None, 10, "store: node 1: DiskFailed\n"),
+    (0, 36, None, 10, "store: node 1: DiskFailed\n"),
+    (0, 36, Some(7), 10, "store: node 1: DiskFailed\n"),
+    (0, 37, None, 0, ""),
+    (1, 1, None, 10, "store: node 2: DiskFailed\n"),
+    (1, 20, None, 10, "store: node 2: DiskFailed\n"),
+    (1, 36, None, 10, "store: node 2: DiskFailed\n"),
+    (1, 36, Some(7), 10, "store: node 2: DiskFailed\n"),
+    (1, 37, None, 0, ""),
+];
+
+/// Two disks, of which that of this node fails at this call.
+fn failing_disks(alloc: Global, node: usize, call: u64) -> Result<Vec<MemDisk>, Fail> {
+    let mut disks = disks_of(alloc, &[2_048, 2_048])?;
+    match disks.as_mut_slice().get_mut(node) {
+        Some(disk) if call >= 1 => disk.fail_at(call),
+        _ => return Err(Fail::from("no disk")),
+    }
+    Ok(disks)
+}
+
 #[test]
 fn a_disk_that_fails_at_the_start_is_named(rt: HostRuntime) -> Result<(), Fail> {
-    for (node, output) in [
-        (0, "store: node 1: DiskFailed\n"),
-        (1, "store: node 2: DiskFailed\n"),
-    ] {
-        for (call, fails_behind, status, output) in [
-            (1, None, 10, output),
-            (20, None, 10, output),
-            (36, None, 10, output),
-            (36, Some(7), 10, output),
-            (37, None, 0, ""),
-        ] {
-            let mut disks = disks_of(rt.alloc(), &[2_048, 2_048])?;
-            match disks.as_mut_slice().get_mut(node) {
-                Some(disk) if call >= 1 => disk.fail_at(call),
-                _ => return Err(Fail::from("no disk")),
-            }
-            let texts = [BUS, ""];
-            replays(
-                &rt,
-                rt.alloc(),
-                &mut disks,
-                texts,
-                fails_behind,
-                status,
-                output,
-            )?;
-        }
+    for (node, call, fails, status, output) in FAILURES {
+        let mut disks = failing_disks(rt.alloc(), *node, *call)?;
+        let texts = [BUS, ""];
+        replays(&rt, rt.alloc(), &mut disks, texts, *fails, *status, output)?;
     }
     Ok(())
 }
@@ -282,41 +361,60 @@ impl ByteFile for WornFile {
     fn lose_power(&mut self, _torn: Torn) {}
 }
 
-/// Over disks that tell no bytes, and read otherwise than they were written: of the second node the first byte of the header, the mark of a copy
-/// that counts, the first byte of a slot's cell and of a bound's; and a byte that no cell has.
+/// A layout, the address and the byte that the second disk reads there, the status and the text: the first byte of the header, the mark of a
+/// copy that counts, the first byte of a slot's cell and of a bound's; and a byte that no cell has.
+const READ_OTHERWISE: &[(&str, usize, u8, u8, &str)] = &[
+    ("", 0, 0, 10, "store: node 2: NotFormatted\n"),
+    ("", 985, 3, 10, "store: node 2: Damaged 14\n"),
+    ("", 918, 7, 10, "store: node 2: BadSlot 13\n"),
+    ("", 986, 1, 10, "store: node 2: BadBound 14\n"),
+    ("", 1_052, 1, 0, SENT_LINES),
+    (
+        "store = \"log\"\n",
+        31,
+        1,
+        10,
+        "store: node 2: NotFormatted\n",
+    ),
+    ("store = \"log\"\n", 32, 0, 10, "store: node 2: Damaged 0\n"),
+    (
+        "store = \"log\"\n",
+        549,
+        0xa7,
+        10,
+        "store: node 2: Damaged 2\n",
+    ),
+];
+
+fn worn(alloc: Global, at: usize, byte: u8) -> Result<FileDisk<WornFile>, AllocError> {
+    let bytes = vec![in alloc; 0; 65_536]?;
+    Ok(FileDisk::over(WornFile { bytes, at, byte }, 65_536))
+}
+
+fn worn_disks(alloc: Global, at: usize, byte: u8) -> Result<Vec<FileDisk<WornFile>>, AllocError> {
+    let mut disks = Vec::new(alloc);
+    disks.push(worn(alloc, 65_536, 0)?)?;
+    disks.push(worn(alloc, at, byte)?)?;
+    Ok(disks)
+}
+
+/// Over disks that tell no bytes, and read otherwise than they were written.
+fn reads_otherwise(
+    rt: &impl Abort,
+    alloc: Global,
+    bus: &str,
+    row: &(&str, usize, u8, u8, &str),
+) -> Result<(), Fail> {
+    let mut disks = worn_disks(alloc, row.1, row.2)?;
+    replays(rt, alloc, &mut disks, [bus, SENT], None, row.3, row.4)
+}
+
 #[test]
 fn what_is_read_again_otherwise_is_told(rt: HostRuntime) -> Result<(), Fail> {
-    let alloc = rt.alloc();
-    for (layout, at, byte, status, output) in [
-        ("", 0, 0, 10, "store: node 2: NotFormatted\n"),
-        ("", 985, 3, 10, "store: node 2: Damaged 14\n"),
-        ("", 918, 7, 10, "store: node 2: BadSlot 13\n"),
-        ("", 986, 1, 10, "store: node 2: BadBound 14\n"),
-        ("", 1_052, 1, 0, SENT_LINES),
-        (
-            "store = \"log\"\n",
-            31,
-            1,
-            10,
-            "store: node 2: NotFormatted\n",
-        ),
-        ("store = \"log\"\n", 32, 0, 10, "store: node 2: Damaged 0\n"),
-        (
-            "store = \"log\"\n",
-            549,
-            0xa7,
-            10,
-            "store: node 2: Damaged 2\n",
-        ),
-    ] {
-        let bus = format!(in alloc; "{layout}{BUS}")?;
-        let mut disks = Vec::new(alloc);
-        for (at, byte) in [(65_536, 0), (at, byte)] {
-            let bytes = vec![in alloc; 0; 65_536]?;
-            disks.push(FileDisk::over(WornFile { bytes, at, byte }, 65_536))?;
-        }
-        let texts = [bus.as_str(), SENT];
-        replays(&rt, alloc, &mut disks, texts, None, status, output)?;
+    for row in READ_OTHERWISE {
+        let layout = row.0;
+        let bus = format!(in rt.alloc(); "{layout}{BUS}")?;
+        reads_otherwise(&rt, rt.alloc(), bus.as_str(), row)?;
     }
     Ok(())
 }
