@@ -5,16 +5,45 @@ use crate::comparing::{holds, same};
 use cut_disk::{CutDisk, Disk, DiskFailed, Torn};
 use file_disk::{FileDisk, SystemFile};
 use std::fs::OpenOptions;
+use std::process::Abort;
 use std::test::Fail;
 use std::{env, fs, process};
 
-/// The path of an empty folder for the test of this name.
-fn empty_folder(rt: &HostRuntime, name: &str) -> Result<String, Fail> {
+/// The folder of the test of this name.
+fn folder_of(rt: &HostRuntime, name: &str) -> Result<String, Fail> {
     let id = process::id(rt.process());
     let above = env::temp_dir(rt)?.into_string();
-    let folder = format!(in rt.alloc(); "{above}/file_disk_{id}_{name}")?;
+    Ok(format!(in rt.alloc(); "{above}/file_disk_{id}_{name}")?)
+}
+
+/// The path of a disk in this folder, made anew.
+fn new_path(rt: &HostRuntime, name: &str) -> Result<String, Fail> {
+    let folder = folder_of(rt, name)?;
     fs::create_dir(rt, folder.as_str())?;
-    Ok(folder)
+    Ok(format!(in rt.alloc(); "{folder}/disk")?)
+}
+
+/// The same where there is a file with these bytes already.
+fn path_of(rt: &HostRuntime, name: &str, bytes: &[u8]) -> Result<String, Fail> {
+    let path = new_path(rt, name)?;
+    fs::write(rt, path.as_str(), bytes)?;
+    Ok(path)
+}
+
+fn take_away(rt: &HostRuntime, name: &str) -> Result<(), Fail> {
+    fs::remove_dir_all(rt, folder_of(rt, name)?.as_str())?;
+    Ok(())
+}
+
+/// The file has these bytes.
+fn has_bytes(rt: &impl Abort, system: &HostRuntime, path: &str, bytes: &[u8]) -> Result<(), Fail> {
+    same(rt, "the file", &fs::read(system, path)?.as_slice(), &bytes);
+    Ok(())
+}
+
+/// The file has so many bytes as a disk.
+fn has_size(rt: &impl Abort, system: &HostRuntime, path: &str, size: u64) {
+    same(rt, "size", &FileDisk::on(system, path).size(), &size);
 }
 
 /// Reads a range of at most 65,536 bytes, where the disk has it.
@@ -50,102 +79,121 @@ fn answers<D: Disk>(disk: &mut D) -> [u8; 3] {
     answers
 }
 
-#[test]
-fn a_file_is_made_and_keeps_what_was_synced(rt: HostRuntime) -> Result<(), Fail> {
-    let folder = empty_folder(&rt, "made")?;
-    let path = format!(in rt.alloc(); "{folder}/disk")?;
-    let mut disk = FileDisk::on(&rt, path.as_str());
-    same(&rt, "disk.size()", &disk.size(), &65536);
-    same(
-        &rt,
-        "fs::metadata",
-        &fs::metadata(&rt, path.as_str())?.len(),
-        &65536,
-    );
-    let mut all = vec![in rt.alloc(); 9; 65536]?;
+/// What these calls answer over a disk on the file.
+fn answers_on(rt: &HostRuntime, path: &str) -> [u8; 3] {
+    answers(&mut FileDisk::on(rt, path))
+}
+
+/// All 65,536 bytes of a new file are zero.
+fn is_made(rt: &impl Abort, system: &HostRuntime, path: &str) -> Result<(), Fail> {
+    let mut disk = FileDisk::on(system, path);
+    same(rt, "disk.size()", &disk.size(), &65536);
+    let mut all = vec![in system.alloc(); 9; 65536]?;
     read_at(&mut disk, 0, &mut all)?;
-    holds(&rt, "all.iter", all.iter().all(|byte| *byte == 0));
+    holds(rt, "all.iter", all.iter().all(|byte| *byte == 0));
+    Ok(())
+}
+
+/// Two bytes are written at the end and synced.
+fn is_written(rt: &HostRuntime, path: &str) -> Result<(), Fail> {
+    let mut disk = FileDisk::on(rt, path);
     write_at(&mut disk, 65534, &[7, 8])?;
     disk.sync()?;
     disk.power_cut(Torn::Old);
-    drop(disk);
-    let mut again = FileDisk::on(&rt, path.as_str());
-    same(&rt, "again.size()", &again.size(), &65536);
+    Ok(())
+}
+
+fn is_kept(rt: &impl Abort, system: &HostRuntime, path: &str) -> Result<(), Fail> {
+    let mut disk = FileDisk::on(system, path);
+    same(rt, "disk.size()", &disk.size(), &65536);
     let mut end = [9; 3];
-    read_at(&mut again, 65533, &mut end)?;
-    same(&rt, "end", &end, &[0, 7, 8]);
-    fs::remove_dir_all(&rt, folder.as_str())?;
+    read_at(&mut disk, 65533, &mut end)?;
+    same(rt, "end", &end, &[0, 7, 8]);
     Ok(())
 }
 
 #[test]
+fn a_file_is_made_and_keeps_what_was_synced(rt: HostRuntime) -> Result<(), Fail> {
+    let path = new_path(&rt, "made")?;
+    is_made(&rt, &rt, path.as_str())?;
+    let len = fs::metadata(&rt, path.as_str())?.len();
+    same(&rt, "fs::metadata", &len, &65536);
+    is_written(&rt, path.as_str())?;
+    is_kept(&rt, &rt, path.as_str())?;
+    take_away(&rt, "made")
+}
+
+fn fails(rt: &impl Abort, system: &HostRuntime, path: &str) {
+    has_size(rt, system, path, 65536);
+    same(rt, "answers", &answers_on(system, path), b"xxx");
+}
+
+#[test]
 fn a_disk_over_no_file_has_65536_bytes_and_each_call_fails(rt: HostRuntime) -> Result<(), Fail> {
-    let folder = empty_folder(&rt, "none")?;
+    let folder = folder_of(&rt, "none")?;
+    fs::create_dir(&rt, folder.as_str())?;
     for path in ["/not/there", "", "/"] {
         let path = format!(in rt.alloc(); "{folder}{path}")?;
-        let mut disk = FileDisk::on(&rt, path.as_str());
-        same(&rt, "disk.size()", &disk.size(), &65536);
-        same(&rt, "answers(&mut disk)", &answers(&mut disk), b"xxx");
+        fails(&rt, &rt, path.as_str());
     }
-    fs::remove_dir_all(&rt, folder.as_str())?;
+    take_away(&rt, "none")
+}
+
+fn protect(rt: &HostRuntime, path: &str) -> Result<(), Fail> {
+    let mut permissions = fs::metadata(rt, path)?.permissions();
+    permissions.set_readonly(true);
+    fs::set_permissions(rt, path, permissions)?;
+    Ok(())
+}
+
+fn is_only_read(rt: &impl Abort, system: &HostRuntime, path: &str) -> Result<(), Fail> {
+    let mut disk = FileDisk::on(system, path);
+    same(rt, "disk.size()", &disk.size(), &3);
+    let mut out = [9; 3];
+    read_at(&mut disk, 0, &mut out)?;
+    same(rt, "out", &out, &[1, 2, 3]);
+    disk.sync()?;
+    same(rt, "answers(&mut disk)", &answers(&mut disk), b".xx");
+    same(rt, "answers(&mut disk)", &answers(&mut disk), b"xxx");
     Ok(())
 }
 
 #[test]
 fn a_write_protected_file_is_read_until_a_write_fails(rt: HostRuntime) -> Result<(), Fail> {
-    let folder = empty_folder(&rt, "protected")?;
-    let path = format!(in rt.alloc(); "{folder}/disk")?;
-    fs::write(&rt, path.as_str(), [1, 2, 3].as_slice())?;
-    let mut permissions = fs::metadata(&rt, path.as_str())?.permissions();
-    permissions.set_readonly(true);
-    fs::set_permissions(&rt, path.as_str(), permissions)?;
-    let mut disk = FileDisk::on(&rt, path.as_str());
-    same(&rt, "disk.size()", &disk.size(), &3);
-    let mut out = [9; 3];
-    read_at(&mut disk, 0, &mut out)?;
-    same(&rt, "out", &out, &[1, 2, 3]);
-    disk.sync()?;
-    same(&rt, "answers(&mut disk)", &answers(&mut disk), b".xx");
-    same(&rt, "answers(&mut disk)", &answers(&mut disk), b"xxx");
-    fs::remove_dir_all(&rt, folder.as_str())?;
+    let path = path_of(&rt, "protected", &[1, 2, 3])?;
+    protect(&rt, path.as_str())?;
+    is_only_read(&rt, &rt, path.as_str())?;
+    take_away(&rt, "protected")
+}
+
+fn set_len(rt: &HostRuntime, path: &str, len: u64) -> Result<(), Fail> {
+    let file = OpenOptions::new().write(true).open(rt, path)?;
+    file.set_len(len)?;
+    Ok(())
+}
+
+/// The file of four bytes becomes shorter by one, and then as long as it was.
+fn is_not_asked_again(rt: &impl Abort, system: &HostRuntime, path: &str) -> Result<(), Fail> {
+    let mut disk = FileDisk::on(system, path);
+    same(rt, "answers(&mut disk)", &answers(&mut disk), b"...");
+    set_len(system, path, 3)?;
+    same(rt, "disk.size()", &disk.size(), &4);
+    let read = read_at(&mut disk, 2, &mut [0, 0]);
+    same(rt, "read_at", &read, &Err(DiskFailed));
+    same(rt, "answers(&mut disk)", &answers(&mut disk), b".xx");
+    has_bytes(rt, system, path, &[5, 6, 3])?;
+    set_len(system, path, 4)?;
+    disk.power_cut(Torn::Keep);
+    same(rt, "answers(&mut disk)", &answers(&mut disk), b"xxx");
     Ok(())
 }
 
 #[test]
 fn a_file_that_became_shorter_is_not_asked_again(rt: HostRuntime) -> Result<(), Fail> {
-    let folder = empty_folder(&rt, "shorter")?;
-    let path = format!(in rt.alloc(); "{folder}/disk")?;
-    fs::write(&rt, path.as_str(), [1, 2, 3, 4].as_slice())?;
-    let mut disk = FileDisk::on(&rt, path.as_str());
-    same(&rt, "answers(&mut disk)", &answers(&mut disk), b"...");
-    let shortened = OpenOptions::new().write(true).open(&rt, path.as_str())?;
-    shortened.set_len(3)?;
-    same(&rt, "disk.size()", &disk.size(), &4);
-    same(
-        &rt,
-        "read_at",
-        &read_at(&mut disk, 2, &mut [0, 0]),
-        &Err(DiskFailed),
-    );
-    same(&rt, "answers(&mut disk)", &answers(&mut disk), b".xx");
-    same(
-        &rt,
-        "fs::read",
-        &fs::read(&rt, path.as_str())?.as_slice(),
-        &[5, 6, 3].as_slice(),
-    );
-    shortened.set_len(4)?;
-    disk.power_cut(Torn::Keep);
-    same(&rt, "answers(&mut disk)", &answers(&mut disk), b"xxx");
-    drop(disk);
-    same(
-        &rt,
-        "answers",
-        &answers(&mut FileDisk::on(&rt, path.as_str())),
-        b"...",
-    );
-    fs::remove_dir_all(&rt, folder.as_str())?;
-    Ok(())
+    let path = path_of(&rt, "shorter", &[1, 2, 3, 4])?;
+    is_not_asked_again(&rt, &rt, path.as_str())?;
+    same(&rt, "answers", &answers_on(&rt, path.as_str()), b"...");
+    take_away(&rt, "shorter")
 }
 
 /// The answers of four syncs with these arms, and of four more after a power cut.
@@ -170,77 +218,79 @@ fn syncs<D: Disk>(disk: &mut D) -> [u8; 4] {
     answers
 }
 
+const ARMS: &[(u64, u64, [u8; 4], [u8; 4])] = &[
+    (2, 9, *b".xxx", *b"...."),
+    (9, 2, *b".x..", *b"...."),
+    (2, 6, *b".xxx", *b".x.."),
+    (1, 1, *b"xxxx", *b"...."),
+    (4, 3, *b"..xx", *b"...."),
+];
+
+fn has_arms(rt: &impl Abort, system: &HostRuntime, path: &str) {
+    for (stop, fail, before, after) in ARMS {
+        holds(rt, "calls", *stop > 0 && *fail > 0);
+        let told = armed_answers(&mut FileDisk::on(system, path), *stop, *fail);
+        same(rt, *stop, &told, &[*before, *after]);
+    }
+}
+
+fn fails_once(rt: &impl Abort, system: &HostRuntime, path: &str) {
+    let mut disk = FileDisk::on(system, path);
+    disk.fail_at(2);
+    same(rt, "answers(&mut disk)", &answers(&mut disk), b".x.");
+    same(rt, "answers(&mut disk)", &answers(&mut disk), b"...");
+}
+
 #[test]
 fn arms_and_stops_are_those_of_the_disk_in_memory(rt: HostRuntime) -> Result<(), Fail> {
-    let folder = empty_folder(&rt, "arms")?;
-    let path = format!(in rt.alloc(); "{folder}/disk")?;
-    fs::write(&rt, path.as_str(), [1, 2].as_slice())?;
-    for (stop, fail, before, after) in [
-        (2, 9, b".xxx", b"...."),
-        (9, 2, b".x..", b"...."),
-        (2, 6, b".xxx", b".x.."),
-        (1, 1, b"xxxx", b"...."),
-        (4, 3, b"..xx", b"...."),
-    ] {
-        let mut disk = FileDisk::on(&rt, path.as_str());
-        same(
-            &rt,
-            "armed_answers",
-            &armed_answers(&mut disk, stop, fail),
-            &[*before, *after],
-        );
-    }
-    let mut disk = FileDisk::on(&rt, path.as_str());
-    disk.fail_at(2);
-    same(&rt, "answers(&mut disk)", &answers(&mut disk), b".x.");
-    same(&rt, "answers(&mut disk)", &answers(&mut disk), b"...");
-    same(
-        &rt,
-        "fs::read",
-        &fs::read(&rt, path.as_str())?.as_slice(),
-        &[5, 6].as_slice(),
-    );
-    fs::remove_dir_all(&rt, folder.as_str())?;
+    let path = path_of(&rt, "arms", &[1, 2])?;
+    has_arms(&rt, &rt, path.as_str());
+    fails_once(&rt, &rt, path.as_str());
+    has_bytes(&rt, &rt, path.as_str(), &[5, 6])?;
+    take_away(&rt, "arms")
+}
+
+fn is_empty(rt: &impl Abort, system: &HostRuntime, path: &str) -> Result<(), Fail> {
+    let mut disk = FileDisk::over(SystemFile::on(system, path), 0);
+    same(rt, "disk.size()", &disk.size(), &0);
+    disk.sync()?;
     Ok(())
 }
 
 #[test]
 fn an_empty_file_stays_one(rt: HostRuntime) -> Result<(), Fail> {
-    let folder = empty_folder(&rt, "empty")?;
-    let path = format!(in rt.alloc(); "{folder}/disk")?;
-    fs::write(&rt, path.as_str(), [].as_slice())?;
-    let mut disk = FileDisk::over(SystemFile::on(&rt, path.as_str()), 0);
-    same(&rt, "disk.size()", &disk.size(), &0);
-    disk.sync()?;
+    let path = path_of(&rt, "empty", &[])?;
+    is_empty(&rt, &rt, path.as_str())?;
+    has_size(&rt, &rt, path.as_str(), 0);
+    take_away(&rt, "empty")
+}
+
+/// While the first disk is on the file.
+fn locks_out<D: Disk>(rt: &impl Abort, system: &HostRuntime, disk: &mut D, path: &str) {
+    let mut other = FileDisk::on(system, path);
+    same(rt, "other.size()", &other.size(), &65536);
+    same(rt, "answers(&mut other)", &answers(&mut other), b"xxx");
+    same(rt, "answers(disk)", &answers(disk), b"...");
+}
+
+/// Behind a first disk on the file one that was refused stays so.
+fn stays_out(rt: &impl Abort, system: &HostRuntime, path: &str) {
+    let disk = FileDisk::on(system, path);
+    let mut other = FileDisk::on(system, path);
     drop(disk);
-    same(
-        &rt,
-        "FileDisk::on",
-        &FileDisk::on(&rt, path.as_str()).size(),
-        &0,
-    );
-    fs::remove_dir_all(&rt, folder.as_str())?;
-    Ok(())
+    same(rt, "answers(&mut other)", &answers(&mut other), b"xxx");
 }
 
 #[test]
 fn a_file_is_open_in_one_place_at_a_time(rt: HostRuntime) -> Result<(), Fail> {
-    let folder = empty_folder(&rt, "locked")?;
-    let path = format!(in rt.alloc(); "{folder}/disk")?;
-    fs::write(&rt, path.as_str(), [1, 2].as_slice())?;
-    let mut disk = FileDisk::on(&rt, path.as_str());
-    let mut other = FileDisk::on(&rt, path.as_str());
-    same(&rt, "other.size()", &other.size(), &65536);
-    same(&rt, "answers(&mut other)", &answers(&mut other), b"xxx");
-    same(&rt, "answers(&mut disk)", &answers(&mut disk), b"...");
-    drop(disk);
-    same(&rt, "answers(&mut other)", &answers(&mut other), b"xxx");
-    same(
+    let path = path_of(&rt, "locked", &[1, 2])?;
+    locks_out(
         &rt,
-        "FileDisk::on",
-        &FileDisk::on(&rt, path.as_str()).size(),
-        &2,
+        &rt,
+        &mut FileDisk::on(&rt, path.as_str()),
+        path.as_str(),
     );
-    fs::remove_dir_all(&rt, folder.as_str())?;
-    Ok(())
+    stays_out(&rt, &rt, path.as_str());
+    has_size(&rt, &rt, path.as_str(), 2);
+    take_away(&rt, "locked")
 }
