@@ -498,31 +498,35 @@ fn wide(alloc: Global, version: u8, nodes: u16, routes: u16) -> Result<String, F
     Ok(text)
 }
 
+/// A version, the number of nodes and of routes each, and the fault.
+const WIDTHS: &[(u8, u16, u16, Option<ConfigFault>)] = &[
+    (1, 8, 64, None),
+    (1, 1, 65, Some(ConfigFault::Node(1))),
+    (2, 1, 65, None),
+    (2, 8, 256, None),
+    (2, 1, 257, Some(ConfigFault::Node(1))),
+    (1, 1, 257, Some(ConfigFault::Node(1))),
+];
+
+/// The numbers of nodes and of routes of the first that are read.
+fn read_widths(alloc: Global, text: &str) -> Result<(usize, usize), ConfigFault> {
+    let bus = read_config(alloc, text.as_bytes())?;
+    match bus.nodes().first() {
+        Some(node) => Ok((bus.nodes().len(), node.config.routes.as_slice().len())),
+        None => Ok((0, 0)),
+    }
+}
+
 #[test]
 fn nodes_have_as_many_routes_as_their_version_has(rt: HostRuntime) -> Result<(), Fail> {
-    for (version, nodes, routes, fault) in [
-        (1, 8, 64, None),
-        (1, 1, 65, Some(ConfigFault::Node(1))),
-        (2, 1, 65, None),
-        (2, 8, 256, None),
-        (2, 1, 257, Some(ConfigFault::Node(1))),
-        (1, 1, 257, Some(ConfigFault::Node(1))),
-    ] {
-        let text = wide(rt.alloc(), version, nodes, routes)?;
-        match read_config(rt.alloc(), text.as_bytes()) {
-            Ok(bus) => {
-                same(&rt, routes, &fault, &None);
-                holds(
-                    &rt,
-                    "bus.nodes().len()",
-                    bus.nodes().len() == (nodes as usize),
-                );
-                let node = bus.nodes().first().ok_or("a node")?;
-                let read = node.config.routes.as_slice();
-                holds(&rt, "read.len()", read.len() == (routes as usize));
-            }
-            Err(told) => same(&rt, routes, &Some(told), &fault),
-        }
+    for (version, nodes, routes, fault) in WIDTHS {
+        let text = wide(rt.alloc(), *version, *nodes, *routes)?;
+        let read = read_widths(rt.alloc(), text.as_str());
+        let wanted = match fault {
+            None => Ok((usize::from(*nodes), usize::from(*routes))),
+            Some(fault) => Err(*fault),
+        };
+        same(&rt, *routes, &read, &wanted);
     }
     Ok(())
 }

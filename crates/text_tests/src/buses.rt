@@ -70,20 +70,23 @@ fn two_nodes(alloc: Global) -> Result<BusConfig, Fail> {
     Ok(BusConfig::new(Kind::Log, Version::Two, nodes).ok_or("a bus")?)
 }
 
+/// A name, and the place of its node.
+const PLACES: &[(&[u8], Option<u8>)] = &[
+    (b"left", Some(0)),
+    (b"right", Some(1)),
+    (b"lef", None),
+    (b"leftx", None),
+    (b"", None),
+];
+
 #[test]
 fn a_bus_of_two_nodes_is_one_and_its_nodes_are_found(rt: HostRuntime) -> Result<(), Fail> {
     let bus = two_nodes(rt.alloc())?;
     same(&rt, "kind", &bus.kind(), &Kind::Log);
     same(&rt, "version", &bus.version(), &Version::Two);
     same(&rt, "nodes", &bus.nodes().len(), &2);
-    for (name, place) in [
-        (&b"left"[..], Some(0)),
-        (b"right", Some(1)),
-        (b"lef", None),
-        (b"leftx", None),
-        (b"", None),
-    ] {
-        same(&rt, name.len(), &bus.find(name), &place);
+    for (name, place) in PLACES {
+        same(&rt, name.len(), &bus.find(name), place);
     }
     same(&rt, "place", &place_named(bus.nodes(), b"right"), &Some(1));
     same(&rt, "sent again", &sent_again(bus.nodes()), &None);
@@ -105,61 +108,68 @@ fn hearer(alloc: Global, name: &[u8], count: u16) -> Result<NodeLine, Fail> {
     node(alloc, name, routes.as_slice())
 }
 
-const EIGHT: [&[u8]; 8] = [b"a", b"b", b"c", b"d", b"e", b"f", b"g", b"h"];
+const EIGHT: &[&[u8]] = &[b"a", b"b", b"c", b"d", b"e", b"f", b"g", b"h"];
 
-const NINE: [&[u8]; 9] = [b"a", b"b", b"c", b"d", b"e", b"f", b"g", b"h", b"i"];
+const NINE: &[&[u8]] = &[b"a", b"b", b"c", b"d", b"e", b"f", b"g", b"h", b"i"];
 
-const SAME: [&[u8]; 3] = [b"ab", b"ac", b"ab"];
+const SAME: &[&[u8]] = &[b"ab", b"ac", b"ab"];
 
-const OTHER: [&[u8]; 2] = [b"ab", b"ac"];
+const OTHER: &[&[u8]] = &[b"ab", b"ac"];
+
+/// The names of nodes, how many routes each has, the version, and whether such a bus is one.
+const BUSES: &[(&[&[u8]], u16, Version, bool)] = &[
+    (&[], 1, Version::One, false),
+    (EIGHT, 64, Version::One, true),
+    (NINE, 1, Version::One, false),
+    (EIGHT, 65, Version::One, false),
+    (OTHER, 65, Version::Two, true),
+    (EIGHT, 256, Version::Two, true),
+    (SAME, 1, Version::One, false),
+    (OTHER, 1, Version::One, true),
+];
+
+fn hearers(alloc: Global, names: &[&[u8]], count: u16) -> Result<Vec<NodeLine>, Fail> {
+    let mut nodes = Vec::new(alloc);
+    for name in names {
+        nodes.push(hearer(alloc, name, count)?)?;
+    }
+    Ok(nodes)
+}
 
 #[test]
 fn a_bus_has_its_bounds(rt: HostRuntime) -> Result<(), Fail> {
-    let none: [&[u8]; 0] = [];
-    let rows: [(&[&[u8]], u16, Version, bool); 8] = [
-        (&none, 1, Version::One, false),
-        (&EIGHT, 64, Version::One, true),
-        (&NINE, 1, Version::One, false),
-        (&EIGHT, 65, Version::One, false),
-        (&OTHER, 65, Version::Two, true),
-        (&EIGHT, 256, Version::Two, true),
-        (&SAME, 1, Version::One, false),
-        (&OTHER, 1, Version::One, true),
-    ];
-    for (names, count, version, is_one) in rows {
-        let mut nodes = Vec::new(rt.alloc());
-        for name in names {
-            nodes.push(hearer(rt.alloc(), name, count)?)?;
-        }
-        let made = BusConfig::new(Kind::Twin, version, nodes);
-        same(&rt, count, &made.is_some(), &is_one);
+    for (names, count, version, is_one) in BUSES {
+        let nodes = hearers(rt.alloc(), names, *count)?;
+        let made = BusConfig::new(Kind::Twin, *version, nodes);
+        same(&rt, *count, &made.is_some(), is_one);
     }
     Ok(())
 }
 
+/// The routes of three nodes, of which the last sends what the others send.
+const SENDERS: &[(&[u8], &[(u16, bool)])] = &[
+    (b"a", &[(1, true), (2, true), (3, false)]),
+    (b"b", &[(1, false), (3, true)]),
+    (b"c", &[(4, true), (2, true), (1, true)]),
+];
+
+fn senders(alloc: Global) -> Result<Vec<NodeLine>, Fail> {
+    let mut nodes = Vec::new(alloc);
+    for (name, routes) in SENDERS {
+        nodes.push(node(alloc, name, routes)?)?;
+    }
+    Ok(nodes)
+}
+
 #[test]
 fn a_data_id_is_sent_by_one_route(rt: HostRuntime) -> Result<(), Fail> {
-    let alloc = rt.alloc();
-    let mut nodes = Vec::new(alloc);
-    nodes.push(node(alloc, b"a", &[(1, true), (2, true), (3, false)])?)?;
-    nodes.push(node(alloc, b"b", &[(1, false), (3, true)])?)?;
-    same(
-        &rt,
-        "sent_again(nodes.as_slice())",
-        &sent_again(nodes.as_slice()),
-        &None,
-    );
-    nodes.push(node(alloc, b"c", &[(4, true), (2, true), (1, true)])?)?;
-    same(
-        &rt,
-        "sent_again(nodes.as_slice())",
-        &sent_again(nodes.as_slice()),
-        &Some(2),
-    );
-    holds(
-        &rt,
-        "BusConfig::new",
-        BusConfig::new(Kind::Twin, Version::One, nodes).is_none(),
-    );
+    let nodes = senders(rt.alloc())?;
+    holds(&rt, "three nodes", nodes.len() == 3);
+    let again = sent_again(&nodes.as_slice()[..2]);
+    same(&rt, "two nodes", &again, &None);
+    let again = sent_again(nodes.as_slice());
+    same(&rt, "three nodes", &again, &Some(2));
+    let made = BusConfig::new(Kind::Twin, Version::One, nodes);
+    holds(&rt, "BusConfig::new", made.is_none());
     Ok(())
 }

@@ -1,12 +1,15 @@
+ghost use Rattle.std.specs.Prelude.{◌≤◌, length, OnOk};
+
 use crate::comparing::{holds, same};
 use byte_lists::Bytes;
 use cut_disk::Torn;
+use memory_update::Request;
 use secoc_words::frames::{FrameReader, read_frames};
 use secoc_words::judges::{JudgeReader, read_judges};
 use secoc_words::loads::{LoadReader, read_loads};
 use secoc_words::verdicts::{push_bad_length, push_outcome};
 use secured_pdu::Judgement;
-use std::alloc::{AllocError, Global};
+use std::alloc::Global;
 use std::fmt::Display;
 use std::process::Abort;
 use std::test::Fail;
@@ -138,125 +141,127 @@ const LOADS: [(&str, &str); 7] = [
     ),
 ];
 
-// A key, a Data ID, a freshness and bytes, as a line writes them.
-fn written(
+/// Adds the digits of these bytes, and what stands behind them.
+fn add(alloc: Global, shown: &mut String, bytes: &[u8], behind: &str) -> Result<(), Fail> {
+    let digits = hex::encode(alloc, bytes)?;
+    shown.push_str(digits.as_str())?;
+    shown.push_str(behind)?;
+    Ok(())
+}
+
+/// Adds a key, a Data ID, a freshness and bytes, as a line writes them.
+fn add_line(
     alloc: Global,
+    shown: &mut String,
     key: &[u8],
     id: u16,
     freshness: u64,
     bytes: &[u8],
-) -> Result<String, AllocError> {
-    let key = hex::encode(alloc, key)?;
-    let bytes = hex::encode(alloc, bytes)?;
-    format!(in alloc; "{key} {id:04x} {freshness:016x} {bytes}\n")
+) -> Result<(), Fail> {
+    add(alloc, shown, key, " ")?;
+    add(alloc, shown, &id.to_be_bytes(), " ")?;
+    add(alloc, shown, &freshness.to_be_bytes(), " ")?;
+    add(alloc, shown, bytes, "\n")
 }
 
-fn fault_of(alloc: Global, fault: &ScriptFault) -> Result<String, Fail> {
+fn add_load(alloc: Global, shown: &mut String, line: &Request) -> Result<(), Fail> {
+    let [first, second] = line.m2;
+    add(alloc, shown, line.m1.as_slice(), " ")?;
+    add(alloc, shown, first.as_slice(), "")?;
+    add(alloc, shown, second.as_slice(), " ")?;
+    add(alloc, shown, line.m3.as_slice(), "\n")
+}
+
+fn add_fault(alloc: Global, shown: &mut String, fault: &ScriptFault) -> Result<(), Fail> {
     match fault {
-        ScriptFault::At { line, cause } => Ok(fault_text(alloc, *line, cause)?),
-        ScriptFault::Memory => Err("no memory")?,
+        ScriptFault::At { line, cause } => {
+            let text = fault_text(alloc, *line, cause)?;
+            shown.push_str(text.as_str())?;
+            Ok(())
+        }
+        ScriptFault::Memory => Err(Fail::from("no memory")),
     }
 }
 
-fn frames_shown(alloc: Global, text: &[u8]) -> Result<String, Fail> {
+/// Whether a text is as long as the ones here.
+fn is_short(text: &[u8]) -> Result<(), Fail>
+    ensures { OnOk result (length text.now ≤ 1000) }
+{
     if text.len() > 1000 {
-        return Err("a long text")?;
+        return Err(Fail::from("a long text"));
     }
-    let lines = match read_frames(alloc, text) {
-        Ok(lines) => lines,
-        Err(fault) => return fault_of(alloc, &fault),
-    };
-    let mut shown = String::new(alloc);
-    for line in &lines {
-        shown.push_str(written(
-            alloc,
-            line.key.bytes().as_slice(),
-            line.id,
-            line.freshness,
-            line.payload.bytes(),
-        )?
-        .as_str())?;
-    }
-    Ok(shown)
+    Ok(())
 }
 
-fn judges_shown(alloc: Global, text: &[u8]) -> Result<String, Fail> {
-    if text.len() > 1000 {
-        return Err("a long text")?;
+fn show_frames(alloc: Global, text: &[u8], shown: &mut String) -> Result<(), Fail> {
+    is_short(text)?;
+    match read_frames(alloc, text) {
+        Ok(lines) => {
+            for line in &lines {
+                let key = line.key.as_slice();
+                let bytes = line.payload.bytes();
+                add_line(alloc, shown, key, line.id, line.freshness, bytes)?;
+            }
+            Ok(())
+        }
+        Err(fault) => add_fault(alloc, shown, &fault),
     }
-    let lines = match read_judges(alloc, text) {
-        Ok(lines) => lines,
-        Err(fault) => return fault_of(alloc, &fault),
-    };
-    let mut shown = String::new(alloc);
-    for line in &lines {
-        shown.push_str(written(
-            alloc,
-            line.key.bytes().as_slice(),
-            line.id,
-            line.counter,
-            line.pdu.bytes(),
-        )?
-        .as_str())?;
-    }
-    Ok(shown)
 }
 
-fn loads_shown(alloc: Global, text: &[u8]) -> Result<String, Fail> {
-    if text.len() > 1000 {
-        return Err("a long text")?;
+fn show_judges(alloc: Global, text: &[u8], shown: &mut String) -> Result<(), Fail> {
+    is_short(text)?;
+    match read_judges(alloc, text) {
+        Ok(lines) => {
+            for line in &lines {
+                let key = line.key.as_slice();
+                let bytes = line.pdu.bytes();
+                add_line(alloc, shown, key, line.id, line.counter, bytes)?;
+            }
+            Ok(())
+        }
+        Err(fault) => add_fault(alloc, shown, &fault),
     }
-    let lines = match read_loads(alloc, text) {
-        Ok(lines) => lines,
-        Err(fault) => return fault_of(alloc, &fault),
-    };
-    let mut shown = String::new(alloc);
-    for line in &lines {
-        let m1 = hex::encode(alloc, line.m1.as_slice())?;
-        let [first, second] = line.m2;
-        let front = hex::encode(alloc, first.as_slice())?;
-        let back = hex::encode(alloc, second.as_slice())?;
-        let m3 = hex::encode(alloc, line.m3.as_slice())?;
-        shown.push_str(format!(in alloc; "{m1} {front}{back} {m3}\n")?.as_str())?;
+}
+
+fn show_loads(alloc: Global, text: &[u8], shown: &mut String) -> Result<(), Fail> {
+    is_short(text)?;
+    match read_loads(alloc, text) {
+        Ok(lines) => {
+            for line in &lines {
+                add_load(alloc, shown, line)?;
+            }
+            Ok(())
+        }
+        Err(fault) => add_fault(alloc, shown, &fault),
     }
-    Ok(shown)
 }
 
 #[test]
 fn frame_lines_are_read_or_refused(rt: HostRuntime) -> Result<(), Fail> {
-    for (text, shown) in FRAMES {
-        same(
-            &rt,
-            text,
-            &frames_shown(rt.alloc(), text.as_bytes())?.as_str(),
-            &shown,
-        );
+    for (text, wanted) in &FRAMES {
+        let mut shown = String::new(rt.alloc());
+        show_frames(rt.alloc(), text.as_bytes(), &mut shown)?;
+        same(&rt, text, &shown.as_str(), wanted);
     }
     Ok(())
 }
 
 #[test]
 fn judge_lines_are_read_or_refused(rt: HostRuntime) -> Result<(), Fail> {
-    for (text, shown) in JUDGES {
-        same(
-            &rt,
-            text,
-            &judges_shown(rt.alloc(), text.as_bytes())?.as_str(),
-            &shown,
-        );
+    for (text, wanted) in &JUDGES {
+        let mut shown = String::new(rt.alloc());
+        show_judges(rt.alloc(), text.as_bytes(), &mut shown)?;
+        same(&rt, text, &shown.as_str(), wanted);
     }
     Ok(())
 }
 
 #[test]
 fn load_lines_are_read_or_refused(rt: HostRuntime) -> Result<(), Fail> {
-    for (text, shown) in LOADS {
-        same(
-            &rt,
-            text,
-            &loads_shown(rt.alloc(), text.as_bytes())?.as_str(),
-            &shown,
-        );
+    for (text, wanted) in &LOADS {
+        let mut shown = String::new(rt.alloc());
+        show_loads(rt.alloc(), text.as_bytes(), &mut shown)?;
+        same(&rt, text, &shown.as_str(), wanted);
     }
     Ok(())
 }
@@ -291,25 +296,30 @@ fn short_lines(
     Ok(read_lines(alloc, &text, most, &AnyLine).map(|lines| lines.len()))
 }
 
+/// A count of lines and the most that there may be, and the line that is one too many.
+const COUNTS: &[(usize, usize, Option<u32>)] = &[
+    (0, 0, None),
+    (1, 0, Some(1)),
+    (1, 1, None),
+    (2, 1, Some(2)),
+    (256, 256, None),
+    (257, 256, Some(257)),
+    (MOST_LINES, MOST_LINES, None),
+    (MOST_LINES + 1, MOST_LINES, Some(65_537)),
+];
+
 #[test]
 fn one_line_may_be_too_many(rt: HostRuntime) -> Result<(), Fail> {
-    for (count, most) in [(0, 0), (1, 1), (256, 256), (MOST_LINES, MOST_LINES)] {
-        same(
-            &rt,
-            "short_lines",
-            &short_lines(rt.alloc(), count, most)?,
-            &Ok(count),
-        );
-        let fault = ScriptFault::At {
-            line: count as u32 + 1,
-            cause: Cause::TooMany,
+    for (count, most, line) in COUNTS {
+        let read = short_lines(rt.alloc(), *count, *most)?;
+        let want = match line {
+            None => Ok(*count),
+            Some(line) => Err(ScriptFault::At {
+                line: *line,
+                cause: Cause::TooMany,
+            }),
         };
-        same(
-            &rt,
-            "short_lines",
-            &(short_lines(rt.alloc(), count + 1, most)?),
-            &Err(fault),
-        );
+        same(&rt, *count, &read, &want);
     }
     Ok(())
 }
@@ -338,27 +348,25 @@ impl LineReader for FewLines {
     }
 }
 
+/// What the lines of a text give.
+fn gives(rt: &impl Abort, alloc: Global, text: &[u8], values: Result<&[usize], ScriptFault>) {
+    holds(rt, "a short text", text.len() < 1000);
+    let read = read_lines(alloc, text, MOST_LINES, &FewLines);
+    let read = match &read {
+        Ok(values) => Ok(values.as_slice()),
+        Err(fault) => Err(*fault),
+    };
+    same(rt, text.len(), &read, &values);
+}
+
 #[test]
-fn a_reader_sees_what_the_lines_before_gave(rt: HostRuntime) -> Result<(), Fail> {
-    let read = read_lines(rt.alloc(), b"a\n#\nb\nc\n", MOST_LINES, &FewLines);
-    same(
-        &rt,
-        "read.map",
-        &(read.map(|values| values.as_slice() == [0, 1, 2].as_slice())),
-        &Ok(true),
-    );
+fn a_reader_sees_what_the_lines_before_gave(rt: HostRuntime) {
+    gives(&rt, rt.alloc(), b"a\n#\nb\nc\n", Ok(&[0, 1, 2]));
     let fault = ScriptFault::At {
         line: 5,
         cause: Cause::Field(1),
     };
-    let read = read_lines(rt.alloc(), b"a\n#\nb\nc\nd\n", MOST_LINES, &FewLines);
-    same(
-        &rt,
-        "read.map",
-        &read.map(|values| values.len()),
-        &Err(fault),
-    );
-    Ok(())
+    gives(&rt, rt.alloc(), b"a\n#\nb\nc\nd\n", Err(fault));
 }
 
 #[test]
@@ -420,67 +428,66 @@ fn numbers_are_read_between_their_bounds(rt: HostRuntime) {
     }
 }
 
+const BYTES: &[(&[u8], Option<&[u8]>)] = &[
+    (b"00fF", Some(b"\x00\xff")),
+    (b"-", Some(b"")),
+    (b"", None),
+];
+
 #[test]
 fn bytes_are_read_by_their_form(rt: HostRuntime) -> Result<(), Fail> {
-    for (word, bytes) in [
-        (&b"00fF"[..], Some(&b"\x00\xff"[..])),
-        (b"-", Some(b"")),
-        (b"", None),
-    ] {
+    for (word, bytes) in BYTES {
         let found: Option<Bytes> = forms::bytes(rt.alloc(), word)?;
-        same(
-            &rt,
-            word.len(),
-            &found.as_ref().map(|found| found.bytes()),
-            &bytes,
-        );
+        let found = found.as_ref().map(|found| found.bytes());
+        same(&rt, word.len(), &found, bytes);
     }
     Ok(())
 }
+
+/// A word, the least and the most number of bytes, and their number.
+const LENGTHS: &[(&[u8], usize, usize, Option<usize>)] = &[
+    (b"00fF", 1, 60, Some(2)),
+    (b"00fF", 2, 2, Some(2)),
+    (b"00fF", 3, 60, None),
+    (b"00fF", 0, 1, None),
+    (b"00f", 1, 1, None),
+    (b"0g", 1, 1, None),
+    (b"", 0, 60, Some(0)),
+    (b"", 1, 60, None),
+    (b"-", 0, 60, None),
+];
 
 #[test]
 fn bytes_are_of_a_least_and_a_most_number(rt: HostRuntime) -> Result<(), Fail> {
-    let words: [(&[u8], usize, usize, Option<usize>); 9] = [
-        (b"00fF", 1, 60, Some(2)),
-        (b"00fF", 2, 2, Some(2)),
-        (b"00fF", 3, 60, None),
-        (b"00fF", 0, 1, None),
-        (b"00f", 1, 1, None),
-        (b"0g", 1, 1, None),
-        (b"", 0, 60, Some(0)),
-        (b"", 1, 60, None),
-        (b"-", 0, 60, None),
-    ];
-    for (word, least, most, len) in words {
-        let found: Option<Bytes> = forms::hex_bytes(rt.alloc(), word, least, most)?;
-        same(
-            &rt,
-            "found.map",
-            &found.map(|bytes| bytes.bytes().len()),
-            &len,
-        );
-        holds(&rt, "most <= 64", most <= 64);
-        let pdu = secoc_words::pdu(word, least, most);
-        same(&rt, "pdu.map", &pdu.map(|bytes| bytes.bytes().len()), &len);
+    for (place, (word, least, most, len)) in LENGTHS.iter().enumerate() {
+        holds(&rt, place, *most <= 64);
+        let found: Option<Bytes> = forms::hex_bytes(rt.alloc(), word, *least, *most)?;
+        let found = found.map(|bytes| bytes.bytes().len());
+        same(&rt, place, &found, len);
+        let pdu = secoc_words::pdu(word, *least, *most);
+        same(&rt, place, &pdu.map(|bytes| bytes.bytes().len()), len);
     }
     Ok(())
 }
 
-#[test]
-fn a_text_is_cut_into_words_with_their_places(rt: HostRuntime) -> Result<(), Fail> {
-    let cuts = forms::cut(rt.alloc(), b"# x\n\n a\tbc \r\nd")?;
-    let mut places = Vec::new(rt.alloc());
+/// The line of each word of a text, its place and its length.
+fn places(alloc: Global, text: &[u8]) -> Result<Vec<(u32, u32, u32)>, Fail> {
+    is_short(text)?;
+    let cuts = forms::cut(alloc, text)?;
+    let mut places = Vec::new(alloc);
     for cut in cuts {
         for span in cut.words.into_vec() {
             places.push((cut.line, span.at, span.len))?;
         }
     }
-    same(
-        &rt,
-        "places",
-        &places.as_slice(),
-        &[(3, 6, 1), (3, 8, 2), (4, 13, 1)].as_slice(),
-    );
+    Ok(places)
+}
+
+#[test]
+fn a_text_is_cut_into_words_with_their_places(rt: HostRuntime) -> Result<(), Fail> {
+    let places = places(rt.alloc(), b"# x\n\n a\tbc \r\nd")?;
+    let wanted = [(3, 6, 1), (3, 8, 2), (4, 13, 1)];
+    same(&rt, "places", &places.as_slice(), &wanted.as_slice());
     Ok(())
 }
 
@@ -534,108 +541,122 @@ fn displays<T: Display>(rt: &impl Abort, alloc: Global, fault: &T, text: &str) -
     Ok(())
 }
 
+/// A cause, its text, and that of a script's fault in the third line.
+const CAUSES: &[(Cause, &str, &str)] = &[
+    (Cause::Event, "unknown event", "line 3: unknown event"),
+    (
+        Cause::Count,
+        "wrong number of words",
+        "line 3: wrong number of words",
+    ),
+    (Cause::Field(9), "word 9", "line 3: word 9"),
+    (Cause::TooMany, "too many events", "line 3: too many events"),
+];
+
 #[test]
 fn faults_are_displayed(rt: HostRuntime) -> Result<(), Fail> {
-    for (cause, text, with_line) in [
-        (Cause::Event, "unknown event", "line 3: unknown event"),
-        (
-            Cause::Count,
-            "wrong number of words",
-            "line 3: wrong number of words",
-        ),
-        (Cause::Field(9), "word 9", "line 3: word 9"),
-        (Cause::TooMany, "too many events", "line 3: too many events"),
-    ] {
-        displays(&rt, rt.alloc(), &cause, text)?;
-        displays(&rt, rt.alloc(), &LineFault::Refused(cause), text)?;
-        displays(
-            &rt,
-            rt.alloc(),
-            &ScriptFault::At { line: 3, cause },
-            with_line,
-        )?;
+    for (cause, text, with_line) in CAUSES {
+        let fault = ScriptFault::At {
+            line: 3,
+            cause: *cause,
+        };
+        displays(&rt, rt.alloc(), cause, text)?;
+        displays(&rt, rt.alloc(), &LineFault::Refused(*cause), text)?;
+        displays(&rt, rt.alloc(), &fault, with_line)?;
     }
     displays(&rt, rt.alloc(), &LineFault::OutOfMemory, "out of memory")?;
     displays(&rt, rt.alloc(), &ScriptFault::Memory, "out of memory")
 }
 
-#[test]
-fn verdicts_have_their_texts(rt: HostRuntime) -> Result<(), Fail> {
-    let mut text = Vec::new(rt.alloc());
-    push_outcome(
-        &mut text,
-        b"\xbe\xe2\x2e\x40\x9f\x96",
-        &Judgement::Accepted(0xe93d_7e11_7393_172a),
-    )?;
-    push_outcome(&mut text, b"\x00", &Judgement::FreshnessFailure)?;
-    push_outcome(&mut text, b"\x00", &Judgement::VerificationFailure)?;
-    push_bad_length(&mut text)?;
-    push_line(&mut text, b"waiting")?;
-    same(
-        &rt,
-        "text",
-        &text.as_slice(),
-        &b"VERIFICATIONSUCCESS e93d7e117393172a bee22e409f96\nFRESHNESSFAILURE\nVERIFICATIONFAILURE\nBadLength\nwaiting\n".as_slice(),
-    );
+/// What is pushed for a payload of these bytes.
+fn says(
+    rt: &impl Abort,
+    alloc: Global,
+    payload: &[u8],
+    judgement: &Judgement,
+    text: &str,
+) -> Result<(), Fail> {
+    let mut out = Vec::new(alloc);
+    push_line(&mut out, b"before")?;
+    push_outcome(&mut out, payload, judgement)?;
+    same(rt, text, &out.as_slice(), &text.as_bytes());
     Ok(())
 }
+
+#[test]
+fn verdicts_have_their_texts(rt: HostRuntime) -> Result<(), Fail> {
+    let payload = b"\xbe\xe2\x2e\x40\x9f\x96".as_slice();
+    let accepted = Judgement::Accepted(0xe93d_7e11_7393_172a);
+    let text = "before\nVERIFICATIONSUCCESS e93d7e117393172a bee22e409f96\n";
+    says(&rt, rt.alloc(), payload, &accepted, text)?;
+    let text = "before\nFRESHNESSFAILURE\n";
+    says(&rt, rt.alloc(), &[0], &Judgement::FreshnessFailure, text)?;
+    let text = "before\nVERIFICATIONFAILURE\n";
+    says(&rt, rt.alloc(), &[0], &Judgement::VerificationFailure, text)
+}
+
+#[test]
+fn a_bad_length_has_its_text(rt: HostRuntime) -> Result<(), Fail> {
+    let mut text = Vec::new(rt.alloc());
+    push_bad_length(&mut text)?;
+    push_line(&mut text, b"waiting")?;
+    let wanted = b"BadLength\nwaiting\n".as_slice();
+    same(&rt, "text", &text.as_slice(), &wanted);
+    Ok(())
+}
+
+fn digits(alloc: Global, len: usize) -> Result<Vec<u8>, Fail> {
+    let bytes = vec![in alloc; 0x0a; len]?;
+    let mut text = Vec::new(alloc);
+    push_digits(&mut text, &bytes)?;
+    Ok(text)
+}
+
+/// So many bytes, and the number of their digits.
+const DIGITS: &[(usize, usize)] = &[(0, 0), (1, 2), (64, 128), (65, 130), (200, 400)];
 
 #[test]
 fn digits_of_any_number_of_bytes_are_added(rt: HostRuntime) -> Result<(), Fail> {
-    for len in [0usize, 1, 64, 65, 200] {
-        let bytes = vec![in rt.alloc(); 0x0a; len]?;
-        let mut text = Vec::new(rt.alloc());
-        push_digits(&mut text, &bytes)?;
-        holds(&rt, "text.len()", text.len() == (2 * len));
-        same(
-            &rt,
-            len,
-            &(text.chunks(2).all(|digits| digits == b"0a".as_slice())),
-            &true,
-        );
+    for (len, count) in DIGITS {
+        let text = digits(rt.alloc(), *len)?;
+        same(&rt, *len, &text.len(), count);
+        let pairs = text.chunks(2).all(|digits| digits == b"0a".as_slice());
+        holds(&rt, *len, pairs);
     }
     Ok(())
 }
 
+const CUTS: &[(&[u8], Option<Torn>)] = &[
+    (b"keep", Some(Torn::Keep)),
+    (b"old", Some(Torn::Old)),
+    (b"half", Some(Torn::Half)),
+    (b"a7", Some(Torn::Fill(0xa7))),
+    (b"A7", Some(Torn::Fill(0xa7))),
+    (b"Keep", None),
+    (b"keep0", None),
+    (b"", None),
+    (b"a", None),
+    (b"0a7", None),
+];
+
 #[test]
 fn what_a_power_cut_leaves_is_read(rt: HostRuntime) {
-    let words: [(&[u8], Option<Torn>); 10] = [
-        (b"keep", Some(Torn::Keep)),
-        (b"old", Some(Torn::Old)),
-        (b"half", Some(Torn::Half)),
-        (b"a7", Some(Torn::Fill(0xa7))),
-        (b"A7", Some(Torn::Fill(0xa7))),
-        (b"Keep", None),
-        (b"keep0", None),
-        (b"", None),
-        (b"a", None),
-        (b"0a7", None),
-    ];
-    for (word, torn) in words {
-        same(
-            &rt,
-            "secoc_words::torn(word)",
-            &secoc_words::torn(word),
-            &torn,
-        );
+    for (place, (word, torn)) in CUTS.iter().enumerate() {
+        same(&rt, place, &secoc_words::torn(word), torn);
     }
 }
 
+const CALLS: &[(&[u8], Option<u32>)] = &[
+    (b"1", Some(1)),
+    (b"1000000", Some(1_000_000)),
+    (b"0", None),
+    (b"1000001", None),
+    (b"1x", None),
+];
+
 #[test]
 fn a_number_of_disk_calls_is_read(rt: HostRuntime) {
-    let words: [(&[u8], Option<u32>); 5] = [
-        (b"1", Some(1)),
-        (b"1000000", Some(1_000_000)),
-        (b"0", None),
-        (b"1000001", None),
-        (b"1x", None),
-    ];
-    for (word, calls) in words {
-        same(
-            &rt,
-            "secoc_words::calls(word)",
-            &secoc_words::calls(word),
-            &calls,
-        );
+    for (place, (word, calls)) in CALLS.iter().enumerate() {
+        same(&rt, place, &secoc_words::calls(word), calls);
     }
 }
