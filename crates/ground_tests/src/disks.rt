@@ -3,6 +3,8 @@ ghost use Rattle.std.specs.Prelude.{◌≤◌};
 
 use crate::comparing::{holds, same};
 use cut_disk::*;
+use std::alloc::Global;
+use std::process::Abort;
 use std::test::Fail;
 
 /// What a disk of six zeros reads as after a write of 1, 2, 3 and 4 from this address on and a power cut.
@@ -19,25 +21,30 @@ fn left_after<D: CutDisk>(disk: &mut D, at: u64, torn: Torn) -> Result<[u8; 6], 
     Ok(out)
 }
 
+const CUTS: &[(Torn, u64, [u8; 6])] = &[
+    (Torn::Keep, 0, [1, 2, 3, 4, 0, 0]),
+    (Torn::Old, 0, [0, 0, 0, 0, 0, 0]),
+    (Torn::Half, 0, [1, 0, 3, 0, 0, 0]),
+    (Torn::Half, 1, [0, 0, 2, 0, 4, 0]),
+    (Torn::Fill(0xa7), 0, [0xa7, 0xa7, 0xa7, 0xa7, 0, 0]),
+    (Torn::Fill(0xa7), 2, [0, 0, 0xa7, 0xa7, 0xa7, 0xa7]),
+];
+
+/// The same of a disk in memory, and of one that tells its past.
+fn left_on_either(alloc: Global, at: u64, torn: Torn) -> Result<[[u8; 6]; 2], Fail> {
+    if at > 2 {
+        return Err(Fail::from("no such address"));
+    }
+    let memory = left_after(&mut MemDisk::new(alloc, 6)?, at, torn)?;
+    let tape = left_after(&mut TapeDisk::new(alloc, 6, 4)?, at, torn)?;
+    Ok([memory, tape])
+}
+
 #[test]
 fn a_cut_leaves_loose_bytes_as_its_kind_says(rt: HostRuntime) -> Result<(), Fail> {
-    for (torn, at, left) in [
-        (Torn::Keep, 0, [1, 2, 3, 4, 0, 0]),
-        (Torn::Old, 0, [0, 0, 0, 0, 0, 0]),
-        (Torn::Half, 0, [1, 0, 3, 0, 0, 0]),
-        (Torn::Half, 1, [0, 0, 2, 0, 4, 0]),
-        (Torn::Fill(0xa7), 0, [0xa7, 0xa7, 0xa7, 0xa7, 0, 0]),
-        (Torn::Fill(0xa7), 2, [0, 0, 0xa7, 0xa7, 0xa7, 0xa7]),
-    ] {
-        let mut memory = MemDisk::new(rt.alloc(), 6)?;
-        same(
-            &rt,
-            "left_after",
-            &left_after(&mut memory, at, torn)?,
-            &left,
-        );
-        let mut tape = TapeDisk::new(rt.alloc(), 6, 4)?;
-        same(&rt, "left_after", &left_after(&mut tape, at, torn)?, &left);
+    for (torn, at, left) in CUTS {
+        let both = left_on_either(rt.alloc(), *at, *torn)?;
+        same(&rt, *at, &both, &[*left; 2]);
     }
     Ok(())
 }
@@ -65,30 +72,30 @@ fn armed_answers<D: CutDisk>(disk: &mut D, stop: u64, fail: u64) -> [[u8; 4]; 2]
     [before, answers(disk)]
 }
 
+/// The same of a disk in memory, and of one that tells its past.
+fn armed_on_either(alloc: Global, stop: u64, fail: u64) -> Result<[[[u8; 4]; 2]; 2], Fail> {
+    if stop == 0 || fail == 0 {
+        return Err(Fail::from("no such call"));
+    }
+    let memory = armed_answers(&mut MemDisk::new(alloc, 1)?, stop, fail);
+    let tape = armed_answers(&mut TapeDisk::new(alloc, 1, 1)?, stop, fail);
+    Ok([memory, tape])
+}
+
+/// An arm for call 9 doesn't show in the eight calls of a row.
+const ARMS: &[(u64, u64, [u8; 4], [u8; 4])] = &[
+    (2, 9, *b".xxx", *b"...."),
+    (9, 2, *b".x..", *b"...."),
+    (2, 6, *b".xxx", *b".x.."),
+    (1, 1, *b"xxxx", *b"...."),
+    (4, 3, *b"..xx", *b"...."),
+];
+
 #[test]
 fn a_stop_lasts_until_a_cut_and_one_failure_comes_once(rt: HostRuntime) -> Result<(), Fail> {
-    // An arm for call 9 doesn't show in the eight calls of a row.
-    for (stop, fail, before, after) in [
-        (2, 9, b".xxx", b"...."),
-        (9, 2, b".x..", b"...."),
-        (2, 6, b".xxx", b".x.."),
-        (1, 1, b"xxxx", b"...."),
-        (4, 3, b"..xx", b"...."),
-    ] {
-        let mut memory = MemDisk::new(rt.alloc(), 1)?;
-        same(
-            &rt,
-            "armed_answers",
-            &armed_answers(&mut memory, stop, fail),
-            &[*before, *after],
-        );
-        let mut tape = TapeDisk::new(rt.alloc(), 1, 1)?;
-        same(
-            &rt,
-            "armed_answers",
-            &armed_answers(&mut tape, stop, fail),
-            &[*before, *after],
-        );
+    for (stop, fail, before, after) in ARMS {
+        let both = armed_on_either(rt.alloc(), *stop, *fail)?;
+        same(&rt, *stop, &both, &[[*before, *after]; 2]);
     }
     Ok(())
 }
@@ -136,27 +143,27 @@ fn cut_short<D: CutDisk>(disk: &mut D, stop: u64) -> Result<(bool, [u8; 4]), Fai
     Ok((outcome.is_ok(), out))
 }
 
+/// The same of a disk in memory, and of one that tells its past.
+fn cut_short_on_either(alloc: Global, stop: u64) -> Result<[(bool, [u8; 4]); 2], Fail> {
+    if stop == 0 {
+        return Err(Fail::from("no such call"));
+    }
+    let memory = cut_short(&mut MemDisk::new(alloc, 4)?, stop)?;
+    let tape = cut_short(&mut TapeDisk::new(alloc, 4, 9)?, stop)?;
+    Ok([memory, tape])
+}
+
+const LASTING: &[(u64, (bool, [u8; 4]))] = &[
+    (9, (true, [0, 1, 2, 0])),
+    (2, (false, [0, 0xa7, 0xa7, 0])),
+    (1, (false, [0, 0xa7, 0xa7, 0])),
+];
+
 #[test]
 fn a_write_and_a_sync_outlast_a_cut(rt: HostRuntime) -> Result<(), Fail> {
-    for (stop, is_ok, left) in [
-        (9, true, [0, 1, 2, 0]),
-        (2, false, [0, 0xa7, 0xa7, 0]),
-        (1, false, [0, 0xa7, 0xa7, 0]),
-    ] {
-        let mut memory = MemDisk::new(rt.alloc(), 4)?;
-        same(
-            &rt,
-            "cut_short",
-            &cut_short(&mut memory, stop)?,
-            &(is_ok, left),
-        );
-        let mut tape = TapeDisk::new(rt.alloc(), 4, 9)?;
-        same(
-            &rt,
-            "cut_short",
-            &cut_short(&mut tape, stop)?,
-            &(is_ok, left),
-        );
+    for (stop, left) in LASTING {
+        let both = cut_short_on_either(rt.alloc(), *stop)?;
+        same(&rt, *stop, &both, &[*left; 2]);
     }
     Ok(())
 }
@@ -191,37 +198,42 @@ fn one_of_each<D: CutDisk>(disk: &mut D) -> Result<bool, Fail> {
     Ok(fails && out == [0])
 }
 
-#[test]
-fn a_tape_tells_the_state_and_the_mark_of_each_call(rt: HostRuntime) -> Result<(), Fail> {
-    let mut disk = TapeDisk::new(rt.alloc(), 2, 8)?;
-    holds(&rt, "one_of_each(&mut disk)", one_of_each(&mut disk)?);
-    let told = disk.past().ok_or("the past isn't told")?;
-    holds(&rt, "told.len()", told.len() == 8);
-    let wanted = [
-        ([0, 0], [false, false], None),
-        ([7, 0], [true, false], None),
-        ([7, 0], [true, false], None),
-        ([7, 0], [true, false], Some(Mark::Fail(2))),
-        ([7, 0], [false, false], None),
-        ([7, 8], [false, true], None),
-        ([7, 8], [false, true], Some(Mark::Stop(9))),
-        ([7, 0], [false, false], Some(Mark::Cut(Torn::Old))),
-    ];
-    for (entry, (bytes, loose, mark)) in told.iter().zip(wanted) {
+/// The bytes, which of them are loose, and the mark.
+const TOLD: &[([u8; 2], [bool; 2], Option<Mark>)] = &[
+    ([0, 0], [false, false], None),
+    ([7, 0], [true, false], None),
+    ([7, 0], [true, false], None),
+    ([7, 0], [true, false], Some(Mark::Fail(2))),
+    ([7, 0], [false, false], None),
+    ([7, 8], [false, true], None),
+    ([7, 8], [false, true], Some(Mark::Stop(9))),
+    ([7, 0], [false, false], Some(Mark::Cut(Torn::Old))),
+];
+
+fn has_entries(rt: &impl Abort, told: &[PastEntry]) {
+    same(rt, "told.len()", &told.len(), &TOLD.len());
+    for (entry, (bytes, loose, mark)) in told.iter().zip(TOLD) {
         same(
-            &rt,
+            rt,
             "entry.bytes",
             &entry.bytes.as_slice(),
             &bytes.as_slice(),
         );
         same(
-            &rt,
+            rt,
             "entry.loose",
             &entry.loose.as_slice(),
             &loose.as_slice(),
         );
-        same(&rt, "entry.mark", &entry.mark, &mark);
+        same(rt, "entry.mark", &entry.mark, mark);
     }
+}
+
+#[test]
+fn a_tape_tells_the_state_and_the_mark_of_each_call(rt: HostRuntime) -> Result<(), Fail> {
+    let mut disk = TapeDisk::new(rt.alloc(), 2, 8)?;
+    holds(&rt, "one_of_each", one_of_each(&mut disk)?);
+    has_entries(&rt, disk.past().ok_or("the past isn't told")?);
     disk.sync()?;
     holds(&rt, "disk.past().is_none()", disk.past().is_none());
     Ok(())

@@ -2,90 +2,110 @@
 use crate::comparing::{holds, same};
 use bus_port::{CleanSource, MemSink, MemSource, read_all};
 use command_edge::{DONE, InputFault, WRITE_FAULT, open_named, read_input, tell, words_of};
+use std::alloc::Global;
 use std::test::Fail;
+
+/// What is read of so many bytes: their number.
+fn length_read(alloc: Global, len: usize) -> Result<Result<usize, InputFault>, Fail> {
+    let mut source = CleanSource::new(vec![in alloc; b'x'; len]?);
+    match read_input(alloc, &mut source) {
+        Ok(input) => Ok(Ok(input.len())),
+        Err(fault) => Ok(Err(fault)),
+    }
+}
+
+const LENGTHS: &[(usize, Result<usize, InputFault>)] = &[
+    (0, Ok(0)),
+    (1, Ok(1)),
+    (4096, Ok(4096)),
+    (4097, Ok(4097)),
+    (1_048_576, Ok(1_048_576)),
+    (1_048_577, Err(InputFault::TooLong)),
+];
 
 #[test]
 fn inputs_have_at_most_1048576_bytes(rt: HostRuntime) -> Result<(), Fail> {
-    let alloc = rt.alloc();
-    for len in [0, 1, 4096, 4097, 1_048_576] {
-        let mut source = CleanSource::new(vec![in alloc; b'x'; len]?);
-        let input = read_input(alloc, &mut source).ok().ok_or("no input")?;
-        holds(&rt, "input.len()", input.len() == len);
+    for (len, want) in LENGTHS {
+        same(&rt, *len, &length_read(rt.alloc(), *len)?, want);
     }
-    let mut source = CleanSource::new(vec![in alloc; b'x'; 1_048_577]?);
-    same(
-        &rt,
-        "read_input",
-        &read_input(alloc, &mut source).err(),
-        &Some(InputFault::TooLong),
-    );
-
-    // The second piece fails; the input isn't begun again.
-    let bytes = vec![in alloc; b'x'; 40]?;
-    let mut source = MemSource::new(bytes, vec![in alloc; 2]?, 16);
-    same(
-        &rt,
-        "read_input",
-        &read_input(alloc, &mut source).err(),
-        &Some(InputFault::ReadFault),
-    );
     Ok(())
+}
+
+/// A source of 40 bytes in pieces of 16, whose second call fails.
+fn source_that_fails(alloc: Global) -> Result<MemSource, Fail> {
+    let failing = [2].to_vec(alloc)?;
+    Ok(MemSource::new(vec![in alloc; b'x'; 40]?, failing, 16))
 }
 
 #[test]
-fn refused_inputs_have_their_status_and_text(rt: HostRuntime) -> Result<(), Fail> {
-    for (fault, status, text) in [
-        (InputFault::ReadFault, 5, "read fault\n"),
-        (InputFault::TooLong, 8, "input too long\n"),
-        (InputFault::Memory, 7, ""),
-    ] {
-        same(&rt, "fault.status()", &fault.status(), &status);
-        same(&rt, "fault.text()", &fault.text(), &text);
-    }
+fn an_input_is_not_begun_again(rt: HostRuntime) -> Result<(), Fail> {
+    let mut source = source_that_fails(rt.alloc())?;
+    let fault = read_input(rt.alloc(), &mut source).err();
+    same(&rt, "read_input", &fault, &Some(InputFault::ReadFault));
     Ok(())
 }
+
+const FAULTS: &[(InputFault, u8, &str)] = &[
+    (InputFault::ReadFault, 5, "read fault\n"),
+    (InputFault::TooLong, 8, "input too long\n"),
+    (InputFault::Memory, 7, ""),
+];
+
+#[test]
+fn refused_inputs_have_their_status_and_text(rt: HostRuntime) {
+    for (fault, status, text) in FAULTS {
+        same(&rt, *status, &fault.status(), status);
+        same(&rt, *status, &fault.text(), text);
+    }
+}
+
+/// A sink of this room, of which this call fails, and which takes pieces of this size at most.
+fn sink_of(alloc: Global, room: usize, failing: u64, piece: usize) -> Result<MemSink, Fail> {
+    if piece == 0 {
+        return Err(Fail::from("no piece"));
+    }
+    let failing = [failing].to_vec(alloc)?;
+    Ok(MemSink::new(alloc, room, failing, piece)?)
+}
+
+const TEXT: &[u8] = b"one line\n";
+
+const ENDINGS: &[(usize, u64, usize, u8, &[u8])] = &[
+    (64, 9, 64, DONE, TEXT),
+    (64, 10, 1, DONE, TEXT),
+    (64, 1, 64, WRITE_FAULT, b""),
+    (64, 5, 1, WRITE_FAULT, b"one "),
+    (8, 9, 3, WRITE_FAULT, b"one line"),
+];
 
 #[test]
 fn endings_are_told_whole_or_as_a_front_with_6(rt: HostRuntime) -> Result<(), Fail> {
-    let alloc = rt.alloc();
-    let text = b"one line\n";
-    for (room, failing, piece, status, written) in [
-        (64, 9, 64, DONE, 9),
-        (64, 10, 1, DONE, 9),
-        (64, 1, 64, WRITE_FAULT, 0),
-        (64, 5, 1, WRITE_FAULT, 4),
-        (8, 9, 3, WRITE_FAULT, 8),
-    ] {
-        let mut sink = MemSink::new(alloc, room, vec![in alloc; failing]?, piece)?;
-        same(&rt, "tell", &tell(&mut sink, text, DONE), &status);
-        same(&rt, "sink.bytes()", &sink.bytes(), &&text[..written]);
+    for (room, failing, piece, status, written) in ENDINGS {
+        let mut sink = sink_of(rt.alloc(), *room, *failing, *piece)?;
+        same(&rt, *failing, &tell(&mut sink, TEXT, DONE), status);
+        same(&rt, *failing, &sink.bytes(), written);
     }
     Ok(())
 }
 
+const STDIN: &[u8] = b"from standard input";
+
 #[test]
-fn words_name_standard_input_or_a_file(rt: HostRuntime) -> Result<(), Fail> {
-    let alloc = rt.alloc();
-    let stdin: &[u8] = b"from standard input";
-    let mut source = open_named(&rt, stdin, "-");
-    same(
-        &rt,
-        "read_all",
-        &read_all(alloc, &mut source, 64)
-            .ok()
-            .ok_or("no input")?
-            .as_slice(),
-        &stdin,
-    );
-    for word in ["no/such/file", "", "--"] {
-        let mut source = open_named(&rt, stdin, word);
-        same(
-            &rt,
-            "read_input",
-            &read_input(alloc, &mut source).err(),
-            &Some(InputFault::ReadFault),
-        );
+fn a_hyphen_names_standard_input(rt: HostRuntime) {
+    let mut source = open_named(&rt, STDIN, "-");
+    match read_all(rt.alloc(), &mut source, 64) {
+        Ok(all) => same(&rt, "read_all", &all.as_slice(), &STDIN),
+        Err(cause) => same(&rt, "read_all", &Some(cause), &None),
     }
-    holds(&rt, "words_of(&rt)?.len() > 0", words_of(&rt)?.len() > 0);
+}
+
+#[test]
+fn other_words_name_a_file(rt: HostRuntime) -> Result<(), Fail> {
+    holds(&rt, "words_of", words_of(&rt)?.len() > 0);
+    for word in ["no/such/file", "", "--"] {
+        let mut source = open_named(&rt, STDIN, word);
+        let fault = read_input(rt.alloc(), &mut source).err();
+        same(&rt, word, &fault, &Some(InputFault::ReadFault));
+    }
     Ok(())
 }

@@ -3,8 +3,10 @@ use crate::comparing::{holds, same};
 use bus_port::{
     CleanSource, MemSink, MemSource, ReadAll, Source, StdSink, StdSource, read_all, write_all,
 };
+use std::alloc::Global;
 use std::io;
 use std::io::{ErrorKind, Read, Write};
+use std::process::Abort;
 use std::test::Fail;
 
 /// A reader that gives one byte at its first call and fails at each later one.
@@ -76,140 +78,151 @@ impl<'a> Write for FullFirst<'a> {
     }
 }
 
+const HELLO: &[u8] = b"hello";
+
+/// What is read of five bytes, where these calls of the source fail, it gives pieces of this size at most, and this many bytes are wanted.
+fn read_of(
+    alloc: Global,
+    failing: &[u64],
+    piece: usize,
+    limit: usize,
+) -> Result<Result<Vec<u8>, ReadAll>, Fail> {
+    if piece == 0 || limit > 9 {
+        return Err(Fail::from("a row's numbers"));
+    }
+    let failing = failing.to_vec(alloc)?;
+    let mut source = MemSource::new(HELLO.to_vec(alloc)?, failing, piece);
+    Ok(read_all(alloc, &mut source, limit))
+}
+
+/// The bytes that were read are these, or this refused them.
+fn has_read(
+    rt: &impl Abort,
+    what: usize,
+    answer: &Result<Vec<u8>, ReadAll>,
+    want: &Result<&[u8], ReadAll>,
+) {
+    let got = match answer {
+        Ok(all) => Ok(all.as_slice()),
+        Err(cause) => Err(*cause),
+    };
+    same(rt, what, &got, want);
+}
+
+const READS: &[(&[u64], usize, usize, Result<&[u8], ReadAll>)] = &[
+    (&[], 5, 5, Ok(HELLO)),
+    (&[], 2, 9, Ok(HELLO)),
+    (&[], 5, 4, Err(ReadAll::TooLong)),
+    (&[], 1, 0, Err(ReadAll::TooLong)),
+    (&[1], 5, 5, Err(ReadAll::Failed)),
+    (&[2], 3, 5, Err(ReadAll::Failed)),
+    (&[3], 3, 5, Err(ReadAll::Failed)),
+    (&[4], 3, 5, Ok(HELLO)),
+];
+
 #[test]
 fn read_all_answers_by_its_limit_and_its_source(rt: HostRuntime) -> Result<(), Fail> {
-    let cases: [(&[u64], usize, usize, Result<&[u8], ReadAll>); 8] = [
-        (&[], 5, 5, Ok(b"hello")),
-        (&[], 2, 9, Ok(b"hello")),
-        (&[], 5, 4, Err(ReadAll::TooLong)),
-        (&[], 1, 0, Err(ReadAll::TooLong)),
-        (&[1], 5, 5, Err(ReadAll::Failed)),
-        (&[2], 3, 5, Err(ReadAll::Failed)),
-        (&[3], 3, 5, Err(ReadAll::Failed)),
-        (&[4], 3, 5, Ok(b"hello")),
-    ];
-    for (failing, piece, limit, want) in cases {
-        holds(&rt, "piece > 0 && limit < 10", piece > 0 && limit < 10);
-        let bytes = b"hello".to_vec(rt.alloc())?;
-        let failing = failing.to_vec(rt.alloc())?;
-        let mut source = MemSource::new(bytes, failing, piece);
-        let answer = read_all(rt.alloc(), &mut source, limit);
-        let got = match &answer {
-            Ok(all) => Ok(all.as_slice()),
-            Err(cause) => Err(*cause),
-        };
-        same(&rt, limit, &got, &want);
+    for (failing, piece, limit, want) in READS {
+        let answer = read_of(rt.alloc(), failing, *piece, *limit)?;
+        has_read(&rt, *limit, &answer, want);
     }
     Ok(())
 }
 
+/// A sink of this room, of which these calls fail, and which takes pieces of this size at most.
+fn sink_of(alloc: Global, room: usize, failing: &[u64], piece: usize) -> Result<MemSink, Fail> {
+    if piece == 0 {
+        return Err(Fail::from("no piece"));
+    }
+    let failing = failing.to_vec(alloc)?;
+    Ok(MemSink::new(alloc, room, failing, piece)?)
+}
+
+const WRITES: &[(usize, &[u64], usize, bool, &[u8])] = &[
+    (5, &[], 5, true, HELLO),
+    (9, &[], 2, true, HELLO),
+    (3, &[], 9, false, b"hel"),
+    (5, &[1], 5, false, b""),
+    (5, &[3], 1, false, b"he"),
+    (5, &[6], 1, true, HELLO),
+];
+
 #[test]
 fn write_all_stops_at_the_failing_call_or_the_full_room(rt: HostRuntime) -> Result<(), Fail> {
-    let cases: [(usize, &[u64], usize, bool, &[u8]); 6] = [
-        (5, &[], 5, true, b"hello"),
-        (9, &[], 2, true, b"hello"),
-        (3, &[], 9, false, b"hel"),
-        (5, &[1], 5, false, b""),
-        (5, &[3], 1, false, b"he"),
-        (5, &[6], 1, true, b"hello"),
-    ];
-    for (room, failing, piece, want, written) in cases {
-        holds(&rt, "piece > 0", piece > 0);
-        let failing = failing.to_vec(rt.alloc())?;
-        let made = MemSink::new(rt.alloc(), room, failing, piece);
-        let mut sink = made.ok().ok_or("no memory")?;
-        let answer = write_all(&mut sink, b"hello");
-        same(&rt, piece, &answer.is_ok(), &want);
-        same(&rt, piece, &sink.bytes(), &written);
+    for (room, failing, piece, want, written) in WRITES {
+        let mut sink = sink_of(rt.alloc(), *room, failing, *piece)?;
+        let answer = write_all(&mut sink, HELLO);
+        same(&rt, *piece, &answer.is_ok(), want);
+        same(&rt, *piece, &sink.bytes(), written);
     }
     Ok(())
+}
+
+/// All of a source is read, and is these five bytes.
+fn reads_hello<S: Source>(rt: &impl Abort, alloc: Global, source: &mut S) {
+    has_read(rt, 5, &read_all(alloc, source, 5), &Ok(HELLO));
+}
+
+/// Reading fails.
+fn reads_nothing<S: Source>(rt: &impl Abort, alloc: Global, source: &mut S) {
+    has_read(rt, 5, &read_all(alloc, source, 5), &Err(ReadAll::Failed));
 }
 
 #[test]
 fn a_clean_source_is_read_to_its_end(rt: HostRuntime) -> Result<(), Fail> {
-    let mut source = CleanSource::new(b"hello".to_vec(rt.alloc())?);
-    let all = read_all(rt.alloc(), &mut source, 5).ok().ok_or("refused")?;
-    same(&rt, "all", &all.as_slice(), &b"hello".as_slice());
+    let mut source = CleanSource::new(HELLO.to_vec(rt.alloc())?);
+    reads_hello(&rt, rt.alloc(), &mut source);
     Ok(())
 }
 
 #[test]
-fn standard_sources_give_what_their_readers_give(rt: HostRuntime) -> Result<(), Fail> {
-    let mut source = StdSource::new(b"hello".as_slice());
+fn standard_sources_give_what_their_readers_give(rt: HostRuntime) {
+    let mut source = StdSource::new(HELLO);
     let mut out = [9u8; 7];
-    same(&rt, "source.read(&mut out)", &source.read(&mut out), &Ok(5));
-    same(
-        &rt,
-        "out",
-        &out.as_slice(),
-        &[b'h', b'e', b'l', b'l', b'o', 9, 9].as_slice(),
-    );
-    same(&rt, "source.read(&mut out)", &source.read(&mut out), &Ok(0));
-
-    let mut source = StdSource::new(b"hello".as_slice());
-    let all = read_all(rt.alloc(), &mut source, 5).ok().ok_or("refused")?;
-    same(&rt, "all", &all.as_slice(), &b"hello".as_slice());
-
-    let mut breaks = StdSource::new(Breaks { is_read: false });
-    same(
-        &rt,
-        "read_all",
-        &read_all(rt.alloc(), &mut breaks, 5).err(),
-        &Some(ReadAll::Failed),
-    );
-
-    let mut missing = StdSource::<Breaks>::missing();
-    same(
-        &rt,
-        "read_all",
-        &read_all(rt.alloc(), &mut missing, 5).err(),
-        &Some(ReadAll::Failed),
-    );
-    Ok(())
+    same(&rt, "source.read", &source.read(&mut out), &Ok(5));
+    same(&rt, "out", &out, b"hello\x09\x09");
+    same(&rt, "source.read", &source.read(&mut out), &Ok(0));
 }
 
 #[test]
-fn standard_sinks_write_and_count_a_write_that_took_nothing(rt: HostRuntime) -> Result<(), Fail> {
+fn standard_sources_are_read_to_their_end(rt: HostRuntime) {
+    reads_hello(&rt, rt.alloc(), &mut StdSource::new(HELLO));
+    reads_nothing(
+        &rt,
+        rt.alloc(),
+        &mut StdSource::new(Breaks { is_read: false }),
+    );
+    reads_nothing(&rt, rt.alloc(), &mut StdSource::<Breaks>::missing());
+}
+
+#[test]
+fn standard_sinks_write_and_count_a_write_that_took_nothing(rt: HostRuntime) {
     let mut text = Vec::new(rt.alloc());
-    same(
-        &rt,
-        "write_all",
-        &write_all(&mut StdSink::new(&mut text), b"hello"),
-        &Ok(()),
-    );
-    same(&rt, "text", &text.as_slice(), &b"hello".as_slice());
-    holds(
-        &rt,
-        "write_all",
-        write_all(&mut StdSink::new(Full), b"hello").is_err(),
-    );
-    Ok(())
+    let answer = write_all(&mut StdSink::new(&mut text), HELLO);
+    same(&rt, "write_all", &answer, &Ok(()));
+    same(&rt, "text", &text.as_slice(), &HELLO);
+    let answer = write_all(&mut StdSink::new(Full), HELLO);
+    holds(&rt, "write_all", answer.is_err());
 }
 
 #[test]
-fn ports_that_failed_once_work_again(rt: HostRuntime) -> Result<(), Fail> {
-    let reader = FailsFirst {
-        left: b"hello",
+fn a_reader_that_failed_once_works_again(rt: HostRuntime) {
+    let mut source = StdSource::new(FailsFirst {
+        left: HELLO,
         calls: 0,
-    };
-    let mut source = StdSource::new(reader);
-    same(
-        &rt,
-        "read_all",
-        &read_all(rt.alloc(), &mut source, 5).err(),
-        &Some(ReadAll::Failed),
-    );
-    let all = read_all(rt.alloc(), &mut source, 5).ok().ok_or("refused")?;
-    same(&rt, "all", &all.as_slice(), &b"hello".as_slice());
+    });
+    reads_nothing(&rt, rt.alloc(), &mut source);
+    reads_hello(&rt, rt.alloc(), &mut source);
+}
 
+#[test]
+fn a_writer_that_failed_once_works_again(rt: HostRuntime) {
     let mut text = Vec::new(rt.alloc());
-    let writer = FullFirst {
+    let mut sink = StdSink::new(FullFirst {
         text: &mut text,
         calls: 0,
-    };
-    let mut sink = StdSink::new(writer);
-    holds(&rt, "write_all", write_all(&mut sink, b"hello").is_err());
-    same(&rt, "write_all", &write_all(&mut sink, b"hello"), &Ok(()));
-    same(&rt, "text", &text.as_slice(), &b"hello".as_slice());
-    Ok(())
+    });
+    holds(&rt, "write_all", write_all(&mut sink, HELLO).is_err());
+    same(&rt, "write_all", &write_all(&mut sink, HELLO), &Ok(()));
+    same(&rt, "text", &text.as_slice(), &HELLO);
 }

@@ -10,6 +10,7 @@ use numbered_run::{
     print_run_until_last, status_of_run,
 };
 use std::alloc::Global;
+use std::process::Abort;
 use std::test::Fail;
 
 /// A sum of 32 bits. It tells the new sum, or refuses a number that makes it too great.
@@ -101,85 +102,110 @@ const TEXT: &[u8; 19] = b"1 3\n2 7\n3 full\n4 8\n";
 /// A sink that takes one byte a call, and whose call of this number fails.
 fn failing_sink(alloc: Global, call: u64) -> Result<MemSink, Fail> {
     let failing = [call].to_vec(alloc)?;
-    Ok(MemSink::new(alloc, 64, failing, 1).ok().ok_or("no memory")?)
+    Ok(MemSink::new(alloc, 64, failing, 1)?)
 }
+
+/// What is printed of the sums of some numbers from this sum on, over a sink whose call of this number fails: the answer, the sink, and the
+/// last sum.
+fn print(
+    alloc: Global,
+    call: u64,
+    sum: u32,
+    numbers: &[u32],
+) -> Result<(Result<(), Unwritten>, MemSink, u32), Fail> {
+    if numbers.len() > 4 {
+        return Err(Fail::from("more numbers"));
+    }
+    let mut sink = failing_sink(alloc, call)?;
+    let mut adder = Adder { sum };
+    let answer = print_run::<Adder, Text, MemSink>(alloc, &mut adder, numbers, &mut sink);
+    Ok((answer, sink, adder.sum))
+}
+
+/// The same from 0 on, up to a number that is refused.
+fn print_to_the_last(
+    alloc: Global,
+    call: u64,
+    numbers: &[u32],
+) -> Result<(Result<(), Stop>, MemSink, u32), Fail> {
+    if numbers.len() > 4 {
+        return Err(Fail::from("more numbers"));
+    }
+    let mut sink = failing_sink(alloc, call)?;
+    let mut adder = Adder { sum: 0 };
+    let answer = print_run_until_last::<Adder, Text, MemSink>(
+        alloc, &mut adder, numbers, &mut sink,
+    );
+    Ok((answer, sink, adder.sum))
+}
+
+/// From which call of the sink on a failure leaves this sum, and up to which; the text is of as many bytes as calls came before.
+const FAILING: &[(usize, usize, u32)] = &[(1, 5, 3), (5, 16, 7), (16, 20, 8)];
 
 #[test]
 fn a_sink_that_fails_at_its_nth_byte_has_the_bytes_before_it(rt: HostRuntime) -> Result<(), Fail> {
-    for call in 1..21u64 {
-        let mut sink = failing_sink(rt.alloc(), call)?;
-        let mut adder = Adder { sum: 0 };
-        let answer = print_run::<Adder, Text, MemSink>(rt.alloc(), &mut adder, &NUMBERS, &mut sink);
-        let (written, sum, want) = match call {
-            1..=4 => (call - 1, 3, Err(Unwritten::SinkFailed)),
-            5..=15 => (call - 1, 7, Err(Unwritten::SinkFailed)),
-            16..=19 => (call - 1, 8, Err(Unwritten::SinkFailed)),
-            _ => (19, 8, Ok(())),
-        };
-        same(&rt, call, &answer, &want);
-        holds(&rt, "written <= 19", written <= 19);
-        same(&rt, call, &sink.bytes(), &(&TEXT[..written as usize]));
-        same(&rt, call, &adder.sum, &sum);
+    for (first, end, want) in FAILING {
+        for call in *first..*end {
+            holds(&rt, call, call > 0 && call < 20);
+            let (answer, sink, sum) = print(rt.alloc(), call as u64, 0, &NUMBERS)?;
+            same(&rt, call, &answer, &Err(Unwritten::SinkFailed));
+            same(&rt, call, &sink.bytes(), &&TEXT[..call - 1]);
+            same(&rt, call, &sum, want);
+        }
     }
     Ok(())
 }
+
+/// A call of the sink behind those of the text, the sum at first, how many of the numbers are given, the text, and the last sum.
+const WHOLE: &[(u64, u32, usize, &[u8], u32)] = &[(20, 0, 4, TEXT, 8), (1, 3, 0, b"", 3)];
+
+#[test]
+fn a_sink_that_fails_behind_the_text_has_all_of_it(rt: HostRuntime) -> Result<(), Fail> {
+    for (call, first, given, text, last) in WHOLE {
+        holds(&rt, *call, *given <= 4);
+        let (answer, sink, sum) = print(rt.alloc(), *call, *first, &NUMBERS[..*given])?;
+        same(&rt, *call, &answer, &Ok(()));
+        same(&rt, *call, &sink.bytes(), text);
+        same(&rt, *call, &sum, last);
+    }
+    Ok(())
+}
+
+const SINK_FAILED: Stop = Stop::Unprinted(Unwritten::SinkFailed);
+
+/// A call of the sink that fails, how many of the numbers are given, the answer, what was written, and the last sum.
+const STOPS: &[(u64, usize, Result<(), Stop>, &[u8], u32)] = &[
+    (4, 4, Err(SINK_FAILED), b"1 3", 3),
+    (8, 4, Err(SINK_FAILED), b"1 3\n2 7", 7),
+    (15, 4, Err(SINK_FAILED), b"1 3\n2 7\n3 full", 7),
+    (16, 4, Err(Stop::Last), b"1 3\n2 7\n3 full\n", 7),
+    (17, 4, Err(Stop::Last), b"1 3\n2 7\n3 full\n", 7),
+    (9, 2, Ok(()), b"1 3\n2 7\n", 7),
+];
 
 #[test]
 fn a_last_line_is_written_whole_and_ends_the_run(rt: HostRuntime) -> Result<(), Fail> {
-    let failed = Err(Stop::Unprinted(Unwritten::SinkFailed));
-    let rows: [(u64, Result<(), Stop>, &[u8], u32); 5] = [
-        (4, failed, b"1 3", 3),
-        (8, failed, b"1 3\n2 7", 7),
-        (15, failed, b"1 3\n2 7\n3 full", 7),
-        (16, Err(Stop::Last), b"1 3\n2 7\n3 full\n", 7),
-        (17, Err(Stop::Last), b"1 3\n2 7\n3 full\n", 7),
-    ];
-    for (call, want, written, sum) in rows {
-        let mut sink = failing_sink(rt.alloc(), call)?;
-        let mut adder = Adder { sum: 0 };
-        let answer = print_run_until_last::<Adder, Text, MemSink>(
-            rt.alloc(),
-            &mut adder,
-            &NUMBERS,
-            &mut sink,
-        );
-        same(&rt, call, &answer, &want);
-        same(&rt, call, &sink.bytes(), &written);
-        same(&rt, call, &adder.sum, &sum);
+    for (call, given, want, written, last) in STOPS {
+        holds(&rt, *call, *given <= 4);
+        let (answer, sink, sum) = print_to_the_last(rt.alloc(), *call, &NUMBERS[..*given])?;
+        same(&rt, *call, &answer, want);
+        same(&rt, *call, &sink.bytes(), written);
+        same(&rt, *call, &sum, last);
     }
-    let mut sink = failing_sink(rt.alloc(), 9)?;
-    let mut adder = Adder { sum: 0 };
-    let answer = print_run_until_last::<Adder, Text, MemSink>(
-        rt.alloc(),
-        &mut adder,
-        &NUMBERS[..2],
-        &mut sink,
-    );
-    same(&rt, "answer", &answer, &Ok(()));
-    same(
-        &rt,
-        "sink.bytes()",
-        &sink.bytes(),
-        &b"1 3\n2 7\n".as_slice(),
-    );
     Ok(())
 }
 
+const STATUSES: &[(Result<(), Unwritten>, u8)] = &[
+    (Ok(()), 0),
+    (Err(Unwritten::SinkFailed), 6),
+    (Err(Unwritten::Memory), 7),
+];
+
 #[test]
 fn each_end_of_a_run_has_its_status(rt: HostRuntime) {
-    same(&rt, "status_of_run(Ok(()))", &status_of_run(Ok(())), &0);
-    same(
-        &rt,
-        "status_of_run",
-        &status_of_run(Err(Unwritten::SinkFailed)),
-        &6,
-    );
-    same(
-        &rt,
-        "status_of_run",
-        &status_of_run(Err(Unwritten::Memory)),
-        &7,
-    );
+    for (answer, status) in STATUSES {
+        same(&rt, *status, &status_of_run(*answer), status);
+    }
 }
 
 #[test]
@@ -189,37 +215,30 @@ fn lines_are_counted_one_by_one(rt: HostRuntime) {
     same(&rt, "refused.lines", &refused.lines, &1);
 }
 
-#[test]
-fn no_commands_leave_all_as_it_was(rt: HostRuntime) -> Result<(), Fail> {
-    let mut sink = failing_sink(rt.alloc(), 1)?;
-    let mut adder = Adder { sum: 3 };
-    let answer = print_run::<Adder, Text, MemSink>(rt.alloc(), &mut adder, &[], &mut sink);
-    same(&rt, "answer", &answer, &Ok(()));
-    same(&rt, "sink.bytes()", &sink.bytes(), &b"".as_slice());
-    same(&rt, "adder.sum", &adder.sum, &3);
-    Ok(())
+fn so_many_ones(alloc: Global) -> Result<Vec<u32>, Fail> {
+    Ok(vec![in alloc; 1u32; 65_536]?)
+}
+
+/// A sink that takes all at once.
+fn wide_sink(alloc: Global) -> Result<MemSink, Fail> {
+    Ok(MemSink::new(alloc, 1_048_576, Vec::new(alloc), 65_536)?)
+}
+
+/// 316,574 digits twice, a blank and a line feed each.
+fn has_all(rt: &impl Abort, text: &[u8]) {
+    same(rt, "length", &text.len(), &764_220);
+    holds(rt, "end", text.ends_with(b"\n65535 65535\n65536 65536\n"));
 }
 
 #[test]
 fn as_many_commands_as_a_script_has_are_done(rt: HostRuntime) -> Result<(), Fail> {
-    let mut ones = Vec::with_capacity(rt.alloc(), 65_536)?;
-    for _ in 0..65_536u32 {
-        ones.push(1u32).ok().ok_or("no memory")?;
-    }
-    holds(&rt, "ones.len()", ones.len() == 65_536);
-    let plan = Vec::new(rt.alloc());
-    let made = MemSink::new(rt.alloc(), 1_048_576, plan, 65_536);
-    let mut sink = made.ok().ok_or("no memory")?;
+    let ones = so_many_ones(rt.alloc())?;
+    let mut sink = wide_sink(rt.alloc())?;
     let mut adder = Adder { sum: 0 };
+    holds(&rt, "so many", ones.len() == 65_536);
     let answer = print_run::<Adder, Text, MemSink>(rt.alloc(), &mut adder, &ones, &mut sink);
     same(&rt, "answer", &answer, &Ok(()));
     same(&rt, "adder.sum", &adder.sum, &65_536);
-    // 316,574 digits twice, a blank and a line feed each.
-    holds(&rt, "sink.bytes().len()", sink.bytes().len() == 764_220);
-    holds(
-        &rt,
-        "sink.bytes",
-        sink.bytes().ends_with(b"\n65535 65535\n65536 65536\n"),
-    );
+    has_all(&rt, sink.bytes());
     Ok(())
 }
