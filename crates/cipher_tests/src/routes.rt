@@ -46,101 +46,106 @@ fn numbered(alloc: Global, count: u16) -> Result<Vec<Route>, Fail> {
     Ok(routes)
 }
 
+/// Whether a node with this identifier and these routes is one.
+fn makes_node(uid: [u8; 15], routes: Vec<Route>) -> bool {
+    NodeConfig::new(Uid::of(uid), routes).is_some()
+}
+
+/// The same of this route alone.
+fn is_node(alloc: Global, row: &(Direction, u8, u16, u16, bool)) -> Result<bool, Fail> {
+    let route = Route {
+        id: 0x6bc1,
+        direction: row.0,
+        slot: SlotId::new(row.1).ok_or("a slot")?,
+        reserve: row.2,
+        window: row.3,
+        start: u64::MAX,
+    };
+    Ok(makes_node(UID, vec![in alloc; route]?))
+}
+
 #[test]
 fn a_route_has_its_bounds(rt: HostRuntime) -> Result<(), Fail> {
-    for (direction, slot, reserve, window, is_one) in ROUTES {
-        let route = Route {
-            id: 0x6bc1,
-            direction,
-            slot: SlotId::new(slot).ok_or("a slot")?,
-            reserve,
-            window,
-            start: u64::MAX,
-        };
-        let made = NodeConfig::new(Uid::of(UID), vec![in rt.alloc(); route]?);
-        same(&rt, window, &made.is_some(), &is_one);
+    for (place, row) in ROUTES.iter().enumerate() {
+        same(&rt, place, &is_node(rt.alloc(), row)?, &row.4);
     }
     Ok(())
 }
 
+const COUNTS: &[(u16, bool)] = &[(0, true), (1, true), (2, true), (256, true), (257, false)];
+
 #[test]
 fn a_node_has_at_most_256_routes(rt: HostRuntime) -> Result<(), Fail> {
-    for (count, is_one) in [(0, true), (1, true), (2, true), (256, true), (257, false)] {
-        let made = NodeConfig::new(Uid::of(UID), numbered(rt.alloc(), count)?);
-        same(&rt, count, &made.is_some(), &is_one);
+    for (count, is_one) in COUNTS {
+        let made = makes_node(UID, numbered(rt.alloc(), *count)?);
+        same(&rt, *count, &made, is_one);
     }
     Ok(())
+}
+
+/// Three routes, and a fourth with the Data ID of the first.
+fn twice(alloc: Global) -> Result<Vec<Route>, Fail> {
+    let mut routes = numbered(alloc, 3)?;
+    routes.push(receiving(0)?)?;
+    Ok(routes)
 }
 
 #[test]
 fn data_ids_and_the_identifier_are_asked(rt: HostRuntime) -> Result<(), Fail> {
-    let mut twice = numbered(rt.alloc(), 3)?;
-    twice.push(receiving(0)?)?;
-    holds(
-        &rt,
-        "NodeConfig::new",
-        NodeConfig::new(Uid::of(UID), twice).is_none(),
-    );
-    let zero = Uid::of([0; 15]);
-    holds(
-        &rt,
-        "NodeConfig::new",
-        NodeConfig::new(zero, numbered(rt.alloc(), 1)?).is_none(),
-    );
+    let is_one = makes_node(UID, twice(rt.alloc())?);
+    same(&rt, "a Data ID twice", &is_one, &false);
+    let is_one = makes_node([0; 15], numbered(rt.alloc(), 1)?);
+    same(&rt, "an identifier of zeros", &is_one, &false);
     Ok(())
+}
+
+fn most_routes(alloc: Global) -> Result<NodeConfig, Fail> {
+    Ok(NodeConfig::new(Uid::of(UID), numbered(alloc, 256)?).ok_or("a node")?)
 }
 
 #[test]
 fn a_copy_is_equal(rt: HostRuntime) -> Result<(), Fail> {
-    let config = NodeConfig::new(Uid::of(UID), numbered(rt.alloc(), 256)?).ok_or("a node")?;
+    let config = most_routes(rt.alloc())?;
     let copy = config.copy(rt.alloc())?;
-    holds(&rt, "copy.uid == config.uid", copy.uid == config.uid);
-    holds(
-        &rt,
-        "copy.routes.as_slice",
-        copy.routes.as_slice() == config.routes.as_slice(),
-    );
-    holds(
-        &rt,
-        "copy.routes.into_vec().len()",
-        copy.routes.into_vec().len() == 256,
-    );
-    let one = Routes::of(numbered(rt.alloc(), 1)?);
-    holds(
-        &rt,
-        "one.as_slice",
-        one.as_slice() == [receiving(0)?].as_slice(),
-    );
+    holds(&rt, "uid", copy.uid == config.uid);
+    let routes = config.routes.as_slice();
+    holds(&rt, "routes", copy.routes.as_slice() == routes);
+    same(&rt, "routes", &copy.routes.into_vec().len(), &256);
     Ok(())
 }
 
 #[test]
+fn routes_are_those_of_the_vector(rt: HostRuntime) -> Result<(), Fail> {
+    let one = Routes::of(numbered(rt.alloc(), 1)?);
+    let wanted = [receiving(0)?];
+    holds(&rt, "routes", one.as_slice() == wanted.as_slice());
+    Ok(())
+}
+
+/// A counter, a bound and a reserve of a sender, and the bound that is put.
+const SENDERS: &[(u64, u64, u16, Option<u64>)] = &[
+    (99, 99, 4, Some(103)),
+    (99, 100, 4, None),
+    (u64::MAX - 1, u64::MAX - 1, 128, Some(u64::MAX)),
+];
+
+/// A bound, a reserve and a freshness of a receiver, and the bound that is put.
+const RECEIVERS: &[(u64, u16, u64, Option<u64>)] = &[
+    (100, 8, 105, Some(112)),
+    (112, 8, 112, None),
+    (112, 8, 113, Some(120)),
+    (100, 128, u64::MAX, Some(u64::MAX)),
+];
+
+#[test]
 fn bounds_move(rt: HostRuntime) {
-    same(&rt, "sender_change", &sender_change(99, 99, 4), &Some(103));
-    same(&rt, "sender_change", &sender_change(99, 100, 4), &None);
-    same(
-        &rt,
-        "sender_change",
-        &sender_change(u64::MAX - 1, u64::MAX - 1, 128),
-        &Some(u64::MAX),
-    );
-    same(
-        &rt,
-        "receiver_change",
-        &receiver_change(100, 8, 105),
-        &Some(112),
-    );
-    same(&rt, "receiver_change", &receiver_change(112, 8, 112), &None);
-    same(
-        &rt,
-        "receiver_change",
-        &receiver_change(112, 8, 113),
-        &Some(120),
-    );
-    same(
-        &rt,
-        "receiver_change",
-        &receiver_change(100, 128, u64::MAX),
-        &Some(u64::MAX),
-    );
+    for (counter, bound, reserve, change) in SENDERS {
+        let put = sender_change(*counter, *bound, *reserve);
+        same(&rt, *bound, &put, change);
+    }
+    for (bound, reserve, freshness, change) in RECEIVERS {
+        holds(&rt, *freshness, *reserve >= 1);
+        let put = receiver_change(*bound, *reserve, *freshness);
+        same(&rt, *freshness, &put, change);
+    }
 }

@@ -83,13 +83,8 @@ fn fields_are_counted_from_the_top(rt: HostRuntime) {
     let word = 0x0000001f800000000000000000000000;
     same(&rt, "take", &take::<28>(word, 0), &1);
     same(&rt, "take", &take::<5>(word, 28), &31);
-    let counter = place::<28>(0, 0, 1);
-    same(
-        &rt,
-        "counter",
-        &counter,
-        &0x00000010000000000000000000000000,
-    );
+    let counter = 0x00000010000000000000000000000000;
+    same(&rt, "place", &place::<28>(0, 0, 1), &counter);
     same(&rt, "place", &place::<1>(0, 127, 1), &1);
 }
 
@@ -100,102 +95,85 @@ fn the_example_is_built(rt: HostRuntime) -> Result<(), Fail> {
     Ok(())
 }
 
-#[test]
-fn a_slot_that_authorises_itself_is_updated(rt: HostRuntime) -> Result<(), Fail> {
+fn own_request() -> Request {
     let [m1, first, second, m3] = OWN_REQUEST;
-    let request = Request {
+    Request {
         m1: block(m1),
         m2: [block(first), block(second)],
         m3: block(m3),
-    };
-    holds(
-        &rt,
-        "build",
-        build(&own_update()?, &block(NEW_KEY)) == request,
-    );
-    holds(
-        &rt,
-        "unseal",
-        unseal(&request, &block(NEW_KEY)) == Ok(own_update()?),
-    );
+    }
+}
+
+fn own_reply() -> Reply {
     let [front, back, m5] = OWN_REPLY;
-    let reply = Reply {
+    Reply {
         m4: [block(front), block(back)],
         m5: block(m5),
-    };
-    holds(
-        &rt,
-        "confirm_for",
-        confirm_for(&own_update()?, own_update()?.uid) == reply,
-    );
-    holds(
-        &rt,
-        "is_confirmed",
-        is_confirmed(&reply, &own_update()?, own_update()?.uid),
-    );
+    }
+}
+
+#[test]
+fn a_slot_that_authorises_itself_is_updated(rt: HostRuntime) -> Result<(), Fail> {
+    let update = own_update()?;
+    let key = block(NEW_KEY);
+    let reply = own_reply();
+    holds(&rt, "build", build(&update, &key) == own_request());
+    holds(&rt, "unseal", unseal(&own_request(), &key) == Ok(update));
+    let made = confirm_for(&update, update.uid);
+    holds(&rt, "confirm_for", made == reply);
+    let is_one = is_confirmed(&reply, &update, update.uid);
+    holds(&rt, "is_confirmed", is_one);
     Ok(())
 }
 
 #[test]
 fn an_update_is_shown_without_its_key(rt: HostRuntime) -> Result<(), Fail> {
-    let shown = "Update { id: 13, auth: 13, counter: 180150001, flags: 22, .. }";
     let update = own_update()?;
-    same(
-        &rt,
-        "format",
-        &format!(in rt.alloc(); "{update:?}")?.as_str(),
-        &shown,
-    );
+    let shown = format!(in rt.alloc(); "{update:?}")?;
+    let wanted = "Update { id: 13, auth: 13, counter: 180150001, flags: 22, .. }";
+    same(&rt, "an update", &shown.as_str(), &wanted);
     Ok(())
 }
 
 #[test]
 fn the_example_is_read(rt: HostRuntime) -> Result<(), Fail> {
     let update = unseal(&request(M1, M3), &block(AUTHORISING_KEY));
-    holds(&rt, "update == Ok(example()?)", update == Ok(example()?));
+    holds(&rt, "the example", update == Ok(example()?));
     let other_mac = unseal(&request(M1, M3 + 1), &block(AUTHORISING_KEY));
-    holds(&rt, "other_mac", other_mac == Err(Unseal::BadMac));
+    holds(&rt, "another MAC", other_mac == Err(Unseal::BadMac));
     let other_id = unseal(&request(0x1e1, M3), &block(AUTHORISING_KEY));
-    holds(&rt, "other_id", other_id == Err(Unseal::BadId));
+    holds(&rt, "another ID", other_id == Err(Unseal::BadId));
     Ok(())
 }
 
 #[test]
 fn an_m1_says_who_is_updated(rt: HostRuntime) -> Result<(), Fail> {
     let found = head(&block(M1)).ok_or("a head")?;
-    holds(&rt, "found.uid == uid()", found.uid == uid());
-    holds(&rt, "!found.uid.is_zero()", !found.uid.is_zero());
-    holds(
-        &rt,
-        "found.uid.as_slice().len()",
-        found.uid.as_slice().len() == 15,
-    );
-    same(&rt, "found.uid.bytes()[14]", &found.uid.bytes()[14], &1);
-    same(&rt, "found.id.number()", &found.id.number(), &4);
-    same(&rt, "found.auth.number()", &found.auth.number(), &1);
-    holds(&rt, "head", head(&block(0x1e1)).is_none());
-    holds(&rt, "head", head(&block(0x11e)).is_none());
+    holds(&rt, "uid", found.uid == uid());
+    holds(&rt, "uid", !found.uid.is_zero());
+    same(&rt, "uid", &found.uid.as_slice().len(), &15);
+    same(&rt, "uid", &found.uid.bytes()[14], &1);
+    same(&rt, "id", &found.id.number(), &4);
+    same(&rt, "auth", &found.auth.number(), &1);
+    holds(&rt, "a target 14", head(&block(0x1e1)).is_none());
+    holds(&rt, "an authorising slot 14", head(&block(0x11e)).is_none());
     Ok(())
+}
+
+fn reply(m5: u128) -> Reply {
+    Reply {
+        m4: [block(M4[0]), block(M4[1])],
+        m5: block(m5),
+    }
 }
 
 #[test]
 fn the_example_is_confirmed(rt: HostRuntime) -> Result<(), Fail> {
-    let m4 = [block(M4[0]), block(M4[1])];
-    let reply = Reply { m4, m5: block(M5) };
-    holds(&rt, "confirm_for", confirm_for(&example()?, uid()) == reply);
-    holds(
-        &rt,
-        "is_confirmed",
-        is_confirmed(&reply, &example()?, uid()),
-    );
-    let other = Reply {
-        m4,
-        m5: block(M5 + 1),
-    };
-    holds(
-        &rt,
-        "is_confirmed",
-        !is_confirmed(&other, &example()?, uid()),
-    );
+    let update = example()?;
+    holds(&rt, "confirm_for", confirm_for(&update, uid()) == reply(M5));
+    let is_one = is_confirmed(&reply(M5), &update, uid());
+    holds(&rt, "is_confirmed", is_one);
+    let is_one = is_confirmed(&reply(M5 + 1), &update, uid());
+    holds(&rt, "another M5", !is_one);
     Ok(())
 }

@@ -1,5 +1,6 @@
 //! NIST's known-answer tests for AES-128 (AESAVS, appendices B to E), as the validation programme gives them: each block under each key is
 //! encrypted by both bodies, and decrypted.
+use crate::comparing::holds;
 use she_aes::{Block, decrypt, encrypt, encrypt_by_tables, expand};
 
 // Texts and their ciphertexts under the key of zeros (GFSbox).
@@ -409,22 +410,16 @@ fn agrees(key: u128, text: u128, ciphertext: u128) -> bool {
 
 #[test]
 fn known_answers_of_nist(rt: HostRuntime) {
-    for (text, ciphertext) in S_BOX_BY_TEXT {
-        assert!(rt; agrees(0, text, ciphertext), "the text {text}");
+    for (text, ciphertext) in S_BOX_BY_TEXT.iter() {
+        holds(&rt, *text, agrees(0, *text, *ciphertext));
     }
-    for (key, ciphertext) in S_BOX_BY_KEY {
-        assert!(rt; agrees(key, 0, ciphertext), "the key {key}");
+    for (key, ciphertext) in S_BOX_BY_KEY.iter() {
+        holds(&rt, *key, agrees(*key, 0, *ciphertext));
     }
     for (i, ciphertext) in KEYS_OF_ONES.iter().enumerate() {
-        assert!(rt;
-            agrees(ones(i), 0, *ciphertext),
-            "the key of {i} ones and one"
-        );
+        holds(&rt, i, agrees(ones(i), 0, *ciphertext));
     }
     for (i, ciphertext) in TEXTS_OF_ONES.iter().enumerate() {
-        assert!(rt;
-            agrees(0, ones(i), *ciphertext),
-            "the text of {i} ones and one"
-        );
+        holds(&rt, i, agrees(0, ones(i), *ciphertext));
     }
 }
