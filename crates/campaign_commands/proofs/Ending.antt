@@ -38,19 +38,19 @@ script_comes same i d row as_before (script_refused fault bad) = bad_line fault 
 
 row_of_cause : (before after : DiskState) (cause : NoLedgerCause) (row : Row) → LacksLedger before after cause
     → ((text : List ℕ) × (no_ledger_text cause ≡ Some text) × (row ≡ row_of 10 text)) ⊎ (row ≡ memory_row)
-    → ((text : List ℕ) × (no_ledger_text cause ≡ Some text)) → ComesOfDisk before after row
-row_of_cause before after cause row lacks (inl (text, is, row_is)) some = subst (ComesOfDisk before after) (sym row_is) (disk_without cause text is lacks)
-row_of_cause before after cause row lacks (inr memory) some =
-    subst (ComesOfDisk before after) (sym memory) (disk_unopened (lacks_none before after cause some.0 some.1 lacks))
+    → ((text : List ℕ) × (no_ledger_text cause ≡ Some text)) → after.faults ≡ before.faults → ComesOfDisk before after row
+row_of_cause before after cause row lacks (inl (text, is, row_is)) some calm = subst (ComesOfDisk before after) (sym row_is) (disk_without cause text is lacks)
+row_of_cause before after cause row lacks (inr memory) some calm =
+    subst (ComesOfDisk before after) (sym memory) (disk_unopened (lacks_none before after cause some.0 some.1 lacks, calm))
 
 pub comes_of_disk : (before after : DiskState) (cause : NoLedgerCause) (row : Row) → LacksLedger before after cause → IsNoLedgerRow cause row → ComesOfDisk before after row
 comes_of_disk before after (Store store.TooSmall) row lacks is =
     subst (ComesOfDisk before after) (sym is) (disk_too_small (small_of_none before after lacks) lacks.cause.1)
-comes_of_disk before after (Store store.Memory) row lacks is = subst (ComesOfDisk before after) (sym is) (disk_unopened (unopened_leaves before after lacks))
-comes_of_disk before after (Store store.DiskFailed) row lacks is = row_of_cause before after (Store store.DiskFailed) row lacks is (_, refl)
-comes_of_disk before after (Store store.NotFormatted) row lacks is = row_of_cause before after (Store store.NotFormatted) row lacks is (_, refl)
-comes_of_disk before after (Store (store.Damaged i)) row lacks is = row_of_cause before after (Store (store.Damaged i)) row lacks is (_, refl)
-comes_of_disk before after (BadEntry bad) row lacks is = row_of_cause before after (BadEntry bad) row lacks is (_, refl)
+comes_of_disk before after (Store store.Memory) row lacks is = subst (ComesOfDisk before after) (sym is) (disk_unopened (unopened_leaves before after lacks, lacks.cause.0))
+comes_of_disk before after (Store store.DiskFailed) row lacks is = subst (ComesOfDisk before after) (sym is) (disk_without (Store store.DiskFailed) _ refl lacks)
+comes_of_disk before after (Store store.NotFormatted) row lacks is = subst (ComesOfDisk before after) (sym is) (disk_without (Store store.NotFormatted) _ refl lacks)
+comes_of_disk before after (Store (store.Damaged i)) row lacks is = row_of_cause before after (Store (store.Damaged i)) row lacks is (_, refl) lacks.cause.0
+comes_of_disk before after (BadEntry bad) row lacks is = row_of_cause before after (BadEntry bad) row lacks is (_, refl) lacks.reads.faults
 
 -- ---- both phases
 

@@ -21,7 +21,7 @@ use Rattle.campaign_machine.specs.declared.commands.LedgerCommand.{LedgerCommand
 use Rattle.campaign_texts.specs.CommandForms.{campaign_of}
 use Rattle.campaign_texts.specs.LedgerTexts.{ledger_line_text}
 use Rattle.campaign_commands.specs.declared.opening.NoLedgerCause.{NoLedgerCause}
-use Rattle.campaign_commands.specs.Opening.{ledger_size, LacksLedger, LeavesNone}
+use Rattle.campaign_commands.specs.Opening.{ledger_size, LacksLedger}
 use Rattle.campaign_commands.specs.Headline.{RanCampaign}
 use Rattle.campaign_commands.specs.Rows.{CampaignInputs, CampaignDisks, AreTwo, NoCommands, HasBadLine, HasCommands, OffersCommands, OffersBadLine, OverFirst, campaign_usage, too_few_text, too_small_text, no_ledger_text, DoneCampaign}
 use Rattle.campaign_commands.specs.Rows.{ComesBefore, no_form, no_commands, bad_line, too_few, too_small, no_ledger, no_memory_to_open, EndsCampaign, in_row, campaigned}
@@ -83,7 +83,7 @@ module _ {same : Type 0} {i : CampaignInputs} {d : CampaignDisks} where
   row_leaves row (too_few commands has as_before empty) = inl as_before
   row_leaves row (too_small commands has as_before small) = inl as_before
   row_leaves row (no_ledger commands cause text has told over) = inr (over_first over (λ before after lacks. lacks_none before after cause text told lacks))
-  row_leaves row (no_memory_to_open commands has over) = inr over
+  row_leaves row (no_memory_to_open commands has over) = inr (over_first over (λ before after left. left.0))
 
   -- ---- what must come
 

@@ -89,7 +89,8 @@ pub record RunsCampaign (same : Type 0) (i : CampaignInputs) (d : CampaignDisks)
   pub write_fault : e.status ≡ 6 → SinkFailed e
       × (PrintsFront (ComesBefore same i d) e ⊎ RanTo i d e (Err unwritten.SinkFailed))
   pub write_fault_only : CountsWriteFault e → e.status ≡ 6
-  -- 7: want of memory comes, and nothing was written; or the texts of the lines before one.
+  -- 7: want of memory comes, and nothing was written: never of a disk that failed as it was opened; or the texts of the
+  -- lines before one.
   pub no_memory : e.status ≡ 7
       → (ComesBefore same i d memory_row × PrintsWhole e []) ⊎ RanTo i d e (Err unwritten.Memory)
   -- 6 and 7: the record holds of some first commands; or none was done, and nothing was written, or a front of a row.

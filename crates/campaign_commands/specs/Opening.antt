@@ -101,6 +101,11 @@ pub record LeavesNone (before after : DiskState) : Type 0 where
   pub left : AsBefore calls_to_open before after ⊎ StandsForNone after ⊎ Rose before.faults after.faults
   pub kept : KeepsBytes before after
 
+-- so it is where there was no memory to open a ledger, or for the text that tells why there is none; and then the disk
+-- didn't fail
+abbrev pub LeftWithoutMemory : DiskState → DiskState → Type 0
+LeftWithoutMemory before after = LeavesNone before after × (after.faults ≡ before.faults)
+
 -- the bytes stand for the entries of a ledger
 pub record HasEntries (x : List ℕ) : Type 0 where
   pub entries : List (Option LedgerEntry)

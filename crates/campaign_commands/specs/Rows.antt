@@ -17,7 +17,7 @@ use Rattle.campaign_machine.specs.declared.commands.LedgerCommand.{LedgerCommand
 use Rattle.campaign_texts.specs.CommandForms.{campaign_of}
 use Rattle.campaign_commands.specs.declared.opening.NoLedgerCause.{NoLedgerCause}
 use Rattle.campaign_commands.specs.declared.opening.NoLedgerCause.TheVariants.{Store, BadEntry}
-use Rattle.campaign_commands.specs.Opening.{ledger_size, LacksLedger, LeavesRead, LeavesNone, TellsFirm}
+use Rattle.campaign_commands.specs.Opening.{ledger_size, LacksLedger, LeavesRead, LeftWithoutMemory, TellsFirm}
 use Rattle.campaign_commands.specs.Headline.{RanCampaign, Campaigned}
 
 -- ---- what goes in
@@ -110,7 +110,7 @@ pub data ComesBefore (same : Type 0) (i : CampaignInputs) (d : CampaignDisks) : 
   no_ledger : (commands : List LedgerCommand) (cause : NoLedgerCause) (text : List ℕ) → HasCommands i commands
       → no_ledger_text cause ≡ Some text
       → OverFirst d (λ before after. LacksLedger before after cause) → ComesBefore same i d (row_of 10 text)
-  no_memory_to_open : (commands : List LedgerCommand) → HasCommands i commands → OverFirst d LeavesNone
+  no_memory_to_open : (commands : List LedgerCommand) → HasCommands i commands → OverFirst d LeftWithoutMemory
       → ComesBefore same i d memory_row
 
 -- ---- a campaign

@@ -1,7 +1,10 @@
 -- What the steps of the work say to one another
-use Rattle.std.specs.Prelude.{◌≡◌, ◌⊎◌, ℕ, ◌<◌, ◌≤◌, Some, List, [], ◌∷◌, length, All, Result, Ok, Err, Vec}
+use Rattle.std.specs.Prelude.{◌≡◌, ◌⊎◌, ℕ, ◌<◌, ◌≤◌, Some, List, [], ◌∷◌, ◌++◌, length, All, Result, Ok, Err, Vec}
+use Rattle.std.specs.Prelude.{codes}
 use Rattle.std.specs.declared.alloc.Global.{Global}
 use Rattle.text_lines.specs.Readings.{most_lines, Fault}
+use Rattle.text_lines.specs.Texts.{line}
+use Rattle.any_cells.specs.FaultTexts.{store_fault_text}
 use Rattle.command_edge.specs.declared.input.InputFault.{InputFault}
 use Rattle.answer_rows.specs.Rows.{Row, row_of, input_row, memory_row}
 use Rattle.answer_rows.specs.Inputs.{IsUnread}
@@ -15,7 +18,7 @@ use Rattle.campaign_texts.specs.CommandForms.{campaign_of}
 use Rattle.campaign_texts.specs.ScriptCommands.{IsScriptCommand}
 use Rattle.campaign_commands.specs.declared.opening.NoLedgerCause.{NoLedgerCause}
 use Rattle.campaign_commands.specs.declared.opening.NoLedgerCause.TheVariants.{Store, BadEntry}
-use Rattle.campaign_commands.specs.Opening.{ledger_size, LacksLedger, LeavesNone}
+use Rattle.campaign_commands.specs.Opening.{ledger_size, LacksLedger, LeftWithoutMemory}
 use Rattle.campaign_commands.specs.Rows.{CampaignInputs, CampaignDisks, AreTwo, NoCommands, HasBadLine, HasCommands, OverFirst, campaign_usage, too_few_text, too_small_text, no_ledger_text, DoneCampaign}
 
 -- ---- the script
@@ -43,10 +46,15 @@ PreparesCampaign i (Err row) = ComesOfScript i row
 
 -- ---- the disk
 
--- the row of a disk without a ledger: want of room, the text of the cause, or want of memory for the store or the text
+-- the row of a disk without a ledger: want of room, the text of the cause, or want of memory for the store, or for a
+-- text with a number; the others are fixed, so that telling them takes no memory
 abbrev pub IsNoLedgerRow : NoLedgerCause → Row → Type 0
 IsNoLedgerRow (Store store.TooSmall) row = row ≡ row_of 9 too_small_text
 IsNoLedgerRow (Store store.Memory) row = row ≡ memory_row
+IsNoLedgerRow (Store store.DiskFailed) row =
+    row ≡ row_of 10 (line (codes "store: " ++ store_fault_text store.DiskFailed))
+IsNoLedgerRow (Store store.NotFormatted) row =
+    row ≡ row_of 10 (line (codes "store: " ++ store_fault_text store.NotFormatted))
 IsNoLedgerRow cause row =
     ((text : List ℕ) × (no_ledger_text cause ≡ Some text) × (row ≡ row_of 10 text)) ⊎ (row ≡ memory_row)
 
@@ -56,7 +64,7 @@ pub data ComesOfDisk (before after : DiskState) : Row → Type 0 where
   disk_without : (cause : NoLedgerCause) (text : List ℕ) → no_ledger_text cause ≡ Some text
       → LacksLedger before after cause
       → ComesOfDisk before after (row_of 10 text)
-  disk_unopened : LeavesNone before after → ComesOfDisk before after memory_row
+  disk_unopened : LeftWithoutMemory before after → ComesOfDisk before after memory_row
 
 -- how a campaign over the first disk ends: the ledger isn't opened, or the first commands are done
 pub data DoesOnDisk (commands : List LedgerCommand) (before after : DiskState) (e : Ending) : Type 0 where

@@ -35,13 +35,18 @@ pub fn small_disk_refusal() -> Refusal
     Refusal::fixed(9, "disks: too small\n")
 }
 
-/// The refusal of a disk without a ledger, with the text that names its cause, or want of memory for the text.
+/// The refusal of a disk without a ledger, with the text that names its cause; or want of memory, also for a text with a
+/// number. Telling a disk that failed, or has no store, takes no memory.
 pub fn no_ledger_refusal(alloc: Global, cause: NoLedgerCause) -> Refusal
     ensures { IsNoLedgerRow cause result }
 {
     match cause {
         NoLedgerCause::Store(StoreFault::TooSmall) => Refusal::fixed(9, "disks: too small\n"),
         NoLedgerCause::Store(StoreFault::Memory) => Refusal::no_memory(),
+        NoLedgerCause::Store(StoreFault::DiskFailed) => Refusal::fixed(10, "store: DiskFailed\n"),
+        NoLedgerCause::Store(StoreFault::NotFormatted) => {
+            Refusal::fixed(10, "store: NotFormatted\n")
+        }
         NoLedgerCause::Store(fault) => match store_text(alloc, fault) {
             Ok(text) => Refusal::made(10, text),
             Err(AllocError) => Refusal::no_memory(),

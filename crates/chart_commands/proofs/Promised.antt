@@ -1,6 +1,6 @@
 -- How a chart ends gives all that it promises
 use Rattle.std.specs.Prelude.{◌≡◌, ◌≢◌, ◌⊎◌, ℕ, List, [], Option, Some, Result, Ok, Err, codes}
-use Rattle.std.proofs.Common.{refl, subst, arith, inl, inr}
+use Rattle.std.proofs.Common.{refl, ◌∙◌, subst, arith, inl, inr}
 use Rattle.command_edge.specs.Told.{EndingTold}
 use Rattle.command_edge.specs.Input.{input_fault_status}
 use Rattle.command_edge.specs.declared.input.InputFault.{InputFault}
@@ -232,11 +232,21 @@ module _ (same : Type 0) (i : ChartInputs) (d : DiskStates) (e : Ending) where
     | inr (is, rose, part) ↦ absurd (let no : ⊥ = omega (arith, is, low) in no)
   ]
 
-  row_leaves : (row : Row) → Comes row → LeavesChartDisks same i d
-  row_leaves row (without_disks _ comes unused) = as_before unused
-  row_leaves row (not_started _ (bus, events, set, start) nine) = by_unfinished_start (bus, events, set, Comes-leaves Format bus d row start)
-  row_leaves row (all_done _ (bus, events, set, (lines, done, text_is))) = by_chart (Some lines) (bus, events, set, done)
-  row_leaves row (done_without_memory kept over) = by_chart kept over
+  -- a start that isn't finished ends in 6, 7 or 10; at 9 no disk was called
+  unfinished : (bus : NamedBus) (row : Row) → ComesOfStart Format bus d row → (row.status ≡ 9 → same) → EndingTold e.before e.after row.text row.status e.status
+      → OverChart i (λ bus events. LeavesEach Format bus d.before d.after) → LeavesChartDisks same i d e
+  unfinished bus row start nine (inr (six, rose, part)) left = by_unfinished_start (inl six) left
+  unfinished bus row start nine (inl (status_is, well)) left = elim (start_status Format bus d row start) [
+    | inl is ↦ as_before (nine is)
+    | inr (inl ten) ↦ by_unfinished_start (inr (inr (status_is ∙ ten))) left
+    | inr (inr seven) ↦ by_unfinished_start (inr (inl (status_is ∙ seven))) left
+  ]
+
+  row_leaves : (row : Row) → Comes row → EndingTold e.before e.after row.text row.status e.status → LeavesChartDisks same i d e
+  row_leaves row (without_disks _ comes unused) told = as_before unused
+  row_leaves row (not_started _ (bus, events, set, start) nine) told = unfinished bus row start nine told (bus, events, set, Comes-leaves Format bus d row start)
+  row_leaves row (all_done _ (bus, events, set, (lines, done, text_is))) told = by_chart (Some lines) (bus, events, set, done)
+  row_leaves row (done_without_memory kept over) told = by_chart kept over
 
   -- ---- a disk that failed is told, or the bus was started
 
@@ -258,7 +268,7 @@ module _ (same : Type 0) (i : ChartInputs) (d : DiskStates) (e : Ending) where
   RunsChart-ends states ends = record {
     ends = ends;
     disks_unused = unused_of ends;
-    leaves = row_leaves ends.row ends.comes;
+    leaves = row_leaves ends.row ends.comes ends.told;
     done = EndsInRow-at ends 0 refl row_0;
     usage_told = EndsInRow-at ends 2 refl row_2;
     usage_only = λ nothing. EndsInRow-only ends 2 (λ row comes. row_asks same i d row comes nothing);

@@ -30,13 +30,14 @@ pub record DrawsChart (bus : NamedBus) (events : List Event) (d : DiskStates) (e
   pub done : DoneChart bus events d (Some lines)
   pub drawn : PrintsWhole e (chart_text bus events lines)
 
--- what a chart leaves of the disks: all as before, or what an unfinished start leaves, or what a run of all events
--- leaves, or of none
-pub data LeavesChartDisks (same : Type 0) (i : ChartInputs) (d : DiskStates) : Type 0 where
-  as_before : same → LeavesChartDisks same i d
-  by_unfinished_start : OverChart i (λ bus events. LeavesEach Format bus d.before d.after) → LeavesChartDisks same i d
+-- what a chart leaves of the disks: all as before, or what an unfinished start leaves, at 6, 7 and 10 alone, or what a
+-- run of all events leaves, or of none
+pub data LeavesChartDisks (same : Type 0) (i : ChartInputs) (d : DiskStates) (e : Ending) : Type 0 where
+  as_before : same → LeavesChartDisks same i d e
+  by_unfinished_start : (e.status ≡ 6) ⊎ (e.status ≡ 7) ⊎ (e.status ≡ 10)
+      → OverChart i (λ bus events. LeavesEach Format bus d.before d.after) → LeavesChartDisks same i d e
   by_chart : (kept : Option (List Line)) → OverChart i (λ bus events. DoneChart bus events d kept)
-      → LeavesChartDisks same i d
+      → LeavesChartDisks same i d e
 
 -- what a chart promises that has these inputs and disks and ends so, in the order of the table of answers; `same` is
 -- that every disk is as before
@@ -46,7 +47,7 @@ pub record RunsChart (same : Type 0) (i : ChartInputs) (d : DiskStates) (e : End
   -- Every disk is as before at the status 2, 3, 4, 5, 8 and 9.
   pub disks_unused : (e.status ≡ 2) ⊎ (e.status ≡ 3) ⊎ (e.status ≡ 4) ⊎ (e.status ≡ 5) ⊎ (e.status ≡ 8)
       ⊎ (e.status ≡ 9) → same
-  pub leaves : LeavesChartDisks same i d
+  pub leaves : LeavesChartDisks same i d e
   -- 0: the inputs were read whole, all events were done, and exactly the chart of their lines was printed: over disks
   -- that tell their bytes these are the lines of one run of the machine.
   pub done : e.status ≡ 0 → OverChart i (λ bus events. DrawsChart bus events d e)

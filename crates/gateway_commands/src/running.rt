@@ -41,10 +41,7 @@ pub fn do_job<K: Sink, D: CutDisk>(
         unreachable!();
     };
     let (node, printed) = print_turns(alloc, node, pairs, events.as_slice(), sink);
-    match nodes.push(node) {
-        Ok(()) => {}
-        Err(_) => unreachable!(),
-    }
+    nodes.push_reserved(node);
     close_nodes(nodes, disks);
     status_of_run(printed)
 }

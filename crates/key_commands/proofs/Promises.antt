@@ -238,13 +238,13 @@ module _ {S D : Type 0} (i : KeyInputs S D) (e : Ending) where
   row_or_lines : (uid : List ℕ) → AsksLoad i.words uid → AnswersNone (load_inputs i uid) e ⊎ EndsAtOne (load_inputs i uid) e → e.status ≡ 6
       → PrintsFront (KeyComes i) e ⊎ OverLoad i (λ l. EndsAtOne l e)
   row_or_lines uid asks (inl (same, inl (six, (row, comes, part)))) is = inl (row, not_loaded row (uid, asks, comes), part)
-  row_or_lines uid asks (inl (same, inr (seven, printed))) is = absurd (omega (arith, is, seven))
+  row_or_lines uid asks (inl (same, inr (seven, printed, calm))) is = absurd (omega (arith, is, seven))
   row_or_lines uid asks (inr one) is = inr (uid, asks, one)
 
   nothing_or_lines : (uid : List ℕ) → AsksLoad i.words uid → AnswersNone (load_inputs i uid) e ⊎ EndsAtOne (load_inputs i uid) e → e.status ≡ 7
       → PrintsWhole e [] ⊎ OverLoad i (λ l. EndsAtOne l e)
   nothing_or_lines uid asks (inl (same, inl (six, front))) is = absurd (omega (arith, is, six))
-  nothing_or_lines uid asks (inl (same, inr (seven, printed))) is = inl printed
+  nothing_or_lines uid asks (inl (same, inr (seven, printed, calm))) is = inl printed
   nothing_or_lines uid asks (inr one) is = inr (uid, asks, one)
 
   front_at_6 : RanKey i e → e.status ≡ 6 → SinkFailed e × (PrintsFront (KeyComes i) e ⊎ OverLoad i (λ l. EndsAtOne l e))

@@ -73,7 +73,8 @@ pub record Keys {S D : Type 0} (i : KeyInputs S D) (e : Ending) : Type 0 where
   -- or without it, and has the bytes before and behind the store as they were.
   pub images : (uid : List ℕ) → AsksLoad i.words uid → (e.status ≡ 0) ⊎ (e.status ≡ 10)
       → LeavesImages (load_inputs i uid) e
-  -- 6 and 7 of a load: no request was answered; or those up to one were, whose line wasn't written whole.
+  -- 6 and 7 of a load: no request was answered, at 7 with the disk's count as before; or those up to one were, whose
+  -- line wasn't written whole.
   pub load_early_ends : (uid : List ℕ) → AsksLoad i.words uid → (e.status ≡ 6) ⊎ (e.status ≡ 7)
       → AnswersNone (load_inputs i uid) e ⊎ EndsAtOne (load_inputs i uid) e
   -- 4, 5 and what is above 7 come of a load alone.

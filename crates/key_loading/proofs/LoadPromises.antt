@@ -21,7 +21,7 @@ use Rattle.key_loading.specs.Loads.{LoadInputs, LacksRequests, ReadsRequests, Is
 use Rattle.key_loading.specs.declared.lines.LoadLine.TheVariants.{Failed}
 use Rattle.key_loading.specs.LoadTexts.{load_text}
 use Rattle.key_loading.specs.Loading.{WritesUpTo, load_texts}
-use Rattle.key_loading.specs.Promises.{AnsweredAll, AnsweredUntilFailed, UpToOne, AnswersNone, HasEngine, HasNoEngine, LeavesImages, LoadsAll, OffersEngine, OffersRequests, RefusesStore, RunsLoad, SameBytes, StopsAtOne}
+use Rattle.key_loading.specs.Promises.{AnsweredAll, AnsweredUntilFailed, UpToOne, AnswersNone, HasEngine, HasNoEngine, LeavesImages, LoadsAll, OffersEngine, OffersRequests, RefusesStore, RunsLoad, SameBytes, SameCount, StopsAtOne}
 use Rattle.key_loading.proofs.EngineLaws.{cause_in, engine_there}
 use Rattle.key_loading.proofs.AnsweredLaws.{EndsAnswered, at_one, ends_answered, ends_runs, engine_of, to_the_end, until_failed}
 
@@ -42,13 +42,20 @@ lacks_9 before after row (disk_failed rose) = refl
 gives_9_or_7 : (before after : DiskState) (row : Row) → GivesNoEngine before after row → (row.status ≡ 9) ⊎ (row.status ≡ 7)
 gives_9_or_7 before after row gives = elim gives.cause [
   | inl lacks ↦ inl (lacks_9 before after row lacks)
-  | inr memory ↦ inr (ap (λ (r : Row). r.status) memory)
+  | inr memory ↦ inr (ap (λ (r : Row). r.status) memory.0)
 ]
 
 gives_lacks : (before after : DiskState) (row : Row) → GivesNoEngine before after row → row.status ≡ 9 → LacksEngine before after row
 gives_lacks before after row gives nine = elim gives.cause [
   | inl lacks ↦ lacks
-  | inr memory ↦ absurd (omega (arith, nine, ap (λ (r : Row). r.status) memory))
+  | inr memory ↦ absurd (omega (arith, nine, ap (λ (r : Row). r.status) memory.0))
+]
+
+-- want of memory is told where the disk didn't fail
+gives_calm : (before after : DiskState) (row : Row) → GivesNoEngine before after row → row.status ≡ 7 → after.faults ≡ before.faults
+gives_calm before after row gives seven = elim gives.cause [
+  | inl lacks ↦ absurd (omega (arith, seven, lacks_9 before after row lacks))
+  | inr memory ↦ memory.1
 ]
 
 -- each row has one of these statuses
@@ -121,7 +128,7 @@ at_7 i e row (without_requests _ (refused_request fault refused) same) is whole 
 at_7 i e row (without_disk requests reads none left) is whole = absurd (omega (arith, is))
 at_7 i e row (without_engine requests _ reads first) is whole = elim first.holds.cause [
   | inl lacks ↦ absurd (omega (arith, is, lacks_9 first.old first.new row lacks))
-  | inr memory ↦ subst (λ (r : Row). PrintsWhole e r.text) memory whole
+  | inr memory ↦ subst (λ (r : Row). PrintsWhole e r.text) memory.0 whole
 ]
 
 -- ---- the disks
@@ -137,6 +144,13 @@ row_bytes i row (without_requests _ lacks same) = λ d. ap (λ ds. (get_or ds 0 
 row_bytes i row (without_disk requests reads none left) = λ d. ap (λ ds. (get_or ds 0 d).told) (left ∙ sym none)
 row_bytes i row (without_engine requests _ reads first) = λ d.
     first_of (λ old new. new.told ≡ old.told) i.before i.after first.others first.old first.new d first.before_is first.after_is first.holds.read.told
+
+row_calm : (i : LoadInputs) (row : Row) → ComesInLoad i row → row.status ≡ 7 → SameCount i
+row_calm i row (without_requests _ lacks same) seven = λ d. ap (λ ds. (get_or ds 0 d).faults) same
+row_calm i row (without_disk requests reads none left) seven = λ d. ap (λ ds. (get_or ds 0 d).faults) (left ∙ sym none)
+row_calm i row (without_engine requests _ reads first) seven = λ d.
+    first_of (λ old new. new.faults ≡ old.faults) i.before i.after first.others first.old first.new d first.before_is first.after_is
+    (gives_calm first.old first.new row first.holds seven)
 
 row_unused : (i : LoadInputs) (row : Row) → ComesInLoad i row → (row.status ≡ 4) ⊎ (row.status ≡ 5) ⊎ (row.status ≡ 8) → i.after ≡ i.before
 row_unused i row (without_requests _ lacks same) low = same
@@ -262,7 +276,7 @@ row_complete i requests offers engine row (without_engine other _ reads first) =
       | inl lacks ↦
           absurd (lacks_none first.old first.new engine.told row first.is_disk (ap (λ (d : DiskState). d.told) (sym same) ∙ engine.tells) (subst HasEngine same engine.engine)
           (subst (λ (d : DiskState). ¬ Rose d.faults first.new.faults) same (engine.calm first.new first.others first.after_is)) lacks)
-      | inr memory ↦ ap (λ (r : Row). r.status) memory
+      | inr memory ↦ ap (λ (r : Row). r.status) memory.0
     ]
 
 -- where a cause applies, no engine opens
@@ -281,7 +295,9 @@ row_or_nothing i e ends (inl six) = (
   row_bytes i ends.row ends.comes,
   inl (six, (EndsInRow-front ends (λ row comes is. absurd (omega (arith, is, row_status i row comes))) six).1),
 )
-row_or_nothing i e ends (inr seven) = (row_bytes i ends.row ends.comes, inr (seven, EndsInRow-at ends 7 refl (at_7 i e) seven))
+row_or_nothing i e ends (inr seven) =
+    let nothing : PrintsWhole e [] × SameCount i = EndsInRow-at ends 7 refl (λ row comes is whole. (at_7 i e row comes is whole, row_calm i row comes is)) seven in
+    (row_bytes i ends.row ends.comes, inr (seven, nothing.0, nothing.1))
 
 -- another status than those of the rows
 no_row : (i : LoadInputs) (e : Ending) (A : Type 0) (n : ℕ) → EndsInRow (ComesInLoad i) e → e.status ≡ n → ¬ (IsRowStatus n) → n ≢ 6 → A

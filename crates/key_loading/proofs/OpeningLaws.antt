@@ -16,7 +16,7 @@ use Rattle.key_loading.specs.declared.finding.CountingStore.{CountingStore}
 use Rattle.key_loading.specs.Counting.{StoreThatCounts, moved_up, not_moved, only_second, no_store}
 use Rattle.key_loading.specs.Finding.{NotLooked, no_header, not_read}
 use Rattle.key_loading.specs.Loader.{LoaderState, HoldsAll}
-use Rattle.key_loading.specs.Opening.{HasCounting, HasNoSlot, LacksEngine, NoEngine, GivesNoEngine, OnlyRead, OpensLoader, fault_row, few_cells_row, has_none, layout_of, store_row}
+use Rattle.key_loading.specs.Opening.{HasCounting, HasNoSlot, LacksEngine, NoEngine, GivesNoEngine, OnlyRead, OpensLoader, fault_row, few_cells_row, has_none, layout_of, TellsStoreFault}
 use Rattle.key_loading.specs.Opening as opening
 
 -- the header of the store that counts stands
@@ -40,26 +40,29 @@ same_faults before after same = ap (λ (d : DiskState). d.faults) same
 only_join : (a b c : DiskState) → OnlyRead a b → OnlyRead b c → OnlyRead a c
 only_join a b c first second = record { calls = _; runs = runs_join first.runs second.runs; told = second.told ∙ first.told }
 
-or_memory : (before after : DiskState) (row comes : Row) → OnlyRead before after → LacksEngine before after comes → (row ≡ comes) ⊎ (row ≡ memory_row)
-    → GivesNoEngine before after row
-or_memory before after row comes read cause is = elim is [
-  | inl this ↦ record { cause = inl (subst (LacksEngine before after) (sym this) cause); read = read }
-  | inr memory ↦ record { cause = inr memory; read = read }
-]
+-- a cause is told
+told_cause : (before after : DiskState) (row comes : Row) → OnlyRead before after → LacksEngine before after comes → row ≡ comes → GivesNoEngine before after row
+told_cause before after row comes read cause is = record { cause = inl (subst (LacksEngine before after) (sym is) cause); read = read }
+
+-- or want of memory for its text, where the disk didn't fail
+or_memory : (before after : DiskState) (row comes : Row) → OnlyRead before after → LacksEngine before after comes → after.faults ≡ before.faults
+    → (row ≡ comes) ⊎ (row ≡ memory_row) → GivesNoEngine before after row
+or_memory before after row comes read cause calm (inl is) = told_cause before after row comes read cause is
+or_memory before after row comes read cause calm (inr memory) = record { cause = inr (memory, calm); read = read }
 
 -- it isn't known which store counts
 pub not_looked : (before after : DiskState) (fault : StoreFault) (row : Row) → NotLooked before after fault
-    → (row ≡ store_row fault) ⊎ (row ≡ memory_row) → GivesNoEngine before after row
+    → TellsStoreFault fault row → GivesNoEngine before after row
 not_looked before after fault row (no_header small same) is =
-    or_memory before after row (fault_row store.TooSmall) (only_same before after same) (has_none _ (opening.no_header small) (same_faults before after same)) is
+    told_cause before after row (fault_row store.TooSmall) (only_same before after same) (has_none _ (opening.no_header small) (same_faults before after same)) is
 not_looked before after fault row (not_read failed) is =
-    or_memory before after row (fault_row store.DiskFailed) (record { calls = 2; runs = failed.runs; told = failed.told }) (opening.disk_failed failed.rose) is
+    told_cause before after row (fault_row store.DiskFailed) (record { calls = 2; runs = failed.runs; told = failed.told }) (opening.disk_failed failed.rose) is
 
 -- no store counts
 pub none_found : (before after : DiskState) (row : Row) → ReadOnly 2 before after → 32 ≤ before.size → ((t : Told) → before.told ≡ Some t → StoreThatCounts t.bytes None)
-    → (row ≡ store_row store.NotFormatted) ⊎ (row ≡ memory_row) → GivesNoEngine before after row
+    → TellsStoreFault store.NotFormatted row → GivesNoEngine before after row
 none_found before after row read room none is =
-    or_memory before after row (fault_row store.NotFormatted) (only_reads 2 before after read) (has_none _ (opening.none_counts room none) read.faults) is
+    told_cause before after row (fault_row store.NotFormatted) (only_reads 2 before after read) (has_none _ (opening.none_counts room none) read.faults) is
 
 -- the store that counts has too few cells, and no call was made
 pub few_found : (disk : DiskState) (found : CountingStore) (row : Row) → HasCounting disk found → 32 ≤ disk.size → found.cells < 14 → row ≡ few_cells_row
@@ -72,20 +75,23 @@ few_found disk found row counts header few is = record {
 -- the store that counts isn't attached
 pub not_attached : (before after : DiskState) (found : CountingStore) (fault : StoreFault) (row : Row) → HasCounting before found → 32 ≤ before.size
     → FewCells found.cells → 14 ≤ found.cells → NotAttached (layout_of found) (reads found.kind found.cells) (reads_to found.kind found.cells) found.cells before after fault
-    → (row ≡ store_row fault) ⊎ (row ≡ memory_row) → GivesNoEngine before after row
+    → TellsStoreFault fault row → GivesNoEngine before after row
 not_attached before after found store.TooSmall row counts header few wide (small, same) is =
-    or_memory before after row (fault_row store.TooSmall) (only_same before after same) (has_none _ (opening.no_room found few counts wide small) (same_faults before after same)) is
-not_attached before after found store.Memory row counts header few wide (room, same) (inl memory) = record { cause = inr memory; read = only_same before after same }
-not_attached before after found store.Memory row counts header few wide (room, same) (inr memory) = record { cause = inr memory; read = only_same before after same }
+    told_cause before after row (fault_row store.TooSmall) (only_same before after same) (has_none _ (opening.no_room found few counts wide small) (same_faults before after same))
+    is
+not_attached before after found store.Memory row counts header few wide (room, same) is =
+    record { cause = inr (is, same_faults before after same); read = only_same before after same }
 not_attached before after found store.DiskFailed row counts header few wide unread is =
-    or_memory before after row (fault_row store.DiskFailed) (record { calls = _; runs = unread.leaves.runs; told = unread.leaves.told })
+    told_cause before after row (fault_row store.DiskFailed) (record { calls = _; runs = unread.leaves.runs; told = unread.leaves.told })
     (opening.disk_failed unread.leaves.rose) is
 not_attached before after found store.NotFormatted row counts header few wide unread is =
-    or_memory before after row (fault_row store.NotFormatted) (only_reads _ before after unread.leaves)
-    (has_none _ (opening.none_counts header (λ t told. absurd (unread.finds t told (header_counts t.bytes _ found (counts t told) refl)))) unread.leaves.faults) is
+    told_cause before after row (fault_row store.NotFormatted) (only_reads _ before after unread.leaves)
+    (has_none _ (opening.none_counts header (λ t told. absurd (unread.finds t told (header_counts t.bytes _ found (counts t told) refl)))) unread.leaves.faults)
+    is
 not_attached before after found (store.Damaged place) row counts header few wide unread is =
     or_memory before after row (fault_row (store.Damaged place)) (only_reads _ before after unread.leaves)
-    (has_none _ (opening.damaged found place counts wide unread.room (λ t told. (unread.finds t told).1)) unread.leaves.faults) is
+    (has_none _ (opening.damaged found place counts wide unread.room (λ t told. (unread.finds t told).1)) unread.leaves.faults)
+    unread.leaves.faults is
 
 -- a cell of the store that counts is no slot's
 pub bad_slot_found : (before after : DiskState) (found : CountingStore) (s : CellsState) (row : Row) → HasCounting before found → 14 ≤ found.cells
@@ -99,7 +105,7 @@ bad_slot_found before after found s row counts wide attached is none =
             (same_faults s.disk after is ∙ attached.as_before.faults)));
         read = read;
       }
-      | inr memory ↦ record { cause = inr memory; read = read }
+      | inr memory ↦ record { cause = inr (memory, same_faults s.disk after is ∙ attached.as_before.faults); read = read }
     ]
 
 -- the engine is open over it
@@ -153,7 +159,7 @@ module _ (before mid : DiskState) (read : ReadOnly 2 before mid) where
       record {
         cause = elim refused.cause [
           | inl lacks ↦ inl (lacks_before after row lacks)
-          | inr memory ↦ inr memory
+          | inr memory ↦ inr (memory.0, memory.1 ∙ read.faults)
         ];
         read = only_join before mid after (only_reads 2 before mid read) refused.read;
       }

@@ -25,13 +25,14 @@ store_text cause = codes "store: " ++ (cause ++ 10 ∷ [])
 abbrev pub fault_row : StoreFault → Row
 fault_row fault = row_of 9 (store_text (store_fault_text fault))
 
--- the row of a store that is refused: its fault's, or 7 for want of memory
-abbrev pub store_row : StoreFault → Row
-store_row store.DiskFailed = fault_row store.DiskFailed
-store_row store.NotFormatted = fault_row store.NotFormatted
-store_row (store.Damaged place) = fault_row (store.Damaged place)
-store_row store.TooSmall = fault_row store.TooSmall
-store_row store.Memory = memory_row
+-- a store that is refused is told by its fault's row; want of memory, 7, is told where there was none, and where there
+-- was none for a text with a number
+abbrev pub TellsStoreFault : StoreFault → Row → Type 0
+TellsStoreFault store.DiskFailed row = row ≡ fault_row store.DiskFailed
+TellsStoreFault store.NotFormatted row = row ≡ fault_row store.NotFormatted
+TellsStoreFault (store.Damaged place) row = (row ≡ fault_row (store.Damaged place)) ⊎ (row ≡ memory_row)
+TellsStoreFault store.TooSmall row = row ≡ fault_row store.TooSmall
+TellsStoreFault store.Memory row = row ≡ memory_row
 
 abbrev pub few_cells_row : Row
 few_cells_row = row_of 9 (store_text (codes "too few cells"))
@@ -98,9 +99,10 @@ pub data LacksEngine (before after : DiskState) : Row → Type 0 where
   has_none : (row : Row) → NoEngine before row → after.faults ≡ before.faults → LacksEngine before after row
   disk_failed : Rose before.faults after.faults → LacksEngine before after (fault_row store.DiskFailed)
 
--- the row that comes where a disk gives no engine, and that it was read at most
+-- the row that comes where a disk gives no engine: that of its cause, or want of memory, where the disk didn't fail;
+-- and it was read at most
 pub record GivesNoEngine (before after : DiskState) (row : Row) : Type 0 where
-  pub cause : LacksEngine before after row ⊎ (row ≡ memory_row)
+  pub cause : LacksEngine before after row ⊎ ((row ≡ memory_row) × (after.faults ≡ before.faults))
   pub read : OnlyRead before after
 
 -- the engine with this identifier is open over the store that counts, in which its slots are

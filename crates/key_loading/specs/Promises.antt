@@ -108,10 +108,14 @@ LeavesImages i e = OverRequests i (λ requests old new.
 abbrev pub SameBytes : LoadInputs → Type 0
 SameBytes i = (d : DiskState) → (get_or i.after 0 d).told ≡ (get_or i.before 0 d).told
 
--- no request was answered: at 6 a front of a row that comes was written, and at 7 nothing
+-- the first disk's count of faults is as before
+abbrev pub SameCount : LoadInputs → Type 0
+SameCount i = (d : DiskState) → (get_or i.after 0 d).faults ≡ (get_or i.before 0 d).faults
+
+-- no request was answered: at 6 a front of a row that comes was written, and at 7 nothing, where the disk didn't fail
 abbrev pub AnswersNone : LoadInputs → Ending → Type 0
-AnswersNone i e =
-    SameBytes i × ((e.status ≡ 6) × PrintsFront (ComesInLoad i) e ⊎ (e.status ≡ 7) × PrintsWhole e [])
+AnswersNone i e = SameBytes i
+    × ((e.status ≡ 6) × PrintsFront (ComesInLoad i) e ⊎ (e.status ≡ 7) × PrintsWhole e [] × SameCount i)
 
 -- the requests up to one were answered, of which the line of the last wasn't written whole
 abbrev pub EndsAtOne : LoadInputs → Ending → Type 0
@@ -167,7 +171,8 @@ pub record RunsLoad (i : LoadInputs) (e : Ending) : Type 0 where
   -- At 0 and 10 each image of the first disk stands for the cells after the lines, at 10 with the last change or
   -- without it, and has the bytes before and behind the store as they were.
   pub images : (e.status ≡ 0) ⊎ (e.status ≡ 10) → LeavesImages i e
-  -- 6 and 7: no request was answered; or those up to one were, whose line wasn't written whole.
+  -- 6 and 7: no request was answered, at 7 with the disk's count as before; or those up to one were, whose line wasn't
+  -- written whole.
   pub load_early_ends : (e.status ≡ 6) ⊎ (e.status ≡ 7) → AnswersNone i e ⊎ EndsAtOne i e
   -- 9: the input was read whole, and there is no disk or no engine; the first cause is named. It comes where a cause
   -- applies to what the first disk tells.

@@ -4,7 +4,7 @@ ghost use Rattle.answer_rows.specs.Rows.{row_of, memory_row};
 ghost use Rattle.cell_store.specs.Store.{FewCells};
 ghost use Rattle.any_cells.specs.Either.{any_state};
 ghost use Rattle.key_loading.specs.Opening.{HasCounting, HasNoSlot, GivesNoEngine, OpensLoader};
-ghost use Rattle.key_loading.specs.Opening.{store_row, bad_slot_row};
+ghost use Rattle.key_loading.specs.Opening.{TellsStoreFault, bad_slot_row};
 ghost use Rattle.key_loading.specs.Loader.{HoldsAll};
 
 use crate::finding::{CountingStore, find_store};
@@ -98,16 +98,19 @@ fn attach_engine<D: Disk>(
     }
 }
 
-/// The row of a fault of the store.
+/// The row of a fault of the store. Telling one without a number takes no memory.
 fn store_refusal(alloc: Global, fault: StoreFault) -> Refusal
-    ensures { (result ≡ store_row fault) ⊎ (result ≡ memory_row) }
+    ensures { TellsStoreFault fault result }
 {
-    if let StoreFault::Memory = fault {
-        return Refusal::no_memory();
-    }
-    match store_fault_text(alloc, fault) {
-        Ok(cause) => made_refusal(format!(in alloc; "store: {cause}\n")),
-        Err(AllocError) => Refusal::no_memory(),
+    match fault {
+        StoreFault::DiskFailed => Refusal::fixed(9, "store: DiskFailed\n"),
+        StoreFault::NotFormatted => Refusal::fixed(9, "store: NotFormatted\n"),
+        StoreFault::TooSmall => Refusal::fixed(9, "store: TooSmall\n"),
+        StoreFault::Memory => Refusal::no_memory(),
+        StoreFault::Damaged(_) => match store_fault_text(alloc, fault) {
+            Ok(cause) => made_refusal(format!(in alloc; "store: {cause}\n")),
+            Err(AllocError) => Refusal::no_memory(),
+        },
     }
 }
 

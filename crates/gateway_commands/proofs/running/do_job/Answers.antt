@@ -38,7 +38,7 @@ returns g c =
     (rw c.as_slice.ensures.value at c.print_turns-node.ensures)
     (c.close_nodes.ensures
     ∙ ap (λ (ns : List NodeState). disks_of ns ++ map g.D.Disk.state c.open_nodes.new.disks.items)
-    (c.in-Ok-push.ensures.items ∙ ap (λ (ns : List NodeState). ns ++ after ∷ []) (none_left c.in-Ok.nodes.items c.pop.new.self.items c.in-Some.node c.in-Some.ensures.items one))
+    (c.push_reserved.ensures.items ∙ ap (λ (ns : List NodeState). ns ++ after ∷ []) (none_left c.in-Ok.nodes.items c.pop.new.self.items c.in-Some.node c.in-Some.ensures.items one))
     ∙ ap (λ (ds : List DiskState). disks_of (after ∷ []) ++ ds) c.in-Ok.ensures.rest) in
     first_done c.print_turns-node.result.1 (record {
       ran = ran;
