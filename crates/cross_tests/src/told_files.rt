@@ -15,12 +15,15 @@ struct DiskFile<D: CutDisk> {
 
 impl<D: CutDisk> ByteFile for DiskFile<D> {
     ghost use Rattle.std.specs.Prelude.{true, None};
+    ghost use Rattle.file_disk.specs.SizeLaws.{disk_tells_size};
 
     ghost is_open = { λ _. true };
 
     ghost calls = { λ _. None };
 
     ghost told = { λ file. (D.state file.disk).told };
+
+    ghost size = { λ file. (D.state file.disk).size };
 
     fn read_at(&mut self, at: u64, out: &mut [u8]) -> Result<(), FileFailed> {
         match self.disk.read(at, out) {
@@ -51,6 +54,8 @@ impl<D: CutDisk> ByteFile for DiskFile<D> {
     fn lose_power(&mut self, torn: Torn) {
         self.disk.power_cut(torn);
     }
+
+    ghost is_file = { λ file. disk_tells_size (D.is_disk file.disk) };
 }
 
 /// The disk over the file over this disk.

@@ -1,10 +1,6 @@
--- What a file tells of its bytes.
-use Rattle.std.specs.Prelude.{◌≡◌, ℕ, ◌+◌, ◌≤◌, length, Option, Some}
+-- How much a file tells.
+use Rattle.std.specs.Prelude.{◌≡◌, ℕ, length, Option, Some}
 use Rattle.cut_disk.specs.State.{Told}
-
--- so many bytes from `at` on are among those that are told, if any are
-abbrev pub IsInside : ℕ → ℕ → Option Told → Type 0
-IsInside at count told = (t : Told) → told ≡ Some t → at + count ≤ length t.bytes
 
 -- so many bytes, and as many marks
 pub record HasBytes (size : ℕ) (t : Told) : Type 0 where

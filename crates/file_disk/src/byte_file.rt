@@ -1,8 +1,8 @@
 //! What a disk over a file asks of the file.
-ghost use Rattle.std.specs.Prelude.{◌≡◌, Bool, false, List, length, Option, IsErr, is_ok, is_some, OnOk, OnErr};
+ghost use Rattle.std.specs.Prelude.{◌≡◌, ℕ, ◌+◌, ◌≤◌, Bool, false, List, length, Option, IsSome, IsErr, is_ok, is_some, OnOk, OnErr};
 ghost use Rattle.cut_disk.specs.State.{Told};
 ghost use Rattle.cut_disk.specs.Images.{ReadsAs, WritesLoose, Tears, Syncs, CutsTo};
-ghost use Rattle.file_disk.specs.FileBytes.{IsInside};
+ghost use Rattle.file_disk.specs.FileBytes.{TellsSize};
 ghost use Rattle.file_disk.specs.FileCalls.{FileCall, ReadAt, WriteAt, SyncAll, Notes};
 
 use cut_disk::Torn;
@@ -23,21 +23,26 @@ pub trait ByteFile {
     /// Its bytes as a read gives them, and for each whether a power cut may change it, if the file tells them.
     ghost told: { Self → Option Told };
 
+    /// How many bytes it has, if it tells them. No call changes that.
+    ghost size: { Self → ℕ };
+
     /// Fills `out` with the bytes from the offset `at` on. A file that ends before the range does fails.
     fn read_at(&mut self, at: u64, out: &mut [u8]) -> Result<(), FileFailed>
-        requires inside { IsInside at (length out.old) (told self.old) }
+        requires inside { IsSome (told self.old) → at + length out.old ≤ size self.old }
         ensures open { is_open self.new ≡ is_open self.old }
         ensures closed { is_open self.old ≡ false → IsErr result }
         ensures notes { Notes (ReadAt at out.new (is_ok result)) (calls self.old) (calls self.new) }
+        ensures sized { size self.new ≡ size self.old }
         ensures same { told self.new ≡ told self.old }
         ensures bytes { OnOk result (ReadsAs (told self.old) at out.new) };
 
     /// Writes the bytes from the offset `at` on.
     fn write_at(&mut self, at: u64, bytes: &[u8]) -> Result<(), FileFailed>
-        requires inside { IsInside at (length bytes.now) (told self.old) }
+        requires inside { IsSome (told self.old) → at + length bytes.now ≤ size self.old }
         ensures open { is_open self.new ≡ is_open self.old }
         ensures closed { is_open self.old ≡ false → IsErr result }
         ensures notes { Notes (WriteAt at bytes.now (is_ok result)) (calls self.old) (calls self.new) }
+        ensures sized { size self.new ≡ size self.old }
         ensures tells { is_some (told self.new) ≡ is_some (told self.old) }
         ensures written { OnOk result (WritesLoose at bytes.now (told self.old) (told self.new)) }
         ensures torn { OnErr result (Tears at (length bytes.now) (told self.old) (told self.new)) };
@@ -47,6 +52,7 @@ pub trait ByteFile {
         ensures open { is_open self.new ≡ is_open self.old }
         ensures closed { is_open self.old ≡ false → IsErr result }
         ensures notes { Notes (SyncAll (is_ok result)) (calls self.old) (calls self.new) }
+        ensures sized { size self.new ≡ size self.old }
         ensures tells { is_some (told self.new) ≡ is_some (told self.old) }
         ensures synced { OnOk result (Syncs (told self.old) (told self.new)) }
         ensures same { OnErr result (told self.new ≡ told self.old) };
@@ -54,9 +60,10 @@ pub trait ByteFile {
     /// A write of these bytes that its disk was made to fail: it isn't made. A file that tells its bytes tells of the range
     /// what a write that failed leaves.
     fn lose_write(&mut self, at: u64, bytes: &[u8])
-        requires inside { IsInside at (length bytes.now) (told self.old) }
+        requires inside { IsSome (told self.old) → at + length bytes.now ≤ size self.old }
         ensures open { is_open self.new ≡ is_open self.old }
         ensures uncalled { calls self.new ≡ calls self.old }
+        ensures sized { size self.new ≡ size self.old }
         ensures tells { is_some (told self.new) ≡ is_some (told self.old) }
         ensures torn { Tears at (length bytes.now) (told self.old) (told self.new) };
 
@@ -64,6 +71,10 @@ pub trait ByteFile {
     fn lose_power(&mut self, torn: Torn)
         ensures open { is_open self.new ≡ is_open self.old }
         ensures uncalled { calls self.new ≡ calls self.old }
+        ensures sized { size self.new ≡ size self.old }
         ensures tells { is_some (told self.new) ≡ is_some (told self.old) }
         ensures left { CutsTo (told self.old) (told self.new) };
+
+    /// What holds of every file.
+    ghost is_file: { (file : Self) → TellsSize (size file) (told file) };
 }

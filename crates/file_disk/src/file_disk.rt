@@ -1,11 +1,10 @@
 //! The disk over a file.
-ghost use Rattle.std.specs.Prelude.{◌≡◌, ◌+◌, ◌^◌, ◌<◌, ◌≤◌, length, Some, None, false, not, is_ok, if◌then◌else◌, OnOk, OnErr};
+ghost use Rattle.std.specs.Prelude.{◌≡◌, ◌+◌, ◌^◌, ◌<◌, ◌≤◌, length, Some, None, false, not, is_ok, if◌then◌else◌, IsSome, OnOk, OnErr};
 ghost use Rattle.fault_count.specs.FaultCount.{last_count, counted};
 ghost use Rattle.cut_disk.specs.State.{Cut, Stop, Fail};
 ghost use Rattle.cut_disk.specs.Arming.{fails, after_cut, with_stop, with_fail};
 ghost use Rattle.cut_disk.specs.Images.{ReadsAs, WritesLoose, Tears, Syncs, CutsTo};
 ghost use Rattle.cut_disk.specs.Calls.{Call};
-ghost use Rattle.file_disk.specs.FileBytes.{TellsSize};
 ghost use Rattle.file_disk.specs.FileCalls.{ReadAt, WriteAt, SyncAll};
 
 use crate::byte_file::{ByteFile, FileFailed};
@@ -25,7 +24,7 @@ pub struct FileDisk<F: ByteFile = SystemFile> {
     faults: u64,
     ghost sized: { size < 2 ^ 64 },
     ghost all_counted: { faults ≤ last_count },
-    ghost as_told: { TellsSize size (F.told file) },
+    ghost as_told: { IsSome (F.told file) → F.size file ≡ size },
 }
 
 impl FileDisk<SystemFile> {
@@ -50,7 +49,7 @@ impl<F: ByteFile> FileDisk<F> {
 
     /// A disk over the first so many bytes of this file, which are all that it tells, if it tells any.
     pub fn over(file: F, size: u64) -> FileDisk<F>
-        requires { TellsSize size (F.told file) }
+        requires { IsSome (F.told file) → F.size file ≡ size }
         ensures { file_contents result ≡ fresh_file_disk size (F.is_open file) (F.calls file) (F.told file) }
     {
         FileDisk {
@@ -85,6 +84,7 @@ fn count_outcome(faults: &mut u64, outcome: Result<(), FileFailed>) -> Result<()
 impl<F: ByteFile> Disk for FileDisk<F> {
     ghost use Rattle.file_disk.specs.FileDisk.{file_contents, file_disk_of, Passes};
     ghost use Rattle.file_disk.specs.FileLaws.{file_is_a_disk};
+    ghost use Rattle.file_disk.specs.SizeLaws.{tells_this_size};
 
     ghost state = { λ disk. file_disk_of (file_contents disk) };
 
@@ -135,7 +135,8 @@ impl<F: ByteFile> Disk for FileDisk<F> {
         count_outcome(&mut self.faults, outcome)
     }
 
-    ghost is_disk = { λ disk. file_is_a_disk (file_contents disk) disk.sized disk.all_counted disk.as_told };
+    ghost is_disk = { λ disk. file_is_a_disk (file_contents disk) disk.sized disk.all_counted
+        (tells_this_size (F.is_file disk.file) disk.as_told) };
 }
 
 impl<F: ByteFile> CutDisk for FileDisk<F> {

@@ -99,11 +99,15 @@ impl SystemFile {
 }
 
 impl ByteFile for SystemFile {
+    ghost use Rattle.file_disk.specs.SizeLaws.{nothing_told};
+
     ghost is_open = { λ file. is_there file };
 
     ghost calls = { λ _. None };
 
     ghost told = { λ _. None };
+
+    ghost size = { λ _. 0 };
 
     fn read_at(&mut self, at: u64, out: &mut [u8]) -> Result<(), FileFailed>
         ensures open { is_there self.new ≡ is_there self.old }
@@ -147,6 +151,8 @@ impl ByteFile for SystemFile {
     fn lose_power(&mut self, _torn: Torn)
         ensures as_before { self.new ≡ self.old }
     {}
+
+    ghost is_file = { λ _. nothing_told };
 }
 
 /// Opens the file, or makes it, and syncs it and its folder: what a program that was killed has left is then what

@@ -1,7 +1,0 @@
-use Rattle.std.proofs.Common.{length}
-use Rattle.cross_tests.proofs.Rooms.{has_room}
-use Rattle.cross_tests.proofs.told_files.DiskFileByteFile.read_at.Goals as goal
-
-pub read-requires : goal.read-requires
-read-requires g c =
-    record { inside = has_room c.args.at (length c.args.out.now) (g.met.D.Disk.is_disk c.args.self.now.disk) c.args.self.now.tells c.requires.inside }
