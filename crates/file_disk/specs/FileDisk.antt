@@ -31,8 +31,9 @@ fresh_file_disk size is_open calls told =
 abbrev pub counted_call : FileContents → FileContents
 counted_call c = record c { arms = after_call c.arms; faults = faults_after c.arms c.faults }
 
--- A call of the disk, which is Ok or not: it was counted, and its failure too; where it was armed to fail it did, and the file wasn't
--- touched; otherwise this one call of the file was made, with the same outcome. Where there is no file it failed.
+-- A call of the disk, which is Ok or not: it was counted, and its failure too; where it was armed to fail it did, and the file was
+-- neither read, written nor synced; otherwise this one call of the file was made, with the same outcome. Where there is no
+-- file it failed.
 pub record Passes (call : FileCall) (ok : Bool) (old new : FileContents) : Type 0 where
   pub size : new.size ≡ old.size
   pub arms : new.arms ≡ after_call old.arms

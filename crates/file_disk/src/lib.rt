@@ -2,7 +2,7 @@
 //!
 //! [`FileDisk`] is a [`Disk`](cut_disk::Disk) that passes each call on to a [`ByteFile`]. What is proved is what it passes on: which
 //! call of the file, over which range and with which bytes; that it answers Ok exactly where that call did, and failed
-//! and raised its count where it didn't; and that a call that is armed to fail makes no call of the file's that counts.
+//! and raised its count where it didn't; and that a call that is armed to fail makes no read, write or sync of the file.
 //!
 //! A [`ByteFile`] may tell its bytes, and which of them a power cut may change. One that does keeps the model of disks, and the disk
 //! over it tells just these: so all that is promised over disks that tell their bytes is promised of a disk over such a file.
