@@ -1,7 +1,7 @@
 //! Whole replays over disks and ports in memory: what a program over disks of its own can't show. What it can is a row of checks/.
 use crate::comparing::{holds, same};
 use crate::lines::{BUS, clean, does, ending, sink_of};
-use cut_disk::{CutDisk, Disk, DiskFailed, MemDisk, TapeDisk, Torn};
+use cut_disk::{CutDisk, Disk, DiskFailed, MemDisk, TapeDisk};
 use file_disk::{ByteFile, FileDisk, FileFailed};
 use std::alloc::{AllocError, Global};
 use std::process::Abort;
@@ -244,15 +244,12 @@ struct WornFile {
 
 impl ByteFile for WornFile {
     ghost use Rattle.std.specs.Prelude.{true, None};
-    ghost use Rattle.file_disk.specs.SizeLaws.{nothing_told};
 
     ghost is_open = { λ _. true };
 
     ghost calls = { λ _. None };
 
     ghost told = { λ _. None };
-
-    ghost size = { λ _. 0 };
 
     fn read_at(&mut self, at: u64, out: &mut [u8]) -> Result<(), FileFailed> {
         for (place, byte) in out.iter_mut().enumerate() {
@@ -279,12 +276,6 @@ impl ByteFile for WornFile {
     fn sync_all(&mut self) -> Result<(), FileFailed> {
         Ok(())
     }
-
-    fn lose_write(&mut self, _at: u64, _bytes: &[u8]) {}
-
-    fn lose_power(&mut self, _torn: Torn) {}
-
-    ghost is_file = { λ _. nothing_told };
 }
 
 /// Over disks that tell no bytes, and read otherwise than they were written: of the second node the first byte of the header, the mark of a copy

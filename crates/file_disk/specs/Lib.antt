@@ -2,5 +2,4 @@ pub mod FileBytes
 pub mod FileCalls
 pub mod FileDisk
 pub mod FileLaws
-pub mod SizeLaws
 pub mod SystemFile

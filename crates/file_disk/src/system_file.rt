@@ -4,7 +4,6 @@ ghost use Rattle.file_disk.specs.FileCalls.{ReadAt, WriteAt, SyncAll, Notes};
 ghost use Rattle.file_disk.specs.SystemFile.{is_there, length_of, has_failed};
 
 use crate::byte_file::{ByteFile, FileFailed};
-use cut_disk::Torn;
 use std::fs::{File, OpenOptions};
 use std::io::ErrorKind;
 use std::os::unix::fs::{FileExt, OpenOptionsExt};
@@ -99,15 +98,11 @@ impl SystemFile {
 }
 
 impl ByteFile for SystemFile {
-    ghost use Rattle.file_disk.specs.SizeLaws.{nothing_told};
-
     ghost is_open = { λ file. is_there file };
 
     ghost calls = { λ _. None };
 
     ghost told = { λ _. None };
-
-    ghost size = { λ _. 0 };
 
     fn read_at(&mut self, at: u64, out: &mut [u8]) -> Result<(), FileFailed>
         ensures open { is_there self.new ≡ is_there self.old }
@@ -142,17 +137,6 @@ impl ByteFile for SystemFile {
         self.failed = outcome.is_err();
         outcome
     }
-
-    fn lose_write(&mut self, _at: u64, _bytes: &[u8])
-        ensures as_before { self.new ≡ self.old }
-    {}
-
-    // The sync before it has made all that was written reach the device, or each further call fails.
-    fn lose_power(&mut self, _torn: Torn)
-        ensures as_before { self.new ≡ self.old }
-    {}
-
-    ghost is_file = { λ _. nothing_told };
 }
 
 /// Opens the file, or makes it, and syncs it and its folder: what a program that was killed has left is then what
