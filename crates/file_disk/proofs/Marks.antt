@@ -32,19 +32,19 @@ reads_marked (Some bytes) at out gives t is =
     rw (← same) (gives bytes refl)
 
 -- a range of the disk lies in what its file tells
-pub inside_told : {size at count : ℕ} {told : Option (List ℕ)} → TellsSize size told → at + count ≤ size → IsInside at count told
-inside_told tells inside bytes is = let sized = tells bytes is in omega (arith, sized, inside)
+pub inside_told : {size : ℕ} {told : Option (List ℕ)} (at count : ℕ) → TellsSize size told → at + count ≤ size → IsInside at count told
+inside_told at count tells inside bytes is = let sized = tells bytes is in omega (arith, sized, inside)
 
 -- a write that is done, and none at all, put something in the range
-pub any_of_put : {old new : Option (List ℕ)} {at : ℕ} {put : List ℕ} → PutsBytes at put old new → PutsAny at (length put) old new
-any_of_put {at = at} {put = put} puts bytes is = record {
+pub any_of_put : {old new : Option (List ℕ)} (at : ℕ) (put : List ℕ) → PutsBytes at put old new → PutsAny at (length put) old new
+any_of_put at put puts bytes is = record {
   bytes = splice at put bytes;
   patched = record { left = put; sized = refl; is = refl };
   now = puts bytes is;
 }
 
-pub any_of_same : {old new : Option (List ℕ)} {at count : ℕ} → new ≡ old → IsInside at count old → PutsAny at count old new
-any_of_same {at = at} {count = count} same inside bytes is = record {
+pub any_of_same : {old new : Option (List ℕ)} (at count : ℕ) → new ≡ old → IsInside at count old → PutsAny at count old new
+any_of_same at count same inside bytes is = record {
   bytes = bytes;
   patched = patched_alike at count bytes bytes (inside bytes is) refl (λ i h. refl) (λ i h l. refl);
   now = same ∙ is;
@@ -54,59 +54,65 @@ any_of_same {at = at} {count = count} same inside bytes is = record {
 pub tells_same : {size : ℕ} {old new : Option (List ℕ)} → new ≡ old → TellsSize size old → TellsSize size new
 tells_same same tells bytes is = tells bytes (sym same ∙ is)
 
-pub tells_put : {size at count : ℕ} (old : Option (List ℕ)) {new : Option (List ℕ)} → is_some new ≡ is_some old → PutsAny at count old new
+same_bytes : {new : Option (List ℕ)} {b c : List ℕ} → new ≡ Some b → new ≡ Some c → b ≡ c
+same_bytes p q = cc
+
+pub tells_put : {size count : ℕ} (at : ℕ) (old : Option (List ℕ)) {new : Option (List ℕ)} → is_some new ≡ is_some old → PutsAny at count old new
     → at + count ≤ size → TellsSize size old → TellsSize size new
-tells_put None some puts inside tells bytes is = absurd (false≢true (sym some ∙ ap is_some is))
-tells_put {at = at} (Some b) {new} some puts inside tells bytes is =
+tells_put at None some puts inside tells bytes is = absurd (false≢true (sym some ∙ ap is_some is))
+tells_put at (Some b) some puts inside tells bytes is =
     let p = puts b refl in
-    let now = p.now in
-    let same : p.bytes ≡ bytes = cc in
     let sized = tells b refl in
     let few = p.patched.sized in
-    ap length (sym same ∙ p.patched.is) ∙ length-splice at p.patched.left b (omega (arith, sized, few, inside)) ∙ sized
+    ap length (sym (same_bytes p.now is) ∙ p.patched.is) ∙ length-splice at p.patched.left b (omega (arith, sized, few, inside)) ∙ sized
+
+told_alike : {b c : List ℕ} {l m : List Bool} → b ≡ c → l ≡ m → with_marks (Some b) l ≡ with_marks (Some c) m
+told_alike p q = rw (p, q) refl
 
 -- what was put in the range, and that this is loose
-put_marked : {at : ℕ} {new : Option (List ℕ)} {before after : List Bool} {bytes left : List ℕ} (t : Told) → bytes ≡ t.bytes → before ≡ t.loose
+put_marked : {new : Option (List ℕ)} {before : List Bool} {bytes : List ℕ} (at : ℕ) (left : List ℕ) (after : List Bool) (t : Told) → bytes ≡ t.bytes → before ≡ t.loose
     → new ≡ Some (splice at left bytes) → after ≡ splice at (replicate (length left) true) before → with_marks new after ≡ Some (with_bytes at left t)
-put_marked t b l is marks = rw (← b, ← l, is, marks) refl
+put_marked at left after t b l is marks =
+    ap (λ o. with_marks o after) is ∙ told_alike (ap (splice at left) b) (marks ∙ ap (splice at (replicate (length left) true)) l)
 
-pub written_marked : (old : Option (List ℕ)) {new : Option (List ℕ)} {before after : List Bool} (at : ℕ) (put : List ℕ) → PutsBytes at put old new
+pub written_marked : (old : Option (List ℕ)) {new : Option (List ℕ)} (before after : List Bool) (at : ℕ) (put : List ℕ) → PutsBytes at put old new
     → after ≡ splice at (replicate (length put) true) before → WritesLoose at put (with_marks old before) (with_marks new after)
-written_marked None at put puts marks t is = absurd (cc)
-written_marked (Some bytes) {before = before} at put puts marks t is =
+written_marked None before after at put puts marks t is = absurd (cc)
+written_marked (Some bytes) before after at put puts marks t is =
     let b : bytes ≡ t.bytes = cc in
     let l : before ≡ t.loose = cc in
-    put_marked t b l (puts bytes refl) marks
+    put_marked at put after t b l (puts bytes refl) marks
 
-pub torn_marked : (old : Option (List ℕ)) {new : Option (List ℕ)} {before after : List Bool} (at count : ℕ) → PutsAny at count old new
+pub torn_marked : (old : Option (List ℕ)) {new : Option (List ℕ)} (before after : List Bool) (at count : ℕ) → PutsAny at count old new
     → after ≡ splice at (replicate count true) before → Tears at count (with_marks old before) (with_marks new after)
-torn_marked None at count puts marks t is = absurd (cc)
-torn_marked (Some bytes) {before = before} at count puts marks t is =
+torn_marked None before after at count puts marks t is = absurd (cc)
+torn_marked (Some bytes) before after at count puts marks t is =
     let b : bytes ≡ t.bytes = cc in
     let l : before ≡ t.loose = cc in
     let p = puts bytes refl in
     record {
       left = p.patched.left;
       sized = p.patched.sized;
-      now = put_marked t b l (p.now ∙ ap (λ y. Some y) p.patched.is) (marks ∙ ap (λ n. splice at (replicate n true) before) (sym p.patched.sized));
+      now = put_marked at p.patched.left after t b l (p.now ∙ ap (λ y. Some y) p.patched.is) (marks ∙ ap (λ n. splice at (replicate n true) before) (sym p.patched.sized));
     }
 
 -- the bytes as before, and none of them loose
-firm_marked : {new : Option (List ℕ)} {after : List Bool} {bytes : List ℕ} (t : Told) → bytes ≡ t.bytes → new ≡ Some bytes
+firm_marked : {new : Option (List ℕ)} {bytes : List ℕ} (after : List Bool) (t : Told) → bytes ≡ t.bytes → new ≡ Some bytes
     → after ≡ replicate (length bytes) false → with_marks new after ≡ Some (firm t.bytes)
-firm_marked t b is marks = rw (← b, is, marks) refl
+firm_marked after t b is marks =
+    ap (λ o. with_marks o after) is ∙ told_alike b (marks ∙ ap (λ x. replicate (length x) false) b)
 
-pub synced_marked : {size : ℕ} (old : Option (List ℕ)) {new : Option (List ℕ)} {before after : List Bool} → new ≡ old → TellsSize size old
+pub synced_marked : {size : ℕ} (old : Option (List ℕ)) {new : Option (List ℕ)} {before : List Bool} (after : List Bool) → new ≡ old → TellsSize size old
     → after ≡ replicate size false → Syncs (with_marks old before) (with_marks new after)
-synced_marked None same tells marks t is = absurd (cc)
-synced_marked (Some bytes) same tells marks t is =
+synced_marked None after same tells marks t is = absurd (cc)
+synced_marked (Some bytes) after same tells marks t is =
     let b : bytes ≡ t.bytes = cc in
-    firm_marked t b same (marks ∙ ap (λ n. replicate n false) (sym (tells bytes refl)))
+    firm_marked after t b same (marks ∙ ap (λ n. replicate n false) (sym (tells bytes refl)))
 
-pub cut_marked : {size : ℕ} (old : Option (List ℕ)) {new : Option (List ℕ)} {before after : List Bool} → new ≡ old → TellsSize size old
+pub cut_marked : {size : ℕ} (old : Option (List ℕ)) {new : Option (List ℕ)} {before : List Bool} (after : List Bool) → new ≡ old → TellsSize size old
     → after ≡ replicate size false → CutsTo (with_marks old before) (with_marks new after)
-cut_marked old same tells marks t is = record {
+cut_marked old after same tells marks t is = record {
   left = t.bytes;
   image = image_is_read t;
-  now = synced_marked old same tells marks t is;
+  now = synced_marked old after same tells marks t is;
 }

@@ -14,10 +14,10 @@ marked_bytes (Some bytes) t tells is =
     let same : bytes ≡ t.bytes = cc in
     rw (← same) (tells bytes refl)
 
-pub marked_loose : {size : ℕ} (told : Option (List ℕ)) {loose : List Bool} (t : Told) → length loose ≡ size
+pub marked_loose : {size : ℕ} (told : Option (List ℕ)) (loose : List Bool) (t : Told) → length loose ≡ size
     → with_marks told loose ≡ Some t → length t.loose ≡ size
-marked_loose None t marked is = absurd (cc)
-marked_loose (Some bytes) {loose} t marked is =
+marked_loose None loose t marked is = absurd (cc)
+marked_loose (Some bytes) loose t marked is =
     let same : loose ≡ t.loose = cc in
     rw (← same) marked
 
@@ -28,6 +28,6 @@ file_is_a_disk c told loose tells sized counted as_told marked = record {
   counted = counted;
   quiet = λ q. absurd (false≢true q);
   bytes_sized = λ t is. marked_bytes told t as_told (sym tells ∙ is);
-  loose_sized = λ t is. marked_loose told t marked (sym tells ∙ is);
+  loose_sized = λ t is. marked_loose told loose t marked (sym tells ∙ is);
   now = λ all is. absurd (cc);
 }
