@@ -1,42 +1,26 @@
 -- What a call of a file leaves of the bytes that a disk over it tells.
 use Rattle.std.proofs.Common.{◌≡◌, ℕ, ◌+◌, ◌≤◌, Bool, true, false, List, length, replicate, Option, Some, None, arith, refl, sym, ap, ◌∙◌}
-use Rattle.std.specs.Prelude.{is_some}
+use Rattle.std.specs.Prelude.{Result, Ok, Err, is_some, OnOk, OnErr}
 use Rattle.std.proofs.lemmas.Bool.{false≢true}
 use Rattle.std.proofs.lemmas.List.{length-replicate}
 use Rattle.cut_disk.specs.State.{Told}
-use Rattle.cut_disk.specs.Images.{splice, firm, with_bytes, ReadsAs, WritesLoose, LeavesAny, Tears, Syncs, CutsTo, Patched}
-use Rattle.cut_disk.specs.ImageLaws.{image_is_read, patched_alike}
+use Rattle.cut_disk.specs.Images.{splice, with_bytes, Tears}
+use Rattle.cut_disk.specs.ImageLaws.{patched_alike}
 use Rattle.cut_disk.specs.Splices.{length-splice}
-use Rattle.file_disk.specs.FileBytes.{TellsSize, IsInside, GivesBytes, PutsBytes, PutsAny, with_marks}
-
--- bytes are told where the file tells them
-pub marked_some : (told : Option (List ℕ)) (loose : List Bool) → is_some (with_marks told loose) ≡ is_some told
-marked_some None loose = refl
-marked_some (Some bytes) loose = refl
-
-pub marked_tells : (old new : Option (List ℕ)) (before after : List Bool) → is_some new ≡ is_some old
-    → is_some (with_marks new after) ≡ is_some (with_marks old before)
-marked_tells old new before after same = marked_some new after ∙ same ∙ sym (marked_some old before)
+use Rattle.file_disk.specs.FileBytes.{TellsSize, IsInside, PutsBytes, PutsAny, with_marks}
 
 -- a write makes the marks of its range, and no more of them
-pub marked_more : {size at count : ℕ} {loose after : List Bool} → at + count ≤ size → length loose ≡ size
+pub marked_more : {size : ℕ} (at count : ℕ) (loose : List Bool) {after : List Bool} → at + count ≤ size → length loose ≡ size
     → after ≡ splice at (replicate count true) loose → length after ≡ size
-marked_more {size} {at} {count} {loose} inside marked is =
+marked_more at count loose inside marked is =
     ap length is ∙ length-splice at (replicate count true) loose (omega (arith, marked, inside, length-replicate count true)) ∙ marked
-
--- a file that tells reads as its disk
-pub reads_marked : (told : Option (List ℕ)) {loose : List Bool} (at : ℕ) (out : List ℕ) → GivesBytes at out told → ReadsAs (with_marks told loose) at out
-reads_marked None at out gives t is = absurd (cc)
-reads_marked (Some bytes) at out gives t is =
-    let same : bytes ≡ t.bytes = cc in
-    rw (← same) (gives bytes refl)
 
 -- a range of the disk lies in what its file tells
 pub inside_told : {size : ℕ} {told : Option (List ℕ)} (at count : ℕ) → TellsSize size told → at + count ≤ size → IsInside at count told
 inside_told at count tells inside bytes is = let sized = tells bytes is in omega (arith, sized, inside)
 
 -- a write that is done, and none at all, put something in the range
-pub any_of_put : {old new : Option (List ℕ)} (at : ℕ) (put : List ℕ) → PutsBytes at put old new → PutsAny at (length put) old new
+any_of_put : {old new : Option (List ℕ)} (at : ℕ) (put : List ℕ) → PutsBytes at put old new → PutsAny at (length put) old new
 any_of_put at put puts bytes is = record {
   bytes = splice at put bytes;
   patched = record { left = put; sized = refl; is = refl };
@@ -50,9 +34,10 @@ any_of_same at count same inside bytes is = record {
   now = same ∙ is;
 }
 
--- no call changes the number of bytes
-pub tells_same : {size : ℕ} {old new : Option (List ℕ)} → new ≡ old → TellsSize size old → TellsSize size new
-tells_same same tells bytes is = tells bytes (sym same ∙ is)
+pub any_of_either : {V E : Type 0} {old new : Option (List ℕ)} (at : ℕ) (put : List ℕ) (r : Result V E) → OnOk r (PutsBytes at put old new)
+    → OnErr r (PutsAny at (length put) old new) → PutsAny at (length put) old new
+any_of_either at put (Ok v) puts torn = any_of_put at put puts
+any_of_either at put (Err e) puts torn = torn
 
 same_bytes : {new : Option (List ℕ)} {b c : List ℕ} → new ≡ Some b → new ≡ Some c → b ≡ c
 same_bytes p q = cc
@@ -75,15 +60,7 @@ put_marked : {new : Option (List ℕ)} {before : List Bool} {bytes : List ℕ} (
 put_marked at left after t b l is marks =
     ap (λ o. with_marks o after) is ∙ told_alike (ap (splice at left) b) (marks ∙ ap (splice at (replicate (length left) true)) l)
 
-pub written_marked : (old : Option (List ℕ)) {new : Option (List ℕ)} (before after : List Bool) (at : ℕ) (put : List ℕ) → PutsBytes at put old new
-    → after ≡ splice at (replicate (length put) true) before → WritesLoose at put (with_marks old before) (with_marks new after)
-written_marked None before after at put puts marks t is = absurd (cc)
-written_marked (Some bytes) before after at put puts marks t is =
-    let b : bytes ≡ t.bytes = cc in
-    let l : before ≡ t.loose = cc in
-    put_marked at put after t b l (puts bytes refl) marks
-
-pub torn_marked : (old : Option (List ℕ)) {new : Option (List ℕ)} (before after : List Bool) (at count : ℕ) → PutsAny at count old new
+torn_marked : (old : Option (List ℕ)) {new : Option (List ℕ)} (before after : List Bool) (at count : ℕ) → PutsAny at count old new
     → after ≡ splice at (replicate count true) before → Tears at count (with_marks old before) (with_marks new after)
 torn_marked None before after at count puts marks t is = absurd (cc)
 torn_marked (Some bytes) before after at count puts marks t is =
@@ -96,23 +73,21 @@ torn_marked (Some bytes) before after at count puts marks t is =
       now = put_marked at p.patched.left after t b l (p.now ∙ ap (λ y. Some y) p.patched.is) (marks ∙ ap (λ n. splice at (replicate n true) before) (sym p.patched.sized));
     }
 
--- the bytes as before, and none of them loose
-firm_marked : {new : Option (List ℕ)} {bytes : List ℕ} (after : List Bool) (t : Told) → bytes ≡ t.bytes → new ≡ Some bytes
-    → after ≡ replicate (length bytes) false → with_marks new after ≡ Some (firm t.bytes)
-firm_marked after t b is marks =
-    ap (λ o. with_marks o after) is ∙ told_alike b (marks ∙ ap (λ x. replicate (length x) false) b)
+same_told : {x y : Told} → Some x ≡ Some y → x ≡ y
+same_told p = cc
 
-pub synced_marked : {size : ℕ} (old : Option (List ℕ)) {new : Option (List ℕ)} {before : List Bool} (after : List Bool) → new ≡ old → TellsSize size old
-    → after ≡ replicate size false → Syncs (with_marks old before) (with_marks new after)
-synced_marked None after same tells marks t is = absurd (cc)
-synced_marked (Some bytes) after same tells marks t is =
-    let b : bytes ≡ t.bytes = cc in
-    firm_marked after t b same (marks ∙ ap (λ n. replicate n false) (sym (tells bytes refl)))
+-- what a write left, of whatever answer, where the disk told the bytes of the file before it with these marks
+pub tears_after : (old mid : Option (List ℕ)) {new : Option (List ℕ)} (before marks after : List Bool) (at count : ℕ)
+    → with_marks mid after ≡ with_marks old marks → PutsAny at count mid new → marks ≡ splice at (replicate count true) before
+    → Tears at count (with_marks old before) (with_marks new after)
+tears_after None mid before marks after at count same puts loosened t is = absurd (cc)
+tears_after (Some bytes) None before marks after at count same puts loosened t is = absurd (cc)
+tears_after (Some bytes) (Some mid) before marks after at count same puts loosened t is =
+    let both = same_told same in
+    let b : mid ≡ bytes = ap (λ (x : Told). x.bytes) both in
+    let l : after ≡ marks = ap (λ (x : Told). x.loose) both in
+    torn_marked (Some mid) before after at count puts (l ∙ loosened) t (ap (λ x. with_marks (Some x) before) b ∙ is)
 
-pub cut_marked : {size : ℕ} (old : Option (List ℕ)) {new : Option (List ℕ)} {before : List Bool} (after : List Bool) → new ≡ old → TellsSize size old
-    → after ≡ replicate size false → CutsTo (with_marks old before) (with_marks new after)
-cut_marked old after same tells marks t is = record {
-  left = t.bytes;
-  image = image_is_read t;
-  now = synced_marked old after same tells marks t is;
-}
+pub on_err : {V E P : Type 0} (r : Result V E) → P → OnErr r P
+on_err (Ok v) p = tt
+on_err (Err e) p = p

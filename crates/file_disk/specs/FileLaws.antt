@@ -7,10 +7,10 @@ use Rattle.cut_disk.specs.Calls.{IsDisk}
 use Rattle.file_disk.specs.FileBytes.{TellsSize, with_marks}
 use Rattle.file_disk.specs.FileDisk.{FileContents, file_disk_of}
 
-pub marked_bytes : {size : ℕ} (told : Option (List ℕ)) {loose : List Bool} (t : Told) → TellsSize size told
+pub marked_bytes : {size : ℕ} (told : Option (List ℕ)) (loose : List Bool) (t : Told) → TellsSize size told
     → with_marks told loose ≡ Some t → length t.bytes ≡ size
-marked_bytes None t tells is = absurd (cc)
-marked_bytes (Some bytes) t tells is =
+marked_bytes None loose t tells is = absurd (cc)
+marked_bytes (Some bytes) loose t tells is =
     let same : bytes ≡ t.bytes = cc in
     rw (← same) (tells bytes refl)
 
@@ -27,7 +27,7 @@ file_is_a_disk c told loose tells sized counted as_told marked = record {
   sized = sized;
   counted = counted;
   quiet = λ q. absurd (false≢true q);
-  bytes_sized = λ t is. marked_bytes told t as_told (sym tells ∙ is);
+  bytes_sized = λ t is. marked_bytes told loose t as_told (sym tells ∙ is);
   loose_sized = λ t is. marked_loose told loose t marked (sym tells ∙ is);
   now = λ all is. absurd (cc);
 }

@@ -4,6 +4,7 @@ ghost use Rattle.std.specs.Prelude.{◌≡◌, ◌∷◌};
 use boxcar::tag::{Names, Tag};
 
 /// One write more.
+#[derive(Drop)]
 struct Write<'a> {
     earlier: &'a Tag,
     at: u64,
