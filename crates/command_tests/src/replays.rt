@@ -2,7 +2,7 @@
 use crate::comparing::{holds, same};
 use crate::lines::{BUS, clean, does, ending, sink_of};
 use bus_port::MemSink;
-use cut_disk::{CutDisk, Disk, DiskFailed, MemDisk, TapeDisk, Torn};
+use cut_disk::{CutDisk, Disk, DiskFailed, MemDisk, TapeDisk};
 use file_disk::{ByteFile, FileDisk, FileFailed};
 use std::alloc::{AllocError, Global};
 use std::process::Abort;
@@ -355,10 +355,6 @@ impl ByteFile for WornFile {
     fn sync_all(&mut self) -> Result<(), FileFailed> {
         Ok(())
     }
-
-    fn lose_write(&mut self, _at: u64, _bytes: &[u8]) {}
-
-    fn lose_power(&mut self, _torn: Torn) {}
 }
 
 /// A layout, the address and the byte that the second disk reads there, the status and the text: the first byte of the header, the mark of a

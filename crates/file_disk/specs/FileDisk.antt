@@ -1,5 +1,5 @@
 -- A disk over a file: what it means, and what a call of it does.
-use Rattle.std.specs.Prelude.{◌≡◌, ℕ, Bool, true, false, if◌then◌else◌, List, Option, None}
+use Rattle.std.specs.Prelude.{◌≡◌, ℕ, Bool, true, false, if◌then◌else◌, List, replicate, Option, None}
 use Rattle.fault_count.specs.FaultCount.{counted}
 use Rattle.cut_disk.specs.declared.arming.Arms.{Arms}
 use Rattle.cut_disk.specs.State.{Told, DiskState}
@@ -7,9 +7,11 @@ use Rattle.cut_disk.specs.Arming.{no_arms, fails, after_call, after_cut}
 use Rattle.cut_disk.specs.Memory.{faults_after}
 use Rattle.file_disk.specs.declared.byte_file.ByteFile.{Ghosts}
 use Rattle.file_disk.specs.declared.file_disk.FileDisk.{FileDisk}
+use Rattle.file_disk.specs.FileBytes.{loose_since, with_marks}
 use Rattle.file_disk.specs.FileCalls.{FileCall, SyncAll, Notes}
 
--- the size, which calls are to fail, how many have failed, whether there is a file, its calls and its bytes, if it tells them
+-- the size, which calls are to fail, how many have failed, whether there is a file, its calls, if it tells them, and its bytes
+-- with the loose marks, if it tells those
 pub record FileContents : Type 0 where
   pub size : ℕ
   pub arms : Arms
@@ -18,14 +20,21 @@ pub record FileContents : Type 0 where
   pub calls : Option (List FileCall)
   pub told : Option Told
 
--- what the disk means: it tells what its file tells, and no past, and is never quiet
+-- what the disk means: it tells the bytes that its file tells, and no past, and is never quiet
 abbrev pub file_disk_of : FileContents → DiskState
 file_disk_of c = record { size = c.size; told = c.told; arms = c.arms; faults = c.faults; quiet = false; past = None }
 
--- nothing is armed, and nothing has failed
-abbrev pub fresh_file_disk : ℕ → Bool → Option (List FileCall) → Option Told → FileContents
+-- nothing is armed, nothing has failed, and no byte is loose
+abbrev pub fresh_file_disk : ℕ → Bool → Option (List FileCall) → Option (List ℕ) → FileContents
 fresh_file_disk size is_open calls told =
-    record { size = size; arms = no_arms; faults = 0; is_open = is_open; calls = calls; told = told }
+    record {
+      size = size;
+      arms = no_arms;
+      faults = 0;
+      is_open = is_open;
+      calls = calls;
+      told = with_marks told (replicate size false);
+    }
 
 -- one call was counted, and its failure where it was armed to fail
 abbrev pub counted_call : FileContents → FileContents
@@ -62,5 +71,5 @@ file_contents {F} {g} disk =
       faults = disk.faults;
       is_open = g.is_open disk.file;
       calls = g.calls disk.file;
-      told = g.told disk.file;
+      told = with_marks (g.told disk.file) (loose_since disk.size disk.written.numbers);
     }

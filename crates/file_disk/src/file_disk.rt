@@ -5,17 +5,19 @@ ghost use Rattle.cut_disk.specs.State.{Cut, Stop, Fail};
 ghost use Rattle.cut_disk.specs.Arming.{fails, after_cut, with_stop, with_fail};
 ghost use Rattle.cut_disk.specs.Images.{ReadsAs, WritesLoose, Tears, Syncs, CutsTo};
 ghost use Rattle.cut_disk.specs.Calls.{Call};
-ghost use Rattle.file_disk.specs.FileBytes.{TellsSize};
+ghost use Rattle.file_disk.specs.FileBytes.{TellsSize, loose_since};
 ghost use Rattle.file_disk.specs.FileCalls.{ReadAt, WriteAt, SyncAll};
 
 use crate::byte_file::{ByteFile, FileFailed};
 use crate::system_file::SystemFile;
+use crate::writes::with_write;
+use boxcar::tag::Tag;
 use cut_disk::{Arms, CutDisk, Disk, DiskFailed, Torn, count_call};
 use fault_count::count_fault;
 
-/// A disk over one file. It tells the bytes that its file tells, if that tells any, and no past, and is never quiet: any call
-/// of the file may fail. A power cut syncs the file, so that what is read behind it is what a cut of the system's own power
-/// leaves; from a file of the system it takes nothing.
+/// A disk over one file. It tells the bytes that its file tells, if that tells any, and no past, and is never quiet: any call of the
+/// file may fail. A byte is loose that was written since the last sync that was Ok. A power cut takes nothing from the file and
+/// syncs it, so that what is read behind it is what a cut of the system's own power leaves.
 #[derive(Drop)]
 pub struct FileDisk<F: ByteFile = SystemFile> {
     file: F,
@@ -23,9 +25,12 @@ pub struct FileDisk<F: ByteFile = SystemFile> {
     arms: Arms,
     /// How many calls have failed, or the last value of a `u64`.
     faults: u64,
+    /// The writes since the last sync that was Ok, done or not. It has no bytes, and proofs alone read it.
+    written: Tag,
     ghost sized: { size < 2 ^ 64 },
     ghost all_counted: { faults ≤ last_count },
     ghost as_told: { TellsSize size (F.told file) },
+    ghost marked: { length (loose_since size written.numbers) ≡ size },
 }
 
 impl FileDisk<SystemFile> {
@@ -58,6 +63,7 @@ impl<F: ByteFile> FileDisk<F> {
             size,
             arms: Arms::none(),
             faults: 0,
+            written: Tag::empty(),
         }
     }
 
@@ -85,6 +91,7 @@ fn count_outcome(faults: &mut u64, outcome: Result<(), FileFailed>) -> Result<()
 impl<F: ByteFile> Disk for FileDisk<F> {
     ghost use Rattle.file_disk.specs.FileDisk.{file_contents, file_disk_of, Passes};
     ghost use Rattle.file_disk.specs.FileLaws.{file_is_a_disk};
+    ghost use Rattle.std.specs.Prelude.{refl};
 
     ghost state = { λ disk. file_disk_of (file_contents disk) };
 
@@ -115,10 +122,8 @@ impl<F: ByteFile> Disk for FileDisk<F> {
         ensures torn { OnErr result
             (Tears at (length bytes.now) (file_contents self.old).told (file_contents self.new).told) }
     {
-        if let Err(failed) = self.count() {
-            self.file.lose_write(at, bytes);
-            return Err(failed);
-        }
+        self.written = with_write(&self.written, at, bytes.len());
+        self.count()?;
         let outcome = self.file.write_at(at, bytes);
         count_outcome(&mut self.faults, outcome)
     }
@@ -132,24 +137,27 @@ impl<F: ByteFile> Disk for FileDisk<F> {
     {
         self.count()?;
         let outcome = self.file.sync_all();
-        count_outcome(&mut self.faults, outcome)
+        count_outcome(&mut self.faults, outcome)?;
+        self.written = Tag::empty();
+        Ok(())
     }
 
-    ghost is_disk = { λ disk. file_is_a_disk (file_contents disk) disk.sized disk.all_counted disk.as_told };
+    ghost is_disk = { λ disk. file_is_a_disk (file_contents disk) (F.told disk.file)
+        (loose_since disk.size disk.written.numbers) refl disk.sized disk.all_counted disk.as_told disk.marked };
 }
 
 impl<F: ByteFile> CutDisk for FileDisk<F> {
     ghost use Rattle.file_disk.specs.FileDisk.{file_contents, file_disk_of, LosesPower};
 
-    fn power_cut(&mut self, torn: Torn)
-        ensures call { Call (Some (Cut torn)) (file_disk_of (file_contents self.old))
+    fn power_cut(&mut self, _torn: Torn)
+        ensures call { Call (Some (Cut _torn)) (file_disk_of (file_contents self.old))
             (file_disk_of (file_contents self.new)) }
         ensures contents { LosesPower (file_contents self.old) (file_contents self.new) }
         ensures left { CutsTo (file_contents self.old).told (file_contents self.new).told }
     {
         self.arms.cut();
         let _ = self.file.sync_all();
-        self.file.lose_power(torn);
+        self.written = Tag::empty();
     }
 
     fn stop_at(&mut self, calls: u64)

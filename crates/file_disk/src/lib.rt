@@ -2,10 +2,11 @@
 //!
 //! [`FileDisk`] is a [`Disk`](cut_disk::Disk) that passes each call on to a [`ByteFile`]. What is proved is what it passes on: which
 //! call of the file, over which range and with which bytes; that it answers Ok exactly where that call did, and failed
-//! and raised its count where it didn't; and that a call that is armed to fail makes no call of the file's that counts.
+//! and raised its count where it didn't; and that a call that is armed to fail doesn't touch the file.
 //!
-//! A [`ByteFile`] may tell its bytes, and which of them a power cut may change. One that does keeps the model of disks, and the disk
-//! over it tells just these: so all that is promised over disks that tell their bytes is promised of a disk over such a file.
+//! A [`ByteFile`] may tell its bytes. One that does reads as it was written, and the disk over it tells these bytes: so what is promised
+//! over disks that tell their bytes is promised of a disk over such a file. A byte of it is loose that was written since the last
+//! sync that was Ok.
 //!
 //! [`SystemFile`] is a file of the system, and the trusted edge: it tells nothing, and no clause says what such a file holds, or when
 //! its calls fail. A read is `pread`, a write `fstat` and `pwrite`, a sync `fstat` and `fsync`, each again until the whole range is done or
@@ -17,6 +18,7 @@ mod byte_file;
 mod file_disk;
 pub mod laws;
 mod system_file;
+mod writes;
 
 pub use byte_file::{ByteFile, FileFailed};
 pub use file_disk::FileDisk;

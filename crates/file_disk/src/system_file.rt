@@ -4,7 +4,6 @@ ghost use Rattle.file_disk.specs.FileCalls.{ReadAt, WriteAt, SyncAll, Notes};
 ghost use Rattle.file_disk.specs.SystemFile.{is_there, length_of, has_failed};
 
 use crate::byte_file::{ByteFile, FileFailed};
-use cut_disk::Torn;
 use std::fs::{File, OpenOptions};
 use std::io::ErrorKind;
 use std::os::unix::fs::{FileExt, OpenOptionsExt};
@@ -138,15 +137,6 @@ impl ByteFile for SystemFile {
         self.failed = outcome.is_err();
         outcome
     }
-
-    fn lose_write(&mut self, _at: u64, _bytes: &[u8])
-        ensures as_before { self.new ≡ self.old }
-    {}
-
-    // The sync before it has made all that was written reach the device, or each further call fails.
-    fn lose_power(&mut self, _torn: Torn)
-        ensures as_before { self.new ≡ self.old }
-    {}
 }
 
 /// Opens the file, or makes it, and syncs it and its folder: what a program that was killed has left is then what
