@@ -12,9 +12,9 @@
 --
 -- A count of faults never falls, and is full at its last value. A row is a status with its text. A cut is a power cut,
 -- which may leave anything of bytes that aren't synced. An event may arm a disk, so that calls of it fail; a quiet disk
--- has nothing armed, and no call fails by itself. The past of a disk has each state that a call left, where it tells
--- it. A slot holds a key, with the counter of its last update. A route is a Data ID that a node sends or receives; its
--- kept bound, a reserve ahead of its counter, is what the counter begins again at after a cut.
+-- has nothing armed, and no call of it fails by itself. The past of a disk has each state that a call left, where it
+-- tells it. A slot holds a key, with the counter of its last update. A route is a Data ID that a node sends or
+-- receives; its kept bound, at most a reserve ahead of its counter, is what the counter begins again at after a cut.
 use Rattle.std.specs.Prelude.{◌≡◌, ◌⊎◌, ℕ, ◌<◌, ◌≤◌, List, [], length, take, get_or, All, codes, Some, None}
 use Rattle.std.specs.Prelude.{Result, Ok, Err}
 -- ---- what went in
@@ -63,8 +63,8 @@ use Rattle.text_lines.specs.Readings.{Fault}
 use Rattle.text_lines.specs.Texts.{fault_text_of}
 -- ---- the disks
 -- `CommandDisks`: the disks themselves (`old`, `new`), and what was known of them before and after (`states`).
--- `BusHasDisks`: each node's disk is large enough, tells bytes over which the node can start, and was quiet, or its
--- count of faults neither rose nor is full. `HoldsNoNode`: a node's disk tells bytes over which it can't go on.
+-- `BusHasDisks`: each node's disk is large enough and tells bytes over which the node can start; and it was quiet, or
+-- its count of faults neither rose nor is full. `HoldsNoNode`: a node's disk tells bytes over which it can't go on.
 use Rattle.bus_commands.specs.StartRows.{CommandDisks, HoldsNoNode}
 -- `CountsDiskFault d place`: the count of faults of the disk at this place rose. `failed_row place`: the row that tells
 -- that the disk of the node at this place failed.
@@ -94,11 +94,13 @@ use Rattle.answer_rows.specs.Endings.{CountsWriteFault, SinkFailed}
 use Rattle.bus_commands.specs.Texts.{usage, IsOutput}
 use Rattle.bus_commands.specs.declared.summary.Summary.{Summary}
 use Rattle.bus_commands.specs.Summaries.{summary_of, summary_text}
--- `ReplaysScript`: over disks of any kind, files too, a replay was started and did its first events, `Written` so. Each
--- was a turn of its node alone: a step of the machine, but that a cut over a disk that doesn't tell bytes that fit may
--- leave the node up with whatever its store has, or down. The count of its disk rose (or is full) where the line tells
--- that it failed, and nowhere else. Nothing is undone: the disks are as the last turn left them. `TriesEvents`: a trial
--- did all its events so, and their lines have this summary.
+-- `ReplaysScript`: a valid replay is asked for, and all that it reads was read whole. Over disks of any kind, files
+-- too, it was started, `replay` over disks that it formatted and `node` where its disks stand, and did its first
+-- events, `Written` so. Each was a turn of its node alone: a step of the machine, but that a cut over a disk that
+-- doesn't tell bytes that fit may leave the node up with whatever its store has, or down. The count of its disk rose
+-- (or is full) where the line tells that it failed, and rose nowhere else. Nothing is undone: the disks are as the last
+-- turn left them, or the start, if no event was done. `TriesEvents`: a valid trial did all its events so, and their
+-- lines have this summary.
 use Rattle.bus_commands.specs.Rows.{ReplaysScript, TriesEvents}
 -- `Written .. result moments`: at `Ok` they are all events, and exactly the texts of their lines were written; at an
 -- `Unwritten` those of all but the last, whose event was done, too: of its line a proper front was written
@@ -260,8 +262,8 @@ TaskHasDisks task d = Unit {0}
 
 -- THE TABLE OF ANSWERS: what a command promises, by status. "Both ways": the status has this cause, and the cause
 -- brings the status, at 3, 4 and 9 where the sources tell it and didn't fail. A sink whose count of faults rises makes
--- it 6 instead; and 0, 3, 4, 9 and 10 may give way to 7, which is said to be want of memory: no clause says that it
--- was, and none brings 7 (of a disk that fails at a start: `failed_disk_told`).
+-- it 6 instead (one whose count is full may); and 0, 3, 4, 9 and 10 may give way to 7, which is said to be want of
+-- memory: no clause says that it was, and none brings 7.
 pub record RunsCommand {V : Type 0} (i : BusInputs) (d : CommandDisks V) (e : Ending) : Type 0 where
   -- A row that comes is told, or a replay did its first events or all: what that says of each status follows.
   pub ends : RowOrReplay i d e
@@ -314,9 +316,9 @@ pub record RunsCommand {V : Type 0} (i : BusInputs) (d : CommandDisks V) (e : En
       → Offers i.script input → fault_of (replay start bus) input ≡ None → ¬ HasRoom bus d.states.before → MayEndIn 9 e
   pub trial_disks_refused_only : (bus : NamedBus) → OffersTrial i bus → ¬ HasRoom bus d.states.before → MayEndIn 9 e
   -- 10: all that is read is valid, the disks are large enough, and the row of a node is printed: its disk failed, and
-  -- wasn't quiet; or it didn't fail, and its bytes are refused: told ones only of `node`, where no node could go on
-  -- over them; of others no cause is said. Told ones of the nodes before it are good. The disks are as an unfinished
-  -- start may leave them.
+  -- wasn't quiet; or it didn't fail, and its bytes are refused: told ones only of `node`, which can't go on over them;
+  -- of bytes that aren't told no cause is said. Told ones of the nodes before it are good. The disks are as an
+  -- unfinished start may leave them.
   pub store_refused : e.status ≡ 10 → OverWorld i (λ start bus events.
       HasRoom bus d.states.before × LeavesEach start bus d.states.before d.states.after
       × ((fault : StartFault) × StoreCause start bus d.states.before d.states.after fault
@@ -326,9 +328,9 @@ pub record RunsCommand {V : Type 0} (i : BusInputs) (d : CommandDisks V) (e : En
   pub store_refused_only : (bus : NamedBus) (input : List ℕ) → OffersTask i (replay Attach bus)
       → Offers i.script input → fault_of (replay Attach bus) input ≡ None → HasRoom bus d.states.before
       → HoldsNoNode bus d.states.before → MayEndIn 10 e
-  -- Where the count of faults of a disk rose, the status is 10 with the row of its node, or 6 with a front of it; or
-  -- the ending is one of a replay or a trial that was started: over a disk that tells nothing, of any whose first event
-  -- fails it. (That a start answers want of memory only where no count rose is a clause of `World::start`.)
+  -- Where the count of faults of a disk rose, the status is 10 with the row of its node, or 6 with a front of it; or a
+  -- replay did its first events, or a trial all. (Over a disk that tells nothing this doesn't tell a failed start from
+  -- a first event that failed.)
   pub failed_disk_told : (place : ℕ) → CountsDiskFault d.states place
       → EndsInRow (λ row. row ≡ failed_row place) e ⊎ DoesEvents i d.states e
   -- What is valid ends in 0 or 7, where the sources tell it and didn't fail, the sink's count of faults neither rose

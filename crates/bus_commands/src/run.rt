@@ -36,8 +36,8 @@ use std::alloc::{AllocError, Global};
 ///
 /// Their order, as the clauses force it: at 2 nothing is read; at 3, and at 5 and 8 of the bus file, no line; at 4, and
 /// at 5 and 8 of the lines, the bus file, if one is read, is valid; at 9 and 10 all that is read is, and at 10 the
-/// disks are large enough. Where too much came of a source it is 8, and not 5. Where the sink's count of faults rises
-/// it is 6.
+/// disks are large enough. Where too much came of a source it is 8 or 6, and not 5. Where the sink's count of faults
+/// rises it is 6.
 ///
 /// Rows of `checks/`, and no clause, show that all is read before anything is printed, that a line is written as soon
 /// as its event is done, and that the word that names a disk isn't looked at.
