@@ -30,6 +30,11 @@ pub record World : Type 0 where
 abbrev pub First : List Config → World
 First bus = record { nodes = map first_node bus; events = 0; sent = [] }
 
+-- a world without nodes, in which nothing was sent, so that nothing can be delivered: what a node is in that is on no
+-- bus
+abbrev pub silent_world : World
+silent_world = record { nodes = []; events = 0; sent = [] }
+
 -- ---- what an event tells its node to do
 
 abbrev pub node_of : Event → ℕ

@@ -1,6 +1,6 @@
 -- What one event does to its node and the node's disk
 use Rattle.std.specs.Prelude.{◌≡◌, ℕ, ◌+◌, ◌^◌, ◌<◌, ◌≤◌, ◌==◌, Option, None, Some, Result, OnOk, OnErr, IfErr, List}
-use Rattle.std.specs.Prelude.{[], find, option_map}
+use Rattle.std.specs.Prelude.{find, option_map}
 use Rattle.std.specs.Option.{option_to_list}
 use Rattle.cut_disk.specs.declared.Mark.{Mark}
 use Rattle.cut_disk.specs.declared.Mark.TheVariants as mark
@@ -101,10 +101,6 @@ LeavesAlone None NoFrame before after = after ≡ before
 LeavesAlone None (Refused MemoryFailure) before after = Unit {0}
 LeavesAlone None (Refused refusal) before after = after ≡ before
 LeavesAlone None line before after = Unit {0}
-
--- a bus on which nothing was sent
-abbrev pub silent : World
-silent = record { nodes = []; events = 0; sent = [] }
 
 -- what a turn does, over a disk that tells its bytes as over one that doesn't
 pub record NodeTurn (before : NodeState) (duty : Duty) (line : Line) (after : NodeState) : Type 0 where

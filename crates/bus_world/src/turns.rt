@@ -3,14 +3,14 @@ ghost use Rattle.std.specs.Prelude.{◌≡◌, ◌≤◌, ◌<◌, ◌^◌, ◌=
 ghost use Rattle.std.specs.Option.{option_map_or};
 ghost use Rattle.freshness_routes.specs.declared.routes.Direction.TheVariants.{Receives};
 ghost use Rattle.bus_machine.specs.Node.{place_of};
-ghost use Rattle.bus_machine.specs.Bus.{World, SentLine, node_of as place_of_node, hearing, NamesSource};
+ghost use Rattle.bus_machine.specs.Bus.{World, SentLine, node_of as place_of_node, hearing, NamesSource, silent_world};
 ghost use Rattle.bus_machine.specs.Honest.{IsInTime, IsHeard};
 ghost use Rattle.cut_disk.specs.State.{Cut, Stop, Fail};
 ghost use Rattle.secure_boot.specs.Booting.{IsImage};
 ghost use Rattle.bus_machine.specs.Steps.{sends, receives, loads, keys, boots, cuts, arms};
 ghost use Rattle.secoc_node.specs.Lines.{refusal_of_fault, refusal_of_cut};
 ghost use Rattle.sent_lines.specs.History.{has_values, frame_in};
-ghost use Rattle.bus_world.specs.Turns.{NodeTurn, silent, duty, duty_of, CanBeDone, NamesSourceIn, HearsPdu};
+ghost use Rattle.bus_world.specs.Turns.{NodeTurn, duty, duty_of, CanBeDone, NamesSourceIn, HearsPdu};
 ghost use Rattle.bus_world.specs.Turns.{HearsBrought};
 
 use bus_machine::{Event, Line, Refusal};
@@ -44,9 +44,9 @@ pub(crate) fn node_of(event: &Event) -> u8
 /// accepted line is from none. It takes no memory.
 pub fn own_turn<C: CutCells>(node: &mut Node<C>, event: &Event) -> Line
     requires { CanBeDone event.now }
-    ensures turn { NodeTurn node.old (duty_of silent event.now) result node.new }
-    ensures source { NamesSource silent result }
-    ensures honest { HearsBrought silent event.now node.old.node result }
+    ensures turn { NodeTurn node.old (duty_of silent_world event.now) result node.new }
+    ensures source { NamesSource silent_world result }
+    ensures honest { HearsBrought silent_world event.now node.old.node result }
 {
     take_turn(node, event, None)
 }

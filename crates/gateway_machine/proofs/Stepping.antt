@@ -9,14 +9,14 @@ use Rattle.bus_machine.specs.declared.lines.Line.TheVariants.{Sent, Accepted, Re
 use Rattle.bus_machine.specs.Node.{Node, place_of, place_in, counter_at}
 use Rattle.bus_machine.specs.Sound.{Sound}
 use Rattle.bus_machine.specs.Steps.{sends, NodeStep}
-use Rattle.bus_machine.specs.Bus.{node_of, act_of}
+use Rattle.bus_machine.specs.Bus.{node_of, act_of, silent_world}
 use Rattle.bus_machine.specs.Freshness.{Tells}
 use Rattle.bus_laws.proofs.SoundSteps.{Sound-step}
 use Rattle.bus_laws.proofs.Growth.{Grows, Grows-step, Grows-same, Grows-on}
 use Rattle.bus_laws.proofs.Rising.{Above, tells_reaches}
 use Rattle.gateway_machine.specs.declared.lines.GatewayLine.{GatewayLine}
 use Rattle.gateway_machine.specs.declared.lines.GatewayLine.TheVariants.{OfNode}
-use Rattle.gateway_machine.specs.Gateway.{TellsDeparture, Departs, StepUnder, GatewayStep, departs_under, nothing_sent, EventStep}
+use Rattle.gateway_machine.specs.Gateway.{TellsDeparture, Departs, StepUnder, GatewayStep, departs_under, EventStep}
 use Rattle.gateway_machine.specs.StepLaws.{GatewayStep-keeps}
 use Rattle.gateway_machine.specs.Claims.{TellsFreshness}
 
@@ -27,8 +27,8 @@ pub record GoesOn (node after : Node) : Type 0 where
 
 pub goes_on_one : (node : Node) (event : Event) (line : Line) (after : Node) → Sound node → EventStep node event line after → GoesOn node after
 goes_on_one node event line after s step = record {
-  sound = Sound-step node (act_of nothing_sent event) line after s step;
-  grows = Grows-step node (act_of nothing_sent event) line after s step;
+  sound = Sound-step node (act_of silent_world event) line after s step;
+  grows = Grows-step node (act_of silent_world event) line after s step;
 }
 
 pub goes_on : (pairs : List (ℕ × ℕ)) (node : Node) (event : Event) (line : GatewayLine) (after : Node) → Sound node → GatewayStep EventStep pairs node event line after → GoesOn node after
@@ -58,7 +58,7 @@ pub record Passes (node after : Node) (direction : Direction) (id v : ℕ) : Typ
 passes_one : (node : Node) (event : Event) (line : Line) (after : Node) (direction : Direction) (id v : ℕ) → Sound node → EventStep node event line after → Tells direction line id v
     → Passes node after direction id v
 passes_one node event line after direction id v s step tells =
-    let r = tells_reaches node (act_of nothing_sent event) line after direction id v s step tells in
+    let r = tells_reaches node (act_of silent_world event) line after direction id v s step tells in
     record { above = r.above; reached = omega (arith, r.reached) }
 
 -- the counters may rise further

@@ -1,5 +1,5 @@
 -- What a gateway does in one event (own): one or two steps of its node, whatever a step of the node is
-use Rattle.std.specs.Prelude.{◌≡◌, ℕ, ◌==◌, Option, None, Some, List, [], find, option_map}
+use Rattle.std.specs.Prelude.{◌≡◌, ℕ, ◌==◌, Option, None, Some, List, find, option_map}
 use Rattle.machine_runs.specs.Run.{Moment, Run}
 use Rattle.bus_machine.specs.declared.events.Event.{Event}
 use Rattle.bus_machine.specs.declared.events.Event.TheVariants.{Send, Inject}
@@ -7,7 +7,7 @@ use Rattle.bus_machine.specs.declared.lines.Line.{Line}
 use Rattle.bus_machine.specs.declared.lines.Line.TheVariants.{Sent, Accepted, Refused}
 use Rattle.bus_machine.specs.Node.{Node}
 use Rattle.bus_machine.specs.Steps.{NodeStep}
-use Rattle.bus_machine.specs.Bus.{World, node_of, act_of}
+use Rattle.bus_machine.specs.Bus.{node_of, act_of, silent_world}
 use Rattle.gateway_machine.specs.declared.lines.GatewayLine.{GatewayLine}
 use Rattle.gateway_machine.specs.declared.lines.GatewayLine.TheVariants.{Forwarded, Dropped, OfNode}
 
@@ -70,13 +70,9 @@ GatewayStep steps pairs before event line after = StepUnder steps (departs_under
 
 -- ---- runs, of the machine of a node
 
--- a world in which nothing was sent, so that nothing can be delivered
-abbrev pub nothing_sent : World
-nothing_sent = record { nodes = []; events = 0; sent = [] }
-
 -- the machine's step of the one node
 abbrev pub EventStep : Node → Event → Line → Node → Type 0
-EventStep node event line after = NodeStep node (act_of nothing_sent event) line after
+EventStep node event line after = NodeStep node (act_of silent_world event) line after
 
 abbrev pub GatewayMoments : Type 0
 GatewayMoments = List (Moment Event GatewayLine Node)

@@ -6,11 +6,11 @@ use Rattle.bus_machine.specs.declared.events.Event.{Event}
 use Rattle.bus_machine.specs.declared.events.Event.TheVariants.{Inject}
 use Rattle.freshness_routes.specs.Config.{Config}
 use Rattle.bus_machine.specs.Node.{Node, HasRoute}
-use Rattle.bus_machine.specs.Bus.{act_of}
+use Rattle.bus_machine.specs.Bus.{act_of, silent_world}
 use Rattle.bus_laws.proofs.SoundSteps.{same_some, eq_of_test}
 use Rattle.secoc_node.specs.declared.faults.NodeFault.{NodeFault}
 use Rattle.gateway_machine.specs.declared.lines.GatewayLine.{GatewayLine}
-use Rattle.gateway_machine.specs.Gateway.{NodeSteps, second_of, PassesOn, StepUnder, GatewayStep, EventStep, nothing_sent}
+use Rattle.gateway_machine.specs.Gateway.{NodeSteps, second_of, PassesOn, StepUnder, GatewayStep, EventStep}
 use Rattle.gateway_machine.specs.StepLaws.{PassesOn-keeps}
 use Rattle.secoc_gateway.specs.declared.arrival.Arrival.{Arrival}
 use Rattle.secoc_gateway.specs.Arrivals.{arrival_line}
@@ -56,7 +56,7 @@ good_routes node pairs id out good e =
 pub passes_config : (out : ℕ) (before : Node) (event : Event) (line : GatewayLine) (after : Node) → PassesOn EventStep out before event line after → after.config ≡ before.config
 passes_config out before event line after step =
     PassesOn-keeps EventStep (λ (n : Node) (m : Node). m.config ≡ n.config) (λ n. refl) (λ n m l one two. two ∙ one)
-    (λ n e told m one. step_config n (act_of nothing_sent e) told m one) out before event line after step
+    (λ n e told m one. step_config n (act_of silent_world e) told m one) out before event line after step
 
 pub step_of_pair : {S : Type 0} (steps : NodeSteps S) (pairs : List (ℕ × ℕ)) (id out told : ℕ) (before after : S) (place : ℕ) (pdu bytes : List ℕ) (result : Result Arrival NodeFault)
     → second_of pairs id ≡ Some out → second_of pairs id ≡ Some told → PassesOn steps out before (Inject place id pdu) (arrival_line id out bytes result) after

@@ -16,8 +16,8 @@ use Rattle.bus_machine.specs.declared.lines.Refusal.{Refusal}
 use Rattle.bus_machine.specs.declared.lines.Refusal.TheVariants as refusal
 use Rattle.bus_machine.specs.Past.{mark_of, cell_count}
 use Rattle.bus_machine.specs.Sound.{Sound}
-use Rattle.bus_machine.specs.Bus.{node_of}
-use Rattle.bus_world.specs.Turns.{IsCertain, TellsFaults, LeavesAlone, LeavesCut, StaysBehind, most_calls, silent}
+use Rattle.bus_machine.specs.Bus.{node_of, silent_world}
+use Rattle.bus_world.specs.Turns.{IsCertain, TellsFaults, LeavesAlone, LeavesCut, StaysBehind, most_calls}
 use Rattle.bus_world.proofs.StepLaws.{turn_fits}
 use Rattle.secoc_node.specs.State.{NodeState, FitsNow, TellsFitting}
 use Rattle.gateway_machine.specs.declared.lines.GatewayLine.{GatewayLine}
@@ -76,7 +76,7 @@ kept_on s t u one two = record {
 
 kept_by : (s : NodeState) (event : Event) (told : Line) (t : NodeState) → EventTurn s event told t → Kept s t
 kept_by s event told t turn =
-    record { config = turn.config; layout = turn.layout; fits = turn.fits; fitting = turn_fits s event silent told t turn; sound = turn.sound }
+    record { config = turn.config; layout = turn.layout; fits = turn.fits; fitting = turn_fits s event silent_world told t turn; sound = turn.sound }
 
 -- ---- what a line tells
 

@@ -6,7 +6,8 @@ use Rattle.bus_machine.specs.declared.lines.Line.TheVariants.{Refused}
 use Rattle.bus_machine.specs.declared.lines.Refusal.TheVariants.{MemoryFailure}
 use Rattle.bus_machine.specs.Node.{Node}
 use Rattle.bus_machine.specs.Past.{mark_of, cell_count}
-use Rattle.bus_world.specs.Turns.{CanBeDone, NodeTurn, duty_of, silent, most_calls}
+use Rattle.bus_machine.specs.Bus.{silent_world}
+use Rattle.bus_world.specs.Turns.{CanBeDone, NodeTurn, duty_of, most_calls}
 use Rattle.secoc_node.specs.State.{NodeState}
 use Rattle.gateway_machine.specs.declared.lines.GatewayLine.{GatewayLine}
 use Rattle.gateway_machine.specs.declared.lines.GatewayLine.TheVariants.{Dropped, OfNode}
@@ -17,7 +18,7 @@ use Rattle.secoc_gateway.specs.State.{GatewayState, over}
 
 -- the turn of the one node, as one on a bus on which nothing was sent
 abbrev pub EventTurn : NodeState → Event → Line → NodeState → Type 0
-EventTurn before event line after = NodeTurn before (duty_of silent event) line after
+EventTurn before event line after = NodeTurn before (duty_of silent_world event) line after
 
 -- a gateway's turn is a step of its machine over the turns of its node: an arrival under the first Data ID of a pair is
 -- the node's turn that receives, and where this is accepted, behind it the node's turn that sends; any other event is
