@@ -10,20 +10,15 @@ use Rattle.cut_disk.specs.Memory.{fresh, disk_of}
 use Rattle.cut_disk.specs.MemDisk.{contents}
 use Rattle.cell_store.specs.declared.faults.Reread.TheVariants.{DiskFailed, NotFormatted, Damaged}
 use Rattle.freshness_routes.specs.Config.{Config}
-use Rattle.bus_machine.specs.Bus.{no_config}
-use Rattle.bus_nodes.specs.declared.nodes.NodeLine.{NodeLine}
 use Rattle.bus_nodes.specs.Buses.{NamedBus, IsNamedBus}
 use Rattle.bus_world.specs.declared.start.Start.TheVariants.{Format}
 use Rattle.bus_world.specs.declared.start.StartFault.{StartFault}
 use Rattle.bus_world.specs.declared.start.StartFault.TheVariants.{TooFew, TooSmall, Store, BadSlot, BadBound, Memory}
 use Rattle.bus_world.specs.Starts.{FindsRoom, OfNumber}
 use Rattle.bus_world.specs.StartRows.{StoreCause}
+use Rattle.bus_world.specs.StartRowLaws.{no_line}
 use Rattle.bus_world.specs.RoomLaws.{size_of_any}
 use Rattle.blank_disks.specs.Blank.{AreBlank, blank_state, disk_states}
-
--- whatever stands where no node is
-no_line : NodeLine
-no_line = record { name = []; config = no_config }
 
 -- whichever place is looked at
 all_blank : (size i : ℕ) (disks : List MemDisk)

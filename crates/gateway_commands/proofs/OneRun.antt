@@ -1,10 +1,9 @@
 -- The turns of a gateway over a disk that tells its bytes are a run of its machine, and what holds of it
-use Rattle.std.specs.Prelude.{◌≡◌, ℕ, ◌+◌, ◌≤◌, false, None, Some, List, [], ◌∷◌, length, drop, get_or, map, Result}
+use Rattle.std.specs.Prelude.{◌≡◌, ℕ, ◌+◌, ◌≤◌, Some, List, [], ◌∷◌, length, drop, get_or, map, Result}
 use Rattle.std.proofs.Common.{sym, ap, ◌∙◌, subst, arith}
 use Rattle.std.proofs.lemmas.List.{length-drop}
 use Rattle.bus_port.specs.Sink.{SinkState}
 use Rattle.cut_disk.specs.State.{DiskState, Told, Entry}
-use Rattle.cut_disk.specs.Arming.{no_arms}
 use Rattle.cell_store.specs.declared.kinds.Layout.{Layout}
 use Rattle.any_cells.specs.Either.{layout}
 use Rattle.machine_runs.specs.Run.{Moment, Run, seen_as}
@@ -39,12 +38,9 @@ use Rattle.secoc_gateway.proofs.TurnLaws.{certain_by_mark}
 use Rattle.gateway_commands.specs.Texts.{gateway_text}
 use Rattle.gateway_commands.specs.Inputs.{gate_config, gate_node}
 use Rattle.gateway_commands.specs.Runs.{RanGateway}
+use Rattle.bus_world.specs.StartRowLaws.{no_disk}
 use Rattle.gateway_commands.specs.Headline.{TellsFirst, FailuresAreCounted, OneGatewayRun}
 use Rattle.gateway_commands.proofs.Seen.{first_commands, written_as}
-
--- any disk
-pub no_disk : DiskState
-no_disk = record { size = 0; told = None; arms = no_arms; faults = 0; quiet = false; past = None }
 
 -- the laws of the crates below, as their public functions ensure them
 pub record Laws : Type 0 where

@@ -38,7 +38,7 @@ use Rattle.bus_world.specs.TakingUp.{cells_in, HasNodeStore, KeptOn, LeavesDisk}
 use Rattle.bus_world.specs.Starts.{StartsOver}
 use Rattle.bus_world.specs.StartRows.{CanStart}
 use Rattle.bus_world.specs.StartRowLaws.{start_leaves}
-use Rattle.world_runs.proofs.Starting.{no_disk, no_line}
+use Rattle.bus_world.specs.StartRowLaws.{no_disk, no_line}
 use Rattle.life_laws.specs.Lives.{Life, IsLife, LeftToNext, NoNewer, Follows, IsFirstLife, LeavesNodes, OutlastsRefusals}
 use Rattle.life_laws.proofs.Stages.{Restarts}
 

@@ -23,7 +23,7 @@ use Rattle.world_runs.specs.WorldRuns.{IsFirstOf}
 use Rattle.world_runs.specs.Turns.{TellFirm, GoesOnFirst}
 use Rattle.world_runs.proofs.AtNode.{node_there}
 use Rattle.world_runs.proofs.DisksBack.{no_node}
-use Rattle.world_runs.proofs.Starting.{no_disk, no_line}
+use Rattle.bus_world.specs.StartRowLaws.{no_disk, no_line}
 
 module _ (bus : NamedBus) (most : ℕ) (before : List DiskState) (start : BusState) (started : Started Attach bus most before start) where
   x : NodeState

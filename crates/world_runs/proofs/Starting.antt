@@ -1,11 +1,9 @@
 -- A bus that was started over formatted disks is set up; where they tell their bytes, it begins at the first world of the bus
-use Rattle.std.specs.Prelude.{◌≡◌, ℕ, ◌<◌, false, None, Some, List, [], length, map, get_or}
+use Rattle.std.specs.Prelude.{◌≡◌, ℕ, ◌<◌, Some, List, length, map, get_or}
 use Rattle.std.proofs.Common.{sym, ap, ◌∙◌, subst, arith}
 use Rattle.std.proofs.lemmas.List.{length-map, get_or-map, ext_get_or}
 use Rattle.std.proofs.lemmas.Option.{get_or_from_slice_get, slice_get_within}
 use Rattle.cut_disk.specs.State.{DiskState, Told}
-use Rattle.cut_disk.specs.Arming.{no_arms}
-use Rattle.store_runs.specs.DiskTurns.{OpenedDisk}
 use Rattle.cell_store.specs.declared.kinds.Kind.{Kind}
 use Rattle.cell_store.specs.declared.kinds.Version.{Version}
 use Rattle.freshness_routes.specs.Config.{Config}
@@ -21,13 +19,11 @@ use Rattle.bus_world.specs.declared.start.Start.{Start}
 use Rattle.bus_world.specs.declared.start.Start.TheVariants.{Format}
 use Rattle.bus_world.specs.Worlds.{BusState, world_of, EachFits}
 use Rattle.bus_world.specs.Starts.{Started, Opened, start_calls}
+use Rattle.bus_world.specs.StartRowLaws.{no_line, no_disk}
 use Rattle.world_runs.specs.NodeDisks.{TellEach}
 use Rattle.world_runs.specs.WorldRuns.{IsFirstOf}
 use Rattle.world_runs.specs.Turns.{SetUp, BeginsAtFirst}
 use Rattle.world_runs.proofs.DisksBack.{no_node}
-
-pub no_line : NodeLine
-no_line = record { name = []; config = no_config }
 
 -- ---- what a start leaves
 
@@ -97,9 +93,6 @@ first_of_bus buses begin bus is =
       one_sender = first.1;
       count = length-map (configs_of bus) first_node ∙ length-map bus.nodes (λ (x : NodeLine). x.config);
     }
-
-pub no_disk : DiskState
-no_disk = record { size = 0; told = None; arms = no_arms; faults = 0; quiet = false; past = None }
 
 pub begins_at_first : NamedBusesAreBuses → BusesBeginFirst → (bus : NamedBus) (most : ℕ) (before : List DiskState) (start : BusState) → IsNamedBus bus → Started Format bus most before start → TellEach bus before
     → BeginsAtFirst bus start

@@ -1,10 +1,9 @@
 -- All that holds of a run of a bus over disks that tell their bytes, put together
-use Rattle.std.specs.Prelude.{◌≡◌, false, None, List, ◌∷◌, ◌++◌}
+use Rattle.std.specs.Prelude.{List, ◌∷◌}
 use Rattle.std.proofs.Common.{subst}
 use Rattle.machine_runs.specs.Run.{Moment, Run}
 use Rattle.machine_runs.specs.RunLaws.{Run-split}
 use Rattle.cut_disk.specs.State.{DiskState}
-use Rattle.cut_disk.specs.Arming.{no_arms}
 use Rattle.bus_machine.specs.declared.events.Event.{Event}
 use Rattle.bus_machine.specs.declared.lines.Line.{Line}
 use Rattle.bus_machine.specs.Bus.{World, Moments, Step}
@@ -12,6 +11,7 @@ use Rattle.bus_machine.specs.Skips.{SkipsLittle}
 use Rattle.bus_laws.specs.Laws.{IsFirst, RunsAreCovered, RunsRise, RunsAreAuthentic, RunsAreSingle, RunsKeepKeys, CutsSkipLittle, HonestIsHeard, EventsDetermineLines}
 use Rattle.bus_nodes.specs.Buses.{NamedBus}
 use Rattle.bus_world.specs.Worlds.{BusState, world_of, EachFits, TurnsAreRuns}
+use Rattle.bus_world.specs.StartRowLaws.{no_disk}
 use Rattle.world_runs.specs.WorldRuns.{IsFirstOf, EachSkipsLittle, WorldRun}
 use Rattle.world_runs.specs.Turns.{seen, SetUp, TakesTurns}
 use Rattle.world_runs.specs.TurnLaws.{turns_are_lines, first_commands}
@@ -35,9 +35,6 @@ cuts_skip_little law first ms last is run = λ front rest m whole.
     let parts = Run-split Step first front (m ∷ rest) last (subst (λ (xs : Moments). Run Step first xs last) whole run) in
     subst (λ (w : World). SkipsLittle first front w m) (state_at first front parts.0 parts.1)
     (law first front parts.0 is parts.1 m parts.2.0)
-
-no_disk : DiskState
-no_disk = record { size = 0; told = None; arms = no_arms; faults = 0; quiet = false; past = None }
 
 pub world_run : (laws : Laws) (bus : NamedBus) (before after : List DiskState) (events : List Event) (start : BusState) (ms : List (Moment Event Line BusState)) (now : BusState)
     → SetUp bus before start → EachFits start → IsFirstOf bus (world_of start) → TakesTurns bus before after events start ms now

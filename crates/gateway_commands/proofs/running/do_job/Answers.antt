@@ -6,7 +6,7 @@ use Rattle.bus_world.specs.declared.start.Start.TheVariants.{Format}
 use Rattle.bus_world.specs.StartAnswerLaws.{Comes-unstarted}
 use Rattle.bus_inputs.specs.EventLaws.{all_can_be_done}
 use Rattle.gateway_commands.specs.Steps.{refused_start, first_done}
-use Rattle.gateway_commands.proofs.OneRun.{no_disk}
+use Rattle.bus_world.specs.StartRowLaws.{no_disk}
 use Rattle.gateway_commands.proofs.OneNode.{last_one, none_left, one_node, good_pairs, ran_gateway}
 use Rattle.gateway_commands.proofs.running.do_job.Goals as goal
 
