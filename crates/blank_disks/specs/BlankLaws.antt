@@ -26,7 +26,8 @@ all_blank : (size i : ℕ) (disks : List MemDisk)
     → get_or (disk_states disks) i (blank_state size) ≡ blank_state size
 all_blank size i [] all = refl
 all_blank size zero (disk ∷ disks) all = ap disk_of (all 0 disk (omega arith))
-all_blank size (suc i) (disk ∷ disks) all = all_blank size i disks (λ k d inside. all (suc k) d (omega (arith, inside)))
+all_blank size (suc i) (disk ∷ disks) all =
+    all_blank size i disks (λ k d inside. all (suc k) d (omega (arith, inside)))
 
 blank_quiet : (size : ℕ) → IsQuiet (blank_state size)
 blank_quiet size = record { quiet = refl; below = omega arith }
@@ -43,13 +44,23 @@ quiet_there count size disks bus after number P are of =
     (get_or after (number - 1) (blank_state size)))
     (all_blank size (number - 1) disks are.blank) (of.disk no_line (blank_state size))
 
-pub blank_no_cause : (count size : ℕ) (disks : List MemDisk) (bus : NamedBus) (after : List DiskState) (fault : StartFault)
+pub blank_no_cause : (count size : ℕ) (disks : List MemDisk) (bus : NamedBus) (after : List DiskState)
+    (fault : StartFault)
     → AreBlank count size disks → StoreCause Format bus (disk_states disks) after fault → ⊥
-blank_no_cause count size disks bus after (Store number DiskFailed) are of = (quiet_there count size disks bus after number _ are of).1 (blank_quiet size)
-blank_no_cause count size disks bus after (Store number NotFormatted) are of = let none = (quiet_there count size disks bus after number _ are of).0 in cc
-blank_no_cause count size disks bus after (Store number (Damaged place)) are of = let none = (quiet_there count size disks bus after number _ are of).0 in cc
-blank_no_cause count size disks bus after (BadSlot number slot) are of = let none = (quiet_there count size disks bus after number _ are of).0 in cc
-blank_no_cause count size disks bus after (BadBound number cell) are of = let none = (quiet_there count size disks bus after number _ are of).0 in cc
+blank_no_cause count size disks bus after (Store number DiskFailed) are of =
+    (quiet_there count size disks bus after number _ are of).1 (blank_quiet size)
+blank_no_cause count size disks bus after (Store number NotFormatted) are of =
+    let none = (quiet_there count size disks bus after number _ are of).0 in
+    cc
+blank_no_cause count size disks bus after (Store number (Damaged place)) are of =
+    let none = (quiet_there count size disks bus after number _ are of).0 in
+    cc
+blank_no_cause count size disks bus after (BadSlot number slot) are of =
+    let none = (quiet_there count size disks bus after number _ are of).0 in
+    cc
+blank_no_cause count size disks bus after (BadBound number cell) are of =
+    let none = (quiet_there count size disks bus after number _ are of).0 in
+    cc
 blank_no_cause count size disks bus after TooFew are of = of
 blank_no_cause count size disks bus after (TooSmall number) are of = of
 blank_no_cause count size disks bus after Memory are of = of

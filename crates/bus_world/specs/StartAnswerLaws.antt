@@ -25,8 +25,8 @@ use Rattle.bus_world.specs.StartAnswers.{ComesUnstarted}
 
 -- only the disk of the node with this number may count a fault
 others_calm : (start : Start) (bus : NamedBus) (before after : List DiskState) (number : ℕ)
-    (P : Config → DiskState → DiskState → Type 0) → OfNumber start bus before after number P → (i : ℕ) (disk : DiskState)
-    → (number ≡ i + 1) ⊎ ((get_or after i disk).faults ≡ (get_or before i disk).faults)
+    (P : Config → DiskState → DiskState → Type 0) → OfNumber start bus before after number P
+    → (i : ℕ) (disk : DiskState) → (number ≡ i + 1) ⊎ ((get_or after i disk).faults ≡ (get_or before i disk).faults)
 others_calm start bus before after number P of i disk = elim (cases_lt i (number - 1)) [
   | inl earlier ↦ inr (of.earlier i disk earlier)
   | inr reached ↦ elim (cases_lt i number) [

@@ -96,7 +96,8 @@ leaves_same start bus before after same =
     subst (λ (disks : List DiskState). LeavesEach start bus before disks) (sym same) (record {
       count = refl;
       each = λ i l d inside. (
-        runs_more (start_calls start bus.kind (get_or bus.nodes i l).config) (omega arith) (runs_none (get_or before i d)),
+        runs_more (start_calls start bus.kind (get_or bus.nodes i l).config) (omega arith)
+        (runs_none (get_or before i d)),
         untouched_left start bus.kind bus.version (get_or bus.nodes i l).config (get_or before i d),
       );
       rest = refl;

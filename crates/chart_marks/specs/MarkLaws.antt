@@ -118,8 +118,10 @@ pub record LifelinesOf (start : World) (ms : Moments) : Type 0 where
       → IsDrawnAt (run_lifeline node ms) true height ↔ (up_behind start ms row node ≡ false)
   pub up : (node row height : ℕ) → node < length start.nodes → row ≤ length ms → IsBehindRow (length ms) row height
       → IsDrawnAt (run_lifeline node ms) false height → up_behind start ms row node ≡ true
-  pub drawn_up : (node row height : ℕ) → node < length start.nodes → row ≤ length ms → IsBehindRow (length ms) row height
-      → up_behind start ms row node ≡ true → IsDrawnAt (run_lifeline node ms) false height ⊎ IsBesideCut ms node height
+  pub drawn_up : (node row height : ℕ) → node < length start.nodes → row ≤ length ms
+      → IsBehindRow (length ms) row height
+      → up_behind start ms row node ≡ true
+      → IsDrawnAt (run_lifeline node ms) false height ⊎ IsBesideCut ms node height
 
 abbrev pub DownIsDrawnDown : Type 0
 DownIsDrawnDown = EachRun (λ start ms last. LifelinesOf start ms)
