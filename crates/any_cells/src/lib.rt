@@ -2,6 +2,7 @@
 #![tactic(auto)]
 
 mod faults;
+mod fronts;
 pub mod laws;
 mod looking;
 mod migrating;
@@ -20,6 +21,7 @@ use cell_store::{
 };
 use cut_disk::{CutDisk, Disk, Torn};
 pub use faults::store_fault_text;
+pub use fronts::put_first;
 pub use looking::{Found, look};
 pub use migrating::migrate;
 pub use opening::open_store;
