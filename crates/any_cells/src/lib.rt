@@ -1,6 +1,8 @@
 //! A store of either kind, in either version: each call is passed on to the store that it is.
 #![tactic(auto)]
 
+mod faults;
+mod fronts;
 pub mod laws;
 mod looking;
 mod migrating;
@@ -18,9 +20,11 @@ use cell_store::{
     Version, log_size, probe_as, twin_size,
 };
 use cut_disk::{CutDisk, Disk, Torn};
+pub use faults::store_fault_text;
+pub use fronts::put_first;
 pub use looking::{Found, look};
 pub use migrating::migrate;
-pub use opening::{open_store, store_fault_text};
+pub use opening::open_store;
 use std::alloc::Global;
 
 /// The number of bytes that a disk needs for a store of so many cells: 0 or 32768 for the version,

@@ -1,16 +1,15 @@
-// Opening the store that stands on a disk, or a new one on a blank disk; and how a store's faults are told.
-ghost use Rattle.std.specs.Prelude.{◌≡◌, length, string_bytes, IfOk, IfErr};
+// Opening the store that stands on a disk, or a new one on a blank disk.
+ghost use Rattle.std.specs.Prelude.{length, IfOk, IfErr};
 ghost use Rattle.cell_store.specs.Layout.{layout};
 ghost use Rattle.cell_store.specs.Store.{FewCells};
 ghost use Rattle.any_cells.specs.Either.{any_state};
-ghost use Rattle.any_cells.specs.FaultTexts.{store_fault_text};
 ghost use Rattle.any_cells.specs.Opening.{StoreOpened, NoStoreOpened};
 
 use crate::looking::is_blank;
 use crate::{AnyCells, store_size};
 use cell_store::{Kind, Refused, StoreFault, Version, probe_as};
 use cut_disk::Disk;
-use std::alloc::{AllocError, Global};
+use std::alloc::Global;
 
 /// Opens the store of this kind and version and of as many cells, 1 to 1024: where the 32 bytes at the
 /// version's base are zero it formats the disk with these cells, and then it attaches the store.
@@ -49,17 +48,4 @@ pub fn open_store<D: Disk>(
         };
     }
     AnyCells::attach_as(alloc, disk, kind, version, count)
-}
-
-/// The text of a store's fault, as programs print it behind `store: `.
-pub fn store_fault_text(alloc: Global, fault: StoreFault) -> Result<String, AllocError>
-    ensures { IfOk result (λ text. string_bytes text ≡ store_fault_text fault) }
-{
-    match fault {
-        StoreFault::DiskFailed => format!(in alloc; "DiskFailed"),
-        StoreFault::NotFormatted => format!(in alloc; "NotFormatted"),
-        StoreFault::Damaged(number) => format!(in alloc; "Damaged {number}"),
-        StoreFault::TooSmall => format!(in alloc; "TooSmall"),
-        StoreFault::Memory => format!(in alloc; "Memory"),
-    }
 }

@@ -46,35 +46,30 @@ refused_calm start bus before after number f of i disk = elim (others_calm start
   | inr calm ↦ calm
 ]
 
--- where there may be no memory, none did
-none_failed : (start : Start) (bus : NamedBus) (d : DiskStates) (fault : StartFault) → MayWantMemory fault
-    → NotStarted start bus d.before d.after fault → NoDiskFailed d
-none_failed start bus d TooFew may refused = absurd may
-none_failed start bus d (TooSmall node) may refused = absurd may
-none_failed start bus d (Store node reread.DiskFailed) may refused = absurd may
-none_failed start bus d (Store node reread.NotFormatted) may refused = absurd may
-none_failed start bus d (Store node (reread.Damaged place)) may refused =
+-- where the text of a bus is made, none did
+made_calm : (start : Start) (bus : NamedBus) (d : DiskStates) (fault : StartFault) → length bus.nodes ≤ 8
+    → NotStarted start bus d.before d.after fault → HasMadeText fault → NoDiskFailed d
+made_calm start bus d TooFew few refused made = absurd made
+made_calm start bus d (TooSmall node) few refused made =
+    absurd (let no : ⊥ = omega (arith, few, refused.0.least, refused.0.most, made) in no)
+made_calm start bus d (Store node reread.DiskFailed) few refused made =
+    absurd (let no : ⊥ = omega (arith, few, refused.cause.least, refused.cause.most, made) in no)
+made_calm start bus d (Store node reread.NotFormatted) few refused made =
+    absurd (let no : ⊥ = omega (arith, few, refused.cause.least, refused.cause.most, made) in no)
+made_calm start bus d (Store node (reread.Damaged place)) few refused made =
     refused_calm start bus d.before d.after node (open_fault.Store (reread.Damaged place)) refused.cause
-none_failed start bus d (BadSlot node slot) may refused =
+made_calm start bus d (BadSlot node slot) few refused made =
     refused_calm start bus d.before d.after node (open_fault.BadSlot slot) refused.cause
-none_failed start bus d (BadBound node cell) may refused =
+made_calm start bus d (BadBound node cell) few refused made =
     refused_calm start bus d.before d.after node (open_fault.BadBound cell) refused.cause
-none_failed start bus d Memory may refused = refused.memory refl
+made_calm start bus d Memory few refused made = absurd made
 
--- and of a bus no text of a disk that failed is made
-made_wants : (start : Start) (bus : NamedBus) (d : DiskStates) (fault : StartFault) → length bus.nodes ≤ 8
-    → NotStarted start bus d.before d.after fault → HasMadeText fault → MayWantMemory fault
-made_wants start bus d TooFew few refused made = made
-made_wants start bus d (TooSmall node) few refused made =
-    omega (arith, few, refused.0.least, refused.0.most, made)
-made_wants start bus d (Store node reread.DiskFailed) few refused made =
-    omega (arith, few, refused.cause.least, refused.cause.most, made)
-made_wants start bus d (Store node reread.NotFormatted) few refused made =
-    omega (arith, few, refused.cause.least, refused.cause.most, made)
-made_wants start bus d (Store node (reread.Damaged place)) few refused made = made
-made_wants start bus d (BadSlot node slot) few refused made = made
-made_wants start bus d (BadBound node cell) few refused made = made
-made_wants start bus d Memory few refused made = absurd made
+-- where there was no memory, none did
+none_failed : (start : Start) (bus : NamedBus) (d : DiskStates) (fault : StartFault) → MayWantMemory bus fault
+    → NotStarted start bus d.before d.after fault → NoDiskFailed d
+none_failed start bus d fault (inl is) refused =
+    (subst (λ (f : StartFault). NotStarted start bus d.before d.after f) is refused).memory refl
+none_failed start bus d fault (inr (few, made)) refused = made_calm start bus d fault few refused made
 
 -- ---- the row
 
@@ -96,7 +91,7 @@ row_comes start bus d (BadSlot node slot) refused = store_row start bus d (BadSl
 row_comes start bus d (BadBound node cell) refused =
     store_row start bus d (BadBound node cell) refused refused.room refl
 row_comes start bus d Memory refused =
-    start_without_memory Memory tt refused (none_failed start bus d Memory tt refused)
+    start_without_memory Memory (inl refl) refused (none_failed start bus d Memory (inl refl) refused)
 
 -- a start of a bus that is refused ends in a row that comes
 pub Comes-not_started : (start : Start) (bus : NamedBus) (d : DiskStates) (fault : StartFault) (row : Row)
@@ -105,7 +100,7 @@ pub Comes-not_started : (start : Start) (bus : NamedBus) (d : DiskStates) (fault
 Comes-not_started start bus d fault row few refused (inl is) =
     subst (ComesOfStart start bus d) (sym is) (row_comes start bus d fault refused)
 Comes-not_started start bus d fault row few refused (inr (made, memory)) =
-    let may : MayWantMemory fault = made_wants start bus d fault few refused made in
+    let may : MayWantMemory bus fault = inr (few, made) in
     subst (ComesOfStart start bus d) (sym memory)
     (start_without_memory fault may refused (none_failed start bus d fault may refused))
 

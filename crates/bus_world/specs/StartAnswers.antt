@@ -1,5 +1,5 @@
 -- Why a bus doesn't start: the rows that come then, whichever program runs it
-use Rattle.std.specs.Prelude.{◌≡◌, ℕ, ◌+◌, ◌<◌, List, get_or}
+use Rattle.std.specs.Prelude.{◌≡◌, ◌⊎◌, ℕ, ◌+◌, ◌<◌, ◌≤◌, List, length, get_or}
 use Rattle.answer_rows.specs.Rows.{Row, row_of, memory_row}
 use Rattle.cut_disk.specs.State.{DiskState}
 use Rattle.cell_store.specs.declared.faults.Reread.TheVariants as reread
@@ -8,7 +8,7 @@ use Rattle.bus_world.specs.declared.start.Start.{Start}
 use Rattle.bus_world.specs.declared.start.StartFault.{StartFault}
 use Rattle.bus_world.specs.declared.start.StartFault.TheVariants as fault
 use Rattle.bus_world.specs.Starts.{NotStarted, HasRoom, FindsRoom}
-use Rattle.bus_world.specs.StartRows.{start_row, StoreCause, LeavesEach, DisksDo}
+use Rattle.bus_world.specs.StartRows.{start_row, HasMadeText, StoreCause, LeavesEach, DisksDo}
 
 -- what was known of the disks of a command before and after it
 pub record DiskStates : Type 0 where
@@ -27,17 +27,9 @@ CountsDiskFault d place = (disk : DiskState) → (get_or d.before place disk).fa
 abbrev pub failed_row : ℕ → Row
 failed_row place = start_row (fault.Store (place + 1) reread.DiskFailed)
 
--- memory may be wanting for a start itself; and for the row of a start over a bus where it tells what is wrong in a
--- node's cells
-abbrev pub MayWantMemory : StartFault → Type 0
-MayWantMemory fault.TooFew = ⊥
-MayWantMemory (fault.TooSmall node) = ⊥
-MayWantMemory (fault.Store node reread.DiskFailed) = ⊥
-MayWantMemory (fault.Store node reread.NotFormatted) = ⊥
-MayWantMemory (fault.Store node (reread.Damaged place)) = Unit {0}
-MayWantMemory (fault.BadSlot node slot) = Unit {0}
-MayWantMemory (fault.BadBound node cell) = Unit {0}
-MayWantMemory fault.Memory = Unit {0}
+-- memory may be wanting for a start itself; and for the row of a start over a bus, of 8 nodes at most, whose text is made
+abbrev pub MayWantMemory : NamedBus → StartFault → Type 0
+MayWantMemory bus cause = (cause ≡ fault.Memory) ⊎ ((length bus.nodes ≤ 8) × HasMadeText cause)
 
 -- the rows of a bus that doesn't start
 pub data ComesOfStart (start : Start) (bus : NamedBus) (d : DiskStates) : Row → Type 0 where
@@ -48,7 +40,7 @@ pub data ComesOfStart (start : Start) (bus : NamedBus) (d : DiskStates) : Row �
   store_refused : (fault : StartFault) → HasRoom bus d.before → StoreCause start bus d.before d.after fault
       → LeavesEach start bus d.before d.after → ComesOfStart start bus d (row_of 10 (start_row fault).text)
   -- there is no memory, and no disk failed
-  start_without_memory : (fault : StartFault) → MayWantMemory fault → NotStarted start bus d.before d.after fault
+  start_without_memory : (fault : StartFault) → MayWantMemory bus fault → NotStarted start bus d.before d.after fault
       → NoDiskFailed d → ComesOfStart start bus d memory_row
 
 -- one of them comes; where it is that of 9 every disk is as before, and `same` says so of the disks themselves

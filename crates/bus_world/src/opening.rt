@@ -1,5 +1,5 @@
 //! How a node is opened over its disk, and closed.
-ghost use Rattle.std.specs.Prelude.{◌≡◌, ◌+◌, ◌<◌, ◌≤◌, ◌∷◌, ◌++◌, length, map, IfOk, IfErr};
+ghost use Rattle.std.specs.Prelude.{◌≡◌, ◌+◌, ◌≤◌, ◌++◌, length, map, IfOk, IfErr};
 ghost use Rattle.std.specs.Vec.{vec_len, vec_capacity};
 ghost use Rattle.cell_store.specs.Store.{store_size};
 ghost use Rattle.any_cells.specs.Either.{layout};
@@ -10,7 +10,7 @@ ghost use Rattle.bus_world.specs.Opening.{AttachedTo, NotAttachedTo, MovedTo, No
 ghost use Rattle.bus_world.specs.Starts.{Opened, NotOpened, disks_of};
 
 use crate::start::Start;
-use any_cells::{AnyCells, Found, look, migrate};
+use any_cells::{AnyCells, Found, look, migrate, put_first};
 use cell_store::{Cells, Kind, Reread, StoreFault, Version};
 use cut_disk::{CutDisk, DiskFailed};
 use freshness_routes::NodeConfig;
@@ -206,17 +206,4 @@ pub fn close_nodes<D: CutDisk>(nodes: Vec<Node<AnyCells<D>>>, disks: &mut Vec<D>
         put_first(disks, node.release().release());
     }
     nodes.destroy_empty();
-}
-
-/// Puts a disk at the front of the list, in room that is there.
-pub(crate) fn put_first<D: CutDisk>(disks: &mut Vec<D>, disk: D)
-    requires { vec_len disks.old < vec_capacity disks.old }
-    ensures items { disks.new.items ≡ disk ∷ disks.old.items }
-    ensures length { vec_len disks.new ≡ vec_len disks.old + 1 }
-    ensures room { vec_capacity disks.old ≤ vec_capacity disks.new }
-{
-    match disks.insert(0, disk) {
-        Ok(()) => {}
-        Err(_) => unreachable!(),
-    }
 }

@@ -4,11 +4,11 @@ ghost use Rattle.std.specs.Fmt.{decimal};
 ghost use Rattle.answer_rows.specs.Rows.{row_of, memory_row};
 ghost use Rattle.cell_store.specs.declared.faults.Reread.TheVariants.{DiskFailed, NotFormatted};
 ghost use Rattle.bus_world.specs.declared.start.StartFault.TheVariants.{TooSmall, Store, BadSlot, BadBound};
-ghost use Rattle.bus_world.specs.StartRows.{start_row, reread_text, HasMadeText, IsStartRow};
+ghost use Rattle.bus_world.specs.StartRows.{start_row, reread_text, IsOfNoBus, IsStartRow};
 
 use crate::start::StartFault;
 use answer_rows::Refusal;
-use any_cells::store_fault_text;
+use any_cells::{fixed_fault_text, store_fault_text};
 use cell_store::{Reread, StoreFault};
 use std::alloc::{AllocError, Global};
 
@@ -42,8 +42,8 @@ fn made(status: u8, text: Result<String, AllocError>) -> Refusal
 fn small_refusal(alloc: Global, node: u8) -> Refusal
     ensures { IsStartRow (TooSmall node) result }
 {
-    match small_text(node) {
-        Some(text) => Refusal::fixed(9, text),
+    match fixed_texts(node) {
+        Some(texts) => Refusal::fixed(9, texts.small),
         None => made(9, format!(in alloc; "disks: node {node} too small\n")),
     }
 }
@@ -52,67 +52,51 @@ fn small_refusal(alloc: Global, node: u8) -> Refusal
 fn store_refusal(alloc: Global, node: u8, reread: Reread) -> Refusal
     ensures { IsStartRow (Store node reread) result }
 {
-    let fixed = match reread {
-        Reread::DiskFailed => failed_text(node),
-        Reread::NotFormatted => foreign_text(node),
-        Reread::Damaged(_) => None,
+    match (reread, fixed_texts(node)) {
+        (Reread::DiskFailed, Some(texts)) => Refusal::fixed(10, texts.failed),
+        (Reread::NotFormatted, Some(texts)) => Refusal::fixed(10, texts.foreign),
+        (Reread::Damaged(_), _) | (_, None) => made(10, store_text(alloc, node, reread)),
+    }
+}
+
+/// The texts of a node of a bus that are fixed.
+#[derive(Drop)]
+struct FixedTexts {
+    /// Its disk is too small.
+    small: &'static str,
+    /// Its disk failed.
+    failed: &'static str,
+    /// Something else stands on its disk than its store.
+    foreign: &'static str,
+}
+
+/// Those of the node with this number.
+macro_rules! fixed_texts_of {
+    ($number:literal) => {
+        Some(FixedTexts {
+            small: concat!("disks: node ", $number, " too small\n"),
+            failed: fixed_fault_text!("store: node ", $number, ": ", DiskFailed, "\n"),
+            foreign: fixed_fault_text!("store: node ", $number, ": ", NotFormatted, "\n"),
+        })
     };
-    match fixed {
-        Some(text) => Refusal::fixed(10, text),
-        None => made(10, store_text(alloc, node, reread)),
-    }
 }
 
-/// The text of a disk that is too small, of a node of a bus.
-fn small_text(node: u8) -> Option<&'static str>
-    ensures fixed { IfSome result (λ text. text.now ≡ (start_row (TooSmall node)).text) }
-    ensures made { IfNone result (HasMadeText (TooSmall node)) }
+/// The fixed texts of the node with this number, which is 1 to 8 in a bus.
+fn fixed_texts(node: u8) -> Option<FixedTexts>
+    ensures fixed { IfSome result (λ texts. (texts.small.now ≡ (start_row (TooSmall node)).text)
+        × (texts.failed.now ≡ (start_row (Store node DiskFailed)).text)
+        × (texts.foreign.now ≡ (start_row (Store node NotFormatted)).text)) }
+    ensures made { IfNone result (IsOfNoBus node) }
 {
     match node {
-        1 => Some("disks: node 1 too small\n"),
-        2 => Some("disks: node 2 too small\n"),
-        3 => Some("disks: node 3 too small\n"),
-        4 => Some("disks: node 4 too small\n"),
-        5 => Some("disks: node 5 too small\n"),
-        6 => Some("disks: node 6 too small\n"),
-        7 => Some("disks: node 7 too small\n"),
-        8 => Some("disks: node 8 too small\n"),
-        _ => None,
-    }
-}
-
-/// The text of a disk that failed, of a node of a bus.
-fn failed_text(node: u8) -> Option<&'static str>
-    ensures fixed { IfSome result (λ text. text.now ≡ (start_row (Store node DiskFailed)).text) }
-    ensures made { IfNone result (HasMadeText (Store node DiskFailed)) }
-{
-    match node {
-        1 => Some("store: node 1: DiskFailed\n"),
-        2 => Some("store: node 2: DiskFailed\n"),
-        3 => Some("store: node 3: DiskFailed\n"),
-        4 => Some("store: node 4: DiskFailed\n"),
-        5 => Some("store: node 5: DiskFailed\n"),
-        6 => Some("store: node 6: DiskFailed\n"),
-        7 => Some("store: node 7: DiskFailed\n"),
-        8 => Some("store: node 8: DiskFailed\n"),
-        _ => None,
-    }
-}
-
-/// The text of a disk on which something else stands than the store of its node, of a node of a bus.
-fn foreign_text(node: u8) -> Option<&'static str>
-    ensures fixed { IfSome result (λ text. text.now ≡ (start_row (Store node NotFormatted)).text) }
-    ensures made { IfNone result (HasMadeText (Store node NotFormatted)) }
-{
-    match node {
-        1 => Some("store: node 1: NotFormatted\n"),
-        2 => Some("store: node 2: NotFormatted\n"),
-        3 => Some("store: node 3: NotFormatted\n"),
-        4 => Some("store: node 4: NotFormatted\n"),
-        5 => Some("store: node 5: NotFormatted\n"),
-        6 => Some("store: node 6: NotFormatted\n"),
-        7 => Some("store: node 7: NotFormatted\n"),
-        8 => Some("store: node 8: NotFormatted\n"),
+        1 => fixed_texts_of!(1),
+        2 => fixed_texts_of!(2),
+        3 => fixed_texts_of!(3),
+        4 => fixed_texts_of!(4),
+        5 => fixed_texts_of!(5),
+        6 => fixed_texts_of!(6),
+        7 => fixed_texts_of!(7),
+        8 => fixed_texts_of!(8),
         _ => None,
     }
 }

@@ -1,5 +1,5 @@
 //! How a world starts, and how it ends.
-ghost use Rattle.std.specs.Prelude.{◌≡◌, ◌+◌, ◌≤◌, ◌<◌, ◌++◌, ◌∷◌, [], length, map, drop, MatchResult, IfOk, IfErr};
+ghost use Rattle.std.specs.Prelude.{◌≡◌, ◌+◌, ◌≤◌, ◌<◌, [], length, map, drop, MatchResult, IfOk, IfErr};
 ghost use Rattle.std.specs.Prelude.{OnOk};
 ghost use Rattle.std.specs.Vec.{vec_len, vec_capacity};
 ghost use Rattle.any_cells.specs.Either.{layout};
@@ -9,9 +9,9 @@ ghost use Rattle.bus_world.specs.Starts.{cells_in, HasRoom, FindsRoom, OpenedFir
 ghost use Rattle.bus_world.specs.Starts.{fault_of_node as fault_numbered};
 ghost use Rattle.bus_world.specs.StartRows.{start_row};
 
-use crate::opening::{OpenFault, close_nodes, open_node, put_first};
+use crate::opening::{OpenFault, close_nodes, open_node};
 use crate::world::World;
-use any_cells::{AnyCells, store_size};
+use any_cells::{AnyCells, put_first, store_size};
 use bus_nodes::BusConfig;
 use cell_store::Reread;
 use cut_disk::CutDisk;
@@ -213,7 +213,7 @@ fn open_all<D: CutDisk>(
     for (place, node) in bus.nodes().iter().enumerate() {
         let disk = disks.remove(0);
         match open_node(alloc, bus.kind(), bus.version(), &node.config, start, disk) {
-            Ok(node) => keep(nodes, node),
+            Ok(node) => nodes.push_reserved(node),
             Err(unopened) => {
                 put_first(disks, unopened.disk);
                 return Err(fault_of_node(number_of(place), &unopened.fault));
@@ -221,19 +221,6 @@ fn open_all<D: CutDisk>(
         }
     }
     Ok(())
-}
-
-/// Adds a node, for which there is room.
-fn keep<D: CutDisk>(nodes: &mut Vec<Node<AnyCells<D>>>, node: Node<AnyCells<D>>)
-    requires { vec_len nodes.old < vec_capacity nodes.old }
-    ensures items { nodes.new.items ≡ nodes.old.items ++ node ∷ [] }
-    ensures length { vec_len nodes.new ≡ vec_len nodes.old + 1 }
-    ensures room { vec_capacity nodes.old ≤ vec_capacity nodes.new }
-{
-    match nodes.push(node) {
-        Ok(()) => {}
-        Err(_) => unreachable!(),
-    }
 }
 
 /// The fault of the node with this number.

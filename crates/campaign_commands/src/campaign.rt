@@ -1,6 +1,6 @@
 //! A campaign over disks.
-ghost use Rattle.std.specs.Prelude.{◌≡◌, ◌<◌, ◌≤◌, ◌+◌, ◌∷◌, map, MatchResult};
-ghost use Rattle.std.specs.Vec.{vec_len, vec_capacity};
+ghost use Rattle.std.specs.Prelude.{◌≡◌, ◌<◌, ◌≤◌, ◌+◌, map, MatchResult};
+ghost use Rattle.std.specs.Vec.{vec_len};
 ghost use Rattle.cut_disk.specs.State.{DiskState};
 ghost use Rattle.answer_rows.specs.Rows.{row_of};
 ghost use Rattle.campaign_commands.specs.Opening.{LedgerOpened, ledger_size};
@@ -12,7 +12,7 @@ use crate::opening::open_ledger;
 use crate::refusals::{no_disk_refusal, no_ledger_refusal, small_disk_refusal};
 use crate::station::Station;
 use answer_rows::{Refusal, tell_refusal};
-use any_cells::{AnyCells, store_size};
+use any_cells::{AnyCells, put_first, store_size};
 use bus_port::{Memory, Sink};
 use campaign_machine::{LedgerCommand, LedgerLine};
 use campaign_texts::write_ledger_line;
@@ -101,19 +101,8 @@ fn on_first_disk<K: Sink, D: CutDisk>(
 {
     let disk = disks.remove(0);
     let (disk, status) = on_disk(alloc, commands, sink, disk);
-    put_back(disks, disk);
+    put_first(disks, disk);
     status
-}
-
-/// Puts a disk at the front of the list, in room that is there.
-fn put_back<D: CutDisk>(disks: &mut Vec<D>, disk: D)
-    requires { vec_len disks.old < vec_capacity disks.old }
-    ensures { disks.new.items ≡ disk ∷ disks.old.items }
-{
-    match disks.insert(0, disk) {
-        Ok(()) => {}
-        Err(_) => unreachable!(),
-    }
 }
 
 /// The campaign over one disk, which is handed back.

@@ -8,7 +8,7 @@ ghost use Rattle.answer_rows.specs.Rows.{row_of};
 
 use crate::opening::NoLedgerCause;
 use answer_rows::Refusal;
-use any_cells::store_fault_text;
+use any_cells::{fixed_fault_text, store_fault_text};
 use cell_store::StoreFault;
 use std::alloc::{AllocError, Global};
 
@@ -41,11 +41,13 @@ pub fn no_ledger_refusal(alloc: Global, cause: NoLedgerCause) -> Refusal
     ensures { IsNoLedgerRow cause result }
 {
     match cause {
-        NoLedgerCause::Store(StoreFault::TooSmall) => Refusal::fixed(9, "disks: too small\n"),
+        NoLedgerCause::Store(StoreFault::TooSmall) => small_disk_refusal(),
         NoLedgerCause::Store(StoreFault::Memory) => Refusal::no_memory(),
-        NoLedgerCause::Store(StoreFault::DiskFailed) => Refusal::fixed(10, "store: DiskFailed\n"),
+        NoLedgerCause::Store(StoreFault::DiskFailed) => {
+            Refusal::fixed(10, fixed_fault_text!("store: ", DiskFailed, "\n"))
+        }
         NoLedgerCause::Store(StoreFault::NotFormatted) => {
-            Refusal::fixed(10, "store: NotFormatted\n")
+            Refusal::fixed(10, fixed_fault_text!("store: ", NotFormatted, "\n"))
         }
         NoLedgerCause::Store(fault) => match store_text(alloc, fault) {
             Ok(text) => Refusal::made(10, text),

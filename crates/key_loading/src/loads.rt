@@ -1,7 +1,6 @@
 //! The requests of a source, loaded into the engine of the store on the first disk.
-ghost use Rattle.std.specs.Prelude.{◌≡◌, ◌≢◌, ◌<◌, ◌≤◌, ◌^◌, ◌∷◌, length, map, replicate, IfOk, IfErr};
+ghost use Rattle.std.specs.Prelude.{◌≡◌, ◌≢◌, ◌<◌, ◌≤◌, ◌^◌, length, map, replicate, IfOk, IfErr};
 ghost use Rattle.std.specs.Prelude.{Ok};
-ghost use Rattle.std.specs.Vec.{vec_len, vec_capacity};
 ghost use Rattle.secoc_words.specs.Frames.{loads_of};
 ghost use Rattle.line_rows.specs.LineRows.{NoLines};
 ghost use Rattle.key_loading.specs.Promises.{RunsLoad};
@@ -10,6 +9,7 @@ ghost use Rattle.key_loading.specs.Loads.{EndsLoad, EndsOnDisk, EndsOverDisks, R
 use crate::loading::load_requests;
 use crate::opening::open_loader;
 use answer_rows::{Refusal, tell_refusal};
+use any_cells::put_first;
 use bus_port::{Sink, Source};
 use command_edge::read_input;
 use cut_disk::Disk;
@@ -126,16 +126,5 @@ fn load_on<K: Sink, D: Disk>(
             let status = tell_refusal(sink, &unopened.refusal);
             (unopened.disk, status)
         }
-    }
-}
-
-/// Puts a disk at the front of the list, in room that is there.
-fn put_first<D: Disk>(disks: &mut Vec<D>, disk: D)
-    requires { vec_len disks.old < vec_capacity disks.old }
-    ensures { disks.new.items ≡ disk ∷ disks.old.items }
-{
-    match disks.insert(0, disk) {
-        Ok(()) => {}
-        Err(_) => unreachable!(),
     }
 }

@@ -10,7 +10,7 @@ ghost use Rattle.key_loading.specs.Loader.{HoldsAll};
 use crate::finding::{CountingStore, find_store};
 use crate::loader::Loader;
 use answer_rows::Refusal;
-use any_cells::{AnyCells, store_fault_text};
+use any_cells::{AnyCells, fixed_fault_text, store_fault_text};
 use cell_store::{Cells, StoreFault};
 use cut_disk::Disk;
 use key_slots::SlotId;
@@ -103,9 +103,11 @@ fn store_refusal(alloc: Global, fault: StoreFault) -> Refusal
     ensures { TellsStoreFault fault result }
 {
     match fault {
-        StoreFault::DiskFailed => Refusal::fixed(9, "store: DiskFailed\n"),
-        StoreFault::NotFormatted => Refusal::fixed(9, "store: NotFormatted\n"),
-        StoreFault::TooSmall => Refusal::fixed(9, "store: TooSmall\n"),
+        StoreFault::DiskFailed => Refusal::fixed(9, fixed_fault_text!("store: ", DiskFailed, "\n")),
+        StoreFault::NotFormatted => {
+            Refusal::fixed(9, fixed_fault_text!("store: ", NotFormatted, "\n"))
+        }
+        StoreFault::TooSmall => Refusal::fixed(9, fixed_fault_text!("store: ", TooSmall, "\n")),
         StoreFault::Memory => Refusal::no_memory(),
         StoreFault::Damaged(_) => match store_fault_text(alloc, fault) {
             Ok(cause) => made_refusal(format!(in alloc; "store: {cause}\n")),

@@ -70,11 +70,11 @@ loop-place-preserved g c =
     let at = λ (l : NodeLine). get_or_default bus.nodes place l line inside ∙ sym (subst (λ xs. line ≡ get_or xs place line) c.nodes-node-items.ensures.value c.node-item.is) in
     let here = λ (d : DiskState). first_state st c.loop-place.disks.items x states place d c.loop-place.invariant.1
     (omega (arith, length-map c.loop-place.disks.items st, ap length c.loop-place.invariant.1, length-drop place states, c.requires.room.enough, inside)) c.remove-disk.ensures.value in (
-      opened_more c.args.start place bus states c.loop-place.nodes.items c.keep.new.nodes.items c.in-Ok.node line (st x) c.loop-place.invariant.0 c.keep.ensures.items at here
+      opened_more c.args.start place bus states c.loop-place.nodes.items c.push_reserved.new.self.items c.in-Ok.node line (st x) c.loop-place.invariant.0 c.push_reserved.ensures.items at here
           (subst (λ k. Opened c.args.start k bus.version line.config (st x) c.in-Ok.node) c.kind.ensures (subst (λ v. Opened c.args.start c.kind.result v line.config (st x) c.in-Ok.node) c.version.ensures c.in-Ok.ensures.opened)),
       states_left st c.loop-place.disks.items c.remove-disk.new.self.items states place c.loop-place.invariant.1 c.remove-disk.ensures.by_index.2,
       omega (arith, c.remove-disk.ensures.len, c.loop-place.invariant.2),
       omega (arith, c.remove-disk.ensures.capacity, c.loop-place.invariant.3),
-      omega (arith, c.keep.ensures.length, c.loop-place.invariant.4),
-      omega (arith, c.keep.ensures.room, c.loop-place.invariant.5),
+      omega (arith, c.push_reserved.ensures.len, c.loop-place.invariant.4),
+      omega (arith, c.push_reserved.ensures.capacity, c.loop-place.invariant.5),
     )

@@ -11,4 +11,4 @@ returns-then-is_empty g c =
 pub returns : goal.returns
 returns g c =
     over_first g.D.Disk.state c.args.uid c.args.requests.now _ c.args.disks.now.items c.remove-disk.new.self.items c.put_first.new.disks.items c.remove-disk.result _
-    g.met.D.Disk.is_disk (search rules) c.remove-disk.ensures.value c.remove-disk.ensures.by_index.2 c.put_first.ensures c.load_on-disk.ensures
+    g.met.D.Disk.is_disk (search rules) c.remove-disk.ensures.value c.remove-disk.ensures.by_index.2 c.put_first.ensures.items c.load_on-disk.ensures
