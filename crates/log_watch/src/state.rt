@@ -1,9 +1,9 @@
 //! The state between two pieces of a log.
-ghost use Rattle.std.specs.Prelude.{◌≡◌, ◌+◌, ◌<◌, ◌≤◌, ◌++◌, [], ◌∷◌, length, take, codes, List, ℕ, IfOk, OnOk};
+ghost use Rattle.std.specs.Prelude.{◌≡◌, ◌+◌, ◌<◌, ◌≤◌, ◌++◌, [], ◌∷◌, length, take, codes, List, ℕ, IfOk};
+ghost use Rattle.std.specs.Prelude.{vec_len, vec_capacity};
 ghost use Rattle.std.specs.List.{position_or_len};
 ghost use Rattle.command_edge.specs.Told.{EndingTold};
 ghost use Rattle.text_lines.specs.Lines.{is_line_feed};
-ghost use Rattle.text_lines.specs.Room.{AddsAtMost};
 ghost use Rattle.trace_audit.specs.Auditing.{Finding, is_other_tally};
 ghost use Rattle.log_watch.specs.Watching.{count_line, numbers_text, watch_status, found_text, FindsAll};
 ghost use Rattle.log_watch.specs.Watching.{is_accepted_tally, is_failed_tally};
@@ -15,7 +15,6 @@ use itoa::Buffer;
 use memchr::memchr_iter;
 use std::alloc::{AllocError, Global};
 use std::marker::Model;
-use text_lines::Memory;
 use text_lines::span::Span;
 use text_lines::words::{Words, put_words};
 use trace_audit::{MapLine, Tally, counters_of, push_finding};
@@ -176,10 +175,7 @@ impl Watch {
     {
         let room = LINE_LIMIT + 1 - self.line.len();
         let kept = &bytes[..room.min(bytes.len())];
-        match self.line.extend_from_slice(kept) {
-            Ok(()) => (),
-            Err(_) => unreachable!(),
-        }
+        add_bytes(&mut self.line, kept);
     }
 
     /// A line feed came: adds what is found of the line, and counts it.
@@ -220,24 +216,20 @@ impl Watch {
         if self.line.len() > LINE_LIMIT {
             return Some(Tally::Other);
         }
-        match put_words(&mut self.spans, self.line.as_slice()) {
-            Ok(()) => (),
-            Err(Memory) => unreachable!(),
-        }
+        put_words(&mut self.spans, self.line.as_slice()).unwrap();
         let words = Words::of(self.line.as_slice(), self.spans.as_slice());
         if words.is_skipped() {
             return None;
         }
-        match push_finding(
+        let tally = push_finding(
             self.map.as_slice(),
             self.counters.as_mut_slice(),
             self.lines,
             &words,
             &mut self.text,
-        ) {
-            Ok(tally) => Some(tally),
-            Err(AllocError) => unreachable!(),
-        }
+        )
+        .unwrap();
+        Some(tally)
     }
 
     /// Adds the three numbers.
@@ -245,10 +237,7 @@ impl Watch {
         requires { length self.old.text + 208 ≤ 852176 }
         ensures { self.new ≡ record self.old { text = self.old.text ++ counts_text self.old } }
     {
-        match push_three(&mut self.text, self.accepted, self.failed, self.others) {
-            Ok(()) => (),
-            Err(AllocError) => unreachable!(),
-        }
+        add_three(&mut self.text, self.accepted, self.failed, self.others);
     }
 }
 
@@ -262,26 +251,38 @@ fn until_feed(bytes: &[u8]) -> usize
     feeds.next().unwrap_or(bytes.len())
 }
 
-/// Adds a line of a name and a number. In room for 50 bytes it takes no memory.
-fn push_number(text: &mut Vec<u8>, name: &[u8], number: u64) -> Result<(), AllocError>
-    requires { length name.now ≤ 9 }
-    ensures line { OnOk result (text.new.items ≡ text.old.items ++ count_line name.now number) }
-    ensures room { AddsAtMost 50 text.old text.new result }
+/// Adds bytes in room that there is. It takes no memory.
+fn add_bytes(text: &mut Vec<u8>, bytes: &[u8])
+    requires { vec_len text.old + length bytes.now ≤ vec_capacity text.old }
+    ensures bytes { text.new.items ≡ text.old.items ++ bytes.now }
+    ensures len { vec_len text.new ≡ vec_len text.old + length bytes.now }
+    ensures capacity { vec_capacity text.old ≤ vec_capacity text.new }
 {
-    let mut digits = Buffer::new();
-    text.extend_from_slice(name)?;
-    text.extend_from_slice(digits.format(number).as_bytes())?;
-    text.push(b'\n')?;
-    Ok(())
+    text.extend_from_slice(bytes).unwrap();
 }
 
-/// Adds the three numbers. In room for 150 bytes it takes no memory.
-fn push_three(text: &mut Vec<u8>, accepted: u64, failed: u64, others: u64) -> Result<(), AllocError>
-    ensures lines { OnOk result (text.new.items ≡ text.old.items ++ count_line (codes "accepted ") accepted
-        ++ count_line (codes "failed ") failed ++ count_line (codes "other ") others) }
-    ensures room { AddsAtMost 150 text.old text.new result }
+/// Adds a line of a name of at most 9 bytes and a number, in room for 50 bytes. It takes no memory.
+fn add_number(text: &mut Vec<u8>, name: &[u8], number: u64)
+    requires name { length name.now ≤ 9 }
+    requires room { vec_len text.old + 50 ≤ vec_capacity text.old }
+    ensures line { text.new.items ≡ text.old.items ++ count_line name.now number }
+    ensures few { vec_len text.new ≤ vec_len text.old + 50 }
+    ensures capacity { vec_capacity text.old ≤ vec_capacity text.new }
 {
-    push_number(text, b"accepted ", accepted)?;
-    push_number(text, b"failed ", failed)?;
-    push_number(text, b"other ", others)
+    let mut digits = Buffer::new();
+    add_bytes(text, name);
+    add_bytes(text, digits.format(number).as_bytes());
+    text.push_reserved(b'\n');
+}
+
+/// Adds the three numbers, in room for 150 bytes. It takes no memory.
+fn add_three(text: &mut Vec<u8>, accepted: u64, failed: u64, others: u64)
+    requires { vec_len text.old + 150 ≤ vec_capacity text.old }
+    ensures lines { text.new.items ≡ text.old.items ++ count_line (codes "accepted ") accepted
+        ++ count_line (codes "failed ") failed ++ count_line (codes "other ") others }
+    ensures capacity { vec_capacity text.old ≤ vec_capacity text.new }
+{
+    add_number(text, b"accepted ", accepted);
+    add_number(text, b"failed ", failed);
+    add_number(text, b"other ", others);
 }
