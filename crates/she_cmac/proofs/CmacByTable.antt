@@ -24,8 +24,8 @@ unfolding tabled_last last_block first_subkey second_subkey
 tabled_last_is key piece =
     ap
     (λ n. if length piece == 16
-        then xor_blocks piece (bytes_of 16 (dbl n))
-        else xor_blocks (piece ++ 128 ∷ replicate (15 - length piece) 0) (bytes_of 16 (dbl (dbl n)))) (tabled_zero_is key)
+    then xor_blocks piece (bytes_of 16 (dbl n))
+    else xor_blocks (piece ++ 128 ∷ replicate (15 - length piece) 0) (bytes_of 16 (dbl (dbl n)))) (tabled_zero_is key)
 
 -- blocks chained from a value on
 unfoldable pub tabled_chain : List ℕ → List ℕ → List (List ℕ) → List ℕ

@@ -1,5 +1,5 @@
 -- The derivation of keys with the cipher's S-box read from a table, to compute examples by: it is the derivation.
-use Rattle.std.specs.Prelude.{◌≡◌, ℕ, List, [], ◌∷◌}
+use Rattle.std.specs.Prelude.{◌≡◌, ℕ, List}
 use Rattle.std.proofs.Common.{ap, ◌∙◌}
 use Rattle.she_aes.specs.Cipher.{zero_block, xor_blocks}
 use Rattle.she_aes.proofs.CipherByTable.{enc_by_table, enc_by_table_is}
