@@ -125,21 +125,19 @@ static const char *refusal(const node *n, const route *r, size_t pdu)
     return n->has_key[r->slot] ? NULL : "refused KEY_EMPTY";
 }
 
-static void print_text(const char *line) { print(line, strlen(line)); }
-
 static void print_front(const char *name, const uint8_t *id, const uint8_t *freshness)
 {
     print_text(name);
     print_digits(id, 2);
-    print(" ", 1);
+    print_text(" ");
     print_digits(freshness, 8);
-    print(" ", 1);
+    print_text(" ");
 }
 
 /* ---- events: each prints its text, without its number and line feed */
 
 /* key NODE UID SLOT SLOT KEY COUNTER FLAGS KEY */
-static void key(text line)
+static void take_key(text line)
 {
     node *n = node_of(next_word(&line));
     next_word(&line);
@@ -160,7 +158,7 @@ static void key(text line)
 }
 
 /* send NODE ID BYTES */
-static void send(text line, uint32_t number)
+static void send_payload(text line, uint32_t number)
 {
     uint8_t message[MOST_MESSAGE];
     node *n = node_of(next_word(&line));
@@ -196,7 +194,7 @@ static uint32_t source(const route *sender, uint64_t freshness, const uint8_t *p
 }
 
 /* deliver NODE EVENT */
-static void deliver(text line, uint32_t before)
+static void deliver_pdu(text line, uint32_t before)
 {
     static const char *const failures[] = {"", "refused BadLength", "FRESHNESSFAILURE", "VERIFICATIONFAILURE"};
     uint8_t message[MOST_MESSAGE];
@@ -236,12 +234,12 @@ int main(int count, char **words)
         text event = next_word(&line);
         if (is_skipped(event)) continue;
         print_decimal(++number);
-        print(" ", 1);
-        if (is_word(event, "send")) send(line, number);
-        else if (is_word(event, "deliver")) deliver(line, number);
-        else if (is_word(event, "key")) key(line);
+        print_text(" ");
+        if (is_word(event, "send")) send_payload(line, number);
+        else if (is_word(event, "deliver")) deliver_pdu(line, number);
+        else if (is_word(event, "key")) take_key(line);
         else stop("an event that isn't known here");
-        print("\n", 1);
+        print_text("\n");
         flush();
     }
     return 0;

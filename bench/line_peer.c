@@ -29,7 +29,7 @@ static void frame_line(const char *line, size_t len)
     secure(s, message, payload, end);
     print_digits(message + 2, payload);
     print_digits(end, 4);
-    print("\n", 1);
+    print_text("\n");
 }
 
 static void judge_line(const char *line, size_t len)

@@ -78,17 +78,17 @@ static void read_map(const char *name)
     while (next_line(&rest, &line)) {
         text word = next_word(&line);
         if (is_skipped(word)) continue;
-        map_line *made_line = &map[map_lines];
-        if (map_lines++ == MOST_LINES || !is_can(word, &made_line->can)) stop("the map is wrong");
-        for (const char *at = word.at; at < word.end; at++) made_line->digits[made_line->digit_count++] = "0123456789abcdef"[digit_value(*at)];
-        bytes_of(next_word(&line).at, 4, made_line->id);
+        map_line *added = &map[map_lines];
+        if (map_lines++ == MOST_LINES || !is_can(word, &added->can)) stop("the map is wrong");
+        for (const char *at = word.at; at < word.end; at++) added->digits[added->digit_count++] = "0123456789abcdef"[digit_value(*at)];
+        bytes_of(next_word(&line).at, 4, added->id);
         bytes_of(next_word(&line).at, 32, key);
-        expand(&made_line->key, key);
+        expand(&added->key, key);
         bytes_of(next_word(&line).at, 16, counter);
-        made_line->counter = number_of(counter);
-        made_line->payload = decimal(next_word(&line));
+        added->counter = number_of(counter);
+        added->payload = decimal(next_word(&line));
         if (size_of(next_word(&line))) stop("the map is wrong");
-        *place_of(made_line->can) = made_line;
+        *place_of(added->can) = added;
     }
 }
 
@@ -110,22 +110,22 @@ static map_line *frame_of(text word, uint8_t *bytes, size_t *count)
     return *place_of(can);
 }
 
-/* What is found of a line of the log that isn't skipped is printed, and counted. */
-static void look_at(unsigned long number, text word, text line)
+/* What is found of a line of the log that isn't skipped, its first word and the rest, is printed, and counted. */
+static void look_at(unsigned long number, text first, text line)
 {
     uint8_t message[MOST_MESSAGE];
     size_t count;
     text channel = next_word(&line), frame = next_word(&line);
     map_line *mapped = NULL;
-    if (*word.at == '(' && word.end[-1] == ')' && size_of(channel) && size_of(frame)) mapped = frame_of(frame, message + 2, &count);
+    if (*first.at == '(' && first.end[-1] == ')' && size_of(channel) && size_of(frame)) mapped = frame_of(frame, message + 2, &count);
     if (!mapped) {
         numbers[OTHERS]++;
         return;
     }
     print_decimal(number);
-    print(" ", 1);
+    print_text(" ");
     print(mapped->digits, mapped->digit_count);
-    print(" ", 1);
+    print_text(" ");
     memcpy(message, mapped->id, 2);
     size_t pdu = mapped->payload + 4;
     verdict found = count < pdu ? BAD_LENGTH : judge(&mapped->key, message, pdu, 256, &mapped->counter);
@@ -135,17 +135,17 @@ static void look_at(unsigned long number, text word, text line)
 
 static void print_count(const char *name, unsigned long number)
 {
-    print(name, strlen(name));
+    print_text(name);
     print_decimal(number);
-    print("\n", 1);
+    print_text("\n");
 }
 
 static void audit(void)
 {
     text rest = read_all(NULL), line;
     for (unsigned long number = 1; next_line(&rest, &line); number++) {
-        text word = next_word(&line);
-        if (!is_skipped(word)) look_at(number, word, line);
+        text first = next_word(&line);
+        if (!is_skipped(first)) look_at(number, first, line);
     }
     print_count("other ", numbers[OTHERS]);
     flush();
@@ -154,9 +154,9 @@ static void audit(void)
 /* A complete line of a log that has any length: one of more than 4,096 bytes is an other one. */
 static void watch_line(unsigned long number, text line, size_t length)
 {
-    text word = next_word(&line);
+    text first = next_word(&line);
     if (length > MOST_LINE) numbers[OTHERS]++;
-    else if (!is_skipped(word)) look_at(number, word, line);
+    else if (!is_skipped(first)) look_at(number, first, line);
 }
 
 /* Looks at the complete lines of these bytes, and gives the one that isn't complete. */

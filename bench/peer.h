@@ -186,6 +186,8 @@ static void print(const char *bytes, size_t len)
     made += len;
 }
 
+static void print_text(const char *line) { print(line, strlen(line)); }
+
 static void print_digits(const uint8_t *bytes, size_t len)
 {
     for (size_t i = 0; i < len; i++) {
@@ -207,14 +209,14 @@ static inline void print_decimal(unsigned long number)
 static inline void print_verdict(verdict found, const uint8_t *message, size_t pdu)
 {
     switch (found) {
-    case BAD_LENGTH: print("BadLength\n", 10); break;
-    case FRESHNESS_FAILURE: print("FRESHNESSFAILURE\n", 17); break;
-    case VERIFICATION_FAILURE: print("VERIFICATIONFAILURE\n", 20); break;
+    case BAD_LENGTH: print_text("BadLength\n"); break;
+    case FRESHNESS_FAILURE: print_text("FRESHNESSFAILURE\n"); break;
+    case VERIFICATION_FAILURE: print_text("VERIFICATIONFAILURE\n"); break;
     case ACCEPTED:
-        print("VERIFICATIONSUCCESS ", 20);
+        print_text("VERIFICATIONSUCCESS ");
         print_digits(message + pdu - 2, 8);
-        print(" ", 1);
+        print_text(" ");
         print_digits(message + 2, pdu - 4);
-        print("\n", 1);
+        print_text("\n");
     }
 }
