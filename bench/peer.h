@@ -119,6 +119,7 @@ static text read_all(const char *name)
     if (!file) stop("no such file");
     text whole = {input + taken, NULL};
     taken += fread(input + taken, 1, sizeof input - taken, file);
+    if (taken == sizeof input) stop("the input is too long");
     whole.end = input + taken;
     return whole;
 }
