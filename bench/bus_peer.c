@@ -1,5 +1,5 @@
 /* The work of `bus_replay replay BUS -` in C, for comparison: `bus_peer BUS` reads a bus file and, from standard input, a script of that bus, and
-   prints the line of each event as soon as it is done.
+   prints the line of each event as soon as it is done, or, with the word at_once behind BUS, all lines in one piece.
    It knows the events key, send and deliver. Counters stand in variables, and a bound that moves is written once, as its cell of 32 bytes, into an array:
    there is no store, nothing is synced, and no cut is survived. A key is taken as it stands: no update M1 to M5 is made or read. Bus file and
    script are taken to be right; of TOML only tables and lines of a name and a value are read. peer.h says how it is built. */
@@ -37,7 +37,9 @@ static node nodes[MOST_NODES];
 static size_t node_count;
 static sent events[MOST_EVENTS + 1];
 
-static int is_word(text it, const char *word) { return size_of(it) == strlen(word) && memcmp(it.at, word, size_of(it)) == 0; }
+static int is_same(text it, text other) { return size_of(it) == size_of(other) && memcmp(it.at, other.at, size_of(it)) == 0; }
+
+static int is_word(text it, const char *word) { return is_same(it, (text){word, word + strlen(word)}); }
 
 /* ---- the bus file */
 
@@ -95,7 +97,7 @@ static void read_bus(const char *name)
 static node *node_of(text name)
 {
     for (size_t i = 0; i < node_count; i++)
-        if (size_of(name) == size_of(nodes[i].name) && memcmp(name.at, nodes[i].name.at, size_of(name)) == 0) return &nodes[i];
+        if (is_same(name, nodes[i].name)) return &nodes[i];
     stop("no such node");
     return NULL;
 }
@@ -226,7 +228,8 @@ static void deliver_pdu(text line, uint32_t before)
 
 int main(int count, char **words)
 {
-    if (count != 2) stop("usage: bus_peer BUS");
+    int at_once = count == 3 && strcmp(words[2], "at_once") == 0;
+    if (count != 2 && !at_once) stop("usage: bus_peer BUS, bus_peer BUS at_once");
     read_bus(words[1]);
     text rest = read_all(NULL), line;
     uint32_t number = 0;
@@ -240,7 +243,8 @@ int main(int count, char **words)
         else if (is_word(event, "key")) take_key(line);
         else stop("an event that isn't known here");
         print_text("\n");
-        flush();
+        if (!at_once) flush();
     }
+    flush();
     return 0;
 }

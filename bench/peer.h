@@ -109,7 +109,8 @@ static void stop(const char *what)
     exit(1);
 }
 
-static char input[1 << 22];
+/* Both inputs of a program have at most 1,048,576 bytes, and 65,536 events print at most 170 bytes each. */
+static char input[(1 << 21) + 1];
 static size_t taken;
 
 /* All of a file, or of standard input where no name is given. */
@@ -167,7 +168,7 @@ static inline unsigned long decimal(text word)
     return number;
 }
 
-static char output[1 << 22];
+static char output[1 << 24];
 static size_t made;
 
 /* Writes what was printed. */
