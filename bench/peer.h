@@ -55,7 +55,7 @@ static void cmac(const schedule *s, const uint8_t *message, size_t len, uint8_t 
 }
 
 /* A message is a Data ID (2 bytes), a payload and a whole freshness (8 bytes): the authenticated input. A PDU that is judged stands behind the
-   Data ID, and the freshness then over its last four bytes. */
+   Data ID, and its freshness is then written behind the payload, over its last four bytes. */
 enum { MOST_PDU = 64, MOST_MESSAGE = 2 + MOST_PDU + 4 };
 
 static void put_number(uint8_t *bytes, uint64_t number)
