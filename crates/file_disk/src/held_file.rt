@@ -8,8 +8,8 @@ use crate::byte_file::{ByteFile, FileFailed};
 use crate::system_file::{FIRST_SIZE, SystemFile};
 use std::alloc::{AllocError, Global};
 
-/// The bytes that are held at most, from the first one on. The largest store, a twin store of 1,024 cells in version 2, ends
-/// at 102,432 bytes; this is the power of two above it.
+/// How many bytes are held at most, from the first one on. The largest store, a log store of 1,024 cells in version 2, ends
+/// behind 102,820 bytes; this is the power of two above it.
 pub const MOST_HELD: usize = 131_072;
 
 /// A file that tells its bytes: those that it read as when it was opened, and what was written to it since then. They are
