@@ -31,7 +31,7 @@ most_first false n size opened none = let is = none refl in omega (arith, is)
 
 pub holds_system : (size : ℕ) (calls : Option (List FileCall)) (told : Option (List ℕ)) (held : HeldContents) → HoldsFirst size calls told held → HoldsSystem held
 holds_system size calls told held first = record {
-  most = most_first held.is_open (length held.bytes) size first.sized (λ closed. ap length (first.none closed) ∙ length-replicate 65536 0);
+  most = most_first held.is_open (length held.bytes) size first.sized (λ closed. ap length (first.none closed) ∙ length-replicate {A = ℕ} 65536 0);
   none = first.none;
   as_written = first.as_written;
 }

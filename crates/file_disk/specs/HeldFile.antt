@@ -34,17 +34,8 @@ pub record HoldsFirst (size : ℕ) (calls : Option (List FileCall)) (told : Opti
   pub none : held.is_open ≡ false → held.bytes ≡ replicate 65536 0
   pub as_written : held.differs ≡ false
 
--- A read, which is Ok or not. Where the file isn't asked it fails, and all is as before. Where it is, the file below was
--- read over the same range: a failure of it is one, and Ok is that it gave the held bytes. Where it gave others it has
--- read otherwise from now on.
-pub record ReadsHeld (at : ℕ) (out : List ℕ) (ok : Bool) (old new : HeldContents) : Type 0 where
-  pub bytes : new.bytes ≡ old.bytes
-  pub is_open : new.is_open ≡ old.is_open
-  pub unasked : is_asked old ≡ false → ok ≡ false
-  pub untouched : is_asked old ≡ false → new ≡ old
-  pub passed : is_asked old ≡ true → ReadsBelow at out ok old new
-
--- of one that is asked
+-- A read of a file that is asked, which is Ok or not: the file below was read over the same range. A failure of it is one,
+-- and Ok is that it gave the held bytes; where it gave others the file has read otherwise from now on.
 pub record ReadsBelow (at : ℕ) (out : List ℕ) (ok : Bool) (old new : HeldContents) : Type 0 where
   pub below : Bool
   pub noted : Notes (ReadAt at out below) old.calls new.calls
@@ -52,6 +43,14 @@ pub record ReadsBelow (at : ℕ) (out : List ℕ) (ok : Bool) (old new : HeldCon
   pub held : ok ≡ true → out ≡ slice_range old.bytes at (at + length out)
   pub only : below ≡ true → out ≡ slice_range old.bytes at (at + length out) → ok ≡ true
   pub differs : new.differs ≡ (below && not ok)
+
+-- A read. Where the file isn't asked it fails, and all is as before.
+pub record ReadsHeld (at : ℕ) (out : List ℕ) (ok : Bool) (old new : HeldContents) : Type 0 where
+  pub bytes : new.bytes ≡ old.bytes
+  pub is_open : new.is_open ≡ old.is_open
+  pub unasked : is_asked old ≡ false → ok ≡ false
+  pub untouched : is_asked old ≡ false → new ≡ old
+  pub passed : is_asked old ≡ true → ReadsBelow at out ok old new
 
 -- A write: the same, and the held bytes get these where the file below did.
 pub record WritesHeld (at : ℕ) (put : List ℕ) (ok : Bool) (old new : HeldContents) : Type 0 where
