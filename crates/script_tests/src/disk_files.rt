@@ -306,12 +306,7 @@ fn stays_out(rt: &impl Abort, system: &HostRuntime, path: &str) -> Result<(), Al
 #[test]
 fn a_file_is_open_in_one_place_at_a_time(rt: HostRuntime) -> Result<(), Fail> {
     let path = path_of(&rt, "locked", &[1, 2])?;
-    locks_out(
-        &rt,
-        &rt,
-        &mut disk_on(&rt, path.as_str())?,
-        path.as_str(),
-    )?;
+    locks_out(&rt, &rt, &mut disk_on(&rt, path.as_str())?, path.as_str())?;
     stays_out(&rt, &rt, path.as_str())?;
     has_size(&rt, &rt, path.as_str(), 2)?;
     take_away(&rt, "locked")
