@@ -20,7 +20,7 @@ use Rattle.secoc_node.specs.declared.known.Known.{Known}
 use Rattle.secoc_node.specs.declared.known.PendingBound.{PendingBound}
 use Rattle.secoc_node.specs.Cells.{CellsOf, IsKept, cell_in, route_in}
 use Rattle.secoc_node.specs.Counters.{freshness_in, bound_in, counter_towards, counter_of_route, no_counter, counter_in, CountsRoute, CountRoutes}
-use Rattle.secoc_node.specs.State.{NodeState, FitsNow}
+use Rattle.secoc_node.specs.State.{NodeState}
 use Rattle.secoc_node.specs.declared.faults.NodeFault.{NodeFault}
 use Rattle.secoc_node.specs.declared.faults.NodeFault.TheVariants as fault
 use Rattle.secoc_node.specs.Keeping.{node_in, state_in, kept_in, pending_in, IsNode, KeepsNode, FindsRoute}
@@ -46,8 +46,8 @@ NotFaulted (Ok x) = Unit {0}
 NotFaulted (Err fault.Faulted) = ⊥
 NotFaulted (Err _) = Unit {0}
 
-pub no_fault : (T A : Type 0) (r : Result T NodeFault) → NotFaulted r → IsErrOf r fault.Faulted → A
-no_fault T A r not e = absurd (subst (NotFaulted {T = T}) e not)
+pub unless_faulted : (T A : Type 0) (r : Result T NodeFault) → NotFaulted r → IsErrOf r fault.Faulted → A
+unless_faulted T A r not e = absurd (subst (NotFaulted {T = T}) e not)
 
 abbrev state_of : Node → CellsState → NodeState
 state_of node store = record { node = node; store = store }
@@ -188,11 +188,6 @@ module _ (known : Known) (store : CellsState) (is : IsNode known store) (up : kn
   same_node counter got =
       let same : set counters place counter ≡ counters = ap (set counters place) (sym (got_here counter got)) ∙ set-get_or counters place no_counter in
       ap (λ cs. record node { kept = kept_in known.engine cs; counters = map freshness_in cs }) same
-
-  pub fits_same : (counter : RouteCounter) (left : CellsState) → counter ≡ get_or known.counters.items place counter → left ≡ store → FitsNow (state_in known store) → FitsNow (state_in (with_counter_at known place counter) left)
-  fits_same counter left got same fits =
-      subst (λ s. FitsNow (state_in (with_counter_at known place counter) s)) (sym same)
-      (subst (λ n. FitsNow (record { node = n; store = store })) (sym (same_node counter got)) fits)
 
   pub same_state : (counter : RouteCounter) (left : CellsState) → counter ≡ get_or known.counters.items place counter → left ≡ store
       → state_in (with_counter_at known place counter) left ≡ state_in known store

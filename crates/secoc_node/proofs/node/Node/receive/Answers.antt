@@ -17,7 +17,7 @@ use Rattle.secoc_node.specs.Lines.{received_line, IfLeftAlone}
 use Rattle.secoc_node.specs.State.{NodeState}
 use Rattle.secoc_node.specs.Keeping.{node_in, state_in}
 use Rattle.secoc_node.proofs.CallLaws.{Done, step_from, served_from}
-use Rattle.secoc_node.proofs.RouteLaws.{with_counter_at, PastRoute, not_down, not_unrouted, no_fault}
+use Rattle.secoc_node.proofs.RouteLaws.{with_counter_at, PastRoute, not_down, not_unrouted, unless_faulted}
 use Rattle.secoc_node.proofs.ReceiveLaws.{no_sender, rx_kept, has_receiver, said_done, said_length, said_covered, said_untouched, refused_state, receive_refused, receive_failed, heard_by}
 use Rattle.secoc_node.proofs.node.Node.receive.Given.{Over}
 use Rattle.secoc_node.proofs.node.Node.receive.Goals as goal
@@ -89,7 +89,7 @@ returns-in-Ok-clause-untouched g c =
     c.args.self.now c.in-Ok.said c.receive.new.rx (g.C.Cells.state c.receive.new.cells) c.self.view_is c.in-Ok.ensures.as_before c.in-Ok.ensures.untouched
 
 pub returns-in-Ok-clause-faulted : goal.returns-in-Ok-clause-faulted
-returns-in-Ok-clause-faulted g c = no_fault Reception _ (Ok c.in-Ok.said) tt
+returns-in-Ok-clause-faulted g c = unless_faulted Reception _ (Ok c.in-Ok.said) tt
 
 pub returns-in-Ok-clause-faults : goal.returns-in-Ok-clause-faults
 returns-in-Ok-clause-faults g c = c.in-Ok.ensures.faults ∙ ap (λ (s : NodeState). s.store.disk.faults) c.self.view_is
@@ -146,7 +146,7 @@ returns-in-Err-BadLength-clause-untouched g c =
     ∙ c.self.view_is
 
 pub returns-in-Err-BadLength-clause-faulted : goal.returns-in-Err-BadLength-clause-faulted
-returns-in-Err-BadLength-clause-faulted g c = no_fault Reception _ (Err fault.BadLength) tt
+returns-in-Err-BadLength-clause-faulted g c = unless_faulted Reception _ (Err fault.BadLength) tt
 
 key : (g : Over) (c : goal.In-Err-Key g)
     → Done c.self.inside.known (g.C.Cells.state c.self.inside.cells) (receives c.args.id c.args.pdu.now) (Refused (Key c.in-Err-Key.refusal)) (with_counter_at c.self.inside.known c.in-Some.place (of_route.Receives c.receive.new.rx)) (g.C.Cells.state c.receive.new.cells)
@@ -198,7 +198,7 @@ returns-in-Err-Key-clause-untouched g c =
     ∙ c.self.view_is
 
 pub returns-in-Err-Key-clause-faulted : goal.returns-in-Err-Key-clause-faulted
-returns-in-Err-Key-clause-faulted g c = no_fault Reception _ (Err (fault.Key c.in-Err-Key.refusal)) tt
+returns-in-Err-Key-clause-faulted g c = unless_faulted Reception _ (Err (fault.Key c.in-Err-Key.refusal)) tt
 
 -- ---- the disk failed
 

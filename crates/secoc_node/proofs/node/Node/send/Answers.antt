@@ -15,7 +15,7 @@ use Rattle.secoc_node.specs.State.{NodeState, IsCovered}
 use Rattle.secoc_node.specs.declared.known.Known.{Known}
 use Rattle.secoc_node.specs.Keeping.{node_in, state_in}
 use Rattle.secoc_node.proofs.CallLaws.{Done, step_from, served_from}
-use Rattle.secoc_node.proofs.RouteLaws.{with_counter_at, PastRoute, not_down, not_unrouted, no_fault}
+use Rattle.secoc_node.proofs.RouteLaws.{with_counter_at, PastRoute, not_down, not_unrouted, unless_faulted}
 use Rattle.secoc_node.proofs.SendLaws.{fits_a_pdu, no_receiver, tx_kept, has_sender, sent_done, sent_covered, sent_others, refused_state, send_refused, send_failed, failed_others}
 use Rattle.secoc_node.proofs.node.Node.send.Given.{Over}
 use Rattle.secoc_node.proofs.node.Node.send.Goals as goal
@@ -89,7 +89,7 @@ returns-in-Ok-clause-others g c other v =
     c.send.new.tx (g.C.Cells.state c.send.new.cells) c.in-Ok.ensures.made other v)
 
 pub returns-in-Ok-clause-faulted : goal.returns-in-Ok-clause-faulted
-returns-in-Ok-clause-faulted g c = no_fault Sending _ (Ok c.in-Ok.sent) tt
+returns-in-Ok-clause-faulted g c = unless_faulted Sending _ (Ok c.in-Ok.sent) tt
 
 pub returns-in-Ok-clause-faults : goal.returns-in-Ok-clause-faults
 returns-in-Ok-clause-faults g c = c.in-Ok.ensures.faults ∙ ap (λ (s : NodeState). s.store.disk.faults) c.self.view_is
@@ -150,7 +150,7 @@ pub returns-in-Err-BadLength-clause-unwritten : goal.returns-in-Err-BadLength-cl
 returns-in-Err-BadLength-clause-unwritten g c = c.in-Err-BadLength.ensures.unwritten
 
 pub returns-in-Err-BadLength-clause-faulted : goal.returns-in-Err-BadLength-clause-faulted
-returns-in-Err-BadLength-clause-faulted g c = no_fault Sending _ (Err fault.BadLength) tt
+returns-in-Err-BadLength-clause-faulted g c = unless_faulted Sending _ (Err fault.BadLength) tt
 
 key : (g : Over) (c : goal.In-Err-Key g)
     → Done c.self.inside.known (g.C.Cells.state c.self.inside.cells) (sends c.args.id c.args.payload.now) (Refused (Key c.in-Err-Key.refusal)) (with_counter_at c.self.inside.known c.in-Some.place (of_route.Sends c.send.new.tx)) (g.C.Cells.state c.send.new.cells)
@@ -206,7 +206,7 @@ pub returns-in-Err-Key-clause-unwritten : goal.returns-in-Err-Key-clause-unwritt
 returns-in-Err-Key-clause-unwritten g c = c.in-Err-Key.ensures.unwritten
 
 pub returns-in-Err-Key-clause-faulted : goal.returns-in-Err-Key-clause-faulted
-returns-in-Err-Key-clause-faulted g c = no_fault Sending _ (Err (fault.Key c.in-Err-Key.refusal)) tt
+returns-in-Err-Key-clause-faulted g c = unless_faulted Sending _ (Err (fault.Key c.in-Err-Key.refusal)) tt
 
 exhausted : (g : Over) (c : goal.In-Err-Exhausted g)
     → Done c.self.inside.known (g.C.Cells.state c.self.inside.cells) (sends c.args.id c.args.payload.now) (Refused Exhausted) (with_counter_at c.self.inside.known c.in-Some.place (of_route.Sends c.send.new.tx)) (g.C.Cells.state c.send.new.cells)
@@ -262,7 +262,7 @@ pub returns-in-Err-Exhausted-clause-unwritten : goal.returns-in-Err-Exhausted-cl
 returns-in-Err-Exhausted-clause-unwritten g c = c.in-Err-Exhausted.ensures.unwritten
 
 pub returns-in-Err-Exhausted-clause-faulted : goal.returns-in-Err-Exhausted-clause-faulted
-returns-in-Err-Exhausted-clause-faulted g c = no_fault Sending _ (Err fault.Exhausted) tt
+returns-in-Err-Exhausted-clause-faulted g c = unless_faulted Sending _ (Err fault.Exhausted) tt
 
 -- ---- the disk failed
 
