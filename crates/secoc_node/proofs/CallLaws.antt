@@ -1,7 +1,6 @@
 -- What the calls of a node leave, over plain variables
-use Rattle.std.proofs.Common.{◌≡◌, ℕ, true, false, true≢false, List, [], length, set, length-set, refl, sym, ap, subst, ◌∙◌, arith}
+use Rattle.std.proofs.Common.{◌≡◌, ℕ, true, false, true≢false, List, length, set, length-set, refl, sym, ap, subst, ◌∙◌, arith}
 use Rattle.std.specs.Prelude.{◌↔◌, Some, Result, Ok, Err, IsErrOf}
-use Rattle.cut_disk.specs.Calls.{Runs}
 use Rattle.cut_disk.specs.CallLaws.{runs_none, runs_more}
 use Rattle.cell_store.specs.Cells.{CellsState}
 use Rattle.key_slots.specs.declared.refusals.Erc.{Erc}

@@ -1,4 +1,4 @@
-use Rattle.std.proofs.Common.{◌≡◌, ap, sym, subst, ◌∙◌, Ok, Err}
+use Rattle.std.proofs.Common.{ap, sym, subst, ◌∙◌, Ok, Err}
 use Rattle.cut_disk.specs.Calls.{Rose}
 use Rattle.bus_machine.specs.declared.lines.Line.TheVariants.{Loaded, Refused}
 use Rattle.bus_machine.specs.declared.lines.Refusal.TheVariants.{Key, MemoryFailure}
