@@ -10,4 +10,5 @@ mod laws;
 
 pub use laws::{
     attached_runs_are_next_lives, lives_can_go_on, lives_go_on, refused_starts_leave_lives,
+    unfinished_starts_leave_nodes,
 };
