@@ -1,5 +1,5 @@
 -- What is found behind starts between two lives that weren't finished, and that each node of the next life powers up
-use Rattle.std.specs.Prelude.{◌≡◌, ◌⊎◌, ℕ, ◌<◌, Option, None, Some, List, [], ◌∷◌, length, get_or}
+use Rattle.std.specs.Prelude.{◌≡◌, ◌⊎◌, ℕ, ◌<◌, Option, Some, List, [], ◌∷◌, length, get_or}
 use Rattle.std.proofs.Common.{refl, sym, ◌∙◌, ap, subst, arith, inl, inr}
 use Rattle.std.proofs.lemmas.Option.{same_Some}
 use Rattle.cut_disk.specs.State.{DiskState, Told}
@@ -354,8 +354,8 @@ module _ (life : Life) (has : HasConfigs life.bus life.first) (run : IsLife life
       (none i l d t inside told)) in
       let now = found_now starts next found i d within left as_bus alone in
       let able : CanStart Attach life.bus.kind next.version node.config now.now.bytes =
-      can_start life.bus.kind next.version node now.cells now.now.bytes (sound_at life has run i within) now.may now.counted
-      (alone now.now now.tells) in (
+      can_start life.bus.kind next.version node now.cells now.now.bytes (sound_at life has run i within) now.may
+      now.counted (alone now.now now.tells) in (
         now.now,
         now.tells,
         subst (λ (c : Config). CanStart Attach next.kind next.version c now.now.bytes) (sym config)
@@ -364,7 +364,8 @@ module _ (life : Life) (has : HasConfigs life.bus life.first) (run : IsLife life
 
 -- ---- the life that follows
 
-module _ (life next : Life) (has : HasConfigs life.bus life.first) (run : IsLife life) (follows : Follows life next) where
+module _ (life next : Life) (has : HasConfigs life.bus life.first) (run : IsLife life)
+    (follows : Follows life next) where
   pub as_many : length next.bus.nodes ≡ length life.bus.nodes
   as_many = ap (λ (nodes : List NodeLine). length nodes) follows.as_bus.same_nodes
 

@@ -1,8 +1,7 @@
 -- All lives of a bus go on, put together
-use Rattle.std.specs.Prelude.{◌≡◌, ℕ, ◌<◌, List, [], ◌∷◌, ◌++◌, length, map, get_or}
+use Rattle.std.specs.Prelude.{◌≡◌, ℕ, List, [], ◌∷◌, ◌++◌, length, map}
 use Rattle.std.proofs.Common.{refl, ◌∙◌, ap, subst, arith}
 use Rattle.machine_runs.specs.Run.{Run}
-use Rattle.cut_disk.specs.State.{DiskState}
 use Rattle.bus_machine.specs.Bus.{World, node_of, Instant, Moments, Step}
 use Rattle.bus_machine.specs.Freshness.{AcceptedRises, Rising, SentRises, Single}
 use Rattle.bus_laws.proofs.Lists.{AllPairs-Pairwise}
