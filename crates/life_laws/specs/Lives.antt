@@ -85,8 +85,8 @@ abbrev pub WasInTwo : List UnfinishedStart → Type 0
 WasInTwo [] = ⊥
 WasInTwo (start ∷ starts) = (start.bus.version ≡ Two) ⊎ WasInTwo starts
 
--- the stores of the bus are moved to version 2, where a start behind it was to move them, or these disks have none of
--- it yet
+-- the stores of the bus are moved to version 2: an earlier one of these starts was to move them, or these disks have
+-- none of it yet
 abbrev pub MovesUp : NamedBus → List UnfinishedStart → NamedBus → List DiskState → Type 0
 MovesUp bus starts next found = (next.version ≡ Two) × (WasInTwo starts ⊎ NoneNewer bus found)
 
