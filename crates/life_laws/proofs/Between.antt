@@ -1,5 +1,5 @@
 -- What is found behind starts between two lives that weren't finished, and that each node of the next life powers up
-use Rattle.std.specs.Prelude.{◌≡◌, ◌⊎◌, ℕ, ◌<◌, Option, Some, List, [], ◌∷◌, length, get_or}
+use Rattle.std.specs.Prelude.{◌≡◌, ◌⊎◌, ℕ, ◌-◌, ◌<◌, Option, Some, List, [], ◌∷◌, length, get_or}
 use Rattle.std.proofs.Common.{refl, sym, ◌∙◌, ap, subst, arith, inl, inr}
 use Rattle.std.proofs.lemmas.Option.{same_Some}
 use Rattle.cut_disk.specs.State.{DiskState, Told}
@@ -8,6 +8,7 @@ use Rattle.cut_disk.specs.ImageLaws.{image_is_read, image_of_firm}
 use Rattle.cell_store.specs.declared.kinds.Kind.{Kind}
 use Rattle.cell_store.specs.declared.kinds.Version.{Version}
 use Rattle.cell_store.specs.declared.kinds.Version.TheVariants.{One, Two}
+use Rattle.cell_store.specs.declared.faults.Reread.TheVariants as reread
 use Rattle.cell_store.specs.Layout.{layout}
 use Rattle.cell_store.specs.Store.{Stands}
 use Rattle.cell_store.specs.Moving.{StandsAsCounted}
@@ -24,12 +25,18 @@ use Rattle.bus_nodes.specs.declared.nodes.NodeLine.{NodeLine}
 use Rattle.bus_nodes.specs.Buses.{NamedBus}
 use Rattle.secoc_node.proofs.FitsLaws.{FoundCells, told_before}
 use Rattle.bus_world.proofs.FoundLaws.{counted_once}
+use Rattle.bus_world.specs.declared.opening.OpenFault.{OpenFault}
+use Rattle.bus_world.specs.declared.opening.OpenFault.TheVariants as open_fault
 use Rattle.bus_world.specs.declared.start.Start.TheVariants.{Attach}
+use Rattle.bus_world.specs.declared.start.StartFault.{StartFault}
+use Rattle.bus_world.specs.declared.start.StartFault.TheVariants as start_fault
 use Rattle.bus_world.specs.TakingUp.{cells_in, KeptOn, FailedOver, LeavesDisk}
+use Rattle.bus_world.specs.Starts.{NotStarted, RefusedAt}
 use Rattle.bus_world.specs.StartRows.{CanStart, LeavesEach}
 use Rattle.bus_world.specs.StartRowLaws.{no_disk, no_line, start_leaves}
 use Rattle.life_laws.specs.Lives.{Life, IsLife, LeftToNext, NoNewer, NoneNewer, UnfinishedStart, WasInTwo, GoesOnAs}
-use Rattle.life_laws.specs.Lives.{IsUnfinished, LeftBehindStarts, Follows, StartsLeaveNodes}
+use Rattle.life_laws.specs.Lives.{IsUnfinished, LeftBehindStarts, Follows, StartsLeaveNodes, BlamesNoBytes}
+use Rattle.life_laws.specs.Lives.{NextBlamesNoBytes}
 use Rattle.life_laws.proofs.Stages.{Restarts}
 use Rattle.life_laws.proofs.Seams.{HasConfigs, one_not_two, as_counted, found_older, counted_not_blank, found_size}
 use Rattle.life_laws.proofs.Seams.{kept_no_newer, can_start, node_powers, finds_image, as_many_last, sound_at}
@@ -361,6 +368,34 @@ module _ (life : Life) (has : HasConfigs life.bus life.first) (run : IsLife life
         subst (λ (c : Config). CanStart Attach next.kind next.version c now.now.bytes) (sym config)
             (subst (λ (k : Kind). CanStart Attach k next.version node.config now.now.bytes) (sym as_bus.same_kind) able),
       )
+
+  -- no node is refused for its bytes
+  not_refused : (starts : List UnfinishedStart) (next : NamedBus) (before after : List DiskState) (number : ℕ)
+      (fault : OpenFault) → LeftBehindStarts life starts before → GoesOnAs life.bus starts next before
+      → NoneNewer next before → RefusedAt Attach next before after number fault → ⊥
+  not_refused starts next before after number fault left as_bus none of =
+      let inside : number - 1 < length next.nodes = omega (arith, of.least, of.most) in
+      let able = starts_leave_nodes starts next before left as_bus none (number - 1) no_line no_disk inside in
+      ((of.disk no_line no_disk).0 able.0 able.1).none able.2.0 able.2.1
+
+  blames : (starts : List UnfinishedStart) (next : NamedBus) (before after : List DiskState) (fault : StartFault)
+      → LeftBehindStarts life starts before → GoesOnAs life.bus starts next before → NoneNewer next before
+      → NotStarted Attach next before after fault → BlamesNoBytes fault
+  blames starts next before after start_fault.TooFew left as_bus none refused = tt
+  blames starts next before after (start_fault.TooSmall node) left as_bus none refused = tt
+  blames starts next before after (start_fault.Store node reread.DiskFailed) left as_bus none refused = tt
+  blames starts next before after (start_fault.Store node reread.NotFormatted) left as_bus none refused =
+      not_refused starts next before after node (open_fault.Store reread.NotFormatted) left as_bus none refused.cause
+  blames starts next before after (start_fault.Store node (reread.Damaged place)) left as_bus none refused =
+      not_refused starts next before after node (open_fault.Store (reread.Damaged place)) left as_bus none refused.cause
+  blames starts next before after (start_fault.BadSlot node slot) left as_bus none refused =
+      not_refused starts next before after node (open_fault.BadSlot slot) left as_bus none refused.cause
+  blames starts next before after (start_fault.BadBound node cell) left as_bus none refused =
+      not_refused starts next before after node (open_fault.BadBound cell) left as_bus none refused.cause
+  blames starts next before after start_fault.Memory left as_bus none refused = tt
+
+  pub next_blames_no_bytes : NextBlamesNoBytes life
+  next_blames_no_bytes = blames
 
 -- ---- the life that follows
 

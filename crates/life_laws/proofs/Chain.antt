@@ -11,12 +11,12 @@ use Rattle.bus_world.specs.declared.start.Start.TheVariants.{Attach}
 use Rattle.world_runs.specs.Turns.{StartsSetUp, StartsGoOnFirst, TurnsAreWorldRuns}
 use Rattle.life_laws.specs.Lives.{Life, IsLife, Follows, IsFirstLife, LivesBehind, LivesOf, moments_in, Stage}
 use Rattle.life_laws.specs.Lives.{moment_passes, stages_in, world_behind, EachPowersUp, LivesGoOn, EachLife, LeavesNodes}
-use Rattle.life_laws.specs.Lives.{StartsLeaveNodes, OutlastsRefusals, AttachedRunsFollow}
+use Rattle.life_laws.specs.Lives.{StartsLeaveNodes, NextBlamesNoBytes, OutlastsRefusals, AttachedRunsFollow}
 use Rattle.life_laws.proofs.Stages.{StagesFrom, stages_join, Restarts, Chained}
 use Rattle.life_laws.proofs.Rising.{moments_of, stages_rise, stages_are_single}
 use Rattle.life_laws.proofs.Keeping.{slots_outlast, updates_outlast}
 use Rattle.life_laws.proofs.Seams.{HasConfigs, over_configs, life_configs, leaves_nodes, outlasts_refusals}
-use Rattle.life_laws.proofs.Between.{starts_leave_nodes, as_many, restarts}
+use Rattle.life_laws.proofs.Between.{starts_leave_nodes, next_blames_no_bytes, as_many, restarts}
 
 -- ---- the stages of one life
 
@@ -163,6 +163,11 @@ pub unfinished_starts_leave_nodes : EachLife StartsLeaveNodes
 unfinished_starts_leave_nodes = λ bus done life later are.
     let one = one_in bus done life later are in
     starts_leave_nodes life one.configs one.run
+
+pub next_starts_blame_no_bytes : EachLife NextBlamesNoBytes
+next_starts_blame_no_bytes = λ bus done life later are.
+    let one = one_in bus done life later are in
+    next_blames_no_bytes life one.configs one.run
 
 pub refused_starts_leave_lives : EachLife OutlastsRefusals
 refused_starts_leave_lives = λ bus done life later are.

@@ -6,6 +6,7 @@ use Rattle.cut_disk.specs.Images.{Image, firm, CutsTo}
 use Rattle.cell_store.specs.declared.kinds.Kind.{Kind}
 use Rattle.cell_store.specs.declared.kinds.Version.{Version}
 use Rattle.cell_store.specs.declared.kinds.Version.TheVariants.{One, Two}
+use Rattle.cell_store.specs.declared.faults.Reread.TheVariants as reread
 use Rattle.cell_store.specs.Moving.{CountsAs}
 use Rattle.any_cells.specs.declared.looking.Found.TheVariants.{Older}
 use Rattle.any_cells.specs.Looking.{IsFound}
@@ -20,6 +21,7 @@ use Rattle.bus_nodes.specs.declared.nodes.NodeLine.{NodeLine}
 use Rattle.bus_nodes.specs.Buses.{NamedBus, IsNamedBus, configs_of}
 use Rattle.bus_world.specs.declared.start.Start.TheVariants.{Attach}
 use Rattle.bus_world.specs.declared.start.StartFault.{StartFault}
+use Rattle.bus_world.specs.declared.start.StartFault.TheVariants as start_fault
 use Rattle.bus_world.specs.Worlds.{BusState, world_of}
 use Rattle.bus_world.specs.TakingUp.{cells_in}
 use Rattle.bus_world.specs.Starts.{Started, NotStarted, StartsOver}
@@ -240,6 +242,21 @@ StartsLeaveNodes life =
     → (i : ℕ) (l : NodeLine) (d : DiskState) → i < length next.nodes
     → (t : Told) × ((get_or found i d).told ≡ Some t)
     × CanStart Attach next.kind next.version (get_or next.nodes i l).config t.bytes
+
+-- the fault is none of a disk's bytes: a disk failed, or is missing or too small, or there was no memory
+abbrev pub BlamesNoBytes : StartFault → Type 0
+BlamesNoBytes (start_fault.Store number reread.DiskFailed) = Unit {0}
+BlamesNoBytes (start_fault.Store number fault) = ⊥
+BlamesNoBytes (start_fault.BadSlot number slot) = ⊥
+BlamesNoBytes (start_fault.BadBound number cell) = ⊥
+BlamesNoBytes fault = Unit {0}
+
+-- so a next start over these disks has no other fault
+abbrev pub NextBlamesNoBytes : Life → Type 0
+NextBlamesNoBytes life =
+    (starts : List UnfinishedStart) (next : NamedBus) (before after : List DiskState) (fault : StartFault)
+    → LeftBehindStarts life starts before → GoesOnAs life.bus starts next before → NoneNewer next before
+    → NotStarted Attach next before after fault → BlamesNoBytes fault
 
 -- a start of its bus that is refused over the disks that it left, or over what a power cut left of them, leaves the
 -- bytes of each as they were: so the next life finds them as if that start hadn't been

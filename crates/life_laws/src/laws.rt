@@ -1,6 +1,6 @@
 //! The laws of the lives of a bus.
 ghost use Rattle.life_laws.specs.Lives.{AllLivesGoOn, EachLife, LeavesNodes, StartsLeaveNodes};
-ghost use Rattle.life_laws.specs.Lives.{OutlastsRefusals, AttachedRunsFollow};
+ghost use Rattle.life_laws.specs.Lives.{NextBlamesNoBytes, OutlastsRefusals, AttachedRunsFollow};
 
 use world_runs::{starts_are_set_up, starts_go_on_at_a_first_world, turns_are_world_runs};
 
@@ -21,6 +21,12 @@ pub fn lives_can_go_on()
 /// left of that, the next start isn't refused for the bytes: in version 1 where no header of version 2 stands there.
 pub fn unfinished_starts_leave_nodes()
     ensures { EachLife StartsLeaveNodes }
+{}
+
+/// So such a next start, where it isn't finished, has its cause in a disk that failed, is missing or too small, or in
+/// want of memory, and never in what the disks hold.
+pub fn next_starts_blame_no_bytes()
+    ensures { EachLife NextBlamesNoBytes }
 {}
 
 /// A start of the same bus between two lives that is refused, for want of memory or a failing disk, leaves the bytes as
