@@ -1,20 +1,21 @@
 -- What `run` promises: the headline, and the table of answers.
 --
--- Read the records, which begin behind the list of names from below, and look up in it what most of these mean, above
--- their `use`. All is said of one call: `i` is what went in, `d` the disks or what was known of them, `e` how it ended.
--- That freshness rises from one call of `node` to the next over the same disks, too, is a law of the crate life_laws.
+-- The comment of `run` says all of it in words. Here each promise is a member of a record: read the records, which
+-- begin behind the list of names from below, and look up in it what most of these mean, above their `use`. All is said
+-- of one call: `i` is what went in, `d` the disks or what was known of them, `e` how it ended. That freshness rises
+-- from one call of `node` to the next over the same disks, too, is a law of the crate life_laws.
 --
 -- A source or a disk *tells* its bytes where they are known. Those in memory do, and so does the disk that `main` opens
 -- over a file: it holds them in memory, and a read that gives others fails. An input from a file or a stream tells
 -- nothing. What was *read whole* of a source is all that came up to its end: of one that tells nothing some bytes, as
--- many as it counts. So each status has its cause over files, too; but 0, 3, 4, 9, and 10 for a disk's bytes, are
--- brought by what sources tell.
+-- many as it counts, and what is said of its lines is said of these. *Valid* is what was read whole and has no fault.
 --
 -- A count of faults never falls, and is full at its last value. A row is a status with its text. A cut is a power cut,
 -- which may leave anything of bytes that aren't synced. An event may arm a disk, so that calls of it fail; a quiet disk
--- has nothing armed, and no call of it fails by itself. The past of a disk has each state that a call left, where it
--- tells it. A slot holds a key, with the counter of its last update. A route is a Data ID that a node sends or
--- receives; its kept bound, at most a reserve ahead of its counter, is what the counter begins again at after a cut.
+-- has nothing armed, and no call of it fails by itself. The past of a disk has each state that a call left, where the
+-- disk tells it: one over a file tells none. A slot holds a key, with the counter of its last update. A route is a Data
+-- ID that a node sends or receives, with a reserve and, where it receives, a window of freshness that it accepts; its
+-- kept bound, less than a reserve ahead of its counter, is what the counter begins again at after a cut.
 use Rattle.std.specs.Prelude.{◌≡◌, ◌⊎◌, ℕ, ◌<◌, ◌≤◌, List, [], length, take, get_or, All, codes, Some, None}
 use Rattle.std.specs.Prelude.{Result, Ok, Err}
 -- ---- what went in
@@ -108,12 +109,15 @@ use Rattle.numbered_run.specs.declared.printing.Unwritten.{Unwritten}
 use Rattle.numbered_run.specs.declared.printing.Unwritten.TheVariants as unwritten
 use Rattle.numbered_run.specs.Printed.{Written}
 use Rattle.bus_texts.specs.LineTexts.{line_text}
--- `ComesInRun`: the rows that come, each for its cause; `memory_row`: 7 without a text, which comes as an input is
--- read, at a start at which no disk failed, or behind all events of a trial. `RowOrReplay`: a row that comes was told,
--- whole or at 6 by a front; or `ReplaysScript`.
+-- `ComesInRun`: the rows that come, those of the statuses below, each for the cause that is told there; `memory_row`: 7
+-- without a text, which comes as an input is read, at a start at which no disk failed, or behind all events of a trial.
+-- `RowOrReplay`: a row that comes was told, whole or at 6 by a front; or `ReplaysScript`.
 use Rattle.bus_commands.specs.Rows.{ComesInRun, RowOrReplay}
 use Rattle.answer_rows.specs.Rows.{memory_row}
--- ---- the machine: what these say is told at the members of `HeadlineRun`
+-- ---- the machine: what these say is told at the members of `HeadlineRun`. A `World` has the nodes, with what each
+-- keeps and knows, and what was sent so far; a `Step` takes it and an event to a line and the world behind it, and
+-- looks at no disk; `First` has the nodes as they are new. A node is *sound* where each counter is at most its kept
+-- bound, and that less than a reserve ahead, and what it keeps is of its configuration.
 use Rattle.machine_runs.specs.Run.{Run, commands_in, lines_in}
 use Rattle.bus_machine.specs.Bus.{World, First, Moments, Step}
 use Rattle.bus_machine.specs.Freshness.{Rising, Single, AllCovered}
@@ -194,7 +198,8 @@ ReplayIsRun Attach i d e result = OverReplayOf Attach i (λ bus events. (TellFir
 abbrev pub TrialIsRun : BusInputs → DiskStates → Summary → Type 0
 TrialIsRun i d summary = OverTrial i (λ bus events. (TellEach bus d.before → SummedRun bus d events summary))
 
--- every disk is as before; or a valid world is asked for, and they are as a start that isn't finished may leave them
+-- the disks are *unstarted*: every one is as before; or a valid world is asked for, and they are as a start that isn't
+-- finished may leave them
 abbrev pub LeavesUnstarted : {V : Type 0} → BusInputs → CommandDisks V → Type 0
 LeavesUnstarted i d =
     (d.new ≡ d.old) ⊎ OverWorld i (λ start bus events. LeavesEach start bus d.states.before d.states.after)
@@ -208,19 +213,19 @@ pub record RunsMachine {V : Type 0} (i : BusInputs) (d : CommandDisks V) (e : En
   -- 0 of `node`: the same, from a world in which the bus goes on.
   pub attached_run : Asks i.words (command.World (Replay Attach)) → e.status ≡ 0
       → ReplayIsRun Attach i d.states e (Ok tt)
-  -- 6 of both: the disks are as before or as an unfinished start may leave them, and a front of a row was written; or
-  -- the first events are one run, of whose last line a front was written.
+  -- 6 of both: the disks are unstarted, and a front of a row was written; or the first events are one run, of whose
+  -- last line a front was written.
   pub early_ends : (start : Start) → Asks i.words (command.World (Replay start)) → e.status ≡ 6
       → (LeavesUnstarted i d × PrintsFront (ComesInRun i d) e)
       ⊎ ReplayIsRun start i d.states e (Err unwritten.SinkFailed)
-  -- 7 of both: the disks are so, and nothing was written; or the first events are one run, of whose last line nothing
-  -- was.
+  -- 7 of both: the disks are unstarted, and nothing was written; or the first events are one run, of whose last line
+  -- nothing was.
   pub early_ends_unwritten : (start : Start) → Asks i.words (command.World (Replay start)) → e.status ≡ 7
       → (LeavesUnstarted i d × PrintsWhole e []) ⊎ ReplayIsRun start i d.states e (Err unwritten.Memory)
   -- 0 of `trial`: all its events are one run, and the sink has its seven numbers.
   pub tried : (trial : TrialWords) → Asks i.words (command.World (Trial trial)) → e.status ≡ 0
       → (summary : Summary) × TrialIsRun i d.states summary × PrintsWhole e (summary_text summary)
-  -- 6, 7 of `trial`: the disks are so; or all events are one run.
+  -- 6, 7 of `trial`: the disks are unstarted; or all events are one run.
   pub tried_untold : (trial : TrialWords) → Asks i.words (command.World (Trial trial)) → (e.status ≡ 6) ⊎ (e.status ≡ 7)
       → LeavesUnstarted i d ⊎ ((summary : Summary) × TrialIsRun i d.states summary)
 
@@ -259,10 +264,10 @@ abbrev pub TaskHasDisks : Task → DiskStates → Type 0
 TaskHasDisks (replay start bus) d = BusHasDisks start bus d
 TaskHasDisks task d = Unit {0}
 
--- THE TABLE OF ANSWERS: what a command promises, by status. "Both ways": the status has this cause, and the cause
--- brings the status, at 3, 4 and 9 where the sources tell it and didn't fail. A sink whose count of faults rises makes
--- it 6 instead (one whose count is full may); and 0, 3, 4, 9 and 10 may give way to 7, which is said to be want of
--- memory: no clause says that it was, and none brings 7.
+-- THE TABLE OF ANSWERS: what a command promises, by status. "Both ways": the status has this cause, over files too, and
+-- the cause brings the status: of 2, 5, 6 and 8 always, of 3, 4 and 9 where the sources tell what they have and didn't
+-- fail. A sink whose count of faults rises makes it 6 instead (one whose count is full may); and 0, 3, 4, 9 and 10 may
+-- give way to 7, which is said to be want of memory: no clause says that it was, and none brings 7.
 pub record RunsCommand {V : Type 0} (i : BusInputs) (d : CommandDisks V) (e : Ending) : Type 0 where
   -- A row that comes is told, or a replay did its first events or all: what that says of each status follows.
   pub ends : RowOrReplay i d e
@@ -292,7 +297,8 @@ pub record RunsCommand {V : Type 0} (i : BusInputs) (d : CommandDisks V) (e : En
       × PrintsWhole e (fault_text_of fault))
   pub refused_only : (task : Task) (input : List ℕ) (fault : Fault) → OffersTask i task
       → Offers i.script input → fault_of task input ≡ Some fault → MayEndIn 4 e
-  -- 5, both ways: the count of faults of a source that was read rose; 5 may come where it is full, too.
+  -- 5, both ways: the count of faults of a source that was read rose; 5 may come where it is full, too. It is the bus
+  -- file's, and no line was read; or the lines', and the bus file, if one is read, is valid.
   pub read_fault : e.status ≡ 5 → (NoConfig i ReadFault ⊎ NoScript i ReadFault) × PrintsWhole e (codes "read fault\n")
   pub read_fault_only : CountsFault i.config ⊎ CountsFault i.script → EndsIn 5 e
   -- 6, both ways: the sink's count of faults rose; 6 may come where it is full, too. A front was written of a row that
@@ -300,10 +306,12 @@ pub record RunsCommand {V : Type 0} (i : BusInputs) (d : CommandDisks V) (e : En
   pub write_fault : e.status ≡ 6 → SinkFailed e
       × (PrintsFront (ComesInRun i d) e ⊎ ReplaysScript i d.states e (Err unwritten.SinkFailed))
   pub write_fault_only : CountsWriteFault e → e.status ≡ 6
-  -- 7: its row comes, and nothing was written; or of a replay the lines before one, and nothing of this.
+  -- 7, one way: its row comes (as an input is read, at a start at which no disk failed, or behind a trial's events),
+  -- and nothing was written; or of a replay the lines before one, and nothing of this.
   pub no_memory : e.status ≡ 7 → (ComesInRun i d memory_row × PrintsWhole e [])
       ⊎ ReplaysScript i d.states e (Err unwritten.Memory)
-  -- 8, both ways: one byte more than 1,048,576 came from a source, whose count of faults stood still.
+  -- 8, both ways: one byte more than 1,048,576 came from a source, whose count of faults stood still; of the bus file
+  -- or of the lines, as at 5.
   pub too_long : e.status ≡ 8 → (NoConfig i TooLong ⊎ NoScript i TooLong) × PrintsWhole e (codes "input too long\n")
   pub too_long_only : CountsTooMuch i.config ⊎ CountsTooMuch i.script → EndsIn 8 e
   -- 9, both ways: all that is read is valid, and there are fewer disks than nodes, or the disk of a node is too small,
@@ -315,9 +323,9 @@ pub record RunsCommand {V : Type 0} (i : BusInputs) (d : CommandDisks V) (e : En
       → Offers i.script input → fault_of (replay start bus) input ≡ None → ¬ HasRoom bus d.states.before → MayEndIn 9 e
   pub trial_disks_refused_only : (bus : NamedBus) → OffersTrial i bus → ¬ HasRoom bus d.states.before → MayEndIn 9 e
   -- 10: all that is read is valid, the disks are large enough, and the row of a node is printed: its disk failed, and
-  -- wasn't quiet; or it didn't fail, and its bytes are refused: told ones only of `node`, which can't go on over them
-  -- (of others no cause is said). Told ones of the nodes before it are good. The disks are as an unfinished start may
-  -- leave them.
+  -- wasn't quiet; or it didn't fail, and its bytes are refused. Told bytes are refused of `node` alone, where it can't
+  -- go on over them; of others no cause is said. Told ones of the nodes before it are good. The disks are as an
+  -- unfinished start may leave them.
   pub store_refused : e.status ≡ 10 → OverWorld i (λ start bus events.
       HasRoom bus d.states.before × LeavesEach start bus d.states.before d.states.after
       × ((fault : StartFault) × StoreCause start bus d.states.before d.states.after fault
@@ -328,8 +336,8 @@ pub record RunsCommand {V : Type 0} (i : BusInputs) (d : CommandDisks V) (e : En
       → Offers i.script input → fault_of (replay Attach bus) input ≡ None → HasRoom bus d.states.before
       → HoldsNoNode bus d.states.before → MayEndIn 10 e
   -- Where the count of faults of a disk rose, the status is 10 with the row of its node, or 6 with a front of it; or a
-  -- replay did its first events, or a trial all. (Of a disk that tells no past, as one over a file, this doesn't always
-  -- tell a failed start from a first event that failed.)
+  -- replay did its first events, or a trial all. (Where a disk's past isn't told, a failed start may look like a first
+  -- event that failed.)
   pub failed_disk_told : (place : ℕ) → CountsDiskFault d.states place
       → EndsInRow (λ row. row ≡ failed_row place) e ⊎ DoesEvents i d.states e
   -- What is valid ends in 0 or 7, where the sources tell it and didn't fail, the sink's count of faults neither rose

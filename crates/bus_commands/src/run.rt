@@ -22,22 +22,52 @@ use command_edge::{DONE, tell};
 use cut_disk::CutDisk;
 use std::alloc::{AllocError, Global};
 
-/// Runs the command that the words ask for, the program's name left out, and gives the status that the program ends
-/// with. `frame` and `judge` answer the lines of `script`. `check`, `replay` and `node` read the bus file of `config`,
-/// and the events of `script`: `check` prints them in their canonical form, `replay` does them over disks that it
-/// formats, one a node, and `node` over disks on which each node goes on; both write the line of each event, and do no
-/// event behind a line that wasn't written whole. `trial` reads the bus file, does the events that its seed gives over
-/// formatted disks, and then writes seven numbers.
+/// Runs the command that the words ask for, the program's name left out, and gives its status. `frame` and `judge`
+/// answer the lines of `script`; `check` prints its events in canonical form; `replay` does them over disks that it
+/// formats, one a node, and `node` over disks as they stand; `trial` does those that its seed gives, over formatted
+/// disks, and writes seven numbers.
 ///
-/// The statuses, of which no other comes: 0 done, 2 the words are of no form, 3 the bus file is refused, 4 the lines
-/// are, 5 a source failed, 6 the sink failed (both also where a count of faults is full), 7 said to be want of memory
-/// (no clause says that it was), 8 an input is too long, 9 the disks are too few or too small, 10 a node isn't started
-/// over its disk.
+/// **The headline.** Where each node's disk tells its bytes (those in memory do, and those that `main` opens over
+/// files), what was done is one run of the machine: from the first world of the bus, or of `node`, if no power cut can
+/// take these bytes away, from one that goes on where the disks stand. At 0 the run has all events, and the sink their
+/// lines, or a trial's numbers. At 6 and 7 it has the first (a trial's all), and the sink their lines, of the last one
+/// a front (6) or nothing (7); or a front of a row or nothing was written, and the disks are *unstarted*: as before, or
+/// as an unfinished start may leave them.
 ///
-/// Their order, as the clauses force it: at 2 nothing is read; at 3, and at 5 and 8 of the bus file, no line; at 4, and
-/// at 5 and 8 of the lines, the bus file, if one is read, is valid; at 9 and 10 all that is read is, and at 10 the
-/// disks are large enough. Where too much came of a source it is 8 or 6, and not 5. Where the sink's count of faults
-/// rises it is 6.
+/// It begins with sound nodes that are up, and one sender of each Data ID; each event is a step, with its line.
+/// Accepted freshness strictly rises per node and Data ID, sent freshness per Data ID, and both end within kept bounds
+/// and counters. A power-up skips at most a reserve of a sender's, and of a receiver's less, above its counter or a
+/// failed acceptance. What is accepted carries the CMAC of payload and freshness under the receiver's key; an event
+/// that its line names sent the same before. An acknowledged update of a key is undone by later ones alone, and no
+/// slot's counter falls. Disks tell what their nodes keep, whatever a power cut leaves; this run alone adds to a told
+/// past; disks of no node stay. Lines tell no more failures of a disk than its count rose by, unless it is full, and of
+/// a quiet disk none before it is armed. What is delivered in time, under the right key, is accepted as sent, or the
+/// disk failed. Over quiet disks, without cuts and faults, first world and events determine the lines.
+///
+/// **The table of answers**, over sources and disks of any kind; no other status comes:
+///
+/// - 0: the inputs were read whole, all was done, and answers, lines or numbers are written.
+/// - 2: the words are of no form; nothing was read, and the usage line is printed.
+/// - 3: the bus file's first fault is printed; no line was read. 4: the lines' first fault is; the bus file is valid.
+/// - 5: a source's count of faults rose, or is full. 8: more than 1,048,576 bytes came, and it stood still. Both of the
+///   bus file, with no line read, or of the lines, with a valid bus file.
+/// - 6: the sink's count rose, or is full; of a row that comes, or a replay's next line, a front was written.
+/// - 7: called want of memory: as an input is read, at a start at which no disk failed, behind a trial, or for a
+///   replay's next line; nothing of it was written.
+/// - 9: all inputs are valid; the disks are fewer than the nodes, or the first that is too small is named.
+/// - 10: all inputs are valid, the disks large enough. A node is named whose disk failed, and wasn't quiet, or whose
+///   bytes are refused: told ones by `node` alone, which can't go on over them. Told ones before it are good.
+///
+/// The cause of 2, 5, 6 or 8 always brings it; where the sources tell and don't fail, so does that of 3, 4 or 9, and
+/// for 10 told bytes over which `node` can't go on. What is valid then ends in 0, if the sink doesn't fail, and each
+/// node's disk is large enough, tells bytes to start over, and is quiet, or its count neither rises nor is full. But a
+/// sink whose count rises makes it 6, and 0, 3, 4, 9 and 10 may give way to 7, which nothing brings. Where a disk's
+/// count rose its row of 10 is told, or at 6 a front of it; or a replay did its first events, or a trial all: each,
+/// over any disk, a turn of its node, with a count that rises where the line tells it, or is full, and nowhere else.
+///
+/// Only a command with a bus file reads one, and a trial reads no lines. Every disk is as before where no world is
+/// asked for, and at 2, 3, 4, 5, 8 and 9; unstarted at 10; at 6 and 7 unstarted, or, as at 0, as the done events left
+/// it.
 ///
 /// Rows of `checks/`, and no clause, show that all is read before anything is printed, that a line is written as soon
 /// as its event is done, and that the word that names a disk isn't looked at.
