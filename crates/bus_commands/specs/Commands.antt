@@ -4,11 +4,10 @@
 -- their `use`. All is said of one call: `i` is what went in, `d` the disks or what was known of them, `e` how it ended.
 -- That freshness rises from one call of `node` to the next over the same disks, too, is a law of the crate life_laws.
 --
--- A source or a disk *tells* its bytes where they are known, as in memory; a file and standard input tell nothing. What
--- was *read whole* of a source is all that came from it up to its end: of one that tells nothing that is some bytes, as
--- many as it counts. So each status has its cause over files, too, but 0, 3, 4 and 9 are brought by what sources tell,
--- and 10 by what a disk tells or by its count. That the disks are as before (`d.new ≡ d.old`) says nothing of the bytes
--- of one that doesn't tell them.
+-- A source or a disk *tells* its bytes where they are known. Those in memory do, and so does the disk that `main` opens
+-- over a file: it holds them in memory, and a read that gives others fails. An input from a file or a stream tells
+-- nothing. What was *read whole* of a source is all that came up to its end: of one that tells nothing some bytes, as
+-- many as it counts. So each status has its cause over files, too; but 0, 3, 4 and 9 are brought by what sources tell.
 --
 -- A count of faults never falls, and is full at its last value. A row is a status with its text. A cut is a power cut,
 -- which may leave anything of bytes that aren't synced. An event may arm a disk, so that calls of it fail; a quiet disk
@@ -94,13 +93,12 @@ use Rattle.answer_rows.specs.Endings.{CountsWriteFault, SinkFailed}
 use Rattle.bus_commands.specs.Texts.{usage, IsOutput}
 use Rattle.bus_commands.specs.declared.summary.Summary.{Summary}
 use Rattle.bus_commands.specs.Summaries.{summary_of, summary_text}
--- `ReplaysScript`: a valid replay is asked for, and all that it reads was read whole. Over disks of any kind, files
--- too, it was started, `replay` over disks that it formatted and `node` where its disks stand, and did its first
--- events, `Written` so. Each was a turn of its node alone: a step of the machine, but that a cut over a disk that
--- doesn't tell bytes that fit may leave the node up with whatever its store has, or down. The count of its disk rose
--- (or is full) where the line tells that it failed, and rose nowhere else. Nothing is undone: the disks are as the last
--- turn left them, or the start, if no event was done. `TriesEvents`: a valid trial did all its events so, and their
--- lines have this summary.
+-- `ReplaysScript`: a valid replay is asked for, and all that it reads was read whole. Over disks of any kind it was
+-- started, `replay` over disks that it formatted and `node` where its disks stand, and did its first events, `Written`
+-- so. Each was a turn of its node alone: a step of the machine, but that a cut over a disk that doesn't tell bytes that
+-- fit may leave the node up with whatever its store has, or down. The count of its disk rose (or is full) where the
+-- line tells that it failed, and rose nowhere else. Nothing is undone: the disks are as the last turn left them, or the
+-- start, if no event was done. `TriesEvents`: a valid trial did all its events so, and their lines have this summary.
 use Rattle.bus_commands.specs.Rows.{ReplaysScript, TriesEvents}
 -- `Written .. result moments`: at `Ok` they are all events, and exactly the texts of their lines were written; at an
 -- `Unwritten` those of all but the last, whose event was done, too: of its line a proper front was written
@@ -201,8 +199,8 @@ LeavesUnstarted i d =
     (d.new ≡ d.old) ⊎ OverWorld i (λ start bus events. LeavesEach start bus d.states.before d.states.after)
 
 -- THE HEADLINE, by what is asked for and by status. Runs, and their lines in the sink, are promised here over disks
--- that tell, and of `node` over bytes that a cut can't take away. Of what was done over others, as files, the table
--- alone speaks, by `ReplaysScript` and `TriesEvents`.
+-- that tell, and of `node` over bytes that a cut can't take away: so over all that `main` makes, or opens over a file.
+-- Of what was done over others the table alone speaks, by `ReplaysScript` and `TriesEvents`.
 pub record RunsMachine {V : Type 0} (i : BusInputs) (d : CommandDisks V) (e : Ending) : Type 0 where
   -- 0 of `replay`: all events of the script are one run, and the sink has all lines.
   pub replayed : Asks i.words (command.World (Replay Format)) → e.status ≡ 0 → ReplayIsRun Format i d.states e (Ok tt)
@@ -316,9 +314,9 @@ pub record RunsCommand {V : Type 0} (i : BusInputs) (d : CommandDisks V) (e : En
       → Offers i.script input → fault_of (replay start bus) input ≡ None → ¬ HasRoom bus d.states.before → MayEndIn 9 e
   pub trial_disks_refused_only : (bus : NamedBus) → OffersTrial i bus → ¬ HasRoom bus d.states.before → MayEndIn 9 e
   -- 10: all that is read is valid, the disks are large enough, and the row of a node is printed: its disk failed, and
-  -- wasn't quiet; or it didn't fail, and its bytes are refused: told ones only of `node`, which can't go on over them;
-  -- of bytes that aren't told no cause is said. Told ones of the nodes before it are good. The disks are as an
-  -- unfinished start may leave them.
+  -- wasn't quiet; or it didn't fail, and its bytes are refused: told ones only of `node`, which can't go on over them
+  -- (of others no cause is said). Told ones of the nodes before it are good. The disks are as an unfinished start may
+  -- leave them.
   pub store_refused : e.status ≡ 10 → OverWorld i (λ start bus events.
       HasRoom bus d.states.before × LeavesEach start bus d.states.before d.states.after
       × ((fault : StartFault) × StoreCause start bus d.states.before d.states.after fault
@@ -329,8 +327,7 @@ pub record RunsCommand {V : Type 0} (i : BusInputs) (d : CommandDisks V) (e : En
       → Offers i.script input → fault_of (replay Attach bus) input ≡ None → HasRoom bus d.states.before
       → HoldsNoNode bus d.states.before → MayEndIn 10 e
   -- Where the count of faults of a disk rose, the status is 10 with the row of its node, or 6 with a front of it; or a
-  -- replay did its first events, or a trial all. (Over a disk that tells nothing this doesn't tell a failed start from
-  -- a first event that failed.)
+  -- replay did its first events, or a trial all.
   pub failed_disk_told : (place : ℕ) → CountsDiskFault d.states place
       → EndsInRow (λ row. row ≡ failed_row place) e ⊎ DoesEvents i d.states e
   -- What is valid ends in 0 or 7, where the sources tell it and didn't fail, the sink's count of faults neither rose

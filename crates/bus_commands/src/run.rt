@@ -60,7 +60,8 @@ pub fn run<S: Source, T: Source, K: Sink, D: CutDisk>(
 
     // The headline: over disks that tell their bytes what was done of `replay` is one run of the machine from the first
     // world of the bus, and so it is of a trial; of `node` it is one from a world in which the bus goes on where its
-    // disks stand, if a power cut can take none of these bytes away. What holds of that run: `HeadlineRun`.
+    // disks stand, if a power cut can take none of these bytes away. All disks of `main` are such, those over files
+    // too. What holds of that run: `HeadlineRun`.
     ensures headline { RunsMachine
         (inputs_of (map string_bytes words.now)
         (S.state config.old) (S.state config.new) (T.state script.old) (T.state script.new))
