@@ -1,15 +1,18 @@
--- Messages of key updates, computed step by step
+-- Messages of key updates, computed step by step with the S-box read from a table
 use Rattle.std.specs.Prelude.{◌≡◌, ℕ, ◌+◌, ◌*◌, ◌^◌, List, [], ◌∷◌, ◌++◌, get_or}
 use Rattle.std.proofs.Common.{refl, sym, ◌∙◌, ap, arith}
 use Rattle.std.specs.List.{concat}
 use Rattle.byte_lists.specs.Numbers.{bytes_of, number_of}
 use Rattle.byte_lists.specs.NumberLaws.{IsBytes-bytes_of}
-use Rattle.she_aes.specs.Field.{product, cancelled, remainder, mul, inv, affine, sub_byte}
-use Rattle.she_aes.specs.Cipher.{IsBlock, zero_block, xor_blocks, add_round_key, sub_bytes, shift_rows, circulant, mix_columns, xor_words, sub_word, rot_word, power_of_x, rcon, added_word, next_word, words_up_to, key_words, round_key, after_rounds, cipher, enc}
+use Rattle.she_aes.specs.Field.{product, cancelled, remainder, mul}
+use Rattle.she_aes.specs.Cipher.{IsBlock, zero_block, xor_blocks, add_round_key, shift_rows, circulant, mix_columns, xor_words, rot_word, power_of_x, rcon, words_up_to, round_key, enc}
+use Rattle.she_aes.proofs.CipherByTable.{tabled_byte, tabled_word, tabled_added, tabled_next, tabled_words, tabled_bytes, tabled_rounds, tabled_cipher, enc_by_table, enc_by_table_is, cbc_by_table, cbc_by_table_is}
 use Rattle.she_aes.specs.Modes.{cbc}
-use Rattle.she_kdf.specs.Derivation.{next_out, miyaguchi_preneel, kdf}
+use Rattle.she_kdf.specs.Derivation.{kdf}
+use Rattle.she_kdf.proofs.DerivationByTable.{tabled_out, kdf_by_table, kdf_by_table_is}
 use Rattle.she_kdf.specs.declared.Constant.TheVariants.{Enc, Mac}
-use Rattle.she_cmac.specs.Cmac.{dbl, encrypted_zero, first_subkey, second_subkey, before_last, block_at, front_blocks, last_piece, last_block, chained, cmac}
+use Rattle.she_cmac.specs.Cmac.{dbl, before_last, block_at, front_blocks, last_piece, cmac}
+use Rattle.she_cmac.proofs.CmacByTable.{tabled_zero, tabled_last, tabled_chain, cmac_by_table, cmac_by_table_is}
 use Rattle.memory_update.specs.declared.messages.Update.{Update}
 use Rattle.memory_update.specs.Messages.{two_blocks, head_number, plain, request_mac, Builds, Confirms}
 use Rattle.bus_rows.specs.Buses.{numbered_uid, master_key, bus_key, clear_flags, update_of}
@@ -48,28 +51,28 @@ abbrev other_mac_key : List ℕ
 other_mac_key = 0xf6 ∷ 0xf2 ∷ 0x55 ∷ 0x45 ∷ 0xfb ∷ 0x4e ∷ 0xd9 ∷ 0xe2 ∷ 0x1a ∷ 0x44 ∷ 0xce ∷ 0x4c ∷ 0x5a ∷ 0xbc ∷ 0x3e ∷ 0xe3 ∷ []
 
 request_key_is : kdf master_key Enc ≡ request_key
-unfolding bytes_of number_of product cancelled remainder mul inv affine sub_byte xor_blocks add_round_key sub_bytes shift_rows circulant mix_columns xor_words sub_word rot_word power_of_x rcon added_word next_word words_up_to key_words round_key after_rounds cipher enc next_out miyaguchi_preneel kdf
-request_key_is = refl
+unfolding bytes_of number_of product cancelled remainder mul xor_blocks add_round_key shift_rows circulant mix_columns xor_words rot_word power_of_x rcon words_up_to round_key tabled_byte tabled_word tabled_added tabled_next tabled_words tabled_bytes tabled_rounds tabled_cipher enc_by_table tabled_out kdf_by_table
+request_key_is = sym (kdf_by_table_is master_key Enc)
 
 request_mac_key_is : kdf master_key Mac ≡ request_mac_key
-unfolding bytes_of number_of product cancelled remainder mul inv affine sub_byte xor_blocks add_round_key sub_bytes shift_rows circulant mix_columns xor_words sub_word rot_word power_of_x rcon added_word next_word words_up_to key_words round_key after_rounds cipher enc next_out miyaguchi_preneel kdf
-request_mac_key_is = refl
+unfolding bytes_of number_of product cancelled remainder mul xor_blocks add_round_key shift_rows circulant mix_columns xor_words rot_word power_of_x rcon words_up_to round_key tabled_byte tabled_word tabled_added tabled_next tabled_words tabled_bytes tabled_rounds tabled_cipher enc_by_table tabled_out kdf_by_table
+request_mac_key_is = sym (kdf_by_table_is master_key Mac)
 
 reply_key_is : kdf new_key Enc ≡ reply_key
-unfolding bytes_of number_of product cancelled remainder mul inv affine sub_byte xor_blocks add_round_key sub_bytes shift_rows circulant mix_columns xor_words sub_word rot_word power_of_x rcon added_word next_word words_up_to key_words round_key after_rounds cipher enc next_out miyaguchi_preneel kdf
-reply_key_is = refl
+unfolding bytes_of number_of product cancelled remainder mul xor_blocks add_round_key shift_rows circulant mix_columns xor_words rot_word power_of_x rcon words_up_to round_key tabled_byte tabled_word tabled_added tabled_next tabled_words tabled_bytes tabled_rounds tabled_cipher enc_by_table tabled_out kdf_by_table
+reply_key_is = sym (kdf_by_table_is new_key Enc)
 
 reply_mac_key_is : kdf new_key Mac ≡ reply_mac_key
-unfolding bytes_of number_of product cancelled remainder mul inv affine sub_byte xor_blocks add_round_key sub_bytes shift_rows circulant mix_columns xor_words sub_word rot_word power_of_x rcon added_word next_word words_up_to key_words round_key after_rounds cipher enc next_out miyaguchi_preneel kdf
-reply_mac_key_is = refl
+unfolding bytes_of number_of product cancelled remainder mul xor_blocks add_round_key shift_rows circulant mix_columns xor_words rot_word power_of_x rcon words_up_to round_key tabled_byte tabled_word tabled_added tabled_next tabled_words tabled_bytes tabled_rounds tabled_cipher enc_by_table tabled_out kdf_by_table
+reply_mac_key_is = sym (kdf_by_table_is new_key Mac)
 
 other_key_is : kdf bus_key Enc ≡ other_key
-unfolding bytes_of number_of product cancelled remainder mul inv affine sub_byte xor_blocks add_round_key sub_bytes shift_rows circulant mix_columns xor_words sub_word rot_word power_of_x rcon added_word next_word words_up_to key_words round_key after_rounds cipher enc next_out miyaguchi_preneel kdf
-other_key_is = refl
+unfolding bytes_of number_of product cancelled remainder mul xor_blocks add_round_key shift_rows circulant mix_columns xor_words rot_word power_of_x rcon words_up_to round_key tabled_byte tabled_word tabled_added tabled_next tabled_words tabled_bytes tabled_rounds tabled_cipher enc_by_table tabled_out kdf_by_table
+other_key_is = sym (kdf_by_table_is bus_key Enc)
 
 other_mac_key_is : kdf bus_key Mac ≡ other_mac_key
-unfolding bytes_of number_of product cancelled remainder mul inv affine sub_byte xor_blocks add_round_key sub_bytes shift_rows circulant mix_columns xor_words sub_word rot_word power_of_x rcon added_word next_word words_up_to key_words round_key after_rounds cipher enc next_out miyaguchi_preneel kdf
-other_mac_key_is = refl
+unfolding bytes_of number_of product cancelled remainder mul xor_blocks add_round_key shift_rows circulant mix_columns xor_words rot_word power_of_x rcon words_up_to round_key tabled_byte tabled_word tabled_added tabled_next tabled_words tabled_bytes tabled_rounds tabled_cipher enc_by_table tabled_out kdf_by_table
+other_mac_key_is = sym (kdf_by_table_is bus_key Mac)
 
 abbrev other_m2 : List (List ℕ)
 other_m2 = (0xe2 ∷ 0x93 ∷ 0x72 ∷ 0x86 ∷ 0xc1 ∷ 0xcd ∷ 0xe0 ∷ 0x00 ∷ 0xdc ∷ 0x0d ∷ 0x9f ∷ 0xf7 ∷ 0xeb ∷ 0x33 ∷ 0xfa ∷ 0x2b ∷ []) ∷ (0xb3 ∷ 0x22 ∷ 0x60 ∷ 0x70 ∷ 0x40 ∷ 0x9e ∷ 0xa1 ∷ 0x0a ∷ 0xe2 ∷ 0x3c ∷ 0xd8 ∷ 0xc5 ∷ 0xb6 ∷ 0x33 ∷ 0x10 ∷ 0x1b ∷ []) ∷ []
@@ -82,36 +85,36 @@ abbrev right_m3 : List ℕ
 right_m3 = 0xf9 ∷ 0xb0 ∷ 0xd4 ∷ 0xa8 ∷ 0x3d ∷ 0x5b ∷ 0xc9 ∷ 0x1d ∷ 0x5d ∷ 0xed ∷ 0xec ∷ 0x6a ∷ 0xaf ∷ 0x3a ∷ 0x31 ∷ 0x53 ∷ []
 
 m2_is : cbc request_key zero_block (two_blocks (plain example_update 0)) ≡ example_request.m2
-unfolding bytes_of number_of product cancelled remainder mul inv affine sub_byte xor_blocks add_round_key sub_bytes shift_rows circulant mix_columns xor_words sub_word rot_word power_of_x rcon added_word next_word words_up_to key_words round_key after_rounds cipher enc cbc two_blocks
-m2_is = refl
+unfolding bytes_of number_of product cancelled remainder mul xor_blocks add_round_key shift_rows circulant mix_columns xor_words rot_word power_of_x rcon words_up_to round_key tabled_byte tabled_word tabled_added tabled_next tabled_words tabled_bytes tabled_rounds tabled_cipher enc_by_table cbc_by_table two_blocks
+m2_is = sym (cbc_by_table_is request_key zero_block (two_blocks (plain example_update 0)))
 
 other_m2_is : cbc other_key zero_block (two_blocks (plain other_update 0)) ≡ other_m2
-unfolding bytes_of number_of product cancelled remainder mul inv affine sub_byte xor_blocks add_round_key sub_bytes shift_rows circulant mix_columns xor_words sub_word rot_word power_of_x rcon added_word next_word words_up_to key_words round_key after_rounds cipher enc cbc two_blocks
-other_m2_is = refl
+unfolding bytes_of number_of product cancelled remainder mul xor_blocks add_round_key shift_rows circulant mix_columns xor_words rot_word power_of_x rcon words_up_to round_key tabled_byte tabled_word tabled_added tabled_next tabled_words tabled_bytes tabled_rounds tabled_cipher enc_by_table cbc_by_table two_blocks
+other_m2_is = sym (cbc_by_table_is other_key zero_block (two_blocks (plain other_update 0)))
 
 m3_is : cmac request_mac_key (example_request.m1 ++ concat example_request.m2) ≡ example_request.m3
-unfolding bytes_of number_of product cancelled remainder mul inv affine sub_byte xor_blocks add_round_key sub_bytes shift_rows circulant mix_columns xor_words sub_word rot_word power_of_x rcon added_word next_word words_up_to key_words round_key after_rounds cipher enc dbl encrypted_zero first_subkey second_subkey before_last block_at front_blocks last_piece last_block chained cmac
-m3_is = refl
+unfolding bytes_of number_of product cancelled remainder mul xor_blocks add_round_key shift_rows circulant mix_columns xor_words rot_word power_of_x rcon words_up_to round_key tabled_byte tabled_word tabled_added tabled_next tabled_words tabled_bytes tabled_rounds tabled_cipher enc_by_table dbl before_last block_at front_blocks last_piece tabled_zero tabled_last tabled_chain cmac_by_table
+m3_is = sym (cmac_by_table_is request_mac_key (example_request.m1 ++ concat example_request.m2))
 
 other_m3_is : cmac other_mac_key (example_request.m1 ++ concat other_m2) ≡ other_m3
-unfolding bytes_of number_of product cancelled remainder mul inv affine sub_byte xor_blocks add_round_key sub_bytes shift_rows circulant mix_columns xor_words sub_word rot_word power_of_x rcon added_word next_word words_up_to key_words round_key after_rounds cipher enc dbl encrypted_zero first_subkey second_subkey before_last block_at front_blocks last_piece last_block chained cmac
-other_m3_is = refl
+unfolding bytes_of number_of product cancelled remainder mul xor_blocks add_round_key shift_rows circulant mix_columns xor_words rot_word power_of_x rcon words_up_to round_key tabled_byte tabled_word tabled_added tabled_next tabled_words tabled_bytes tabled_rounds tabled_cipher enc_by_table dbl before_last block_at front_blocks last_piece tabled_zero tabled_last tabled_chain cmac_by_table
+other_m3_is = sym (cmac_by_table_is other_mac_key (example_request.m1 ++ concat other_m2))
 
 right_m3_is : cmac request_mac_key (example_request.m1 ++ concat other_m2) ≡ right_m3
-unfolding bytes_of number_of product cancelled remainder mul inv affine sub_byte xor_blocks add_round_key sub_bytes shift_rows circulant mix_columns xor_words sub_word rot_word power_of_x rcon added_word next_word words_up_to key_words round_key after_rounds cipher enc dbl encrypted_zero first_subkey second_subkey before_last block_at front_blocks last_piece last_block chained cmac
-right_m3_is = refl
+unfolding bytes_of number_of product cancelled remainder mul xor_blocks add_round_key shift_rows circulant mix_columns xor_words rot_word power_of_x rcon words_up_to round_key tabled_byte tabled_word tabled_added tabled_next tabled_words tabled_bytes tabled_rounds tabled_cipher enc_by_table dbl before_last block_at front_blocks last_piece tabled_zero tabled_last tabled_chain cmac_by_table
+right_m3_is = sym (cmac_by_table_is request_mac_key (example_request.m1 ++ concat other_m2))
 
 sealed_is : enc reply_key (bytes_of 16 (1 * 2 ^ 100 + 2 ^ 99)) ≡ 0xb4 ∷ 0x72 ∷ 0xe8 ∷ 0xd8 ∷ 0x72 ∷ 0x7d ∷ 0x70 ∷ 0xd5 ∷ 0x72 ∷ 0x95 ∷ 0xe7 ∷ 0x48 ∷ 0x49 ∷ 0xa2 ∷ 0x79 ∷ 0x17 ∷ []
-unfolding bytes_of number_of product cancelled remainder mul inv affine sub_byte xor_blocks add_round_key sub_bytes shift_rows circulant mix_columns xor_words sub_word rot_word power_of_x rcon added_word next_word words_up_to key_words round_key after_rounds cipher enc
-sealed_is = refl
+unfolding bytes_of number_of product cancelled remainder mul xor_blocks add_round_key shift_rows circulant mix_columns xor_words rot_word power_of_x rcon words_up_to round_key tabled_byte tabled_word tabled_added tabled_next tabled_words tabled_bytes tabled_rounds tabled_cipher enc_by_table
+sealed_is = sym (enc_by_table_is reply_key (bytes_of 16 (1 * 2 ^ 100 + 2 ^ 99)))
 
 m4_is : two_blocks (number_of (numbered_uid 1) * 2 ^ 136 + 4 * 2 ^ 132 + 1 * 2 ^ 128 + number_of (0xb4 ∷ 0x72 ∷ 0xe8 ∷ 0xd8 ∷ 0x72 ∷ 0x7d ∷ 0x70 ∷ 0xd5 ∷ 0x72 ∷ 0x95 ∷ 0xe7 ∷ 0x48 ∷ 0x49 ∷ 0xa2 ∷ 0x79 ∷ 0x17 ∷ [])) ≡ example_reply.m4
 unfolding bytes_of number_of two_blocks
 m4_is = refl
 
 m5_is : cmac reply_mac_key (concat example_reply.m4) ≡ example_reply.m5
-unfolding bytes_of number_of product cancelled remainder mul inv affine sub_byte xor_blocks add_round_key sub_bytes shift_rows circulant mix_columns xor_words sub_word rot_word power_of_x rcon added_word next_word words_up_to key_words round_key after_rounds cipher enc dbl encrypted_zero first_subkey second_subkey before_last block_at front_blocks last_piece last_block chained cmac
-m5_is = refl
+unfolding bytes_of number_of product cancelled remainder mul xor_blocks add_round_key shift_rows circulant mix_columns xor_words rot_word power_of_x rcon words_up_to round_key tabled_byte tabled_word tabled_added tabled_next tabled_words tabled_bytes tabled_rounds tabled_cipher enc_by_table dbl before_last block_at front_blocks last_piece tabled_zero tabled_last tabled_chain cmac_by_table
+m5_is = sym (cmac_by_table_is reply_mac_key (concat example_reply.m4))
 
 m1_is : example_request.m1 ≡ bytes_of 16 (head_number (numbered_uid 1) 4 1)
 unfolding bytes_of number_of

@@ -1,14 +1,16 @@
 -- A boot whose stored MAC is another one, computed
-use Rattle.std.specs.Prelude.{◌≡◌, ℕ, false, List, [], ◌∷◌, get_or}
+use Rattle.std.specs.Prelude.{◌≡◌, ℕ, ◌*◌, false, List, [], ◌∷◌, ◌++◌, length, replicate, get_or}
 use Rattle.std.proofs.Common.{refl, sym, ◌∙◌, ap, arith}
 use Rattle.byte_lists.specs.Numbers.{bytes_of, number_of}
 use Rattle.byte_lists.specs.NumberLaws.{IsBytes-bytes_of}
 use Rattle.key_slots.specs.declared.refusals.Erc.TheVariants.{KeyNotAvailable}
 use Rattle.key_slots.specs.Authority.{is_pair}
 use Rattle.key_slots.specs.Usage.{usable}
-use Rattle.she_aes.specs.Field.{product, cancelled, remainder, mul, inv, affine, sub_byte}
-use Rattle.she_aes.specs.Cipher.{IsBlock, xor_blocks, add_round_key, sub_bytes, shift_rows, circulant, mix_columns, xor_words, sub_word, rot_word, power_of_x, rcon, added_word, next_word, words_up_to, key_words, round_key, after_rounds, cipher, enc}
-use Rattle.she_cmac.specs.Cmac.{dbl, encrypted_zero, first_subkey, second_subkey, before_last, block_at, front_blocks, last_piece, last_block, chained, cmac}
+use Rattle.she_aes.specs.Field.{product, cancelled, remainder, mul}
+use Rattle.she_aes.specs.Cipher.{xor_blocks, add_round_key, shift_rows, circulant, mix_columns, xor_words, rot_word, power_of_x, rcon, words_up_to, round_key, IsBlock}
+use Rattle.she_aes.proofs.CipherByTable.{tabled_byte, tabled_word, tabled_added, tabled_next, tabled_words, tabled_bytes, tabled_rounds, tabled_cipher, enc_by_table}
+use Rattle.she_cmac.specs.Cmac.{dbl, before_last, block_at, front_blocks, last_piece}
+use Rattle.she_cmac.proofs.CmacByTable.{tabled_zero, tabled_last, tabled_chain, cmac_by_table, cmac_by_table_is}
 use Rattle.secure_boot.specs.Booting.{bootmac}
 use Rattle.memory_update.specs.declared.messages.Update.{Update}
 use Rattle.memory_update.specs.Loading.{slot_of}
@@ -32,8 +34,8 @@ abbrev right_mac : List ℕ
 right_mac = 0x93 ∷ 0x38 ∷ 0xc4 ∷ 0xe0 ∷ 0x62 ∷ 0xa7 ∷ 0x14 ∷ 0xac ∷ 0xe2 ∷ 0x84 ∷ 0x9c ∷ 0x32 ∷ 0x77 ∷ 0x2d ∷ 0xe6 ∷ 0xc6 ∷ []
 
 right_mac_is : right_mac ≡ bootmac bus_key image
-unfolding bytes_of number_of product cancelled remainder mul inv affine sub_byte xor_blocks add_round_key sub_bytes shift_rows circulant mix_columns xor_words sub_word rot_word power_of_x rcon added_word next_word words_up_to key_words round_key after_rounds cipher enc dbl encrypted_zero first_subkey second_subkey before_last block_at front_blocks last_piece last_block chained cmac bootmac
-right_mac_is = refl
+unfolding bytes_of number_of product cancelled remainder mul xor_blocks add_round_key shift_rows circulant mix_columns xor_words rot_word power_of_x rcon words_up_to round_key tabled_byte tabled_word tabled_added tabled_next tabled_words tabled_bytes tabled_rounds tabled_cipher enc_by_table dbl before_last block_at front_blocks last_piece tabled_zero tabled_last tabled_chain cmac_by_table bootmac
+right_mac_is = cmac_by_table_is bus_key (replicate 12 0 ++ bytes_of 4 (8 * length image) ++ image)
 
 mac_differs : wrong_mac ≡ right_mac → ⊥
 mac_differs e = let h : 0xc7 ≡ 0xc6 = ap (λ xs. get_or xs 15 0) e in absurd (omega (arith, h))

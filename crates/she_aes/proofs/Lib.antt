@@ -17,3 +17,4 @@ pub mod Chains
 pub mod Inverses
 pub mod RoundTables
 pub mod ByteTable
+pub mod CipherByTable

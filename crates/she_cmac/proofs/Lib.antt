@@ -1,2 +1,3 @@
 pub mod LastPiece
 pub mod Doubling
+pub mod CmacByTable
