@@ -7,7 +7,8 @@
 -- A source or a disk *tells* its bytes where they are known. Those in memory do, and so does the disk that `main` opens
 -- over a file: it holds them in memory, and a read that gives others fails. An input from a file or a stream tells
 -- nothing. What was *read whole* of a source is all that came up to its end: of one that tells nothing some bytes, as
--- many as it counts. So each status has its cause over files, too; but 0, 3, 4 and 9 are brought by what sources tell.
+-- many as it counts. So each status has its cause over files, too; but 0, 3, 4, 9, and 10 for a disk's bytes, are
+-- brought by what sources tell.
 --
 -- A count of faults never falls, and is full at its last value. A row is a status with its text. A cut is a power cut,
 -- which may leave anything of bytes that aren't synced. An event may arm a disk, so that calls of it fail; a quiet disk
