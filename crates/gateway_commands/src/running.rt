@@ -37,9 +37,7 @@ pub fn do_job<K: Sink, D: CutDisk>(
         Ok(nodes) => nodes,
         Err(fault) => return tell_refusal(sink, &start_refusal(alloc, &fault)),
     };
-    let Some(node) = nodes.pop() else {
-        unreachable!();
-    };
+    let node = nodes.take_last();
     let (node, printed) = print_turns(alloc, node, pairs, events.as_slice(), sink);
     nodes.push_reserved(node);
     close_nodes(nodes, disks);
@@ -59,10 +57,7 @@ fn print_turns<C: CutCells, K: Sink>(
     requires ready { All CanBeDone events.now }
     ensures { PrintsTurns node pairs.items events.now (K.state sink.old) (K.state sink.new) result.0 result.1 }
 {
-    let mut gateway = match Gateway::new(node, pairs) {
-        Ok(gateway) => gateway,
-        Err(_) => unreachable!(),
-    };
+    let mut gateway = Gateway::of_good_pairs(node, pairs);
     let printed = print_run::<Gateway<C>, GatewayTexts, K>(alloc, &mut gateway, events, sink);
     (gateway.release(), printed)
 }

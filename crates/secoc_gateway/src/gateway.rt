@@ -79,12 +79,21 @@ impl<C: CutCells> Gateway<C> {
         ensures handed_back { IfErr result (λ r. r.node ≡ node) }
     {
         match lowest_bad(node.routes(), pairs.as_slice()) {
-            None => Ok(Gateway { node, pairs }),
+            None => Ok(Gateway::of_good_pairs(node, pairs)),
             Some(place) => Err(PairRefused {
                 node,
                 pair: place + 1,
             }),
         }
+    }
+
+    /// The gateway over this node with pairs that it takes: [`lowest_bad`] found none among them.
+    pub fn of_good_pairs(node: Node<C>, pairs: Vec<(u16, u16)>) -> Gateway<C>
+        requires { AreGood node.node.config.routes pairs.items }
+        ensures over { over result ≡ node }
+        ensures pairs { result.pairs ≡ pairs.items }
+    {
+        Gateway { node, pairs }
     }
 
     /// The Data ID under which departs what arrives under this one; `None` where this is the first of no pair.
@@ -130,9 +139,7 @@ impl<C: CutCells> Gateway<C> {
         ensures sound { Sound self.new.node }
         ensures pairs { self.new.pairs ≡ self.old.pairs }
     {
-        let Some(second) = self.second(id) else {
-            unreachable!();
-        };
+        let second = self.second(id).unwrap();
         pass_on(&mut self.node, id, second, pdu, out)
     }
 

@@ -12,8 +12,8 @@ use Rattle.gateway_commands.proofs.running.do_job.Goals as goal
 
 pub print_turns-node-requires-clause-good : goal.print_turns-node-requires-clause-good
 print_turns-node-requires-clause-good g c =
-    good_pairs c.args.job.bus c.args.job.pairs.items (map g.D.Disk.state c.args.disks.now.items) c.in-Ok.nodes.items c.requires.takes c.in-Ok.ensures.opened c.in-Some.node no_disk
-    (last_one c.in-Ok.nodes.items c.pop.new.self.items c.in-Some.node c.in-Some.node c.in-Some.ensures.items
+    good_pairs c.args.job.bus c.args.job.pairs.items (map g.D.Disk.state c.args.disks.now.items) c.in-Ok.nodes.items c.requires.takes c.in-Ok.ensures.opened c.take_last-node.result no_disk
+    (last_one c.in-Ok.nodes.items c.take_last-node.new.self.items c.take_last-node.result c.take_last-node.result c.take_last-node.ensures.items
     (one_node c.args.job.bus c.args.job.pairs.items (map g.D.Disk.state c.args.disks.now.items) c.in-Ok.nodes.items c.requires.takes c.in-Ok.ensures.opened))
 
 pub print_turns-node-requires-clause-ready : goal.print_turns-node-requires-clause-ready
@@ -32,13 +32,13 @@ returns g c =
     let before : List DiskState = map g.D.Disk.state c.args.disks.now.items in
     let one = one_node c.args.job.bus c.args.job.pairs.items before c.in-Ok.nodes.items c.requires.takes c.in-Ok.ensures.opened in
     let after : NodeState = c.print_turns-node.result.0 in
-    let ran = ran_gateway c.args.job.bus c.args.job.pairs.items before c.in-Ok.nodes.items c.requires.takes c.in-Ok.ensures.opened c.in-Some.node after
+    let ran = ran_gateway c.args.job.bus c.args.job.pairs.items before c.in-Ok.nodes.items c.requires.takes c.in-Ok.ensures.opened c.take_last-node.result after
     (map g.D.Disk.state c.close_nodes.new.disks.items) c.args.job.events.items (g.K.Sink.state c.args.sink.now) (g.K.Sink.state c.print_turns-node.new.sink) c.print_turns-node.result.1
-    c.requires.is_bus (last_one c.in-Ok.nodes.items c.pop.new.self.items c.in-Some.node c.in-Some.node c.in-Some.ensures.items one)
+    c.requires.is_bus (last_one c.in-Ok.nodes.items c.take_last-node.new.self.items c.take_last-node.result c.take_last-node.result c.take_last-node.ensures.items one)
     (rw c.as_slice.ensures.value at c.print_turns-node.ensures)
     (c.close_nodes.ensures
     ∙ ap (λ (ns : List NodeState). disks_of ns ++ map g.D.Disk.state c.open_nodes.new.disks.items)
-    (c.push_reserved.ensures.items ∙ ap (λ (ns : List NodeState). ns ++ after ∷ []) (none_left c.in-Ok.nodes.items c.pop.new.self.items c.in-Some.node c.in-Some.ensures.items one))
+    (c.push_reserved.ensures.items ∙ ap (λ (ns : List NodeState). ns ++ after ∷ []) (none_left c.in-Ok.nodes.items c.take_last-node.new.self.items c.take_last-node.result c.take_last-node.ensures.items one))
     ∙ ap (λ (ds : List DiskState). disks_of (after ∷ []) ++ ds) c.in-Ok.ensures.rest) in
     first_done c.print_turns-node.result.1 (record {
       ran = ran;
