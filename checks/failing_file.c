@@ -1,7 +1,8 @@
 /* A pread, a pwrite and an fsync of which calls fail, counted together from 1, to be loaded before the C library. With FILE_FAIL_AT the call of this
    number fails with EIO and does nothing; with FILE_FAIL_ON each call from that number on. With FILE_SHORT_AT the call of this number, where it is
-   a pwrite of two bytes or more, writes the first half alone. With FILE_COUNT set, the number of calls is written to standard error at the end;
-   with FILE_LOG each call is a line in the file of this name: what it is, its offset, its length, and its result. */
+   a pwrite of two bytes or more, writes the first half alone. With FILE_OTHER_AT the call of this number, where it is a pread, gives another first
+   byte than the file has. With FILE_COUNT set, the number of calls is written to standard error at the end; with FILE_LOG each call is a line in the
+   file of this name: what it is, its offset, its length, and its result. */
 #define _GNU_SOURCE
 #include <dlfcn.h>
 #include <errno.h>
@@ -9,7 +10,7 @@
 #include <stdlib.h>
 #include <sys/types.h>
 
-static long calls, fail_at, fail_on, short_at;
+static long calls, fail_at, fail_on, short_at, other_at;
 static FILE *log_file;
 
 static long number_in(const char *name) {
@@ -22,6 +23,7 @@ __attribute__((constructor)) static void begin(void) {
     fail_at = number_in("FILE_FAIL_AT");
     fail_on = number_in("FILE_FAIL_ON");
     short_at = number_in("FILE_SHORT_AT");
+    other_at = number_in("FILE_OTHER_AT");
     if (log_name) log_file = fopen(log_name, "a");
 }
 
@@ -52,7 +54,9 @@ static ssize_t noted(const char *call, off_t at, size_t length, ssize_t result) 
 static ssize_t reads(int file, void *out, size_t length, off_t at) {
     static ssize_t (*system_pread)(int, void *, size_t, off_t);
     if (!system_pread) system_pread = (ssize_t (*)(int, void *, size_t, off_t))dlsym(RTLD_NEXT, "pread");
-    return noted("pread", at, length, fails() ? -1 : system_pread(file, out, length, at));
+    ssize_t result = fails() ? -1 : system_pread(file, out, length, at);
+    if (calls == other_at && result > 0) *(unsigned char *)out ^= 0xff;
+    return noted("pread", at, length, result);
 }
 
 static ssize_t writes(int file, const void *bytes, size_t length, off_t at) {

@@ -562,13 +562,20 @@ def failing_file(room, checks):
         wrong = [] if {"pread", "pwrite", "fsync"} <= set(calls) else [f"calls of the file: {sorted(set(calls))}"]
         if checks.check(f"{name}, whole", wrong + all_done(script, status, whole) + Printed(printed).take(script, whole)):
             continue
-        for way, (at, call) in itertools.product(("FILE_FAIL_AT", "FILE_FAIL_ON", "FILE_SHORT_AT"), enumerate(calls, 1)):
-            if way == "FILE_SHORT_AT" and call != "pwrite":
+        first_read = 1 + calls.index("pread")
+        for way, (at, call) in itertools.product(("FILE_FAIL_AT", "FILE_FAIL_ON", "FILE_SHORT_AT", "FILE_OTHER_AT"), enumerate(calls, 1)):
+            if call != {"FILE_SHORT_AT": "pwrite", "FILE_OTHER_AT": "pread"}.get(way, call):
                 continue
             status, lines, made = calls_of(**{way: at})
             now = Printed(printed)
             if way == "FILE_SHORT_AT":
                 wrong = [] if (status, lines) == (0, whole) else ["a write that is gone on with shows"]
+            elif way == "FILE_OTHER_AT":
+                # what the first read gives is held; where that byte is read no more nothing shows
+                shows = at > first_read or (status, lines) != (0, whole)
+                wrong = rightly_failed(whole, status, lines, again=False) if shows else []
+                if at > first_read and made[at:]:
+                    wrong.append(f"{len(made) - at} calls of a file that read otherwise, the first a {made[at]}")
             else:
                 wrong = rightly_failed(whole, status, lines, again=(way, call) == ("FILE_FAIL_AT", "pread"))
                 if call != "pread" and made[at:]:

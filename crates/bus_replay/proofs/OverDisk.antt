@@ -1,23 +1,35 @@
 -- `node`, over the disk that its last word opens
-use Rattle.std.specs.Prelude.{◌≡◌, ℕ, List, map}
-use Rattle.std.proofs.Common.{ap}
+use Rattle.std.specs.Prelude.{◌≡◌, ◌≤◌, ℕ, List, [], ◌∷◌, length, map, Result}
+use Rattle.std.proofs.Common.{refl, ap, sym, subst, arith}
 use Rattle.std.specs.Prelude.{Vec}
 use Rattle.std.specs.declared.alloc.Global.{Global}
 use Rattle.bus_port.specs.Source.{SourceState}
 use Rattle.cut_disk.specs.State.{DiskState}
-use Rattle.named_disks.specs.NamedDisks.{IsOpenedBy}
+use Rattle.named_disks.specs.NamedDisks.{IsOpenedBy, TellsFirmBytes}
+use Rattle.numbered_run.specs.declared.printing.Unwritten.{Unwritten}
+use Rattle.bus_machine.specs.declared.events.Event.{Event}
+use Rattle.bus_nodes.specs.Buses.{NamedBus}
+use Rattle.bus_world.specs.declared.start.Start.{Start}
+use Rattle.bus_world.specs.declared.start.Start.TheVariants.{Format, Attach}
+use Rattle.bus_world.specs.StartAnswers.{DiskStates}
+use Rattle.world_runs.specs.Turns.{TellFirm}
 use Rattle.answer_rows.specs.Rows.{Row}
 use Rattle.answer_rows.specs.Endings.{Ending}
 use Rattle.answer_rows.specs.EndingLaws.{EndsInRow-more}
-use Rattle.bus_commands.specs.Words.{NamesDisk}
-use Rattle.bus_commands.specs.Inputs.{BusInputs}
+use Rattle.bus_commands.specs.declared.words.Command.TheVariants.{World as Runs}
+use Rattle.bus_commands.specs.declared.words.WorldCommand.TheVariants.{Replay}
+use Rattle.bus_commands.specs.Words.{Asks, NamesDisk}
+use Rattle.bus_commands.specs.Inputs.{BusInputs, SetsWorld}
 use Rattle.bus_commands.specs.StartRows.{CommandDisks}
-use Rattle.bus_commands.specs.Rows.{ComesInRun, without_disks, not_started, tried, tried_without_memory, RowOrReplay, in_row, replayed}
+use Rattle.bus_commands.specs.Rows.{ComesInRun, without_disks, not_started, tried, tried_without_memory, RowOrReplay, in_row, replayed, DoneReplay, ReplaysScript}
 use Rattle.bus_commands.specs.Commands.{RunsCommand, RunsBus}
 use Rattle.bus_commands.proofs.Promises.{RunsCommand-ends}
 use Rattle.bus_commands.proofs.OneRun.{RunsMachine-command}
-use Rattle.bus_replay.specs.Running.{HandedBack, RunsOpened}
+use Rattle.bus_commands.proofs.Headlines.{written_run}
+use Rattle.bus_commands.proofs.Asking.{asks_one, same_start}
+use Rattle.bus_replay.specs.Running.{HandedBack, NodeIsRun, RunsOpened}
 use Rattle.bus_replay.proofs.Given.{RunsOver}
+use Rattle.bus_replay.proofs.Wanting.{names_node}
 
 -- ---- what is promised of disks, of what is known of them
 
@@ -39,6 +51,30 @@ module _ {V : Type 0} (i : BusInputs) (d : CommandDisks V) (e : Ending) (keep : 
   runs_known runs =
       let command : RunsCommand i (known d) e = RunsCommand-ends i (known d) e (λ same. same) (ends_known runs.0.ends) in
       (command, RunsMachine-command i (known d) e command)
+
+-- ---- over a disk that tells its bytes
+
+-- one disk serves one node, whose bytes are told
+one_tells : (bus : NamedBus) (disk : DiskState) → TellsFirmBytes disk → length bus.nodes ≤ 1 → TellFirm bus (disk ∷ [])
+one_tells bus disk tells one i d few =
+    let first : i ≡ 0 = omega (arith, one, few) in
+    rw first (tells.bytes, tells.told)
+
+opened_tell : (bus : NamedBus) (disks : List DiskState) (disk : DiskState) → disks ≡ disk ∷ [] → TellsFirmBytes disk → length bus.nodes ≤ length disks → TellFirm bus disks
+opened_tell bus disks disk one tells enough =
+    let few : length bus.nodes ≤ 1 = omega (arith, enough, ap length one) in
+    subst (λ (ds : List DiskState). TellFirm bus ds) (sym one) (one_tells bus disk tells few)
+
+module _ (i : BusInputs) (d : DiskStates) (e : Ending) (result : Result (Unit {0}) Unwritten) (disk : DiskState) (one : d.before ≡ disk ∷ []) (tells : TellsFirmBytes disk) where
+  done_run : (how : Start) (bus : NamedBus) (events : List Event) → how ≡ Attach → SetsWorld i (Replay how) bus events → DoneReplay how bus events d e result → NodeIsRun i d e result
+  done_run Format bus events is set done = absurd (cc)
+  done_run Attach bus events is set done =
+      let over = done.one_run (opened_tell bus d.before disk one tells done.ran.started.room.enough) in
+      (bus, events, set, (over.first, over.begins, written_run over.first bus d events e result over.replayed))
+
+  node_run : Asks i.words (Runs (Replay Attach)) → ReplaysScript i d e result → NodeIsRun i d e result
+  node_run asks (how, bus, events, set, done) =
+      done_run how bus events (same_start how Attach (asks_one i.words (Runs (Replay how)) (Runs (Replay Attach)) set.asks asks)) set done
 
 -- ---- put together
 
@@ -65,4 +101,6 @@ module _ {D : Type 0} (state : D → DiskState) where
     disks = map state made.items;
     opened = opened;
     runs = runs_known i (opened_disks made used) e (λ same. ap (λ (v : Vec D Global). map state v.items) same) runs;
+    one_run = λ result. node_run i _ e result opened.disk opened.one opened.tells
+        (subst (λ (w : List (List ℕ)). Asks w (Runs (Replay Attach))) (sym named.words_are) (names_node words name names));
   }

@@ -1,5 +1,5 @@
 -- What the program runs
-use Rattle.std.specs.Prelude.{◌≡◌, ℕ, List, [], Vec}
+use Rattle.std.specs.Prelude.{◌≡◌, ℕ, List, [], Vec, Result}
 use Rattle.std.specs.declared.alloc.Global.{Global}
 use Rattle.bus_port.specs.Source.{SourceState}
 use Rattle.named_sources.specs.NamedSources.{missing_source}
@@ -8,10 +8,16 @@ use Rattle.cut_disk.specs.State.{DiskState}
 use Rattle.blank_disks.specs.Blank.{disk_states}
 use Rattle.named_disks.specs.NamedDisks.{IsOpenedBy}
 use Rattle.answer_rows.specs.Endings.{Ending}
+use Rattle.numbered_run.specs.declared.printing.Unwritten.{Unwritten}
+use Rattle.bus_machine.specs.Bus.{World}
+use Rattle.bus_world.specs.declared.start.Start.TheVariants.{Attach}
+use Rattle.bus_world.specs.Starts.{StartsOver}
+use Rattle.bus_world.specs.StartAnswers.{DiskStates}
 use Rattle.bus_commands.specs.Words.{NamesDisk}
-use Rattle.bus_commands.specs.Inputs.{BusInputs, AsksWorld}
+use Rattle.bus_commands.specs.Inputs.{BusInputs, AsksWorld, OverReplayOf}
 use Rattle.bus_commands.specs.StartRows.{CommandDisks}
-use Rattle.bus_commands.specs.Commands.{RunsBus}
+use Rattle.bus_commands.specs.Rows.{ReplaysScript}
+use Rattle.bus_commands.specs.Commands.{RunsBus, WrittenRun}
 use Rattle.bus_commands.specs.Named.{InputsAreNamed}
 use Rattle.bus_replay.specs.Blank.{AreGiven}
 
@@ -50,8 +56,15 @@ pub record RunsGiven (opens : List ℕ → SourceState → Type 0) (config_input
 abbrev pub known_disks : List DiskState → List DiskState → CommandDisks (List DiskState)
 known_disks before after = record { old = before; new = after; states = record { before = before; after = after } }
 
--- all that a command promises was had of `node`, over the sources that its words name, and the one disk that its last
--- word opens, which are those handed back
+-- a valid `node` is asked for, and it is one run of the machine, from a world in which the bus goes on where its disk
+-- stands
+abbrev pub NodeIsRun : BusInputs → DiskStates → Ending → Result (Unit {0}) Unwritten → Type 0
+NodeIsRun i d e result = OverReplayOf Attach i (λ bus events. (first : World) × StartsOver bus d.before first
+    × WrittenRun first bus d events e result)
+
+-- All that a command promises was had of `node`, over the sources that its words name, and the one disk that its last
+-- word opens, which are those handed back. That disk tells its bytes, whatever the word opens, and a power cut can take
+-- none of them away: all that is promised over such disks was had, the causes of 10 and the headline too.
 pub record RunsOpened (opens : List ℕ → SourceState → Type 0) (opens_disk : List ℕ → DiskState → Type 0)
     (config_input script_input : SourceState) (words : List (List ℕ)) (left : HandedBack) (e : Ending) : Type 0 where
   pub name : List ℕ
@@ -63,6 +76,10 @@ pub record RunsOpened (opens : List ℕ → SourceState → Type 0) (opens_disk 
   pub disks : List DiskState
   pub opened : IsOpenedBy opens_disk name disks
   pub runs : RunsBus inputs (known_disks disks left.disks) e
+  -- at 0, and at 6 or 7 behind its start, what it did is one run
+  pub one_run : (result : Result (Unit {0}) Unwritten)
+      → ReplaysScript inputs (record { before = disks; after = left.disks }) e result
+      → NodeIsRun inputs (record { before = disks; after = left.disks }) e result
 
 -- ---- either
 

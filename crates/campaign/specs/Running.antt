@@ -9,7 +9,8 @@ use Rattle.campaign_commands.specs.Rows.{CampaignInputs, CampaignDisks}
 use Rattle.campaign_commands.specs.Examples.{Campaigns}
 
 -- All that a campaign promises was had of two words, over the script that the first of them names, and the one disk
--- that the second opens. They were left as those that are handed back.
+-- that the second opens, which tells its bytes, none of them loose: all that is promised over such a disk, too. They
+-- were left as those that are handed back.
 pub record RunsTwo (opens : List ℕ → SourceState → Type 0) (opens_disk : List ℕ → DiskState → Type 0)
     (input : SourceState) (words : List (List ℕ)) (script_after : SourceState) (disks_after : List DiskState)
     (e : Ending) : Type 0 where

@@ -1,6 +1,7 @@
-//! Two nodes that go on where their disks in memory stand. What one node over a file shows is a row of checks/.
+//! Two nodes that go on where their disks in memory stand, or those over files in memory whose bytes are held. What one node over a
+//! file shows is a row of checks/.
 use crate::lines::BUS;
-use crate::replays::{disks_of, runs, tapes_of};
+use crate::replays::{disks_of, held_disks, runs, tapes_of};
 use cut_disk::CutDisk;
 use std::alloc::Global;
 use std::process::Abort;
@@ -66,19 +67,28 @@ fn goes_on<D: CutDisk>(
     runs(rt, alloc, disks, texts, fails_behind, status, output)
 }
 
-fn lives(rt: &impl Abort, alloc: Global, lives: &Lives) -> Result<(), Fail> {
-    let mut disks = disks_of(alloc, &[65_536, 65_536])?;
+fn lives<D: CutDisk>(
+    rt: &impl Abort,
+    alloc: Global,
+    disks: &mut Vec<D>,
+    lives: &Lives,
+) -> Result<(), Fail> {
     for (layout, script, status, output) in lives {
         let texts = [*layout, *script];
-        goes_on(rt, alloc, &mut disks, texts, None, *status, output)?;
+        goes_on(rt, alloc, disks, texts, None, *status, output)?;
     }
     Ok(())
 }
 
 #[test]
 fn a_bus_goes_on_where_its_disks_stand(rt: HostRuntime) -> Result<(), Fail> {
-    lives(&rt, rt.alloc(), &TWIN_LIVES)?;
-    lives(&rt, rt.alloc(), &LOG_LIVES)
+    for rows in [&TWIN_LIVES, &LOG_LIVES] {
+        let mut disks = disks_of(rt.alloc(), &[65_536, 65_536])?;
+        lives(&rt, rt.alloc(), &mut disks, rows)?;
+        let mut disks = held_disks(rt.alloc(), 65_536, 0)?;
+        lives(&rt, rt.alloc(), &mut disks, rows)?;
+    }
+    Ok(())
 }
 
 /// A life over a sink that fails, and the next.

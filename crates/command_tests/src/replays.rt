@@ -3,7 +3,7 @@ use crate::comparing::{holds, same};
 use crate::lines::{BUS, clean, does, ending, sink_of};
 use bus_port::MemSink;
 use cut_disk::{CutDisk, Disk, DiskFailed, MemDisk, TapeDisk};
-use file_disk::{ByteFile, FileDisk, FileFailed};
+use file_disk::{ByteFile, FileDisk, FileFailed, HeldFile, room_to_hold};
 use std::alloc::{AllocError, Global};
 use std::process::Abort;
 use std::test::Fail;
@@ -315,7 +315,7 @@ fn a_disk_that_fails_at_the_start_is_named(rt: HostRuntime) -> Result<(), Fail> 
 
 /// A file in memory that has lost one byte: at this address it reads as `byte`.
 #[derive(Drop)]
-struct WornFile {
+pub(crate) struct WornFile {
     bytes: Vec<u8>,
     at: usize,
     byte: u8,
@@ -411,6 +411,52 @@ fn what_is_read_again_otherwise_is_told(rt: HostRuntime) -> Result<(), Fail> {
         let layout = row.0;
         let bus = format!(in rt.alloc(); "{layout}{BUS}")?;
         reads_otherwise(&rt, rt.alloc(), bus.as_str(), row)?;
+    }
+    Ok(())
+}
+
+/// A disk over such a file whose bytes are held.
+fn held(alloc: Global, at: usize, byte: u8) -> Result<FileDisk<HeldFile<WornFile>>, AllocError> {
+    let room = room_to_hold(alloc)?;
+    let bytes = vec![in alloc; 0; 65_536]?;
+    let file = HeldFile::over(WornFile { bytes, at, byte }, 65_536, room);
+    let size = file.size();
+    Ok(FileDisk::over(file, size))
+}
+
+pub(crate) fn held_disks(
+    alloc: Global,
+    at: usize,
+    byte: u8,
+) -> Result<Vec<FileDisk<HeldFile<WornFile>>>, AllocError> {
+    let mut disks = Vec::new(alloc);
+    disks.push(held(alloc, 65_536, 0)?)?;
+    disks.push(held(alloc, at, byte)?)?;
+    Ok(disks)
+}
+
+/// Over disks that tell their bytes: what reads otherwise than it was written is a disk that failed.
+fn fails_as_it_reads_otherwise(
+    rt: &impl Abort,
+    alloc: Global,
+    bus: &str,
+    row: &(&str, usize, u8, u8, &str),
+) -> Result<(), Fail> {
+    let mut disks = held_disks(alloc, row.1, row.2)?;
+    let output = if row.3 == 0 {
+        row.4
+    } else {
+        "store: node 2: DiskFailed\n"
+    };
+    replays(rt, alloc, &mut disks, [bus, SENT], None, row.3, output)
+}
+
+#[test]
+fn what_a_held_file_reads_otherwise_is_a_failed_disk(rt: HostRuntime) -> Result<(), Fail> {
+    for row in READ_OTHERWISE {
+        let layout = row.0;
+        let bus = format!(in rt.alloc(); "{layout}{BUS}")?;
+        fails_as_it_reads_otherwise(&rt, rt.alloc(), bus.as_str(), row)?;
     }
     Ok(())
 }

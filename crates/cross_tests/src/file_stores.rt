@@ -24,7 +24,8 @@ fn attached(rt: &HostRuntime, path: &str) -> Result<TwinCells<FileDisk>, Fail>
     ensures count { IfOk result (λ s. length s.cells ≡ 3) }
     ensures whole { IfOk result (λ s. s.broken ≡ false) }
 {
-    match TwinCells::attach(rt.alloc(), FileDisk::on(rt, path), 3) {
+    let disk = FileDisk::on(rt.alloc(), rt, path)?;
+    match TwinCells::attach(rt.alloc(), disk, 3) {
         Ok(store) => Ok(store),
         Err(refused) => Err(Fail::from(refused.fault)),
     }
@@ -45,7 +46,8 @@ fn cells_of(store: &TwinCells<FileDisk>) -> Result<[[u8; 32]; 3], Fail> {
 #[test]
 fn a_twin_store_outlasts_its_run_in_a_file(rt: HostRuntime) -> Result<(), Fail> {
     let path = new_path(&rt, "twin")?;
-    match TwinCells::format(FileDisk::on(&rt, path.as_str()), &CELLS) {
+    let disk = FileDisk::on(rt.alloc(), &rt, path.as_str())?;
+    match TwinCells::format(disk, &CELLS) {
         Ok(_) => {}
         Err(refused) => return Err(Fail::from(refused.fault)),
     }

@@ -1,10 +1,13 @@
 //! A file that tells its bytes, and the disk over it.
-ghost use Rattle.std.specs.Prelude.{◌≡◌, length};
+ghost use Rattle.std.specs.Prelude.{◌≡◌, ◌≤◌, length};
 ghost use Rattle.cut_disk.specs.MemDisk.{contents};
+ghost use Rattle.cell_store.specs.Layout.{layout};
+ghost use Rattle.cell_store.specs.Store.{store_size};
 
-use cell_store::{StoreFault, TwinCells};
+use cell_store::{Kind, StoreFault, TwinCells, Version, log_size, twin_size};
 use cut_disk::{CutDisk, Disk, DiskFailed, MemDisk, Torn};
-use file_disk::{ByteFile, FileDisk, FileFailed};
+use file_disk::{ByteFile, FileDisk, FileFailed, HeldFile, MOST_HELD, room_to_hold};
+use std::alloc::Global;
 use std::test::Fail;
 
 /// A file whose bytes are those of a disk in memory, and which tells them.
@@ -109,6 +112,73 @@ fn a_store_over_a_file_that_tells_is_refused_for_its_bytes(rt: HostRuntime) -> R
             Err(refused) => Some(refused.fault),
         };
         assert_eq!(rt; answer, want);
+    }
+    Ok(())
+}
+
+/// The size of a store, which is held whole of its file.
+fn held_size(kind: Kind, version: Version, cells: u16) -> u64
+    requires { cells ≤ 1024 }
+    ensures size { result ≡ store_size (layout kind version) cells }
+    ensures held { result ≤ MOST_HELD }
+{
+    let size = match kind {
+        Kind::Twin => twin_size(cells),
+        Kind::Log => log_size(cells),
+    };
+    version.base() + size
+}
+
+#[test]
+fn the_largest_store_is_held_of_its_file(rt: HostRuntime) {
+    for (kind, version, size) in [
+        (Kind::Twin, Version::One, 69_664),
+        (Kind::Log, Version::One, 70_052),
+        (Kind::Twin, Version::Two, 102_432),
+        (Kind::Log, Version::Two, 102_820),
+    ] {
+        assert_eq!(rt; held_size(kind, version, 1024), size);
+    }
+}
+
+/// The bytes of a disk of four over the held bytes of a file, whose calls fail from this one on: behind a write that is
+/// synced, and a power cut; and how many bytes the disk has.
+fn held_bytes(alloc: Global, stops: u64) -> Result<(u64, Result<[u8; 4], DiskFailed>), Fail>
+    requires { 1 ≤ stops }
+{
+    let mut below = MemDisk::new(alloc, 4)?;
+    below.stop_at(stops);
+    let size = below.size();
+    let room = room_to_hold(alloc)?;
+    let file = HeldFile::over(DiskFile { disk: below }, size, room);
+    let size = file.size();
+    let mut disk = FileDisk::over(file, size);
+    Ok((size, written_and_read(&mut disk)))
+}
+
+/// Two bytes are written and synced, and all are read.
+fn written_and_read<D: Disk>(disk: &mut D) -> Result<[u8; 4], DiskFailed> {
+    if disk.size() < 4 {
+        return Err(DiskFailed);
+    }
+    disk.write(1, &[5, 6])?;
+    disk.sync()?;
+    let mut bytes = [9; 4];
+    disk.read(0, &mut bytes)?;
+    Ok(bytes)
+}
+
+/// The first call of the file is the read of what is held: where it fails there is none.
+#[test]
+fn a_held_file_fails_where_the_file_below_does(rt: HostRuntime) -> Result<(), Fail> {
+    for (stops, size, bytes) in [
+        (1, 65_536, Err(DiskFailed)),
+        (2, 4, Err(DiskFailed)),
+        (3, 4, Err(DiskFailed)),
+        (4, 4, Err(DiskFailed)),
+        (5, 4, Ok([0, 5, 6, 0])),
+    ] {
+        assert_eq!(rt; held_bytes(rt.alloc(), stops)?, (size, bytes));
     }
     Ok(())
 }

@@ -39,7 +39,7 @@ pub any_of_either : {V E : Type 0} {old new : Option (List ℕ)} (at : ℕ) (put
 any_of_either at put (Ok v) puts torn = any_of_put at put puts
 any_of_either at put (Err e) puts torn = torn
 
-same_bytes : {new : Option (List ℕ)} {b c : List ℕ} → new ≡ Some b → new ≡ Some c → b ≡ c
+pub same_bytes : {new : Option (List ℕ)} {b c : List ℕ} → new ≡ Some b → new ≡ Some c → b ≡ c
 same_bytes p q = cc
 
 pub tells_put : {size count : ℕ} (at : ℕ) (old : Option (List ℕ)) {new : Option (List ℕ)} → is_some new ≡ is_some old → PutsAny at count old new

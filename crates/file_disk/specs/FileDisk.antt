@@ -1,5 +1,5 @@
 -- A disk over a file: what it means, and what a call of it does.
-use Rattle.std.specs.Prelude.{◌≡◌, ℕ, Bool, true, false, if◌then◌else◌, List, replicate, Option, None}
+use Rattle.std.specs.Prelude.{◌≡◌, ◌≤◌, ℕ, Bool, true, false, if◌then◌else◌, List, length, replicate, Option, Some, None}
 use Rattle.fault_count.specs.FaultCount.{counted}
 use Rattle.cut_disk.specs.declared.arming.Arms.{Arms}
 use Rattle.cut_disk.specs.State.{Told, DiskState}
@@ -73,3 +73,12 @@ file_contents {F} {g} disk =
       calls = g.calls disk.file;
       told = with_marks (g.told disk.file) (loose_since disk.size disk.written.numbers);
     }
+
+-- A disk over a file of the system that was opened just now. It tells its bytes, as many as it has, and none of them is
+-- loose; nothing is armed on it, and no call has failed. Where there is no file its bytes are 65,536 zeros.
+pub record IsJustOpened (c : FileContents) : Type 0 where
+  pub bytes : List ℕ
+  pub sized : length bytes ≡ c.size
+  pub most : c.size ≤ 131072
+  pub fresh : c ≡ fresh_file_disk c.size c.is_open None (Some bytes)
+  pub none : c.is_open ≡ false → bytes ≡ replicate 65536 0

@@ -1,5 +1,5 @@
 //! The disk over a file.
-ghost use Rattle.std.specs.Prelude.{◌≡◌, ◌+◌, ◌^◌, ◌<◌, ◌≤◌, length, Some, None, false, not, is_ok, if◌then◌else◌, OnOk, OnErr};
+ghost use Rattle.std.specs.Prelude.{◌≡◌, ◌+◌, ◌^◌, ◌<◌, ◌≤◌, length, Some, None, false, not, is_ok, if◌then◌else◌, IfOk, OnOk, OnErr};
 ghost use Rattle.fault_count.specs.FaultCount.{last_count, counted};
 ghost use Rattle.cut_disk.specs.State.{Cut, Stop, Fail};
 ghost use Rattle.cut_disk.specs.Arming.{fails, after_cut, with_stop, with_fail};
@@ -9,17 +9,19 @@ ghost use Rattle.file_disk.specs.FileBytes.{TellsSize, loose_since};
 ghost use Rattle.file_disk.specs.FileCalls.{ReadAt, WriteAt, SyncAll};
 
 use crate::byte_file::{ByteFile, FileFailed};
+use crate::held_file::HeldFile;
 use crate::system_file::SystemFile;
 use crate::writes::with_write;
 use boxcar::tag::Tag;
 use cut_disk::{Arms, CutDisk, Disk, DiskFailed, Torn, count_call};
 use fault_count::count_fault;
+use std::alloc::{AllocError, Global};
 
 /// A disk over one file. It tells the bytes that its file tells, if that tells any, and no past, and is never quiet: any call of the
 /// file may fail. A byte is loose that was written since the last sync that was Ok. A power cut takes nothing from the file and
 /// syncs it, so that what is read behind it is what a cut of the system's own power leaves.
 #[derive(Drop)]
-pub struct FileDisk<F: ByteFile = SystemFile> {
+pub struct FileDisk<F: ByteFile = HeldFile<SystemFile>> {
     file: F,
     size: u64,
     arms: Arms,
@@ -33,20 +35,23 @@ pub struct FileDisk<F: ByteFile = SystemFile> {
     ghost marked: { length (loose_since size written.numbers) ≡ size },
 }
 
-impl FileDisk<SystemFile> {
-    ghost use Rattle.file_disk.specs.FileDisk.{file_contents, fresh_file_disk};
+impl FileDisk<HeldFile<SystemFile>> {
+    ghost use Rattle.file_disk.specs.FileDisk.{file_contents, IsJustOpened};
 
-    /// A disk over the file at this path, which is made with 65,536 zero bytes where it isn't there. Its size is the length of
-    /// the file now. A file that can be neither opened nor made is a disk of 65,536 bytes, each of whose reads, writes and
-    /// syncs fails.
-    pub fn on(rt: &HostRuntime, path: &str) -> FileDisk<SystemFile>
-        ensures fresh { file_contents result
-            ≡ fresh_file_disk (file_contents result).size (file_contents result).is_open None None }
-        ensures missing { (file_contents result).is_open ≡ false → (file_contents result).size ≡ 65536 }
+    /// A disk over the file at this path, which is made with 65,536 zero bytes where it isn't there. It tells its bytes: those that
+    /// the file reads as now, of a longer file the first 131,072, which alone are the disk. They are held in memory. A file that can
+    /// be neither opened nor made, or not read, is a disk of 65,536 zero bytes, each of whose reads, writes and syncs fails. Where
+    /// there is no memory nothing is opened or made.
+    pub fn on(
+        alloc: Global,
+        rt: &HostRuntime,
+        path: &str,
+    ) -> Result<FileDisk<HeldFile<SystemFile>>, AllocError>
+        ensures { IfOk result (λ disk. IsJustOpened (file_contents disk)) }
     {
-        let file = SystemFile::on(rt, path);
+        let file = HeldFile::on(alloc, rt, path)?;
         let size = file.size();
-        FileDisk::over(file, size)
+        Ok(FileDisk::over(file, size))
     }
 }
 

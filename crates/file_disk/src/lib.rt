@@ -8,18 +8,26 @@
 //! over disks that tell their bytes is promised of a disk over such a file. A byte of it is loose that was written since the last
 //! sync that was Ok.
 //!
+//! [`HeldFile`] makes such a file of any other: it holds the bytes in memory, and compares each read with them. So a disk that
+//! [`FileDisk::on`] opens over a file of the system tells its bytes, whatever that file is, and none of them is loose. Where the
+//! file reads otherwise than it was written, the disk failed; where none can be opened, its bytes are zeros, and each call fails.
+//!
 //! [`SystemFile`] is a file of the system, and the trusted edge: it tells nothing, and no clause says what such a file holds, or when
-//! its calls fail. A read is `pread`, a write `fstat` and `pwrite`, a sync `fstat` and `fsync`, each again until the whole range is done or
-//! a call fails; opening is `stat`, `open` and `flock`, `ftruncate` where the file is made, and `fsync` of the file and of its folder.
-//! That each call fails after a write or a sync of the file failed is proved.
+//! its calls fail. That its device has behind a power cut what was synced, and that nobody else writes it between two runs, is
+//! not proved of any file; what another wrote is seen as soon as it is read. A read is `pread`, a write `fstat` and `pwrite`, a sync
+//! `fstat` and `fsync`, each again until the whole range is done or a call fails; opening is `stat`, `open` and `flock`, `ftruncate`
+//! where the file is made, `fsync` of the file and of its folder, and behind these one `pread` of what is held. That each call fails
+//! after a write or a sync of the file failed is proved.
 #![tactic(auto)]
 
 mod byte_file;
 mod file_disk;
+mod held_file;
 pub mod laws;
 mod system_file;
 mod writes;
 
 pub use byte_file::{ByteFile, FileFailed};
 pub use file_disk::FileDisk;
+pub use held_file::{HeldFile, MOST_HELD, room_to_hold};
 pub use system_file::SystemFile;

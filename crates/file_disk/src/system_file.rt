@@ -13,8 +13,8 @@ use std::{fs, io};
 /// The bytes of a file that is made, and of a disk over one that can't be opened.
 pub const FIRST_SIZE: u64 = 65536;
 
-/// A file of the system, or none, where it could be neither opened nor made. It tells no calls and no bytes. Each call of no
-/// file fails.
+/// A file of the system, or none, where it could be neither opened nor made. It tells no calls and no bytes (a
+/// [`HeldFile`](crate::HeldFile) over it does). Each call of no file fails.
 ///
 /// It is open in one place at a time, and stands durably on its device before it is read. Once a write or a
 /// sync of it has failed each further call fails: the system may have dropped what it couldn't write, and

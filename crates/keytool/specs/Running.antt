@@ -28,8 +28,8 @@ RunsWords source disk words request disks e = Keys
       known = record { before = map disk disks.before; after = map disk disks.after };
     }) e
 
--- that was had over the one disk that the word behind `load` opens, and over none for other words; the disks were left
--- as those that are handed back
+-- That was had over the one disk that the word behind `load` opens, which tells its bytes, none of them loose: all that
+-- is promised over such a disk, too; and over none for other words. The disks were left as those that are handed back.
 pub record RunsWithFile {S D : Type 0} (source : S → SourceState) (disk : D → DiskState)
     (opens_disk : List ℕ → DiskState → Type 0) (words : List (List ℕ)) (request : Handed S) (left : List D)
     (e : Ending) : Type 0 where

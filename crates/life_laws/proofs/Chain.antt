@@ -1,23 +1,22 @@
 -- All lives of a bus go on, put together
-use Rattle.std.specs.Prelude.{◌≡◌, ℕ, ◌<◌, List, [], ◌∷◌, ◌++◌, length, map, get_or}
-use Rattle.std.proofs.Common.{refl, ◌∙◌, ap, subst, arith, inr}
+use Rattle.std.specs.Prelude.{◌≡◌, ℕ, List, [], ◌∷◌, ◌++◌, length, map}
+use Rattle.std.proofs.Common.{refl, ◌∙◌, ap, subst, arith}
 use Rattle.machine_runs.specs.Run.{Run}
-use Rattle.cut_disk.specs.State.{DiskState}
-use Rattle.cut_disk.specs.Images.{CutsTo}
 use Rattle.bus_machine.specs.Bus.{World, node_of, Instant, Moments, Step}
 use Rattle.bus_machine.specs.Freshness.{AcceptedRises, Rising, SentRises, Single}
 use Rattle.bus_laws.proofs.Lists.{AllPairs-Pairwise}
 use Rattle.bus_nodes.specs.declared.nodes.NodeLine.{NodeLine}
 use Rattle.bus_nodes.specs.Buses.{NamedBus}
 use Rattle.bus_world.specs.declared.start.Start.TheVariants.{Attach}
-use Rattle.world_runs.specs.Turns.{StartsSetUp, StartsGoOnFirst, TurnsAreWorldRuns, TellFirm}
-use Rattle.life_laws.specs.Lives.{Life, IsLife, GoesOnAs, Follows, IsFirstLife, LivesBehind, LivesOf, moments_in, Stage}
+use Rattle.world_runs.specs.Turns.{StartsSetUp, StartsGoOnFirst, TurnsAreWorldRuns}
+use Rattle.life_laws.specs.Lives.{Life, IsLife, Follows, IsFirstLife, LivesBehind, LivesOf, moments_in, Stage}
 use Rattle.life_laws.specs.Lives.{moment_passes, stages_in, world_behind, EachPowersUp, LivesGoOn, EachLife, LeavesNodes}
-use Rattle.life_laws.specs.Lives.{OutlastsRefusals, AttachedRunsFollow}
+use Rattle.life_laws.specs.Lives.{StartsLeaveNodes, NextBlamesNoBytes, OutlastsRefusals, AttachedRunsFollow}
 use Rattle.life_laws.proofs.Stages.{StagesFrom, stages_join, Restarts, Chained}
 use Rattle.life_laws.proofs.Rising.{moments_of, stages_rise, stages_are_single}
 use Rattle.life_laws.proofs.Keeping.{slots_outlast, updates_outlast}
-use Rattle.life_laws.proofs.Seams.{HasConfigs, over_configs, life_configs, leaves_nodes, outlasts_refusals, as_many, restarts}
+use Rattle.life_laws.proofs.Seams.{HasConfigs, over_configs, life_configs, leaves_nodes, outlasts_refusals}
+use Rattle.life_laws.proofs.Between.{starts_leave_nodes, next_blames_no_bytes, as_many, restarts}
 
 -- ---- the stages of one life
 
@@ -160,6 +159,16 @@ lives_can_go_on = λ bus done life later are.
     let one = one_in bus done life later are in
     leaves_nodes life one.configs one.run
 
+pub unfinished_starts_leave_nodes : EachLife StartsLeaveNodes
+unfinished_starts_leave_nodes = λ bus done life later are.
+    let one = one_in bus done life later are in
+    starts_leave_nodes life one.configs one.run
+
+pub next_starts_blame_no_bytes : EachLife NextBlamesNoBytes
+next_starts_blame_no_bytes = λ bus done life later are.
+    let one = one_in bus done life later are in
+    next_blames_no_bytes life one.configs one.run
+
 pub refused_starts_leave_lives : EachLife OutlastsRefusals
 refused_starts_leave_lives = λ bus done life later are.
     let one = one_in bus done life later are in
@@ -167,27 +176,11 @@ refused_starts_leave_lives = λ bus done life later are.
 
 -- ---- where lives come from
 
--- the same number of nodes
-many_as : (bus next : NamedBus) (found : List DiskState) → GoesOnAs bus next found → length next.nodes ≡ length bus.nodes
-many_as bus next found as_bus = ap (λ (lines : List NodeLine). length lines) as_bus.same_nodes
-
--- what a power cut leaves tells its bytes, of which none is loose
-cut_tells_firm : (bus : NamedBus) (life : Life) (before : List DiskState) → IsLife life
-    → length bus.nodes ≡ length life.bus.nodes
-    → ((i : ℕ) (d : DiskState) → i < length life.bus.nodes → CutsTo (get_or life.after i d).told (get_or before i d).told)
-    → TellFirm bus before
-cut_tells_firm bus life before run many cuts = λ i d inside.
-    let within : i < length life.bus.nodes = omega (arith, inside, many) in
-    let fit = run.disks.fit i d within in
-    let left = cuts i d within fit.now fit.told in
-    (left.left, left.now)
-
 pub attached_follow : StartsSetUp → StartsGoOnFirst → TurnsAreWorldRuns → AttachedRunsFollow
 attached_follow set_up go_on world_runs =
-    λ bus life most before after events start moments now is run as_bus cuts started taken.
-    let firm = cut_tells_firm bus life before run (many_as life.bus bus before as_bus) cuts in
+    λ bus life starts most before after events start moments now is run left as_bus firm started taken.
     let first = go_on bus most before start is started firm in (
-      record { as_bus = as_bus; disks = λ i d inside. inr (cuts i d inside); goes_on = first.goes_on },
+      record { starts = starts; disks = left; as_bus = as_bus; goes_on = first.goes_on },
       world_runs bus before after events start moments now (set_up Attach bus most before start started) first.fits
           first.is_first taken,
     )

@@ -2,4 +2,5 @@ pub mod Stages
 pub mod Rising
 pub mod Keeping
 pub mod Seams
+pub mod Between
 pub mod Chain

@@ -2,11 +2,14 @@
 use Rattle.std.specs.Prelude.{◌≡◌, ℕ, ◌<◌, ◌⊎◌, Some, List, [], ◌∷◌, ◌++◌, length, map, get_or, AllPairs}
 use Rattle.key_slots.specs.declared.memory.Slot.{Slot}
 use Rattle.cut_disk.specs.State.{DiskState, Told}
-use Rattle.cut_disk.specs.Images.{Image, CutsTo}
+use Rattle.cut_disk.specs.Images.{Image, firm, CutsTo}
 use Rattle.cell_store.specs.declared.kinds.Kind.{Kind}
 use Rattle.cell_store.specs.declared.kinds.Version.{Version}
 use Rattle.cell_store.specs.declared.kinds.Version.TheVariants.{One, Two}
+use Rattle.cell_store.specs.declared.faults.Reread.TheVariants as reread
 use Rattle.cell_store.specs.Moving.{CountsAs}
+use Rattle.any_cells.specs.declared.looking.Found.TheVariants.{Older}
+use Rattle.any_cells.specs.Looking.{IsFound}
 use Rattle.machine_runs.specs.Run.{Moment}
 use Rattle.bus_machine.specs.declared.events.Event.{Event}
 use Rattle.bus_machine.specs.declared.lines.Line.{Line}
@@ -18,12 +21,13 @@ use Rattle.bus_nodes.specs.declared.nodes.NodeLine.{NodeLine}
 use Rattle.bus_nodes.specs.Buses.{NamedBus, IsNamedBus, configs_of}
 use Rattle.bus_world.specs.declared.start.Start.TheVariants.{Attach}
 use Rattle.bus_world.specs.declared.start.StartFault.{StartFault}
+use Rattle.bus_world.specs.declared.start.StartFault.TheVariants as start_fault
 use Rattle.bus_world.specs.Worlds.{BusState, world_of}
 use Rattle.bus_world.specs.TakingUp.{cells_in}
 use Rattle.bus_world.specs.Starts.{Started, NotStarted, StartsOver}
 use Rattle.bus_world.specs.StartRows.{CanStart}
 use Rattle.world_runs.specs.WorldRuns.{WorldRun}
-use Rattle.world_runs.specs.Turns.{seen, TakesTurns}
+use Rattle.world_runs.specs.Turns.{seen, TakesTurns, TellFirm}
 
 -- One life of a bus: the bus as it was then told, the disks that it found, its first world, what it was told to do, its
 -- moments, and the world and the disks that they left. The program prints the lines of the moments, in order, for as
@@ -43,9 +47,16 @@ pub record Life : Type 0 where
 abbrev pub IsLife : Life → Type 0
 IsLife life = WorldRun life.first life.bus life.before life.after life.events life.moments life.last
 
--- a disk as the next life finds it: as it was left, or as a power cut may leave it
+-- ---- what a life leaves to the next
+
+-- a disk as it is found next: as it was left, or as a power cut may leave it
 abbrev pub LeftToNext : DiskState → DiskState → Type 0
 LeftToNext left found = (found.told ≡ left.told) ⊎ CutsTo left.told found.told
+
+-- the disk of each of so many nodes is found so
+abbrev pub EachLeft : ℕ → List DiskState → List DiskState → Type 0
+EachLeft nodes left found =
+    (i : ℕ) (d : DiskState) → i < nodes → LeftToNext (get_or left i d) (get_or found i d)
 
 -- the bytes x have no store of n cells that is newer than one of this version: beside a store of version 1 the header
 -- of version 2 might stand, at 32,768, and then that store counts
@@ -59,23 +70,64 @@ NoneNewer bus disks =
     (i : ℕ) (l : NodeLine) (d : DiskState) (t : Told) → i < length bus.nodes → (get_or disks i d).told ≡ Some t
     → NoNewer bus.kind bus.version (cells_in (get_or bus.nodes i l).config) t.bytes
 
--- the stores of the bus are moved to version 2, where these disks have none of it yet
-abbrev pub MovesUp : NamedBus → NamedBus → List DiskState → Type 0
-MovesUp bus next found = (next.version ≡ Two) × NoneNewer bus found
+-- ---- starts between two lives that weren't finished
 
--- as which bus a bus goes on over these disks: with the same nodes over stores of the same kind, in the same version or
--- moved to version 2
-pub record GoesOnAs (bus next : NamedBus) (found : List DiskState) : Type 0 where
+-- A start between two lives that wasn't finished: the bus as it was told then, the disks that it found and left, and
+-- its fault. One that was killed within a call of a disk is one whose disk failed at that call, as by an event `stop`,
+-- and lost its power then; and one that was killed between two calls, one whose disk failed at the second and changed
+-- nothing there.
+pub record UnfinishedStart : Type 0 where
+  pub bus : NamedBus
+  pub before : List DiskState
+  pub after : List DiskState
+  pub fault : StartFault
+
+-- one of these starts was in version 2
+abbrev pub WasInTwo : List UnfinishedStart → Type 0
+WasInTwo [] = ⊥
+WasInTwo (start ∷ starts) = (start.bus.version ≡ Two) ⊎ WasInTwo starts
+
+-- the stores of the bus are moved to version 2: an earlier one of these starts was to move them, or these disks have
+-- none of it yet
+abbrev pub MovesUp : NamedBus → List UnfinishedStart → NamedBus → List DiskState → Type 0
+MovesUp bus starts next found = (next.version ≡ Two) × (WasInTwo starts ⊎ NoneNewer bus found)
+
+-- as which bus a bus goes on over these disks, behind these starts: with the same nodes over stores of the same kind,
+-- in the same version or moved to version 2
+pub record GoesOnAs (bus : NamedBus) (starts : List UnfinishedStart) (next : NamedBus) (found : List DiskState)
+    : Type 0 where
   pub same_nodes : next.nodes ≡ bus.nodes
   pub same_kind : next.kind ≡ bus.kind
-  pub version : (next.version ≡ bus.version) ⊎ MovesUp bus next found
+  pub version : (next.version ≡ bus.version) ⊎ MovesUp bus starts next found
 
--- a life goes on where the disks stand that the one before it left
+-- a store of these disks that is older than the bus, so that a start may move it, has no loose byte: it hasn't behind
+-- a power cut, nor in a file, which is synced as it is opened
+abbrev pub OlderIsFirm : NamedBus → List DiskState → Type 0
+OlderIsFirm bus disks =
+    (i : ℕ) (l : NodeLine) (d : DiskState) (t : Told) → i < length bus.nodes → (get_or disks i d).told ≡ Some t
+    → IsFound bus.kind bus.version (cells_in (get_or bus.nodes i l).config) t.bytes Older → t ≡ firm t.bytes
+
+-- it was refused, or a disk failed in it
+pub record IsUnfinished (start : UnfinishedStart) : Type 0 where
+  pub not_started : NotStarted Attach start.bus start.before start.after start.fault
+  pub older_is_firm : OlderIsFirm start.bus start.before
+
+-- the disks that are found behind a life and these starts, of which the latest stands first: each start found them as
+-- the life or the start before it left them, or as a power cut may leave them, and is of the bus as it goes on there
+abbrev pub LeftBehindStarts : Life → List UnfinishedStart → List DiskState → Type 0
+LeftBehindStarts life [] found = EachLeft (length life.bus.nodes) life.after found
+LeftBehindStarts life (start ∷ earlier) found =
+    LeftBehindStarts life earlier start.before × GoesOnAs life.bus earlier start.bus start.before
+    × IsUnfinished start × EachLeft (length life.bus.nodes) start.after found
+
+-- a life goes on where the disks stand that the one before it left, or starts behind it that weren't finished
 pub record Follows (life next : Life) : Type 0 where
-  pub as_bus : GoesOnAs life.bus next.bus next.before
-  pub disks : (i : ℕ) (d : DiskState) → i < length life.bus.nodes
-      → LeftToNext (get_or life.after i d) (get_or next.before i d)
+  pub starts : List UnfinishedStart
+  pub disks : LeftBehindStarts life starts next.before
+  pub as_bus : GoesOnAs life.bus starts next.bus next.before
   pub goes_on : StartsOver next.bus next.before next.first
+
+-- ---- lives
 
 -- the first of them begins at the first world of the bus, over formatted disks, or goes on where its disks stand
 abbrev pub IsFirstLife : Life → Type 0
@@ -181,13 +233,37 @@ LeavesNodes life =
     → (next ≡ life.bus.version) ⊎ (next ≡ Two)
     → CanStart Attach life.bus.kind next (get_or life.bus.nodes i l).config x
 
+-- So is what is found behind starts that weren't finished: the disk of each node tells bytes over which it is started,
+-- by the next bus, in version 1 where the header of version 2 doesn't stand there.
+abbrev pub StartsLeaveNodes : Life → Type 0
+StartsLeaveNodes life =
+    (starts : List UnfinishedStart) (next : NamedBus) (found : List DiskState)
+    → LeftBehindStarts life starts found → GoesOnAs life.bus starts next found → NoneNewer next found
+    → (i : ℕ) (l : NodeLine) (d : DiskState) → i < length next.nodes
+    → (t : Told) × ((get_or found i d).told ≡ Some t)
+    × CanStart Attach next.kind next.version (get_or next.nodes i l).config t.bytes
+
+-- the fault is none of a disk's bytes: a disk failed, or is missing or too small, or there was no memory
+abbrev pub BlamesNoBytes : StartFault → Type 0
+BlamesNoBytes (start_fault.Store number reread.DiskFailed) = Unit {0}
+BlamesNoBytes (start_fault.Store number fault) = ⊥
+BlamesNoBytes (start_fault.BadSlot number slot) = ⊥
+BlamesNoBytes (start_fault.BadBound number cell) = ⊥
+BlamesNoBytes fault = Unit {0}
+
+-- so a next start over these disks has no other fault
+abbrev pub NextBlamesNoBytes : Life → Type 0
+NextBlamesNoBytes life =
+    (starts : List UnfinishedStart) (next : NamedBus) (before after : List DiskState) (fault : StartFault)
+    → LeftBehindStarts life starts before → GoesOnAs life.bus starts next before → NoneNewer next before
+    → NotStarted Attach next before after fault → BlamesNoBytes fault
+
 -- a start of its bus that is refused over the disks that it left, or over what a power cut left of them, leaves the
 -- bytes of each as they were: so the next life finds them as if that start hadn't been
 abbrev pub OutlastsRefusals : Life → Type 0
 OutlastsRefusals life =
     (before after : List DiskState) (fault : StartFault)
-    → ((i : ℕ) (d : DiskState) → i < length life.bus.nodes → LeftToNext (get_or life.after i d) (get_or before i d))
-    → NoneNewer life.bus before → NotStarted Attach life.bus before after fault
+    → EachLeft (length life.bus.nodes) life.after before → NotStarted Attach life.bus before after fault
     → (i : ℕ) (d : DiskState) → i < length life.bus.nodes → (get_or after i d).told ≡ (get_or before i d).told
 
 -- each life of a bus does this
@@ -211,14 +287,14 @@ life_of bus before after events start moments now = record {
   after = after;
 }
 
--- turns of a bus that was started over attached disks, as a power cut may leave those of a life, are a life that
--- follows
+-- Turns of a bus that was started over attached disks are a life that follows, where these disks are what a life and
+-- starts behind it left, or what power cuts left of that, and no byte of them is loose: so none is behind a power cut.
 abbrev pub AttachedRunsFollow : Type 0
-AttachedRunsFollow = (bus : NamedBus) (life : Life) (most : ℕ) (before after : List DiskState) (events : List Event)
+AttachedRunsFollow = (bus : NamedBus) (life : Life) (starts : List UnfinishedStart) (most : ℕ)
+    (before after : List DiskState) (events : List Event)
     (start : BusState) (moments : List (Moment Event Line BusState)) (now : BusState)
-    → IsNamedBus bus → IsLife life → GoesOnAs life.bus bus before
-    → ((i : ℕ) (d : DiskState) → i < length life.bus.nodes
-    → CutsTo (get_or life.after i d).told (get_or before i d).told)
+    → IsNamedBus bus → IsLife life → LeftBehindStarts life starts before → GoesOnAs life.bus starts bus before
+    → TellFirm bus before
     → Started Attach bus most before start → TakesTurns bus before after events start moments now
     → Follows life (life_of bus before after events start moments now)
     × IsLife (life_of bus before after events start moments now)

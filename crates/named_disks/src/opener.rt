@@ -1,9 +1,11 @@
 //! What opens the disks that words name.
-ghost use Rattle.std.specs.Prelude.{List, ℕ};
+ghost use Rattle.std.specs.Prelude.{List, ℕ, IfOk};
 ghost use Rattle.cut_disk.specs.State.{DiskState};
+ghost use Rattle.named_disks.specs.NamedDisks.{TellsFirmBytes};
 
 use cut_disk::CutDisk;
-use file_disk::{FileDisk, SystemFile};
+use file_disk::{FileDisk, HeldFile, SystemFile};
+use std::alloc::{AllocError, Global};
 
 /// What opens a disk by a word.
 pub trait DiskOpener {
@@ -12,9 +14,11 @@ pub trait DiskOpener {
     /// What is known of a disk that is opened by this word.
     ghost opens: { Self → List ℕ → DiskState → Type 0 };
 
-    /// The disk that the word opens. Where nothing can be opened it is one each of whose reads, writes and syncs fails.
-    fn open(&self, word: &str) -> Self::Opened
-        ensures { opens self.now word.now (Self.Opened.state result) };
+    /// The disk that the word opens, which tells its bytes. Where nothing can be opened it is one each of whose reads, writes
+    /// and syncs fails. Where there is no memory for it nothing is opened.
+    fn open(&self, alloc: Global, word: &str) -> Result<Self::Opened, AllocError>
+        ensures opened { IfOk result (λ disk. opens self.now word.now (Self.Opened.state disk)) }
+        ensures tells { IfOk result (λ disk. TellsFirmBytes (Self.Opened.state disk)) };
 }
 
 /// Opens the disk over the file whose path the word is, which is made where it isn't there; `-` is a file of that name,
@@ -34,12 +38,17 @@ impl<'a> DiskPaths<'a> {
 impl<'a> DiskOpener for DiskPaths<'a> {
     ghost use Rattle.named_disks.specs.NamedDisks.{IsFreshFileDisk};
 
-    type Opened = FileDisk<SystemFile>;
+    type Opened = FileDisk<HeldFile<SystemFile>>;
 
-    // Nothing is armed on it, no call of it has failed yet, and what the file holds isn't known.
+    // Nothing is armed on it, no call of it has failed yet, and it tells the bytes that the file read as: 65,536 zeros
+    // where there is none. Which file the path names isn't known.
     ghost opens = { λ _ _ disk. IsFreshFileDisk disk };
 
-    fn open(&self, word: &str) -> FileDisk<SystemFile> {
-        FileDisk::on(self.rt, word)
+    fn open(
+        &self,
+        alloc: Global,
+        word: &str,
+    ) -> Result<FileDisk<HeldFile<SystemFile>>, AllocError> {
+        FileDisk::on(alloc, self.rt, word)
     }
 }

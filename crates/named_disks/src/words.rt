@@ -14,6 +14,7 @@ pub fn open_disk<P: DiskOpener>(
     ensures { IfOk result (λ disks. IsOpenedBy (P.opens opener.now) word.now (map P.Opened.state disks.items)) }
 {
     let mut disks = Vec::with_capacity(alloc, 1)?;
-    disks.push(opener.open(word))?;
+    let disk = opener.open(alloc, word)?;
+    disks.push(disk)?;
     Ok(disks)
 }

@@ -4,6 +4,7 @@ ghost use Rattle.std.specs.Prelude.{◌≤◌, ◌^◌, length};
 use crate::comparing::{holds, same};
 use cut_disk::{CutDisk, Disk, DiskFailed, Torn};
 use file_disk::{FileDisk, SystemFile};
+use std::alloc::AllocError;
 use std::fs::OpenOptions;
 use std::process::Abort;
 use std::test::Fail;
@@ -41,9 +42,20 @@ fn has_bytes(rt: &impl Abort, system: &HostRuntime, path: &str, bytes: &[u8]) ->
     Ok(())
 }
 
+/// The disk over the file.
+fn disk_on(system: &HostRuntime, path: &str) -> Result<FileDisk, AllocError> {
+    FileDisk::on(system.alloc(), system, path)
+}
+
 /// The file has so many bytes as a disk.
-fn has_size(rt: &impl Abort, system: &HostRuntime, path: &str, size: u64) {
-    same(rt, "size", &FileDisk::on(system, path).size(), &size);
+fn has_size(
+    rt: &impl Abort,
+    system: &HostRuntime,
+    path: &str,
+    size: u64,
+) -> Result<(), AllocError> {
+    same(rt, "size", &disk_on(system, path)?.size(), &size);
+    Ok(())
 }
 
 /// Reads a range of at most 65,536 bytes, where the disk has it.
@@ -80,13 +92,13 @@ fn answers<D: Disk>(disk: &mut D) -> [u8; 3] {
 }
 
 /// What these calls answer over a disk on the file.
-fn answers_on(rt: &HostRuntime, path: &str) -> [u8; 3] {
-    answers(&mut FileDisk::on(rt, path))
+fn answers_on(rt: &HostRuntime, path: &str) -> Result<[u8; 3], AllocError> {
+    Ok(answers(&mut disk_on(rt, path)?))
 }
 
 /// All 65,536 bytes of a new file are zero.
 fn is_made(rt: &impl Abort, system: &HostRuntime, path: &str) -> Result<(), Fail> {
-    let mut disk = FileDisk::on(system, path);
+    let mut disk = disk_on(system, path)?;
     same(rt, "disk.size()", &disk.size(), &65536);
     let mut all = vec![in system.alloc(); 9; 65536]?;
     read_at(&mut disk, 0, &mut all)?;
@@ -96,7 +108,7 @@ fn is_made(rt: &impl Abort, system: &HostRuntime, path: &str) -> Result<(), Fail
 
 /// Two bytes are written at the end and synced.
 fn is_written(rt: &HostRuntime, path: &str) -> Result<(), Fail> {
-    let mut disk = FileDisk::on(rt, path);
+    let mut disk = disk_on(rt, path)?;
     write_at(&mut disk, 65534, &[7, 8])?;
     disk.sync()?;
     disk.power_cut(Torn::Old);
@@ -104,7 +116,7 @@ fn is_written(rt: &HostRuntime, path: &str) -> Result<(), Fail> {
 }
 
 fn is_kept(rt: &impl Abort, system: &HostRuntime, path: &str) -> Result<(), Fail> {
-    let mut disk = FileDisk::on(system, path);
+    let mut disk = disk_on(system, path)?;
     same(rt, "disk.size()", &disk.size(), &65536);
     let mut end = [9; 3];
     read_at(&mut disk, 65533, &mut end)?;
@@ -123,9 +135,10 @@ fn a_file_is_made_and_keeps_what_was_synced(rt: HostRuntime) -> Result<(), Fail>
     take_away(&rt, "made")
 }
 
-fn fails(rt: &impl Abort, system: &HostRuntime, path: &str) {
-    has_size(rt, system, path, 65536);
-    same(rt, "answers", &answers_on(system, path), b"xxx");
+fn fails(rt: &impl Abort, system: &HostRuntime, path: &str) -> Result<(), AllocError> {
+    has_size(rt, system, path, 65536)?;
+    same(rt, "answers", &answers_on(system, path)?, b"xxx");
+    Ok(())
 }
 
 #[test]
@@ -134,7 +147,7 @@ fn a_disk_over_no_file_has_65536_bytes_and_each_call_fails(rt: HostRuntime) -> R
     fs::create_dir(&rt, folder.as_str())?;
     for path in ["/not/there", "", "/"] {
         let path = format!(in rt.alloc(); "{folder}{path}")?;
-        fails(&rt, &rt, path.as_str());
+        fails(&rt, &rt, path.as_str())?;
     }
     take_away(&rt, "none")
 }
@@ -147,7 +160,7 @@ fn protect(rt: &HostRuntime, path: &str) -> Result<(), Fail> {
 }
 
 fn is_only_read(rt: &impl Abort, system: &HostRuntime, path: &str) -> Result<(), Fail> {
-    let mut disk = FileDisk::on(system, path);
+    let mut disk = disk_on(system, path)?;
     same(rt, "disk.size()", &disk.size(), &3);
     let mut out = [9; 3];
     read_at(&mut disk, 0, &mut out)?;
@@ -174,7 +187,7 @@ fn set_len(rt: &HostRuntime, path: &str, len: u64) -> Result<(), Fail> {
 
 /// The file of four bytes becomes shorter by one, and then as long as it was.
 fn is_not_asked_again(rt: &impl Abort, system: &HostRuntime, path: &str) -> Result<(), Fail> {
-    let mut disk = FileDisk::on(system, path);
+    let mut disk = disk_on(system, path)?;
     same(rt, "answers(&mut disk)", &answers(&mut disk), b"...");
     set_len(system, path, 3)?;
     same(rt, "disk.size()", &disk.size(), &4);
@@ -192,7 +205,7 @@ fn is_not_asked_again(rt: &impl Abort, system: &HostRuntime, path: &str) -> Resu
 fn a_file_that_became_shorter_is_not_asked_again(rt: HostRuntime) -> Result<(), Fail> {
     let path = path_of(&rt, "shorter", &[1, 2, 3, 4])?;
     is_not_asked_again(&rt, &rt, path.as_str())?;
-    same(&rt, "answers", &answers_on(&rt, path.as_str()), b"...");
+    same(&rt, "answers", &answers_on(&rt, path.as_str())?, b"...");
     take_away(&rt, "shorter")
 }
 
@@ -226,26 +239,28 @@ const ARMS: &[(u64, u64, [u8; 4], [u8; 4])] = &[
     (4, 3, *b"..xx", *b"...."),
 ];
 
-fn has_arms(rt: &impl Abort, system: &HostRuntime, path: &str) {
+fn has_arms(rt: &impl Abort, system: &HostRuntime, path: &str) -> Result<(), AllocError> {
     for (stop, fail, before, after) in ARMS {
         holds(rt, "calls", *stop > 0 && *fail > 0);
-        let told = armed_answers(&mut FileDisk::on(system, path), *stop, *fail);
+        let told = armed_answers(&mut disk_on(system, path)?, *stop, *fail);
         same(rt, *stop, &told, &[*before, *after]);
     }
+    Ok(())
 }
 
-fn fails_once(rt: &impl Abort, system: &HostRuntime, path: &str) {
-    let mut disk = FileDisk::on(system, path);
+fn fails_once(rt: &impl Abort, system: &HostRuntime, path: &str) -> Result<(), AllocError> {
+    let mut disk = disk_on(system, path)?;
     disk.fail_at(2);
     same(rt, "answers(&mut disk)", &answers(&mut disk), b".x.");
     same(rt, "answers(&mut disk)", &answers(&mut disk), b"...");
+    Ok(())
 }
 
 #[test]
 fn arms_and_stops_are_those_of_the_disk_in_memory(rt: HostRuntime) -> Result<(), Fail> {
     let path = path_of(&rt, "arms", &[1, 2])?;
-    has_arms(&rt, &rt, path.as_str());
-    fails_once(&rt, &rt, path.as_str());
+    has_arms(&rt, &rt, path.as_str())?;
+    fails_once(&rt, &rt, path.as_str())?;
     has_bytes(&rt, &rt, path.as_str(), &[5, 6])?;
     take_away(&rt, "arms")
 }
@@ -261,36 +276,71 @@ fn is_empty(rt: &impl Abort, system: &HostRuntime, path: &str) -> Result<(), Fai
 fn an_empty_file_stays_one(rt: HostRuntime) -> Result<(), Fail> {
     let path = path_of(&rt, "empty", &[])?;
     is_empty(&rt, &rt, path.as_str())?;
-    has_size(&rt, &rt, path.as_str(), 0);
+    has_size(&rt, &rt, path.as_str(), 0)?;
     take_away(&rt, "empty")
 }
 
 /// While the first disk is on the file.
-fn locks_out<D: Disk>(rt: &impl Abort, system: &HostRuntime, disk: &mut D, path: &str) {
-    let mut other = FileDisk::on(system, path);
+fn locks_out<D: Disk>(
+    rt: &impl Abort,
+    system: &HostRuntime,
+    disk: &mut D,
+    path: &str,
+) -> Result<(), AllocError> {
+    let mut other = disk_on(system, path)?;
     same(rt, "other.size()", &other.size(), &65536);
     same(rt, "answers(&mut other)", &answers(&mut other), b"xxx");
     same(rt, "answers(disk)", &answers(disk), b"...");
+    Ok(())
 }
 
 /// Behind a first disk on the file one that was refused stays so.
-fn stays_out(rt: &impl Abort, system: &HostRuntime, path: &str) {
-    let disk = FileDisk::on(system, path);
-    let mut other = FileDisk::on(system, path);
+fn stays_out(rt: &impl Abort, system: &HostRuntime, path: &str) -> Result<(), AllocError> {
+    let disk = disk_on(system, path)?;
+    let mut other = disk_on(system, path)?;
     drop(disk);
     same(rt, "answers(&mut other)", &answers(&mut other), b"xxx");
+    Ok(())
 }
 
 #[test]
 fn a_file_is_open_in_one_place_at_a_time(rt: HostRuntime) -> Result<(), Fail> {
     let path = path_of(&rt, "locked", &[1, 2])?;
-    locks_out(
-        &rt,
-        &rt,
-        &mut FileDisk::on(&rt, path.as_str()),
-        path.as_str(),
-    );
-    stays_out(&rt, &rt, path.as_str());
-    has_size(&rt, &rt, path.as_str(), 2);
+    locks_out(&rt, &rt, &mut disk_on(&rt, path.as_str())?, path.as_str())?;
+    stays_out(&rt, &rt, path.as_str())?;
+    has_size(&rt, &rt, path.as_str(), 2)?;
     take_away(&rt, "locked")
+}
+
+/// Of the file of four bytes another program writes the second.
+fn is_no_disk_then(rt: &impl Abort, system: &HostRuntime, path: &str) -> Result<(), Fail> {
+    let mut disk = disk_on(system, path)?;
+    same(rt, "answers(&mut disk)", &answers(&mut disk), b"...");
+    fs::write(system, path, &[5, 9, 3, 4])?;
+    let read = read_at(&mut disk, 2, &mut [0, 0]);
+    same(rt, "read_at", &read, &Ok(()));
+    let read = read_at(&mut disk, 0, &mut [0, 0]);
+    same(rt, "read_at", &read, &Err(DiskFailed));
+    same(rt, "answers(&mut disk)", &answers(&mut disk), b"xxx");
+    has_bytes(rt, system, path, &[5, 9, 3, 4])
+}
+
+#[test]
+fn a_file_that_reads_otherwise_than_it_was_written_is_not_asked_again(
+    rt: HostRuntime,
+) -> Result<(), Fail> {
+    let path = path_of(&rt, "otherwise", &[1, 2, 3, 4])?;
+    is_no_disk_then(&rt, &rt, path.as_str())?;
+    same(&rt, "answers", &answers_on(&rt, path.as_str())?, b"...");
+    take_away(&rt, "otherwise")
+}
+
+/// Of a longer file the first 131,072 bytes are the disk.
+#[test]
+fn a_long_file_is_held_in_part(rt: HostRuntime) -> Result<(), Fail> {
+    let path = path_of(&rt, "long", &[])?;
+    set_len(&rt, path.as_str(), 131_073)?;
+    has_size(&rt, &rt, path.as_str(), 131_072)?;
+    same(&rt, "answers", &answers_on(&rt, path.as_str())?, b"...");
+    take_away(&rt, "long")
 }

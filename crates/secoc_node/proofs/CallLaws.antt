@@ -1,9 +1,9 @@
 -- What the calls of a node leave, over plain variables
-use Rattle.std.proofs.Common.{◌≡◌, ℕ, true, false, true≢false, List, [], length, set, length-set, refl, sym, ap, subst, ◌∙◌, arith}
-use Rattle.std.specs.Prelude.{Some, Result, Ok, Err}
-use Rattle.cut_disk.specs.Calls.{Runs}
+use Rattle.std.proofs.Common.{◌≡◌, ℕ, true, false, true≢false, List, length, set, length-set, refl, sym, ap, subst, ◌∙◌, arith}
+use Rattle.std.specs.Prelude.{◌↔◌, Some, Result, Ok, Err, IsErrOf}
 use Rattle.cut_disk.specs.CallLaws.{runs_none, runs_more}
 use Rattle.cell_store.specs.Cells.{CellsState}
+use Rattle.key_slots.specs.declared.refusals.Erc.{Erc}
 use Rattle.slot_disk.specs.Cell.{slot_cell, HoldSlots}
 use Rattle.secure_boot.specs.Booting.{is_good}
 use Rattle.memory_update.specs.declared.messages.Reply.{Reply}
@@ -13,10 +13,10 @@ use Rattle.memory_update.specs.Messages.{Builds, CarriesPadded, Confirms, id_of}
 use Rattle.memory_update.specs.MessageLaws.{id_of-head}
 use Rattle.memory_update.specs.Loading.{Allows, slot_of}
 use Rattle.she_engine.specs.declared.engine.Engine.{Engine}
-use Rattle.she_engine.specs.Loads.{Loaded as LoadedKey, FaultedLoad}
+use Rattle.she_engine.specs.Loads.{Loaded as LoadedKey, RefusedLoad, FaultedLoad}
 use Rattle.bus_machine.specs.declared.lines.Line.{Line}
 use Rattle.bus_machine.specs.declared.lines.Line.TheVariants.{Loaded, Refused}
-use Rattle.bus_machine.specs.declared.lines.Refusal.TheVariants.{MemoryFailure}
+use Rattle.bus_machine.specs.declared.lines.Refusal.TheVariants.{Key, MemoryFailure}
 use Rattle.bus_machine.specs.Node.{Node, slot_to}
 use Rattle.bus_machine.specs.Steps.{Act, loads, keys, TakesUpdate, NodeStep}
 use Rattle.bus_laws.proofs.SoundSteps.{Sound-step, takes_forward}
@@ -36,6 +36,28 @@ pub record Done (known : Known) (store : CellsState) (act : Act) (line : Line) (
   pub node : IsNode after left
   pub step : NodeStep (node_in known) act line (node_in after)
   pub served : Served (state_in known store) (state_in after left)
+
+-- the answer isn't that the node is down, or has no such route
+abbrev pub PastRoute : {T : Type 0} → Result T NodeFault → Type 0
+PastRoute (Ok x) = Unit {0}
+PastRoute (Err fault.Down) = ⊥
+PastRoute (Err fault.NoRoute) = ⊥
+PastRoute (Err _) = Unit {0}
+
+-- nor that the disk failed
+abbrev pub NotFaulted : {T : Type 0} → Result T NodeFault → Type 0
+NotFaulted (Ok x) = Unit {0}
+NotFaulted (Err fault.Faulted) = ⊥
+NotFaulted (Err _) = Unit {0}
+
+pub unless_faulted : (T A : Type 0) (r : Result T NodeFault) → NotFaulted r → IsErrOf r fault.Faulted → A
+unless_faulted T A r not e = absurd (subst (NotFaulted {T = T}) e not)
+
+-- a node that is up doesn't answer that it is down
+pub not_down : (known : Known) (store : CellsState) → known.up ≡ true → (old : NodeState) → state_in known store ≡ old → (T : Type 0) (r : Result T NodeFault) → PastRoute r
+    → IsErrOf r fault.Down ↔ (old.node.up ≡ false)
+not_down known store up old view T r past =
+    (λ e. absurd (subst (PastRoute {T = T}) e past), λ e. absurd (true≢false (sym (ap (λ (s : NodeState). s.node.up) (sym view) ∙ up) ∙ e)))
 
 -- the state before the call, by another name
 module _ {known : Known} {store : CellsState} {act : Act} {line : Line} {after : Known} {left : CellsState} (old : NodeState) (view : state_in known store ≡ old)
@@ -144,9 +166,23 @@ module _ (known : Known) (store : CellsState) (request : Request) (engine : Engi
         };
       })
 
--- nothing was done
-pub served_stays : (old : NodeState) (left : CellsState) → left ≡ old.store → Runs [] 6 old.store.disk left.disk
-served_stays old left same = subst (λ (s : CellsState). Runs [] 6 old.store.disk s.disk) (sym same) (runs_more 6 (omega arith) (runs_none old.store.disk))
+-- the engine refused the request
+abbrev pub with_engine : Known → Engine → Known
+with_engine known engine = record known { engine = engine }
+
+module _ (known : Known) (store : CellsState) (request : Request) (refusal : Erc) (engine : Engine) (left : CellsState)
+    (is : IsNode known store) (up : known.up ≡ true) (refused : RefusedLoad known.engine engine store left request refusal) where
+  pub refused_load_state : state_in (with_engine known engine) left ≡ state_in known store
+  refused_load_state = ap (λ (e : Engine). state_in (with_engine known e) left) refused.engine ∙ ap (λ (s : CellsState). state_in known s) refused.store
+
+  pub load_refused : Done known store (loads request) (Refused (Key refusal)) (with_engine known engine) left
+  load_refused =
+      subst (λ e. Done known store (loads request) (Refused (Key refusal)) (with_engine known e) left) (sym refused.engine)
+      (subst (λ s. Done known store (loads request) (Refused (Key refusal)) known s) (sym refused.store) (record {
+        node = is;
+        step = ((up, subst (λ uid. Allows known.engine.slots (is_good known.engine.boot) uid request (Err refusal)) is.own refused.refused), refl);
+        served = record { layout = refl; runs = runs_more 6 (omega arith) (runs_none store.disk); fits = λ fits. fits };
+      }))
 
 -- ---- the request that was built of an update
 

@@ -1,6 +1,6 @@
 -- A call on one route of an up node: its counter moved, or it didn't, or the disk failed as its bound was put
 use Rattle.std.proofs.Common.{◌≡◌, ℕ, ◌+◌, ◌<◌, true, false, true≢false, List, length, set, get_or, map, refl, sym, ap, subst, ◌∙◌, arith}
-use Rattle.std.specs.Prelude.{◌↔◌, Option, None, Some, Result, Ok, Err, IsErrOf, option_map, unwrap_or}
+use Rattle.std.specs.Prelude.{◌↔◌, Option, None, Some, Result, IsErrOf, option_map, unwrap_or}
 use Rattle.std.specs.Vec.{with_item}
 use Rattle.std.proofs.lemmas.List.{get_or_default, set-get_or, length-set}
 use Rattle.cell_store.specs.Cells.{CellsState}
@@ -20,34 +20,18 @@ use Rattle.secoc_node.specs.declared.known.Known.{Known}
 use Rattle.secoc_node.specs.declared.known.PendingBound.{PendingBound}
 use Rattle.secoc_node.specs.Cells.{CellsOf, IsKept, cell_in, route_in}
 use Rattle.secoc_node.specs.Counters.{freshness_in, bound_in, counter_towards, counter_of_route, no_counter, counter_in, CountsRoute, CountRoutes}
-use Rattle.secoc_node.specs.State.{NodeState, FitsNow}
+use Rattle.secoc_node.specs.State.{NodeState}
 use Rattle.secoc_node.specs.declared.faults.NodeFault.{NodeFault}
 use Rattle.secoc_node.specs.declared.faults.NodeFault.TheVariants as fault
 use Rattle.secoc_node.specs.Keeping.{node_in, state_in, kept_in, pending_in, IsNode, KeepsNode, FindsRoute}
 use Rattle.secoc_node.proofs.Serving.{Served}
 use Rattle.secoc_node.proofs.KeptLaws.{kept_of_sound, holds_kept}
-use Rattle.secoc_node.proofs.CallLaws.{Done}
+use Rattle.secoc_node.proofs.CallLaws.{PastRoute, Done}
 use Rattle.secoc_node.proofs.MovedLaws.{freshness_at, bound_at_counter, kept_moved, counters_moved, counts_moved, keeps_moved, served_same, served_moved, served_failed}
 
 -- the counter of one route is another
 abbrev pub with_counter_at : Known → ℕ → RouteCounter → Known
 with_counter_at known place counter = record known { counters = with_item known.counters place counter }
-
--- the answer isn't that the node is down, or has no such route
-abbrev pub PastRoute : {T : Type 0} → Result T NodeFault → Type 0
-PastRoute (Ok x) = Unit {0}
-PastRoute (Err fault.Down) = ⊥
-PastRoute (Err fault.NoRoute) = ⊥
-PastRoute (Err _) = Unit {0}
-
--- nor that the disk failed
-abbrev pub NotFaulted : {T : Type 0} → Result T NodeFault → Type 0
-NotFaulted (Ok x) = Unit {0}
-NotFaulted (Err fault.Faulted) = ⊥
-NotFaulted (Err _) = Unit {0}
-
-pub no_fault : (T A : Type 0) (r : Result T NodeFault) → NotFaulted r → IsErrOf r fault.Faulted → A
-no_fault T A r not e = absurd (subst (NotFaulted {T = T}) e not)
 
 abbrev state_of : Node → CellsState → NodeState
 state_of node store = record { node = node; store = store }
@@ -93,13 +77,9 @@ module _ (known : Known) (store : CellsState) (is : IsNode known store) (up : kn
   pub has_route : HasRoute (node_in known) id direction
   has_route = subst (λ k. k < length known.config.routes) finds.place_is finds.inside
 
-  -- the node's state before the call, by another name
-  module _ (old : NodeState) (view : state_in known store ≡ old) (T : Type 0) (r : Result T NodeFault) (past : PastRoute r) where
-    pub not_down : IsErrOf r fault.Down ↔ (old.node.up ≡ false)
-    not_down = (λ e. absurd (subst (PastRoute {T = T}) e past), λ e. absurd (true≢false (sym (ap (λ (s : NodeState). s.node.up) (sym view) ∙ up) ∙ e)))
-
-    pub not_unrouted : IsErrOf r fault.NoRoute ↔ ((old.node.up ≡ true) × (HasRoute old.node id direction → ⊥))
-    not_unrouted = (λ e. absurd (subst (PastRoute {T = T}) e past), λ no. absurd (no.1 (subst (λ (s : NodeState). HasRoute s.node id direction) view has_route)))
+  pub not_unrouted : (old : NodeState) → state_in known store ≡ old → (T : Type 0) (r : Result T NodeFault) → PastRoute r
+      → IsErrOf r fault.NoRoute ↔ ((old.node.up ≡ true) × (HasRoute old.node id direction → ⊥))
+  not_unrouted old view T r past = (λ e. absurd (subst (PastRoute {T = T}) e past), λ no. absurd (no.1 (subst (λ (s : NodeState). HasRoute s.node id direction) view has_route)))
 
   kept_is : IsKept node.config node.kept
   kept_is = kept_of_sound node is.sound
@@ -188,11 +168,6 @@ module _ (known : Known) (store : CellsState) (is : IsNode known store) (up : kn
   same_node counter got =
       let same : set counters place counter ≡ counters = ap (set counters place) (sym (got_here counter got)) ∙ set-get_or counters place no_counter in
       ap (λ cs. record node { kept = kept_in known.engine cs; counters = map freshness_in cs }) same
-
-  pub fits_same : (counter : RouteCounter) (left : CellsState) → counter ≡ get_or known.counters.items place counter → left ≡ store → FitsNow (state_in known store) → FitsNow (state_in (with_counter_at known place counter) left)
-  fits_same counter left got same fits =
-      subst (λ s. FitsNow (state_in (with_counter_at known place counter) s)) (sym same)
-      (subst (λ n. FitsNow (record { node = n; store = store })) (sym (same_node counter got)) fits)
 
   pub same_state : (counter : RouteCounter) (left : CellsState) → counter ≡ get_or known.counters.items place counter → left ≡ store
       → state_in (with_counter_at known place counter) left ≡ state_in known store

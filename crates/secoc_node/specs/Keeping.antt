@@ -1,5 +1,5 @@
 -- What the parts of a node in memory mean, and what is true of them and of its store
-use Rattle.std.specs.Prelude.{◌≡◌, ℕ, ◌+◌, ◌<◌, true, false, Option, None, Some, List, length, map}
+use Rattle.std.specs.Prelude.{◌≡◌, ℕ, ◌+◌, ◌<◌, true, Option, None, Some, List, length, map}
 use Rattle.cell_store.specs.Cells.{CellsState}
 use Rattle.she_engine.specs.declared.engine.Engine.{Engine}
 use Rattle.she_engine.specs.declared.engine.PendingSlot.{PendingSlot}
@@ -10,7 +10,7 @@ use Rattle.freshness_routes.specs.declared.routes.Direction.{Direction}
 use Rattle.freshness_routes.specs.declared.routes.Route.{Route}
 use Rattle.bus_machine.specs.Node.{Node, Kept, Change, slot_to, bound_to, place_in}
 use Rattle.bus_machine.specs.Sound.{Sound}
-use Rattle.secoc_node.specs.Cells.{CellsOf, route_in}
+use Rattle.secoc_node.specs.Cells.{route_in}
 use Rattle.secoc_node.specs.Counters.{freshness_in, bound_in, CountRoutes, BeginRoutes}
 use Rattle.store_runs.specs.Keeping.{HoldsKept}
 use Rattle.secoc_node.specs.Fits.{node_keeping}

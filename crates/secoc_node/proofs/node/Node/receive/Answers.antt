@@ -16,8 +16,8 @@ use Rattle.secoc_node.specs.declared.faults.NodeFault.TheVariants as fault
 use Rattle.secoc_node.specs.Lines.{received_line, IfLeftAlone}
 use Rattle.secoc_node.specs.State.{NodeState}
 use Rattle.secoc_node.specs.Keeping.{node_in, state_in}
-use Rattle.secoc_node.proofs.CallLaws.{Done, step_from, served_from}
-use Rattle.secoc_node.proofs.RouteLaws.{with_counter_at, PastRoute, not_down, not_unrouted, no_fault}
+use Rattle.secoc_node.proofs.CallLaws.{PastRoute, unless_faulted, not_down, Done, step_from, served_from}
+use Rattle.secoc_node.proofs.RouteLaws.{with_counter_at, not_unrouted}
 use Rattle.secoc_node.proofs.ReceiveLaws.{no_sender, rx_kept, has_receiver, said_done, said_length, said_covered, said_untouched, refused_state, receive_refused, receive_failed, heard_by}
 use Rattle.secoc_node.proofs.node.Node.receive.Given.{Over}
 use Rattle.secoc_node.proofs.node.Node.receive.Goals as goal
@@ -51,7 +51,7 @@ pub returns-in-Ok-clause-step : goal.returns-in-Ok-clause-step
 returns-in-Ok-clause-step g c source = step_from c.args.self.now c.self.view_is (said g c source)
 
 pub returns-in-Ok-clause-down : goal.returns-in-Ok-clause-down
-returns-in-Ok-clause-down g c = not_down c.self.inside.known (g.C.Cells.state c.self.inside.cells) c.self.invariant c.if-not-self.false c.args.id Receives c.in-Some.place c.in-Some.route c.in-Some.ensures c.args.self.now c.self.view_is Reception (Ok c.in-Ok.said) tt
+returns-in-Ok-clause-down g c = not_down c.self.inside.known (g.C.Cells.state c.self.inside.cells) c.if-not-self.false c.args.self.now c.self.view_is Reception (Ok c.in-Ok.said) tt
 
 pub returns-in-Ok-clause-no_route : goal.returns-in-Ok-clause-no_route
 returns-in-Ok-clause-no_route g c = not_unrouted c.self.inside.known (g.C.Cells.state c.self.inside.cells) c.self.invariant c.if-not-self.false c.args.id Receives c.in-Some.place c.in-Some.route c.in-Some.ensures c.args.self.now c.self.view_is Reception (Ok c.in-Ok.said) tt
@@ -89,7 +89,7 @@ returns-in-Ok-clause-untouched g c =
     c.args.self.now c.in-Ok.said c.receive.new.rx (g.C.Cells.state c.receive.new.cells) c.self.view_is c.in-Ok.ensures.as_before c.in-Ok.ensures.untouched
 
 pub returns-in-Ok-clause-faulted : goal.returns-in-Ok-clause-faulted
-returns-in-Ok-clause-faulted g c = no_fault Reception _ (Ok c.in-Ok.said) tt
+returns-in-Ok-clause-faulted g c = unless_faulted Reception _ (Ok c.in-Ok.said) tt
 
 pub returns-in-Ok-clause-faults : goal.returns-in-Ok-clause-faults
 returns-in-Ok-clause-faults g c = c.in-Ok.ensures.faults ∙ ap (λ (s : NodeState). s.store.disk.faults) c.self.view_is
@@ -115,7 +115,7 @@ pub returns-in-Err-BadLength-clause-step : goal.returns-in-Err-BadLength-clause-
 returns-in-Err-BadLength-clause-step g c source = step_from c.args.self.now c.self.view_is (bad_length g c)
 
 pub returns-in-Err-BadLength-clause-down : goal.returns-in-Err-BadLength-clause-down
-returns-in-Err-BadLength-clause-down g c = not_down c.self.inside.known (g.C.Cells.state c.self.inside.cells) c.self.invariant c.if-not-self.false c.args.id Receives c.in-Some.place c.in-Some.route c.in-Some.ensures c.args.self.now c.self.view_is Reception (Err fault.BadLength) tt
+returns-in-Err-BadLength-clause-down g c = not_down c.self.inside.known (g.C.Cells.state c.self.inside.cells) c.if-not-self.false c.args.self.now c.self.view_is Reception (Err fault.BadLength) tt
 
 pub returns-in-Err-BadLength-clause-no_route : goal.returns-in-Err-BadLength-clause-no_route
 returns-in-Err-BadLength-clause-no_route g c = not_unrouted c.self.inside.known (g.C.Cells.state c.self.inside.cells) c.self.invariant c.if-not-self.false c.args.id Receives c.in-Some.place c.in-Some.route c.in-Some.ensures c.args.self.now c.self.view_is Reception (Err fault.BadLength) tt
@@ -146,7 +146,7 @@ returns-in-Err-BadLength-clause-untouched g c =
     ∙ c.self.view_is
 
 pub returns-in-Err-BadLength-clause-faulted : goal.returns-in-Err-BadLength-clause-faulted
-returns-in-Err-BadLength-clause-faulted g c = no_fault Reception _ (Err fault.BadLength) tt
+returns-in-Err-BadLength-clause-faulted g c = unless_faulted Reception _ (Err fault.BadLength) tt
 
 key : (g : Over) (c : goal.In-Err-Key g)
     → Done c.self.inside.known (g.C.Cells.state c.self.inside.cells) (receives c.args.id c.args.pdu.now) (Refused (Key c.in-Err-Key.refusal)) (with_counter_at c.self.inside.known c.in-Some.place (of_route.Receives c.receive.new.rx)) (g.C.Cells.state c.receive.new.cells)
@@ -167,7 +167,7 @@ pub returns-in-Err-Key-clause-step : goal.returns-in-Err-Key-clause-step
 returns-in-Err-Key-clause-step g c source = step_from c.args.self.now c.self.view_is (key g c)
 
 pub returns-in-Err-Key-clause-down : goal.returns-in-Err-Key-clause-down
-returns-in-Err-Key-clause-down g c = not_down c.self.inside.known (g.C.Cells.state c.self.inside.cells) c.self.invariant c.if-not-self.false c.args.id Receives c.in-Some.place c.in-Some.route c.in-Some.ensures c.args.self.now c.self.view_is Reception (Err (fault.Key c.in-Err-Key.refusal)) tt
+returns-in-Err-Key-clause-down g c = not_down c.self.inside.known (g.C.Cells.state c.self.inside.cells) c.if-not-self.false c.args.self.now c.self.view_is Reception (Err (fault.Key c.in-Err-Key.refusal)) tt
 
 pub returns-in-Err-Key-clause-no_route : goal.returns-in-Err-Key-clause-no_route
 returns-in-Err-Key-clause-no_route g c = not_unrouted c.self.inside.known (g.C.Cells.state c.self.inside.cells) c.self.invariant c.if-not-self.false c.args.id Receives c.in-Some.place c.in-Some.route c.in-Some.ensures c.args.self.now c.self.view_is Reception (Err (fault.Key c.in-Err-Key.refusal)) tt
@@ -198,7 +198,7 @@ returns-in-Err-Key-clause-untouched g c =
     ∙ c.self.view_is
 
 pub returns-in-Err-Key-clause-faulted : goal.returns-in-Err-Key-clause-faulted
-returns-in-Err-Key-clause-faulted g c = no_fault Reception _ (Err (fault.Key c.in-Err-Key.refusal)) tt
+returns-in-Err-Key-clause-faulted g c = unless_faulted Reception _ (Err (fault.Key c.in-Err-Key.refusal)) tt
 
 -- ---- the disk failed
 
@@ -225,7 +225,7 @@ pub returns-in-Err-Faulted-clause-step : goal.returns-in-Err-Faulted-clause-step
 returns-in-Err-Faulted-clause-step g c source = rw c.fail_at.ensures.fault (step_from c.args.self.now c.self.view_is (faulted g c))
 
 pub returns-in-Err-Faulted-clause-down : goal.returns-in-Err-Faulted-clause-down
-returns-in-Err-Faulted-clause-down g c = not_down c.self.inside.known (g.C.Cells.state c.self.inside.cells) c.self.invariant c.if-not-self.false c.args.id Receives c.in-Some.place c.in-Some.route c.in-Some.ensures c.args.self.now c.self.view_is Reception (Err c.fail_at.result) (past g c)
+returns-in-Err-Faulted-clause-down g c = not_down c.self.inside.known (g.C.Cells.state c.self.inside.cells) c.if-not-self.false c.args.self.now c.self.view_is Reception (Err c.fail_at.result) (past g c)
 
 pub returns-in-Err-Faulted-clause-no_route : goal.returns-in-Err-Faulted-clause-no_route
 returns-in-Err-Faulted-clause-no_route g c = not_unrouted c.self.inside.known (g.C.Cells.state c.self.inside.cells) c.self.invariant c.if-not-self.false c.args.id Receives c.in-Some.place c.in-Some.route c.in-Some.ensures c.args.self.now c.self.view_is Reception (Err c.fail_at.result) (past g c)

@@ -14,8 +14,8 @@ use Rattle.secoc_node.specs.declared.faults.NodeFault.TheVariants as fault
 use Rattle.secoc_node.specs.State.{NodeState, IsCovered}
 use Rattle.secoc_node.specs.declared.known.Known.{Known}
 use Rattle.secoc_node.specs.Keeping.{node_in, state_in}
-use Rattle.secoc_node.proofs.CallLaws.{Done, step_from, served_from}
-use Rattle.secoc_node.proofs.RouteLaws.{with_counter_at, PastRoute, not_down, not_unrouted, no_fault}
+use Rattle.secoc_node.proofs.CallLaws.{PastRoute, unless_faulted, not_down, Done, step_from, served_from}
+use Rattle.secoc_node.proofs.RouteLaws.{with_counter_at, not_unrouted}
 use Rattle.secoc_node.proofs.SendLaws.{fits_a_pdu, no_receiver, tx_kept, has_sender, sent_done, sent_covered, sent_others, refused_state, send_refused, send_failed, failed_others}
 use Rattle.secoc_node.proofs.node.Node.send.Given.{Over}
 use Rattle.secoc_node.proofs.node.Node.send.Goals as goal
@@ -49,7 +49,7 @@ pub returns-in-Ok-clause-step : goal.returns-in-Ok-clause-step
 returns-in-Ok-clause-step g c = step_from c.args.self.now c.self.view_is (sent g c)
 
 pub returns-in-Ok-clause-down : goal.returns-in-Ok-clause-down
-returns-in-Ok-clause-down g c = not_down c.self.inside.known (g.C.Cells.state c.self.inside.cells) c.self.invariant c.if-not-self.false c.args.id Sends c.in-Some.place c.in-Some.route c.in-Some.ensures c.args.self.now c.self.view_is Sending (Ok c.in-Ok.sent) tt
+returns-in-Ok-clause-down g c = not_down c.self.inside.known (g.C.Cells.state c.self.inside.cells) c.if-not-self.false c.args.self.now c.self.view_is Sending (Ok c.in-Ok.sent) tt
 
 pub returns-in-Ok-clause-no_route : goal.returns-in-Ok-clause-no_route
 returns-in-Ok-clause-no_route g c = not_unrouted c.self.inside.known (g.C.Cells.state c.self.inside.cells) c.self.invariant c.if-not-self.false c.args.id Sends c.in-Some.place c.in-Some.route c.in-Some.ensures c.args.self.now c.self.view_is Sending (Ok c.in-Ok.sent) tt
@@ -89,7 +89,7 @@ returns-in-Ok-clause-others g c other v =
     c.send.new.tx (g.C.Cells.state c.send.new.cells) c.in-Ok.ensures.made other v)
 
 pub returns-in-Ok-clause-faulted : goal.returns-in-Ok-clause-faulted
-returns-in-Ok-clause-faulted g c = no_fault Sending _ (Ok c.in-Ok.sent) tt
+returns-in-Ok-clause-faulted g c = unless_faulted Sending _ (Ok c.in-Ok.sent) tt
 
 pub returns-in-Ok-clause-faults : goal.returns-in-Ok-clause-faults
 returns-in-Ok-clause-faults g c = c.in-Ok.ensures.faults ∙ ap (λ (s : NodeState). s.store.disk.faults) c.self.view_is
@@ -123,7 +123,7 @@ pub returns-in-Err-BadLength-clause-step : goal.returns-in-Err-BadLength-clause-
 returns-in-Err-BadLength-clause-step g c = step_from c.args.self.now c.self.view_is (bad_length g c)
 
 pub returns-in-Err-BadLength-clause-down : goal.returns-in-Err-BadLength-clause-down
-returns-in-Err-BadLength-clause-down g c = not_down c.self.inside.known (g.C.Cells.state c.self.inside.cells) c.self.invariant c.if-not-self.false c.args.id Sends c.in-Some.place c.in-Some.route c.in-Some.ensures c.args.self.now c.self.view_is Sending (Err fault.BadLength) tt
+returns-in-Err-BadLength-clause-down g c = not_down c.self.inside.known (g.C.Cells.state c.self.inside.cells) c.if-not-self.false c.args.self.now c.self.view_is Sending (Err fault.BadLength) tt
 
 pub returns-in-Err-BadLength-clause-no_route : goal.returns-in-Err-BadLength-clause-no_route
 returns-in-Err-BadLength-clause-no_route g c = not_unrouted c.self.inside.known (g.C.Cells.state c.self.inside.cells) c.self.invariant c.if-not-self.false c.args.id Sends c.in-Some.place c.in-Some.route c.in-Some.ensures c.args.self.now c.self.view_is Sending (Err fault.BadLength) tt
@@ -150,7 +150,7 @@ pub returns-in-Err-BadLength-clause-unwritten : goal.returns-in-Err-BadLength-cl
 returns-in-Err-BadLength-clause-unwritten g c = c.in-Err-BadLength.ensures.unwritten
 
 pub returns-in-Err-BadLength-clause-faulted : goal.returns-in-Err-BadLength-clause-faulted
-returns-in-Err-BadLength-clause-faulted g c = no_fault Sending _ (Err fault.BadLength) tt
+returns-in-Err-BadLength-clause-faulted g c = unless_faulted Sending _ (Err fault.BadLength) tt
 
 key : (g : Over) (c : goal.In-Err-Key g)
     → Done c.self.inside.known (g.C.Cells.state c.self.inside.cells) (sends c.args.id c.args.payload.now) (Refused (Key c.in-Err-Key.refusal)) (with_counter_at c.self.inside.known c.in-Some.place (of_route.Sends c.send.new.tx)) (g.C.Cells.state c.send.new.cells)
@@ -179,7 +179,7 @@ pub returns-in-Err-Key-clause-step : goal.returns-in-Err-Key-clause-step
 returns-in-Err-Key-clause-step g c = step_from c.args.self.now c.self.view_is (key g c)
 
 pub returns-in-Err-Key-clause-down : goal.returns-in-Err-Key-clause-down
-returns-in-Err-Key-clause-down g c = not_down c.self.inside.known (g.C.Cells.state c.self.inside.cells) c.self.invariant c.if-not-self.false c.args.id Sends c.in-Some.place c.in-Some.route c.in-Some.ensures c.args.self.now c.self.view_is Sending (Err (fault.Key c.in-Err-Key.refusal)) tt
+returns-in-Err-Key-clause-down g c = not_down c.self.inside.known (g.C.Cells.state c.self.inside.cells) c.if-not-self.false c.args.self.now c.self.view_is Sending (Err (fault.Key c.in-Err-Key.refusal)) tt
 
 pub returns-in-Err-Key-clause-no_route : goal.returns-in-Err-Key-clause-no_route
 returns-in-Err-Key-clause-no_route g c = not_unrouted c.self.inside.known (g.C.Cells.state c.self.inside.cells) c.self.invariant c.if-not-self.false c.args.id Sends c.in-Some.place c.in-Some.route c.in-Some.ensures c.args.self.now c.self.view_is Sending (Err (fault.Key c.in-Err-Key.refusal)) tt
@@ -206,7 +206,7 @@ pub returns-in-Err-Key-clause-unwritten : goal.returns-in-Err-Key-clause-unwritt
 returns-in-Err-Key-clause-unwritten g c = c.in-Err-Key.ensures.unwritten
 
 pub returns-in-Err-Key-clause-faulted : goal.returns-in-Err-Key-clause-faulted
-returns-in-Err-Key-clause-faulted g c = no_fault Sending _ (Err (fault.Key c.in-Err-Key.refusal)) tt
+returns-in-Err-Key-clause-faulted g c = unless_faulted Sending _ (Err (fault.Key c.in-Err-Key.refusal)) tt
 
 exhausted : (g : Over) (c : goal.In-Err-Exhausted g)
     → Done c.self.inside.known (g.C.Cells.state c.self.inside.cells) (sends c.args.id c.args.payload.now) (Refused Exhausted) (with_counter_at c.self.inside.known c.in-Some.place (of_route.Sends c.send.new.tx)) (g.C.Cells.state c.send.new.cells)
@@ -235,7 +235,7 @@ pub returns-in-Err-Exhausted-clause-step : goal.returns-in-Err-Exhausted-clause-
 returns-in-Err-Exhausted-clause-step g c = step_from c.args.self.now c.self.view_is (exhausted g c)
 
 pub returns-in-Err-Exhausted-clause-down : goal.returns-in-Err-Exhausted-clause-down
-returns-in-Err-Exhausted-clause-down g c = not_down c.self.inside.known (g.C.Cells.state c.self.inside.cells) c.self.invariant c.if-not-self.false c.args.id Sends c.in-Some.place c.in-Some.route c.in-Some.ensures c.args.self.now c.self.view_is Sending (Err fault.Exhausted) tt
+returns-in-Err-Exhausted-clause-down g c = not_down c.self.inside.known (g.C.Cells.state c.self.inside.cells) c.if-not-self.false c.args.self.now c.self.view_is Sending (Err fault.Exhausted) tt
 
 pub returns-in-Err-Exhausted-clause-no_route : goal.returns-in-Err-Exhausted-clause-no_route
 returns-in-Err-Exhausted-clause-no_route g c = not_unrouted c.self.inside.known (g.C.Cells.state c.self.inside.cells) c.self.invariant c.if-not-self.false c.args.id Sends c.in-Some.place c.in-Some.route c.in-Some.ensures c.args.self.now c.self.view_is Sending (Err fault.Exhausted) tt
@@ -262,7 +262,7 @@ pub returns-in-Err-Exhausted-clause-unwritten : goal.returns-in-Err-Exhausted-cl
 returns-in-Err-Exhausted-clause-unwritten g c = c.in-Err-Exhausted.ensures.unwritten
 
 pub returns-in-Err-Exhausted-clause-faulted : goal.returns-in-Err-Exhausted-clause-faulted
-returns-in-Err-Exhausted-clause-faulted g c = no_fault Sending _ (Err fault.Exhausted) tt
+returns-in-Err-Exhausted-clause-faulted g c = unless_faulted Sending _ (Err fault.Exhausted) tt
 
 -- ---- the disk failed
 
@@ -289,7 +289,7 @@ pub returns-in-Err-Faulted-clause-step : goal.returns-in-Err-Faulted-clause-step
 returns-in-Err-Faulted-clause-step g c = rw c.fail_at.ensures.fault (step_from c.args.self.now c.self.view_is (faulted g c))
 
 pub returns-in-Err-Faulted-clause-down : goal.returns-in-Err-Faulted-clause-down
-returns-in-Err-Faulted-clause-down g c = not_down c.self.inside.known (g.C.Cells.state c.self.inside.cells) c.self.invariant c.if-not-self.false c.args.id Sends c.in-Some.place c.in-Some.route c.in-Some.ensures c.args.self.now c.self.view_is Sending (Err c.fail_at.result) (past g c)
+returns-in-Err-Faulted-clause-down g c = not_down c.self.inside.known (g.C.Cells.state c.self.inside.cells) c.if-not-self.false c.args.self.now c.self.view_is Sending (Err c.fail_at.result) (past g c)
 
 pub returns-in-Err-Faulted-clause-no_route : goal.returns-in-Err-Faulted-clause-no_route
 returns-in-Err-Faulted-clause-no_route g c = not_unrouted c.self.inside.known (g.C.Cells.state c.self.inside.cells) c.self.invariant c.if-not-self.false c.args.id Sends c.in-Some.place c.in-Some.route c.in-Some.ensures c.args.self.now c.self.view_is Sending (Err c.fail_at.result) (past g c)
