@@ -63,8 +63,8 @@ NoStoreCause layout cells before after (store.Damaged i) =
     × ((t : Told) → before.told ≡ Some t
     → HasHeader layout (length cells) t.bytes × FirstDamaged layout t.bytes (length cells) i)
 
--- no store is open: there was room but for `TooSmall`, told bytes that weren't blank are as they were, and of blank ones a
--- format was begun at most
+-- no store is open: there was room but for `TooSmall`, told bytes that weren't blank are as they were, and of blank
+-- ones a format was begun at most
 pub record NoStoreOpened (layout : Layout) (cells : List (List ℕ)) (before after : DiskState)
     (fault : StoreFault) : Type 0 where
   pub room : fault ≢ store.TooSmall → store_size layout (length cells) ≤ before.size

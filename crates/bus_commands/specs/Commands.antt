@@ -328,7 +328,8 @@ pub record RunsCommand {V : Type 0} (i : BusInputs) (d : CommandDisks V) (e : En
       → Offers i.script input → fault_of (replay Attach bus) input ≡ None → HasRoom bus d.states.before
       → HoldsNoNode bus d.states.before → MayEndIn 10 e
   -- Where the count of faults of a disk rose, the status is 10 with the row of its node, or 6 with a front of it; or a
-  -- replay did its first events, or a trial all.
+  -- replay did its first events, or a trial all. (Of a disk that tells no past, as one over a file, this doesn't always
+  -- tell a failed start from a first event that failed.)
   pub failed_disk_told : (place : ℕ) → CountsDiskFault d.states place
       → EndsInRow (λ row. row ≡ failed_row place) e ⊎ DoesEvents i d.states e
   -- What is valid ends in 0 or 7, where the sources tell it and didn't fail, the sink's count of faults neither rose

@@ -1,4 +1,5 @@
--- What a bus file means: its bus, or the first fault in the order of root, nodes, routes and senders (own; the file is a TOML 1.1 document)
+-- What a bus file means: its bus, or the first fault in the order of root, nodes, routes and senders (own; the file is
+-- a TOML 1.1 document)
 use Rattle.std.specs.Prelude.{ℕ, ◌+◌, if◌then◌else◌, Option, Some, None, List, [], ◌∷◌, ◌++◌, length, Result, Ok, Err}
 use Rattle.std.specs.Option.{ok_or}
 use Rattle.std.specs.Str.{is_utf8}

@@ -1,5 +1,6 @@
 -- What the tables of the bus file mean, each by itself (own)
-use Rattle.std.specs.Prelude.{ℕ, Bool, ◌==◌, if◌then◌else◌, bytes_eq, codes, Option, Some, None, option_and_then, List, [], ◌∷◌}
+use Rattle.std.specs.Prelude.{ℕ, Bool, ◌==◌, if◌then◌else◌, bytes_eq, codes, Option, Some, None, option_and_then, List}
+use Rattle.std.specs.Prelude.{[], ◌∷◌}
 use Rattle.std.specs.List.{list_all, list_any}
 use Rattle.std.specs.Option.{is_some, option_map_or}
 use Rattle.toml.specs.Data.{Data, Members, no_members, member, get_member, as_table}
@@ -12,7 +13,8 @@ use Rattle.freshness_routes.specs.declared.routes.Direction.TheVariants.{Sends, 
 use Rattle.freshness_routes.specs.declared.routes.Route.{Route}
 use Rattle.bus_nodes.specs.declared.nodes.NodeLine.{NodeLine}
 use Rattle.bus_nodes.specs.Buses.{most_routes, place_named}
-use Rattle.bus_config.specs.Values.{kind_in, version_in, whole_in, name_in, uid_in, id_in, direction_in, start_in, tables_in}
+use Rattle.bus_config.specs.Values.{kind_in, version_in, whole_in, name_in, uid_in, id_in, direction_in, start_in}
+use Rattle.bus_config.specs.Values.{tables_in}
 
 -- the second step, if the first gave a value
 infixl 10 ◌>>=◌

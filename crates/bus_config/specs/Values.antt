@@ -1,5 +1,7 @@
--- What a value of the bus file means by its key: what it stands for, or none where it isn't of its form (own; a TOML value)
-use Rattle.std.specs.Prelude.{ℕ, ℤ, Bool, pos, negsuc, ◌&&◌, ◌==◌, nat_le, if◌then◌else◌, bytes_eq, codes, Option, Some, None, option_map, option_and_then, List, [], ◌∷◌, length}
+-- What a value of the bus file means by its key: what it stands for, or none where it isn't of its form (own; a TOML
+-- value)
+use Rattle.std.specs.Prelude.{ℕ, ℤ, Bool, pos, negsuc, ◌&&◌, ◌==◌, nat_le, if◌then◌else◌, bytes_eq, codes, Option, Some}
+use Rattle.std.specs.Prelude.{None, option_map, option_and_then, List, [], ◌∷◌, length}
 use Rattle.std.specs.List.{list_all}
 use Rattle.std.specs.Option.{is_some}
 use Rattle.toml.specs.Data.{Data, Items, no_items, item, as_str, as_integer, as_array, as_table}

@@ -40,7 +40,8 @@ OneSender world =
 abbrev pub BusesBeginFirst : Type 0
 BusesBeginFirst = (bus : List Config) → IsBus bus → IsFirst (First bus) × OneSender (First bus)
 
--- its nodes are those of the bus, in their order: each slot is empty, each bound is its route's start, and no boot was made
+-- its nodes are those of the bus, in their order: each slot is empty, each bound is its route's start, and no boot was
+-- made
 pub record HasNodesOf (bus : List Config) (world : World) : Type 0 where
   pub configs : map (λ node. node.config) world.nodes ≡ bus
   pub slots : All (λ node. node.kept.slots ≡ replicate 14 Empty) world.nodes
@@ -127,7 +128,8 @@ EventsHaveRuns = (start : World) (events : List Event) → IsFirst start
 
 -- ---- what is determined
 
--- two lists of moments with the same events and lines, and with the same choice at each cut that found a change pending: what the node then keeps
+-- two lists of moments with the same events and lines, and with the same choice at each cut that found a change
+-- pending: what the node then keeps
 abbrev pub Alike : World → Moments → Moments → Type 0
 Alike before [] [] = Unit {0}
 Alike before (m ∷ ms) (n ∷ ns) =

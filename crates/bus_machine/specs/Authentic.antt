@@ -7,7 +7,8 @@ use Rattle.bus_machine.specs.declared.lines.Line.{Line}
 use Rattle.bus_machine.specs.declared.lines.Line.TheVariants.{Sent, Accepted}
 use Rattle.bus_machine.specs.Node.{Node, place_of, route_key}
 use Rattle.bus_machine.specs.Steps.{receives, key_refusal}
-use Rattle.bus_machine.specs.Bus.{World, SentLine, Instant, Moments, node_of, node_at, act_of, source_of, state_after, AtSome}
+use Rattle.bus_machine.specs.Bus.{World, SentLine, Instant, Moments, node_of, node_at, act_of, source_of, state_after}
+use Rattle.bus_machine.specs.Bus.{AtSome}
 
 -- the moment sent this line, with its payload, while the slot of its route held this key
 abbrev pub SentAs : SentLine → List ℕ → World → Instant → Type 0
@@ -18,7 +19,8 @@ SentAs s key before m =
     × (s.number ≡ before.events + 1)
     × (key ≡ route_key node (place_of node s.id Sends))
 
--- the event of this number sent this payload with this freshness under this Data ID; where its slot held the receiver's key, the PDU that was received is the sent one, byte for byte
+-- the event of this number sent this payload with this freshness under this Data ID; where its slot held the receiver's
+-- key, the PDU that was received is the sent one, byte for byte
 pub record WasSent (start : World) (done : Moments) (number id v : ℕ) (payload receiver_key pdu : List ℕ) : Type 0 where
   pub sent : SentLine
   pub key : List ℕ
@@ -29,7 +31,8 @@ pub record WasSent (start : World) (done : Moments) (number id v : ℕ) (payload
   pub was_sent : AtSome (SentAs sent key) start done
   pub same : key ≡ receiver_key → sent.pdu ≡ pdu
 
--- what was received is secured under the key that the receiving route's slot held, usable, just before; `from` is the earliest event that sent the same
+-- what was received is secured under the key that the receiving route's slot held, usable, just before; `from` is the
+-- earliest event that sent the same
 pub record AcceptedRight (start : World) (done : Moments) (before : World) (m : Instant) (node : Node) (route id v : ℕ)
     (payload : List ℕ) (source : Option ℕ) : Type 0 where
   pub pdu : List ℕ

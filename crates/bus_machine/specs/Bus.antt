@@ -1,5 +1,6 @@
 -- The bus: its nodes, and what was sent on it
-use Rattle.std.specs.Prelude.{◌≡◌, ℕ, ◌+◌, ◌<◌, ◌⊎◌, ◌&&◌, ◌==◌, bytes_eq, Option, None, Some, List, [], ◌∷◌, ◌++◌, length, map, find, option_map, slice_index_or}
+use Rattle.std.specs.Prelude.{◌≡◌, ℕ, ◌+◌, ◌<◌, ◌⊎◌, ◌&&◌, ◌==◌, bytes_eq, Option, None, Some, List, [], ◌∷◌, ◌++◌}
+use Rattle.std.specs.Prelude.{length, map, find, option_map, slice_index_or}
 use Rattle.machine_runs.specs.Run.{Moment, Run}
 use Rattle.machine_runs.specs.Members.{MemberSteps}
 use Rattle.freshness_routes.specs.declared.routes.Direction.TheVariants.{Sends}

@@ -31,7 +31,8 @@ Acknowledges i t slot before m = IsTaken m.line × IsUpdateOf i t slot before m
 abbrev pub FailsUpdate : ℕ → ℕ → Slot → World → Instant → Type 0
 FailsUpdate i t slot before m = (m.line ≡ Refused MemoryFailure) × IsUpdateOf i t slot before m
 
--- what slot t of node i holds after the moments `since` an update to `slot`: that, or the whole update of one of them that failed
+-- what slot t of node i holds after the moments `since` an update to `slot`: that, or the whole update of one of them
+-- that failed
 abbrev pub HoldsUpdate : ℕ → ℕ → Slot → World → Moments → Type 0
 HoldsUpdate i t slot world since =
     let now = slot_in (state_after world since) i t in
@@ -62,7 +63,8 @@ pub record KeysKept (start : World) (ms : Moments) : Type 0 where
 
 -- ---- what a power-up settled
 
--- after the moments `since`, in which nothing was pending at first, slot t of node i holds what it held then, or an update of one of these moments that was acknowledged, or one that failed
+-- after the moments `since`, in which nothing was pending at first, slot t of node i holds what it held then, or an
+-- update of one of these moments that was acknowledged, or one that failed
 abbrev pub StaysOrRenews : ℕ → ℕ → World → Moments → Type 0
 StaysOrRenews i t world since =
     let now = slot_in (state_after world since) i t in

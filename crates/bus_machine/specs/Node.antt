@@ -1,5 +1,7 @@
--- What a node keeps through a power cut, and what it knows while it is up (own; its slots are those of the SHE specification, its counters the freshness of AUTOSAR SecOC)
-use Rattle.std.specs.Prelude.{ℕ, suc, ◌<◌, Bool, true, false, ◌&&◌, ◌==◌, if◌then◌else◌, Option, None, Some, List, [], ◌∷◌, length, map, replicate, set, slice_index, slice_index_or}
+-- What a node keeps through a power cut, and what it knows while it is up (own; its slots are those of the SHE
+-- specification, its counters the freshness of AUTOSAR SecOC)
+use Rattle.std.specs.Prelude.{ℕ, suc, ◌<◌, Bool, true, false, ◌&&◌, ◌==◌, if◌then◌else◌, Option, None, Some, List, []}
+use Rattle.std.specs.Prelude.{◌∷◌, length, map, replicate, set, slice_index, slice_index_or}
 use Rattle.key_slots.specs.declared.memory.Slot.{Slot}
 use Rattle.key_slots.specs.declared.memory.Slot.TheVariants.{Empty}
 use Rattle.key_slots.specs.Slots.{slot_at}
@@ -31,7 +33,8 @@ abbrev pub changed_by : Option Change → Kept → Kept
 changed_by None kept = kept
 changed_by (Some change) kept = changed change kept
 
--- a node: its configuration, what it keeps, the counter of each route, whether it is up, and the change that a failed call left pending
+-- a node: its configuration, what it keeps, the counter of each route, whether it is up, and the change that a failed
+-- call left pending
 pub record Node : Type 0 where
   pub config : Config
   pub kept : Kept
@@ -59,7 +62,8 @@ place_of node = place_in node.config.routes
 abbrev pub HasRoute : Node → ℕ → Direction → Type 0
 HasRoute node id direction = place_of node id direction < length node.config.routes
 
--- the route, the bound and the counter at a place, and the key in the route's slot; past the last route something that nothing asks for
+-- the route, the bound and the counter at a place, and the key in the route's slot; past the last route something that
+-- nothing asks for
 abbrev pub no_route : Route
 no_route = record { id = 0; direction = Sends; slot = 0; reserve = 0; window = 0; start = 0 }
 

@@ -13,7 +13,8 @@ mark_of (Stop node calls) = Some (mark.Stop calls)
 mark_of (Fail node calls) = Some (mark.Fail calls)
 mark_of _ = None
 
--- the most entries that an event of a node adds: a cut reads a store of this many cells again, and another event puts one cell
+-- the most entries that an event of a node adds: a cut reads a store of this many cells again, and another event puts
+-- one cell
 abbrev pub most_entries : ℕ → Event → ℕ
 most_entries cells (Cut node torn) = 68 + cells
 most_entries cells _ = 6

@@ -11,7 +11,8 @@ pub record InStep (node : Node) (k : ℕ) : Type 0 where
   pub near : bound_at node k ≤ counter_at node k + (route_at node k).reserve - 1
   pub fits : bound_at node k < 2 ^ 64
 
--- a change moves forward what is kept: a slot's counter, or a bound, and a sender's bound no further than a reserve above the counter
+-- a change moves forward what is kept: a slot's counter, or a bound, and a sender's bound no further than a reserve
+-- above the counter
 abbrev pub MovesForward : Node → Change → Type 0
 MovesForward node (slot_to target slot) =
     (target < 14) × (counter_of (slot_at node.kept.slots target) < counter_of slot) × IsSlot slot

@@ -1,5 +1,6 @@
 -- What a node may answer to what it is told to do, and what it then is
-use Rattle.std.specs.Prelude.{◌≡◌, ℕ, ◌+◌, ◌⊎◌, Bool, true, false, not, ◌&&◌, nat_lt, nat_le, ◌==◌, Option, None, Some, Ok, Err, List, [], ◌∷◌, length, option_map}
+use Rattle.std.specs.Prelude.{◌≡◌, ℕ, ◌+◌, ◌⊎◌, Bool, true, false, not, ◌&&◌, nat_lt, nat_le, ◌==◌, Option, None, Some}
+use Rattle.std.specs.Prelude.{Ok, Err, List, [], ◌∷◌, length, option_map}
 use Rattle.key_slots.specs.declared.memory.Slot.{Slot}
 use Rattle.key_slots.specs.declared.refusals.Erc.TheVariants.{SequenceError}
 use Rattle.key_slots.specs.declared.usage.Purpose.TheVariants.{Mac}
@@ -16,10 +17,13 @@ use Rattle.freshness_routes.specs.declared.routes.Direction.TheVariants.{Sends, 
 use Rattle.freshness_routes.specs.declared.routes.Route.{Route}
 use Rattle.freshness_routes.specs.Changes.{last_freshness, sender_change, receiver_change}
 use Rattle.bus_machine.specs.declared.lines.Line.{Line}
-use Rattle.bus_machine.specs.declared.lines.Line.TheVariants.{Sent, Accepted, FreshnessFailure, VerificationFailure, Keyed, Loaded, Boot, Up, Armed, NoFrame, Refused}
+use Rattle.bus_machine.specs.declared.lines.Line.TheVariants.{Sent, Accepted, FreshnessFailure, VerificationFailure}
+use Rattle.bus_machine.specs.declared.lines.Line.TheVariants.{Keyed, Loaded, Boot, Up, Armed, NoFrame, Refused}
 use Rattle.bus_machine.specs.declared.lines.Refusal.{Refusal}
-use Rattle.bus_machine.specs.declared.lines.Refusal.TheVariants.{Down, NoRoute, BadLength, Key, Exhausted, MemoryFailure}
-use Rattle.bus_machine.specs.Node.{Node, Change, slot_to, bound_to, changed, place_of, route_at, bound_at, counter_at, route_key, powered, with_counter, with_slot, booted, failed, refused_up}
+use Rattle.bus_machine.specs.declared.lines.Refusal.TheVariants.{Down, NoRoute, BadLength, Key, Exhausted}
+use Rattle.bus_machine.specs.declared.lines.Refusal.TheVariants.{MemoryFailure}
+use Rattle.bus_machine.specs.Node.{Node, Change, slot_to, bound_to, changed, place_of, route_at, bound_at, counter_at}
+use Rattle.bus_machine.specs.Node.{route_key, powered, with_counter, with_slot, booted, failed, refused_up}
 
 -- what a node is told to do
 pub data Act : Type 0 where

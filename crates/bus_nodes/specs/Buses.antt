@@ -1,5 +1,6 @@
 -- A bus as it is told: its nodes under their names, and the stores that they keep (own)
-use Rattle.std.specs.Prelude.{◌≢◌, ℕ, ◌≤◌, ◌==◌, bytes_eq, IsTrue, if◌then◌else◌, Option, None, Some, List, [], ◌∷◌, ◌++◌, length, map, filter, flat_map, position, All, AllPairs}
+use Rattle.std.specs.Prelude.{◌≢◌, ℕ, ◌≤◌, ◌==◌, bytes_eq, IsTrue, if◌then◌else◌, Option, None, Some, List, [], ◌∷◌}
+use Rattle.std.specs.Prelude.{◌++◌, length, map, filter, flat_map, position, All, AllPairs}
 use Rattle.std.specs.List.{list_any}
 use Rattle.cell_store.specs.declared.kinds.Kind.{Kind}
 use Rattle.cell_store.specs.declared.kinds.Version.{Version}
@@ -45,7 +46,8 @@ pub record IsNodeLine (node : NodeLine) : Type 0 where
   pub named : IsTrue (is_name node.name)
   pub config : IsConfig node.config
 
--- 1 to 8 nodes, whose names differ, each with no more routes than its version has; and each Data ID is sent by one route
+-- 1 to 8 nodes, whose names differ, each with no more routes than its version has; and each Data ID is sent by one
+-- route
 pub record IsNamedBus (bus : NamedBus) : Type 0 where
   pub least : 1 ≤ length bus.nodes
   pub most : length bus.nodes ≤ 8

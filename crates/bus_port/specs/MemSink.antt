@@ -1,5 +1,6 @@
 -- The sink over memory.
-use Rattle.std.specs.Prelude.{◌≡◌, ◌↔◌, ◌⊎◌, ℕ, ◌-◌, ◌≤◌, min, List, ◌++◌, length, take, Contains, Some, Result, IsErr, MatchResult}
+use Rattle.std.specs.Prelude.{◌≡◌, ◌↔◌, ◌⊎◌, ℕ, ◌-◌, ◌≤◌, min, List, ◌++◌, length, take, Contains, Some, Result, IsErr}
+use Rattle.std.specs.Prelude.{MatchResult}
 use Rattle.bus_port.specs.Fault.{counted}
 use Rattle.bus_port.specs.Sink.{SinkState}
 

@@ -1,8 +1,10 @@
 -- What a source is, and what a call of `read` does to it.
-use Rattle.std.specs.Prelude.{◌≡◌, ◌↔◌, ℕ, ◌<◌, ◌≤◌, List, [], ◌++◌, length, take, drop, Option, Some, Result, MatchResult}
+use Rattle.std.specs.Prelude.{◌≡◌, ◌↔◌, ℕ, ◌<◌, ◌≤◌, List, [], ◌++◌, length, take, drop, Option, Some, Result}
+use Rattle.std.specs.Prelude.{MatchResult}
 use Rattle.bus_port.specs.Fault.{Rose, RoseBy}
 
--- what is known of a source: the bytes left, where it tells them; how many bytes came from it so far; its count of faults
+-- what is known of a source: the bytes left, where it tells them; how many bytes came from it so far; its count of
+-- faults
 pub record SourceState : Type 0 where
   pub told : Option (List ℕ)
   pub taken : ℕ

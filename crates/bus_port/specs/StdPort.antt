@@ -1,5 +1,6 @@
 -- Ports over the standard readers and writers.
-use Rattle.std.specs.Prelude.{◌≡◌, ℕ, ◌<◌, ◌≤◌, List, length, take, drop, Option, None, option_and_then, Result, IsErr, MatchResult}
+use Rattle.std.specs.Prelude.{◌≡◌, ℕ, ◌<◌, ◌≤◌, List, length, take, drop, Option, None, option_and_then, Result, IsErr}
+use Rattle.std.specs.Prelude.{MatchResult}
 use Rattle.std.specs.Io.KnownBytes.{Consumes, Keeps, IsAtEnd}
 use Rattle.bus_port.specs.Fault.{counted}
 use Rattle.bus_port.specs.Source.{SourceState}

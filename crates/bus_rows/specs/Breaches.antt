@@ -1,4 +1,5 @@
--- Breaches of the four theorems, as lists of moments that are written out; the worlds in them are only those that the breach needs
+-- Breaches of the four theorems, as lists of moments that are written out; the worlds in them are only those that the
+-- breach needs
 use Rattle.std.specs.Prelude.{ℕ, None, Some, List, [], ◌∷◌}
 use Rattle.cut_disk.specs.declared.Torn.TheVariants.{Keep, Old}
 use Rattle.memory_update.specs.Loading.{slot_of}
@@ -12,7 +13,8 @@ use Rattle.bus_machine.specs.Bus.{World, First, Instant}
 use Rattle.bus_machine.specs.Freshness.{Rising, Single}
 use Rattle.bus_machine.specs.Authentic.{Authentic}
 use Rattle.bus_machine.specs.KeysKept.{KeysKept, SettledSlotsStay}
-use Rattle.bus_rows.specs.Buses.{numbered_uid, sending_from, receiving_from, bus_a, all_ones, bus_key, for_macs, update_of, bus_payload, altered_payload, first_frame, altered_frame}
+use Rattle.bus_rows.specs.Buses.{numbered_uid, sending_from, receiving_from, bus_a, all_ones, bus_key, for_macs}
+use Rattle.bus_rows.specs.Buses.{update_of, bus_payload, altered_payload, first_frame, altered_frame}
 
 -- an event, its line, and the nodes after it
 abbrev pub instant : Event → Line → List Node → Instant

@@ -1,4 +1,5 @@
--- A run with sends, acceptances, updates, failures, and a cut with either choice, in which all four theorems hold by computation
+-- A run with sends, acceptances, updates, failures, and a cut with either choice, in which all four theorems hold by
+-- computation
 use Rattle.std.specs.Prelude.{◌≡◌, Some, List, [], ◌∷◌, map}
 use Rattle.cut_disk.specs.declared.Torn.TheVariants.{Keep, Old}
 use Rattle.memory_update.specs.declared.messages.Update.{Update}

@@ -1,6 +1,7 @@
 -- Worked runs: events, each with the line that is told for it
 use Rattle.std.specs.Prelude.{◌≡◌, ℕ, true, None, Some, List, [], ◌∷◌, map}
-use Rattle.key_slots.specs.declared.refusals.Erc.TheVariants.{KeyNotAvailable, KeyInvalid, KeyEmpty, NoSecureBoot, KeyWriteProtected, KeyUpdateError, SequenceError}
+use Rattle.key_slots.specs.declared.refusals.Erc.TheVariants.{KeyNotAvailable, KeyInvalid, KeyEmpty, NoSecureBoot}
+use Rattle.key_slots.specs.declared.refusals.Erc.TheVariants.{KeyWriteProtected, KeyUpdateError, SequenceError}
 use Rattle.cut_disk.specs.declared.Torn.TheVariants.{Keep, Old}
 use Rattle.secure_boot.specs.Booting.{bootmac}
 use Rattle.freshness_routes.specs.Config.{Config}
@@ -8,11 +9,14 @@ use Rattle.bus_machine.specs.declared.events.Event.{Event}
 use Rattle.bus_machine.specs.declared.events.Event.TheVariants.{Send, Deliver, Inject, Key, Boot, Cut, Stop, Fail}
 use Rattle.bus_machine.specs.declared.lines.Line.{Line}
 use Rattle.bus_machine.specs.declared.lines.Line.TheVariants as line
-use Rattle.bus_machine.specs.declared.lines.Line.TheVariants.{Sent, Accepted, VerificationFailure, Keyed, Up, Armed, Refused}
+use Rattle.bus_machine.specs.declared.lines.Line.TheVariants.{Sent, Accepted, VerificationFailure, Keyed, Up, Armed}
+use Rattle.bus_machine.specs.declared.lines.Line.TheVariants.{Refused}
 use Rattle.bus_machine.specs.declared.lines.Refusal.TheVariants as refusal
 use Rattle.bus_machine.specs.declared.lines.Refusal.TheVariants.{Down, Exhausted, MemoryFailure}
 use Rattle.bus_machine.specs.Bus.{World, Moments, BusRun}
-use Rattle.bus_rows.specs.Buses.{numbered_uid, zero_uid, all_ones, master_key, bus_key, clear_flags, for_macs, for_macs_after_boot, write_protected, no_wildcard, update_of, bus_payload, first_frame, later_frame, last_frame, altered_frame}
+use Rattle.bus_rows.specs.Buses.{numbered_uid, zero_uid, all_ones, master_key, bus_key, clear_flags, for_macs}
+use Rattle.bus_rows.specs.Buses.{for_macs_after_boot, write_protected, no_wildcard, update_of, bus_payload, first_frame}
+use Rattle.bus_rows.specs.Buses.{later_frame, last_frame, altered_frame}
 
 -- some run of the bus from its first world has these events and lines
 abbrev pub HasRun : List Config → List (Event × Line) → Type 0

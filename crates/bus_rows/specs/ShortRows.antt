@@ -6,10 +6,12 @@ use Rattle.bus_machine.specs.declared.events.Event.{Event}
 use Rattle.bus_machine.specs.declared.events.Event.TheVariants.{Send, Deliver, Inject, Key, Boot, Cut, Stop}
 use Rattle.bus_machine.specs.declared.lines.Line.{Line}
 use Rattle.bus_machine.specs.declared.lines.Line.TheVariants as line
-use Rattle.bus_machine.specs.declared.lines.Line.TheVariants.{Sent, Accepted, FreshnessFailure, VerificationFailure, Keyed, Up, Armed, NoFrame, Refused}
+use Rattle.bus_machine.specs.declared.lines.Line.TheVariants.{Sent, Accepted, FreshnessFailure, VerificationFailure}
+use Rattle.bus_machine.specs.declared.lines.Line.TheVariants.{Keyed, Up, Armed, NoFrame, Refused}
 use Rattle.bus_machine.specs.declared.lines.Refusal.TheVariants as refusal
 use Rattle.bus_machine.specs.declared.lines.Refusal.TheVariants.{Down, NoRoute, BadLength, MemoryFailure}
-use Rattle.bus_rows.specs.Buses.{numbered_uid, all_ones, bus_key, clear_flags, for_macs_after_boot, update_of, bus_payload, first_frame, later_frame, altered_frame}
+use Rattle.bus_rows.specs.Buses.{numbered_uid, all_ones, bus_key, clear_flags, for_macs_after_boot, update_of}
+use Rattle.bus_rows.specs.Buses.{bus_payload, first_frame, later_frame, altered_frame}
 use Rattle.bus_rows.specs.Rows.{load_slot_4}
 
 -- what a receiver says of freshness past its window

@@ -13,7 +13,8 @@ use Rattle.bus_machine.specs.declared.events.Event.{Event}
 use Rattle.bus_machine.specs.declared.events.Event.TheVariants as event
 use Rattle.bus_machine.specs.Bus.{node_of}
 use Rattle.bus_script.specs.declared.kinds.EventKind.{EventKind}
-use Rattle.bus_script.specs.declared.kinds.EventKind.TheVariants.{Send, Deliver, Inject, Load, Key, Boot, Cut, Stop, Fail}
+use Rattle.bus_script.specs.declared.kinds.EventKind.TheVariants.{Send, Deliver, Inject, Load, Key, Boot, Cut, Stop}
+use Rattle.bus_script.specs.declared.kinds.EventKind.TheVariants.{Fail}
 use Rattle.bus_script.specs.EventKinds.{kind_name}
 use Rattle.bus_script.specs.EventForms.{node_line_at}
 

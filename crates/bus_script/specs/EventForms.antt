@@ -15,7 +15,8 @@ use Rattle.text_lines.specs.Forms.{number_form, bytes_form, hex_bytes_form}
 use Rattle.secoc_words.specs.KeyForms.{uid_form, slot_form, counter_form, flags_form}
 use Rattle.text_lines.specs.Readings.{Fault, ◌>>=◌, nth_word, field, with_count, read_all, most_lines}
 use Rattle.bus_script.specs.declared.kinds.EventKind.{EventKind}
-use Rattle.bus_script.specs.declared.kinds.EventKind.TheVariants.{Send, Deliver, Inject, Load, Key, Boot, Cut, Stop, Fail}
+use Rattle.bus_script.specs.declared.kinds.EventKind.TheVariants.{Send, Deliver, Inject, Load, Key, Boot, Cut, Stop}
+use Rattle.bus_script.specs.declared.kinds.EventKind.TheVariants.{Fail}
 use Rattle.bus_script.specs.EventKinds.{kinds, own_kinds, kind_of, kind_words}
 
 -- the node at a place; past the last one without a name

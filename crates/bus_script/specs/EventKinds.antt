@@ -2,7 +2,8 @@
 use Rattle.std.specs.Prelude.{ℕ, List, [], ◌∷◌, Option, codes, find}
 use Rattle.std.specs.Str.{bytes_eq}
 use Rattle.bus_script.specs.declared.kinds.EventKind.{EventKind}
-use Rattle.bus_script.specs.declared.kinds.EventKind.TheVariants.{Send, Deliver, Inject, Load, Key, Boot, Cut, Stop, Fail}
+use Rattle.bus_script.specs.declared.kinds.EventKind.TheVariants.{Send, Deliver, Inject, Load, Key, Boot, Cut, Stop}
+use Rattle.bus_script.specs.declared.kinds.EventKind.TheVariants.{Fail}
 
 abbrev pub kind_name : EventKind → List ℕ
 kind_name Send = codes "send"

@@ -1,4 +1,5 @@
--- The printed texts of what came of events: words with one space between each two, the number of the line in front, and a line feed behind
+-- The printed texts of what came of events: words with one space between each two, the number of the line in front, and
+-- a line feed behind
 use Rattle.std.specs.Prelude.{ℕ, Bool, true, false, Option, None, Some, List, [], ◌∷◌, codes}
 use Rattle.std.specs.Fmt.{decimal}
 use Rattle.std.specs.List.{flat_map}
@@ -7,9 +8,12 @@ use Rattle.hex.specs.Hex.{encode_lower}
 use Rattle.key_slots.specs.Names.{erc_name}
 use Rattle.text_lines.specs.Written.{written}
 use Rattle.bus_machine.specs.declared.lines.Line.{Line}
-use Rattle.bus_machine.specs.declared.lines.Line.TheVariants.{Sent, Accepted, FreshnessFailure, VerificationFailure, Keyed, Loaded, Boot, Up, Armed, NoFrame, Refused}
+use Rattle.bus_machine.specs.declared.lines.Line.TheVariants.{Sent, Accepted, FreshnessFailure, VerificationFailure}
+use Rattle.bus_machine.specs.declared.lines.Line.TheVariants.{Keyed, Loaded, Boot, Up, Armed, NoFrame, Refused}
 use Rattle.bus_machine.specs.declared.lines.Refusal.{Refusal}
-use Rattle.bus_machine.specs.declared.lines.Refusal.TheVariants.{Down, NoRoute, BadLength, Key, Exhausted, MemoryFailure, NotFormatted, Damaged, BadSlot, BadBound}
+use Rattle.bus_machine.specs.declared.lines.Refusal.TheVariants.{Down, NoRoute, BadLength, Key, Exhausted}
+use Rattle.bus_machine.specs.declared.lines.Refusal.TheVariants.{MemoryFailure, NotFormatted, Damaged, BadSlot}
+use Rattle.bus_machine.specs.declared.lines.Refusal.TheVariants.{BadBound}
 use Rattle.numbered_run.specs.Printed.{texts}
 
 -- the words of a refusal; numbers are decimal

@@ -1,4 +1,5 @@
--- The draws that a seed gives: a linear congruential generator of 64 bits, of whose states a draw shows the upper 31 bits (own).
+-- The draws that a seed gives: a linear congruential generator of 64 bits, of whose states a draw shows the upper 31
+-- bits (own).
 use Rattle.std.specs.Prelude.{◌≡◌, ℕ, zero, suc, ◌+◌, ◌*◌, ◌/◌, ◌%◌, ◌^◌, List, map}
 use Rattle.std.specs.List.{range_with_len}
 

@@ -27,7 +27,8 @@ CountsDiskFault d place = (disk : DiskState) → (get_or d.before place disk).fa
 abbrev pub failed_row : ℕ → Row
 failed_row place = start_row (fault.Store (place + 1) reread.DiskFailed)
 
--- memory may be wanting for a start itself; and for the row of a start over a bus, of 8 nodes at most, whose text is made
+-- memory may be wanting for a start itself; and for the row of a start over a bus, of 8 nodes at most, whose text is
+-- made
 abbrev pub MayWantMemory : NamedBus → StartFault → Type 0
 MayWantMemory bus cause = (cause ≡ fault.Memory) ⊎ ((length bus.nodes ≤ 8) × HasMadeText cause)
 
@@ -47,7 +48,7 @@ pub data ComesOfStart (start : Start) (bus : NamedBus) (d : DiskStates) : Row �
 abbrev pub ComesUnstarted : Type 0 → Start → NamedBus → DiskStates → Row → Type 0
 ComesUnstarted same start bus d row = ComesOfStart start bus d row × (row.status ≡ 9 → same)
 
--- there are disks enough for the bus, of enough size, and each that it takes tells bytes such as a node is started over,
--- and was quiet, or its count didn't rise
+-- there are disks enough for the bus, of enough size, and each that it takes tells bytes such as a node is started
+-- over, and was quiet, or its count didn't rise
 abbrev pub BusHasDisks : Start → NamedBus → DiskStates → Type 0
 BusHasDisks start bus d = HasRoom bus d.before × DisksDo start bus d.before d.after

@@ -97,7 +97,7 @@ leaves_same start bus before after same =
       count = refl;
       each = λ i l d inside. (
         runs_more (start_calls start bus.kind (get_or bus.nodes i l).config) (omega arith)
-        (runs_none (get_or before i d)),
+            (runs_none (get_or before i d)),
         untouched_left start bus.kind bus.version (get_or bus.nodes i l).config (get_or before i d),
       );
       rest = refl;

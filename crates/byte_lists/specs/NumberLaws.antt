@@ -1,8 +1,11 @@
--- Laws of numbers and their bytes: each undoes the other, both are one-to-one, and lists are joined as their numbers are.
-use Rattle.std.proofs.Common.{◌≡◌, ℕ, zero, suc, pow-add, ◌+◌, ◌-◌, ◌*◌, ◌/◌, ◌%◌, ◌^◌, ◌<◌, ◌≤◌, List, [], ◌∷◌, ◌++◌, length, refl, sym, ap, subst, ◌∙◌, arith}
+-- Laws of numbers and their bytes: each undoes the other, both are one-to-one, and lists are joined as their numbers
+-- are.
+use Rattle.std.proofs.Common.{◌≡◌, ℕ, zero, suc, pow-add, ◌+◌, ◌-◌, ◌*◌, ◌/◌, ◌%◌, ◌^◌, ◌<◌, ◌≤◌, List, [], ◌∷◌, ◌++◌}
+use Rattle.std.proofs.Common.{length, refl, sym, ap, subst, ◌∙◌, arith}
 use Rattle.std.specs.List.{All}
 use Rattle.std.specs.Int.{Width, w16, w32, w64, w128, byte_len, bytes_high_first, to_be_bytes, from_be_bytes}
-use Rattle.std.proofs.Math.Nat.{div-one, pow-succ', mul_assoc, div-div-eq-div-mul, mod-eq_of_lt, mul-add-mod_self_right, mul-add-div_right}
+use Rattle.std.proofs.Math.Nat.{div-one, pow-succ', mul_assoc, div-div-eq-div-mul, mod-eq_of_lt, mul-add-mod_self_right}
+use Rattle.std.proofs.Math.Nat.{mul-add-div_right}
 use Rattle.std.proofs.Math.Arith.{mod-mul}
 use Rattle.std.proofs.lemmas.List.{length-append}
 use Rattle.std.proofs.lemmas.List.Elements.{All-nil, All-cons, All-head, All-tail}

@@ -15,13 +15,15 @@ use Rattle.campaign_machine.specs.declared.commands.LedgerCommand.{LedgerCommand
 use Rattle.campaign_commands.specs.declared.opening.NoLedgerCause.{NoLedgerCause}
 use Rattle.campaign_commands.specs.declared.opening.NoLedgerCause.TheVariants.{Store}
 use Rattle.campaign_commands.specs.Opening.{ledger_size, IsNoLedger, LeavesRead, LeavesNone, HasLedger}
-use Rattle.campaign_commands.specs.Rows.{CampaignInputs, CampaignDisks, AreTwo, NoCommands, HasBadLine, HasCommands, OffersCommands, OffersBadLine, OverFirst}
-use Rattle.campaign_commands.specs.Rows.{campaign_usage, too_few_text, too_small_text, no_ledger_text, ComesBefore, DoneCampaign}
+use Rattle.campaign_commands.specs.Rows.{CampaignInputs, CampaignDisks, AreTwo, NoCommands, HasBadLine, HasCommands}
+use Rattle.campaign_commands.specs.Rows.{OffersCommands, OffersBadLine, OverFirst}
+use Rattle.campaign_commands.specs.Rows.{campaign_usage, too_few_text, too_small_text, no_ledger_text, ComesBefore}
+use Rattle.campaign_commands.specs.Rows.{DoneCampaign}
 
 -- ---- the disk
 
--- why there is no ledger: the disk wasn't quiet, and its count rose; or no call failed, and the bytes that it tells are no
--- ledger's
+-- why there is no ledger: the disk wasn't quiet, and its count rose; or no call failed, and the bytes that it tells are
+-- no ledger's
 abbrev pub NoLedgerBecause : NoLedgerCause → DiskState → DiskState → Type 0
 NoLedgerBecause (Store store.DiskFailed) before after = (¬ IsQuiet before) × Rose before.faults after.faults
 NoLedgerBecause cause before after =
@@ -84,8 +86,8 @@ pub record RunsCampaign (same : Type 0) (i : CampaignInputs) (d : CampaignDisks)
   -- 5: exactly where the count of faults of the script's source rose.
   pub read_fault : e.status ≡ 5 → NoCommands i ReadFault × PrintsWhole e (codes "read fault\n")
   pub read_fault_only : CountsFault i.script → EndsIn 5 e
-  -- 6: exactly where the sink's count of faults rose. A front was written of a row that comes; or the texts of the lines
-  -- before one, and a front of this.
+  -- 6: exactly where the sink's count of faults rose. A front was written of a row that comes; or the texts of the
+  -- lines before one, and a front of this.
   pub write_fault : e.status ≡ 6 → SinkFailed e
       × (PrintsFront (ComesBefore same i d) e ⊎ RanTo i d e (Err unwritten.SinkFailed))
   pub write_fault_only : CountsWriteFault e → e.status ≡ 6

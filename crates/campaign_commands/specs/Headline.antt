@@ -14,7 +14,8 @@ use Rattle.campaign_machine.specs.declared.lines.LedgerLine.{LedgerLine}
 use Rattle.campaign_machine.specs.Entries.{AreLedgerEntries}
 use Rattle.campaign_machine.specs.Campaign.{Campaign, powered_ledger}
 use Rattle.campaign_machine.specs.Steps.{LedgerStep}
-use Rattle.campaign_machine.specs.Claims.{LedgerMoment, CountersRise, BuildsItsUpdate, IsAllowedIn, KeepsEntries, ConfirmedByReply, FewAreSkipped}
+use Rattle.campaign_machine.specs.Claims.{LedgerMoment, CountersRise, BuildsItsUpdate, IsAllowedIn, KeepsEntries}
+use Rattle.campaign_machine.specs.Claims.{ConfirmedByReply, FewAreSkipped}
 use Rattle.key_campaign.specs.State.{LedgerState, keeping_of}
 use Rattle.campaign_texts.specs.LedgerTexts.{ledger_line_text}
 use Rattle.campaign_commands.specs.Turns.{LedgerTurn, ledger_mark, ledger_calls, tells_disk_failure}

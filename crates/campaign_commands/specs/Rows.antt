@@ -115,8 +115,8 @@ pub data ComesBefore (same : Type 0) (i : CampaignInputs) (d : CampaignDisks) : 
 
 -- ---- a campaign
 
--- the first commands were done, up to the first whose text wasn't written; over a disk that tells its bytes, none of them
--- loose, they are one run of the machine, and all of `Campaigned` holds of it
+-- the first commands were done, up to the first whose text wasn't written; over a disk that tells its bytes, none of
+-- them loose, they are one run of the machine, and all of `Campaigned` holds of it
 pub record DoneCampaign (commands : List LedgerCommand) (e : Ending) (result : Result (Unit {0}) Unwritten)
     (before after : DiskState) : Type 0 where
   pub ran : RanCampaign before after commands e.before e.after result

@@ -19,7 +19,9 @@ use Rattle.campaign_texts.specs.ScriptCommands.{IsScriptCommand}
 use Rattle.campaign_commands.specs.declared.opening.NoLedgerCause.{NoLedgerCause}
 use Rattle.campaign_commands.specs.declared.opening.NoLedgerCause.TheVariants.{Store, BadEntry}
 use Rattle.campaign_commands.specs.Opening.{ledger_size, LacksLedger, LeftWithoutMemory}
-use Rattle.campaign_commands.specs.Rows.{CampaignInputs, CampaignDisks, AreTwo, NoCommands, HasBadLine, HasCommands, OverFirst, campaign_usage, too_few_text, too_small_text, no_ledger_text, DoneCampaign}
+use Rattle.campaign_commands.specs.Rows.{CampaignInputs, CampaignDisks, AreTwo, NoCommands, HasBadLine, HasCommands}
+use Rattle.campaign_commands.specs.Rows.{OverFirst, campaign_usage, too_few_text, too_small_text, no_ledger_text}
+use Rattle.campaign_commands.specs.Rows.{DoneCampaign}
 
 -- ---- the script
 

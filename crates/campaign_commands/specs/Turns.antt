@@ -26,7 +26,8 @@ ledger_mark (command.Stop calls) = Some (Stop calls)
 ledger_mark (command.Fail calls) = Some (Fail calls)
 ledger_mark cmd = None
 
--- the most calls of the disk that a command makes: a put, a cut and the reading of a header and of 256 cells, or one call
+-- the most calls of the disk that a command makes: a put, a cut and the reading of a header and of 256 cells, or one
+-- call
 abbrev pub ledger_calls : LedgerCommand → ℕ
 ledger_calls (command.Issue i) = 6
 ledger_calls (command.Confirm k) = 6

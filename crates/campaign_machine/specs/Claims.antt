@@ -1,5 +1,6 @@
 -- The laws of all runs of a ledger, as statements
-use Rattle.std.specs.Prelude.{◌≡◌, ◌⊎◌, ℕ, ◌+◌, ◌<◌, ◌≤◌, Bool, true, false, cond, Option, None, Some, Ok, List, [], ◌∷◌, ◌++◌, All, Any, AllPairs, if◌then◌else◌, unwrap_or}
+use Rattle.std.specs.Prelude.{◌≡◌, ◌⊎◌, ℕ, ◌+◌, ◌<◌, ◌≤◌, Bool, true, false, cond, Option, None, Some, Ok, List, []}
+use Rattle.std.specs.Prelude.{◌∷◌, ◌++◌, All, Any, AllPairs, if◌then◌else◌, unwrap_or}
 use Rattle.key_slots.specs.declared.memory.Slot.{Slot}
 use Rattle.key_slots.specs.Slots.{slot_at, counter_of, IsSlots}
 use Rattle.key_slots.specs.Usage.{first_applying}

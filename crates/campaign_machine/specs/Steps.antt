@@ -17,7 +17,8 @@ use Rattle.campaign_machine.specs.declared.lines.LedgerLine.{LedgerLine}
 use Rattle.campaign_machine.specs.declared.lines.LedgerLine.TheVariants as line
 use Rattle.campaign_machine.specs.declared.lines.LedgerRefusal.{LedgerRefusal}
 use Rattle.campaign_machine.specs.declared.lines.LedgerRefusal.TheVariants as refusal
-use Rattle.campaign_machine.specs.Entries.{greatest_counter, IsUnit, place_for, empty_place, entry_for, last_issued, TakesPlace, with_change}
+use Rattle.campaign_machine.specs.Entries.{greatest_counter, IsUnit, place_for, empty_place, entry_for, last_issued}
+use Rattle.campaign_machine.specs.Entries.{TakesPlace, with_change}
 use Rattle.campaign_machine.specs.Campaign.{Campaign, powered_ledger, changed_ledger, failed_change, stays_off}
 
 -- ---- what is asked of a unit, and what its reply says

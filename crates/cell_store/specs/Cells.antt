@@ -79,7 +79,8 @@ pub record Misread (old new : CellsState) (fault : Reread) : Type 0 where
   pub faults : new.disk.faults ≡ old.disk.faults
   pub finds : (t : Told) → new.disk.told ≡ Some t → RereadFinds old.layout (length old.cells) t.bytes fault
 
--- why a store isn't read anew: the disk failed, so that its count rose, or no call failed, and bytes that are told are no store
+-- why a store isn't read anew: the disk failed, so that its count rose, or no call failed, and bytes that are told are
+-- no store
 abbrev pub RereadCause : CellsState → CellsState → Reread → Type 0
 RereadCause old new reread.DiskFailed = Rose old.disk.faults new.disk.faults
 RereadCause old new reread.NotFormatted = Misread old new reread.NotFormatted

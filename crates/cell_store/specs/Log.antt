@@ -2,7 +2,8 @@
 -- mark from 0 to 2, n cells of 32 bytes, and 64 record places of 35 bytes. A place is a gate, a cell number in
 -- two bytes, and 32 bytes of payload. A bank or place is live where its gate is a7. All places count from the
 -- first byte of the list.
-use Rattle.std.specs.Prelude.{◌≡◌, ℕ, zero, suc, ◌+◌, ◌*◌, ◌<◌, ◌≤◌, true, false, ◌⊎◌, List, ◌∷◌, ◌++◌, length, drop, set, map, replicate}
+use Rattle.std.specs.Prelude.{◌≡◌, ℕ, zero, suc, ◌+◌, ◌*◌, ◌<◌, ◌≤◌, true, false, ◌⊎◌, List, ◌∷◌, ◌++◌, length, drop}
+use Rattle.std.specs.Prelude.{set, map, replicate}
 use Rattle.std.specs.List.{range_with_len, flat_map}
 use Rattle.byte_lists.specs.Numbers.{number_of, bytes_of}
 use Rattle.cell_store.specs.declared.copies.Side.{Side}

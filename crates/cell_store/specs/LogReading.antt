@@ -1,5 +1,6 @@
 -- What reading a log store leaves and finds.
-use Rattle.std.specs.Prelude.{◌≡◌, ℕ, ◌+◌, ◌<◌, ◌≤◌, min, true, false, Option, Some, None, List, [], get_or, if◌then◌else◌}
+use Rattle.std.specs.Prelude.{◌≡◌, ℕ, ◌+◌, ◌<◌, ◌≤◌, min, true, false, Option, Some, None, List, [], get_or}
+use Rattle.std.specs.Prelude.{if◌then◌else◌}
 use Rattle.cut_disk.specs.State.{DiskState, Told}
 use Rattle.cell_store.specs.declared.copies.Side.{Side}
 use Rattle.cell_store.specs.declared.copies.Side.TheVariants.{First, Second}

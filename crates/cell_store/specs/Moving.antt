@@ -53,7 +53,8 @@ LeavesHeaderLast laid cells old new = (b : List ℕ) → old ≡ Some (firm b) �
 abbrev pub move_calls : Kind → ℕ → ℕ
 move_calls kind n = 1 + reads kind n + (calls_behind kind n + 2)
 
--- what is told after a move of a store that counted as this version: what was told before, or a fresh store of version 2
+-- what is told after a move of a store that counted as this version: what was told before, or a fresh store of version
+-- 2
 abbrev pub AfterMove : Kind → List (List ℕ) → Told → Option Told → Version → Type 0
 AfterMove kind cells t new Two = new ≡ Some t
 AfterMove kind cells t new One = FreshOn (layout kind Two) cells t new
@@ -90,8 +91,8 @@ pub record DamagedAsCounted (kind : Kind) (n i : ℕ) (x : List ℕ) : Type 0 wh
   pub head : HasHeader (layout kind version) n x
   pub damaged : FirstDamaged (layout kind version) x n i
 
--- Why a store of n cells isn't moved: the disk failed, or bytes that are told have no header of it in either version, or
--- the version that counts is damaged.
+-- Why a store of n cells isn't moved: the disk failed, or bytes that are told have no header of it in either version,
+-- or the version that counts is damaged.
 abbrev pub Unmoved : Kind → ℕ → DiskState → DiskState → Reread → Type 0
 Unmoved kind n old new reread.DiskFailed = Rose old.faults new.faults
 Unmoved kind n old new reread.NotFormatted =

@@ -1,6 +1,7 @@
 -- What the bytes of a disk stand for as a store, and what a put and a format make of them. A store's places count
 -- from its base.
-use Rattle.std.specs.Prelude.{◌≡◌, ℕ, ◌+◌, ◌<◌, ◌≤◌, ◌≢◌, Option, Some, None, IsSome, List, [], ◌++◌, length, set, get_or, replicate, if◌then◌else◌}
+use Rattle.std.specs.Prelude.{◌≡◌, ℕ, ◌+◌, ◌<◌, ◌≤◌, ◌≢◌, Option, Some, None, IsSome, List, [], ◌++◌, length, set}
+use Rattle.std.specs.Prelude.{get_or, replicate, if◌then◌else◌}
 use Rattle.std.specs.List.{flat_map}
 use Rattle.cut_disk.specs.Images.{splice}
 use Rattle.cell_store.specs.declared.kinds.Kind.{Kind}
@@ -12,7 +13,8 @@ use Rattle.cell_store.specs.declared.kinds.Probe.TheVariants.{Blank, Foreign, St
 use Rattle.cell_store.specs.Layout.{SameOutside, part, base, from_base, header, log_layout}
 use Rattle.cell_store.specs.declared.copies.Side.{Side}
 use Rattle.cell_store.specs.Copies.{other}
-use Rattle.cell_store.specs.Log.{log_size, bank_at, bank_head, BankCounts, place_at, listed, Places, LogHolds, LogDamaged, live_record, live_bank, fresh_banks}
+use Rattle.cell_store.specs.Log.{log_size, bank_at, bank_head, BankCounts, place_at, listed, Places, LogHolds}
+use Rattle.cell_store.specs.Log.{LogDamaged, live_record, live_bank, fresh_banks}
 use Rattle.cell_store.specs.Twin.{twin_size, first_at, second_at, mark, next, counts, cell_at, live_copy, fresh_cell}
 
 -- a store has 1 to 1024 cells

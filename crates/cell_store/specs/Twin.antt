@@ -1,7 +1,8 @@
 -- The twin store: behind the header each cell has two copies of 34 bytes, of which one counts.
 -- A copy is a gate, a mark from 0 to 2, and 32 bytes of payload. It is live where its gate is a7.
 -- All places count from the first byte of the list.
-use Rattle.std.specs.Prelude.{ℕ, ◌+◌, ◌*◌, ◌%◌, Bool, not, ◌&&◌, ◌||◌, ◌==◌, nat_lt, if◌then◌else◌, Option, Some, None, List, ◌∷◌, ◌++◌, drop, get_or}
+use Rattle.std.specs.Prelude.{ℕ, ◌+◌, ◌*◌, ◌%◌, Bool, not, ◌&&◌, ◌||◌, ◌==◌, nat_lt, if◌then◌else◌, Option, Some, None}
+use Rattle.std.specs.Prelude.{List, ◌∷◌, ◌++◌, drop, get_or}
 use Rattle.cell_store.specs.Layout.{part}
 
 -- the size in bytes of a store of n cells, from its base on

@@ -21,7 +21,8 @@ use Rattle.bus_world.specs.StartRows.{start_row, StoreCause, LeavesEach}
 use Rattle.bus_world.specs.StartAnswers.{DiskStates, BusHasDisks, CountsDiskFault, failed_row}
 use Rattle.bus_inputs.specs.BusFiles.{IsConfigFault}
 use Rattle.chart_texts.specs.ChartTexts.{chart_text}
-use Rattle.chart_commands.specs.Inputs.{ChartInputs, AsksChart, chart_usage, NoChartConfig, NoChartScript, HasBadEvent, OverChart, OffersChart}
+use Rattle.chart_commands.specs.Inputs.{ChartInputs, AsksChart, chart_usage, NoChartConfig, NoChartScript, HasBadEvent}
+use Rattle.chart_commands.specs.Inputs.{OverChart, OffersChart}
 use Rattle.chart_commands.specs.Rows.{DoneChart, ChartRow, EndsChart}
 
 -- all events were done, and exactly the chart of their lines was written

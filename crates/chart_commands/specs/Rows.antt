@@ -17,7 +17,8 @@ use Rattle.bus_world.specs.declared.start.Start.TheVariants.{Format}
 use Rattle.bus_world.specs.StartAnswers.{DiskStates, ComesOfStart}
 use Rattle.bus_inputs.specs.BusFiles.{IsConfigFault}
 use Rattle.chart_texts.specs.ChartTexts.{chart_text}
-use Rattle.chart_commands.specs.Inputs.{ChartInputs, AsksChart, chart_usage, NoChartConfig, NoChartScript, HasBadEvent, OverChart}
+use Rattle.chart_commands.specs.Inputs.{ChartInputs, AsksChart, chart_usage, NoChartConfig, NoChartScript, HasBadEvent}
+use Rattle.chart_commands.specs.Inputs.{OverChart}
 use Rattle.chart_commands.specs.Runs.{ChartTurns, Charted}
 
 -- the rows for which no disk is used

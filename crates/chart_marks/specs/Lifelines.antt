@@ -1,11 +1,13 @@
 -- The lifelines of a chart: where a node is drawn up, and where it is drawn down (own)
-use Rattle.std.specs.Prelude.{ℕ, ◌+◌, ◌-◌, ◌==◌, Bool, true, false, cond, Option, None, Some, List, [], ◌∷◌, length, option_map}
+use Rattle.std.specs.Prelude.{ℕ, ◌+◌, ◌-◌, ◌==◌, Bool, true, false, cond, Option, None, Some, List, [], ◌∷◌, length}
+use Rattle.std.specs.Prelude.{option_map}
 use Rattle.std.specs.List.{cons_option}
 use Rattle.bus_machine.specs.declared.events.Event.{Event}
 use Rattle.bus_machine.specs.declared.lines.Line.{Line}
 use Rattle.bus_machine.specs.declared.lines.Line.TheVariants.{Up, Refused}
 use Rattle.bus_machine.specs.declared.lines.Refusal.{Refusal}
-use Rattle.bus_machine.specs.declared.lines.Refusal.TheVariants.{MemoryFailure, NotFormatted, Damaged, BadSlot, BadBound}
+use Rattle.bus_machine.specs.declared.lines.Refusal.TheVariants.{MemoryFailure, NotFormatted, Damaged, BadSlot}
+use Rattle.bus_machine.specs.declared.lines.Refusal.TheVariants.{BadBound}
 use Rattle.bus_machine.specs.Bus.{node_of}
 use Rattle.chart_marks.specs.declared.lifelines.LifeTurn.{LifeTurn}
 use Rattle.chart_marks.specs.declared.lifelines.LifeTurn.TheVariants.{Falls, Rises}

@@ -1,5 +1,6 @@
 -- Laws of the marks and of the lifelines of all runs, as statements (own)
-use Rattle.std.specs.Prelude.{◌≡◌, ◌↔◌, ◌⊎◌, ℕ, ◌+◌, ◌-◌, ◌<◌, ◌≤◌, ◌==◌, Bool, true, false, cond, filter, Option, None, Some, List, [], ◌∷◌, ◌++◌, length, take, slice_get}
+use Rattle.std.specs.Prelude.{◌≡◌, ◌↔◌, ◌⊎◌, ℕ, ◌+◌, ◌-◌, ◌<◌, ◌≤◌, ◌==◌, Bool, true, false, cond, filter, Option, None}
+use Rattle.std.specs.Prelude.{Some, List, [], ◌∷◌, ◌++◌, length, take, slice_get}
 use Rattle.machine_runs.specs.Run.{commands_in, lines_in}
 use Rattle.bus_machine.specs.declared.events.Event.TheVariants.{Send}
 use Rattle.bus_machine.specs.declared.lines.Line.TheVariants.{Sent, Accepted, Up}
@@ -111,8 +112,8 @@ pub record IsBesideCut (ms : Moments) (node height : ℕ) : Type 0 where
   pub least : row_axis (length front + 1) ≤ height + 14
   pub most : height < row_axis (length front + 1) + 14
 
--- behind each row a lifeline is drawn down exactly where its node is then down, and drawn up exactly where it is up, but
--- beside the sign of a cut, where it may be neither
+-- behind each row a lifeline is drawn down exactly where its node is then down, and drawn up exactly where it is up,
+-- but beside the sign of a cut, where it may be neither
 pub record LifelinesOf (start : World) (ms : Moments) : Type 0 where
   pub down : (node row height : ℕ) → node < length start.nodes → row ≤ length ms → IsBehindRow (length ms) row height
       → IsDrawnAt (run_lifeline node ms) true height ↔ (up_behind start ms row node ≡ false)

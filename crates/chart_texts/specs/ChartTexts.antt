@@ -1,5 +1,6 @@
 -- The text of a chart, an SVG (Scalable Vector Graphics 1.1) of eight kinds of elements and integers alone (own)
-use Rattle.std.specs.Prelude.{ℕ, ◌+◌, ◌-◌, ◌*◌, Bool, true, false, not, filter, List, [], ◌∷◌, ◌++◌, length, codes, count_by}
+use Rattle.std.specs.Prelude.{ℕ, ◌+◌, ◌-◌, ◌*◌, Bool, true, false, not, filter, List, [], ◌∷◌, ◌++◌, length, codes}
+use Rattle.std.specs.Prelude.{count_by}
 use Rattle.std.specs.Fmt.{decimal}
 use Rattle.std.specs.List.{flat_map, range_with_len}
 use Rattle.bus_machine.specs.declared.events.Event.{Event}
@@ -8,7 +9,8 @@ use Rattle.bus_nodes.specs.declared.nodes.NodeLine.{NodeLine}
 use Rattle.bus_nodes.specs.Buses.{NamedBus}
 use Rattle.bus_texts.specs.LineTexts.{told_words}
 use Rattle.bus_texts.specs.Spaced.{spaced}
-use Rattle.bus_commands.specs.Summaries.{tells_sent, tells_accepted, tells_failed_verdict, tells_keyed, tells_up, tells_refused}
+use Rattle.bus_commands.specs.Summaries.{tells_sent, tells_accepted, tells_failed_verdict, tells_keyed, tells_up}
+use Rattle.bus_commands.specs.Summaries.{tells_refused}
 use Rattle.chart_marks.specs.declared.marks.Origin.TheVariants.{EventRow, Outside}
 use Rattle.chart_marks.specs.declared.marks.MarkKind.{MarkKind}
 use Rattle.chart_marks.specs.declared.marks.MarkKind.TheVariants.{Sent, Done, Cut, Armed, Nothing, Refused, Arrow}

@@ -1,6 +1,7 @@
 -- A small grammar of XML documents, narrower than the standard's (Extensible Markup Language 1.0): no declaration, no
 -- reference, no comment, no prefix and no empty name (own)
-use Rattle.std.specs.Prelude.{◌≡◌, ℕ, Bool, true, not, ◌&&◌, ◌||◌, ◌==◌, bytes_eq, nat_le, nat_lt, IsTrue, List, [], ◌∷◌, ◌++◌, length, codes}
+use Rattle.std.specs.Prelude.{◌≡◌, ℕ, Bool, true, not, ◌&&◌, ◌||◌, ◌==◌, bytes_eq, nat_le, nat_lt, IsTrue, List, []}
+use Rattle.std.specs.Prelude.{◌∷◌, ◌++◌, length, codes}
 use Rattle.std.specs.List.{flat_map, list_all, list_any}
 
 -- a character that may stand in a text or in the value of an attribute: a line feed, which is 10, or one that is

@@ -6,7 +6,8 @@ use Rattle.hex.specs.Hex.{encode_lower}
 use Rattle.bus_machine.specs.declared.events.Event.{Event}
 use Rattle.bus_machine.specs.declared.events.Event.TheVariants as event
 use Rattle.bus_machine.specs.declared.lines.Line.{Line}
-use Rattle.bus_machine.specs.declared.lines.Line.TheVariants.{Sent, Accepted, FreshnessFailure, VerificationFailure, Keyed, Loaded, Boot, Up, Armed, NoFrame, Refused}
+use Rattle.bus_machine.specs.declared.lines.Line.TheVariants.{Sent, Accepted, FreshnessFailure, VerificationFailure}
+use Rattle.bus_machine.specs.declared.lines.Line.TheVariants.{Keyed, Loaded, Boot, Up, Armed, NoFrame, Refused}
 use Rattle.bus_texts.specs.LineTexts.{source_word, boot_word, refusal_words}
 use Rattle.bus_texts.specs.Spaced.{spaced}
 use Rattle.bus_script.specs.Canon.{torn_word}

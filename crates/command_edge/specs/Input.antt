@@ -10,7 +10,8 @@ use Rattle.command_edge.specs.declared.input.InputFault.TheVariants.{ReadFault, 
 abbrev pub input_limit : ℕ
 input_limit = 1048576
 
--- why there is no input, by what was known of the source before and after: a fault was counted only where it is the cause
+-- why there is no input, by what was known of the source before and after: a fault was counted only where it is the
+-- cause
 abbrev pub NoInput : SourceState → SourceState → InputFault → Type 0
 NoInput before after ReadFault = Rose before.faults after.faults × CameWithin before after input_limit
 NoInput before after TooLong = (after.faults ≡ before.faults) × CameBeyond before after input_limit

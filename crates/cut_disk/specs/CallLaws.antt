@@ -1,5 +1,6 @@
 -- Laws of calls and of stretches of calls.
-use Rattle.std.proofs.Common.{◌≡◌, ℕ, ◌+◌, ◌≤◌, Bool, true, false, ◌&&◌, List, [], ◌∷◌, ◌++◌, length, Option, Some, None, arith, refl, sym, ap, ◌∙◌}
+use Rattle.std.proofs.Common.{◌≡◌, ℕ, ◌+◌, ◌≤◌, Bool, true, false, ◌&&◌, List, [], ◌∷◌, ◌++◌, length, Option, Some}
+use Rattle.std.proofs.Common.{None, arith, refl, sym, ap, ◌∙◌}
 use Rattle.std.specs.Option.{option_to_list}
 use Rattle.std.proofs.lemmas.List.{append_assoc, append-nil, length-append}
 use Rattle.std.proofs.lemmas.List.Elements.{filter_map-append}
@@ -7,7 +8,8 @@ use Rattle.std.proofs.lemmas.Bool.{false≢true}
 use Rattle.cut_disk.specs.declared.Mark.TheVariants.{Cut, Stop, Fail}
 use Rattle.cut_disk.specs.State.{Told, Mark, Entry, past_entry, DiskState}
 pub use Rattle.fault_count.specs.CountLaws.{rose_then, rose_after}
-use Rattle.cut_disk.specs.Calls.{Rose, KeepsQuiet, StaysQuiet, IsQuiet, arms_nothing, Call, marks_of, newest, AddsEntries, Runs, Later, Grows, AsBefore}
+use Rattle.cut_disk.specs.Calls.{Rose, KeepsQuiet, StaysQuiet, IsQuiet, arms_nothing, Call, marks_of, newest}
+use Rattle.cut_disk.specs.Calls.{AddsEntries, Runs, Later, Grows, AsBefore}
 
 -- of marks and of the last state, over joined lists
 pub arms_nothing-append : (ms ns : List Mark) → arms_nothing (ms ++ ns) ≡ arms_nothing ms && arms_nothing ns

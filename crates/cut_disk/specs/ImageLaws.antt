@@ -1,5 +1,6 @@
 -- Laws of the lists that a power cut may leave.
-use Rattle.std.proofs.Common.{◌≡◌, ℕ, ◌+◌, ◌<◌, ◌≤◌, true, false, List, length, get_or, slice_index, replicate, ⊎_elim, arith, rules, refl, sym, ap, ◌∙◌}
+use Rattle.std.proofs.Common.{◌≡◌, ℕ, ◌+◌, ◌<◌, ◌≤◌, true, false, List, length, get_or, slice_index, replicate, ⊎_elim}
+use Rattle.std.proofs.Common.{arith, rules, refl, sym, ap, ◌∙◌}
 use Rattle.std.specs.List.{slice_range}
 use Rattle.std.proofs.lemmas.List.{ext_get_or, length-replicate, get_or-replicate, get_or_default, places}
 use Rattle.std.proofs.lemmas.Bool.{cases_lt}

@@ -1,5 +1,6 @@
 -- What a power cut may leave of a disk's bytes, and what a write does to them.
-use Rattle.std.specs.Prelude.{◌≡◌, ℕ, ◌+◌, ◌<◌, true, false, List, ◌++◌, length, take, drop, replicate, slice_index, slice_index_or, slice_range, Option, Some}
+use Rattle.std.specs.Prelude.{◌≡◌, ℕ, ◌+◌, ◌<◌, true, false, List, ◌++◌, length, take, drop, replicate, slice_index}
+use Rattle.std.specs.Prelude.{slice_index_or, slice_range, Option, Some}
 use Rattle.cut_disk.specs.State.{Told}
 
 -- xs with ys in the place of as many elements, from `at` on

@@ -1,5 +1,6 @@
 -- A disk in memory: what its bytes mean, and what each call makes of them.
-use Rattle.std.specs.Prelude.{ℕ, ◌%◌, Bool, true, false, ◌&&◌, ◌==◌, nat_lt, if◌then◌else◌, List, length, map, replicate, slice_index, slice_index_or, Some, None}
+use Rattle.std.specs.Prelude.{ℕ, ◌%◌, Bool, true, false, ◌&&◌, ◌==◌, nat_lt, if◌then◌else◌, List, length, map}
+use Rattle.std.specs.Prelude.{replicate, slice_index, slice_index_or, Some, None}
 use Rattle.std.specs.List.{range_with_len}
 use Rattle.cut_disk.specs.declared.Torn.{Torn}
 use Rattle.cut_disk.specs.declared.Torn.TheVariants.{Keep, Old, Half, Fill}

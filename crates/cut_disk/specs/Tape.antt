@@ -1,5 +1,6 @@
 -- A tape: entries of one size, in room that was taken before.
-use Rattle.std.specs.Prelude.{◌≡◌, ℕ, ◌<◌, Bool, List, [], ◌∷◌, ◌++◌, length, take, map, slice_index_or, Option, Some, None, if◌then◌else◌, nat_lt}
+use Rattle.std.specs.Prelude.{◌≡◌, ℕ, ◌<◌, Bool, List, [], ◌∷◌, ◌++◌, length, take, map, slice_index_or, Option, Some}
+use Rattle.std.specs.Prelude.{None, if◌then◌else◌, nat_lt}
 use Rattle.cut_disk.specs.declared.tape.PastEntry.{PastEntry}
 use Rattle.cut_disk.specs.State.{Entry, Mark, past_entry}
 

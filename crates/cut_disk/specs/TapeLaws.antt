@@ -1,5 +1,5 @@
--- The law of disks, for a disk in memory that tells its past. It is proved here because an `impl` takes the proof of a law out
--- of specs/ alone.
+-- The law of disks, for a disk in memory that tells its past. It is proved here because an `impl` takes the proof of a
+-- law out of specs/ alone.
 use Rattle.cut_disk.specs.declared.tape_disk.TapeDisk.{TapeDisk}
 use Rattle.cut_disk.specs.Calls.{IsDisk}
 use Rattle.cut_disk.specs.MemDisk.{contents}

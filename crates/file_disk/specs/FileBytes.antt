@@ -1,5 +1,6 @@
 -- What a file tells of its bytes, what a call of it leaves of them, and which bytes of a disk over it are loose.
-use Rattle.std.specs.Prelude.{◌≡◌, ℕ, ◌+◌, ◌≤◌, Bool, true, false, List, [], ◌∷◌, length, replicate, slice_range, Option, Some, None}
+use Rattle.std.specs.Prelude.{◌≡◌, ℕ, ◌+◌, ◌≤◌, Bool, true, false, List, [], ◌∷◌, length, replicate, slice_range}
+use Rattle.std.specs.Prelude.{Option, Some, None}
 use Rattle.cut_disk.specs.State.{Told}
 use Rattle.cut_disk.specs.Images.{splice, Patched}
 
@@ -28,8 +29,8 @@ pub record LeavesPatch (at count : ℕ) (old : List ℕ) (new : Option (List ℕ
 abbrev pub PutsAny : ℕ → ℕ → Option (List ℕ) → Option (List ℕ) → Type 0
 PutsAny at count old new = (bytes : List ℕ) → old ≡ Some bytes → LeavesPatch at count bytes new
 
--- Of so many bytes those are loose that were written since the last sync. Each write stands there by its address and its number of
--- bytes, the last one first.
+-- Of so many bytes those are loose that were written since the last sync. Each write stands there by its address and
+-- its number of bytes, the last one first.
 abbrev pub loose_since : ℕ → List ℕ → List Bool
 loose_since size [] = replicate size false
 loose_since size (at ∷ []) = replicate size false

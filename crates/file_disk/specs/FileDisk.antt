@@ -1,5 +1,6 @@
 -- A disk over a file: what it means, and what a call of it does.
-use Rattle.std.specs.Prelude.{◌≡◌, ◌≤◌, ℕ, Bool, true, false, if◌then◌else◌, List, length, replicate, Option, Some, None}
+use Rattle.std.specs.Prelude.{◌≡◌, ◌≤◌, ℕ, Bool, true, false, if◌then◌else◌, List, length, replicate, Option, Some}
+use Rattle.std.specs.Prelude.{None}
 use Rattle.fault_count.specs.FaultCount.{counted}
 use Rattle.cut_disk.specs.declared.arming.Arms.{Arms}
 use Rattle.cut_disk.specs.State.{Told, DiskState}
@@ -10,8 +11,8 @@ use Rattle.file_disk.specs.declared.file_disk.FileDisk.{FileDisk}
 use Rattle.file_disk.specs.FileBytes.{loose_since, with_marks}
 use Rattle.file_disk.specs.FileCalls.{FileCall, SyncAll, Notes}
 
--- the size, which calls are to fail, how many have failed, whether there is a file, its calls, if it tells them, and its bytes
--- with the loose marks, if it tells those
+-- the size, which calls are to fail, how many have failed, whether there is a file, its calls, if it tells them, and
+-- its bytes with the loose marks, if it tells those
 pub record FileContents : Type 0 where
   pub size : ℕ
   pub arms : Arms
@@ -40,8 +41,9 @@ fresh_file_disk size is_open calls told =
 abbrev pub counted_call : FileContents → FileContents
 counted_call c = record c { arms = after_call c.arms; faults = faults_after c.arms c.faults }
 
--- A call of the disk, which is Ok or not: it was counted, and its failure too; where it was armed to fail it did, and the file wasn't
--- touched; otherwise this one call of the file was made, with the same outcome. Where there is no file it failed.
+-- A call of the disk, which is Ok or not: it was counted, and its failure too; where it was armed to fail it did, and
+-- the file wasn't touched; otherwise this one call of the file was made, with the same outcome. Where there is no file
+-- it failed.
 pub record Passes (call : FileCall) (ok : Bool) (old new : FileContents) : Type 0 where
   pub size : new.size ≡ old.size
   pub arms : new.arms ≡ after_call old.arms
@@ -52,8 +54,8 @@ pub record Passes (call : FileCall) (ok : Bool) (old new : FileContents) : Type 
   pub untouched : fails old.arms ≡ true → new.calls ≡ old.calls
   pub passed : fails old.arms ≡ false → Notes call old.calls new.calls
 
--- A power cut of the disk: what was armed to stop it is over, and the file was synced, which was Ok or not. So what is read
--- from here on is what a cut of the system's own power leaves, as of a disk whose power went.
+-- A power cut of the disk: what was armed to stop it is over, and the file was synced, which was Ok or not. So what is
+-- read from here on is what a cut of the system's own power leaves, as of a disk whose power went.
 pub record LosesPower (old new : FileContents) : Type 0 where
   pub size : new.size ≡ old.size
   pub arms : new.arms ≡ after_cut old.arms

@@ -1,5 +1,6 @@
 -- A file whose bytes are held in memory: what it means, and what a call of it does.
-use Rattle.std.specs.Prelude.{◌≡◌, ℕ, ◌+◌, ◌≤◌, min, Bool, true, false, not, ◌&&◌, if◌then◌else◌, List, length, replicate, slice_range, Option}
+use Rattle.std.specs.Prelude.{◌≡◌, ℕ, ◌+◌, ◌≤◌, min, Bool, true, false, not, ◌&&◌, if◌then◌else◌, List, length}
+use Rattle.std.specs.Prelude.{replicate, slice_range, Option}
 use Rattle.cut_disk.specs.Images.{splice}
 use Rattle.file_disk.specs.declared.byte_file.ByteFile.{Ghosts}
 use Rattle.file_disk.specs.declared.held_file.HeldFile.{HeldFile}
@@ -34,8 +35,8 @@ pub record HoldsFirst (size : ℕ) (calls : Option (List FileCall)) (told : Opti
   pub none : held.is_open ≡ false → held.bytes ≡ replicate 65536 0
   pub as_written : held.differs ≡ false
 
--- A read of a file that is asked, which is Ok or not: the file below was read over the same range. A failure of it is one,
--- and Ok is that it gave the held bytes; where it gave others the file has read otherwise from now on.
+-- A read of a file that is asked, which is Ok or not: the file below was read over the same range. A failure of it is
+-- one, and Ok is that it gave the held bytes; where it gave others the file has read otherwise from now on.
 pub record ReadsBelow (at : ℕ) (out : List ℕ) (ok : Bool) (old new : HeldContents) : Type 0 where
   pub below : Bool
   pub noted : Notes (ReadAt at out below) old.calls new.calls

@@ -1,4 +1,5 @@
--- The counter of one route while its node is up (own; a route is a Data ID of AUTOSAR SecOC and a direction, its counter the greatest freshness in use).
+-- The counter of one route while its node is up (own; a route is a Data ID of AUTOSAR SecOC and a direction, its
+-- counter the greatest freshness in use).
 use Rattle.std.specs.Prelude.{ℕ, ◌^◌, ◌<◌, ◌≤◌, List, [], length, slice_index_or}
 use Rattle.secured_pdu.specs.Frame.{IsWindow}
 use Rattle.freshness_routes.specs.declared.routes.Direction.{Direction}

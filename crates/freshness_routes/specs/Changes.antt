@@ -1,4 +1,5 @@
--- How far the bound of a route moves ahead of the freshness in use (own; AUTOSAR SecOC leaves open how a freshness counter is kept)
+-- How far the bound of a route moves ahead of the freshness in use (own; AUTOSAR SecOC leaves open how a freshness
+-- counter is kept)
 use Rattle.std.specs.Prelude.{ℕ, ◌+◌, ◌-◌, ◌^◌, min, nat_lt, if◌then◌else◌, Option, Some, None}
 
 -- the greatest freshness

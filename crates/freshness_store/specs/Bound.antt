@@ -1,4 +1,5 @@
--- The cell of a bound: the 32 bytes in which a store keeps how far the freshness of a route may have gone (own; a route is a Data ID of AUTOSAR SecOC and a direction).
+-- The cell of a bound: the 32 bytes in which a store keeps how far the freshness of a route may have gone (own; a route
+-- is a Data ID of AUTOSAR SecOC and a direction).
 use Rattle.std.specs.Prelude.{◌≡◌, ℕ, ◌<◌, ◌^◌, List, ◌∷◌, ◌++◌, replicate}
 use Rattle.byte_lists.specs.Numbers.{bytes_of}
 use Rattle.freshness_routes.specs.declared.routes.Direction.{Direction}

@@ -1,5 +1,6 @@
 -- The cell of a place of a ledger: the 32 bytes in which a store keeps it (own)
-use Rattle.std.specs.Prelude.{◌≡◌, ◌⊎◌, ℕ, ◌<◌, Option, None, Some, List, [], ◌∷◌, ◌++◌, length, map, take, replicate, slice_index_or}
+use Rattle.std.specs.Prelude.{◌≡◌, ◌⊎◌, ℕ, ◌<◌, Option, None, Some, List, [], ◌∷◌, ◌++◌, length, map, take, replicate}
+use Rattle.std.specs.Prelude.{slice_index_or}
 use Rattle.byte_lists.specs.Numbers.{bytes_of}
 use Rattle.key_slots.specs.Flags.{bit}
 use Rattle.campaign_machine.specs.declared.entries.LedgerEntry.{LedgerEntry}

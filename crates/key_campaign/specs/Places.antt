@@ -1,7 +1,8 @@
 -- What is found in the places of a ledger (own)
 use Rattle.std.specs.Prelude.{◌≡◌, ℕ, ◌+◌, ◌<◌, ◌≤◌, Option, None, Some, List, length, take}
 use Rattle.campaign_machine.specs.declared.entries.LedgerEntry.{LedgerEntry}
-use Rattle.campaign_machine.specs.Entries.{place_count, greatest_counter, place_for, entry_at, entry_for, last_issued, TakesPlace}
+use Rattle.campaign_machine.specs.Entries.{place_count, greatest_counter, place_for, entry_at, entry_for, last_issued}
+use Rattle.campaign_machine.specs.Entries.{TakesPlace}
 use Rattle.campaign_machine.specs.Steps.{HasNoPlace}
 use Rattle.key_campaign.specs.Cell.{HoldEntries}
 use Rattle.key_campaign.specs.declared.faults.LedgerFault.{LedgerFault}

@@ -1,5 +1,6 @@
 -- The pairs as a set and as a test
-use Rattle.std.proofs.Common.{◌≡◌, ℕ, ◌<◌, List, length, get_or, Bool, true, ◌&&◌, ◌==◌, nat_le, Contains, refl, sym, ap, ◌∙◌, arith, inl, inr, false, ◌↔◌, IsTrue}
+use Rattle.std.proofs.Common.{◌≡◌, ℕ, ◌<◌, List, length, get_or, Bool, true, ◌&&◌, ◌==◌, nat_le, Contains, refl, sym}
+use Rattle.std.proofs.Common.{ap, ◌∙◌, arith, inl, inr, false, ◌↔◌, IsTrue}
 use Rattle.std.specs.List.{list_all}
 use Rattle.std.proofs.lemmas.Bool.{cases_Bool, false≢true, and_parts, and_from}
 use Rattle.std.proofs.lemmas.Bool.Decides.{nat_tests, Decides-eqb}

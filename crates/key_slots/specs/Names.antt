@@ -4,7 +4,8 @@ use Rattle.std.specs.Fmt.{decimal}
 use Rattle.key_slots.specs.declared.memory.Slot.{Slot}
 use Rattle.key_slots.specs.declared.memory.Slot.TheVariants.{Empty, Filled}
 use Rattle.key_slots.specs.declared.refusals.Erc.{Erc}
-use Rattle.key_slots.specs.declared.refusals.Erc.TheVariants.{KeyNotAvailable, KeyInvalid, KeyEmpty, NoSecureBoot, KeyWriteProtected, KeyUpdateError, SequenceError}
+use Rattle.key_slots.specs.declared.refusals.Erc.TheVariants.{KeyNotAvailable, KeyInvalid, KeyEmpty, NoSecureBoot}
+use Rattle.key_slots.specs.declared.refusals.Erc.TheVariants.{KeyWriteProtected, KeyUpdateError, SequenceError}
 use Rattle.key_slots.specs.Flags.{flags_number}
 
 -- the printed name of a refusal

@@ -1,5 +1,6 @@
 -- What a slot holds, and what the fourteen do
-use Rattle.std.specs.Prelude.{◌≡◌, ℕ, ◌<◌, ◌^◌, List, length, All, Bool, true, false, Option, Some, None, slice_index_or}
+use Rattle.std.specs.Prelude.{◌≡◌, ℕ, ◌<◌, ◌^◌, List, length, All, Bool, true, false, Option, Some, None}
+use Rattle.std.specs.Prelude.{slice_index_or}
 use Rattle.she_aes.specs.Cipher.{IsBlock}
 use Rattle.key_slots.specs.declared.memory.Flags.{Flags}
 use Rattle.key_slots.specs.declared.memory.Slot.{Slot}

@@ -25,13 +25,11 @@ use Rattle.bus_nodes.specs.declared.nodes.NodeLine.{NodeLine}
 use Rattle.bus_nodes.specs.Buses.{NamedBus}
 use Rattle.secoc_node.proofs.FitsLaws.{FoundCells, told_before}
 use Rattle.bus_world.proofs.FoundLaws.{counted_once}
-use Rattle.bus_world.specs.declared.opening.OpenFault.{OpenFault}
-use Rattle.bus_world.specs.declared.opening.OpenFault.TheVariants as open_fault
 use Rattle.bus_world.specs.declared.start.Start.TheVariants.{Attach}
 use Rattle.bus_world.specs.declared.start.StartFault.{StartFault}
 use Rattle.bus_world.specs.declared.start.StartFault.TheVariants as start_fault
 use Rattle.bus_world.specs.TakingUp.{cells_in, KeptOn, FailedOver, LeavesDisk}
-use Rattle.bus_world.specs.Starts.{NotStarted, RefusedAt}
+use Rattle.bus_world.specs.Starts.{NotStarted, OfNumber}
 use Rattle.bus_world.specs.StartRows.{CanStart, LeavesEach}
 use Rattle.bus_world.specs.StartRowLaws.{no_disk, no_line, start_leaves}
 use Rattle.life_laws.specs.Lives.{Life, IsLife, LeftToNext, NoNewer, NoneNewer, UnfinishedStart, WasInTwo, GoesOnAs}
@@ -369,14 +367,18 @@ module _ (life : Life) (has : HasConfigs life.bus life.first) (run : IsLife life
             (subst (λ (k : Kind). CanStart Attach k next.version node.config now.now.bytes) (sym as_bus.same_kind) able),
       )
 
-  -- no node is refused for its bytes
-  not_refused : (starts : List UnfinishedStart) (next : NamedBus) (before after : List DiskState) (number : ℕ)
-      (fault : OpenFault) → LeftBehindStarts life starts before → GoesOnAs life.bus starts next before
-      → NoneNewer next before → RefusedAt Attach next before after number fault → ⊥
-  not_refused starts next before after number fault left as_bus none of =
-      let inside : number - 1 < length next.nodes = omega (arith, of.least, of.most) in
-      let able = starts_leave_nodes starts next before left as_bus none (number - 1) no_line no_disk inside in
-      ((of.disk no_line no_disk).0 able.0 able.1).none able.2.0 able.2.1
+  -- no node of it is refused for its bytes, where that says that nothing could be started over them
+  not_refused : {P : Config → DiskState → DiskState → Type 0} (starts : List UnfinishedStart) (next : NamedBus)
+      (before after : List DiskState) (number : ℕ) → LeftBehindStarts life starts before
+      → GoesOnAs life.bus starts next before → NoneNewer next before → OfNumber Attach next before after number P
+      → ((config : Config) (old new : DiskState) (t : Told) (kept : Kept) → P config old new → old.told ≡ Some t
+      → KeptOn Attach next.kind next.version config t.bytes kept → ⊥) → ⊥
+  not_refused starts next before after number left as_bus none of refuses =
+      let k : ℕ = number - 1 in
+      let inside : k < length next.nodes = omega (arith, of.least, of.most) in
+      let able = starts_leave_nodes starts next before left as_bus none k no_line no_disk inside in
+      refuses (get_or next.nodes k no_line).config (get_or before k no_disk) (get_or after k no_disk) able.0 able.2.0
+      (of.disk no_line no_disk) able.1 able.2.1
 
   blames : (starts : List UnfinishedStart) (next : NamedBus) (before after : List DiskState) (fault : StartFault)
       → LeftBehindStarts life starts before → GoesOnAs life.bus starts next before → NoneNewer next before
@@ -385,13 +387,17 @@ module _ (life : Life) (has : HasConfigs life.bus life.first) (run : IsLife life
   blames starts next before after (start_fault.TooSmall node) left as_bus none refused = tt
   blames starts next before after (start_fault.Store node reread.DiskFailed) left as_bus none refused = tt
   blames starts next before after (start_fault.Store node reread.NotFormatted) left as_bus none refused =
-      not_refused starts next before after node (open_fault.Store reread.NotFormatted) left as_bus none refused.cause
+      not_refused starts next before after node left as_bus none refused.cause
+      (λ config old new t kept p told k. (p.0 t told).none kept k)
   blames starts next before after (start_fault.Store node (reread.Damaged place)) left as_bus none refused =
-      not_refused starts next before after node (open_fault.Store (reread.Damaged place)) left as_bus none refused.cause
+      not_refused starts next before after node left as_bus none refused.cause
+      (λ config old new t kept p told k. (p.0 t told).none kept k)
   blames starts next before after (start_fault.BadSlot node slot) left as_bus none refused =
-      not_refused starts next before after node (open_fault.BadSlot slot) left as_bus none refused.cause
+      not_refused starts next before after node left as_bus none refused.cause
+      (λ config old new t kept p told k. (p.0 t told).none kept k)
   blames starts next before after (start_fault.BadBound node cell) left as_bus none refused =
-      not_refused starts next before after node (open_fault.BadBound cell) left as_bus none refused.cause
+      not_refused starts next before after node left as_bus none refused.cause
+      (λ config old new t kept p told k. (p.0 t told).none kept k)
   blames starts next before after start_fault.Memory left as_bus none refused = tt
 
   pub next_blames_no_bytes : NextBlamesNoBytes life

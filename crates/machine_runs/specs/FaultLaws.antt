@@ -35,7 +35,8 @@ Run-fails_within steps fails count each start (m ∷ ms) now run =
           (count_by fails (lines_in ms)) step.later step.rose rest.later rest.within);
     }
 
--- where a step from a quiet state that arms nothing stays quiet and doesn't fail, a run from a quiet state is quiet until something is armed
+-- where a step from a quiet state that arms nothing stays quiet and doesn't fail, a run from a quiet state is quiet
+-- until something is armed
 pub Run-quiet_until_armed : {C L S : Type 0} (steps : S → C → L → S → Type 0) (arms : C → Bool) (fails : L → Bool)
     (Quiet : S → Type 0)
     → ((s : S) (c : C) (l : L) (t : S) → Quiet s → arms c ≡ false → steps s c l t → Quiet t × (fails l ≡ false))

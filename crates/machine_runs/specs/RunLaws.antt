@@ -35,7 +35,8 @@ Run-keeps steps R keeps start done (m ∷ ms) now holds run =
     subst (λ xs. R xs now) (append_assoc done (m ∷ []) ms)
     (Run-keeps steps R keeps m.after (done ++ m ∷ []) ms now (keeps done start m holds run.0) run.1)
 
--- where each step from a state with P is, seen so, a step of another machine, and keeps P, a run is a run of the other machine
+-- where each step from a state with P is, seen so, a step of another machine, and keeps P, a run is a run of the other
+-- machine
 pub Run-seen_as : {C L S D T : Type 0} (steps : S → C → L → S → Type 0) (others : T → D → L → T → Type 0)
     (command : C → D) (state : S → T) (P : S → Type 0)
     → ((s : S) (c : C) (l : L) (t : S) → P s → steps s c l t → others (state s) (command c) l (state t) × P t)

@@ -1,10 +1,12 @@
 -- When an engine takes a key update (SHE specification, memory update protocol)
-use Rattle.std.specs.Prelude.{◌≡◌, ℕ, ◌<◌, ◌==◌, nat_lt, Bool, true, not, ◌&&◌, ◌||◌, Some, None, Result, Ok, Err, List, [], ◌∷◌, ◌++◌, replicate}
+use Rattle.std.specs.Prelude.{◌≡◌, ℕ, ◌<◌, ◌==◌, nat_lt, Bool, true, not, ◌&&◌, ◌||◌, Some, None, Result, Ok, Err, List}
+use Rattle.std.specs.Prelude.{[], ◌∷◌, ◌++◌, replicate}
 use Rattle.std.specs.Str.{bytes_eq}
 use Rattle.key_slots.specs.declared.memory.Slot.{Slot}
 use Rattle.key_slots.specs.declared.memory.Slot.TheVariants.{Empty, Filled}
 use Rattle.key_slots.specs.declared.refusals.Erc.{Erc}
-use Rattle.key_slots.specs.declared.refusals.Erc.TheVariants.{KeyNotAvailable, KeyInvalid, KeyEmpty, KeyWriteProtected, KeyUpdateError}
+use Rattle.key_slots.specs.declared.refusals.Erc.TheVariants.{KeyNotAvailable, KeyInvalid, KeyEmpty, KeyWriteProtected}
+use Rattle.key_slots.specs.declared.refusals.Erc.TheVariants.{KeyUpdateError}
 use Rattle.key_slots.specs.Authority.{is_pair}
 use Rattle.key_slots.specs.Slots.{slot_at, is_empty, flags_of, counter_of}
 use Rattle.key_slots.specs.Usage.{first_applying}
@@ -36,7 +38,8 @@ is_fit uid target authkey request =
     bytes_eq request.m3 (request_mac authkey request.m1 request.m2) && is_meant uid target update.uid
     && nat_lt (counter_of target) update.counter
 
--- the first four refusals, by ID and AuthID alone, each with its test; good says that a successful boot was made in this life
+-- the first four refusals, by ID and AuthID alone, each with its test; good says that a successful boot was made in
+-- this life
 abbrev pub head_refusals : List Slot → Bool → ℕ → ℕ → List (Bool × Erc)
 head_refusals slots good id auth =
     (not (is_pair id auth), KeyInvalid)

@@ -1,5 +1,6 @@
 -- Laws of loading: an answer holds, and at most one; and what an update that is taken has
-use Rattle.std.proofs.Common.{◌≡◌, ◌≢◌, ℕ, ◌<◌, Bool, true, false, not, ◌&&◌, ◌||◌, nat_lt, List, [], ◌∷◌, replicate, refl, sym, ap, ◌∙◌, subst, arith}
+use Rattle.std.proofs.Common.{◌≡◌, ◌≢◌, ℕ, ◌<◌, Bool, true, false, not, ◌&&◌, ◌||◌, nat_lt, List, [], ◌∷◌, replicate}
+use Rattle.std.proofs.Common.{refl, sym, ap, ◌∙◌, subst, arith}
 use Rattle.std.specs.Prelude.{Option, Some, None, Result, Ok, Err}
 use Rattle.std.specs.Str.{bytes_eq}
 use Rattle.std.proofs.lemmas.Bool.{and_from, and_parts, not-false, lt-ltb, ltb-true, false_from_ne_true}
@@ -16,9 +17,12 @@ use Rattle.key_slots.specs.Slots.{slot_at, flags_of, counter_of, IsSlot, IsSlots
 use Rattle.key_slots.specs.SlotsLaws.{IsSlot-slot_at}
 use Rattle.key_slots.specs.Usage.{first_applying}
 use Rattle.key_slots.specs.UsageLaws.{none_of_first, none_of_append, first_applying-append}
-use Rattle.memory_update.specs.Messages.{Builds, Carries, HasSlots, IsRequest, IsUpdate, id_of, auth_of, request_mac, update_in}
-use Rattle.memory_update.specs.MessageLaws.{HeadOf-Carries, id_of-head, auth_of-head, Carries-Builds, Carries-update_in, update_in-carried, same_update}
-use Rattle.memory_update.specs.Loading.{slot_of, key_in, is_meant, is_fit, head_refusals, load_refusals, authorising_key, NoneRefuses, Allows}
+use Rattle.memory_update.specs.Messages.{Builds, Carries, HasSlots, IsRequest, IsUpdate, id_of, auth_of, request_mac}
+use Rattle.memory_update.specs.Messages.{update_in}
+use Rattle.memory_update.specs.MessageLaws.{HeadOf-Carries, id_of-head, auth_of-head, Carries-Builds, Carries-update_in}
+use Rattle.memory_update.specs.MessageLaws.{update_in-carried, same_update}
+use Rattle.memory_update.specs.Loading.{slot_of, key_in, is_meant, is_fit, head_refusals, load_refusals}
+use Rattle.memory_update.specs.Loading.{authorising_key, NoneRefuses, Allows}
 use Rattle.memory_update.specs.declared.messages.Request.{Request}
 use Rattle.memory_update.specs.declared.messages.Update.{Update}
 
@@ -148,7 +152,8 @@ is_meant-own uid target not_zero =
     ap (λ z. (bytes_eq uid uid || z) && not (z && (flags_of target).wildcard)) for_all
     ∙ ap (λ o. (o || false) && not (false && (flags_of target).wildcard)) own
 
--- a request that is built is taken, where the first four refusals don't apply, the authorising key is the given one and the target's counter is lower
+-- a request that is built is taken, where the first four refusals don't apply, the authorising key is the given one and
+-- the target's counter is lower
 pub Allows-Builds : (slots : List Slot) (good : Bool) (uid : List ℕ) (request : Request) (authkey : List ℕ) (u : Update)
     → IsBlock authkey → Builds request authkey u → key_in (slot_at slots u.auth) ≡ authkey
     → first_applying (head_refusals slots good u.id u.auth) ≡ None → u.uid ≡ uid → uid ≢ replicate 15 0

@@ -1,11 +1,13 @@
 -- Laws of the messages of a key update
-use Rattle.std.proofs.Common.{◌≡◌, ℕ, ◌+◌, ◌*◌, ◌/◌, ◌%◌, ◌^◌, ◌<◌, List, [], ◌∷◌, ◌++◌, length, get_or, take, drop, min, refl, sym, ap, ◌∙◌, subst, arith}
+use Rattle.std.proofs.Common.{◌≡◌, ℕ, ◌+◌, ◌*◌, ◌/◌, ◌%◌, ◌^◌, ◌<◌, List, [], ◌∷◌, ◌++◌, length, get_or, take, drop}
+use Rattle.std.proofs.Common.{min, refl, sym, ap, ◌∙◌, subst, arith}
 use Rattle.std.specs.List.{All, concat}
 use Rattle.std.proofs.Math.Seq.{take-append_seam, drop-append_seam, take-length}
 use Rattle.std.proofs.lemmas.List.{append-nil, take_more, length-take}
 use Rattle.std.proofs.lemmas.List.Elements.{All-nil, All-cons, All-head, All-tail, All-take, All-get_or}
 use Rattle.byte_lists.specs.Numbers.{number_of, bytes_of}
-use Rattle.byte_lists.specs.NumberLaws.{IsBytes-bytes_of, number_of-lt, number_of-bytes_of-lt, bytes_of-number_of, number_of-append, bytes_of-append}
+use Rattle.byte_lists.specs.NumberLaws.{IsBytes-bytes_of, number_of-lt, number_of-bytes_of-lt, bytes_of-number_of}
+use Rattle.byte_lists.specs.NumberLaws.{number_of-append, bytes_of-append}
 use Rattle.key_slots.specs.declared.memory.Flags.{Flags}
 use Rattle.key_slots.specs.Flags.{flags_number, flags_from}
 use Rattle.key_slots.specs.FlagsLaws.{flags_number-lt, flags_from-number, flags_number-from}
@@ -19,7 +21,8 @@ use Rattle.she_kdf.specs.DerivationLaws.{IsBlock-kdf}
 use Rattle.she_kdf.specs.declared.Constant.TheVariants.{Enc, Mac}
 use Rattle.she_cmac.specs.Cmac.{cmac}
 use Rattle.she_cmac.specs.CmacLaws.{IsBlock-cmac}
-use Rattle.memory_update.specs.Messages.{two_blocks, head_number, plain, request_mac, Carries, Builds, Confirms, id_of, auth_of, HasSlots, HeadOf, head_in, text_in, update_in, IsUid, IsRequest}
+use Rattle.memory_update.specs.Messages.{two_blocks, head_number, plain, request_mac, Carries, Builds, Confirms, id_of}
+use Rattle.memory_update.specs.Messages.{auth_of, HasSlots, HeadOf, head_in, text_in, update_in, IsUid, IsRequest}
 use Rattle.memory_update.specs.declared.messages.Head.{Head}
 use Rattle.memory_update.specs.declared.messages.Update.{Update}
 use Rattle.memory_update.specs.declared.messages.Request.{Request}

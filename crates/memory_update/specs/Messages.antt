@@ -121,7 +121,8 @@ pub record Confirms (reply : Reply) (u : Update) (uid : List ℕ) : Type 0 where
       ≡ two_blocks (number_of uid * 2 ^ 136 + u.id * 2 ^ 132 + u.auth * 2 ^ 128 + number_of (sealed_counter u))
   pub m5_is : reply.m5 ≡ cmac (kdf u.key Mac) (concat reply.m4)
 
--- two confirmed updates are the same as far as a reply tells: the engine's UID, the slots, and under one key the counter
+-- two confirmed updates are the same as far as a reply tells: the engine's UID, the slots, and under one key the
+-- counter
 pub record SameConfirmed (uid other : List ℕ) (u v : Update) : Type 0 where
   pub uid_is : uid ≡ other
   pub id_is : u.id ≡ v.id

@@ -26,7 +26,8 @@ pub record LastRefused {C L S T E : Type 0} (takes : T → ℕ → L → T → R
   pub taken : TakenUp takes 1 before (lines_in front) mid
   pub refused : takes mid (length moments) last.line after (Err cause)
 
--- the answer: all commands were done, and each line was taken up; or the last that was done is the one whose line was refused
+-- the answer: all commands were done, and each line was taken up; or the last that was done is the one whose line was
+-- refused
 abbrev pub Consumed : {C L S T E : Type 0} → (T → ℕ → L → T → Result (Unit {0}) E → Type 0) → T → T → List C
     → Result (Unit {0}) E → List (Moment C L S) → Type 0
 Consumed takes before after commands result moments =

@@ -14,7 +14,8 @@ abbrev pub texts : {L : Type 0} → (ℕ → L → List ℕ) → ℕ → List L 
 texts text number [] = []
 texts text number (line ∷ lines) = text number line ++ texts text (number + 1) lines
 
--- the text of a line was written whole; or a proper front of it, where the count of faults rose; or nothing, where it found no memory
+-- the text of a line was written whole; or a proper front of it, where the count of faults rose; or nothing, where it
+-- found no memory
 abbrev pub WritesLine : {L : Type 0} → (ℕ → L → List ℕ) → SinkState → ℕ → L → SinkState → Result (Unit {0}) Unwritten
     → Type 0
 WritesLine text before number line after (Ok _) = AppendedWell before after (text number line)
@@ -22,8 +23,8 @@ WritesLine text before number line after (Err SinkFailed) =
     Rose before.faults after.faults × AppendedPart before after (text number line)
 WritesLine text before number line after (Err Memory) = after ≡ before
 
--- what was written where the text `last` wasn't, after the texts `whole`: these, and of `last` a proper front, where the count of faults
--- rose; or these alone, where it found no memory
+-- what was written where the text `last` wasn't, after the texts `whole`: these, and of `last` a proper front, where
+-- the count of faults rose; or these alone, where it found no memory
 abbrev pub WrittenPart : SinkState → SinkState → List ℕ → List ℕ → Unwritten → Type 0
 WrittenPart before after whole last SinkFailed =
     Rose before.faults after.faults × (n : ℕ) × (n < length last) × Appended before after (whole ++ take n last)
@@ -37,7 +38,8 @@ pub record LastUnwritten {C L S : Type 0} (text : ℕ → L → List ℕ) (befor
   pub all : moments ≡ front ++ last ∷ []
   pub written : WrittenPart before after (texts text 1 (lines_in front)) (text (length moments) last.line) cause
 
--- the answer: all commands were done, and the text of each line was written; or the last that was done is the one whose text wasn't
+-- the answer: all commands were done, and the text of each line was written; or the last that was done is the one whose
+-- text wasn't
 abbrev pub Written : {C L S : Type 0} → (ℕ → L → List ℕ) → SinkState → SinkState → List C → Result (Unit {0}) Unwritten
     → List (Moment C L S) → Type 0
 Written text before after commands result moments =
@@ -45,7 +47,8 @@ Written text before after commands result moments =
     (λ _. (length moments ≡ length commands) × AppendedWell before after (texts text 1 (lines_in moments)))
     (LastUnwritten text before after moments)
 
--- the first commands were done as a run, up to the first whose text wasn't written, and the texts of the lines are in the sink
+-- the first commands were done as a run, up to the first whose text wasn't written, and the texts of the lines are in
+-- the sink
 abbrev pub Printed : {C L S : Type 0} → (S → C → L → S → Type 0) → (ℕ → L → List ℕ) → S → S → SinkState → SinkState
     → List C → Result (Unit {0}) Unwritten → Type 0
 Printed steps text start now before after commands result =

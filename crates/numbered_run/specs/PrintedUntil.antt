@@ -18,12 +18,14 @@ WritesUntil text ends before number line after (Err Last) =
 WritesUntil text ends before number line after (Err (Unprinted cause)) =
     WritesLine text before number line after (Err cause)
 
--- what was written at the last moment, after the texts `whole`: its text too, where its line is a last one; or what the cause says
+-- what was written at the last moment, after the texts `whole`: its text too, where its line is a last one; or what the
+-- cause says
 abbrev pub EndsBy : {L : Type 0} → (L → Bool) → SinkState → SinkState → List ℕ → L → List ℕ → Stop → Type 0
 EndsBy ends before after whole line last Last = AppendedWell before after (whole ++ last) × (ends line ≡ true)
 EndsBy ends before after whole line last (Unprinted cause) = WrittenPart before after whole last cause
 
--- the texts of all moments but the last were written whole, no line of theirs is a last one, and at the last moment it ended
+-- the texts of all moments but the last were written whole, no line of theirs is a last one, and at the last moment it
+-- ended
 pub record LastStopped {C L S : Type 0} (text : ℕ → L → List ℕ) (ends : L → Bool) (before after : SinkState)
     (moments : List (Moment C L S)) (stop : Stop) : Type 0 where
   pub front : List (Moment C L S)
@@ -33,7 +35,8 @@ pub record LastStopped {C L S : Type 0} (text : ℕ → L → List ℕ) (ends : 
   pub written : EndsBy ends before after (texts text 1 (lines_in front)) last.line
       (text (length moments) last.line) stop
 
--- the answer: all commands were done, the text of each line was written, and none is a last one; or it ended at the last that was done
+-- the answer: all commands were done, the text of each line was written, and none is a last one; or it ended at the
+-- last that was done
 abbrev pub WrittenUntil : {C L S : Type 0} → (ℕ → L → List ℕ) → (L → Bool) → SinkState → SinkState → List C
     → Result (Unit {0}) Stop → List (Moment C L S) → Type 0
 WrittenUntil text ends before after commands result moments =

@@ -1,8 +1,10 @@
 -- The causes of a call's statuses, asked in an order: the first that stands is answered.
 use Rattle.std.specs.Prelude.{ℤ, ◌≡◌, ◌⊎◌}
 use Rattle.key_slots.specs.declared.refusals.Erc.{Erc}
-use Rattle.key_slots.specs.declared.refusals.Erc.TheVariants.{KeyNotAvailable, KeyInvalid, KeyEmpty, NoSecureBoot, KeyWriteProtected, KeyUpdateError, SequenceError}
-use Rattle.rathonsi_c.specs.declared.TheConstants.{OK, DAMAGED, KEY_EMPTY, KEY_INVALID, KEY_NOT_AVAILABLE, KEY_WRITE_PROTECTED, KEY_UPDATE_ERROR}
+use Rattle.key_slots.specs.declared.refusals.Erc.TheVariants.{KeyNotAvailable, KeyInvalid, KeyEmpty, NoSecureBoot}
+use Rattle.key_slots.specs.declared.refusals.Erc.TheVariants.{KeyWriteProtected, KeyUpdateError, SequenceError}
+use Rattle.rathonsi_c.specs.declared.TheConstants.{OK, DAMAGED, KEY_EMPTY, KEY_INVALID, KEY_NOT_AVAILABLE}
+use Rattle.rathonsi_c.specs.declared.TheConstants.{KEY_WRITE_PROTECTED, KEY_UPDATE_ERROR}
 
 -- where the cause stands, this is the answer, and else it is as the rest says
 abbrev pub IfCause : {A : Type 0} → Type 0 → A → (A → Type 0) → A → Type 0

@@ -109,7 +109,8 @@ pub record FinishesPlan (a b : Memory) : Type 0 where
   pub done : PlanDone a.image a.plan b.image b.plan
   pub routes : SameRoutes a b
 
--- the image is what the power left that went within the plan, the plan is empty, and every route was filled in and opened
+-- the image is what the power left that went within the plan, the plan is empty, and every route was filled in and
+-- opened
 pub record PowerBack (n : ℕ) (a b : Memory) : Type 0 where
   pub left : CutWithin a.plan a.image b.image
   pub empty : IsEmptyPlan b.plan
@@ -219,7 +220,8 @@ BeginsNone planned drops = Unit {0}
 BeginsNone planned finishes = planned ≡ false
 BeginsNone planned powers_up = planned ≡ false
 
--- no update of this slot was done or begun: none was planned, or it was dropped before a plan was done or the power went
+-- no update of this slot was done or begun: none was planned, or it was dropped before a plan was done or the power
+-- went
 abbrev pub NoneBegun : ℕ → Bool → List Deed → Type 0
 NoneBegun slot planned [] = Unit {0}
 NoneBegun slot planned (deed ∷ deeds) =

@@ -1,5 +1,6 @@
 -- Routes over the image of a store, and what the calls on them do and answer.
-use Rattle.std.specs.Prelude.{ℤ, ◌≡◌, ℕ, ◌+◌, ◌-◌, ◌^◌, ◌<◌, ◌≤◌, ◌==◌, ◌⊎◌, min, nat_lt, if◌then◌else◌, Bool, List, length}
+use Rattle.std.specs.Prelude.{ℤ, ◌≡◌, ℕ, ◌+◌, ◌-◌, ◌^◌, ◌<◌, ◌≤◌, ◌==◌, ◌⊎◌, min, nat_lt, if◌then◌else◌, Bool, List}
+use Rattle.std.specs.Prelude.{length}
 use Rattle.key_slots.specs.declared.refusals.Erc.{Erc}
 use Rattle.freshness_routes.specs.declared.routes.Direction.{Direction}
 use Rattle.freshness_routes.specs.declared.routes.Direction.TheVariants.{Sends, Receives}
@@ -8,7 +9,8 @@ use Rattle.secured_pdu.specs.Frame.{IsPayload, IsFrame, IsWindow, Secured}
 use Rattle.secured_pdu.specs.Verdict.{Outcome, Verdict, Accepted, FreshnessFailure, VerificationFailure}
 use Rattle.store_plan.specs.declared.planning.Plan.{Plan}
 use Rattle.store_plan.specs.Plans.{PlansPut, IsEmptyPlan}
-use Rattle.rathonsi_c.specs.declared.TheConstants.{OK, BAD_LENGTH, BAD_VALUE, FRESHNESS_FAILURE, VERIFICATION_FAILURE, DAMAGED, BUSY, RESERVE, EXHAUSTED}
+use Rattle.rathonsi_c.specs.declared.TheConstants.{OK, BAD_LENGTH, BAD_VALUE, FRESHNESS_FAILURE, VERIFICATION_FAILURE}
+use Rattle.rathonsi_c.specs.declared.TheConstants.{DAMAGED, BUSY, RESERVE, EXHAUSTED}
 use Rattle.rathonsi_c.specs.declared.secoc.RathonsiVerdict.{RathonsiVerdict}
 use Rattle.rathonsi_c.specs.declared.route.RathonsiRoute.{RathonsiRoute}
 use Rattle.rathonsi_c.specs.Causes.{IfCause, IsDone, erc_status}

@@ -47,7 +47,8 @@ state_in known store = record { node = node_in known; store = store }
 abbrev pub KeepsNode : Node → CellsState → Type 0
 KeepsNode node store = HoldsKept (node_keeping node) store
 
--- the node is sound, its engine is its own, each route has its counter, and while it is up its store has the cells of what it keeps
+-- the node is sound, its engine is its own, each route has its counter, and while it is up its store has the cells of
+-- what it keeps
 pub record IsNode (known : Known) (store : CellsState) : Type 0 where
   pub sound : Sound (node_in known)
   pub own : known.engine.uid ≡ known.config.uid

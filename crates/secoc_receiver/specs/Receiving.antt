@@ -18,7 +18,8 @@ use Rattle.bus_machine.specs.declared.lines.Refusal.TheVariants as refusal
 use Rattle.bus_machine.specs.Node.{Node, bound_to, place_of, with_counter, failed}
 use Rattle.bus_machine.specs.Steps.{receive_change}
 use Rattle.secoc_receiver.specs.declared.receiver.Reception.{Reception}
-use Rattle.secoc_receiver.specs.declared.receiver.Reception.TheVariants.{Accepted, FreshnessFailure, VerificationFailure}
+use Rattle.secoc_receiver.specs.declared.receiver.Reception.TheVariants.{Accepted, FreshnessFailure}
+use Rattle.secoc_receiver.specs.declared.receiver.Reception.TheVariants.{VerificationFailure}
 use Rattle.secoc_receiver.specs.declared.receiver.ReceiveFault.{ReceiveFault}
 use Rattle.secoc_receiver.specs.declared.receiver.ReceiveFault.TheVariants.{BadLength, Key, Faulted}
 
@@ -42,7 +43,8 @@ outcome_in pdu (Accepted freshness len) = verdict.Accepted (take len pdu) freshn
 outcome_in pdu FreshnessFailure = verdict.FreshnessFailure
 outcome_in pdu VerificationFailure = verdict.VerificationFailure
 
--- what holds where the PDU is accepted with a freshness and a payload of this length, where it isn't, and where it isn't and no bound was to be put
+-- what holds where the PDU is accepted with a freshness and a payload of this length, where it isn't, and where it
+-- isn't and no bound was to be put
 abbrev pub IfAccepted : Result Reception ReceiveFault → (ℕ → ℕ → Type 0) → Type 0
 IfAccepted (Ok (Accepted freshness len)) P = P freshness len
 IfAccepted _ P = Unit {0}
@@ -63,7 +65,8 @@ FaultedWith (Faulted bound) rx freshness old new =
     × FailsChange rx.place rx.id Receives (Some bound) old new
 FaultedWith _ rx freshness old new = ⊥
 
--- the PDU is authentic with a freshness ahead, which the bound no longer covers, and the put of the bound that does failed
+-- the PDU is authentic with a freshness ahead, which the bound no longer covers, and the put of the bound that does
+-- failed
 pub record FaultedAt (bound : ℕ) (engine : Engine) (rx : ReceiverCounter) (route : Route) (pdu : List ℕ)
     (old new : CellsState) : Type 0 where
   pub payload : List ℕ
@@ -88,8 +91,8 @@ line_of_receive id pdu source (Err BadLength) = Refused refusal.BadLength
 line_of_receive id pdu source (Err (Key erc)) = Refused (refusal.Key erc)
 line_of_receive id pdu source (Err (Faulted bound)) = Refused refusal.MemoryFailure
 
--- the machine's node after it: its counter is the accepted freshness, and its bound rose if that was due; or it waits for the bound that
--- was to be put
+-- the machine's node after it: its counter is the accepted freshness, and its bound rose if that was due; or it waits
+-- for the bound that was to be put
 abbrev pub after_receive : Node → ℕ → Result Reception ReceiveFault → Node
 after_receive node id (Ok (Accepted freshness len)) =
     with_counter (receive_change node (place_of node id Receives) freshness) (place_of node id Receives) freshness node

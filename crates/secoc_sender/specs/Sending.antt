@@ -35,7 +35,8 @@ line_of_send id (Err (Key erc)) out = Refused (refusal.Key erc)
 line_of_send id (Err Exhausted) out = Refused refusal.Exhausted
 line_of_send id (Err (Faulted bound)) out = Refused refusal.MemoryFailure
 
--- the machine's node after the send: its counter rose, and its bound if that was due; or it waits for the bound that was to be put
+-- the machine's node after the send: its counter rose, and its bound if that was due; or it waits for the bound that
+-- was to be put
 abbrev pub after_send : Node → ℕ → Result Sent SendFault → Node
 after_send node id (Ok sent) =
     with_counter (send_change node (place_of node id Sends)) (place_of node id Sends) sent.freshness node

@@ -1,4 +1,5 @@
--- What a key, two blocks, a Data ID or a freshness means by its form: the value, or none where the word isn't of the form.
+-- What a key, two blocks, a Data ID or a freshness means by its form: the value, or none where the word isn't of the
+-- form.
 use Rattle.std.specs.Prelude.{ℕ, ◌==◌, if◌then◌else◌, List, [], ◌∷◌, length, take, drop, Option, Some, None, option_map}
 use Rattle.std.specs.Result.{result_ok}
 use Rattle.byte_lists.specs.Numbers.{number_of}

@@ -1,5 +1,6 @@
 -- The secure boot of the Secure Hardware Extensions (SHE specification, secure booting)
-use Rattle.std.specs.Prelude.{◌≡◌, ℕ, ◌*◌, ◌≤◌, ◌↔◌, List, ◌++◌, length, replicate, Bool, true, false, Result, Err, IsOkAnd, IsTrue}
+use Rattle.std.specs.Prelude.{◌≡◌, ℕ, ◌*◌, ◌≤◌, ◌↔◌, List, ◌++◌, length, replicate, Bool, true, false, Result, Err}
+use Rattle.std.specs.Prelude.{IsOkAnd, IsTrue}
 use Rattle.byte_lists.specs.Numbers.{bytes_of}
 use Rattle.key_slots.specs.declared.memory.Slot.{Slot}
 use Rattle.key_slots.specs.declared.memory.Slot.TheVariants.{Filled}
@@ -14,11 +15,13 @@ use Rattle.secure_boot.specs.declared.state.BootState.TheVariants.{Undecided, Go
 abbrev pub IsImage : List ℕ → Type 0
 IsImage image = (1 ≤ length image) × (length image ≤ 65536)
 
--- the boot MAC of an image under the boot MAC key: the CMAC of 96 zero bits, the image's length as 32 bits, and the image; that the length counts bits is own
+-- the boot MAC of an image under the boot MAC key: the CMAC of 96 zero bits, the image's length as 32 bits, and the
+-- image; that the length counts bits is own
 unfoldable pub bootmac : List ℕ → List ℕ → List ℕ
 bootmac key image = cmac key (replicate 12 0 ++ bytes_of 4 (8 * length image) ++ image)
 
--- a boot where the first of these slots is for the boot MAC key and the second for the boot MAC: it succeeds exactly where the image has that boot MAC
+-- a boot where the first of these slots is for the boot MAC key and the second for the boot MAC: it succeeds exactly
+-- where the image has that boot MAC
 abbrev pub BootsBy : Slot → Slot → List ℕ → Result Bool Erc → Type 0
 BootsBy (Filled key counter flags) (Filled mac counter' flags') image answer =
     IsOkAnd answer (λ good. IsTrue good ↔ (mac ≡ bootmac key image))

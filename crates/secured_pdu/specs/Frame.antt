@@ -3,7 +3,8 @@ use Rattle.std.specs.Prelude.{◌≡◌, ℕ, ◌+◌, ◌%◌, ◌^◌, ◌<◌
 use Rattle.byte_lists.specs.Numbers.{bytes_of}
 use Rattle.she_cmac.specs.Cmac.{cmac}
 
--- the bytes that the authenticator covers: the Data ID in two bytes, the payload, the full freshness in eight bytes, all big-endian
+-- the bytes that the authenticator covers: the Data ID in two bytes, the payload, the full freshness in eight bytes,
+-- all big-endian
 unfoldable pub authenticated_input : ℕ → List ℕ → ℕ → List ℕ
 authenticated_input id payload freshness = bytes_of 2 id ++ payload ++ bytes_of 8 freshness
 

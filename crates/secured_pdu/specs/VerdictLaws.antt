@@ -5,7 +5,8 @@ use Rattle.std.proofs.lemmas.List.{take_at, get_or_at, append_cancel_left, lengt
 use Rattle.she_cmac.specs.Cmac.{cmac}
 use Rattle.secured_pdu.specs.Frame.{authenticated_input, assembled, secured_frame, IsPayload, IsWindow, Secured, Ahead}
 use Rattle.secured_pdu.specs.FrameLaws.{same_from_Ahead, payload_of_secured, low_of_secured}
-use Rattle.secured_pdu.specs.Verdict.{Outcome, Accepted, FreshnessFailure, VerificationFailure, payload_of, low_of, Verdict}
+use Rattle.secured_pdu.specs.Verdict.{Outcome, Accepted, FreshnessFailure, VerificationFailure, payload_of, low_of}
+use Rattle.secured_pdu.specs.Verdict.{Verdict}
 
 -- a freshness that is accepted is not one that fails
 accepted_not_failed : (key : List ℕ) (id c w : ℕ) (frame p : List ℕ) (v : ℕ) → IsWindow w

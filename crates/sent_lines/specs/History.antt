@@ -1,5 +1,6 @@
 -- What a world keeps of the past: how many events there were, and which lines were sent
-use Rattle.std.specs.Prelude.{◌≡◌, ℕ, ◌+◌, ◌^◌, ◌<◌, ◌≤◌, ◌&&◌, ◌==◌, bytes_eq, Bool, true, Option, List, [], ◌∷◌, ◌++◌, length, get_or, find, option_map}
+use Rattle.std.specs.Prelude.{◌≡◌, ℕ, ◌+◌, ◌^◌, ◌<◌, ◌≤◌, ◌&&◌, ◌==◌, bytes_eq, Bool, true, Option, List, [], ◌∷◌, ◌++◌}
+use Rattle.std.specs.Prelude.{length, get_or, find, option_map}
 use Rattle.bus_machine.specs.declared.lines.Line.{Line}
 use Rattle.bus_machine.specs.declared.lines.Line.TheVariants.{Sent}
 use Rattle.bus_machine.specs.Bus.{SentLine}
@@ -38,7 +39,8 @@ frame_in number lines = option_map (λ s. record { id = s.id; pdu = s.pdu }) (fi
 abbrev pub has_values : ℕ → List ℕ → ℕ → SentLine → Bool
 has_values id payload v s = (s.id == id) && bytes_eq s.payload payload && (s.freshness == v)
 
--- the records of so many events, of at most so many, in room for so many lines, and the places of the latest ones by Data ID
+-- the records of so many events, of at most so many, in room for so many lines, and the places of the latest ones by
+-- Data ID
 pub record WellKept (events most room : ℕ) (records : List Record) (latest : List (Option ℕ))
     (rising : Bool) : Type 0 where
   pub within : events ≤ most

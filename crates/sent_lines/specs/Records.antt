@@ -18,7 +18,8 @@ IsLatest records id bound (Some j) =
     (j < bound) × ((d : Record) → (get_or records j d).id ≡ id)
     × ((k : ℕ) (d : Record) → j < k → k < bound → (get_or records k d).id ≢ id)
 
--- links of a record of this Data ID at this place: to the latest earlier record of the Data ID, and to any earlier one of it
+-- links of a record of this Data ID at this place: to the latest earlier record of the Data ID, and to any earlier one
+-- of it
 pub record LinkedAt (records : List Record) (place id : ℕ) (links : Option Links) : Type 0 where
   pub last : IsLatest records id place (option_map (λ (l : Links). l.last) links)
   pub far : (l : Links) → links ≡ Some l → (l.far < place) × ((d : Record) → (get_or records l.far d).id ≡ id)
@@ -63,7 +64,8 @@ UpTo records id v (Some next) =
     × ((d : Record) → (get_or records next d).id ≡ id)
     × ((k : ℕ) → k < length records → HasAt records id v k → k ≤ next)
 
--- of the records before this place and of its Data ID, one with the freshness stands at or before `next`, if it stands anywhere
+-- of the records before this place and of its Data ID, one with the freshness stands at or before `next`, if it stands
+-- anywhere
 abbrev pub BelowNext : List Record → ℕ → ℕ → Option ℕ → Type 0
 BelowNext records place v None =
     (k : ℕ) (d : Record) → k < place → (get_or records k d).id ≡ (get_or records place d).id

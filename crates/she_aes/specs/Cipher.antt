@@ -1,6 +1,7 @@
 -- AES-128 (FIPS 197, section 5). A block is a list of 16 bytes. It fills the state column by column: byte i
 -- stands in row i mod 4 and column i div 4.
-use Rattle.std.specs.Prelude.{ℕ, zero, suc, ◌+◌, ◌-◌, ◌*◌, ◌/◌, ◌%◌, ◌==◌, if◌then◌else◌, List, [], ◌∷◌, ◌++◌, length, map, replicate, slice_index, slice_index_or, bit_xor}
+use Rattle.std.specs.Prelude.{ℕ, zero, suc, ◌+◌, ◌-◌, ◌*◌, ◌/◌, ◌%◌, ◌==◌, if◌then◌else◌, List, [], ◌∷◌, ◌++◌, length}
+use Rattle.std.specs.Prelude.{map, replicate, slice_index, slice_index_or, bit_xor}
 use Rattle.std.specs.List.{range_with_len}
 use Rattle.byte_lists.specs.Bytes.{IsBytes}
 use Rattle.she_aes.specs.Field.{mul, sub_byte, inv_sub_byte}

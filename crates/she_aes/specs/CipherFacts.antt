@@ -1,5 +1,6 @@
 -- Facts about the cipher: blocks go to blocks.
-use Rattle.std.proofs.Common.{◌≡◌, ℕ, zero, suc, ◌+◌, ◌-◌, ◌*◌, ◌/◌, ◌%◌, ◌<◌, List, [], length, slice_index, map, All, inl, inr, refl, sym, arith, lit<}
+use Rattle.std.proofs.Common.{◌≡◌, ℕ, zero, suc, ◌+◌, ◌-◌, ◌*◌, ◌/◌, ◌%◌, ◌<◌, List, [], length, slice_index, map, All}
+use Rattle.std.proofs.Common.{inl, inr, refl, sym, arith, lit<}
 use Rattle.std.specs.Prelude.{◌==◌}
 use Rattle.std.specs.List.{range_with_len}
 use Rattle.std.specs.Int.Bits.{bit_xor, xor_lt}
@@ -10,7 +11,11 @@ use Rattle.std.proofs.lemmas.List.FromFn.{get_or-map-range_with_len, length-map-
 use Rattle.she_aes.specs.Field.{mul, sub_byte, inv_sub_byte}
 use Rattle.she_aes.specs.FieldFacts.{mul-lt, sub_byte-lt, inv_sub_byte-lt}
 use Rattle.she_aes.specs.ReadBytes.{ReadsBytes}
-use Rattle.she_aes.specs.Cipher.{block_of, word_of, IsBlock, xor_blocks, add_round_key, sub_bytes, cell, shift_rows, circulant, on_columns, mix_columns, xor_words, sub_word, rot_word, power_of_x, rcon, added_word, word, next_word, words_up_to, key_words, round_key, after_rounds, cipher, enc, inv_sub_bytes, inv_shift_rows, inv_mix_columns, undone_rounds, inverse_cipher, dec, zero_block}
+use Rattle.she_aes.specs.Cipher.{block_of, word_of, IsBlock, xor_blocks, add_round_key, sub_bytes, cell, shift_rows}
+use Rattle.she_aes.specs.Cipher.{circulant, on_columns, mix_columns, xor_words, sub_word, rot_word, power_of_x, rcon}
+use Rattle.she_aes.specs.Cipher.{added_word, word, next_word, words_up_to, key_words, round_key, after_rounds, cipher}
+use Rattle.she_aes.specs.Cipher.{enc, inv_sub_bytes, inv_shift_rows, inv_mix_columns, undone_rounds, inverse_cipher}
+use Rattle.she_aes.specs.Cipher.{dec, zero_block}
 
 pub IsBlock-bytes : (s : List ℕ) → IsBlock s → ReadsBytes s
 IsBlock-bytes s block i =

@@ -1,5 +1,6 @@
 -- Facts about the field: a product is linear in its second factor, and is a byte.
-use Rattle.std.proofs.Common.{◌≡◌, ℕ, zero, suc, ◌+◌, ◌*◌, ◌/◌, ◌%◌, ◌^◌, ◌<◌, List, [], ◌∷◌, map, fold, refl, ap, sym, ◌∙◌, arith, add-zero, lt_of_lt_of_le, lit<, Bool, Some, find, unwrap_or, All}
+use Rattle.std.proofs.Common.{◌≡◌, ℕ, zero, suc, ◌+◌, ◌*◌, ◌/◌, ◌%◌, ◌^◌, ◌<◌, List, [], ◌∷◌, map, fold, refl, ap, sym}
+use Rattle.std.proofs.Common.{◌∙◌, arith, add-zero, lt_of_lt_of_le, lit<, Bool, Some, find, unwrap_or, All}
 use Rattle.std.specs.Prelude.{◌==◌}
 use Rattle.std.proofs.lemmas.Bool.{cond_both}
 use Rattle.std.proofs.lemmas.List.FromFn.{length-range_with_len, get_or-range_with_len}
@@ -9,7 +10,8 @@ use Rattle.std.specs.List.{range_with_len}
 use Rattle.std.proofs.lemmas.Nat.{pow_pos, pow-add, pow_below, shl_below, mod_below, div-add-mod', div_below}
 use Rattle.std.proofs.lemmas.Nat.Bits.{bit_at_xor, bit_at-lt}
 use Rattle.std.proofs.Math.Pow.{pow_mono}
-use Rattle.she_aes.specs.Field.{product, modulus, cancelled, remainder, mul, inv, affine_bit, affine, sub_byte, inv_affine_bit, inv_affine, inv_sub_byte}
+use Rattle.she_aes.specs.Field.{product, modulus, cancelled, remainder, mul, inv, affine_bit, affine, sub_byte}
+use Rattle.she_aes.specs.Field.{inv_affine_bit, inv_affine, inv_sub_byte}
 
 -- ---- exclusive or
 

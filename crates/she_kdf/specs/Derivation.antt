@@ -1,4 +1,5 @@
--- Key derivation (SHE specification): the compression of Miyaguchi and Preneel over AES-128. Keys and blocks are lists of 16 bytes.
+-- Key derivation (SHE specification): the compression of Miyaguchi and Preneel over AES-128. Keys and blocks are lists
+-- of 16 bytes.
 use Rattle.std.specs.Prelude.{ℕ, List, [], ◌∷◌, fold}
 use Rattle.she_aes.specs.Cipher.{zero_block, xor_blocks, enc}
 use Rattle.she_kdf.specs.declared.Constant.{Constant}

@@ -6,7 +6,8 @@ use Rattle.key_slots.specs.declared.memory.Slot.TheVariants.{Empty, Filled}
 use Rattle.key_slots.specs.Flags.{flags_number}
 use Rattle.key_slots.specs.Slots.{IsSlot, IsSlots}
 
--- an empty slot is 32 zero bytes; a filled one is a byte 1, its flags, its counter in four bytes, its key in 16, and ten zero bytes
+-- an empty slot is 32 zero bytes; a filled one is a byte 1, its flags, its counter in four bytes, its key in 16, and
+-- ten zero bytes
 unfoldable pub slot_cell : Slot → List ℕ
 slot_cell Empty = replicate 32 0
 slot_cell (Filled key counter flags) = 1 ∷ flags_number flags ∷ bytes_of 4 counter ++ key ++ replicate 10 0

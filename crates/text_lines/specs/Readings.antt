@@ -1,5 +1,6 @@
 -- What reading a text line by line gives: the list of what its lines mean, or the first fault.
-use Rattle.std.specs.Prelude.{◌≡◌, ◌⊎◌, ℕ, ◌-◌, ◌==◌, ◌<◌, nat_le, if◌then◌else◌, List, [], ◌∷◌, ◌++◌, length, take, slice_index_or, Option, Some, Result, Ok, Err, Vec}
+use Rattle.std.specs.Prelude.{◌≡◌, ◌⊎◌, ℕ, ◌-◌, ◌==◌, ◌<◌, nat_le, if◌then◌else◌, List, [], ◌∷◌, ◌++◌, length, take}
+use Rattle.std.specs.Prelude.{slice_index_or, Option, Some, Result, Ok, Err, Vec}
 use Rattle.std.specs.List.{slice_get}
 use Rattle.std.specs.Option.{ok_or}
 use Rattle.std.specs.declared.alloc.Global.{Global}
@@ -72,7 +73,8 @@ GivesLine meaning (Ok x) = meaning ≡ Ok x
 GivesLine meaning (Err (Refused cause)) = meaning ≡ Err cause
 GivesLine meaning (Err OutOfMemory) = Unit {0}
 
--- what a line of this number and these words adds to the values before it, or the fault that it is; want of memory is free
+-- what a line of this number and these words adds to the values before it, or the fault that it is; want of memory is
+-- free
 abbrev pub ReadsOne : {A : Type 0} → (List A → List (List ℕ) → Result A Cause) → ℕ → ℕ → List (List ℕ) → List A → List A
     → Result (Unit {0}) ScriptFault → Type 0
 ReadsOne {A} means most number words before after (Ok done) =

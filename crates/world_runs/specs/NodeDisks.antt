@@ -1,5 +1,6 @@
 -- The disks of a bus: each is seen at its node
-use Rattle.std.specs.Prelude.{◌≡◌, ℕ, ◌<◌, ◌&&◌, ◌==◌, Bool, true, false, cond, Option, None, Some, List, length, drop, get_or}
+use Rattle.std.specs.Prelude.{◌≡◌, ℕ, ◌<◌, ◌&&◌, ◌==◌, Bool, true, false, cond, Option, None, Some, List, length, drop}
+use Rattle.std.specs.Prelude.{get_or}
 use Rattle.cut_disk.specs.declared.Mark.{Mark}
 use Rattle.cut_disk.specs.State.{DiskState, Told, Entry}
 use Rattle.cut_disk.specs.Calls.{IsQuiet, Later}
