@@ -1,6 +1,5 @@
 -- What is known of a disk over a file that was opened just now
-use Rattle.std.proofs.Common.{◌≡◌, ℕ, replicate, Some, false, refl, sym, ap, ◌∙◌}
-use Rattle.cut_disk.specs.State.{Told}
+use Rattle.std.proofs.Common.{ℕ, replicate, Some, false, refl, sym, ap, ◌∙◌}
 use Rattle.file_disk.specs.FileDisk.{FileContents, file_disk_of, IsJustOpened}
 use Rattle.named_disks.specs.NamedDisks.{IsFreshFileDisk, TellsFirmBytes}
 
