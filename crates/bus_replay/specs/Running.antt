@@ -36,7 +36,7 @@ made_disks old new =
     record { old = old; new = new; states = record { before = disk_states old.items; after = disk_states new.items } }
 
 -- all that a command promises was had of these words, which name no disk, over the sources that they name, which are
--- those handed back, and the disks that are made for them; none was opened
+-- those handed back, and the disks that are made for them; none that was opened is handed back
 pub record RunsGiven (opens : List ℕ → SourceState → Type 0) (config_input script_input : SourceState)
     (words : List (List ℕ)) (left : HandedBack) (e : Ending) : Type 0 where
   pub no_disk : (name : List ℕ) → ¬ NamesDisk words name
@@ -83,7 +83,8 @@ pub record RunsOpened (opens : List ℕ → SourceState → Type 0) (opens_disk 
 
 -- ---- either
 
--- the words ask for a run over disks, for which there was no memory, and nothing was opened or written
+-- the words ask for a run over disks, for which there was no memory; nothing was written, and nothing that was opened
+-- is handed back
 pub record WantsDisks (words : List (List ℕ)) (left : HandedBack) (e : Ending) : Type 0 where
   pub asks : AsksWorld words
   pub status_is : e.status ≡ 7

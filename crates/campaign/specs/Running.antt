@@ -24,8 +24,8 @@ pub record RunsTwo (opens : List ℕ → SourceState → Type 0) (opens_disk : L
   pub disks_left : disks.after ≡ disks_after
   pub runs : Campaigns inputs disks e
 
--- There was no memory for the disk of two words: nothing was opened. All that a campaign promises was had, over a
--- script that is missing, and no disk.
+-- There was no memory for the disk of two words: nothing that was opened is handed back. All that a campaign promises
+-- was had, over a script that is missing, and no disk.
 pub record WantsLedgerDisk (words : List (List ℕ)) (script_after : SourceState) (disks_after : List DiskState)
     (e : Ending) : Type 0 where
   pub status_is : e.status ≡ 7

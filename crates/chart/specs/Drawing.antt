@@ -30,7 +30,8 @@ pub record DrawsOverEight (opens : List ℕ → SourceState → Type 0)
   pub given : ChartDisksAreGiven words made.items
   pub draws : DrawsMade made left inputs e
 
--- the words ask for a chart, or for the example, and there was no memory for its disks; nothing was opened or written
+-- the words ask for a chart, or for the example, and there was no memory for its disks; nothing was written, and no
+-- source that was opened is handed back
 pub record WantsEightDisks (config_after script_after : SourceState) (words : List (List ℕ)) (e : Ending) : Type 0 where
   pub asks : AsksChartOrNone words
   pub status_is : e.status ≡ 7

@@ -90,8 +90,8 @@ pub record RunsChart (same : Type 0) (i : ChartInputs) (d : DiskStates) (e : End
   pub store_refused : e.status ≡ 10 → OverChart i (λ bus events. LeavesEach Format bus d.before d.after
       × ((fault : StartFault) × StoreCause Format bus d.before d.after fault × PrintsWhole e (start_row fault).text))
   -- Where the count of faults of a disk rose, the status is 10 with the row of its node, or 6 with a front of it; or
-  -- the ending is one of a bus that was started: over a disk that tells nothing that may be any whose first event fails
-  -- it. (That a start answers want of memory only where no count rose is a clause of `World::start`.)
+  -- the ending is one of a bus that was started. (Where a disk's past isn't told, a failed start may look like a first
+  -- event that failed. That a start answers want of memory only where no count rose is a clause of `World::start`.)
   pub failed_disk_told : (place : ℕ) → CountsDiskFault d place → EndsInRow (λ row. row ≡ failed_row place) e
       ⊎ ((kept : Option (List Line)) × OverChart i (λ bus events. DoneChart bus events d kept))
   -- What is valid is done, where no port failed and there was memory.

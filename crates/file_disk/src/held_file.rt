@@ -32,7 +32,8 @@ impl HeldFile<SystemFile> {
     ghost use Rattle.file_disk.specs.HeldFile.{held_contents, HoldsSystem};
 
     /// The file of the system at this path, as [`SystemFile::on`] opens or makes it. Its first bytes are read at once, at most
-    /// 131,072; where that fails there is no file. Room is asked for before anything is opened or made.
+    /// 131,072; where that fails there is no file. Room is asked for before anything is opened or made. Which
+    /// file is opened, and what is read of it, no clause says.
     pub fn on(
         alloc: Global,
         rt: &HostRuntime,

@@ -34,7 +34,8 @@ pub record RunsOverOne (opens : List ℕ → SourceState → Type 0)
   pub given : DisksAreGiven words made.items
   pub runs : RunsMade made left inputs e
 
--- the words ask for a gateway, or for the example, and there was no memory for its disk; nothing was opened or written
+-- the words ask for a gateway, or for the example, and there was no memory for its disk; nothing was written, and no
+-- source that was opened is handed back
 pub record WantsItsDisk (config_after script_after : SourceState) (words : List (List ℕ)) (e : Ending) : Type 0 where
   pub asks : AsksOrNone words
   pub status_is : e.status ≡ 7

@@ -97,8 +97,8 @@ pub record RunsGateway (same : Type 0) (i : GatewayInputs) (d : DiskStates) (e :
   pub store_refused : e.status ≡ 10 → OverGateway i (λ bus pairs events. LeavesEach Format bus d.before d.after
       × ((fault : StartFault) × StoreCause Format bus d.before d.after fault × PrintsWhole e (start_row fault).text))
   -- Where the count of faults of a disk rose, the status is 10 with the row of its node, or 6 with a front of it; or
-  -- the ending is one of a gateway that was started: over a disk that tells nothing that may be any whose first event
-  -- fails it. (That a start answers want of memory only where no count rose is a clause of `open_nodes`.)
+  -- the ending is one of a gateway that was started. (Where a disk's past isn't told, a failed start may look like a
+  -- first event that failed. That a start answers want of memory only where no count rose is a clause of `open_nodes`.)
   pub failed_disk_told : (place : ℕ) → CountsDiskFault d place → EndsInRow (λ row. row ≡ failed_row place) e
       ⊎ ((result : Result (Unit {0}) Unwritten)
       × OverGateway i (λ bus pairs events. DoneGateway bus pairs events d e result))

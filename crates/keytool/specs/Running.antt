@@ -38,7 +38,8 @@ pub record RunsWithFile {S D : Type 0} (source : S → SourceState) (disk : D �
   pub none : ¬ NamesFile words → disks ≡ []
   pub runs : RunsWords source disk words request (record { before = disks; after = left }) e
 
--- the words name a file, and there was no memory for its disk: nothing was opened, read or written
+-- the words name a file, and there was no memory for its disk: nothing was read or written, and no disk that was opened
+-- is handed back
 pub record WantsFile (words : List (List ℕ)) (request : Reading) (left : List DiskState) (e : Ending) : Type 0 where
   pub names : NamesFile words
   pub status_is : e.status ≡ 7
