@@ -41,8 +41,9 @@ use Rattle.bus_commands.specs.Inputs.{OverLines, OverReplayOf, OverTrial, OverWo
 use Rattle.bus_commands.specs.Tasks.{Task, replay}
 use Rattle.bus_nodes.specs.Buses.{NamedBus, IsNamedBus, configs_of}
 use Rattle.bus_machine.specs.declared.events.Event.{Event}
--- `Offers`: the source tells these bytes, at most 1,048,576, and didn't fail. `OffersTask`, `OffersTrial`: it is asked
--- for, and the source of its bus file, if it has one, so tells one with this bus.
+-- `Offers`: the source tells these bytes, at most 1,048,576, and its count of faults neither rose nor is full.
+-- `OffersTask`, `OffersTrial`: it is asked for, and the source of its bus file, if it has one, so tells one with this
+-- bus.
 use Rattle.answer_rows.specs.Inputs.{Offers}
 use Rattle.bus_commands.specs.Inputs.{OffersTask, OffersTrial}
 -- `IsUnread`: nothing was asked of the source. `CountsFault`: its count of faults rose. `CountsTooMuch`: by its count
@@ -110,8 +111,8 @@ use Rattle.numbered_run.specs.declared.printing.Unwritten.TheVariants as unwritt
 use Rattle.numbered_run.specs.Printed.{Written}
 use Rattle.bus_texts.specs.LineTexts.{line_text}
 -- `ComesInRun`: the rows that come, those of the statuses below, each for the cause that is told there; `memory_row`: 7
--- without a text, which comes as an input is read, at a start at which no disk failed, or behind all events of a trial.
--- `RowOrReplay`: a row that comes was told, whole or at 6 by a front; or `ReplaysScript`.
+-- without a text, which comes as inputs are read, drawn or answered, at a start at which no disk failed, or behind all
+-- events of a trial. `RowOrReplay`: a row that comes was told, whole or at 6 by a front; or `ReplaysScript`.
 use Rattle.bus_commands.specs.Rows.{ComesInRun, RowOrReplay}
 use Rattle.answer_rows.specs.Rows.{memory_row}
 -- ---- the machine: what these say is told at the members of `HeadlineRun`. A `World` has the nodes, with what each
@@ -306,8 +307,8 @@ pub record RunsCommand {V : Type 0} (i : BusInputs) (d : CommandDisks V) (e : En
   pub write_fault : e.status ≡ 6 → SinkFailed e
       × (PrintsFront (ComesInRun i d) e ⊎ ReplaysScript i d.states e (Err unwritten.SinkFailed))
   pub write_fault_only : CountsWriteFault e → e.status ≡ 6
-  -- 7, one way: its row comes (as an input is read, at a start at which no disk failed, or behind a trial's events),
-  -- and nothing was written; or of a replay the lines before one, and nothing of this.
+  -- 7, one way: its row comes (of inputs, at a start at which no disk failed, or behind a trial's events), and nothing
+  -- was written; or of a replay the lines before one, and nothing of this.
   pub no_memory : e.status ≡ 7 → (ComesInRun i d memory_row × PrintsWhole e [])
       ⊎ ReplaysScript i d.states e (Err unwritten.Memory)
   -- 8, both ways: one byte more than 1,048,576 came from a source, whose count of faults stood still; of the bus file

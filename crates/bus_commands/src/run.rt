@@ -30,40 +30,45 @@ use std::alloc::{AllocError, Global};
 /// **The headline.** Where each node's disk tells its bytes (those in memory do, and those that `main` opens over
 /// files), what was done is one run of the machine: from the first world of the bus, or of `node`, if no power cut can
 /// take these bytes away, from one that goes on where the disks stand. At 0 the run has all events, and the sink their
-/// lines, or a trial's numbers. At 6 and 7 it has the first (a trial's all), and the sink their lines, of the last one
-/// a front (6) or nothing (7); or a front of a row or nothing was written, and the disks are *unstarted*: as before, or
-/// as an unfinished start may leave them.
+/// lines, or a trial's numbers. At 6 and 7 a replay's run (`replay` or `node`) has the first, and the sink their lines,
+/// of the last one a front (6) or nothing (7); a trial's has all. Or the disks are *unstarted*: as before, or as an
+/// unfinished start may leave them. Then, and of a trial, a front of a row is written, or nothing.
 ///
-/// It begins with sound nodes that are up, and one sender of each Data ID; each event is a step, with its line.
-/// Accepted freshness strictly rises per node and Data ID, sent freshness per Data ID, and both end within kept bounds
-/// and counters. A power-up skips at most a reserve of a sender's, and of a receiver's less, above its counter or a
-/// failed acceptance. What is accepted carries the CMAC of payload and freshness under the receiver's key; an event
-/// that its line names sent the same before. An acknowledged update of a key is undone by later ones alone, and no
-/// slot's counter falls. Disks tell what their nodes keep, whatever a power cut leaves; this run alone adds to a told
-/// past; disks of no node stay. Lines tell no more failures of a disk than its count rose by, unless it is full, and of
-/// a quiet disk none before it is armed. What is delivered in time, under the right key, is accepted as sent, or the
-/// disk failed. Over quiet disks, without cuts and faults, first world and events determine the lines.
+/// It begins, before any event, with sound nodes, up and at their kept bounds, and one sender of each Data ID; each
+/// event is a step, with its line. Accepted freshness strictly rises per node and Data ID, sent freshness per Data ID,
+/// and both end within kept bounds and counters. A power-up skips at most a reserve of a sender's, and of a receiver's
+/// less, above its counter or a failed acceptance. What is accepted carries the CMAC of payload and freshness under the
+/// receiver's key; an event that its line names sent the same before. An acknowledged update of a key is undone by
+/// later ones alone, and no slot's counter falls. Disks tell what their nodes keep, whatever a power cut leaves; the
+/// start and this run alone add to a told past; what is known of disks of no node stays. Lines tell no more failures of
+/// a disk than its count rose by, unless it is full, and of a quiet disk none before it is armed. What is delivered to
+/// a node that is up, within the window above its counter and under the right key, is accepted as sent, or its disk
+/// failed. Over quiet disks, without cuts and faults, first world and events determine the lines.
 ///
-/// **The table of answers**, over sources and disks of any kind; no other status comes:
+/// **The table of answers**, over sources and disks of any kind (an input from a file tells nothing: what was read of
+/// it is some bytes, as many as it counts); no other status comes:
 ///
 /// - 0: the inputs were read whole, all was done, and answers, lines or numbers are written.
 /// - 2: the words are of no form; nothing was read, and the usage line is printed.
-/// - 3: the bus file's first fault is printed; no line was read. 4: the lines' first fault is; the bus file is valid.
+/// - 3: the bus file's first fault is printed; no line was read. 4: the lines' first fault is; the bus file, if one is
+///   read, is valid.
 /// - 5: a source's count of faults rose, or is full. 8: more than 1,048,576 bytes came, and it stood still. Both of the
-///   bus file, with no line read, or of the lines, with a valid bus file.
+///   bus file, with no line read, or of the lines, with a valid bus file, if one is read. Each prints its text.
 /// - 6: the sink's count rose, or is full; of a row that comes, or a replay's next line, a front was written.
-/// - 7: called want of memory: as an input is read, at a start at which no disk failed, behind a trial, or for a
-///   replay's next line; nothing of it was written.
+/// - 7: called want of memory: as inputs are read, drawn or answered, at a start at which no disk failed, behind a
+///   trial, or for a replay's next line; nothing of it was written.
 /// - 9: all inputs are valid; the disks are fewer than the nodes, or the first that is too small is named.
 /// - 10: all inputs are valid, the disks large enough. A node is named whose disk failed, and wasn't quiet, or whose
 ///   bytes are refused: told ones by `node` alone, which can't go on over them. Told ones before it are good.
 ///
-/// The cause of 2, 5, 6 or 8 always brings it; where the sources tell and don't fail, so does that of 3, 4 or 9, and
-/// for 10 told bytes over which `node` can't go on. What is valid then ends in 0, if the sink doesn't fail, and each
-/// node's disk is large enough, tells bytes to start over, and is quiet, or its count neither rises nor is full. But a
-/// sink whose count rises makes it 6, and 0, 3, 4, 9 and 10 may give way to 7, which nothing brings. Where a disk's
-/// count rose its row of 10 is told, or at 6 a front of it; or a replay did its first events, or a trial all: each,
-/// over any disk, a turn of its node, with a count that rises where the line tells it, or is full, and nowhere else.
+/// The cause of 2 or 8 always brings it, and a count that rose 5 or 6; where the sources tell what they have, and don't
+/// fail, that of 3, 4 or 9 does, and for 10 told bytes over which `node` can't go on. What is valid then ends in 0, if
+/// the sink's count neither rises nor is full and, for a world, each node's disk is large enough, tells bytes that the
+/// node can start from, and is quiet, or its count neither rises nor is full. But a sink whose count rises makes any
+/// status 6 (a full one may), and 0, 3, 4, 9 and 10 may give way to 7, which nothing brings. Where a disk's count rose
+/// its row of 10 is told, or at 6 a front of it; or a replay did its first events, or a trial all: each, over any disk,
+/// a turn of its node, which is a step, but that a cut over bytes that aren't told to fit may leave the node up or
+/// down; the disk's count rises, or is full, where the line tells a failure, and rises nowhere else.
 ///
 /// Only a command with a bus file reads one, and a trial reads no lines. Every disk is as before where no world is
 /// asked for, and at 2, 3, 4, 5, 8 and 9; unstarted at 10; at 6 and 7 unstarted, or, as at 0, as the done events left
