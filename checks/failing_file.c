@@ -1,8 +1,9 @@
 /* A pread, a pwrite and an fsync of which calls fail, counted together from 1, to be loaded before the C library. With FILE_FAIL_AT the call of this
    number fails with EIO and does nothing; with FILE_FAIL_ON each call from that number on. With FILE_SHORT_AT the call of this number, where it is
-   a pwrite of two bytes or more, writes the first half alone. With FILE_OTHER_AT the call of this number, where it is a pread, gives another first
-   byte than the file has. With FILE_COUNT set, the number of calls is written to standard error at the end; with FILE_LOG each call is a line in the
-   file of this name: what it is, its offset, its length, and its result. */
+   a pwrite of two bytes or more, writes the first half alone; with FILE_TORN_AT, where it is a pwrite, it writes the first half and fails with EIO.
+   With FILE_OTHER_AT the call of this number, where it is a pread, gives another first byte than the file has. With FILE_COUNT set, the number of
+   calls is written to standard error at the end; with FILE_LOG each call is a line in the file of this name: what it is, its offset, its length, and
+   its result. */
 #define _GNU_SOURCE
 #include <dlfcn.h>
 #include <errno.h>
@@ -10,7 +11,7 @@
 #include <stdlib.h>
 #include <sys/types.h>
 
-static long calls, fail_at, fail_on, short_at, other_at;
+static long calls, fail_at, fail_on, short_at, torn_at, other_at;
 static FILE *log_file;
 
 static long number_in(const char *name) {
@@ -23,6 +24,7 @@ __attribute__((constructor)) static void begin(void) {
     fail_at = number_in("FILE_FAIL_AT");
     fail_on = number_in("FILE_FAIL_ON");
     short_at = number_in("FILE_SHORT_AT");
+    torn_at = number_in("FILE_TORN_AT");
     other_at = number_in("FILE_OTHER_AT");
     if (log_name) log_file = fopen(log_name, "a");
 }
@@ -63,6 +65,11 @@ static ssize_t writes(int file, const void *bytes, size_t length, off_t at) {
     static ssize_t (*system_pwrite)(int, const void *, size_t, off_t);
     if (!system_pwrite) system_pwrite = (ssize_t (*)(int, const void *, size_t, off_t))dlsym(RTLD_NEXT, "pwrite");
     if (fails()) return noted("pwrite", at, length, -1);
+    if (calls == torn_at) {
+        if (length > 1) system_pwrite(file, bytes, length / 2, at);
+        errno = EIO;
+        return noted("pwrite", at, length, -1);
+    }
     return noted("pwrite", at, length, system_pwrite(file, bytes, calls == short_at && length > 1 ? length / 2 : length, at));
 }
 

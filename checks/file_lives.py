@@ -563,8 +563,8 @@ def failing_file(room, checks):
         if checks.check(f"{name}, whole", wrong + all_done(script, status, whole) + Printed(printed).take(script, whole)):
             continue
         first_read = 1 + calls.index("pread")
-        for way, (at, call) in itertools.product(("FILE_FAIL_AT", "FILE_FAIL_ON", "FILE_SHORT_AT", "FILE_OTHER_AT"), enumerate(calls, 1)):
-            if call != {"FILE_SHORT_AT": "pwrite", "FILE_OTHER_AT": "pread"}.get(way, call):
+        for way, (at, call) in itertools.product(("FILE_FAIL_AT", "FILE_FAIL_ON", "FILE_SHORT_AT", "FILE_TORN_AT", "FILE_OTHER_AT"), enumerate(calls, 1)):
+            if call != {"FILE_SHORT_AT": "pwrite", "FILE_TORN_AT": "pwrite", "FILE_OTHER_AT": "pread"}.get(way, call):
                 continue
             status, lines, made = calls_of(**{way: at})
             now = Printed(printed)
