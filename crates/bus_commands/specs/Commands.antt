@@ -74,7 +74,7 @@ use Rattle.bus_world.specs.StartAnswers.{DiskStates, BusHasDisks, CountsDiskFaul
 -- `TellEach`: each node's disk tells its bytes; `TellFirm`: and a cut can take none of them away. `StartsOver`: a world
 -- in which each node goes on where its disk stands.
 use Rattle.world_runs.specs.NodeDisks.{TellEach}
-use Rattle.world_runs.specs.Turns.{TellFirm}
+pub use Rattle.world_runs.specs.Turns.{TellFirm}
 use Rattle.bus_world.specs.Starts.{StartsOver}
 -- `HasRoom`: each node has a disk that is large enough; `FindsRoom`: they are too few, or which is the first too small.
 -- `StoreCause`: why a node wasn't started over its disk. `start_row`: how that is told. `LeavesEach`: what a start may

@@ -2,8 +2,8 @@
 
 use byte_lists::Bytes;
 use cut_disk::Torn;
+use key_slots::Block;
 use memory_update::{Request, Update};
-use she_aes::Block;
 
 /// An event of a bus. It concerns one node, which it names by its place in the bus, counted from 0.
 #[derive(Drop)]

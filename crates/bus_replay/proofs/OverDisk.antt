@@ -12,7 +12,6 @@ use Rattle.bus_nodes.specs.Buses.{NamedBus}
 use Rattle.bus_world.specs.declared.start.Start.{Start}
 use Rattle.bus_world.specs.declared.start.Start.TheVariants.{Format, Attach}
 use Rattle.bus_world.specs.StartAnswers.{DiskStates}
-use Rattle.world_runs.specs.Turns.{TellFirm}
 use Rattle.answer_rows.specs.Rows.{Row}
 use Rattle.answer_rows.specs.Endings.{Ending}
 use Rattle.answer_rows.specs.EndingLaws.{EndsInRow-more}
@@ -22,7 +21,7 @@ use Rattle.bus_commands.specs.Words.{Asks, NamesDisk}
 use Rattle.bus_commands.specs.Inputs.{BusInputs, SetsWorld}
 use Rattle.bus_commands.specs.StartRows.{CommandDisks}
 use Rattle.bus_commands.specs.Rows.{ComesInRun, without_disks, not_started, tried, tried_without_memory, RowOrReplay, in_row, replayed, DoneReplay, ReplaysScript}
-use Rattle.bus_commands.specs.Commands.{RunsCommand, RunsBus}
+use Rattle.bus_commands.specs.Commands.{TellFirm, RunsCommand, RunsBus}
 use Rattle.bus_commands.proofs.Promises.{RunsCommand-ends}
 use Rattle.bus_commands.proofs.OneRun.{RunsMachine-command}
 use Rattle.bus_commands.proofs.Headlines.{written_run}

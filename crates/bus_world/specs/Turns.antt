@@ -28,7 +28,9 @@ use Rattle.secoc_node.specs.declared.faults.CutFault.{CutFault}
 use Rattle.secoc_node.specs.Causes.{CutCause}
 use Rattle.secoc_node.specs.Cells.{CellsOf}
 use Rattle.secoc_node.specs.Lines.{cut_line}
-use Rattle.secoc_node.specs.State.{NodeState, FitsNow, TellsFitting}
+pub use Rattle.secoc_node.specs.Fits.{FitsNode}
+pub use Rattle.secoc_node.specs.State.{NodeState, TellsFitting}
+use Rattle.secoc_node.specs.State.{FitsNow}
 
 -- what an event tells its node to do, and the mark that it leaves in the past of the node's disk
 pub record Duty : Type 0 where

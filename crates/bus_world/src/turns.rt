@@ -18,8 +18,7 @@ use byte_lists::Pdu;
 use cell_store::{Cells, CutCells, Reread};
 use cut_disk::Torn;
 use memory_update::{Request, Update, build};
-use secoc_node::{CutFault, Node, NodeFault};
-use secoc_receiver::Reception;
+use secoc_node::{CutFault, Node, NodeFault, Reception};
 use sent_lines::{Frame, History};
 use she_aes::Block;
 

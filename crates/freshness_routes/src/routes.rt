@@ -1,7 +1,7 @@
 //! Routes, and lists of them.
 ghost use Rattle.std.specs.Prelude.{◌≡◌};
 
-use key_slots::SlotId;
+use memory_update::SlotId;
 use std::marker::Model;
 
 /// Whether a route sends or receives.

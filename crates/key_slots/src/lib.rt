@@ -14,3 +14,5 @@ pub use memory::{Flags, Slot, Slots};
 pub use numbers::{Counter28, SlotId};
 pub use refusals::Erc;
 pub use usage::{Purpose, usable};
+// a key
+pub use she_aes::Block;

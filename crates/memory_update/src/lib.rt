@@ -15,3 +15,5 @@ pub use confirmation::{confirm_for, is_confirmed};
 pub use messages::{Head, Reply, Request, Uid, Unseal, Update};
 pub use requests::{build, head, unseal};
 pub use words::{place, take};
+// the slots that an update names
+pub use key_slots::SlotId;

@@ -42,8 +42,7 @@ use freshness_manager::Direction;
 use gateway_machine::GatewayLine;
 use memory_update::{Reply, Request};
 use numbered_run::Machine;
-use secoc_node::{CutFault, Node, NodeFault};
-use secoc_receiver::Reception;
+use secoc_node::{CutFault, Node, NodeFault, Reception};
 use std::marker::Model;
 
 /// A gateway: a node, and pairs of Data IDs of which it receives the first and sends the second. Contracts see the

@@ -13,8 +13,7 @@ ghost use Rattle.secoc_gateway.specs.Arrivals.{IsReason, IsFaulted, IfNothingDon
 
 use crate::arrival::Arrival;
 use cell_store::Cells;
-use secoc_node::{Node, NodeFault};
-use secoc_receiver::Reception;
+use secoc_node::{Node, NodeFault, Reception};
 
 /// The first bytes, so many of them.
 pub fn front(bytes: &[u8], len: u8) -> &[u8]

@@ -23,3 +23,7 @@ pub use faults::{AttachFault, CutFault, NodeFault, NodeRefused};
 pub use laws::{a_settled_disk_fits_its_node, cells_tell_what_is_kept};
 pub use node::Node;
 pub use routes::place_of;
+
+// what the calls of a node answer
+pub use secoc_receiver::Reception;
+pub use secoc_sender::Sent;

@@ -4,8 +4,7 @@ ghost use Rattle.she_cmac.specs.Cmac.{cmac};
 ghost use Rattle.secured_pdu.specs.Frame.{authenticated_input, assembled, IsPayload, IsFrame, Secured};
 
 use byte_lists::append;
-use she_aes::{Block, Schedule};
-use she_cmac::cmac;
+use she_cmac::{Block, Schedule, cmac};
 
 /// Writes the authenticated input to the front of `out` and gives its length in bytes. All numbers are big-endian.
 pub fn input_bytes(id: u16, payload: &[u8], freshness: u64, out: &mut [u8; 70]) -> usize

@@ -5,7 +5,7 @@ ghost use Rattle.secured_pdu.specs.Verdict.{Verdict};
 ghost use Rattle.secured_pdu.specs.Judged.{outcome_of};
 
 use crate::frame::{Parts, input_mac, tag_of};
-use she_aes::Schedule;
+use she_cmac::Schedule;
 
 /// The one freshness that is 1 to `window` above the counter and has this low byte; `None` where there is none, or it would not
 /// fit 64 bits. A window is 1 to 256.

@@ -6,3 +6,5 @@ mod pieces;
 mod subkeys;
 
 pub use pieces::{Mac, cmac, cmac_of_parts};
+// what its calls take and answer
+pub use she_aes::{Block, Schedule};

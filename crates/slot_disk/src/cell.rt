@@ -5,8 +5,7 @@ ghost use Rattle.key_slots.specs.declared.memory.Flags.{Flags};
 ghost use Rattle.key_slots.specs.Slots.{IsSlot};
 ghost use Rattle.slot_disk.specs.Cell.{slot_cell, HoldsSlot};
 
-use key_slots::{Counter28, Flags, Slot};
-use she_aes::Block;
+use key_slots::{Block, Counter28, Flags, Slot};
 
 /// The cell of a slot, 32 bytes.
 #[tactic(auto, unfolding(crate::specs::Cell::slot_cell))]

@@ -21,8 +21,8 @@ use Rattle.bus_machine.specs.declared.lines.Refusal.TheVariants.{MemoryFailure}
 use Rattle.bus_machine.specs.Node.{Node, first_node}
 use Rattle.bus_machine.specs.Bus.{no_config, node_of, node_at}
 use Rattle.bus_machine.specs.Past.{mark_of, most_entries, cell_count}
-use Rattle.secoc_node.specs.Fits.{FitsNode}
-use Rattle.secoc_node.specs.State.{NodeState, TellsFitting}
+use Rattle.bus_world.specs.Turns.{FitsNode}
+use Rattle.bus_world.specs.Turns.{NodeState, TellsFitting}
 use Rattle.bus_world.specs.Turns.{duty_of, most_calls, NodeTurn, TellsFaults}
 use Rattle.bus_world.specs.Worlds.{BusState, world_of, BusTurn, EachFits, TurnsAreRuns}
 use Rattle.world_runs.specs.NodeDisks.{mark_at, most_at, tells_failure, fails_at, fits_at}

@@ -13,8 +13,8 @@ use Rattle.bus_nodes.specs.declared.nodes.NodeLine.{NodeLine}
 use Rattle.bus_nodes.specs.Buses.{NamedBus, IsNamedBus, configs_of}
 use Rattle.bus_nodes.specs.Laws.{NamedBusesAreBuses}
 use Rattle.bus_laws.specs.Laws.{BusesBeginFirst}
-use Rattle.secoc_node.specs.State.{NodeState, TellsFitting}
-use Rattle.secoc_node.proofs.FitsLaws.{told_before}
+use Rattle.bus_world.specs.Turns.{NodeState, TellsFitting}
+use Rattle.store_runs.specs.KeepingLaws.{told_before}
 use Rattle.bus_world.specs.declared.start.Start.{Start}
 use Rattle.bus_world.specs.declared.start.Start.TheVariants.{Format}
 use Rattle.bus_world.specs.Worlds.{BusState, world_of, EachFits}

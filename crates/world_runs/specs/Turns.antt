@@ -9,7 +9,7 @@ use Rattle.bus_machine.specs.declared.events.Event.{Event}
 use Rattle.bus_machine.specs.declared.lines.Line.{Line}
 use Rattle.bus_machine.specs.Bus.{First, Moments}
 use Rattle.bus_nodes.specs.Buses.{NamedBus, IsNamedBus, configs_of}
-use Rattle.secoc_node.specs.State.{NodeState}
+use Rattle.bus_world.specs.Turns.{NodeState}
 use Rattle.bus_world.specs.declared.start.Start.{Start}
 use Rattle.bus_world.specs.declared.start.Start.TheVariants.{Format, Attach}
 use Rattle.bus_world.specs.Worlds.{BusState, world_of, BusTurn, EachFits}
