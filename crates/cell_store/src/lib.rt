@@ -8,7 +8,7 @@
 //! loose byte may become any byte, each by itself, and nothing is assumed of sectors or of the order
 //! of writes. Power may go at any moment and any call of the disk may fail, so what is said of a call
 //! here is said of every image at each of its exits, as after an Ok so after a fault. What a store
-//! says of bytes holds where its disk tells them; what a file holds isn't told.
+//! says of bytes holds where its disk tells them.
 //!
 //! # Where a store lies
 //!

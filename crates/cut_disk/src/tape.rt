@@ -1,5 +1,6 @@
 //! Room for the past of a disk.
-ghost use Rattle.std.specs.Prelude.{◌≡◌, ◌≤◌, ◌<◌, Some, None, length, map, IfOk};
+ghost use Rattle.std.specs.Prelude.{◌≡◌, ◌+◌, ◌≤◌, ◌<◌, Some, None, length, map, IfOk};
+ghost use Rattle.cut_disk.specs.Tape.{AllSized};
 ghost use Rattle.std.specs.Option.{option_map};
 ghost use Rattle.cut_disk.specs.State.{past_entry};
 
@@ -40,6 +41,15 @@ impl PastEntry {
     }
 }
 
+/// Adds an entry for a state of this size, or none where memory is out.
+fn push_blank(entries: &mut Vec<PastEntry>, alloc: Global, size: usize) -> Result<(), Memory>
+    ensures { IfOk result (λ _. (length entries.new.items ≡ length entries.old.items + 1)
+        × (AllSized size entries.old.items → AllSized size entries.new.items)) }
+{
+    let entry = PastEntry::blank(alloc, size)?;
+    entries.push(entry).map_err(|_| Memory)
+}
+
 /// The past of a disk of one size, with room for so many entries.
 #[derive(Drop)]
 pub struct Tape {
@@ -74,10 +84,7 @@ impl Tape {
     {
         let mut entries = Vec::with_capacity(alloc, room as usize)?;
         for _ in 0..room {
-            let entry = PastEntry::blank(alloc, size)?;
-            if entries.push(entry).is_err() {
-                return Err(Memory);
-            }
+            push_blank(&mut entries, alloc, size)?;
         }
         Ok(Tape {
             size,
