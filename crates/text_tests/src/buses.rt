@@ -1,4 +1,4 @@
-//! Names and buses one step within and one step past each of their bounds, and each call once.
+//! Buses one step within and one step past each of their bounds, and each call once.
 use crate::comparing::{holds, same};
 use bus_nodes::{BusConfig, Name, NodeLine, most_routes, place_named, sent_again};
 use cell_store::{Kind, Version};
@@ -6,56 +6,30 @@ use freshness_routes::{Direction, NodeConfig, Route};
 use key_slots::SlotId;
 use memory_update::Uid;
 use std::alloc::Global;
+use std::process::Abort;
 use std::test::Fail;
 
-const NAMES: [(&[u8], bool); 16] = [
-    (b"a", true),
-    (b"z", true),
-    (b"left", true),
-    (b"a-b_c9", true),
-    (b"abcdefghijklmnop", true),
-    (b"abcdefghijklmnopq", false),
-    (b"", false),
-    (b"A", false),
-    (b"aB", false),
-    (b"9a", false),
-    (b"-a", false),
-    (b"_a", false),
-    (b"a b", false),
-    (b"a.b", false),
-    (b"`", false),
-    (b"{", false),
-];
-
-#[test]
-fn names_are_told_from_other_words(rt: HostRuntime) {
-    for (word, is_one) in NAMES {
-        let name = Name::of(word);
-        same(&rt, "name.is_some()", &name.is_some(), &is_one);
-        if let Some(name) = name {
-            holds(&rt, "name.bytes() == word", name.bytes() == word);
-        }
-    }
+fn route_of(id: u16, is_sent: bool) -> Option<Route> {
+    let direction = if is_sent {
+        Direction::Sends
+    } else {
+        Direction::Receives
+    };
+    Some(Route {
+        id,
+        direction,
+        slot: SlotId::new(4)?,
+        reserve: 1,
+        window: 256,
+        start: 0,
+    })
 }
 
 // A node with these routes, each a Data ID and whether it is sent.
 fn node(alloc: Global, name: &[u8], routes: &[(u16, bool)]) -> Result<NodeLine, Fail> {
     let mut listed = Vec::new(alloc);
-    for &(id, is_sent) in routes {
-        let direction = if is_sent {
-            Direction::Sends
-        } else {
-            Direction::Receives
-        };
-        let slot = SlotId::new(4).ok_or("slot 4")?;
-        listed.push(Route {
-            id,
-            direction,
-            slot,
-            reserve: 1,
-            window: 256,
-            start: 0,
-        })?;
+    for (id, is_sent) in routes {
+        listed.push(route_of(*id, *is_sent).ok_or("a route")?)?;
     }
     Ok(NodeLine {
         name: Name::of(name).ok_or("a name")?,
@@ -63,12 +37,21 @@ fn node(alloc: Global, name: &[u8], routes: &[(u16, bool)]) -> Result<NodeLine, 
     })
 }
 
-fn two_nodes(alloc: Global) -> Result<BusConfig, Fail> {
+/// Nodes with these names and routes.
+type Nodes = &'static [(&'static [u8], &'static [(u16, bool)])];
+
+fn nodes_of(alloc: Global, rows: Nodes) -> Result<Vec<NodeLine>, Fail> {
     let mut nodes = Vec::new(alloc);
-    nodes.push(node(alloc, b"left", &[(0x6bc1, true), (0x7bc1, false)])?)?;
-    nodes.push(node(alloc, b"right", &[(0x6bc1, false), (0x7bc1, true)])?)?;
-    Ok(BusConfig::new(Kind::Log, Version::Two, nodes).ok_or("a bus")?)
+    for (name, routes) in rows {
+        nodes.push(node(alloc, name, routes)?)?;
+    }
+    Ok(nodes)
 }
+
+const TWO: Nodes = &[
+    (b"left", &[(0x6bc1, true), (0x7bc1, false)]),
+    (b"right", &[(0x6bc1, false), (0x7bc1, true)]),
+];
 
 /// A name, and the place of its node.
 const PLACES: &[(&[u8], Option<u8>)] = &[
@@ -79,17 +62,22 @@ const PLACES: &[(&[u8], Option<u8>)] = &[
     (b"", None),
 ];
 
+fn is_the_bus(rt: &impl Abort, bus: &BusConfig) {
+    same(rt, "kind", &bus.kind(), &Kind::Log);
+    same(rt, "version", &bus.version(), &Version::Two);
+    same(rt, "nodes", &bus.nodes().len(), &2);
+    for (name, place) in PLACES {
+        same(rt, name.len(), &bus.find(name), place);
+    }
+    same(rt, "place", &place_named(bus.nodes(), b"right"), &Some(1));
+    same(rt, "sent again", &sent_again(bus.nodes()), &None);
+}
+
 #[test]
 fn a_bus_of_two_nodes_is_one_and_its_nodes_are_found(rt: HostRuntime) -> Result<(), Fail> {
-    let bus = two_nodes(rt.alloc())?;
-    same(&rt, "kind", &bus.kind(), &Kind::Log);
-    same(&rt, "version", &bus.version(), &Version::Two);
-    same(&rt, "nodes", &bus.nodes().len(), &2);
-    for (name, place) in PLACES {
-        same(&rt, name.len(), &bus.find(name), place);
-    }
-    same(&rt, "place", &place_named(bus.nodes(), b"right"), &Some(1));
-    same(&rt, "sent again", &sent_again(bus.nodes()), &None);
+    let nodes = nodes_of(rt.alloc(), TWO)?;
+    let bus = BusConfig::new(Kind::Log, Version::Two, nodes).ok_or("a bus")?;
+    is_the_bus(&rt, &bus);
     Ok(())
 }
 
@@ -147,28 +135,22 @@ fn a_bus_has_its_bounds(rt: HostRuntime) -> Result<(), Fail> {
 }
 
 /// The routes of three nodes, of which the last sends what the others send.
-const SENDERS: &[(&[u8], &[(u16, bool)])] = &[
+const SENDERS: Nodes = &[
     (b"a", &[(1, true), (2, true), (3, false)]),
     (b"b", &[(1, false), (3, true)]),
     (b"c", &[(4, true), (2, true), (1, true)]),
 ];
 
-fn senders(alloc: Global) -> Result<Vec<NodeLine>, Fail> {
-    let mut nodes = Vec::new(alloc);
-    for (name, routes) in SENDERS {
-        nodes.push(node(alloc, name, routes)?)?;
-    }
-    Ok(nodes)
+fn send_again(rt: &impl Abort, nodes: &[NodeLine]) {
+    holds(rt, "three nodes", nodes.len() == 3);
+    same(rt, "two nodes", &sent_again(&nodes[..2]), &None);
+    same(rt, "three nodes", &sent_again(nodes), &Some(2));
 }
 
 #[test]
 fn a_data_id_is_sent_by_one_route(rt: HostRuntime) -> Result<(), Fail> {
-    let nodes = senders(rt.alloc())?;
-    holds(&rt, "three nodes", nodes.len() == 3);
-    let again = sent_again(&nodes.as_slice()[..2]);
-    same(&rt, "two nodes", &again, &None);
-    let again = sent_again(nodes.as_slice());
-    same(&rt, "three nodes", &again, &Some(2));
+    let nodes = nodes_of(rt.alloc(), SENDERS)?;
+    send_again(&rt, nodes.as_slice());
     let made = BusConfig::new(Kind::Twin, Version::One, nodes);
     holds(&rt, "BusConfig::new", made.is_none());
     Ok(())

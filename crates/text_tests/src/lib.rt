@@ -1,9 +1,7 @@
-//! Tests of lines of text, of a bus as it is told, and of bus files. There is nothing else here: a crate of tests
-//! over several libraries has none of them proved a second time.
+//! Tests of lines of text and of a bus as it is told. There is nothing else here: a crate of tests over several
+//! libraries has none of them proved a second time. Bus files are rows of checks/text_rows.
 #![tactic(auto)]
 
-#[cfg(test)]
-mod bus_files;
 #[cfg(test)]
 mod buses;
 #[cfg(test)]

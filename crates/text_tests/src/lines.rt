@@ -1,270 +1,21 @@
-ghost use Rattle.std.specs.Prelude.{◌≤◌, length, OnOk};
-
+// Lines, words and numbers of a text, and texts of faults, as no program prints them; what programs print is rows of checks/text_rows.
 use crate::comparing::{holds, same};
 use byte_lists::Bytes;
-use cut_disk::Torn;
-use memory_update::Request;
-use secoc_words::frames::{FrameReader, read_frames};
-use secoc_words::judges::{JudgeReader, read_judges};
-use secoc_words::loads::{LoadReader, read_loads};
-use secoc_words::verdicts::{push_bad_length, push_outcome};
-use secured_pdu::Judgement;
+use secoc_words::frames::FrameReader;
+use secoc_words::judges::JudgeReader;
+use secoc_words::loads::LoadReader;
 use std::alloc::Global;
 use std::fmt::Display;
 use std::process::Abort;
 use std::test::Fail;
 use text_lines::fault::{Cause, LineFault, Memory, ScriptFault};
-use text_lines::pushing::{push_digits, push_line};
+use text_lines::pushing::push_digits;
 use text_lines::reader::{LineReader, MOST_LINES, read_lines};
 use text_lines::texts::fault_text;
 use text_lines::words::Words;
 use text_lines::{forms, laws};
 
 const LINE: &str = "2b7e151628aed2a6abf7158809cf4f3c 6bc1 e93d7e117393172a bee22e409f96\n";
-
-// Texts of `frame` lines, and beside each its lines as they would be written, or the printed fault.
-const FRAMES: [(&str, &str); 17] = [
-    (
-        "2b7e151628aed2a6abf7158809cf4f3c 6bc1 e93d7e117393172a bee22e409f96",
-        LINE,
-    ),
-    (
-        "\t2B7E151628AED2A6abf7158809cf4f3c  \t6bC1 e93d7e117393172A\tBEE22E409F96 \r\n",
-        LINE,
-    ),
-    (
-        "# a comment\n\n \t \n  #2b7e\n2b7e151628aed2a6abf7158809cf4f3c 6bc1 e93d7e117393172a bee22e409f96\n\r\n",
-        LINE,
-    ),
-    (
-        "2b7e151628aed2a6abf7158809cf4f3c 6bc1 e93d7e117393172a bee22e409f96\n2b7e151628aed2a6abf7158809cf4f3c 6bc1 e93d7e117393172a bee22e409f96",
-        "2b7e151628aed2a6abf7158809cf4f3c 6bc1 e93d7e117393172a bee22e409f96\n2b7e151628aed2a6abf7158809cf4f3c 6bc1 e93d7e117393172a bee22e409f96\n",
-    ),
-    ("", ""),
-    ("\n\r\n#", ""),
-    ("x", "script: line 1: wrong number of words\n"),
-    (
-        "\n# x\n2b7e 6bc1\n",
-        "script: line 3: wrong number of words\n",
-    ),
-    (
-        "2b7e 6bc1 e93d7e117393172a 00 00",
-        "script: line 1: wrong number of words\n",
-    ),
-    ("2b7e 6bc1 e93d7e117393172a 00", "script: line 1: word 1\n"),
-    (
-        "2b7e151628aed2a6abf7158809cf4f3g 6bc 0 0",
-        "script: line 1: word 1\n",
-    ),
-    (
-        "2b7e151628aed2a6abf7158809cf4f3c 6bc 0 0",
-        "script: line 1: word 2\n",
-    ),
-    (
-        "2b7e151628aed2a6abf7158809cf4f3c 6bc1 0e93d7e117393172a 0",
-        "script: line 1: word 3\n",
-    ),
-    (
-        "2b7e151628aed2a6abf7158809cf4f3c 6bc1 e93d7e117393172a 0",
-        "script: line 1: word 4\n",
-    ),
-    (
-        "2b7e151628aed2a6abf7158809cf4f3c 6bc1 e93d7e117393172a -",
-        "script: line 1: word 4\n",
-    ),
-    (
-        "2b7e151628aed2a6abf7158809cf4f3c 6bc1 e93d7e117393172a 00\r\r\n",
-        "script: line 1: word 4\n",
-    ),
-    (
-        "2b7e151628aed2a6abf7158809cf4f3c 6bc1 e93d7e117393172a 000102030405060708090a0b0c0d0e0f101112131415161718191a1b1c1d1e1f202122232425262728292a2b2c2d2e2f303132333435363738393a3b3c",
-        "script: line 1: word 4\n",
-    ),
-];
-
-// The same of `judge` lines.
-const JUDGES: [(&str, &str); 8] = [
-    (
-        "2b7e151628aed2a6abf7158809cf4f3c 6bc1 e93d7e1173931729 000102030405060708090A0B0C0D0E0F101112131415161718191A1B1C1D1E1F202122232425262728292A2B2C2D2E2F303132333435363738393A3B3C3D3E3F\n2b7e151628aed2a6abf7158809cf4f3c 6bc1 e93d7e1173931729 000102030405060708090a0b0c0d0e0f101112131415161718191a1b1c1d1e1f202122232425262728292a2b2c2d2e2f303132333435363738393a3b3c3d3e3f40",
-        "2b7e151628aed2a6abf7158809cf4f3c 6bc1 e93d7e1173931729 000102030405060708090a0b0c0d0e0f101112131415161718191a1b1c1d1e1f202122232425262728292a2b2c2d2e2f303132333435363738393a3b3c3d3e3f\n2b7e151628aed2a6abf7158809cf4f3c 6bc1 e93d7e1173931729 000102030405060708090a0b0c0d0e0f101112131415161718191a1b1c1d1e1f202122232425262728292a2b2c2d2e2f303132333435363738393a3b3c3d3e3f40\n",
-    ),
-    (
-        "2b7e151628aed2a6abf7158809cf4f3c 6bc1 e93d7e1173931729 000102030405060708090a0b0c0d0e0f101112131415161718191a1b1c1d1e1f202122232425262728292a2b2c2d2e2f303132333435363738393a3b3c3d3e3f40x",
-        "script: line 1: word 4\n",
-    ),
-    (
-        "2b7e151628aed2a6abf7158809cf4f3c 6bc1 e93d7e1173931729 BEE22e409f962a070a16",
-        "2b7e151628aed2a6abf7158809cf4f3c 6bc1 e93d7e1173931729 bee22e409f962a070a16\n",
-    ),
-    (
-        "2b7e151628aed2a6abf7158809cf4f3c 6bc1 ffffffffffffffff -\n",
-        "2b7e151628aed2a6abf7158809cf4f3c 6bc1 ffffffffffffffff \n",
-    ),
-    (
-        "2b7e151628aed2a6abf7158809cf4f3c 6bc1 e93d7e1173931729 -\n2b7e151628aed2a6abf7158809cf4f3c ffff 0000000000000000 00\n",
-        "2b7e151628aed2a6abf7158809cf4f3c 6bc1 e93d7e1173931729 \n2b7e151628aed2a6abf7158809cf4f3c ffff 0000000000000000 00\n",
-    ),
-    (
-        "\n2b7e151628aed2a6abf7158809cf4f3c 6bc1 e93d7e117393172a --",
-        "script: line 2: word 4\n",
-    ),
-    (
-        "2b7e151628aed2a6abf7158809cf4f3c 6bc1 e93d7e117393172a bee",
-        "script: line 1: word 4\n",
-    ),
-    (
-        "2b7e151628aed2a6abf7158809cf4f3c 6bc1 e93d7e117393172a",
-        "script: line 1: wrong number of words\n",
-    ),
-];
-
-// The same of `load` lines.
-const LOADS: [(&str, &str); 7] = [
-    (
-        "00000000000000000000000000000141 2b111e2d93f486566bcbba1d7f7a9797c94643b050fc5d4d7de14cff682203c3 B9D745E5ACE7D41860BC63C2B9F5BB46\r\n#\n00000000000000000000000000000142 2b111e2d93f486566bcbba1d7f7a9797c94643b050fc5d4d7de14cff682203c3 b9d745e5ace7d41860bc63c2b9f5bb46",
-        "00000000000000000000000000000141 2b111e2d93f486566bcbba1d7f7a9797c94643b050fc5d4d7de14cff682203c3 b9d745e5ace7d41860bc63c2b9f5bb46\n00000000000000000000000000000142 2b111e2d93f486566bcbba1d7f7a9797c94643b050fc5d4d7de14cff682203c3 b9d745e5ace7d41860bc63c2b9f5bb46\n",
-    ),
-    ("# none", ""),
-    (
-        "00000000000000000000000000000141 2b111e2d93f486566bcbba1d7f7a9797",
-        "script: line 1: wrong number of words\n",
-    ),
-    ("0 0 0 0", "script: line 1: wrong number of words\n"),
-    ("0 0 0", "script: line 1: word 1\n"),
-    (
-        "\n00000000000000000000000000000141 2b111e2d93f486566bcbba1d7f7a9797 0",
-        "script: line 2: word 2\n",
-    ),
-    (
-        "00000000000000000000000000000141 2b111e2d93f486566bcbba1d7f7a9797c94643b050fc5d4d7de14cff682203c3 -",
-        "script: line 1: word 3\n",
-    ),
-];
-
-/// Adds the digits of these bytes, and what stands behind them.
-fn add(alloc: Global, shown: &mut String, bytes: &[u8], behind: &str) -> Result<(), Fail> {
-    let digits = hex::encode(alloc, bytes)?;
-    shown.push_str(digits.as_str())?;
-    shown.push_str(behind)?;
-    Ok(())
-}
-
-/// Adds a key, a Data ID, a freshness and bytes, as a line writes them.
-fn add_line(
-    alloc: Global,
-    shown: &mut String,
-    key: &[u8],
-    id: u16,
-    freshness: u64,
-    bytes: &[u8],
-) -> Result<(), Fail> {
-    add(alloc, shown, key, " ")?;
-    add(alloc, shown, &id.to_be_bytes(), " ")?;
-    add(alloc, shown, &freshness.to_be_bytes(), " ")?;
-    add(alloc, shown, bytes, "\n")
-}
-
-fn add_load(alloc: Global, shown: &mut String, line: &Request) -> Result<(), Fail> {
-    let [first, second] = line.m2;
-    add(alloc, shown, line.m1.as_slice(), " ")?;
-    add(alloc, shown, first.as_slice(), "")?;
-    add(alloc, shown, second.as_slice(), " ")?;
-    add(alloc, shown, line.m3.as_slice(), "\n")
-}
-
-fn add_fault(alloc: Global, shown: &mut String, fault: &ScriptFault) -> Result<(), Fail> {
-    match fault {
-        ScriptFault::At { line, cause } => {
-            let text = fault_text(alloc, *line, cause)?;
-            shown.push_str(text.as_str())?;
-            Ok(())
-        }
-        ScriptFault::Memory => Err(Fail::from("no memory")),
-    }
-}
-
-/// Whether a text is as long as the ones here.
-fn is_short(text: &[u8]) -> Result<(), Fail>
-    ensures { OnOk result (length text.now ≤ 1000) }
-{
-    if text.len() > 1000 {
-        return Err(Fail::from("a long text"));
-    }
-    Ok(())
-}
-
-fn show_frames(alloc: Global, text: &[u8], shown: &mut String) -> Result<(), Fail> {
-    is_short(text)?;
-    match read_frames(alloc, text) {
-        Ok(lines) => {
-            for line in &lines {
-                let key = line.key.as_slice();
-                let bytes = line.payload.bytes();
-                add_line(alloc, shown, key, line.id, line.freshness, bytes)?;
-            }
-            Ok(())
-        }
-        Err(fault) => add_fault(alloc, shown, &fault),
-    }
-}
-
-fn show_judges(alloc: Global, text: &[u8], shown: &mut String) -> Result<(), Fail> {
-    is_short(text)?;
-    match read_judges(alloc, text) {
-        Ok(lines) => {
-            for line in &lines {
-                let key = line.key.as_slice();
-                let bytes = line.pdu.bytes();
-                add_line(alloc, shown, key, line.id, line.counter, bytes)?;
-            }
-            Ok(())
-        }
-        Err(fault) => add_fault(alloc, shown, &fault),
-    }
-}
-
-fn show_loads(alloc: Global, text: &[u8], shown: &mut String) -> Result<(), Fail> {
-    is_short(text)?;
-    match read_loads(alloc, text) {
-        Ok(lines) => {
-            for line in &lines {
-                add_load(alloc, shown, line)?;
-            }
-            Ok(())
-        }
-        Err(fault) => add_fault(alloc, shown, &fault),
-    }
-}
-
-#[test]
-fn frame_lines_are_read_or_refused(rt: HostRuntime) -> Result<(), Fail> {
-    for (text, wanted) in &FRAMES {
-        let mut shown = String::new(rt.alloc());
-        show_frames(rt.alloc(), text.as_bytes(), &mut shown)?;
-        same(&rt, text, &shown.as_str(), wanted);
-    }
-    Ok(())
-}
-
-#[test]
-fn judge_lines_are_read_or_refused(rt: HostRuntime) -> Result<(), Fail> {
-    for (text, wanted) in &JUDGES {
-        let mut shown = String::new(rt.alloc());
-        show_judges(rt.alloc(), text.as_bytes(), &mut shown)?;
-        same(&rt, text, &shown.as_str(), wanted);
-    }
-    Ok(())
-}
-
-#[test]
-fn load_lines_are_read_or_refused(rt: HostRuntime) -> Result<(), Fail> {
-    for (text, wanted) in &LOADS {
-        let mut shown = String::new(rt.alloc());
-        show_loads(rt.alloc(), text.as_bytes(), &mut shown)?;
-        same(&rt, text, &shown.as_str(), wanted);
-    }
-    Ok(())
-}
 
 // Takes any line.
 struct AnyLine;
@@ -382,32 +133,8 @@ fn a_kind_of_line_is_read_through_its_reader(rt: HostRuntime) -> Result<(), Fail
     Ok(())
 }
 
-#[test]
-fn words_are_read_by_their_forms(rt: HostRuntime) -> Result<(), Fail> {
-    same(&rt, "6BC1", &secoc_words::data_id(b"6BC1"), &Some(0x6bc1));
-    same(&rt, "6bc", &secoc_words::data_id(b"6bc"), &None);
-    let fresh = secoc_words::fresh(b"e93d7e117393172a");
-    same(&rt, "fresh", &fresh, &Some(0xe93d_7e11_7393_172a));
-    let digits = b"000102030405060708090a0b0c0d0e0f0F0E0D0C0B0A09080706050403020100";
-    let [first, second] = secoc_words::two(digits).ok_or("no two blocks")?;
-    same(
-        &rt,
-        "first",
-        first.bytes(),
-        b"\x00\x01\x02\x03\x04\x05\x06\x07\x08\x09\x0a\x0b\x0c\x0d\x0e\x0f",
-    );
-    same(
-        &rt,
-        "second",
-        second.bytes(),
-        b"\x0f\x0e\x0d\x0c\x0b\x0a\x09\x08\x07\x06\x05\x04\x03\x02\x01\x00",
-    );
-    same(&rt, "key", &secoc_words::key(digits), &None);
-    Ok(())
-}
-
 /// A word, the least and the most number, and the number that it is.
-const NUMBERS: [(&[u8], u64, u64, Option<u64>); 11] = [
+const NUMBERS: &[(&[u8], u64, u64, Option<u64>)] = &[
     (b"0", 0, 65_536, Some(0)),
     (b"65536", 0, 65_536, Some(65_536)),
     (b"65537", 0, 65_536, None),
@@ -472,7 +199,9 @@ fn bytes_are_of_a_least_and_a_most_number(rt: HostRuntime) -> Result<(), Fail> {
 
 /// The line of each word of a text, its place and its length.
 fn places(alloc: Global, text: &[u8]) -> Result<Vec<(u32, u32, u32)>, Fail> {
-    is_short(text)?;
+    if text.len() > 1000 {
+        return Err(Fail::from("a long text"));
+    }
     let cuts = forms::cut(alloc, text)?;
     let mut places = Vec::new(alloc);
     for cut in cuts {
@@ -500,37 +229,6 @@ fn an_unknown_event_has_its_text(rt: HostRuntime) -> Result<(), Memory> {
         &text.as_str(),
         &("script: line 4294967295: unknown event\n"),
     );
-    Ok(())
-}
-
-const ZERO: &[u8] = b"000000000000000000000000000000";
-
-#[test]
-fn identifiers_of_a_key_update_are_read_by_their_forms(rt: HostRuntime) -> Result<(), Fail> {
-    let uid = secoc_words::uid(b"0000000000000000000000000000fF").ok_or("no identifier")?;
-    same(&rt, "uid", &uid.bytes()[14], &255);
-    let short = secoc_words::uid(b"0000000000000000000000000000f");
-    holds(&rt, "29 digits", short.is_none());
-    let engine = secoc_words::engine_uid(b"000000000000000000000000000001").ok_or("no engine")?;
-    same(&rt, "engine", &engine.bytes()[14], &1);
-    holds(&rt, "an engine 0", secoc_words::engine_uid(ZERO).is_none());
-    holds(&rt, "an identifier 0", secoc_words::uid(ZERO).is_some());
-    Ok(())
-}
-
-#[test]
-fn numbers_of_a_key_update_are_read_by_their_forms(rt: HostRuntime) -> Result<(), Fail> {
-    let slot = secoc_words::slot(b"13").ok_or("no slot")?;
-    same(&rt, "slot", &slot.number(), &13);
-    holds(&rt, "slot 14", secoc_words::slot(b"14").is_none());
-    let counter = secoc_words::counter(b"268435455").ok_or("no counter")?;
-    same(&rt, "counter", &counter.number(), &268_435_455);
-    let larger = secoc_words::counter(b"268435456");
-    holds(&rt, "counter 2^28", larger.is_none());
-    let flags = secoc_words::flags(b"10010").ok_or("no flags")?;
-    same(&rt, "flags", &flags.number(), &0b10010);
-    holds(&rt, "a digit 2", secoc_words::flags(b"10012").is_none());
-    holds(&rt, "four digits", secoc_words::flags(b"1001").is_none());
     Ok(())
 }
 
@@ -568,95 +266,15 @@ fn faults_are_displayed(rt: HostRuntime) -> Result<(), Fail> {
     displays(&rt, rt.alloc(), &ScriptFault::Memory, "out of memory")
 }
 
-/// What is pushed for a payload of these bytes.
-fn says(
-    rt: &impl Abort,
-    alloc: Global,
-    payload: &[u8],
-    judgement: &Judgement,
-    text: &str,
-) -> Result<(), Fail> {
-    let mut out = Vec::new(alloc);
-    push_line(&mut out, b"before")?;
-    push_outcome(&mut out, payload, judgement)?;
-    same(rt, text, &out.as_slice(), &text.as_bytes());
-    Ok(())
-}
-
 #[test]
-fn verdicts_have_their_texts(rt: HostRuntime) -> Result<(), Fail> {
-    let payload = b"\xbe\xe2\x2e\x40\x9f\x96".as_slice();
-    let accepted = Judgement::Accepted(0xe93d_7e11_7393_172a);
-    let text = "before\nVERIFICATIONSUCCESS e93d7e117393172a bee22e409f96\n";
-    says(&rt, rt.alloc(), payload, &accepted, text)?;
-    let text = "before\nFRESHNESSFAILURE\n";
-    says(&rt, rt.alloc(), &[0], &Judgement::FreshnessFailure, text)?;
-    let text = "before\nVERIFICATIONFAILURE\n";
-    says(&rt, rt.alloc(), &[0], &Judgement::VerificationFailure, text)
-}
-
-#[test]
-fn a_bad_length_has_its_text(rt: HostRuntime) -> Result<(), Fail> {
+fn no_bytes_have_no_digits(rt: HostRuntime) -> Result<(), Fail> {
     let mut text = Vec::new(rt.alloc());
-    push_bad_length(&mut text)?;
-    push_line(&mut text, b"waiting")?;
-    let wanted = b"BadLength\nwaiting\n".as_slice();
-    same(&rt, "text", &text.as_slice(), &wanted);
+    push_digits(&mut text, &[])?;
+    same(&rt, "digits", &text.len(), &0);
     Ok(())
 }
 
-fn digits(alloc: Global, len: usize) -> Result<Vec<u8>, Fail> {
-    let bytes = vec![in alloc; 0x0a; len]?;
-    let mut text = Vec::new(alloc);
-    push_digits(&mut text, &bytes)?;
-    Ok(text)
-}
-
-/// So many bytes, and the number of their digits.
-const DIGITS: &[(usize, usize)] = &[(0, 0), (1, 2), (64, 128), (65, 130), (200, 400)];
-
 #[test]
-fn digits_of_any_number_of_bytes_are_added(rt: HostRuntime) -> Result<(), Fail> {
-    for (len, count) in DIGITS {
-        let text = digits(rt.alloc(), *len)?;
-        same(&rt, *len, &text.len(), count);
-        let pairs = text.chunks(2).all(|digits| digits == b"0a".as_slice());
-        holds(&rt, *len, pairs);
-    }
-    Ok(())
-}
-
-const CUTS: &[(&[u8], Option<Torn>)] = &[
-    (b"keep", Some(Torn::Keep)),
-    (b"old", Some(Torn::Old)),
-    (b"half", Some(Torn::Half)),
-    (b"a7", Some(Torn::Fill(0xa7))),
-    (b"A7", Some(Torn::Fill(0xa7))),
-    (b"Keep", None),
-    (b"keep0", None),
-    (b"", None),
-    (b"a", None),
-    (b"0a7", None),
-];
-
-#[test]
-fn what_a_power_cut_leaves_is_read(rt: HostRuntime) {
-    for (place, (word, torn)) in CUTS.iter().enumerate() {
-        same(&rt, place, &secoc_words::torn(word), torn);
-    }
-}
-
-const CALLS: &[(&[u8], Option<u32>)] = &[
-    (b"1", Some(1)),
-    (b"1000000", Some(1_000_000)),
-    (b"0", None),
-    (b"1000001", None),
-    (b"1x", None),
-];
-
-#[test]
-fn a_number_of_disk_calls_is_read(rt: HostRuntime) {
-    for (place, (word, calls)) in CALLS.iter().enumerate() {
-        same(&rt, place, &secoc_words::calls(word), calls);
-    }
+fn no_bytes_are_no_kind_of_cut(rt: HostRuntime) {
+    same(&rt, "torn", &secoc_words::torn(b""), &None);
 }
