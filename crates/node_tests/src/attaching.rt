@@ -1,11 +1,11 @@
 //! Cells that are no node's: the lowest is named, slots before bounds, and the cells are handed back as they were.
 ghost use Rattle.std.specs.Prelude.{◌≡◌, ◌+◌, length, false};
 
-use crate::bench::{log_store, twin_store, uid};
+use crate::bench::{Plan, STORES, Way, config, store_of};
 use crate::comparing::{holds, same};
 use crate::lives::{ID, START};
-use cell_store::{Cells, Version};
-use freshness_manager::{Direction, NodeConfig, Route};
+use cell_store::{Cells, Kind, Version};
+use freshness_manager::{Direction, NodeConfig};
 use key_slots::SlotId;
 use secoc_node::{AttachFault, Node, first_cells};
 use std::alloc::Global;
@@ -17,86 +17,108 @@ const NOTHING: [u8; 32] = [7; 32];
 
 const ZERO: [u8; 32] = [0; 32];
 
-fn two_routes(alloc: Global) -> Result<NodeConfig, Fail> {
-    let slot = SlotId::new(4).ok_or("slot 4")?;
-    let routes = vec![in alloc;
-        Route {
+/// A first route that receives, and a second that sends.
+const TWO: Plan<'static> = Plan {
+    number: 2,
+    ways: &[
+        Way {
             id: ID,
             direction: Direction::Receives,
-            slot,
+            slot: 4,
             reserve: 1,
             window: 256,
             start: START,
         },
-        Route {
+        Way {
             id: ID + 1,
             direction: Direction::Sends,
-            slot,
+            slot: 4,
             reserve: 1,
             window: 256,
             start: START,
         },
-    ]?;
-    let config = NodeConfig::new(uid(2), routes).ok_or("a configuration")?;
-    Ok(config)
+    ],
+    slot_4: [0; 32],
+    stop: 0,
+};
+
+/// Each cell is as it was.
+fn are_back<C: Cells>(rt: &impl Abort, back: &C, cells: &[[u8; 32]]) {
+    holds(rt, "count", usize::from(back.count()) == cells.len());
+    for place in 0..back.count() {
+        let mut out = [1; 32];
+        back.get(place, &mut out);
+        holds(rt, place, out == cells[usize::from(place)]);
+    }
 }
 
 /// The node is refused for this, and each cell is handed back.
 fn refuses<C: Cells + Drop>(
     rt: &impl Abort,
     alloc: Global,
+    config: NodeConfig,
     store: C,
     cells: &[[u8; 32]],
     fault: AttachFault,
 ) -> Result<(), Fail>
-    requires same { length (C.state store).cells ≡ length cells.now }
+    requires count { length (C.state store).cells ≡ 14 + length config.routes }
     requires whole { (C.state store).broken ≡ false }
 {
-    let config = two_routes(alloc)?;
-    if cells.len() != 14 + config.routes.as_slice().len() {
-        return Err(Fail::from("another number of cells"));
+    match Node::attach(alloc, config, store) {
+        Ok(_) => Err(Fail::from("a node")),
+        Err(refused) => {
+            same(rt, "refused.fault", &refused.fault, &fault);
+            are_back(rt, &refused.cells, cells);
+            Ok(())
+        }
     }
-    let refused = match Node::attach(alloc, config, store) {
-        Ok(_) => return Err(Fail::from("a node")),
-        Err(refused) => refused,
-    };
-    same(rt, "refused.fault", &refused.fault, &fault);
-    if usize::from(refused.cells.count()) != cells.len() {
-        return Err(Fail::from("another number of cells"));
-    }
-    for place in 0..refused.cells.count() {
-        let mut out = [1; 32];
-        refused.cells.get(place, &mut out);
-        holds(rt, "out", out == cells[usize::from(place)]);
-    }
-    Ok(())
 }
 
-fn bad_slot(number: u8) -> Result<AttachFault, &'static str> {
-    Ok(AttachFault::BadSlot(SlotId::new(number).ok_or("a slot")?))
+/// The cell that is named: a slot's, or a bound's.
+#[derive(Clone, Copy)]
+enum Bad {
+    Slot(u8),
+    Bound(u16),
+}
+
+fn fault_of(bad: Bad) -> Result<AttachFault, &'static str> {
+    match bad {
+        Bad::Slot(number) => Ok(AttachFault::BadSlot(SlotId::new(number).ok_or("a slot")?)),
+        Bad::Bound(cell) => Ok(AttachFault::BadBound(cell)),
+    }
+}
+
+/// What the cells at these places are, and the one that is named.
+type Row = ([u8; 32], &'static [usize], Bad);
+
+const ROWS: &[Row] = &[
+    (ZERO, &[14], Bad::Bound(14)),
+    (ZERO, &[15], Bad::Bound(15)),
+    (NOTHING, &[14, 15], Bad::Bound(14)),
+    (NOTHING, &[3], Bad::Slot(3)),
+    (NOTHING, &[3, 13], Bad::Slot(3)),
+    (NOTHING, &[13, 14], Bad::Slot(13)),
+];
+
+fn is_named(rt: &impl Abort, alloc: Global, store: (Kind, Version), row: &Row) -> Result<(), Fail> {
+    let fault = fault_of(row.2)?;
+    let config = config(alloc, &TWO)?;
+    let mut cells = [[0; 32]; 270];
+    let count = first_cells(&config, &mut cells);
+    for place in row.1 {
+        holds(rt, "*place < 16", *place < 16);
+        cells[*place] = row.0;
+    }
+    let cells = &cells[..count];
+    let store = store_of(alloc, store, cells)?;
+    refuses(rt, alloc, config, store, cells, fault)
 }
 
 #[test]
 fn the_lowest_cell_that_is_no_node_s_is_named(rt: HostRuntime) -> Result<(), Fail> {
-    let alloc = rt.alloc();
-    for (cell, places, fault) in [
-        (ZERO, &[14][..], AttachFault::BadBound(14)),
-        (ZERO, &[15][..], AttachFault::BadBound(15)),
-        (NOTHING, &[14, 15][..], AttachFault::BadBound(14)),
-        (NOTHING, &[3][..], bad_slot(3)?),
-        (NOTHING, &[3, 13][..], bad_slot(3)?),
-        (NOTHING, &[13, 14][..], bad_slot(13)?),
-    ] {
-        let mut cells = [[0; 32]; 270];
-        let count = first_cells(&two_routes(alloc)?, &mut cells);
-        for place in places {
-            holds(&rt, "*place < 16", *place < 16);
-            cells[*place] = cell;
-        }
-        let cells = &cells[..count];
-        for version in [Version::One, Version::Two] {
-            refuses(&rt, alloc, twin_store(alloc, version, cells)?, cells, fault)?;
-            refuses(&rt, alloc, log_store(alloc, version, cells)?, cells, fault)?;
+    for row in ROWS {
+        for store in STORES {
+            is_named(&rt, rt.alloc(), store, row)?;
         }
     }
     Ok(())

@@ -1,9 +1,11 @@
 //! A node over each store in memory, and the player of tables.
 ghost use Rattle.std.specs.Prelude.{◌≡◌, ◌+◌, length, false, IfOk};
 ghost use Rattle.cell_store.specs.Store.{FewCells};
+ghost use Rattle.any_cells.specs.Either.{any_state};
 
 use crate::comparing::{holds, same};
-use cell_store::{Cells, CutCells, Kind, LogCells, Reread, TwinCells, Version};
+use any_cells::AnyCells;
+use cell_store::{Cells, CutCells, Kind, Reread, Version};
 use cut_disk::{MemDisk, Torn};
 use freshness_manager::{Direction, NodeConfig, Route};
 use key_slots::{Counter28, Flags, SlotId};
@@ -89,7 +91,7 @@ pub struct Plan<'a> {
     pub stop: u64,
 }
 
-pub fn uid(number: u8) -> Uid {
+fn uid(number: u8) -> Uid {
     Uid::of([0, 0, 0, 0, 0, 0, 0, 0, 0, 0, 0, 0, 0, 0, number])
 }
 
@@ -109,41 +111,23 @@ pub fn config(alloc: Global, plan: &Plan<'_>) -> Result<NodeConfig, Fail> {
     Ok(config)
 }
 
-pub fn twin_store(
+/// A store of this kind and version with these cells, on a disk in memory.
+pub fn store_of(
     alloc: Global,
-    version: Version,
+    store: (Kind, Version),
     cells: &[[u8; 32]],
-) -> Result<TwinCells<MemDisk>, Fail>
+) -> Result<AnyCells<MemDisk>, Fail>
     requires { FewCells (length cells.now) }
-    ensures count { IfOk result (λ store. length store.cells ≡ length cells.now) }
-    ensures whole { IfOk result (λ store. store.broken ≡ false) }
+    ensures count { IfOk result (λ store. length (any_state store).cells ≡ length cells.now) }
+    ensures whole { IfOk result (λ store. (any_state store).broken ≡ false) }
 {
+    let (kind, version) = store;
     let disk = MemDisk::new(alloc, 56_000)?;
-    let disk = match TwinCells::format_as(disk, version, cells) {
+    let disk = match AnyCells::format_as(disk, kind, version, cells) {
         Ok(disk) => disk,
         Err(refused) => return Err(Fail::from(refused.fault)),
     };
-    match TwinCells::attach_as(alloc, disk, version, cells.len() as u16) {
-        Ok(store) => Ok(store),
-        Err(refused) => Err(Fail::from(refused.fault)),
-    }
-}
-
-pub fn log_store(
-    alloc: Global,
-    version: Version,
-    cells: &[[u8; 32]],
-) -> Result<LogCells<MemDisk>, Fail>
-    requires { FewCells (length cells.now) }
-    ensures count { IfOk result (λ store. length store.cells ≡ length cells.now) }
-    ensures whole { IfOk result (λ store. store.broken ≡ false) }
-{
-    let disk = MemDisk::new(alloc, 56_000)?;
-    let disk = match LogCells::format_as(disk, version, cells) {
-        Ok(disk) => disk,
-        Err(refused) => return Err(Fail::from(refused.fault)),
-    };
-    match LogCells::attach_as(alloc, disk, version, cells.len() as u16) {
+    match AnyCells::attach_as(alloc, disk, kind, version, cells.len() as u16) {
         Ok(store) => Ok(store),
         Err(refused) => Err(Fail::from(refused.fault)),
     }
@@ -168,30 +152,16 @@ fn arm<C: CutCells>(store: &mut C, stop: u64)
     }
 }
 
-fn twin_node(
+fn node_of(
     alloc: Global,
-    version: Version,
+    store: (Kind, Version),
     plan: &Plan<'_>,
-) -> Result<Node<TwinCells<MemDisk>>, Fail> {
+) -> Result<Node<AnyCells<MemDisk>>, Fail> {
     let config = config(alloc, plan)?;
     let mut cells = [[0; 32]; 270];
     let count = first_cells(&config, &mut cells);
     cells[4] = plan.slot_4;
-    let mut store = twin_store(alloc, version, &cells[..count])?;
-    arm(&mut store, plan.stop);
-    attached(alloc, config, store)
-}
-
-fn log_node(
-    alloc: Global,
-    version: Version,
-    plan: &Plan<'_>,
-) -> Result<Node<LogCells<MemDisk>>, Fail> {
-    let config = config(alloc, plan)?;
-    let mut cells = [[0; 32]; 270];
-    let count = first_cells(&config, &mut cells);
-    cells[4] = plan.slot_4;
-    let mut store = log_store(alloc, version, &cells[..count])?;
+    let mut store = store_of(alloc, store, &cells[..count])?;
     arm(&mut store, plan.stop);
     attached(alloc, config, store)
 }
@@ -359,18 +329,9 @@ pub fn plays_over(
     rows: &[Row],
     bounds: &[[u8; 12]],
 ) -> Result<(), Fail> {
-    match store.0 {
-        Kind::Twin => {
-            let mut node = twin_node(alloc, store.1, plan)?;
-            play(rt, &mut node, plan.number, given, rows);
-            keeps(rt, &node.release(), bounds);
-        }
-        Kind::Log => {
-            let mut node = log_node(alloc, store.1, plan)?;
-            play(rt, &mut node, plan.number, given, rows);
-            keeps(rt, &node.release(), bounds);
-        }
-    }
+    let mut node = node_of(alloc, store, plan)?;
+    play(rt, &mut node, plan.number, given, rows);
+    keeps(rt, &node.release(), bounds);
     Ok(())
 }
 

@@ -198,41 +198,70 @@ fn the_most_ways(alloc: Global) -> Result<Vec<Way>, Fail> {
     Ok(ways)
 }
 
-/// Each route that sends sends once, and two that receive hear; after a power cut each is where it was.
+/// Each route that sends sends once; the bytes of the first and the last are looked at.
+fn add_sends(rows: &mut Vec<Row>) -> Result<(), Fail> {
+    for place in 0..128u16 {
+        let answer = Answer::Sent(u64::from(2 * place + 1));
+        let id = 0x100 + 2 * place;
+        let row = match place {
+            0 => Row(Act::Send(id, PAYLOAD), answer, OF_ROUTE_0),
+            127 => Row(Act::Send(id, PAYLOAD), answer, OF_ROUTE_254),
+            _ => Row(Act::SendAny(id, PAYLOAD), answer, &[]),
+        };
+        rows.push(row)?;
+    }
+    Ok(())
+}
+
+/// Two that receive hear, and the power is cut.
+const HEARS_TWO: &[Row] = &[
+    Row(
+        Act::Receive(0x101, OF_ROUTE_1),
+        Answer::Heard(Reception::Accepted {
+            freshness: 2,
+            len: 6,
+        }),
+        &[],
+    ),
+    Row(
+        Act::Receive(0x1ff, OF_ROUTE_255),
+        Answer::Heard(Reception::Accepted {
+            freshness: 256,
+            len: 6,
+        }),
+        &[],
+    ),
+    Row(Act::Cut(Torn::Half), Answer::Done, &[]),
+];
+
+/// The direction of a route, and whether a PDU passed it.
+fn use_of(place: u16) -> (Direction, bool) {
+    if place % 2 == 0 {
+        (Direction::Sends, true)
+    } else {
+        (Direction::Receives, place == 1 || place == 255)
+    }
+}
+
+/// Each route is where it was.
+fn add_counts(rows: &mut Vec<Row>) -> Result<(), Fail> {
+    for place in 0..256u16 {
+        let (direction, is_used) = use_of(place);
+        let counter = u64::from(place) + u64::from(is_used);
+        let act = Act::Count(0x100 + place, direction);
+        rows.push(Row(act, Answer::Count(Some(counter)), &[]))?;
+    }
+    Ok(())
+}
+
 fn serves_each(alloc: Global) -> Result<Vec<Row>, Fail> {
     let mut rows = Vec::new(alloc);
     rows.push(FIRST_KEY)?;
-    for place in 0..128u16 {
-        let freshness = u64::from(2 * place + 1);
-        let id = 0x100 + 2 * place;
-        rows.push(match place {
-            0 => Row(Act::Send(id, PAYLOAD), Answer::Sent(freshness), OF_ROUTE_0),
-            127 => Row(
-                Act::Send(id, PAYLOAD),
-                Answer::Sent(freshness),
-                OF_ROUTE_254,
-            ),
-            _ => Row(Act::SendAny(id, PAYLOAD), Answer::Sent(freshness), &[]),
-        })?;
+    add_sends(&mut rows)?;
+    for row in HEARS_TWO {
+        rows.push(*row)?;
     }
-    for (id, pdu, freshness) in [(0x101, OF_ROUTE_1, 2), (0x1ff, OF_ROUTE_255, 256)] {
-        let said = Reception::Accepted { freshness, len: 6 };
-        rows.push(Row(Act::Receive(id, pdu), Answer::Heard(said), &[]))?;
-    }
-    rows.push(Row(Act::Cut(Torn::Half), Answer::Done, &[]))?;
-    for place in 0..256u16 {
-        let (direction, is_used) = if place % 2 == 0 {
-            (Direction::Sends, true)
-        } else {
-            (Direction::Receives, place == 1 || place == 255)
-        };
-        let counter = u64::from(place) + u64::from(is_used);
-        rows.push(Row(
-            Act::Count(0x100 + place, direction),
-            Answer::Count(Some(counter)),
-            &[],
-        ))?;
-    }
+    add_counts(&mut rows)?;
     Ok(rows)
 }
 
