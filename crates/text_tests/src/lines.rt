@@ -1,4 +1,5 @@
-// Lines, words and numbers of a text, and texts of faults, as no program prints them; what programs print is rows of checks/text_rows.
+// Lines, words and numbers of a text, and texts of faults, as no program prints them. What programs print is rows of
+// checks/text_rows.
 use crate::comparing::{holds, same};
 use byte_lists::Bytes;
 use secoc_words::frames::FrameReader;
