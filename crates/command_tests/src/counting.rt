@@ -1,72 +1,11 @@
-//! The words of a trial, and the summary of a run.
+//! The summary of a run. The words of a trial are rows of checks/.
 use crate::comparing::same;
-use bus_commands::words::{Command, WorldCommand, command_of};
-use bus_commands::{Summary, TrialWords};
+use bus_commands::Summary;
 use bus_machine::{Line, Refusal};
 use byte_lists::Pdu;
 use key_slots::SlotId;
 use numbered_run::Tally;
-use std::alloc::{AllocError, Global};
 use std::test::Fail;
-
-/// What four words ask for, of which the second is a bus file.
-fn asked(
-    alloc: Global,
-    name: &str,
-    count: &str,
-    seed: &str,
-) -> Result<Option<Command>, AllocError> {
-    let mut words = Vec::new(alloc);
-    for word in [name, "B", count, seed] {
-        words.push(String::from_str(alloc, word)?)?;
-    }
-    Ok(command_of(words.as_slice()))
-}
-
-/// The words of a count and a seed, and what they are.
-const WORDS: &[(&str, &str, Option<(u32, u64)>)] = &[
-    ("1", "0", Some((1, 0))),
-    ("60000", "1", Some((60_000, 1))),
-    ("59999", "18446744073709551615", Some((59_999, u64::MAX))),
-    ("0", "0", None),
-    ("60001", "0", None),
-    ("100000000000000000001", "0", None),
-    ("1", "18446744073709551616", None),
-    ("1", "100000000000000000000", None),
-    ("01", "0", None),
-    ("1", "00", None),
-    ("+1", "0", None),
-    ("1", "-1", None),
-    ("1", "+1", None),
-    ("1", "0x1", None),
-    ("", "0", None),
-    ("1", "", None),
-    ("1 ", "0", None),
-];
-
-/// The command of a trial with these numbers.
-fn trial_of(read: &Option<(u32, u64)>) -> Option<Command> {
-    match read {
-        Some((count, seed)) => Some(Command::World(WorldCommand::Trial(TrialWords {
-            count: *count,
-            seed: *seed,
-        }))),
-        None => None,
-    }
-}
-
-#[test]
-fn the_words_of_a_trial_are_read_by_their_form(rt: HostRuntime) -> Result<(), Fail> {
-    for (count, seed, read) in WORDS {
-        let found = asked(rt.alloc(), "trial", count, seed)?;
-        same(&rt, seed, &found, &trial_of(read));
-    }
-    let found = asked(rt.alloc(), "Trial", "1", "0")?;
-    same(&rt, "Trial", &found, &None);
-    let found = asked(rt.alloc(), "replay", "1", "0")?;
-    same(&rt, "replay", &found, &None);
-    Ok(())
-}
 
 /// A line that is told.
 #[derive(Clone, Copy)]

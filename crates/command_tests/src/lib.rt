@@ -1,5 +1,5 @@
-//! Tests of the commands of a bus: whole runs over ports and disks in memory. There is nothing else here: a crate of tests over the library
-//! has none of it proved a second time.
+//! Tests of the commands of a bus: whole runs over ports and disks in memory. There is nothing else here: a crate of
+//! tests over the library has none of it proved a second time.
 #![tactic(auto)]
 
 #[cfg(test)]
@@ -10,6 +10,8 @@ mod counting;
 mod lines;
 #[cfg(test)]
 mod nodes;
+#[cfg(test)]
+mod playing;
 #[cfg(test)]
 mod replays;
 #[cfg(test)]

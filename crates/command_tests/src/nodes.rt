@@ -1,7 +1,8 @@
-//! Two nodes that go on where their disks in memory stand, or those over files in memory whose bytes are held. What one node over a
-//! file shows is a row of checks/.
+//! Two nodes that go on where their disks in memory stand, or those over files in memory whose bytes are held. What one
+//! node over a file shows is a row of checks/.
 use crate::lines::BUS;
-use crate::replays::{disks_of, held_disks, runs, tapes_of};
+use crate::playing::{clean_run, plays};
+use crate::replays::{disks_of, held_disks, tapes_of};
 use cut_disk::CutDisk;
 use std::alloc::Global;
 use std::process::Abort;
@@ -16,7 +17,8 @@ const SEND: &str = "send left 6bc1 bee22e409f96\n";
 
 const KEYED_LINES: &str = "1 keyed 4\n2 sent 6bc1 e93d7e117393172a bee22e409f962a070a16\n";
 
-/// What [`KEYED`] prints where the key is there already, and no PDU was sent, or one was. The tag of the second is OpenSSL's.
+/// What [`KEYED`] prints where the key is there already, and no PDU was sent, or one was. The tag of the second is
+/// OpenSSL's.
 const KEPT_LINES: &str =
     "1 refused KEY_UPDATE_ERROR\n2 sent 6bc1 e93d7e117393172a bee22e409f962a070a16\n";
 
@@ -33,60 +35,59 @@ const TWO: &str = "version = 2\n";
 
 const LOG_TWO: &str = "store = \"log\"\nversion = 2\n";
 
-/// Lives over the same disks: the layout, the script, the status and the text. Behind the first come one with stores of the other kind, one
-/// that moves the stores to version 2, and one of version 1.
-type Lives = [(&'static str, &'static str, u8, &'static str); 4];
+/// The layout, the script, the status and the text.
+#[derive(Clone, Copy)]
+struct Life(&'static str, &'static str, u8, &'static str);
 
-const TWIN_LIVES: Lives = [
-    ("", KEYED, 0, KEYED_LINES),
-    (LOG, SEND, 10, FOREIGN),
-    (TWO, SEND, 0, SENT_LINE),
-    ("", SEND, 10, FOREIGN),
+/// Lives over the same disks. Behind the first come one with stores of the other kind, one that moves the stores to
+/// version 2, and one of version 1.
+const TWIN_LIVES: &[Life] = &[
+    Life("", KEYED, 0, KEYED_LINES),
+    Life(LOG, SEND, 10, FOREIGN),
+    Life(TWO, SEND, 0, SENT_LINE),
+    Life("", SEND, 10, FOREIGN),
 ];
 
-const LOG_LIVES: Lives = [
-    (LOG, KEYED, 0, KEYED_LINES),
-    ("", SEND, 10, FOREIGN),
-    (LOG_TWO, SEND, 0, SENT_LINE),
-    (LOG, SEND, 10, FOREIGN),
+const LOG_LIVES: &[Life] = &[
+    Life(LOG, KEYED, 0, KEYED_LINES),
+    Life("", SEND, 10, FOREIGN),
+    Life(LOG_TWO, SEND, 0, SENT_LINE),
+    Life(LOG, SEND, 10, FOREIGN),
 ];
 
-/// A run of the bus with stores of this layout over these disks.
+/// A run of the bus over these disks.
 fn goes_on<D: CutDisk>(
     rt: &impl Abort,
     alloc: Global,
     disks: &mut Vec<D>,
-    texts: [&str; 2],
+    life: &Life,
     fails_behind: Option<usize>,
-    status: u8,
-    output: &str,
 ) -> Result<(), Fail> {
-    let [layout, script] = texts;
-    let bus = format!(in alloc; "{layout}{BUS}")?;
-    let texts = ["node B F DISK", bus.as_str(), script];
-    runs(rt, alloc, disks, texts, fails_behind, status, output)
+    let (bus, script) = ([life.0, BUS], [life.1, ""]);
+    let given = clean_run("node B F DISK", bus, script, life.2, [life.3, ""]);
+    plays(rt, alloc, &given, fails_behind, disks)
 }
 
-fn lives<D: CutDisk>(
+fn lives<D: CutDisk + Drop>(
     rt: &impl Abort,
     alloc: Global,
-    disks: &mut Vec<D>,
-    lives: &Lives,
+    disks: Vec<D>,
+    lives: &[Life],
 ) -> Result<(), Fail> {
-    for (layout, script, status, output) in lives {
-        let texts = [*layout, *script];
-        goes_on(rt, alloc, disks, texts, None, *status, output)?;
+    let mut disks = disks;
+    for life in lives {
+        goes_on(rt, alloc, &mut disks, life, None)?;
     }
     Ok(())
 }
 
 #[test]
 fn a_bus_goes_on_where_its_disks_stand(rt: HostRuntime) -> Result<(), Fail> {
-    for rows in [&TWIN_LIVES, &LOG_LIVES] {
-        let mut disks = disks_of(rt.alloc(), &[65_536, 65_536])?;
-        lives(&rt, rt.alloc(), &mut disks, rows)?;
-        let mut disks = held_disks(rt.alloc(), 65_536, 0)?;
-        lives(&rt, rt.alloc(), &mut disks, rows)?;
+    for rows in [TWIN_LIVES, LOG_LIVES] {
+        let disks = disks_of(rt.alloc(), &[65_536, 65_536])?;
+        lives(&rt, rt.alloc(), disks, rows)?;
+        let disks = held_disks(rt.alloc(), 65_536, 0)?;
+        lives(&rt, rt.alloc(), disks, rows)?;
     }
     Ok(())
 }
@@ -96,17 +97,17 @@ fn two_lives(
     rt: &impl Abort,
     alloc: Global,
     fails_behind: Option<usize>,
-    output: &str,
+    next: &Life,
 ) -> Result<(), Fail> {
     let mut disks = tapes_of(alloc)?;
-    let texts = ["", KEYED];
-    goes_on(rt, alloc, &mut disks, texts, fails_behind, 0, KEYED_LINES)?;
-    goes_on(rt, alloc, &mut disks, texts, None, 0, output)
+    let first = Life("", KEYED, 0, KEYED_LINES);
+    goes_on(rt, alloc, &mut disks, &first, fails_behind)?;
+    goes_on(rt, alloc, &mut disks, next, None)
 }
 
 /// The first event was done, and its line wasn't written whole: what it did is there in the next life.
 #[test]
 fn a_life_behind_a_write_fault_keeps_what_was_done(rt: HostRuntime) -> Result<(), Fail> {
-    two_lives(&rt, rt.alloc(), None, AGAIN_LINES)?;
-    two_lives(&rt, rt.alloc(), Some(4), KEPT_LINES)
+    two_lives(&rt, rt.alloc(), None, &Life("", KEYED, 0, AGAIN_LINES))?;
+    two_lives(&rt, rt.alloc(), Some(4), &Life("", KEYED, 0, KEPT_LINES))
 }

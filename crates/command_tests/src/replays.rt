@@ -1,15 +1,16 @@
-//! Whole replays over disks and ports in memory: what a program over disks of its own can't show. What it can is a row of checks/.
+//! Whole replays over disks and ports in memory: what a program over disks of its own can't show. What it can is a row
+//! of checks/.
 use crate::comparing::{holds, same};
-use crate::lines::{BUS, clean, does, ending, sink_of};
-use bus_port::MemSink;
+use crate::lines::BUS;
+use crate::playing::{Run, Text, clean_run, plays, plays_once};
 use cut_disk::{CutDisk, Disk, DiskFailed, MemDisk, TapeDisk};
 use file_disk::{ByteFile, FileDisk, FileFailed, HeldFile, room_to_hold};
 use std::alloc::{AllocError, Global};
 use std::process::Abort;
 use std::test::Fail;
 
-/// Keys for both nodes, under a master key that each gets first, and a PDU that is sent, delivered twice, and altered. The key and the MAC
-/// are of the second CMAC example of SP 800-38B.
+/// Keys for both nodes, under a master key that each gets first, and a PDU that is sent, delivered twice, and altered.
+/// The key and the MAC are of the second CMAC example of SP 800-38B.
 const ORDINARY: &str =
     "key left - 1 1 ffffffffffffffffffffffffffffffff 1 00000 000102030405060708090a0b0c0d0e0f\nkey right - 1 1 ffffffffffffffffffffffffffffffff 1 00000 000102030405060708090a0b0c0d0e0f\nkey left - 4 1 000102030405060708090a0b0c0d0e0f 1 00010 2b7e151628aed2a6abf7158809cf4f3c\nkey right - 4 1 000102030405060708090a0b0c0d0e0f 1 00010 2b7e151628aed2a6abf7158809cf4f3c\nsend left 6bc1 bee22e409f96\ndeliver right 5\ndeliver right 5\ninject right 6bc1 bee22e409f972a070a16\n";
 
@@ -23,23 +24,43 @@ const SENT: &str =
 const SENT_LINES: &str =
     "1 keyed 4\n2 keyed 4\n3 sent 6bc1 e93d7e117393172a bee22e409f962a070a16\n";
 
-/// What is behind [`SENT`], and its lines: a stop within the write of the receiver's bound, a cut, and the delivery again; and a cut that fails.
-const POWER_CUTS: [(&str, &str); 4] = [
+/// Scripts and their lines: the ordinary run; a stop within the write of the receiver's bound, a cut, and the delivery
+/// again; and a cut that fails.
+const PAST: &[(Text, Text)] = &[
+    ([ORDINARY, ""], [ORDINARY_LINES, ""]),
     (
-        "stop right 2\ndeliver right 3\ndeliver right 3\ncut right old\ndeliver right 3\n",
-        "4 armed\n5 refused MEMORY_FAILURE\n6 refused Down\n7 up\n8 accepted 6bc1 e93d7e117393172a bee22e409f96 from 3\n",
+        [
+            SENT,
+            "stop right 2\ndeliver right 3\ndeliver right 3\ncut right old\ndeliver right 3\n",
+        ],
+        [
+            SENT_LINES,
+            "4 armed\n5 refused MEMORY_FAILURE\n6 refused Down\n7 up\n8 accepted 6bc1 e93d7e117393172a bee22e409f96 from 3\n",
+        ],
     ),
     (
-        "stop right 6\ndeliver right 3\ndeliver right 3\ncut right keep\ndeliver right 3\n",
-        "4 armed\n5 refused MEMORY_FAILURE\n6 refused Down\n7 up\n8 VERIFICATIONFAILURE\n",
+        [
+            SENT,
+            "stop right 6\ndeliver right 3\ndeliver right 3\ncut right keep\ndeliver right 3\n",
+        ],
+        [
+            SENT_LINES,
+            "4 armed\n5 refused MEMORY_FAILURE\n6 refused Down\n7 up\n8 VERIFICATIONFAILURE\n",
+        ],
     ),
     (
-        "stop right 6\ndeliver right 3\ndeliver right 3\ncut right old\ndeliver right 3\n",
-        "4 armed\n5 refused MEMORY_FAILURE\n6 refused Down\n7 up\n8 accepted 6bc1 e93d7e117393172a bee22e409f96 from 3\n",
+        [
+            SENT,
+            "stop right 6\ndeliver right 3\ndeliver right 3\ncut right old\ndeliver right 3\n",
+        ],
+        [
+            SENT_LINES,
+            "4 armed\n5 refused MEMORY_FAILURE\n6 refused Down\n7 up\n8 accepted 6bc1 e93d7e117393172a bee22e409f96 from 3\n",
+        ],
     ),
     (
-        "fail right 1\ncut right keep\ncut right keep\n",
-        "4 armed\n5 refused MEMORY_FAILURE\n6 up\n",
+        [SENT, "fail right 1\ncut right keep\ncut right keep\n"],
+        [SENT_LINES, "4 armed\n5 refused MEMORY_FAILURE\n6 up\n"],
     ),
 ];
 
@@ -58,53 +79,9 @@ pub(crate) fn disks_of(alloc: Global, sizes: &[usize]) -> Result<Vec<MemDisk>, A
     Ok(disks)
 }
 
-/// Runs these words, which ask for a run over disks, over a bus file and a script, these disks and this sink.
-fn answer_to<D: CutDisk>(
-    alloc: Global,
-    texts: [&str; 3],
-    disks: &mut Vec<D>,
-    sink: &mut MemSink,
-) -> Result<u8, Fail> {
-    let [line, bus, script] = texts;
-    let mut config = clean(alloc, bus)?;
-    let mut source = clean(alloc, script)?;
-    does(alloc, line, &mut config, &mut source, sink, disks)
-}
-
-/// The same over a sink that takes a byte in a call; compares the status and the output. Where the sink fails once so many bytes are
-/// written, the status is 6, and these bytes are all of the output.
-pub(crate) fn runs<D: CutDisk>(
-    rt: &impl Abort,
-    alloc: Global,
-    disks: &mut Vec<D>,
-    texts: [&str; 3],
-    fails_behind: Option<usize>,
-    status: u8,
-    output: &str,
-) -> Result<(), Fail> {
-    let number = disks.len();
-    let mut sink = sink_of(alloc, fails_behind)?;
-    let answer = answer_to(alloc, texts, disks, &mut sink)?;
-    let (status, output) = ending(fails_behind, status, output);
-    same(rt, texts[2], &answer, &status);
-    same(rt, texts[2], &sink.bytes(), &output);
-    holds(rt, "every disk is back", disks.len() == number);
-    Ok(())
-}
-
-/// Replays a script over these disks.
-fn replays<D: CutDisk>(
-    rt: &impl Abort,
-    alloc: Global,
-    disks: &mut Vec<D>,
-    texts: [&str; 2],
-    fails_behind: Option<usize>,
-    status: u8,
-    output: &str,
-) -> Result<(), Fail> {
-    let [bus, script] = texts;
-    let texts = ["replay B F", bus, script];
-    runs(rt, alloc, disks, texts, fails_behind, status, output)
+/// A replay of a script.
+fn replay(bus: Text, script: Text, status: u8, output: Text) -> Run {
+    clean_run("replay B F", bus, script, status, output)
 }
 
 /// Two disks that tell their past.
@@ -117,40 +94,26 @@ pub(crate) fn tapes_of(alloc: Global) -> Result<Vec<TapeDisk>, Fail> {
 }
 
 /// A script over two disks that tell their past.
-fn over_tapes(rt: &impl Abort, alloc: Global, texts: [&str; 2], lines: &str) -> Result<(), Fail> {
+fn over_tapes(rt: &impl Abort, alloc: Global, script: Text, lines: Text) -> Result<(), Fail> {
     let mut tapes = tapes_of(alloc)?;
-    replays(rt, alloc, &mut tapes, texts, None, 0, lines)?;
+    plays(
+        rt,
+        alloc,
+        &replay([BUS, ""], script, 0, lines),
+        None,
+        &mut tapes,
+    )?;
     for tape in tapes.as_slice() {
         holds(rt, "the past is told", tape.past().is_some());
     }
     Ok(())
 }
 
-/// A script over two disks in memory.
-fn over_memory(rt: &impl Abort, alloc: Global, texts: [&str; 2], lines: &str) -> Result<(), Fail> {
-    let mut disks = disks_of(alloc, &[2_048, 2_048])?;
-    replays(rt, alloc, &mut disks, texts, None, 0, lines)
-}
-
-/// A script over two disks that tell their past, and over two that don't.
-fn over_both(rt: &impl Abort, alloc: Global, script: &str, lines: &str) -> Result<(), Fail> {
-    let texts = [BUS, script];
-    over_memory(rt, alloc, texts, lines)?;
-    over_tapes(rt, alloc, texts, lines)
-}
-
-/// The same of [`SENT`] and what stands behind it.
-fn over_both_behind(rt: &impl Abort, alloc: Global, rest: &str, lines: &str) -> Result<(), Fail> {
-    let script = format!(in alloc; "{SENT}{rest}")?;
-    let lines = format!(in alloc; "{SENT_LINES}{lines}")?;
-    over_both(rt, alloc, script.as_str(), lines.as_str())
-}
-
+/// The same lines that a row of checks/ has of disks that don't tell it.
 #[test]
 fn disks_that_tell_their_past_print_the_same(rt: HostRuntime) -> Result<(), Fail> {
-    over_both(&rt, rt.alloc(), ORDINARY, ORDINARY_LINES)?;
-    for (rest, lines) in POWER_CUTS {
-        over_both_behind(&rt, rt.alloc(), rest, lines)?;
+    for (script, lines) in PAST {
+        over_tapes(&rt, rt.alloc(), *script, *lines)?;
     }
     Ok(())
 }
@@ -165,9 +128,9 @@ fn byte_at<D: Disk>(disk: &mut D, at: u64) -> Result<u8, DiskFailed> {
     Ok(out[0])
 }
 
-/// Behind how many lines the byte at an address of a node's disk is 1: the first four events put the cell of slot 1 and then that of slot
-/// 4, of the first node and then of the second, and have a line of ten bytes each. The mark of the second copy of a cell is 2 in a new twin
-/// store, and 1 behind the first put.
+/// Behind how many lines the byte at an address of a node's disk is 1: the first four events put the cell of slot 1 and
+/// then that of slot 4, of the first node and then of the second, and have a line of ten bytes each. The mark of the
+/// second copy of a cell is 2 in a new twin store, and 1 behind the first put.
 const PUTS: &[(usize, usize, u64)] = &[(0, 0, 135), (1, 1, 135), (2, 0, 339), (3, 1, 339)];
 
 /// The byte at an address of the disk of this node.
@@ -187,20 +150,24 @@ fn are_done(rt: &impl Abort, disks: &mut [MemDisk], written: usize) -> Result<()
     Ok(())
 }
 
+/// A replay over a sink that fails once so many bytes are written.
+fn stops_behind(rt: &impl Abort, alloc: Global, written: usize) -> Result<(), Fail> {
+    let given = replay([BUS, ""], [ORDINARY, ""], 0, [ORDINARY_LINES, ""]);
+    let mut disks = disks_of(alloc, &[2_048, 2_048])?;
+    plays(rt, alloc, &given, Some(written), &mut disks)?;
+    are_done(rt, disks.as_mut_slice(), written)
+}
+
 #[test]
 fn after_a_write_that_fails_nothing_more_is_written_or_done(rt: HostRuntime) -> Result<(), Fail> {
-    let texts = [BUS, ORDINARY];
     for written in 0..40 {
-        let mut disks = disks_of(rt.alloc(), &[2_048, 2_048])?;
-        let fails = Some(written);
-        replays(&rt, rt.alloc(), &mut disks, texts, fails, 0, ORDINARY_LINES)?;
-        are_done(&rt, disks.as_mut_slice(), written)?;
+        stops_behind(&rt, rt.alloc(), written)?;
     }
     Ok(())
 }
 
 /// The bytes that the store of a node with one route takes, in each layout.
-const LAYOUTS: [(&str, usize); 4] = [
+const LAYOUTS: &[(&str, usize)] = &[
     ("", 1_052),
     ("store = \"log\"\n", 5_476),
     ("version = 2\n", 33_820),
@@ -216,21 +183,23 @@ enum Size {
 }
 
 /// Disks, and the status and the text over them.
-const DISKS: &[(&[Size], u8, &str)] = &[
-    (&[], 9, "disks: too few\n"),
-    (&[Size::Least], 9, "disks: too few\n"),
-    (
+struct Start(&'static [Size], u8, &'static str);
+
+const STARTS: &[Start] = &[
+    Start(&[], 9, "disks: too few\n"),
+    Start(&[Size::Least], 9, "disks: too few\n"),
+    Start(
         &[Size::Of(100), Size::Of(100)],
         9,
         "disks: node 1 too small\n",
     ),
-    (
+    Start(
         &[Size::Least, Size::OneLess],
         9,
         "disks: node 2 too small\n",
     ),
-    (&[Size::Least, Size::Least], 0, SENT_LINES),
-    (
+    Start(&[Size::Least, Size::Least], 0, SENT_LINES),
+    Start(
         &[Size::Of(65_536), Size::Of(65_536), Size::Of(0)],
         0,
         SENT_LINES,
@@ -255,42 +224,50 @@ fn sized_disks(alloc: Global, least: usize, sizes: &[Size]) -> Result<Vec<MemDis
 fn starts_or_not(
     rt: &impl Abort,
     alloc: Global,
-    bus: &str,
+    layout: &'static str,
     least: usize,
-    row: &(&[Size], u8, &str),
+    row: &Start,
 ) -> Result<(), Fail> {
-    for fails_behind in [None, Some(7)] {
-        let mut disks = sized_disks(alloc, least, row.0)?;
-        let texts = [bus, SENT];
-        replays(rt, alloc, &mut disks, texts, fails_behind, row.1, row.2)?;
-    }
-    Ok(())
+    let given = replay([layout, BUS], [SENT, ""], row.1, [row.2, ""]);
+    plays_once(rt, alloc, &given, None, sized_disks(alloc, least, row.0)?)?;
+    plays_once(
+        rt,
+        alloc,
+        &given,
+        Some(7),
+        sized_disks(alloc, least, row.0)?,
+    )
 }
 
 #[test]
 fn disks_that_are_too_few_or_too_small_are_told(rt: HostRuntime) -> Result<(), Fail> {
     for (layout, least) in LAYOUTS {
-        let bus = format!(in rt.alloc(); "{layout}{BUS}")?;
-        for row in DISKS {
-            starts_or_not(&rt, rt.alloc(), bus.as_str(), least, row)?;
+        for row in STARTS {
+            starts_or_not(&rt, rt.alloc(), *layout, *least, row)?;
         }
     }
     Ok(())
 }
 
-/// A node whose disk fails, the call at which it does, where the sink fails, the status and the text. A start over a twin store of fifteen
-/// cells makes twenty calls to format it and sixteen to read it.
-const FAILURES: &[(usize, u64, Option<usize>, u8, &str)] = &[
-    (0, 1, None, 10, "store: node 1: DiskFailed\n"),
-    (0, 20, None, 10, "store: node 1: DiskFailed\n"),
-    (0, 36, None, 10, "store: node 1: DiskFailed\n"),
-    (0, 36, Some(7), 10, "store: node 1: DiskFailed\n"),
-    (0, 37, None, 0, ""),
-    (1, 1, None, 10, "store: node 2: DiskFailed\n"),
-    (1, 20, None, 10, "store: node 2: DiskFailed\n"),
-    (1, 36, None, 10, "store: node 2: DiskFailed\n"),
-    (1, 36, Some(7), 10, "store: node 2: DiskFailed\n"),
-    (1, 37, None, 0, ""),
+/// A node whose disk fails, the call at which it does, where the sink fails, the status and the text. A start over a
+/// twin store of fifteen cells makes twenty calls to format it and sixteen to read it.
+struct Failure(usize, u64, Option<usize>, u8, &'static str);
+
+const FIRST_FAILED: &str = "store: node 1: DiskFailed\n";
+
+const SECOND_FAILED: &str = "store: node 2: DiskFailed\n";
+
+const FAILURES: &[Failure] = &[
+    Failure(0, 1, None, 10, FIRST_FAILED),
+    Failure(0, 20, None, 10, FIRST_FAILED),
+    Failure(0, 36, None, 10, FIRST_FAILED),
+    Failure(0, 36, Some(7), 10, FIRST_FAILED),
+    Failure(0, 37, None, 0, ""),
+    Failure(1, 1, None, 10, SECOND_FAILED),
+    Failure(1, 20, None, 10, SECOND_FAILED),
+    Failure(1, 36, None, 10, SECOND_FAILED),
+    Failure(1, 36, Some(7), 10, SECOND_FAILED),
+    Failure(1, 37, None, 0, ""),
 ];
 
 /// Two disks, of which that of this node fails at this call.
@@ -303,12 +280,22 @@ fn failing_disks(alloc: Global, node: usize, call: u64) -> Result<Vec<MemDisk>, 
     Ok(disks)
 }
 
+/// A replay of nothing over these disks.
+fn names(rt: &impl Abort, alloc: Global, row: &Failure) -> Result<(), Fail> {
+    let given = replay([BUS, ""], ["", ""], row.3, [row.4, ""]);
+    plays_once(
+        rt,
+        alloc,
+        &given,
+        row.2,
+        failing_disks(alloc, row.0, row.1)?,
+    )
+}
+
 #[test]
 fn a_disk_that_fails_at_the_start_is_named(rt: HostRuntime) -> Result<(), Fail> {
-    for (node, call, fails, status, output) in FAILURES {
-        let mut disks = failing_disks(rt.alloc(), *node, *call)?;
-        let texts = [BUS, ""];
-        replays(&rt, rt.alloc(), &mut disks, texts, *fails, *status, output)?;
+    for row in FAILURES {
+        names(&rt, rt.alloc(), row)?;
     }
     Ok(())
 }
@@ -357,30 +344,23 @@ impl ByteFile for WornFile {
     }
 }
 
-/// A layout, the address and the byte that the second disk reads there, the status and the text: the first byte of the header, the mark of a
-/// copy that counts, the first byte of a slot's cell and of a bound's; and a byte that no cell has.
-const READ_OTHERWISE: &[(&str, usize, u8, u8, &str)] = &[
-    ("", 0, 0, 10, "store: node 2: NotFormatted\n"),
-    ("", 985, 3, 10, "store: node 2: Damaged 14\n"),
-    ("", 918, 7, 10, "store: node 2: BadSlot 13\n"),
-    ("", 986, 1, 10, "store: node 2: BadBound 14\n"),
-    ("", 1_052, 1, 0, SENT_LINES),
-    (
-        "store = \"log\"\n",
-        31,
-        1,
-        10,
-        "store: node 2: NotFormatted\n",
-    ),
-    ("store = \"log\"\n", 32, 0, 10, "store: node 2: Damaged 0\n"),
-    (
-        "store = \"log\"\n",
-        549,
-        0xa7,
-        10,
-        "store: node 2: Damaged 2\n",
-    ),
+/// A layout, the address and the byte that the second disk reads there, the status and the text: the first byte of the
+/// header, the mark of a copy that counts, the first byte of a slot's cell and of a bound's; and a byte that no cell
+/// has.
+struct Otherwise(&'static str, usize, u8, u8, &'static str);
+
+const READ_OTHERWISE: &[Otherwise] = &[
+    Otherwise("", 0, 0, 10, "store: node 2: NotFormatted\n"),
+    Otherwise("", 985, 3, 10, "store: node 2: Damaged 14\n"),
+    Otherwise("", 918, 7, 10, "store: node 2: BadSlot 13\n"),
+    Otherwise("", 986, 1, 10, "store: node 2: BadBound 14\n"),
+    Otherwise("", 1_052, 1, 0, SENT_LINES),
+    Otherwise(LOG, 31, 1, 10, "store: node 2: NotFormatted\n"),
+    Otherwise(LOG, 32, 0, 10, "store: node 2: Damaged 0\n"),
+    Otherwise(LOG, 549, 0xa7, 10, "store: node 2: Damaged 2\n"),
 ];
+
+const LOG: &str = "store = \"log\"\n";
 
 fn worn(alloc: Global, at: usize, byte: u8) -> Result<FileDisk<WornFile>, AllocError> {
     let bytes = vec![in alloc; 0; 65_536]?;
@@ -395,22 +375,15 @@ fn worn_disks(alloc: Global, at: usize, byte: u8) -> Result<Vec<FileDisk<WornFil
 }
 
 /// Over disks that tell no bytes, and read otherwise than they were written.
-fn reads_otherwise(
-    rt: &impl Abort,
-    alloc: Global,
-    bus: &str,
-    row: &(&str, usize, u8, u8, &str),
-) -> Result<(), Fail> {
-    let mut disks = worn_disks(alloc, row.1, row.2)?;
-    replays(rt, alloc, &mut disks, [bus, SENT], None, row.3, row.4)
+fn reads_otherwise(rt: &impl Abort, alloc: Global, row: &Otherwise) -> Result<(), Fail> {
+    let given = replay([row.0, BUS], [SENT, ""], row.3, [row.4, ""]);
+    plays_once(rt, alloc, &given, None, worn_disks(alloc, row.1, row.2)?)
 }
 
 #[test]
 fn what_is_read_again_otherwise_is_told(rt: HostRuntime) -> Result<(), Fail> {
     for row in READ_OTHERWISE {
-        let layout = row.0;
-        let bus = format!(in rt.alloc(); "{layout}{BUS}")?;
-        reads_otherwise(&rt, rt.alloc(), bus.as_str(), row)?;
+        reads_otherwise(&rt, rt.alloc(), row)?;
     }
     Ok(())
 }
@@ -439,24 +412,17 @@ pub(crate) fn held_disks(
 fn fails_as_it_reads_otherwise(
     rt: &impl Abort,
     alloc: Global,
-    bus: &str,
-    row: &(&str, usize, u8, u8, &str),
+    row: &Otherwise,
 ) -> Result<(), Fail> {
-    let mut disks = held_disks(alloc, row.1, row.2)?;
-    let output = if row.3 == 0 {
-        row.4
-    } else {
-        "store: node 2: DiskFailed\n"
-    };
-    replays(rt, alloc, &mut disks, [bus, SENT], None, row.3, output)
+    let output = if row.3 == 0 { row.4 } else { SECOND_FAILED };
+    let given = replay([row.0, BUS], [SENT, ""], row.3, [output, ""]);
+    plays_once(rt, alloc, &given, None, held_disks(alloc, row.1, row.2)?)
 }
 
 #[test]
 fn what_a_held_file_reads_otherwise_is_a_failed_disk(rt: HostRuntime) -> Result<(), Fail> {
     for row in READ_OTHERWISE {
-        let layout = row.0;
-        let bus = format!(in rt.alloc(); "{layout}{BUS}")?;
-        fails_as_it_reads_otherwise(&rt, rt.alloc(), bus.as_str(), row)?;
+        fails_as_it_reads_otherwise(&rt, rt.alloc(), row)?;
     }
     Ok(())
 }

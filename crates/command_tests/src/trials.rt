@@ -1,6 +1,7 @@
-//! Whole trials over disks in memory: the bus file, the words, the status and the summary.
+//! Whole trials over disks in memory: the words, the status and the summary.
 use crate::lines::BUS;
-use crate::replays::{disks_of, runs};
+use crate::playing::{clean_run, plays_once};
+use crate::replays::disks_of;
 use std::alloc::Global;
 use std::process::Abort;
 use std::test::Fail;
@@ -12,20 +13,20 @@ const ONE: &str = "events 21\nsent 0\naccepted 0\nfailures 0\nkeyed 20\ncuts 1\n
 const MOST: &str =
     "events 60020\nsent 10946\naccepted 729\nfailures 1200\nkeyed 105\ncuts 1422\nrefused 25393\n";
 
-/// Runs the words of a trial over two disks of so many bytes and a sink that takes a byte in a call, and compares the status and the output.
-/// Where the sink fails once so many bytes are written, the status is 6, and these bytes are all of the output.
+/// Over two disks of so many bytes and a sink that fails once so many bytes are written, if at all.
 fn gives(
     rt: &impl Abort,
     alloc: Global,
-    line: &str,
+    words: &'static str,
     size: usize,
     fails_behind: Option<usize>,
     status: u8,
-    output: &str,
+    output: &'static str,
 ) -> Result<(), Fail> {
-    let mut disks = disks_of(alloc, &[size, size])?;
-    let texts = [line, BUS, "no script is read"];
-    runs(rt, alloc, &mut disks, texts, fails_behind, status, output)
+    let script = ["no script is read", ""];
+    let given = clean_run(words, [BUS, ""], script, status, [output, ""]);
+    let disks = disks_of(alloc, &[size, size])?;
+    plays_once(rt, alloc, &given, fails_behind, disks)
 }
 
 #[test]
@@ -39,18 +40,10 @@ fn a_trial_prints_the_same_summary_each_time(rt: HostRuntime) -> Result<(), Fail
 
 #[test]
 fn a_trial_that_cannot_start_or_tell_says_so(rt: HostRuntime) -> Result<(), Fail> {
-    let small = "disks: node 1 too small\n";
-    gives(&rt, rt.alloc(), "trial B 1 0", 100, None, 9, small)?;
+    let (words, small) = ("trial B 1 0", "disks: node 1 too small\n");
+    gives(&rt, rt.alloc(), words, 100, None, 9, small)?;
     for written in [0, 10, 64] {
-        gives(
-            &rt,
-            rt.alloc(),
-            "trial B 1 0",
-            65_536,
-            Some(written),
-            6,
-            ONE,
-        )?;
+        gives(&rt, rt.alloc(), words, 65_536, Some(written), 6, ONE)?;
     }
     Ok(())
 }
