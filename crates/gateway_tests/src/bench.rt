@@ -2,16 +2,13 @@
 ghost use Rattle.std.specs.Prelude.{◌≡◌, ◌+◌, ◌≤◌, length};
 ghost use Rattle.cell_store.specs.Store.{FewCells};
 
+use crate::comparing::holds;
 use any_cells::AnyCells;
-use bus_machine::{Event, Line, Refusal};
-use byte_lists::Bytes;
 use cell_store::{Kind, Reread, Version};
 use cut_disk::{MemDisk, Torn};
 use freshness_manager::{Direction, NodeConfig, Route};
-use gateway_machine::GatewayLine;
 use key_slots::{Counter28, Flags, SlotId};
 use memory_update::{Request, Uid, Update, build};
-use numbered_run::Machine;
 use secoc_gateway::{Arrival, Gateway};
 use secoc_node::{CutFault, Node, NodeFault, first_cells};
 use secoc_receiver::Reception;
@@ -23,58 +20,39 @@ use std::test::Fail;
 /// What is done to a gateway.
 #[derive(Clone, Copy)]
 pub enum Act {
-    /// The key for slot 4, with this counter and these flags: the first is authorised by the empty slot, later ones by
-    /// the key itself.
-    Key(u32, u8),
-    /// A key for a slot: target, authorising slot and its key, and the new key; its counter is 1, and it has no flags.
-    Load(u8, u8, u128, u128),
+    /// A key for a slot, with counter 1: target, authorising slot and its key, flags, and the new key.
+    Load(u8, u8, u128, u8, u128),
     /// A boot with an image of one zero byte.
     Boot,
     Arrive(u16, &'static [u8]),
-    /// The event of a script that injects these bytes, as a step of the machine.
-    Inject(u16, &'static [u8]),
     Receive(u16, &'static [u8]),
     Second(u16),
     Count(u16, Direction),
     IsDown,
     Cut(Torn),
-    Stop(u64),
-    Fail(u64),
-    /// A stop at the call, and a cut of the kind, that are given to all rows.
-    StopThen,
-    CutThen,
+    /// The disk stops, or fails once, at its next call.
+    Stop,
+    Fail,
 }
-
-/// What the rows of a table take from outside: a number of calls, and a kind of cut.
-#[derive(Clone, Copy)]
-pub struct Given {
-    pub calls: u64,
-    pub torn: Torn,
-}
-
-pub const NOTHING_GIVEN: Given = Given {
-    calls: 0,
-    torn: Torn::Keep,
-};
 
 /// What a gateway answers.
-#[derive(Clone, Copy, Debug, PartialEq, Eq)]
+#[derive(Clone, Copy, PartialEq, Eq)]
 pub enum Answer {
     Done,
-    Booted(bool),
-    /// The freshness of the arrival, and of the departure.
-    Forwarded(u64, u64),
-    Dropped(u64, NodeFault),
-    FreshnessFailure,
-    VerificationFailure,
-    Heard(Reception),
+    /// A boot was good, or the node is down.
+    Is(bool),
     Id(Option<u16>),
     Count(Option<u64>),
-    Down(bool),
+    /// The freshness of the arrival, and of the departure.
+    Forwarded(u64, u64),
+    VerificationFailure,
+    /// The freshness that was accepted.
+    Heard(u64),
     Refused(NodeFault),
-    NotCut(Reread),
-    /// The table is wrong.
-    NoAct,
+    /// The disk failed within a cut.
+    NotRead,
+    /// Another answer, or the table is wrong.
+    Other,
 }
 
 /// What is done, what the gateway answers, and the bytes that it sends; the rest of the buffer stays as it was.
@@ -172,26 +150,20 @@ fn gateway(
     ways: &[Way],
     pairs: &[(u16, u16)],
 ) -> Result<Gateway<AnyCells<MemDisk>>, Fail> {
+    let pairs = Vec::from_slice(alloc, pairs)?;
     let node = node(alloc, shape, ways)?;
-    match Gateway::new(node, Vec::from_slice(alloc, pairs)?) {
+    match Gateway::new(node, pairs) {
         Ok(gateway) => Ok(gateway),
         Err(_) => Err(Fail::from("pairs that aren't taken")),
     }
 }
 
-fn request(
-    target: u8,
-    auth: u8,
-    authkey: u128,
-    counter: u32,
-    flags: u8,
-    key: u128,
-) -> Option<Request> {
+fn request(target: u8, auth: u8, authkey: u128, flags: u8, key: u128) -> Option<Request> {
     let update = Update {
         uid: uid(),
         id: SlotId::new(target)?,
         auth: SlotId::new(auth)?,
-        counter: Counter28::new(counter)?,
+        counter: Counter28::new(1)?,
         flags: Flags::of(flags % 32),
         key: Block::of(key.to_be_bytes()),
     };
@@ -200,7 +172,7 @@ fn request(
 
 fn loads(gateway: &mut Gateway<AnyCells<MemDisk>>, request: Option<Request>) -> Answer {
     let Some(request) = request else {
-        return Answer::NoAct;
+        return Answer::Other;
     };
     match gateway.load(&request) {
         Ok(_) => Answer::Done,
@@ -210,7 +182,7 @@ fn loads(gateway: &mut Gateway<AnyCells<MemDisk>>, request: Option<Request>) -> 
 
 fn boots(gateway: &mut Gateway<AnyCells<MemDisk>>) -> Answer {
     match gateway.boot(&[0]) {
-        Ok(good) => Answer::Booted(good),
+        Ok(good) => Answer::Is(good),
         Err(fault) => Answer::Refused(fault),
     }
 }
@@ -222,52 +194,20 @@ fn arrives(
     out: &mut [u8; 64],
 ) -> Answer {
     if gateway.second(id).is_none() {
-        return Answer::NoAct;
+        return Answer::Other;
     }
     match gateway.arrive(id, pdu, out) {
         Ok(Arrival::Forwarded { freshness, sent }) => Answer::Forwarded(freshness, sent.freshness),
-        Ok(Arrival::Dropped { freshness, fault }) => Answer::Dropped(freshness, fault),
-        Ok(Arrival::FreshnessFailure) => Answer::FreshnessFailure,
         Ok(Arrival::VerificationFailure) => Answer::VerificationFailure,
+        Ok(_) => Answer::Other,
         Err(fault) => Answer::Refused(fault),
-    }
-}
-
-fn injects(
-    alloc: Global,
-    gateway: &mut Gateway<AnyCells<MemDisk>>,
-    id: u16,
-    pdu: &[u8],
-    out: &mut [u8; 64],
-) -> Answer {
-    let Ok(pdu) = Vec::from_slice(alloc, pdu) else {
-        return Answer::NoAct;
-    };
-    let pdu = Bytes::of(pdu);
-    told(&gateway.step(&Event::Inject { node: 0, id, pdu }), out)
-}
-
-/// The answer that a line of an arrival tells.
-fn told(line: &GatewayLine, out: &mut [u8; 64]) -> Answer {
-    match line {
-        GatewayLine::Forwarded {
-            freshness,
-            sent_freshness,
-            pdu,
-            ..
-        } => {
-            *out = buffer(pdu.bytes());
-            Answer::Forwarded(*freshness, *sent_freshness)
-        }
-        GatewayLine::OfNode(Line::VerificationFailure) => Answer::VerificationFailure,
-        GatewayLine::OfNode(Line::Refused(Refusal::Down)) => Answer::Refused(NodeFault::Down),
-        _ => Answer::NoAct,
     }
 }
 
 fn hears(gateway: &mut Gateway<AnyCells<MemDisk>>, id: u16, pdu: &[u8]) -> Answer {
     match gateway.receive(id, pdu) {
-        Ok(said) => Answer::Heard(said),
+        Ok(Reception::Accepted { freshness, len: 6 }) => Answer::Heard(freshness),
+        Ok(_) => Answer::Other,
         Err(fault) => Answer::Refused(fault),
     }
 }
@@ -275,54 +215,35 @@ fn hears(gateway: &mut Gateway<AnyCells<MemDisk>>, id: u16, pdu: &[u8]) -> Answe
 fn cuts(gateway: &mut Gateway<AnyCells<MemDisk>>, torn: Torn) -> Answer {
     match gateway.power_cut(torn) {
         Ok(()) => Answer::Done,
-        Err(CutFault::Store(reread)) => Answer::NotCut(reread),
-        Err(_) => Answer::NoAct,
+        Err(CutFault::Store(Reread::DiskFailed)) => Answer::NotRead,
+        Err(_) => Answer::Other,
     }
 }
 
-fn stops(gateway: &mut Gateway<AnyCells<MemDisk>>, calls: u64) -> Answer {
-    if calls == 0 {
-        return Answer::NoAct;
-    }
-    gateway.stop_at(calls);
+fn stops(gateway: &mut Gateway<AnyCells<MemDisk>>) -> Answer {
+    gateway.stop_at(1);
     Answer::Done
 }
 
-fn fails(gateway: &mut Gateway<AnyCells<MemDisk>>, calls: u64) -> Answer {
-    if calls == 0 {
-        return Answer::NoAct;
-    }
-    gateway.fail_at(calls);
+fn fails(gateway: &mut Gateway<AnyCells<MemDisk>>) -> Answer {
+    gateway.fail_at(1);
     Answer::Done
 }
 
-fn does(
-    alloc: Global,
-    gateway: &mut Gateway<AnyCells<MemDisk>>,
-    given: &Given,
-    act: &Act,
-    out: &mut [u8; 64],
-) -> Answer {
+fn does(gateway: &mut Gateway<AnyCells<MemDisk>>, act: &Act, out: &mut [u8; 64]) -> Answer {
     match *act {
-        Act::Key(counter, flags) => {
-            let authkey = if counter == 1 { EMPTY } else { KEY };
-            loads(gateway, request(4, 4, authkey, counter, flags, KEY))
-        }
-        Act::Load(target, auth, authkey, key) => {
-            loads(gateway, request(target, auth, authkey, 1, 0, key))
+        Act::Load(target, auth, authkey, flags, key) => {
+            loads(gateway, request(target, auth, authkey, flags, key))
         }
         Act::Boot => boots(gateway),
         Act::Arrive(id, pdu) => arrives(gateway, id, pdu, out),
-        Act::Inject(id, pdu) => injects(alloc, gateway, id, pdu, out),
         Act::Receive(id, pdu) => hears(gateway, id, pdu),
         Act::Second(id) => Answer::Id(gateway.second(id)),
         Act::Count(id, direction) => Answer::Count(gateway.counter(id, direction)),
-        Act::IsDown => Answer::Down(gateway.is_down()),
+        Act::IsDown => Answer::Is(gateway.is_down()),
         Act::Cut(torn) => cuts(gateway, torn),
-        Act::Stop(calls) => stops(gateway, calls),
-        Act::Fail(calls) => fails(gateway, calls),
-        Act::StopThen => stops(gateway, given.calls),
-        Act::CutThen => cuts(gateway, given.torn),
+        Act::Stop => stops(gateway),
+        Act::Fail => fails(gateway),
     }
 }
 
@@ -344,15 +265,15 @@ pub fn plays(
     shape: Shape,
     ways: &[Way],
     pairs: &[(u16, u16)],
-    given: &Given,
     rows: &[Row],
 ) -> Result<(), Fail> {
     let mut gateway = gateway(alloc, shape, ways, pairs)?;
     for (place, row) in rows.iter().enumerate() {
         let mut out = buffer(&[]);
-        let answer = does(alloc, &mut gateway, given, &row.0, &mut out);
-        assert_eq!(rt; answer, row.1, "row {place}");
-        assert!(rt; out == buffer(row.2), "row {place}");
+        let answer = does(&mut gateway, &row.0, &mut out);
+        holds(rt, place, answer == row.1 && out == buffer(row.2));
     }
+    let node = gateway.release();
+    holds(rt, "the node is up", !node.is_down());
     Ok(())
 }

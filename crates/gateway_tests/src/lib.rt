@@ -1,12 +1,10 @@
-//! Tests of gateways over either store in memory: worked runs, pairs that aren't taken, and stops at any call of a disk
-//! within an arrival. The tags are those of OpenSSL's CMAC.
+//! Tests of gateways over either store in memory: every call. Further runs, pairs that aren't taken, and stops at any
+//! call of a disk within an arrival, are rows of checks/. The tags are those of OpenSSL's CMAC.
 #![tactic(auto)]
 
 #[cfg(test)]
 mod bench;
 #[cfg(test)]
-mod refusals;
+mod comparing;
 #[cfg(test)]
 mod runs;
-#[cfg(test)]
-mod stops;
