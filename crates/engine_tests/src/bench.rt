@@ -1,8 +1,10 @@
 //! What all tests here are made of: slots, and stores in memory.
 ghost use Rattle.std.specs.Prelude.{◌≡◌, length, false, IfOk};
 ghost use Rattle.cell_store.specs.Store.{FewCells};
+ghost use Rattle.any_cells.specs.Either.{any_state};
 
-use cell_store::{Kind, LogCells, TwinCells, Version};
+use any_cells::AnyCells;
+use cell_store::{Kind, Version};
 use cut_disk::MemDisk;
 use freshness_routes::Direction;
 use freshness_store::bound_bytes;
@@ -44,49 +46,30 @@ pub(crate) fn filled(key: u128, counter: u32, flags: u8) -> Result<Slot, &'stati
     })
 }
 
-/// A twin store of these cells, on a disk of so many bytes.
-pub(crate) fn twin_store(
+/// A store of this kind and version with these cells, on a disk in memory.
+pub(crate) fn store_of(
     alloc: Global,
-    room: u16,
-    version: Version,
+    store: (Kind, Version),
     cells: &[[u8; 32]],
-) -> Result<TwinCells<MemDisk>, Fail>
+) -> Result<AnyCells<MemDisk>, Fail>
     requires { FewCells (length cells.now) }
-    ensures count { IfOk result (λ store. length store.cells ≡ length cells.now) }
-    ensures whole { IfOk result (λ store. store.broken ≡ false) }
+    ensures count { IfOk result (λ store. length (any_state store).cells ≡ length cells.now) }
+    ensures whole { IfOk result (λ store. (any_state store).broken ≡ false) }
 {
-    let disk = MemDisk::new(alloc, usize::from(room))?;
-    let disk = match TwinCells::format_as(disk, version, cells) {
+    let (kind, version) = store;
+    let disk = MemDisk::new(alloc, 40_000)?;
+    let disk = match AnyCells::format_as(disk, kind, version, cells) {
         Ok(disk) => disk,
         Err(refused) => return Err(Fail::from(refused.fault)),
     };
-    match TwinCells::attach_as(alloc, disk, version, cells.len() as u16) {
+    match AnyCells::attach_as(alloc, disk, kind, version, cells.len() as u16) {
         Ok(store) => Ok(store),
         Err(refused) => Err(Fail::from(refused.fault)),
     }
 }
 
-/// A log store of these cells, on a disk of so many bytes.
-pub(crate) fn log_store(
-    alloc: Global,
-    room: u16,
-    version: Version,
-    cells: &[[u8; 32]],
-) -> Result<LogCells<MemDisk>, Fail>
-    requires { FewCells (length cells.now) }
-    ensures count { IfOk result (λ store. length store.cells ≡ length cells.now) }
-    ensures whole { IfOk result (λ store. store.broken ≡ false) }
-{
-    let disk = MemDisk::new(alloc, usize::from(room))?;
-    let disk = match LogCells::format_as(disk, version, cells) {
-        Ok(disk) => disk,
-        Err(refused) => return Err(Fail::from(refused.fault)),
-    };
-    match LogCells::attach_as(alloc, disk, version, cells.len() as u16) {
-        Ok(store) => Ok(store),
-        Err(refused) => Err(Fail::from(refused.fault)),
-    }
-}
+/// The store of tests that one suffices for.
+pub(crate) const TWIN: (Kind, Version) = (Kind::Twin, Version::One);
 
 /// Whom the key serves, by its flags: MACs, MACs after a secure boot, ciphers.
 const SERVES: [(usize, u8); 3] = [(4, 2), (5, 10), (6, 0)];
@@ -101,16 +84,16 @@ fn cells_with(direction: Direction, bound: u64) -> Result<[[u8; 32]; 15], &'stat
     Ok(cells)
 }
 
-/// A twin store of these slots and this bound: the key of slot 4 serves MACs, that of slot 5 only after a secure boot, that of slot 6
-/// ciphers, and slot 7 is empty.
+/// A twin store of these slots and this bound: the key of slot 4 serves MACs, that of slot 5 only after a secure
+/// boot, that of slot 6 ciphers, and slot 7 is empty.
 pub(crate) fn store_with(
     alloc: Global,
     direction: Direction,
     bound: u64,
-) -> Result<TwinCells<MemDisk>, Fail>
-    ensures whole { IfOk result (λ store. store.broken ≡ false) }
-    ensures count { IfOk result (λ store. length store.cells ≡ 15) }
+) -> Result<AnyCells<MemDisk>, Fail>
+    ensures whole { IfOk result (λ store. (any_state store).broken ≡ false) }
+    ensures count { IfOk result (λ store. length (any_state store).cells ≡ 15) }
 {
     let cells = cells_with(direction, bound)?;
-    twin_store(alloc, 1_052, Version::One, &cells)
+    store_of(alloc, TWIN, &cells)
 }

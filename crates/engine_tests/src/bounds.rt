@@ -1,11 +1,10 @@
 // The cell of a bound as it is written down in the formats, and bounds over either store in memory.
-ghost use Rattle.std.specs.Prelude.{◌≡◌, length, false, IfOk, OnOk};
+ghost use Rattle.std.specs.Prelude.{◌≡◌, length, false};
 
-use crate::bench::{STORES, log_store, twin_store};
+use crate::bench::{STORES, store_of};
 use crate::comparing::{holds, same};
-use cell_store::{Cells, Kind, Version};
+use cell_store::Cells;
 use freshness_store::{bound_in, *};
-use std::alloc::Global;
 use std::process::Abort;
 use std::test::Fail;
 
@@ -95,23 +94,11 @@ fn keeps_two<C: Cells>(rt: &impl Abort, cells: &mut C) -> Result<(), Fail>
     Ok(())
 }
 
-fn keeps_two_in(rt: &impl Abort, alloc: Global, kind: Kind, version: Version) -> Result<(), Fail> {
-    match kind {
-        Kind::Twin => {
-            let mut store = twin_store(alloc, 32_936, version, &[[0; 32]; 2])?;
-            keeps_two(rt, &mut store)
-        }
-        Kind::Log => {
-            let mut store = log_store(alloc, 37_412, version, &[[0; 32]; 2])?;
-            keeps_two(rt, &mut store)
-        }
-    }
-}
-
 #[test]
 fn bounds_are_put_and_read(rt: HostRuntime) -> Result<(), Fail> {
-    for (kind, version) in STORES {
-        keeps_two_in(&rt, rt.alloc(), kind, version)?;
+    for store in STORES {
+        let mut store = store_of(rt.alloc(), store, &[[0; 32]; 2])?;
+        keeps_two(&rt, &mut store)?;
     }
     Ok(())
 }

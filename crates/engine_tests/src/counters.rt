@@ -4,7 +4,7 @@ ghost use Rattle.secured_pdu.specs.Frame.{IsWindow};
 ghost use Rattle.freshness_routes.specs.declared.routes.Direction.TheVariants.{Sends, Receives};
 ghost use Rattle.freshness_manager.specs.Counters.{KeepsBound};
 
-use crate::bench::{ID, STORES, log_store, twin_store};
+use crate::bench::{ID, STORES, store_of};
 use crate::comparing::same;
 use cell_store::{Cells, CutCells, Kind, PutFailed, Version};
 use cut_disk::Torn;
@@ -126,16 +126,8 @@ fn send_over(
     requires most { start.0 ≤ 128 }
 {
     let cells = [bound_bytes(ID, Direction::Sends, start.1)];
-    match store.0 {
-        Kind::Twin => {
-            let mut store = twin_store(alloc, 32_868, store.1, &cells)?;
-            send(rt, &mut store, start.0, lives)
-        }
-        Kind::Log => {
-            let mut store = log_store(alloc, 37_348, store.1, &cells)?;
-            send(rt, &mut store, start.0, lives)
-        }
-    }
+    let mut store = store_of(alloc, store, &cells)?;
+    send(rt, &mut store, start.0, lives)
 }
 
 /// From the bound ..1729 on with a reserve of 4. Where the bound suffices, a stopped disk doesn't matter.
@@ -279,16 +271,8 @@ fn receive_over(
     lives: &[Life<PutFailed>],
 ) -> Result<(), Fail> {
     let cells = [bound_bytes(ID, Direction::Receives, start)];
-    match store.0 {
-        Kind::Twin => {
-            let mut store = twin_store(alloc, 32_868, store.1, &cells)?;
-            receive(rt, &mut store, lives)
-        }
-        Kind::Log => {
-            let mut store = log_store(alloc, 37_348, store.1, &cells)?;
-            receive(rt, &mut store, lives)
-        }
-    }
+    let mut store = store_of(alloc, store, &cells)?;
+    receive(rt, &mut store, lives)
 }
 
 /// From the bound 100 on.

@@ -3,10 +3,9 @@
 ghost use Rattle.std.specs.Prelude.{◌≡◌, false, IfOk, OnOk};
 ghost use Rattle.slot_disk.specs.Cell.{HoldSlots};
 
-use crate::bench::{KEY, UID, block, slot, twin_store};
+use crate::bench::{KEY, TWIN, UID, block, slot, store_of};
 use crate::comparing::same;
-use cell_store::{Cells, CutCells, TwinCells, Version};
-use cut_disk::MemDisk;
+use cell_store::{Cells, CutCells};
 use key_slots::{Counter28, Erc, Flags, SlotId};
 use memory_update::{Reply, Request, Uid, Update, build};
 use she_aes::Block;
@@ -132,8 +131,8 @@ fn confirmation() -> Reply {
 }
 
 /// An engine over the store, in a life of its own.
-fn attached(store: &TwinCells<MemDisk>) -> Result<Engine, Fail>
-    ensures { IfOk result (λ engine. HoldSlots store.now.cells engine.slots) }
+fn attached<C: Cells>(store: &C) -> Result<Engine, Fail>
+    ensures { IfOk result (λ engine. HoldSlots (C.state store.now).cells engine.slots) }
 {
     if store.count() < 14 {
         return Err(Fail::from("few cells"));
@@ -145,15 +144,15 @@ fn attached(store: &TwinCells<MemDisk>) -> Result<Engine, Fail>
 }
 
 /// The answer of a load; a disk that fails ends the test.
-fn answer_to(
+fn answer_to<C: Cells>(
     engine: &mut Engine,
-    store: &mut TwinCells<MemDisk>,
+    store: &mut C,
     request: &Request,
 ) -> Result<Result<Reply, Erc>, Fail>
-    requires whole { store.old.broken ≡ false }
-    requires held { HoldSlots store.old.cells engine.old.slots }
-    ensures whole { OnOk result (store.new.broken ≡ false) }
-    ensures held { HoldSlots store.new.cells engine.new.slots }
+    requires whole { (C.state store.old).broken ≡ false }
+    requires held { HoldSlots (C.state store.old).cells engine.old.slots }
+    ensures whole { OnOk result ((C.state store.new).broken ≡ false) }
+    ensures held { HoldSlots (C.state store.new).cells engine.new.slots }
 {
     match engine.load_key(store, request) {
         Ok(reply) => Ok(Ok(reply)),
@@ -162,11 +161,11 @@ fn answer_to(
     }
 }
 
-fn loads(engine: &mut Engine, store: &mut TwinCells<MemDisk>, load: &Load) -> Result<Answer, Fail>
-    requires whole { store.old.broken ≡ false }
-    requires held { HoldSlots store.old.cells engine.old.slots }
-    ensures whole { OnOk result (store.new.broken ≡ false) }
-    ensures held { HoldSlots store.new.cells engine.new.slots }
+fn loads<C: Cells>(engine: &mut Engine, store: &mut C, load: &Load) -> Result<Answer, Fail>
+    requires whole { (C.state store.old).broken ≡ false }
+    requires held { HoldSlots (C.state store.old).cells engine.old.slots }
+    ensures whole { OnOk result ((C.state store.new).broken ≡ false) }
+    ensures held { HoldSlots (C.state store.new).cells engine.new.slots }
 {
     let update = update_of(load).ok_or("an update")?;
     match answer_to(engine, store, &build(&update, &block(load.3)))? {
@@ -175,11 +174,11 @@ fn loads(engine: &mut Engine, store: &mut TwinCells<MemDisk>, load: &Load) -> Re
     }
 }
 
-fn loads_the_example(engine: &mut Engine, store: &mut TwinCells<MemDisk>) -> Result<Answer, Fail>
-    requires whole { store.old.broken ≡ false }
-    requires held { HoldSlots store.old.cells engine.old.slots }
-    ensures whole { OnOk result (store.new.broken ≡ false) }
-    ensures held { HoldSlots store.new.cells engine.new.slots }
+fn loads_the_example<C: Cells>(engine: &mut Engine, store: &mut C) -> Result<Answer, Fail>
+    requires whole { (C.state store.old).broken ≡ false }
+    requires held { HoldSlots (C.state store.old).cells engine.old.slots }
+    ensures whole { OnOk result ((C.state store.new).broken ≡ false) }
+    ensures held { HoldSlots (C.state store.new).cells engine.new.slots }
 {
     let answer = answer_to(engine, store, &example())?;
     let confirmed = answer == Ok(confirmation());
@@ -189,7 +188,7 @@ fn loads_the_example(engine: &mut Engine, store: &mut TwinCells<MemDisk>) -> Res
     }
 }
 
-fn cell_of(store: &TwinCells<MemDisk>, number: u8) -> Answer {
+fn cell_of<C: Cells>(store: &C, number: u8) -> Answer {
     let mut cell = [1; 32];
     if u16::from(number) >= store.count() {
         return Answer::NoAct;
@@ -262,7 +261,7 @@ fn boots(engine: &mut Engine, byte: u8) -> Answer
 }
 
 /// What a call that changes nothing answers.
-fn tells(engine: &Engine, store: &TwinCells<MemDisk>, act: &Act) -> Result<Answer, Fail> {
+fn tells<C: Cells>(engine: &Engine, store: &C, act: &Act) -> Result<Answer, Fail> {
     let answer = match act {
         Act::Cell(number) => cell_of(store, *number),
         Act::IsUsable(at) => is_usable(engine, slot(*at)?),
@@ -274,11 +273,11 @@ fn tells(engine: &Engine, store: &TwinCells<MemDisk>, act: &Act) -> Result<Answe
     Ok(answer)
 }
 
-fn does(engine: &mut Engine, store: &mut TwinCells<MemDisk>, act: &Act) -> Result<Answer, Fail>
-    requires whole { store.old.broken ≡ false }
-    requires held { HoldSlots store.old.cells engine.old.slots }
-    ensures whole { OnOk result (store.new.broken ≡ false) }
-    ensures held { HoldSlots store.new.cells engine.new.slots }
+fn does<C: Cells>(engine: &mut Engine, store: &mut C, act: &Act) -> Result<Answer, Fail>
+    requires whole { (C.state store.old).broken ≡ false }
+    requires held { HoldSlots (C.state store.old).cells engine.old.slots }
+    ensures whole { OnOk result ((C.state store.new).broken ≡ false) }
+    ensures held { HoldSlots (C.state store.new).cells engine.new.slots }
 {
     match act {
         Act::Load(load) => loads(engine, store, load),
@@ -289,16 +288,16 @@ fn does(engine: &mut Engine, store: &mut TwinCells<MemDisk>, act: &Act) -> Resul
 }
 
 /// Plays these rows to a new engine.
-fn plays_to(
+fn plays_to<C: Cells>(
     rt: &impl Abort,
     engine: &mut Engine,
-    store: &mut TwinCells<MemDisk>,
+    store: &mut C,
     rows: &[Row],
 ) -> Result<(), Fail>
-    requires whole { store.old.broken ≡ false }
-    requires held { HoldSlots store.old.cells engine.old.slots }
-    ensures whole { OnOk result (store.new.broken ≡ false) }
-    ensures held { HoldSlots store.new.cells engine.new.slots }
+    requires whole { (C.state store.old).broken ≡ false }
+    requires held { HoldSlots (C.state store.old).cells engine.old.slots }
+    ensures whole { OnOk result ((C.state store.new).broken ≡ false) }
+    ensures held { HoldSlots (C.state store.new).cells engine.new.slots }
 {
     for (place, row) in rows.iter().enumerate() {
         let answer = does(engine, store, &row.0)?;
@@ -308,9 +307,9 @@ fn plays_to(
 }
 
 /// A life of an engine over the store.
-fn lives(rt: &impl Abort, store: &mut TwinCells<MemDisk>, rows: &[Row]) -> Result<(), Fail>
-    requires { store.old.broken ≡ false }
-    ensures { OnOk result (store.new.broken ≡ false) }
+fn lives<C: Cells>(rt: &impl Abort, store: &mut C, rows: &[Row]) -> Result<(), Fail>
+    requires { (C.state store.old).broken ≡ false }
+    ensures { OnOk result ((C.state store.new).broken ≡ false) }
 {
     let mut engine = attached(store)?;
     plays_to(rt, &mut engine, store, rows)
@@ -318,7 +317,7 @@ fn lives(rt: &impl Abort, store: &mut TwinCells<MemDisk>, rows: &[Row]) -> Resul
 
 /// Plays a life, and one behind it, to engines over a twin store of fourteen empty slots.
 fn plays(rt: &impl Abort, alloc: Global, first: &[Row], second: &[Row]) -> Result<(), Fail> {
-    let mut store = twin_store(alloc, 984, Version::One, &[[0; 32]; 14])?;
+    let mut store = store_of(alloc, TWIN, &[[0; 32]; 14])?;
     lives(rt, &mut store, first)?;
     lives(rt, &mut store, second)
 }
@@ -471,9 +470,9 @@ const AFTER_A_FAULT: &[Row] = &[
 ];
 
 /// Loads a key, then another as the disk stops at the last call of its put.
-fn faults(rt: &impl Abort, engine: &mut Engine, store: &mut TwinCells<MemDisk>) -> Result<(), Fail>
-    requires whole { store.old.broken ≡ false }
-    requires held { HoldSlots store.old.cells engine.old.slots }
+fn faults<C: CutCells>(rt: &impl Abort, engine: &mut Engine, store: &mut C) -> Result<(), Fail>
+    requires whole { (C.state store.old).broken ≡ false }
+    requires held { HoldSlots (C.state store.old).cells engine.old.slots }
 {
     let second = update_of(&SECOND_LOAD).ok_or("an update")?;
     let loaded = loads(engine, store, &FIRST_LOAD)?;
@@ -489,7 +488,7 @@ fn faults(rt: &impl Abort, engine: &mut Engine, store: &mut TwinCells<MemDisk>) 
 
 #[test]
 fn a_load_that_faults_leaves_the_slots(rt: HostRuntime) -> Result<(), Fail> {
-    let mut store = twin_store(rt.alloc(), 984, Version::One, &[[0; 32]; 14])?;
+    let mut store = store_of(rt.alloc(), TWIN, &[[0; 32]; 14])?;
     let mut engine = attached(&store)?;
     faults(&rt, &mut engine, &mut store)
 }

@@ -3,11 +3,11 @@
 ghost use Rattle.std.specs.Prelude.{◌≡◌, false, length, IfOk, OnOk};
 ghost use Rattle.freshness_routes.specs.declared.routes.Direction.TheVariants.{Receives};
 ghost use Rattle.freshness_manager.specs.Counters.{KeepsBound};
+ghost use Rattle.secoc_receiver.specs.Receiving.{IsReceiverRoute};
 
 use crate::bench::{ID, UID, slot, store_with};
 use crate::comparing::same;
-use cell_store::{CutCells, TwinCells};
-use cut_disk::MemDisk;
+use cell_store::{Cells, CutCells};
 use freshness_manager::Rx;
 use freshness_routes::{Direction, Route};
 use freshness_store::read_bound;
@@ -67,9 +67,9 @@ fn route(number: u8, reserve: u16, window: u16) -> Result<Route, &'static str>
 }
 
 /// The receiver that the store keeps.
-fn receiver_in(store: &TwinCells<MemDisk>, reserve: u16, window: u16) -> Result<Rx, Fail>
-    requires { length store.now.cells ≡ 15 }
-    ensures kept { IfOk result (λ r. KeepsBound store.now.cells r.place r.id Receives r.bound) }
+fn receiver_in<C: Cells>(store: &C, reserve: u16, window: u16) -> Result<Rx, Fail>
+    requires { length (C.state store.now).cells ≡ 15 }
+    ensures kept { IfOk result (λ r. KeepsBound (C.state store.now).cells r.place r.id Receives r.bound) }
     ensures route { IfOk result (λ r. (r.id ≡ 27585) × (r.reserve ≡ reserve) × (r.window ≡ window)) }
 {
     if reserve < 1 || reserve > 128 || window < 1 || window > 256 {
@@ -79,237 +79,406 @@ fn receiver_in(store: &TwinCells<MemDisk>, reserve: u16, window: u16) -> Result<
     Ok(Rx::restore(14, ID, reserve, window, bound))
 }
 
-/// What a PDU finds: the slot of the key, the window, and the bound at which the counter begins; over a disk that runs, or that has
-/// stopped.
-#[derive(Clone, Copy)]
-enum Asked {
-    Running(u8, u16, u64),
-    Stopped(u8, u16, u64),
-}
+/// A PDU, what is said of it, and the counter after it.
+type Row = (&'static [u8], Reception, u64);
 
-type Said = Result<Reception, ReceiveFault>;
-
-/// What is said of the PDU under the key of this slot, in this window, by a receiver with a reserve of 1, and the counter after it.
-fn heard_in(
-    store: &mut TwinCells<MemDisk>,
-    number: u8,
+/// A life of a receiver: the slot of its key, its reserve and window, and the bound that it begins at; what it hears
+/// over a disk that runs; whether the disk then stops; what is heard over a disk that has stopped; and the PDU of
+/// which then nothing is said, and why.
+struct Life {
+    slot: u8,
+    reserve: u16,
     window: u16,
-    pdu: &[u8],
-) -> Result<(Said, u64), Fail>
-    requires whole { store.old.broken ≡ false }
-    requires count { length store.old.cells ≡ 15 }
+    bound: u64,
+    running: &'static [Row],
+    stops: bool,
+    stopped: &'static [Row],
+    refused: Option<(&'static [u8], ReceiveFault)>,
+}
+
+/// This is said of the PDU of the row.
+fn hears<C: Cells>(
+    rt: &impl Abort,
+    engine: &Engine,
+    rx: &mut Rx,
+    store: &mut C,
+    route: &Route,
+    row: &Row,
+) -> Result<(), Fail>
+    requires whole { (C.state store.old).broken ≡ false }
+    requires kept { KeepsBound (C.state store.old).cells rx.old.place rx.old.id Receives rx.old.bound }
+    requires route { IsReceiverRoute route.now rx.old }
+    ensures whole { OnOk result ((C.state store.new).broken ≡ false) }
+    ensures kept { OnOk result (KeepsBound (C.state store.new).cells rx.new.place rx.new.id Receives rx.new.bound) }
+    ensures route { OnOk result (IsReceiverRoute route.now rx.new) }
 {
-    let route = route(number, 1, window)?;
-    let engine = Engine::attach(Uid::of(UID), store)?;
-    let mut rx = receiver_in(store, 1, window)?;
-    let said = receive(&engine, &mut rx, store, &route, pdu);
-    Ok((said, rx.counter()))
+    let (pdu, said, counter) = row;
+    let answer = receive(engine, rx, store, route, pdu)?;
+    same(rt, *counter, &answer, said);
+    same(rt, *counter, &rx.counter(), counter);
+    Ok(())
 }
 
-fn answer_to(alloc: Global, asked: Asked, pdu: &[u8]) -> Result<(Said, u64), Fail> {
-    match asked {
-        Asked::Running(number, window, bound) => {
-            let mut store = store_with(alloc, Direction::Receives, bound)?;
-            heard_in(&mut store, number, window, pdu)
-        }
-        Asked::Stopped(number, window, bound) => {
-            let mut store = store_with(alloc, Direction::Receives, bound)?;
-            store.stop_at(1);
-            heard_in(&mut store, number, window, pdu)
-        }
-    }
-}
-
-/// What a PDU finds, the PDU, what is said of it, and the counter after it.
-type Row = (Asked, &'static [u8], Said, u64);
-
-fn answers(rt: &impl Abort, alloc: Global, rows: &[Row]) -> Result<(), Fail> {
-    for (place, row) in rows.iter().enumerate() {
-        let (said, counter) = answer_to(alloc, row.0, row.1)?;
-        same(rt, place, &said, &row.2);
-        same(rt, place, &counter, &row.3);
+fn hears_each<C: Cells>(
+    rt: &impl Abort,
+    engine: &Engine,
+    rx: &mut Rx,
+    store: &mut C,
+    route: &Route,
+    rows: &[Row],
+) -> Result<(), Fail>
+    requires whole { (C.state store.old).broken ≡ false }
+    requires kept { KeepsBound (C.state store.old).cells rx.old.place rx.old.id Receives rx.old.bound }
+    requires route { IsReceiverRoute route.now rx.old }
+    ensures whole { OnOk result ((C.state store.new).broken ≡ false) }
+    ensures kept { OnOk result (KeepsBound (C.state store.new).cells rx.new.place rx.new.id Receives rx.new.bound) }
+    ensures route { OnOk result (IsReceiverRoute route.now rx.new) }
+{
+    for row in rows {
+        hears(rt, engine, rx, store, route, row)?;
     }
     Ok(())
 }
 
-const ACCEPTED: Said = Ok(Reception::Accepted {
+/// Nothing is said of the PDU for this reason, and the counter is as before.
+fn is_refused<C: Cells>(
+    rt: &impl Abort,
+    engine: &Engine,
+    rx: &mut Rx,
+    store: &mut C,
+    route: &Route,
+    refused: (&[u8], ReceiveFault),
+)
+    requires whole { (C.state store.old).broken ≡ false }
+    requires kept { KeepsBound (C.state store.old).cells rx.old.place rx.old.id Receives rx.old.bound }
+    requires route { IsReceiverRoute route.now rx.old }
+{
+    let (pdu, fault) = refused;
+    let counter = rx.counter();
+    let answer = receive(engine, rx, store, route, pdu);
+    same(rt, counter, &answer, &Err(fault));
+    same(rt, counter, &rx.counter(), &counter);
+}
+
+fn plays<C: CutCells>(
+    rt: &impl Abort,
+    engine: &Engine,
+    rx: &mut Rx,
+    store: &mut C,
+    route: &Route,
+    life: &Life,
+) -> Result<(), Fail>
+    requires whole { (C.state store.old).broken ≡ false }
+    requires kept { KeepsBound (C.state store.old).cells rx.old.place rx.old.id Receives rx.old.bound }
+    requires route { IsReceiverRoute route.now rx.old }
+{
+    same(rt, "rx.counter()", &rx.counter(), &life.bound);
+    hears_each(rt, engine, rx, store, route, life.running)?;
+    if life.stops {
+        store.stop_at(1);
+    }
+    hears_each(rt, engine, rx, store, route, life.stopped)?;
+    if let Some(refused) = life.refused {
+        is_refused(rt, engine, rx, store, route, refused);
+    }
+    Ok(())
+}
+
+fn lives<C: CutCells>(rt: &impl Abort, store: &mut C, life: &Life) -> Result<(), Fail>
+    requires whole { (C.state store.old).broken ≡ false }
+    requires count { length (C.state store.old).cells ≡ 15 }
+{
+    let route = route(life.slot, life.reserve, life.window)?;
+    let mut rx = receiver_in(store, life.reserve, life.window)?;
+    let engine = Engine::attach(Uid::of(UID), store)?;
+    plays(rt, &engine, &mut rx, store, &route, life)
+}
+
+fn live(rt: &impl Abort, alloc: Global, rows: &[Life]) -> Result<(), Fail> {
+    for life in rows {
+        let mut store = store_with(alloc, Direction::Receives, life.bound)?;
+        lives(rt, &mut store, life)?;
+    }
+    Ok(())
+}
+
+const ACCEPTED: Reception = Reception::Accepted {
     freshness: NEXT,
     len: 6,
-});
+};
 
-const ACCEPTED_ROWS: &[Row] = &[
-    (Asked::Running(4, 256, START), FIRST, ACCEPTED, NEXT),
-    (Asked::Running(4, 1, START), FIRST, ACCEPTED, NEXT),
-    (Asked::Running(4, 2, START - 1), FIRST, ACCEPTED, NEXT),
-    (Asked::Running(4, 16, START - 15), FIRST, ACCEPTED, NEXT),
-    (Asked::Running(4, 256, START - 255), FIRST, ACCEPTED, NEXT),
-    (
-        Asked::Running(4, 256, START),
-        LONGEST,
-        Ok(Reception::Accepted {
-            freshness: NEXT,
-            len: 60,
-        }),
-        NEXT,
-    ),
-    (
-        Asked::Running(4, 256, u64::MAX - 1),
-        LAST,
-        Ok(Reception::Accepted {
-            freshness: u64::MAX,
-            len: 6,
-        }),
-        u64::MAX,
-    ),
+/// The window's first and last freshness, the longest PDU, and the last freshness.
+const WITHIN: &[Life] = &[
+    Life {
+        slot: 4,
+        reserve: 1,
+        window: 256,
+        bound: START,
+        running: &[(FIRST, ACCEPTED, NEXT)],
+        stops: false,
+        stopped: &[],
+        refused: None,
+    },
+    Life {
+        slot: 4,
+        reserve: 1,
+        window: 1,
+        bound: START,
+        running: &[(FIRST, ACCEPTED, NEXT)],
+        stops: false,
+        stopped: &[],
+        refused: None,
+    },
+    Life {
+        slot: 4,
+        reserve: 1,
+        window: 2,
+        bound: START - 1,
+        running: &[(FIRST, ACCEPTED, NEXT)],
+        stops: false,
+        stopped: &[],
+        refused: None,
+    },
+    Life {
+        slot: 4,
+        reserve: 1,
+        window: 16,
+        bound: START - 15,
+        running: &[(FIRST, ACCEPTED, NEXT)],
+        stops: false,
+        stopped: &[],
+        refused: None,
+    },
+    Life {
+        slot: 4,
+        reserve: 1,
+        window: 256,
+        bound: START - 255,
+        running: &[(FIRST, ACCEPTED, NEXT)],
+        stops: false,
+        stopped: &[],
+        refused: None,
+    },
+    Life {
+        slot: 4,
+        reserve: 1,
+        window: 256,
+        bound: START,
+        running: &[(
+            LONGEST,
+            Reception::Accepted {
+                freshness: NEXT,
+                len: 60,
+            },
+            NEXT,
+        )],
+        stops: false,
+        stopped: &[],
+        refused: None,
+    },
+    Life {
+        slot: 4,
+        reserve: 1,
+        window: 256,
+        bound: u64::MAX - 1,
+        running: &[(
+            LAST,
+            Reception::Accepted {
+                freshness: u64::MAX,
+                len: 6,
+            },
+            u64::MAX,
+        )],
+        stops: false,
+        stopped: &[],
+        refused: None,
+    },
 ];
 
 #[test]
 fn a_pdu_is_accepted_up_to_its_window_ahead(rt: HostRuntime) -> Result<(), Fail> {
-    answers(&rt, rt.alloc(), ACCEPTED_ROWS)
+    live(&rt, rt.alloc(), WITHIN)
 }
 
-const BAD_LENGTH: Said = Err(ReceiveFault::BadLength);
-
-const STALE: Said = Ok(Reception::FreshnessFailure);
-
-const NOT_VERIFIED: Said = Ok(Reception::VerificationFailure);
-
-const REFUSED_ROWS: &[Row] = &[
-    (Asked::Running(4, 256, START), SHORT, BAD_LENGTH, START),
-    (Asked::Running(4, 256, START), LONG, BAD_LENGTH, START),
-    (Asked::Stopped(7, 256, u64::MAX), &[], BAD_LENGTH, u64::MAX),
-    (
-        Asked::Stopped(7, 256, u64::MAX),
-        FIRST,
-        Err(ReceiveFault::Key(Erc::KeyEmpty)),
-        u64::MAX,
-    ),
-    (
-        Asked::Running(6, 256, START),
-        FIRST,
-        Err(ReceiveFault::Key(Erc::KeyInvalid)),
-        START,
-    ),
-    (
-        Asked::Running(5, 256, START),
-        FORGED,
-        Err(ReceiveFault::Key(Erc::KeyNotAvailable)),
-        START,
-    ),
-    (Asked::Stopped(4, 256, u64::MAX), FIRST, STALE, u64::MAX),
-    (Asked::Stopped(4, 1, START - 1), FIRST, STALE, START - 1),
-    (Asked::Stopped(4, 16, START - 16), FIRST, STALE, START - 16),
-    (
-        Asked::Stopped(4, 255, START - 255),
-        FIRST,
-        STALE,
-        START - 255,
-    ),
-    (
-        Asked::Stopped(4, 256, START + 1),
-        FIRST,
-        NOT_VERIFIED,
-        START + 1,
-    ),
-    (Asked::Stopped(4, 256, START), FORGED, NOT_VERIFIED, START),
-    (Asked::Stopped(4, 256, START), ALTERED, NOT_VERIFIED, START),
-    (
-        Asked::Stopped(4, 256, START),
-        FIRST,
-        Err(ReceiveFault::Faulted { bound: NEXT }),
-        START,
-    ),
+/// What isn't accepted, and of what nothing is said.
+const REFUSED: &[Life] = &[
+    Life {
+        slot: 4,
+        reserve: 1,
+        window: 256,
+        bound: START,
+        running: &[],
+        stops: false,
+        stopped: &[],
+        refused: Some((SHORT, ReceiveFault::BadLength)),
+    },
+    Life {
+        slot: 4,
+        reserve: 1,
+        window: 256,
+        bound: START,
+        running: &[],
+        stops: false,
+        stopped: &[],
+        refused: Some((LONG, ReceiveFault::BadLength)),
+    },
+    Life {
+        slot: 7,
+        reserve: 1,
+        window: 256,
+        bound: u64::MAX,
+        running: &[],
+        stops: true,
+        stopped: &[],
+        refused: Some((&[], ReceiveFault::BadLength)),
+    },
+    Life {
+        slot: 7,
+        reserve: 1,
+        window: 256,
+        bound: u64::MAX,
+        running: &[],
+        stops: true,
+        stopped: &[],
+        refused: Some((FIRST, ReceiveFault::Key(Erc::KeyEmpty))),
+    },
+    Life {
+        slot: 6,
+        reserve: 1,
+        window: 256,
+        bound: START,
+        running: &[],
+        stops: false,
+        stopped: &[],
+        refused: Some((FIRST, ReceiveFault::Key(Erc::KeyInvalid))),
+    },
+    Life {
+        slot: 5,
+        reserve: 1,
+        window: 256,
+        bound: START,
+        running: &[],
+        stops: false,
+        stopped: &[],
+        refused: Some((FORGED, ReceiveFault::Key(Erc::KeyNotAvailable))),
+    },
+    Life {
+        slot: 4,
+        reserve: 1,
+        window: 256,
+        bound: u64::MAX,
+        running: &[],
+        stops: true,
+        stopped: &[(FIRST, Reception::FreshnessFailure, u64::MAX)],
+        refused: None,
+    },
+    Life {
+        slot: 4,
+        reserve: 1,
+        window: 1,
+        bound: START - 1,
+        running: &[],
+        stops: true,
+        stopped: &[(FIRST, Reception::FreshnessFailure, START - 1)],
+        refused: None,
+    },
+    Life {
+        slot: 4,
+        reserve: 1,
+        window: 16,
+        bound: START - 16,
+        running: &[],
+        stops: true,
+        stopped: &[(FIRST, Reception::FreshnessFailure, START - 16)],
+        refused: None,
+    },
+    Life {
+        slot: 4,
+        reserve: 1,
+        window: 255,
+        bound: START - 255,
+        running: &[],
+        stops: true,
+        stopped: &[(FIRST, Reception::FreshnessFailure, START - 255)],
+        refused: None,
+    },
+    Life {
+        slot: 4,
+        reserve: 1,
+        window: 256,
+        bound: START + 1,
+        running: &[],
+        stops: true,
+        stopped: &[(FIRST, Reception::VerificationFailure, START + 1)],
+        refused: None,
+    },
+    Life {
+        slot: 4,
+        reserve: 1,
+        window: 256,
+        bound: START,
+        running: &[],
+        stops: true,
+        stopped: &[(FORGED, Reception::VerificationFailure, START)],
+        refused: None,
+    },
+    Life {
+        slot: 4,
+        reserve: 1,
+        window: 256,
+        bound: START,
+        running: &[],
+        stops: true,
+        stopped: &[(ALTERED, Reception::VerificationFailure, START)],
+        refused: None,
+    },
+    Life {
+        slot: 4,
+        reserve: 1,
+        window: 256,
+        bound: START,
+        running: &[],
+        stops: true,
+        stopped: &[],
+        refused: Some((FIRST, ReceiveFault::Faulted { bound: NEXT })),
+    },
 ];
 
 #[test]
 fn the_first_refusal_or_failure_is_answered(rt: HostRuntime) -> Result<(), Fail> {
-    answers(&rt, rt.alloc(), REFUSED_ROWS)
+    live(&rt, rt.alloc(), REFUSED)
 }
 
-/// This is said of the PDU, with a reserve of 3.
-fn says(
-    rt: &impl Abort,
-    engine: &Engine,
-    rx: &mut Rx,
-    store: &mut TwinCells<MemDisk>,
-    pdu: &[u8],
-    said: Reception,
-) -> Result<(), Fail>
-    requires whole { store.old.broken ≡ false }
-    requires kept { KeepsBound store.old.cells rx.old.place rx.old.id Receives rx.old.bound }
-    requires route { (rx.old.id ≡ 27585) × (rx.old.reserve ≡ 3) × (rx.old.window ≡ 256) }
-    ensures whole { OnOk result (store.new.broken ≡ false) }
-    ensures kept { OnOk result (KeepsBound store.new.cells rx.new.place rx.new.id Receives rx.new.bound) }
-    ensures route { (rx.new.id ≡ 27585) × (rx.new.reserve ≡ 3) × (rx.new.window ≡ 256) }
-{
-    let route = route(4, 3, 256)?;
-    let answer = receive(engine, rx, store, &route, pdu)?;
-    same(rt, "answer", &answer, &said);
-    Ok(())
-}
-
-fn says_each(
-    rt: &impl Abort,
-    engine: &Engine,
-    rx: &mut Rx,
-    store: &mut TwinCells<MemDisk>,
-    rows: &[(&[u8], Reception)],
-) -> Result<(), Fail>
-    requires whole { store.old.broken ≡ false }
-    requires kept { KeepsBound store.old.cells rx.old.place rx.old.id Receives rx.old.bound }
-    requires route { (rx.old.id ≡ 27585) × (rx.old.reserve ≡ 3) × (rx.old.window ≡ 256) }
-    ensures whole { OnOk result (store.new.broken ≡ false) }
-    ensures kept { OnOk result (KeepsBound store.new.cells rx.new.place rx.new.id Receives rx.new.bound) }
-    ensures route { (rx.new.id ≡ 27585) × (rx.new.reserve ≡ 3) × (rx.new.window ≡ 256) }
-{
-    for (pdu, said) in rows {
-        says(rt, engine, rx, store, pdu, *said)?;
-    }
-    Ok(())
-}
-
-const RUNNING: &[(&[u8], Reception)] = &[(
-    FIRST,
-    Reception::Accepted {
-        freshness: NEXT,
-        len: 6,
-    },
-)];
-
-const STOPPED: &[(&[u8], Reception)] = &[
-    (FIRST, Reception::VerificationFailure),
-    (
-        THIRD,
-        Reception::Accepted {
-            freshness: 0xe93d7e11_7393172c,
-            len: 6,
+/// The first PDU puts the bound ..172c, which covers the next two; the fourth is to put another over a disk that has
+/// stopped.
+const ONCE: &[Life] = &[Life {
+    slot: 4,
+    reserve: 3,
+    window: 256,
+    bound: START,
+    running: &[(FIRST, ACCEPTED, NEXT)],
+    stops: true,
+    stopped: &[
+        (FIRST, Reception::VerificationFailure, NEXT),
+        (
+            THIRD,
+            Reception::Accepted {
+                freshness: 0xe93d7e11_7393172c,
+                len: 6,
+            },
+            0xe93d7e11_7393172c,
+        ),
+        (SECOND, Reception::VerificationFailure, 0xe93d7e11_7393172c),
+    ],
+    refused: Some((
+        FOURTH,
+        ReceiveFault::Faulted {
+            bound: 0xe93d7e11_7393172f,
         },
-    ),
-    (SECOND, Reception::VerificationFailure),
-];
-
-/// The first PDU puts the bound ..172c, which covers the next two; the fourth is to put another over a disk that has stopped.
-fn hears_each_once(rt: &impl Abort, store: &mut TwinCells<MemDisk>) -> Result<(), Fail>
-    requires whole { store.old.broken ≡ false }
-    requires count { length store.old.cells ≡ 15 }
-{
-    let route = route(4, 3, 256)?;
-    let engine = Engine::attach(Uid::of(UID), store)?;
-    let mut rx = receiver_in(store, 3, 256)?;
-    says_each(rt, &engine, &mut rx, store, RUNNING)?;
-    store.stop_at(1);
-    says_each(rt, &engine, &mut rx, store, STOPPED)?;
-    let answer = receive(&engine, &mut rx, store, &route, FOURTH);
-    let fault = ReceiveFault::Faulted {
-        bound: 0xe93d7e11_7393172f,
-    };
-    same(rt, "answer", &answer, &Err(fault));
-    same(rt, "rx.counter()", &rx.counter(), &0xe93d7e11_7393172c);
-    Ok(())
-}
+    )),
+}];
 
 #[test]
 fn no_freshness_is_accepted_twice(rt: HostRuntime) -> Result<(), Fail> {
-    let mut store = store_with(rt.alloc(), Direction::Receives, START)?;
-    hears_each_once(&rt, &mut store)
+    live(&rt, rt.alloc(), ONCE)
 }

@@ -3,11 +3,11 @@
 ghost use Rattle.std.specs.Prelude.{◌≡◌, false, length, IfOk, OnOk};
 ghost use Rattle.freshness_routes.specs.declared.routes.Direction.TheVariants.{Sends};
 ghost use Rattle.freshness_manager.specs.Counters.{KeepsBound};
+ghost use Rattle.secoc_sender.specs.Sending.{IsSenderRoute};
 
 use crate::bench::{ID, UID, slot, store_with};
 use crate::comparing::{holds, same};
-use cell_store::{CutCells, TwinCells};
-use cut_disk::MemDisk;
+use cell_store::{Cells, CutCells};
 use freshness_manager::Tx;
 use freshness_routes::{Direction, Route};
 use freshness_store::read_bound;
@@ -44,78 +44,29 @@ fn route(number: u8) -> Result<Route, &'static str>
 }
 
 /// The sender that the store keeps.
-fn sender_in(store: &TwinCells<MemDisk>) -> Result<Tx, Fail>
-    requires { length store.now.cells ≡ 15 }
-    ensures kept { IfOk result (λ t. KeepsBound store.now.cells t.place t.id Sends t.bound) }
+fn sender_in<C: Cells>(store: &C) -> Result<Tx, Fail>
+    requires { length (C.state store.now).cells ≡ 15 }
+    ensures kept { IfOk result (λ t. KeepsBound (C.state store.now).cells t.place t.id Sends t.bound) }
     ensures route { IfOk result (λ t. (t.id ≡ 27585) × (t.reserve ≡ 4)) }
 {
     let bound = read_bound(store, 14, ID, Direction::Sends)?;
     Ok(Tx::restore(14, ID, RESERVE, bound))
 }
 
-/// A send of the first bytes of the payload: the slot of the key, the number of bytes, and the bound at which the counter begins; over
-/// a disk that runs, or that has stopped.
-#[derive(Clone, Copy)]
-enum Asked {
-    Running(u8, usize, u64),
-    Stopped(u8, usize, u64),
+/// A send of so many of the first bytes of the payload: the freshness of the PDU, and the bytes that it ends in.
+type Row = (usize, u64, [u8; 4]);
+
+/// A life of a sender: the slot of its key and the bound that it begins at; what it sends over a disk that runs;
+/// whether the disk then stops; what is sent over a disk that has stopped; and how many bytes are then not sent, and
+/// why.
+struct Life {
+    slot: u8,
+    bound: u64,
+    running: &'static [Row],
+    stops: bool,
+    stopped: &'static [Row],
+    refused: Option<(usize, SendFault)>,
 }
-
-/// What a send is answered, and the counter after it.
-type Answered = (Result<Sent, SendFault>, u64);
-
-fn sent_from(
-    store: &mut TwinCells<MemDisk>,
-    number: u8,
-    size: usize,
-    out: &mut [u8; 64],
-) -> Result<Answered, Fail>
-    requires whole { store.old.broken ≡ false }
-    requires count { length store.old.cells ≡ 15 }
-{
-    let route = route(number)?;
-    let payload = PAYLOAD.get(..size).ok_or("a size")?;
-    let engine = Engine::attach(Uid::of(UID), store)?;
-    let mut tx = sender_in(store)?;
-    let answer = send(&engine, &mut tx, store, &route, payload, out);
-    Ok((answer, tx.counter()))
-}
-
-fn answer_to(alloc: Global, asked: Asked, out: &mut [u8; 64]) -> Result<Answered, Fail> {
-    match asked {
-        Asked::Running(number, size, bound) => {
-            let mut store = store_with(alloc, Direction::Sends, bound)?;
-            sent_from(&mut store, number, size, out)
-        }
-        Asked::Stopped(number, size, bound) => {
-            let mut store = store_with(alloc, Direction::Sends, bound)?;
-            store.stop_at(1);
-            sent_from(&mut store, number, size, out)
-        }
-    }
-}
-
-/// A size, a bound, what is sent, and the bytes behind the payload.
-const SENT: &[(usize, u64, u64, u8, [u8; 4])] = &[
-    (6, START, START + 1, 10, [0x2a, 0x07, 0x0a, 0x16]),
-    (
-        30,
-        0x30c81c46_a35ce410,
-        0x30c81c46_a35ce411,
-        34,
-        [0x11, 0xdf, 0xa6, 0x67],
-    ),
-    (
-        54,
-        0xad2b417b_e66c370f,
-        0xad2b417b_e66c3710,
-        58,
-        [0x10, 0x51, 0xf0, 0xbe],
-    ),
-    (1, 0xff, 0x100, 5, [0x00, 0x75, 0x5e, 0xbe]),
-    (60, u64::MAX - 2, u64::MAX - 1, 64, [0xfe, 0x30, 0x38, 0xa2]),
-    (6, u64::MAX - 1, u64::MAX, 10, [0xff, 0x9a, 0x7f, 0x8d]),
-];
 
 /// The buffer has so many bytes of the payload and these, and behind them is as it was.
 fn has_pdu(rt: &impl Abort, out: &[u8; 64], size: usize, trailer: &[u8; 4]) {
@@ -126,158 +77,292 @@ fn has_pdu(rt: &impl Abort, out: &[u8; 64], size: usize, trailer: &[u8; 4]) {
     holds(rt, size, out[len..].iter().all(|byte| *byte == 0xaa));
 }
 
-#[test]
-fn a_pdu_has_the_freshness_above_the_counter(rt: HostRuntime) -> Result<(), Fail> {
-    for (size, bound, freshness, len, trailer) in SENT {
-        let mut out = [0xaa; 64];
-        let (answer, counter) = answer_to(rt.alloc(), Asked::Running(4, *size, *bound), &mut out)?;
-        let sent = Sent {
-            freshness: *freshness,
-            len: *len,
-        };
-        same(&rt, *size, &answer, &Ok(sent));
-        same(&rt, *size, &counter, freshness);
-        has_pdu(&rt, &out, *size, trailer);
+/// The next PDU is that of the row.
+fn sends<C: Cells>(
+    rt: &impl Abort,
+    engine: &Engine,
+    tx: &mut Tx,
+    store: &mut C,
+    route: &Route,
+    row: &Row,
+) -> Result<(), Fail>
+    requires whole { (C.state store.old).broken ≡ false }
+    requires kept { KeepsBound (C.state store.old).cells tx.old.place tx.old.id Sends tx.old.bound }
+    requires route { IsSenderRoute route.now tx.old }
+    ensures whole { OnOk result ((C.state store.new).broken ≡ false) }
+    ensures kept { OnOk result (KeepsBound (C.state store.new).cells tx.new.place tx.new.id Sends tx.new.bound) }
+    ensures route { OnOk result (IsSenderRoute route.now tx.new) }
+{
+    let (size, freshness, trailer) = row;
+    holds(rt, *size, *size <= 60);
+    let mut out = [0xaa; 64];
+    let sent = send(engine, tx, store, route, &PAYLOAD[..*size], &mut out)?;
+    same(rt, *size, &sent.freshness, freshness);
+    same(rt, *size, &usize::from(sent.len), &(*size + 4));
+    same(rt, *size, &tx.counter(), freshness);
+    has_pdu(rt, &out, *size, trailer);
+    Ok(())
+}
+
+fn sends_each<C: Cells>(
+    rt: &impl Abort,
+    engine: &Engine,
+    tx: &mut Tx,
+    store: &mut C,
+    route: &Route,
+    rows: &[Row],
+) -> Result<(), Fail>
+    requires whole { (C.state store.old).broken ≡ false }
+    requires kept { KeepsBound (C.state store.old).cells tx.old.place tx.old.id Sends tx.old.bound }
+    requires route { IsSenderRoute route.now tx.old }
+    ensures whole { OnOk result ((C.state store.new).broken ≡ false) }
+    ensures kept { OnOk result (KeepsBound (C.state store.new).cells tx.new.place tx.new.id Sends tx.new.bound) }
+    ensures route { OnOk result (IsSenderRoute route.now tx.new) }
+{
+    for row in rows {
+        sends(rt, engine, tx, store, route, row)?;
     }
     Ok(())
 }
 
-/// What isn't sent, why, and the counter, which stays.
-const REFUSED: &[(Asked, SendFault, u64)] = &[
-    (Asked::Running(4, 0, START), SendFault::BadLength, START),
-    (Asked::Running(4, 61, START), SendFault::BadLength, START),
-    (
-        Asked::Stopped(7, 61, u64::MAX),
-        SendFault::BadLength,
-        u64::MAX,
-    ),
-    (
-        Asked::Stopped(7, 6, u64::MAX),
-        SendFault::Key(Erc::KeyEmpty),
-        u64::MAX,
-    ),
-    (
-        Asked::Running(6, 6, START),
-        SendFault::Key(Erc::KeyInvalid),
-        START,
-    ),
-    (
-        Asked::Running(3, 6, START),
-        SendFault::Key(Erc::KeyInvalid),
-        START,
-    ),
-    (
-        Asked::Running(5, 6, START),
-        SendFault::Key(Erc::KeyNotAvailable),
-        START,
-    ),
-    (
-        Asked::Stopped(4, 6, u64::MAX),
-        SendFault::Exhausted,
-        u64::MAX,
-    ),
-    (
-        Asked::Stopped(4, 6, START),
-        SendFault::Faulted {
-            bound: 0xe93d7e11_7393172d,
-        },
-        START,
-    ),
-    (
-        Asked::Stopped(4, 6, u64::MAX - 2),
-        SendFault::Faulted { bound: u64::MAX },
-        u64::MAX - 2,
-    ),
+/// So many bytes aren't sent for this reason; the counter and the buffer are as before.
+fn is_refused<C: Cells>(
+    rt: &impl Abort,
+    engine: &Engine,
+    tx: &mut Tx,
+    store: &mut C,
+    route: &Route,
+    refused: (usize, SendFault),
+)
+    requires whole { (C.state store.old).broken ≡ false }
+    requires kept { KeepsBound (C.state store.old).cells tx.old.place tx.old.id Sends tx.old.bound }
+    requires route { IsSenderRoute route.now tx.old }
+{
+    let (size, fault) = refused;
+    holds(rt, size, size <= 61);
+    let counter = tx.counter();
+    let mut out = [0xaa; 64];
+    let answer = send(engine, tx, store, route, &PAYLOAD[..size], &mut out);
+    same(rt, size, &answer, &Err(fault));
+    same(rt, size, &tx.counter(), &counter);
+    same(rt, size, &out, &[0xaa; 64]);
+}
+
+fn plays<C: CutCells>(
+    rt: &impl Abort,
+    engine: &Engine,
+    tx: &mut Tx,
+    store: &mut C,
+    route: &Route,
+    life: &Life,
+) -> Result<(), Fail>
+    requires whole { (C.state store.old).broken ≡ false }
+    requires kept { KeepsBound (C.state store.old).cells tx.old.place tx.old.id Sends tx.old.bound }
+    requires route { IsSenderRoute route.now tx.old }
+{
+    same(rt, "tx.counter()", &tx.counter(), &life.bound);
+    sends_each(rt, engine, tx, store, route, life.running)?;
+    if life.stops {
+        store.stop_at(1);
+    }
+    sends_each(rt, engine, tx, store, route, life.stopped)?;
+    if let Some(refused) = life.refused {
+        is_refused(rt, engine, tx, store, route, refused);
+    }
+    Ok(())
+}
+
+fn lives<C: CutCells>(rt: &impl Abort, store: &mut C, life: &Life) -> Result<(), Fail>
+    requires whole { (C.state store.old).broken ≡ false }
+    requires count { length (C.state store.old).cells ≡ 15 }
+{
+    let route = route(life.slot)?;
+    let mut tx = sender_in(store)?;
+    let engine = Engine::attach(Uid::of(UID), store)?;
+    plays(rt, &engine, &mut tx, store, &route, life)
+}
+
+fn live(rt: &impl Abort, alloc: Global, rows: &[Life]) -> Result<(), Fail> {
+    for life in rows {
+        let mut store = store_with(alloc, Direction::Sends, life.bound)?;
+        lives(rt, &mut store, life)?;
+    }
+    Ok(())
+}
+
+/// The least and the most that is sent, the examples of SP 800-38B, a carry into the second byte, and the last two
+/// freshness values.
+const SENT: &[Life] = &[
+    Life {
+        slot: 4,
+        bound: START,
+        running: &[(6, START + 1, [0x2a, 0x07, 0x0a, 0x16])],
+        stops: false,
+        stopped: &[],
+        refused: None,
+    },
+    Life {
+        slot: 4,
+        bound: 0x30c81c46_a35ce410,
+        running: &[(30, 0x30c81c46_a35ce411, [0x11, 0xdf, 0xa6, 0x67])],
+        stops: false,
+        stopped: &[],
+        refused: None,
+    },
+    Life {
+        slot: 4,
+        bound: 0xad2b417b_e66c370f,
+        running: &[(54, 0xad2b417b_e66c3710, [0x10, 0x51, 0xf0, 0xbe])],
+        stops: false,
+        stopped: &[],
+        refused: None,
+    },
+    Life {
+        slot: 4,
+        bound: 0xff,
+        running: &[(1, 0x100, [0x00, 0x75, 0x5e, 0xbe])],
+        stops: false,
+        stopped: &[],
+        refused: None,
+    },
+    Life {
+        slot: 4,
+        bound: u64::MAX - 2,
+        running: &[(60, u64::MAX - 1, [0xfe, 0x30, 0x38, 0xa2])],
+        stops: false,
+        stopped: &[],
+        refused: None,
+    },
+    Life {
+        slot: 4,
+        bound: u64::MAX - 1,
+        running: &[(6, u64::MAX, [0xff, 0x9a, 0x7f, 0x8d])],
+        stops: false,
+        stopped: &[],
+        refused: None,
+    },
+];
+
+#[test]
+fn a_pdu_has_the_freshness_above_the_counter(rt: HostRuntime) -> Result<(), Fail> {
+    live(&rt, rt.alloc(), SENT)
+}
+
+/// What isn't sent, and why.
+const REFUSED: &[Life] = &[
+    Life {
+        slot: 4,
+        bound: START,
+        running: &[],
+        stops: false,
+        stopped: &[],
+        refused: Some((0, SendFault::BadLength)),
+    },
+    Life {
+        slot: 4,
+        bound: START,
+        running: &[],
+        stops: false,
+        stopped: &[],
+        refused: Some((61, SendFault::BadLength)),
+    },
+    Life {
+        slot: 7,
+        bound: u64::MAX,
+        running: &[],
+        stops: true,
+        stopped: &[],
+        refused: Some((61, SendFault::BadLength)),
+    },
+    Life {
+        slot: 7,
+        bound: u64::MAX,
+        running: &[],
+        stops: true,
+        stopped: &[],
+        refused: Some((6, SendFault::Key(Erc::KeyEmpty))),
+    },
+    Life {
+        slot: 6,
+        bound: START,
+        running: &[],
+        stops: false,
+        stopped: &[],
+        refused: Some((6, SendFault::Key(Erc::KeyInvalid))),
+    },
+    Life {
+        slot: 3,
+        bound: START,
+        running: &[],
+        stops: false,
+        stopped: &[],
+        refused: Some((6, SendFault::Key(Erc::KeyInvalid))),
+    },
+    Life {
+        slot: 5,
+        bound: START,
+        running: &[],
+        stops: false,
+        stopped: &[],
+        refused: Some((6, SendFault::Key(Erc::KeyNotAvailable))),
+    },
+    Life {
+        slot: 4,
+        bound: u64::MAX,
+        running: &[],
+        stops: true,
+        stopped: &[],
+        refused: Some((6, SendFault::Exhausted)),
+    },
+    Life {
+        slot: 4,
+        bound: START,
+        running: &[],
+        stops: true,
+        stopped: &[],
+        refused: Some((
+            6,
+            SendFault::Faulted {
+                bound: 0xe93d7e11_7393172d,
+            },
+        )),
+    },
+    Life {
+        slot: 4,
+        bound: u64::MAX - 2,
+        running: &[],
+        stops: true,
+        stopped: &[],
+        refused: Some((6, SendFault::Faulted { bound: u64::MAX })),
+    },
 ];
 
 #[test]
 fn the_first_refusal_that_applies_is_answered(rt: HostRuntime) -> Result<(), Fail> {
-    for (place, (asked, refusal, bound)) in REFUSED.iter().enumerate() {
-        let mut out = [0xaa; 64];
-        let (answer, counter) = answer_to(rt.alloc(), *asked, &mut out)?;
-        same(&rt, place, &answer, &Err(*refusal));
-        same(&rt, place, &counter, bound);
-        same(&rt, place, &out, &[0xaa; 64]);
-    }
-    Ok(())
+    live(&rt, rt.alloc(), REFUSED)
 }
 
-/// The next PDU has this freshness and ends in these bytes.
-fn sends(
-    rt: &impl Abort,
-    engine: &Engine,
-    tx: &mut Tx,
-    store: &mut TwinCells<MemDisk>,
-    freshness: u64,
-    trailer: &[u8; 4],
-) -> Result<(), Fail>
-    requires whole { store.old.broken ≡ false }
-    requires kept { KeepsBound store.old.cells tx.old.place tx.old.id Sends tx.old.bound }
-    requires route { (tx.old.id ≡ 27585) × (tx.old.reserve ≡ 4) }
-    ensures whole { OnOk result (store.new.broken ≡ false) }
-    ensures kept { OnOk result (KeepsBound store.new.cells tx.new.place tx.new.id Sends tx.new.bound) }
-    ensures route { (tx.new.id ≡ 27585) × (tx.new.reserve ≡ 4) }
-{
-    let mut out = [0xaa; 64];
-    let route = route(4)?;
-    let sent = send(engine, tx, store, &route, &PAYLOAD[..6], &mut out)?;
-    same(rt, "sent", &sent, &Sent { freshness, len: 10 });
-    has_pdu(rt, &out, 6, trailer);
-    Ok(())
-}
-
-fn sends_each(
-    rt: &impl Abort,
-    engine: &Engine,
-    tx: &mut Tx,
-    store: &mut TwinCells<MemDisk>,
-    rows: &[(u64, [u8; 4])],
-) -> Result<(), Fail>
-    requires whole { store.old.broken ≡ false }
-    requires kept { KeepsBound store.old.cells tx.old.place tx.old.id Sends tx.old.bound }
-    requires route { (tx.old.id ≡ 27585) × (tx.old.reserve ≡ 4) }
-    ensures whole { OnOk result (store.new.broken ≡ false) }
-    ensures kept { OnOk result (KeepsBound store.new.cells tx.new.place tx.new.id Sends tx.new.bound) }
-    ensures route { (tx.new.id ≡ 27585) × (tx.new.reserve ≡ 4) }
-{
-    for (freshness, trailer) in rows {
-        sends(rt, engine, tx, store, *freshness, trailer)?;
-    }
-    Ok(())
-}
-
-const RUNNING: &[(u64, [u8; 4])] = &[(0xe93d7e11_7393172a, [0x2a, 0x07, 0x0a, 0x16])];
-
-const STOPPED: &[(u64, [u8; 4])] = &[
-    (0xe93d7e11_7393172b, [0x2b, 0x96, 0xa6, 0xc5]),
-    (0xe93d7e11_7393172c, [0x2c, 0xfb, 0xeb, 0x6a]),
-    (0xe93d7e11_7393172d, [0x2d, 0x0b, 0xa6, 0xdc]),
-];
-
-/// The first send puts the bound ..172d, which covers the next three; the fifth is to put another over a disk that has stopped.
-fn sends_each_once(rt: &impl Abort, store: &mut TwinCells<MemDisk>) -> Result<(), Fail>
-    requires whole { store.old.broken ≡ false }
-    requires count { length store.old.cells ≡ 15 }
-{
-    let route = route(4)?;
-    let engine = Engine::attach(Uid::of(UID), store)?;
-    let mut tx = sender_in(store)?;
-    sends_each(rt, &engine, &mut tx, store, RUNNING)?;
-    store.stop_at(1);
-    sends_each(rt, &engine, &mut tx, store, STOPPED)?;
-    let mut out = [0xaa; 64];
-    let answer = send(&engine, &mut tx, store, &route, &PAYLOAD[..6], &mut out);
-    let fault = SendFault::Faulted {
-        bound: 0xe93d7e11_73931731,
-    };
-    same(rt, "answer", &answer, &Err(fault));
-    same(rt, "tx.counter()", &tx.counter(), &0xe93d7e11_7393172d);
-    same(rt, "out", &out, &[0xaa; 64]);
-    Ok(())
-}
+/// The first send puts the bound ..172d, which covers the next three; the fifth is to put another over a disk that
+/// has stopped.
+const ONCE: &[Life] = &[Life {
+    slot: 4,
+    bound: START,
+    running: &[(6, 0xe93d7e11_7393172a, [0x2a, 0x07, 0x0a, 0x16])],
+    stops: true,
+    stopped: &[
+        (6, 0xe93d7e11_7393172b, [0x2b, 0x96, 0xa6, 0xc5]),
+        (6, 0xe93d7e11_7393172c, [0x2c, 0xfb, 0xeb, 0x6a]),
+        (6, 0xe93d7e11_7393172d, [0x2d, 0x0b, 0xa6, 0xdc]),
+    ],
+    refused: Some((
+        6,
+        SendFault::Faulted {
+            bound: 0xe93d7e11_73931731,
+        },
+    )),
+}];
 
 #[test]
 fn no_freshness_is_sent_twice(rt: HostRuntime) -> Result<(), Fail> {
-    let mut store = store_with(rt.alloc(), Direction::Sends, START)?;
-    sends_each_once(&rt, &mut store)
+    live(&rt, rt.alloc(), ONCE)
 }

@@ -1,10 +1,9 @@
 // Cells as they are written down in the formats, and slots over a store in memory.
 ghost use Rattle.std.specs.Prelude.{◌≡◌, length, false, OnOk};
 
-use crate::bench::{filled, slot, twin_store};
+use crate::bench::{TWIN, filled, slot, store_of};
 use crate::comparing::{holds, same};
-use cell_store::{TwinCells, Version};
-use cut_disk::MemDisk;
+use cell_store::Cells;
 use key_slots::{Slot, Slots};
 use slot_disk::*;
 use std::process::Abort;
@@ -63,11 +62,11 @@ fn every_other_content_is_no_slot(rt: HostRuntime) {
 }
 
 /// Puts a slot under the key.
-fn put(store: &mut TwinCells<MemDisk>, number: u8, counter: u32, flags: u8) -> Result<(), Fail>
-    requires count { length store.old.cells ≡ 14 }
-    requires whole { store.old.broken ≡ false }
-    ensures count { OnOk result (length store.new.cells ≡ 14) }
-    ensures whole { OnOk result (store.new.broken ≡ false) }
+fn put<C: Cells>(store: &mut C, number: u8, counter: u32, flags: u8) -> Result<(), Fail>
+    requires count { length (C.state store.old).cells ≡ 14 }
+    requires whole { (C.state store.old).broken ≡ false }
+    ensures count { OnOk result (length (C.state store.new).cells ≡ 14) }
+    ensures whole { OnOk result ((C.state store.new).broken ≡ false) }
 {
     put_slot(store, slot(number)?, &filled(KEY, counter, flags)?)?;
     Ok(())
@@ -78,15 +77,26 @@ fn has_slot(rt: &impl Abort, slots: &Slots, number: u8, wanted: Slot) -> Result<
     Ok(())
 }
 
+/// Puts two slots, and reads all.
+fn slots_in<C: Cells>(store: &mut C) -> Result<Slots, Fail>
+    requires count { length (C.state store.old).cells ≡ 14 }
+    requires whole { (C.state store.old).broken ≡ false }
+{
+    put(store, 0, 7, 2)?;
+    put(store, 13, 8, 16)?;
+    Ok(read_slots(store)?)
+}
+
+fn has_slots(rt: &impl Abort, slots: &Slots) -> Result<(), Fail> {
+    has_slot(rt, slots, 0, filled(KEY, 7, 2)?)?;
+    has_slot(rt, slots, 13, filled(KEY, 8, 16)?)?;
+    has_slot(rt, slots, 5, Slot::Empty)
+}
+
 #[test]
 fn slots_are_put_and_read(rt: HostRuntime) -> Result<(), Fail> {
-    let mut store = twin_store(rt.alloc(), 984, Version::One, &[[0; 32]; 14])?;
-    put(&mut store, 0, 7, 2)?;
-    put(&mut store, 13, 8, 16)?;
-    let slots = read_slots(&store)?;
-    has_slot(&rt, &slots, 0, filled(KEY, 7, 2)?)?;
-    has_slot(&rt, &slots, 13, filled(KEY, 8, 16)?)?;
-    has_slot(&rt, &slots, 5, Slot::Empty)
+    let mut store = store_of(rt.alloc(), TWIN, &[[0; 32]; 14])?;
+    has_slots(&rt, &slots_in(&mut store)?)
 }
 
 #[test]
@@ -94,7 +104,7 @@ fn the_lowest_bad_slot_is_named(rt: HostRuntime) -> Result<(), Fail> {
     let mut cells = [[0; 32]; 14];
     cells[3] = [3; 32];
     cells[9] = [9; 32];
-    let store = twin_store(rt.alloc(), 984, Version::One, &cells)?;
+    let store = store_of(rt.alloc(), TWIN, &cells)?;
     let bad = read_slots(&store).err().map(|bad| bad.0.number());
     same(&rt, "read_slots", &bad, &Some(3));
     Ok(())

@@ -4,4 +4,4 @@ use Rattle.slot_disk.specs.Cell.{HoldSlots}
 use Rattle.engine_tests.proofs.engines.plays_to.Given as goal
 
 abbrev pub invariant-loop-place : goal.invariant-loop-place
-invariant-loop-place g l = (l.store.broken ≡ false) × HoldSlots l.store.cells l.engine.slots
+invariant-loop-place g l = ((g.C.Cells.state l.store).broken ≡ false) × HoldSlots (g.C.Cells.state l.store).cells l.engine.slots
