@@ -1,110 +1,72 @@
-use crate::comparing::same;
-use she_aes::*;
+//! The examples of FIPS 197 and of SP 800-38A.
+use crate::blocks::{agrees, agrees_by_cbc, agrees_by_ecb, block, blocks};
+use crate::comparing::holds;
 
 mod known_answers;
 
-// Key, text and ciphertext of FIPS 197, appendices B and C.1, and of SP 800-38A, F.1.1.
-const VECTORS: [([u8; 16], [u8; 16], [u8; 16]); 3] = [
+/// Key, text and ciphertext of FIPS 197, appendices B and C.1, and of SP 800-38A, F.1.1.
+const VECTORS: &[(u128, u128, u128)] = &[
     (
-        *b"\x2b\x7e\x15\x16\x28\xae\xd2\xa6\xab\xf7\x15\x88\x09\xcf\x4f\x3c",
-        *b"\x32\x43\xf6\xa8\x88\x5a\x30\x8d\x31\x31\x98\xa2\xe0\x37\x07\x34",
-        *b"\x39\x25\x84\x1d\x02\xdc\x09\xfb\xdc\x11\x85\x97\x19\x6a\x0b\x32",
+        0x2b7e151628aed2a6abf7158809cf4f3c,
+        0x3243f6a8885a308d313198a2e0370734,
+        0x3925841d02dc09fbdc118597196a0b32,
     ),
     (
-        *b"\x00\x01\x02\x03\x04\x05\x06\x07\x08\x09\x0a\x0b\x0c\x0d\x0e\x0f",
-        *b"\x00\x11\x22\x33\x44\x55\x66\x77\x88\x99\xaa\xbb\xcc\xdd\xee\xff",
-        *b"\x69\xc4\xe0\xd8\x6a\x7b\x04\x30\xd8\xcd\xb7\x80\x70\xb4\xc5\x5a",
+        0x000102030405060708090a0b0c0d0e0f,
+        0x00112233445566778899aabbccddeeff,
+        0x69c4e0d86a7b0430d8cdb78070b4c55a,
     ),
     (
-        *b"\x2b\x7e\x15\x16\x28\xae\xd2\xa6\xab\xf7\x15\x88\x09\xcf\x4f\x3c",
-        *b"\x6b\xc1\xbe\xe2\x2e\x40\x9f\x96\xe9\x3d\x7e\x11\x73\x93\x17\x2a",
-        *b"\x3a\xd7\x7b\xb4\x0d\x7a\x36\x60\xa8\x9e\xca\xf3\x24\x66\xef\x97",
+        0x2b7e151628aed2a6abf7158809cf4f3c,
+        0x6bc1bee22e409f96e93d7e117393172a,
+        0x3ad77bb40d7a3660a89ecaf32466ef97,
     ),
 ];
 
-// The key of SP 800-38A, appendix F.
-const KEY: [u8; 16] = *b"\x2b\x7e\x15\x16\x28\xae\xd2\xa6\xab\xf7\x15\x88\x09\xcf\x4f\x3c";
+/// The key of SP 800-38A, appendix F.
+const KEY: u128 = 0x2b7e151628aed2a6abf7158809cf4f3c;
 
-// The first two blocks of its text.
-const TEXT: [[u8; 16]; 2] = [
-    *b"\x6b\xc1\xbe\xe2\x2e\x40\x9f\x96\xe9\x3d\x7e\x11\x73\x93\x17\x2a",
-    *b"\xae\x2d\x8a\x57\x1e\x03\xac\x9c\x9e\xb7\x6f\xac\x45\xaf\x8e\x51",
+/// The first two blocks of its text.
+const TEXT: [u128; 2] = [
+    0x6bc1bee22e409f96e93d7e117393172a,
+    0xae2d8a571e03ac9c9eb76fac45af8e51,
 ];
 
-// Those blocks encrypted by ECB (F.1.1).
-const BY_ECB: [[u8; 16]; 2] = [
-    *b"\x3a\xd7\x7b\xb4\x0d\x7a\x36\x60\xa8\x9e\xca\xf3\x24\x66\xef\x97",
-    *b"\xf5\xd3\xd5\x85\x03\xb9\x69\x9d\xe7\x85\x89\x5a\x96\xfd\xba\xaf",
+/// Those blocks encrypted by ECB (F.1.1).
+const BY_ECB: [u128; 2] = [
+    0x3ad77bb40d7a3660a89ecaf32466ef97,
+    0xf5d3d58503b9699de785895a96fdbaaf,
 ];
 
-// The iv of F.2.1.
-const IV: [u8; 16] = *b"\x00\x01\x02\x03\x04\x05\x06\x07\x08\x09\x0a\x0b\x0c\x0d\x0e\x0f";
+/// The iv of F.2.1.
+const IV: u128 = 0x000102030405060708090a0b0c0d0e0f;
 
-// Those blocks encrypted by CBC (F.2.1).
-const BY_CBC: [[u8; 16]; 2] = [
-    *b"\x76\x49\xab\xac\x81\x19\xb2\x46\xce\xe9\x8e\x9b\x12\xe9\x19\x7d",
-    *b"\x50\x86\xcb\x9b\x50\x72\x19\xee\x95\xdb\x11\x3a\x91\x76\x78\xb2",
+/// Those blocks encrypted by CBC (F.2.1).
+const BY_CBC: [u128; 2] = [
+    0x7649abac8119b246cee98e9b12e9197d,
+    0x5086cb9b507219ee95db113a917678b2,
 ];
-
-fn blocks(bytes: [[u8; 16]; 2]) -> [Block; 2] {
-    [Block::of(bytes[0]), Block::of(bytes[1])]
-}
 
 #[test]
 fn the_vectors_of_the_standards_are_encrypted_and_decrypted(rt: HostRuntime) {
-    for (key, text, ciphertext) in VECTORS {
-        let schedule = expand(&Block::of(key));
-        let text = Block::of(text);
-        let ciphertext = Block::of(ciphertext);
-        same(&rt, "encrypt", &encrypt(&schedule, &text), &ciphertext);
-        same(
-            &rt,
-            "encrypt_by_tables",
-            &encrypt_by_tables(&schedule, &text),
-            &ciphertext,
-        );
-        same(&rt, "decrypt", &decrypt(&schedule, &ciphertext), &text);
+    for row in VECTORS {
+        holds(&rt, row.1, agrees(row.0, row.1, row.2));
     }
 }
 
 #[test]
 fn two_blocks_are_encrypted_and_decrypted_by_each_mode(rt: HostRuntime) {
-    let schedule = expand(&Block::of(KEY));
+    let key = block(KEY);
     let text = blocks(TEXT);
-    let iv = Block::of(IV);
-    same(
-        &rt,
-        "ecb_encrypt",
-        &ecb_encrypt(&schedule, &text),
-        &blocks(BY_ECB),
-    );
-    same(
-        &rt,
-        "ecb_decrypt",
-        &ecb_decrypt(&schedule, &blocks(BY_ECB)),
-        &text,
-    );
-    same(
-        &rt,
-        "cbc_encrypt",
-        &cbc_encrypt(&schedule, &iv, &text),
-        &blocks(BY_CBC),
-    );
-    same(
-        &rt,
-        "cbc_decrypt",
-        &cbc_decrypt(&schedule, &iv, &blocks(BY_CBC)),
-        &text,
-    );
+    holds(&rt, "ECB", agrees_by_ecb(&key, &text, &blocks(BY_ECB)));
+    holds(&rt, "CBC", agrees_by_cbc(&key, IV, &text, &blocks(BY_CBC)));
 }
+
+const SUM: [u8; 16] = *b"\x2b\x7f\x17\x15\x2c\xab\xd4\xa1\xa3\xfe\x1f\x83\x05\xc2\x41\x33";
 
 #[test]
 fn the_exclusive_or_of_blocks_goes_byte_by_byte(rt: HostRuntime) {
-    let sum = Block::of(KEY).xor(&Block::of(IV));
-    same(
-        &rt,
-        "sum.bytes()",
-        &sum.bytes().as_slice(),
-        &b"\x2b\x7f\x17\x15\x2c\xab\xd4\xa1\xa3\xfe\x1f\x83\x05\xc2\x41\x33".as_slice(),
-    );
+    let sum = block(KEY).xor(&block(IV));
+    holds(&rt, "bytes", *sum.bytes() == SUM);
+    holds(&rt, "as_slice", sum.as_slice() == SUM.as_slice());
 }

@@ -1,14 +1,12 @@
 //! Frames and verdicts under the key of NIST's examples for the CMAC. The first three frames have the inputs of 16, 40 and 64
 //! bytes of these examples; the authenticators of the others were made by OpenSSL.
-use crate::comparing::{holds, same};
+use crate::blocks::{block, schedule};
+use crate::comparing::holds;
 use secured_pdu::{
     Judgement, Parts, assemble, build, candidate_of, input_bytes, input_mac, judge, split,
 };
-use she_aes::{Block, expand};
 
-const KEY: [u8; 16] = [
-    0x2b, 0x7e, 0x15, 0x16, 0x28, 0xae, 0xd2, 0xa6, 0xab, 0xf7, 0x15, 0x88, 0x09, 0xcf, 0x4f, 0x3c,
-];
+const KEY: u128 = 0x2b7e1516_28aed2a6_abf71588_09cf4f3c;
 
 const ID: u16 = 0x6bc1;
 
@@ -19,8 +17,8 @@ const PAYLOAD: [u8; 60] = [
     0x24, 0x45, 0xdf, 0x4f, 0x9b, 0x17, 0xad, 0x2b, 0x41, 0x7b, 0xe6, 0x6c,
 ];
 
-// the Data ID, the bytes of payload, the freshness, and the last four bytes of the frame
-const FRAMES: [(u16, usize, u64, [u8; 4]); 6] = [
+/// The Data ID, the bytes of payload, the freshness, and the last four bytes of the frame.
+const FRAMES: &[(u16, usize, u64, [u8; 4])] = &[
     (ID, 6, 0xe93d7e11_7393172a, [0x2a, 0x07, 0x0a, 0x16]),
     (ID, 30, 0x30c81c46_a35ce411, [0x11, 0xdf, 0xa6, 0x67]),
     (ID, 54, 0xad2b417b_e66c3710, [0x10, 0x51, 0xf0, 0xbe]),
@@ -29,77 +27,70 @@ const FRAMES: [(u16, usize, u64, [u8; 4]); 6] = [
     (0xffff, 6, u64::MAX, [0xff, 0x24, 0xae, 0xb9]),
 ];
 
-const PDU: [u8; 10] = [0xbe, 0xe2, 0x2e, 0x40, 0x9f, 0x96, 0x2a, 0x07, 0x0a, 0x16];
+/// Whether the frame of so many bytes of the payload has these and this at its end.
+fn is_built(id: u16, size: usize, freshness: u64, trailer: &[u8; 4]) -> bool {
+    if size > 60 {
+        return false;
+    }
+    let mut out = [0xaa; 64];
+    let length = build(&schedule(KEY), id, &PAYLOAD[..size], freshness, &mut out);
+    length == Some(size + 4)
+        && &out[..size] == &PAYLOAD[..size]
+        && &out[size..size + 4] == trailer.as_slice()
+}
 
 #[test]
 fn a_frame_has_the_payload_the_low_byte_and_three_bytes_of_the_cmac(rt: HostRuntime) {
-    let schedule = expand(&Block::of(KEY));
-    for (id, size, freshness, trailer) in FRAMES {
-        holds(&rt, "size <= 60", size <= 60);
-        let mut out = [0xaa; 64];
-        let length = build(&schedule, id, &PAYLOAD[..size], freshness, &mut out);
-        same(&rt, "length", &length, &Some(size + 4));
-        same(&rt, size, &&out[..size], &&PAYLOAD[..size]);
-        same(&rt, size, &(&out[size..size + 4]), &trailer.as_slice());
+    for row in FRAMES {
+        holds(&rt, row.1, is_built(row.0, row.1, row.2, &row.3));
     }
+}
+
+const PDU: [u8; 10] = [0xbe, 0xe2, 0x2e, 0x40, 0x9f, 0x96, 0x2a, 0x07, 0x0a, 0x16];
+
+/// The freshness of this PDU.
+const FRESHNESS: u64 = 0xe93d7e11_7393172a;
+
+/// Whether the input of the CMAC is the Data ID, the payload and the freshness.
+fn has_input() -> bool {
+    let mut input = [0; 70];
+    input_bytes(ID, &PAYLOAD[..6], FRESHNESS, &mut input) == 16
+        && &input[..2] == [0x6b, 0xc1].as_slice()
+        && &input[2..16] == &PAYLOAD[..14]
+}
+
+/// Whether the PDU is what is assembled of its payload, its freshness and the CMAC of its input.
+fn is_assembled() -> bool {
+    let mac = input_mac(&schedule(KEY), ID, &PAYLOAD[..6], FRESHNESS);
+    let mut out = [0; 64];
+    mac == block(0x070a16b4_6b4d4144_f79bdd9d_d04a287c)
+        && assemble(&PAYLOAD[..6], FRESHNESS, &mac, &mut out) == 10
+        && &out[..10] == PDU.as_slice()
 }
 
 #[test]
 fn the_parts_of_a_frame_are_made_one_by_one(rt: HostRuntime) {
-    let mut input = [0; 70];
-    same(
-        &rt,
-        "input_bytes",
-        &input_bytes(ID, &PAYLOAD[..6], 0xe93d7e11_7393172a, &mut input),
-        &16,
-    );
-    same(&rt, "&input[..2]", &&input[..2], &[0x6b, 0xc1].as_slice());
-    same(&rt, "&input[2..16]", &&input[2..16], &&PAYLOAD[..14]);
-    let mac = input_mac(
-        &expand(&Block::of(KEY)),
-        ID,
-        &PAYLOAD[..6],
-        0xe93d7e11_7393172a,
-    );
-    same(
-        &rt,
-        "u128::from_be_bytes",
-        &u128::from_be_bytes(*mac.bytes()),
-        &0x070a16b4_6b4d4144_f79bdd9d_d04a287c,
-    );
-    let mut out = [0; 64];
-    same(
-        &rt,
-        "assemble",
-        &assemble(&PAYLOAD[..6], 0xe93d7e11_7393172a, &mac, &mut out),
-        &10,
-    );
-    same(&rt, "&out[..10]", &&out[..10], &PDU.as_slice());
+    holds(&rt, "the input", has_input());
+    holds(&rt, "the MAC and the PDU", is_assembled());
+}
+
+/// Whether no frame is built of this payload, and nothing is written.
+fn is_not_built(payload: &[u8]) -> bool {
+    let mut out = [0xaa; 64];
+    build(&schedule(KEY), ID, payload, 1, &mut out).is_none() && out == [0xaa; 64]
 }
 
 #[test]
 fn other_lengths_are_refused(rt: HostRuntime) {
-    let schedule = expand(&Block::of(KEY));
-    let mut out = [0xaa; 64];
-    same(&rt, "build", &build(&schedule, ID, &[], 1, &mut out), &None);
-    same(
-        &rt,
-        "build",
-        &build(&schedule, ID, &[0; 61], 1, &mut out),
-        &None,
-    );
-    same(&rt, "out", &out, &[0xaa; 64]);
-    holds(&rt, "split(&[]).is_none()", split(&[]).is_none());
-    holds(
-        &rt,
-        "split(&PDU[6..]).is_none()",
-        split(&PDU[6..]).is_none(),
-    );
-    holds(&rt, "split(&[0; 65]).is_none()", split(&[0; 65]).is_none());
+    holds(&rt, "a payload of 0", is_not_built(&[]));
+    holds(&rt, "a payload of 61", is_not_built(&[0; 61]));
+    holds(&rt, "a PDU of 0", split(&[]).is_none());
+    holds(&rt, "a PDU of 4", split(&PDU[6..]).is_none());
+    holds(&rt, "a PDU of 65", split(&[0; 65]).is_none());
 }
 
-// the receiver's counter and window, what is changed in the last byte of the frame, and the verdict
-const VERDICTS: [(u64, u16, u8, Judgement); 8] = [
+/// The receiver's counter and window, what is changed in the last byte of the frame, and the verdict.
+const VERDICTS: &[(u64, u16, u8, Judgement)] = &[
     (0xe93d7e11_73931729, 1, 0, ACCEPTED),
     (0xe93d7e11_73931728, 1, 0, Judgement::FreshnessFailure),
     (0xe93d7e11_73931728, 2, 0, ACCEPTED),
@@ -112,35 +103,38 @@ const VERDICTS: [(u64, u16, u8, Judgement); 8] = [
 
 const ACCEPTED: Judgement = Judgement::Accepted(0xe93d7e11_7393172a);
 
-#[test]
-fn a_frame_is_judged_by_its_freshness_and_its_tag(rt: HostRuntime) {
-    let schedule = expand(&Block::of(KEY));
-    let parts = split(&PDU).expect(&rt, "ten bytes");
-    same(&rt, "parts.payload", &parts.payload, &&PAYLOAD[..6]);
-    for (counter, window, change, verdict) in VERDICTS {
-        let [first, second, third] = parts.tag;
-        let tag = [first, second, third ^ change];
-        let received = Parts {
-            payload: parts.payload,
-            low: parts.low,
-            tag,
-        };
-        holds(
-            &rt,
-            "window >= 1 && window <= 256",
-            window >= 1 && window <= 256,
-        );
-        same(
-            &rt,
-            window,
-            &judge(&schedule, ID, counter, window, &received),
-            &verdict,
-        );
+/// The verdict on the PDU with its last byte changed by so much.
+fn verdict_on(counter: u64, window: u16, change: u8) -> Option<Judgement> {
+    if window < 1 || window > 256 {
+        return None;
+    }
+    let parts = split(&PDU)?;
+    let [first, second, third] = parts.tag;
+    let received = Parts {
+        payload: parts.payload,
+        low: parts.low,
+        tag: [first, second, third ^ change],
+    };
+    Some(judge(&schedule(KEY), ID, counter, window, &received))
+}
+
+fn has_payload() -> bool {
+    match split(&PDU) {
+        Some(parts) => parts.payload == &PAYLOAD[..6],
+        None => false,
     }
 }
 
-// the counter, the window, the low byte, and the candidate
-const CANDIDATES: [(u64, u16, u8, Option<u64>); 10] = [
+#[test]
+fn a_frame_is_judged_by_its_freshness_and_its_tag(rt: HostRuntime) {
+    holds(&rt, "the payload", has_payload());
+    for (place, row) in VERDICTS.iter().enumerate() {
+        holds(&rt, place, verdict_on(row.0, row.1, row.2) == Some(row.3));
+    }
+}
+
+/// The counter, the window, the low byte, and the candidate.
+const CANDIDATES: &[(u64, u16, u8, Option<u64>)] = &[
     (0, 256, 0, Some(256)),
     (0, 255, 0, None),
     (0, 1, 1, Some(1)),
@@ -153,14 +147,14 @@ const CANDIDATES: [(u64, u16, u8, Option<u64>); 10] = [
     (u64::MAX, 256, 0xff, None),
 ];
 
+/// Whether this is the candidate.
+fn is_candidate(counter: u64, window: u16, low: u8, candidate: Option<u64>) -> bool {
+    window >= 1 && window <= 256 && candidate_of(counter, window, low) == candidate
+}
+
 #[test]
 fn the_candidate_is_one_to_the_window_ahead(rt: HostRuntime) {
-    for (counter, window, low, candidate) in CANDIDATES {
-        holds(
-            &rt,
-            "window >= 1 && window <= 256",
-            window >= 1 && window <= 256,
-        );
-        same(&rt, low, &candidate_of(counter, window, low), &candidate);
+    for (place, row) in CANDIDATES.iter().enumerate() {
+        holds(&rt, place, is_candidate(row.0, row.1, row.2, row.3));
     }
 }

@@ -1,11 +1,10 @@
 //! The examples of NIST for the CMAC over AES-128 (SP 800-38B, appendix D.1, and its example of 20 bytes), whole and in pieces.
-use crate::comparing::{holds, same};
-use she_aes::{Block, Schedule, expand};
+use crate::blocks::{block, schedule};
+use crate::comparing::holds;
+use she_aes::Block;
 use she_cmac::{Mac, cmac, cmac_of_parts};
 
-const KEY: [u8; 16] = [
-    0x2b, 0x7e, 0x15, 0x16, 0x28, 0xae, 0xd2, 0xa6, 0xab, 0xf7, 0x15, 0x88, 0x09, 0xcf, 0x4f, 0x3c,
-];
+const KEY: u128 = 0x2b7e1516_28aed2a6_abf71588_09cf4f3c;
 
 const MESSAGE: [u8; 64] = [
     0x6b, 0xc1, 0xbe, 0xe2, 0x2e, 0x40, 0x9f, 0x96, 0xe9, 0x3d, 0x7e, 0x11, 0x73, 0x93, 0x17, 0x2a,
@@ -14,64 +13,59 @@ const MESSAGE: [u8; 64] = [
     0xf6, 0x9f, 0x24, 0x45, 0xdf, 0x4f, 0x9b, 0x17, 0xad, 0x2b, 0x41, 0x7b, 0xe6, 0x6c, 0x37, 0x10,
 ];
 
-const MACS: [(usize, u128); 5] = [
-    (0, 0xbb1d6929_e9593728_7fa37d12_9b756746),
+const MACS: &[(usize, u128)] = &[
+    (0, OF_NOTHING),
     (16, 0x070a16b4_6b4d4144_f79bdd9d_d04a287c),
     (20, 0x7d85449e_a6ea19c8_23a7bf78_837dfade),
     (40, 0xdfa66747_de9ae630_30ca3261_1497c827),
-    (64, 0x51f0bebf_7e3b9d92_fc497417_79363cfe),
+    (64, OF_ALL),
 ];
 
-fn number(block: &Block) -> u128 {
-    u128::from_be_bytes(*block.bytes())
+const OF_NOTHING: u128 = 0xbb1d6929_e9593728_7fa37d12_9b756746;
+
+const OF_ALL: u128 = 0x51f0bebf_7e3b9d92_fc497417_79363cfe;
+
+/// Whether this is the MAC of so many bytes of the message.
+fn is_mac_of_front(length: usize, mac: u128) -> bool {
+    length <= 64 && cmac(&schedule(KEY), &MESSAGE[..length]) == block(mac)
 }
 
 #[test]
 fn gives_the_values_of_the_standard(rt: HostRuntime) {
-    let schedule = expand(&Block::of(KEY));
-    for (length, mac) in MACS {
-        holds(&rt, "length <= 64", length <= 64);
-        same(
-            &rt,
-            length,
-            &number(&cmac(&schedule, &MESSAGE[..length])),
-            &mac,
-        );
+    for row in MACS {
+        holds(&rt, row.0, is_mac_of_front(row.0, row.1));
     }
 }
 
-#[test]
-fn gives_the_same_in_any_pieces(rt: HostRuntime) {
-    let schedule = expand(&Block::of(KEY));
+/// The MAC of the message in three pieces.
+fn mac_of_pieces() -> Block {
+    let schedule = schedule(KEY);
     let mut mac = Mac::new(&schedule);
     mac.update(&MESSAGE[..1]);
     mac.update(&MESSAGE[1..16]);
     mac.update(&MESSAGE[16..]);
-    same(
-        &rt,
-        "number(&mac.finish())",
-        &number(&mac.finish()),
-        &0x51f0bebf_7e3b9d92_fc497417_79363cfe,
-    );
+    mac.finish()
+}
+
+#[test]
+fn gives_the_same_in_any_pieces(rt: HostRuntime) {
+    holds(&rt, "pieces", mac_of_pieces() == block(OF_ALL));
+}
+
+/// Whether this is the MAC of these parts.
+fn is_mac_of(parts: &[&[u8]], mac: u128) -> bool {
+    cmac_of_parts(&schedule(KEY), parts) == block(mac)
+}
+
+/// Whether this is the MAC of the message in two parts, of which the first has so many bytes.
+fn is_mac_of_two(at: usize, mac: u128) -> bool {
+    at <= 64 && is_mac_of(&[&MESSAGE[..at], &MESSAGE[at..]], mac)
 }
 
 #[test]
 fn gives_the_same_of_parts(rt: HostRuntime) {
-    let schedule = expand(&Block::of(KEY));
-    let message: &[u8] = &MESSAGE;
-    same(
-        &rt,
-        "number",
-        &number(&cmac_of_parts(&schedule, &[])),
-        &MACS[0].1,
-    );
+    holds(&rt, "no parts", is_mac_of(&[], OF_NOTHING));
     for at in 0..65 {
-        let parts = [&message[..at], &message[at..]];
-        same(
-            &rt,
-            at,
-            &number(&cmac_of_parts(&schedule, &parts)),
-            &MACS[4].1,
-        );
+        holds(&rt, at, is_mac_of_two(at, OF_ALL));
     }
 }

@@ -1,15 +1,14 @@
 //! A configuration one step within and one step past each of its bounds, and each call once.
-use crate::comparing::{holds, same};
+use crate::comparing::holds;
 use freshness_routes::{Direction, NodeConfig, Route, Routes, receiver_change, sender_change};
 use key_slots::SlotId;
 use memory_update::Uid;
 use std::alloc::Global;
-use std::test::Fail;
 
 const UID: [u8; 15] = [0, 0, 0, 0, 0, 0, 0, 0, 0, 0, 0, 0, 0, 0, 1];
 
 // Direction, slot, reserve, window, and whether such a route is one.
-const ROUTES: [(Direction, u8, u16, u16, bool); 14] = [
+const ROUTES: &[(Direction, u8, u16, u16, bool)] = &[
     (Direction::Receives, 4, 1, 1, true),
     (Direction::Receives, 13, 128, 256, true),
     (Direction::Receives, 3, 1, 1, false),
@@ -26,100 +25,115 @@ const ROUTES: [(Direction, u8, u16, u16, bool); 14] = [
     (Direction::Sends, 3, 1, 256, false),
 ];
 
-fn receiving(id: u16) -> Result<Route, &'static str> {
-    Ok(Route {
+/// A route by its Data ID, with a row's direction, slot, reserve and window.
+fn route_of(id: u16, row: &(Direction, u8, u16, u16, bool), start: u64) -> Option<Route> {
+    Some(Route {
         id,
-        direction: Direction::Receives,
-        slot: SlotId::new(4).ok_or("slot 4")?,
-        reserve: 1,
-        window: 256,
-        start: 7,
+        direction: row.0,
+        slot: SlotId::new(row.1)?,
+        reserve: row.2,
+        window: row.3,
+        start,
     })
 }
 
-// Routes with the Data IDs 0, 1 and on.
-fn numbered(alloc: Global, count: u16) -> Result<Vec<Route>, Fail> {
+fn receiving(id: u16) -> Option<Route> {
+    route_of(id, &(Direction::Receives, 4, 1, 256, true), 7)
+}
+
+/// Routes with the Data IDs 0, 1 and on.
+fn numbered(alloc: Global, count: u16) -> Option<Vec<Route>> {
     let mut routes = Vec::new(alloc);
     for id in 0..count {
-        routes.push(receiving(id)?)?;
+        routes.push(receiving(id)?).ok()?;
     }
-    Ok(routes)
+    Some(routes)
 }
 
 /// Whether a node with this identifier and these routes is one.
-fn makes_node(uid: [u8; 15], routes: Vec<Route>) -> bool {
-    NodeConfig::new(Uid::of(uid), routes).is_some()
+fn makes_node(uid: [u8; 15], routes: Option<Vec<Route>>) -> Option<bool> {
+    Some(NodeConfig::new(Uid::of(uid), routes?).is_some())
 }
 
-/// The same of this route alone.
-fn is_node(alloc: Global, row: &(Direction, u8, u16, u16, bool)) -> Result<bool, Fail> {
-    let route = Route {
-        id: 0x6bc1,
-        direction: row.0,
-        slot: SlotId::new(row.1).ok_or("a slot")?,
-        reserve: row.2,
-        window: row.3,
-        start: u64::MAX,
-    };
-    Ok(makes_node(UID, vec![in alloc; route]?))
+/// One route.
+fn one_route(alloc: Global, row: &(Direction, u8, u16, u16, bool)) -> Option<Vec<Route>> {
+    let route = route_of(0x6bc1, row, u64::MAX)?;
+    vec![in alloc; route].ok()
 }
 
 #[test]
-fn a_route_has_its_bounds(rt: HostRuntime) -> Result<(), Fail> {
+fn a_route_has_its_bounds(rt: HostRuntime) {
     for (place, row) in ROUTES.iter().enumerate() {
-        same(&rt, place, &is_node(rt.alloc(), row)?, &row.4);
+        let is_one = makes_node(UID, one_route(rt.alloc(), row));
+        holds(&rt, place, is_one == Some(row.4));
     }
-    Ok(())
 }
 
 const COUNTS: &[(u16, bool)] = &[(0, true), (1, true), (2, true), (256, true), (257, false)];
 
 #[test]
-fn a_node_has_at_most_256_routes(rt: HostRuntime) -> Result<(), Fail> {
-    for (count, is_one) in COUNTS {
-        let made = makes_node(UID, numbered(rt.alloc(), *count)?);
-        same(&rt, *count, &made, is_one);
+fn a_node_has_at_most_256_routes(rt: HostRuntime) {
+    for row in COUNTS {
+        let is_one = makes_node(UID, numbered(rt.alloc(), row.0));
+        holds(&rt, row.0, is_one == Some(row.1));
     }
-    Ok(())
 }
 
 /// Three routes, and a fourth with the Data ID of the first.
-fn twice(alloc: Global) -> Result<Vec<Route>, Fail> {
+fn twice(alloc: Global) -> Option<Vec<Route>> {
     let mut routes = numbered(alloc, 3)?;
-    routes.push(receiving(0)?)?;
-    Ok(routes)
+    routes.push(receiving(0)?).ok()?;
+    Some(routes)
 }
 
 #[test]
-fn data_ids_and_the_identifier_are_asked(rt: HostRuntime) -> Result<(), Fail> {
-    let is_one = makes_node(UID, twice(rt.alloc())?);
-    same(&rt, "a Data ID twice", &is_one, &false);
-    let is_one = makes_node([0; 15], numbered(rt.alloc(), 1)?);
-    same(&rt, "an identifier of zeros", &is_one, &false);
-    Ok(())
+fn data_ids_and_the_identifier_are_asked(rt: HostRuntime) {
+    let is_one = makes_node(UID, twice(rt.alloc()));
+    holds(&rt, "a Data ID twice", is_one == Some(false));
+    let is_one = makes_node([0; 15], numbered(rt.alloc(), 1));
+    holds(&rt, "an identifier of zeros", is_one == Some(false));
 }
 
-fn most_routes(alloc: Global) -> Result<NodeConfig, Fail> {
-    Ok(NodeConfig::new(Uid::of(UID), numbered(alloc, 256)?).ok_or("a node")?)
+fn is_equal(copy: &NodeConfig, config: &NodeConfig) -> bool {
+    copy.uid == config.uid && copy.routes.as_slice() == config.routes.as_slice()
+}
+
+/// Whether a copy of the configuration is equal, and has so many routes as a vector, too.
+fn is_copied(alloc: Global, config: &NodeConfig, count: usize) -> bool {
+    match config.copy(alloc) {
+        Ok(copy) => is_equal(&copy, config) && copy.routes.into_vec().len() == count,
+        Err(_) => false,
+    }
+}
+
+fn most_routes(alloc: Global) -> Option<NodeConfig> {
+    NodeConfig::new(Uid::of(UID), numbered(alloc, 256)?)
+}
+
+fn are_copied(alloc: Global) -> bool {
+    match most_routes(alloc) {
+        Some(config) => is_copied(alloc, &config, 256),
+        None => false,
+    }
 }
 
 #[test]
-fn a_copy_is_equal(rt: HostRuntime) -> Result<(), Fail> {
-    let config = most_routes(rt.alloc())?;
-    let copy = config.copy(rt.alloc())?;
-    holds(&rt, "uid", copy.uid == config.uid);
-    let routes = config.routes.as_slice();
-    holds(&rt, "routes", copy.routes.as_slice() == routes);
-    same(&rt, "routes", &copy.routes.into_vec().len(), &256);
-    Ok(())
+fn a_copy_is_equal(rt: HostRuntime) {
+    holds(&rt, "a copy", are_copied(rt.alloc()));
+}
+
+/// Whether the list of these routes is the first of all alone.
+fn is_listed(routes: Vec<Route>) -> bool {
+    match receiving(0) {
+        Some(wanted) => Routes::of(routes).as_slice() == [wanted].as_slice(),
+        None => false,
+    }
 }
 
 #[test]
-fn routes_are_those_of_the_vector(rt: HostRuntime) -> Result<(), Fail> {
-    let one = Routes::of(numbered(rt.alloc(), 1)?);
-    let wanted = [receiving(0)?];
-    holds(&rt, "routes", one.as_slice() == wanted.as_slice());
-    Ok(())
+fn routes_are_those_of_the_vector(rt: HostRuntime) {
+    let is_so = numbered(rt.alloc(), 1).map(|routes| is_listed(routes));
+    holds(&rt, "routes", is_so == Some(true));
 }
 
 /// A counter, a bound and a reserve of a sender, and the bound that is put.
@@ -137,15 +151,17 @@ const RECEIVERS: &[(u64, u16, u64, Option<u64>)] = &[
     (100, 128, u64::MAX, Some(u64::MAX)),
 ];
 
+/// Whether this bound of a receiver is put.
+fn moves(bound: u64, reserve: u16, freshness: u64, change: Option<u64>) -> bool {
+    reserve >= 1 && receiver_change(bound, reserve, freshness) == change
+}
+
 #[test]
 fn bounds_move(rt: HostRuntime) {
-    for (counter, bound, reserve, change) in SENDERS {
-        let put = sender_change(*counter, *bound, *reserve);
-        same(&rt, *bound, &put, change);
+    for row in SENDERS {
+        holds(&rt, row.1, sender_change(row.0, row.1, row.2) == row.3);
     }
-    for (bound, reserve, freshness, change) in RECEIVERS {
-        holds(&rt, *freshness, *reserve >= 1);
-        let put = receiver_change(*bound, *reserve, *freshness);
-        same(&rt, *freshness, &put, change);
+    for row in RECEIVERS {
+        holds(&rt, row.2, moves(row.0, row.1, row.2, row.3));
     }
 }
