@@ -1,85 +1,104 @@
-use crate::comparing::{holds, same};
+//! Lists of bytes that are made and written.
+use crate::comparing::holds;
 use byte_lists::*;
-use std::test::Fail;
+use std::alloc::Global;
 
-// Lengths of PDUs that can be held: none, the most of CAN, and the most of CAN FD.
-const LENGTHS: [usize; 4] = [0, 1, 8, 64];
+/// Lengths of PDUs: none, the most of CAN, the most of CAN FD, and one more, which none has.
+const LENGTHS: &[(usize, Option<usize>)] = &[
+    (0, Some(0)),
+    (1, Some(1)),
+    (8, Some(8)),
+    (64, Some(64)),
+    (65, None),
+];
+
+/// Whether a PDU that is made of so many bytes, at most 65, has so many, or there is none.
+fn is_made(len: usize, made: Option<usize>) -> bool {
+    if len > 65 {
+        return false;
+    }
+    match Pdu::of(&[0xa5; 65][..len]) {
+        Some(pdu) => made == Some(pdu.bytes().len()),
+        None => made.is_none(),
+    }
+}
 
 #[test]
 fn a_pdu_has_the_bytes_that_it_was_made_of(rt: HostRuntime) {
-    let bytes: [u8; 65] = [0xa5; 65];
-    for len in LENGTHS {
-        holds(&rt, "len < 65", len < 65);
-        let pdu = Pdu::of(&bytes[..len]).map(|p| p.bytes().len());
-        same(&rt, "pdu", &pdu, &Some(len));
+    for row in LENGTHS {
+        holds(&rt, row.0, is_made(row.0, row.1));
     }
-    holds(&rt, "Pdu::of(&bytes).is_none()", Pdu::of(&bytes).is_none());
+}
+
+const WORD: &[u8; 3] = b"\x5a\xff\x01";
+
+/// A PDU of so many bytes, into which these three are written, where they are so many.
+fn filled(len: usize) -> Option<Pdu> {
+    Pdu::filled_by(len, |bytes: &mut [u8]| {
+        if bytes.len() != WORD.len() {
+            return false;
+        }
+        bytes.copy_from_slice(WORD);
+        true
+    })
+}
+
+/// A PDU of so many bytes, into which nothing is written.
+fn unfilled(len: usize) -> Option<Pdu> {
+    Pdu::filled_by(len, |_bytes: &mut [u8]| true)
+}
+
+fn are_filled() -> bool {
+    filled(3) == Pdu::of(WORD) && filled(4).is_none()
+}
+
+fn are_unfilled() -> bool {
+    unfilled(64) == Pdu::of(&[0; 64]) && unfilled(65).is_none()
 }
 
 #[test]
 fn a_pdu_has_the_bytes_that_are_written_into_it(rt: HostRuntime) {
-    let word = b"\x5a\xff\x01";
-    let write = |bytes: &mut [u8]| {
-        if bytes.len() != word.len() {
-            return false;
-        }
-        bytes.copy_from_slice(word);
-        true
-    };
-    same(
-        &rt,
-        "Pdu::filled_by",
-        &Pdu::filled_by(3, write),
-        &Pdu::of(word),
-    );
-    holds(&rt, "Pdu::filled_by", Pdu::filled_by(4, write).is_none());
-    holds(
-        &rt,
-        "Pdu::filled_by",
-        Pdu::filled_by(65, |_bytes: &mut [u8]| true).is_none(),
-    );
-    same(
-        &rt,
-        "Pdu::filled_by",
-        &Pdu::filled_by(64, |_bytes: &mut [u8]| true),
-        &Pdu::of(&[0; 64]),
-    );
+    holds(&rt, "three bytes, and not four", are_filled());
+    holds(&rt, "64 zeros, and not 65", are_unfilled());
+}
+
+/// Whether PDUs of these bytes are the same.
+fn are_same(left: &[u8], right: &[u8]) -> bool {
+    Pdu::of(left) == Pdu::of(right)
 }
 
 #[test]
 fn pdus_are_the_same_where_their_bytes_are(rt: HostRuntime) {
-    same(
-        &rt,
-        "Pdu::of(b'x01x00')",
-        &Pdu::of(b"\x01\x00"),
-        &Pdu::of(b"\x01\x00"),
-    );
-    assert_ne!(rt; Pdu::of(b"\x01\x00"), Pdu::of(b"\x01"));
+    holds(&rt, "the same bytes", are_same(b"\x01\x00", b"\x01\x00"));
+    holds(&rt, "another length", !are_same(b"\x01\x00", b"\x01"));
+}
+
+const WITH_ZERO: &[u8] = b"\x5a\xff\x00";
+
+fn has_bytes(bytes: Bytes) -> bool {
+    bytes.bytes() == WITH_ZERO && bytes.into_vec().as_slice() == WITH_ZERO
+}
+
+fn is_list(alloc: Global) -> bool {
+    match WITH_ZERO.to_vec(alloc) {
+        Ok(bytes) => has_bytes(Bytes::of(bytes)),
+        Err(_) => false,
+    }
 }
 
 #[test]
-fn bytes_are_those_of_the_vector(rt: HostRuntime) -> Result<(), Fail> {
-    let bytes = Bytes::of([0x5a, 0xff, 0].to_vec(rt.alloc())?);
-    same(
-        &rt,
-        "bytes.bytes()",
-        &bytes.bytes(),
-        &b"\x5a\xff\x00".as_slice(),
-    );
-    same(
-        &rt,
-        "bytes.into_vec()",
-        &bytes.into_vec().as_slice(),
-        &b"\x5a\xff\x00".as_slice(),
-    );
-    Ok(())
+fn bytes_are_those_of_the_vector(rt: HostRuntime) {
+    holds(&rt, "bytes", is_list(rt.alloc()));
+}
+
+fn is_appended() -> bool {
+    let mut out = [0xa5; 4];
+    append(&mut out, 0, b"\x5a\xff") == 2
+        && append(&mut out, 2, &[1]) == 3
+        && out == *b"\x5a\xff\x01\xa5"
 }
 
 #[test]
 fn bytes_are_written_one_behind_the_other(rt: HostRuntime) {
-    let mut out = [0xa5; 4];
-    let end = append(&mut out, 0, b"\x5a\xff");
-    same(&rt, "end", &end, &2);
-    same(&rt, "append", &append(&mut out, end, &[1]), &3);
-    same(&rt, "out", &out.as_slice(), &b"\x5a\xff\x01\xa5".as_slice());
+    holds(&rt, "three bytes", is_appended());
 }

@@ -1,76 +1,49 @@
 //! The table of answers of the whole-stream calls over memory, and the standard streams' adapters.
-use crate::comparing::{holds, same};
+use crate::comparing::holds;
 use bus_port::{
     CleanSource, MemSink, MemSource, ReadAll, Source, StdSink, StdSource, read_all, write_all,
 };
 use std::alloc::Global;
 use std::io;
 use std::io::{ErrorKind, Read, Write};
-use std::process::Abort;
-use std::test::Fail;
 
-/// A reader that gives one byte at its first call and fails at each later one.
+/// A reader of these bytes, whose calls from one number to another fail.
 #[derive(Drop)]
-struct Breaks {
-    is_read: bool,
-}
-
-impl Read for Breaks {
-    fn read(&mut self, buf: &mut [u8]) -> io::Result<usize> {
-        if self.is_read || buf.is_empty() {
-            return Err(io::Error::from(ErrorKind::Other));
-        }
-        self.is_read = true;
-        buf[0] = b'h';
-        Ok(1)
-    }
-}
-
-/// A writer that takes nothing.
-#[derive(Drop)]
-struct Full;
-
-impl Write for Full {
-    fn write(&mut self, _buf: &[u8]) -> io::Result<usize> {
-        Ok(0)
-    }
-
-    fn flush(&mut self) -> io::Result<()> {
-        Ok(())
-    }
-}
-
-/// A reader whose first call fails, and which then gives its bytes.
-#[derive(Drop)]
-struct FailsFirst<'a> {
+struct FlawedReader<'a> {
     left: &'a [u8],
     calls: u64,
+    fails_from: u64,
+    fails_to: u64,
 }
 
-impl<'a> Read for FailsFirst<'a> {
+impl<'a> Read for FlawedReader<'a> {
     fn read(&mut self, buf: &mut [u8]) -> io::Result<usize> {
         self.calls = self.calls.saturating_add(1);
-        if self.calls == 1 {
+        if self.fails_from <= self.calls && self.calls <= self.fails_to {
             return Err(io::Error::from(ErrorKind::Other));
         }
         self.left.read(buf)
     }
 }
 
-/// A writer whose first call fails, and which then takes all.
+/// A writer whose first call fails or takes nothing, and which then takes all.
 #[derive(Drop)]
-struct FullFirst<'a> {
+struct FlawedWriter<'a> {
     text: &'a mut Vec<u8>,
     calls: u64,
+    takes_nothing: bool,
 }
 
-impl<'a> Write for FullFirst<'a> {
+impl<'a> Write for FlawedWriter<'a> {
     fn write(&mut self, buf: &[u8]) -> io::Result<usize> {
         self.calls = self.calls.saturating_add(1);
-        if self.calls == 1 {
-            return Err(io::Error::from(ErrorKind::Other));
+        if self.calls > 1 {
+            return self.text.write(buf);
         }
-        self.text.write(buf)
+        if self.takes_nothing {
+            return Ok(0);
+        }
+        Err(io::Error::from(ErrorKind::Other))
     }
 
     fn flush(&mut self) -> io::Result<()> {
@@ -80,149 +53,180 @@ impl<'a> Write for FullFirst<'a> {
 
 const HELLO: &[u8] = b"hello";
 
-/// What is read of five bytes, where these calls of the source fail, it gives pieces of this size at most, and this many bytes are wanted.
-fn read_of(
+/// Whether a source is read to its end, of at most so many bytes, and has these, or is refused for this.
+fn reads<S: Source>(
     alloc: Global,
-    failing: &[u64],
-    piece: usize,
-    limit: usize,
-) -> Result<Result<Vec<u8>, ReadAll>, Fail> {
-    if piece == 0 || limit > 9 {
-        return Err(Fail::from("a row's numbers"));
-    }
-    let failing = failing.to_vec(alloc)?;
-    let mut source = MemSource::new(HELLO.to_vec(alloc)?, failing, piece);
-    Ok(read_all(alloc, &mut source, limit))
-}
-
-/// The bytes that were read are these, or this refused them.
-fn has_read(
-    rt: &impl Abort,
-    what: usize,
-    answer: &Result<Vec<u8>, ReadAll>,
+    source: &mut S,
+    limit: u8,
     want: &Result<&[u8], ReadAll>,
-) {
-    let got = match answer {
-        Ok(all) => Ok(all.as_slice()),
-        Err(cause) => Err(*cause),
-    };
-    same(rt, what, &got, want);
+) -> bool {
+    match read_all(alloc, source, limit as usize) {
+        Ok(all) => *want == Ok(all.as_slice()),
+        Err(cause) => *want == Err(cause),
+    }
 }
 
-const READS: &[(&[u64], usize, usize, Result<&[u8], ReadAll>)] = &[
-    (&[], 5, 5, Ok(HELLO)),
-    (&[], 2, 9, Ok(HELLO)),
-    (&[], 5, 4, Err(ReadAll::TooLong)),
-    (&[], 1, 0, Err(ReadAll::TooLong)),
-    (&[1], 5, 5, Err(ReadAll::Failed)),
-    (&[2], 3, 5, Err(ReadAll::Failed)),
-    (&[3], 3, 5, Err(ReadAll::Failed)),
-    (&[4], 3, 5, Ok(HELLO)),
+/// A source of five bytes, of which these calls fail, and which gives pieces of this size at most.
+fn source_of(alloc: Global, failing: &[u64], piece: usize) -> Option<MemSource> {
+    if piece == 0 {
+        return None;
+    }
+    let failing = failing.to_vec(alloc).ok()?;
+    let bytes = HELLO.to_vec(alloc).ok()?;
+    Some(MemSource::new(bytes, failing, piece))
+}
+
+/// The calls that fail, the most that a call gives, how many bytes are taken, and what is read.
+struct Reading(&'static [u64], usize, u8, Result<&'static [u8], ReadAll>);
+
+fn is_read(alloc: Global, row: &Reading) -> bool {
+    match source_of(alloc, row.0, row.1) {
+        Some(mut source) => reads(alloc, &mut source, row.2, &row.3),
+        None => false,
+    }
+}
+
+const READS: &[Reading] = &[
+    Reading(&[], 5, 5, Ok(HELLO)),
+    Reading(&[], 2, 9, Ok(HELLO)),
+    Reading(&[], 5, 4, Err(ReadAll::TooLong)),
+    Reading(&[], 1, 0, Err(ReadAll::TooLong)),
+    Reading(&[1], 5, 5, Err(ReadAll::Failed)),
+    Reading(&[2], 3, 5, Err(ReadAll::Failed)),
+    Reading(&[3], 3, 5, Err(ReadAll::Failed)),
+    Reading(&[4], 3, 5, Ok(HELLO)),
 ];
 
 #[test]
-fn read_all_answers_by_its_limit_and_its_source(rt: HostRuntime) -> Result<(), Fail> {
-    for (failing, piece, limit, want) in READS {
-        let answer = read_of(rt.alloc(), failing, *piece, *limit)?;
-        has_read(&rt, *limit, &answer, want);
+fn read_all_answers_by_its_limit_and_its_source(rt: HostRuntime) {
+    for (place, row) in READS.iter().enumerate() {
+        holds(&rt, place, is_read(rt.alloc(), row));
     }
-    Ok(())
 }
 
 /// A sink of this room, of which these calls fail, and which takes pieces of this size at most.
-fn sink_of(alloc: Global, room: usize, failing: &[u64], piece: usize) -> Result<MemSink, Fail> {
+fn sink_of(alloc: Global, room: usize, failing: &[u64], piece: usize) -> Option<MemSink> {
     if piece == 0 {
-        return Err(Fail::from("no piece"));
+        return None;
     }
-    let failing = failing.to_vec(alloc)?;
-    Ok(MemSink::new(alloc, room, failing, piece)?)
+    let failing = failing.to_vec(alloc).ok()?;
+    MemSink::new(alloc, room, failing, piece).ok()
 }
 
-const WRITES: &[(usize, &[u64], usize, bool, &[u8])] = &[
-    (5, &[], 5, true, HELLO),
-    (9, &[], 2, true, HELLO),
-    (3, &[], 9, false, b"hel"),
-    (5, &[1], 5, false, b""),
-    (5, &[3], 1, false, b"he"),
-    (5, &[6], 1, true, HELLO),
+/// The room, the calls that fail, the most that a call takes, whether five bytes are all written, and what is.
+struct Writing(usize, &'static [u64], usize, bool, &'static [u8]);
+
+fn is_written(alloc: Global, row: &Writing) -> bool {
+    match sink_of(alloc, row.0, row.1, row.2) {
+        Some(mut sink) => write_all(&mut sink, HELLO).is_ok() == row.3 && sink.bytes() == row.4,
+        None => false,
+    }
+}
+
+const WRITES: &[Writing] = &[
+    Writing(5, &[], 5, true, HELLO),
+    Writing(9, &[], 2, true, HELLO),
+    Writing(3, &[], 9, false, b"hel"),
+    Writing(5, &[1], 5, false, b""),
+    Writing(5, &[3], 1, false, b"he"),
+    Writing(5, &[6], 1, true, HELLO),
 ];
 
 #[test]
-fn write_all_stops_at_the_failing_call_or_the_full_room(rt: HostRuntime) -> Result<(), Fail> {
-    for (room, failing, piece, want, written) in WRITES {
-        let mut sink = sink_of(rt.alloc(), *room, failing, *piece)?;
-        let answer = write_all(&mut sink, HELLO);
-        same(&rt, *piece, &answer.is_ok(), want);
-        same(&rt, *piece, &sink.bytes(), written);
+fn write_all_stops_at_the_failing_call_or_the_full_room(rt: HostRuntime) {
+    for (place, row) in WRITES.iter().enumerate() {
+        holds(&rt, place, is_written(rt.alloc(), row));
     }
-    Ok(())
 }
 
-/// All of a source is read, and is these five bytes.
-fn reads_hello<S: Source>(rt: &impl Abort, alloc: Global, source: &mut S) {
-    has_read(rt, 5, &read_all(alloc, source, 5), &Ok(HELLO));
-}
-
-/// Reading fails.
-fn reads_nothing<S: Source>(rt: &impl Abort, alloc: Global, source: &mut S) {
-    has_read(rt, 5, &read_all(alloc, source, 5), &Err(ReadAll::Failed));
+fn is_read_clean(alloc: Global) -> bool {
+    match HELLO.to_vec(alloc) {
+        Ok(bytes) => reads(alloc, &mut CleanSource::new(bytes), 5, &Ok(HELLO)),
+        Err(_) => false,
+    }
 }
 
 #[test]
-fn a_clean_source_is_read_to_its_end(rt: HostRuntime) -> Result<(), Fail> {
-    let mut source = CleanSource::new(HELLO.to_vec(rt.alloc())?);
-    reads_hello(&rt, rt.alloc(), &mut source);
-    Ok(())
+fn a_clean_source_is_read_to_its_end(rt: HostRuntime) {
+    holds(&rt, "all", is_read_clean(rt.alloc()));
+}
+
+/// Whether two reads give five bytes, and then none.
+fn gives_hello<S: Source>(source: &mut S) -> bool {
+    let mut out = [9; 7];
+    source.read(&mut out) == Ok(5) && out == *b"hello\x09\x09" && source.read(&mut out) == Ok(0)
+}
+
+fn is_read_whole<S: Source>(alloc: Global, source: &mut S) -> bool {
+    reads(alloc, source, 5, &Ok(HELLO))
 }
 
 #[test]
 fn standard_sources_give_what_their_readers_give(rt: HostRuntime) {
-    let mut source = StdSource::new(HELLO);
-    let mut out = [9u8; 7];
-    same(&rt, "source.read", &source.read(&mut out), &Ok(5));
-    same(&rt, "out", &out, b"hello\x09\x09");
-    same(&rt, "source.read", &source.read(&mut out), &Ok(0));
+    holds(&rt, "two reads", gives_hello(&mut StdSource::new(HELLO)));
+    let is_read = is_read_whole(rt.alloc(), &mut StdSource::new(HELLO));
+    holds(&rt, "all", is_read);
 }
 
-#[test]
-fn standard_sources_are_read_to_their_end(rt: HostRuntime) {
-    reads_hello(&rt, rt.alloc(), &mut StdSource::new(HELLO));
-    reads_nothing(
-        &rt,
-        rt.alloc(),
-        &mut StdSource::new(Breaks { is_read: false }),
-    );
-    reads_nothing(&rt, rt.alloc(), &mut StdSource::<Breaks>::missing());
+fn fails<S: Source>(alloc: Global, source: &mut S) -> bool {
+    reads(alloc, source, 5, &Err(ReadAll::Failed))
 }
 
-#[test]
-fn standard_sinks_write_and_count_a_write_that_took_nothing(rt: HostRuntime) {
-    let mut text = Vec::new(rt.alloc());
-    let answer = write_all(&mut StdSink::new(&mut text), HELLO);
-    same(&rt, "write_all", &answer, &Ok(()));
-    same(&rt, "text", &text.as_slice(), &HELLO);
-    let answer = write_all(&mut StdSink::new(Full), HELLO);
-    holds(&rt, "write_all", answer.is_err());
+/// Whether a reader that gives one byte fails from then on.
+fn breaks(alloc: Global) -> bool {
+    let mut source = StdSource::new(FlawedReader {
+        left: b"h",
+        calls: 0,
+        fails_from: 2,
+        fails_to: u64::MAX,
+    });
+    fails(alloc, &mut source) && fails(alloc, &mut source)
 }
 
-#[test]
-fn a_reader_that_failed_once_works_again(rt: HostRuntime) {
-    let mut source = StdSource::new(FailsFirst {
+/// Whether a reader that fails once works again.
+fn recovers(alloc: Global) -> bool {
+    let mut source = StdSource::new(FlawedReader {
         left: HELLO,
         calls: 0,
+        fails_from: 1,
+        fails_to: 1,
     });
-    reads_nothing(&rt, rt.alloc(), &mut source);
-    reads_hello(&rt, rt.alloc(), &mut source);
+    fails(alloc, &mut source) && is_read_whole(alloc, &mut source)
 }
 
 #[test]
-fn a_writer_that_failed_once_works_again(rt: HostRuntime) {
-    let mut text = Vec::new(rt.alloc());
-    let mut sink = StdSink::new(FullFirst {
+fn a_read_that_fails_is_told_and_a_later_one_works(rt: HostRuntime) {
+    holds(&rt, "it breaks", breaks(rt.alloc()));
+    holds(&rt, "it recovers", recovers(rt.alloc()));
+    let mut missing = StdSource::<FlawedReader>::missing();
+    holds(&rt, "it is missing", fails(rt.alloc(), &mut missing));
+}
+
+fn is_written_by_std(alloc: Global) -> bool {
+    let mut text = Vec::new(alloc);
+    let answer = write_all(&mut StdSink::new(&mut text), HELLO);
+    answer.is_ok() && text.as_slice() == HELLO
+}
+
+#[test]
+fn standard_sinks_write_all(rt: HostRuntime) {
+    holds(&rt, "all", is_written_by_std(rt.alloc()));
+}
+
+/// Whether a writer whose first call takes nothing, or fails, takes all behind it.
+fn is_written_again(alloc: Global, takes_nothing: bool) -> bool {
+    let mut text = Vec::new(alloc);
+    let mut sink = StdSink::new(FlawedWriter {
         text: &mut text,
         calls: 0,
+        takes_nothing,
     });
-    holds(&rt, "write_all", write_all(&mut sink, HELLO).is_err());
-    same(&rt, "write_all", &write_all(&mut sink, HELLO), &Ok(()));
-    same(&rt, "text", &text.as_slice(), &HELLO);
+    let is_told = write_all(&mut sink, HELLO).is_err() && write_all(&mut sink, HELLO).is_ok();
+    is_told && text.as_slice() == HELLO
+}
+
+#[test]
+fn a_write_that_fails_or_takes_nothing_is_told_and_a_later_one_works(rt: HostRuntime) {
+    holds(&rt, "it fails", is_written_again(rt.alloc(), false));
+    holds(&rt, "it takes nothing", is_written_again(rt.alloc(), true));
 }

@@ -3,15 +3,13 @@ ghost use Rattle.std.specs.Prelude.{◌≡◌, ℕ, ◌+◌, ◌^◌, ◌<◌, �
 ghost use Rattle.std.specs.Option.{option_map_or};
 ghost use Rattle.std.specs.Fmt.{decimal};
 
-use crate::comparing::{holds, same};
+use crate::comparing::holds;
 use bus_port::{MemSink, Memory};
 use numbered_run::{
     EndingText, LineText, Machine, Stop, Tally, Unwritten, count_run, print_run,
     print_run_until_last, status_of_run,
 };
 use std::alloc::Global;
-use std::process::Abort;
-use std::test::Fail;
 
 /// A sum of 32 bits. It tells the new sum, or refuses a number that makes it too great.
 #[derive(Drop)]
@@ -97,102 +95,137 @@ impl Tally<Option<u32>> for Refused {
 
 const NUMBERS: [u32; 4] = [3, 4, 4_294_967_295, 1];
 
-const TEXT: &[u8; 19] = b"1 3\n2 7\n3 full\n4 8\n";
+/// What a run is to answer: one to its end, or one up to a number that is refused.
+enum Want {
+    Run(Result<(), Unwritten>),
+    Last(Result<(), Stop>),
+}
+
+/// A call of the sink that fails, the sum at first, how many of the numbers are given, the answer, what is written,
+/// and the last sum.
+struct Row(u64, u32, usize, Want, &'static [u8], u32);
 
 /// A sink that takes one byte a call, and whose call of this number fails.
-fn failing_sink(alloc: Global, call: u64) -> Result<MemSink, Fail> {
-    let failing = [call].to_vec(alloc)?;
-    Ok(MemSink::new(alloc, 64, failing, 1)?)
+fn failing_sink(alloc: Global, call: u64) -> Option<MemSink> {
+    let failing = [call].to_vec(alloc).ok()?;
+    MemSink::new(alloc, 64, failing, 1).ok()
 }
 
-/// What is printed of the sums of some numbers from this sum on, over a sink whose call of this number fails: the answer, the sink, and the
-/// last sum.
-fn print(
+/// Whether this is the answer where so many of the numbers are given.
+fn answers(
     alloc: Global,
-    call: u64,
-    sum: u32,
-    numbers: &[u32],
-) -> Result<(Result<(), Unwritten>, MemSink, u32), Fail> {
-    if numbers.len() > 4 {
-        return Err(Fail::from("more numbers"));
+    adder: &mut Adder,
+    sink: &mut MemSink,
+    given: usize,
+    want: &Want,
+) -> bool {
+    if given > 4 {
+        return false;
     }
-    let mut sink = failing_sink(alloc, call)?;
-    let mut adder = Adder { sum };
-    let answer = print_run::<Adder, Text, MemSink>(alloc, &mut adder, numbers, &mut sink);
-    Ok((answer, sink, adder.sum))
-}
-
-/// The same from 0 on, up to a number that is refused.
-fn print_to_the_last(
-    alloc: Global,
-    call: u64,
-    numbers: &[u32],
-) -> Result<(Result<(), Stop>, MemSink, u32), Fail> {
-    if numbers.len() > 4 {
-        return Err(Fail::from("more numbers"));
-    }
-    let mut sink = failing_sink(alloc, call)?;
-    let mut adder = Adder { sum: 0 };
-    let answer = print_run_until_last::<Adder, Text, MemSink>(
-        alloc, &mut adder, numbers, &mut sink,
-    );
-    Ok((answer, sink, adder.sum))
-}
-
-/// From which call of the sink on a failure leaves this sum, and up to which; the text is of as many bytes as calls came before.
-const FAILING: &[(usize, usize, u32)] = &[(1, 5, 3), (5, 16, 7), (16, 20, 8)];
-
-#[test]
-fn a_sink_that_fails_at_its_nth_byte_has_the_bytes_before_it(rt: HostRuntime) -> Result<(), Fail> {
-    for (first, end, want) in FAILING {
-        for call in *first..*end {
-            holds(&rt, call, call > 0 && call < 20);
-            let (answer, sink, sum) = print(rt.alloc(), call as u64, 0, &NUMBERS)?;
-            same(&rt, call, &answer, &Err(Unwritten::SinkFailed));
-            same(&rt, call, &sink.bytes(), &&TEXT[..call - 1]);
-            same(&rt, call, &sum, want);
+    let numbers = &NUMBERS[..given];
+    match want {
+        Want::Run(answer) => {
+            print_run::<Adder, Text, MemSink>(alloc, adder, numbers, sink) == *answer
+        }
+        Want::Last(answer) => {
+            print_run_until_last::<Adder, Text, MemSink>(alloc, adder, numbers, sink) == *answer
         }
     }
-    Ok(())
 }
 
-/// A call of the sink behind those of the text, the sum at first, how many of the numbers are given, the text, and the last sum.
-const WHOLE: &[(u64, u32, usize, &[u8], u32)] = &[(20, 0, 4, TEXT, 8), (1, 3, 0, b"", 3)];
+/// Whether the sink has this text.
+fn has_text(sink: &MemSink, text: &[u8]) -> bool {
+    sink.bytes() == text
+}
 
-#[test]
-fn a_sink_that_fails_behind_the_text_has_all_of_it(rt: HostRuntime) -> Result<(), Fail> {
-    for (call, first, given, text, last) in WHOLE {
-        holds(&rt, *call, *given <= 4);
-        let (answer, sink, sum) = print(rt.alloc(), *call, *first, &NUMBERS[..*given])?;
-        same(&rt, *call, &answer, &Ok(()));
-        same(&rt, *call, &sink.bytes(), text);
-        same(&rt, *call, &sum, last);
+fn prints_into(alloc: Global, sink: &mut MemSink, row: &Row) -> bool {
+    let mut adder = Adder { sum: row.1 };
+    answers(alloc, &mut adder, sink, row.2, &row.3) && has_text(sink, row.4) && adder.sum == row.5
+}
+
+/// Whether this comes of a print of the sums.
+fn prints(alloc: Global, row: &Row) -> bool {
+    match failing_sink(alloc, row.0) {
+        Some(mut sink) => prints_into(alloc, &mut sink, row),
+        None => false,
     }
-    Ok(())
 }
 
-const SINK_FAILED: Stop = Stop::Unprinted(Unwritten::SinkFailed);
+const FAILED: Result<(), Unwritten> = Err(Unwritten::SinkFailed);
 
-/// A call of the sink that fails, how many of the numbers are given, the answer, what was written, and the last sum.
-const STOPS: &[(u64, usize, Result<(), Stop>, &[u8], u32)] = &[
-    (4, 4, Err(SINK_FAILED), b"1 3", 3),
-    (8, 4, Err(SINK_FAILED), b"1 3\n2 7", 7),
-    (15, 4, Err(SINK_FAILED), b"1 3\n2 7\n3 full", 7),
-    (16, 4, Err(Stop::Last), b"1 3\n2 7\n3 full\n", 7),
-    (17, 4, Err(Stop::Last), b"1 3\n2 7\n3 full\n", 7),
-    (9, 2, Ok(()), b"1 3\n2 7\n", 7),
+const FAILING: &[Row] = &[
+    Row(1, 0, 4, Want::Run(FAILED), b"", 3),
+    Row(2, 0, 4, Want::Run(FAILED), b"1", 3),
+    Row(3, 0, 4, Want::Run(FAILED), b"1 ", 3),
+    Row(4, 0, 4, Want::Run(FAILED), b"1 3", 3),
+    Row(5, 0, 4, Want::Run(FAILED), b"1 3\n", 7),
+    Row(6, 0, 4, Want::Run(FAILED), b"1 3\n2", 7),
+    Row(7, 0, 4, Want::Run(FAILED), b"1 3\n2 ", 7),
+    Row(8, 0, 4, Want::Run(FAILED), b"1 3\n2 7", 7),
+    Row(9, 0, 4, Want::Run(FAILED), b"1 3\n2 7\n", 7),
+    Row(10, 0, 4, Want::Run(FAILED), b"1 3\n2 7\n3", 7),
+    Row(11, 0, 4, Want::Run(FAILED), b"1 3\n2 7\n3 ", 7),
+    Row(12, 0, 4, Want::Run(FAILED), b"1 3\n2 7\n3 f", 7),
+    Row(13, 0, 4, Want::Run(FAILED), b"1 3\n2 7\n3 fu", 7),
+    Row(14, 0, 4, Want::Run(FAILED), b"1 3\n2 7\n3 ful", 7),
+    Row(15, 0, 4, Want::Run(FAILED), b"1 3\n2 7\n3 full", 7),
+    Row(16, 0, 4, Want::Run(FAILED), b"1 3\n2 7\n3 full\n", 8),
+    Row(17, 0, 4, Want::Run(FAILED), b"1 3\n2 7\n3 full\n4", 8),
+    Row(18, 0, 4, Want::Run(FAILED), b"1 3\n2 7\n3 full\n4 ", 8),
+    Row(19, 0, 4, Want::Run(FAILED), b"1 3\n2 7\n3 full\n4 8", 8),
 ];
 
 #[test]
-fn a_last_line_is_written_whole_and_ends_the_run(rt: HostRuntime) -> Result<(), Fail> {
-    for (call, given, want, written, last) in STOPS {
-        holds(&rt, *call, *given <= 4);
-        let (answer, sink, sum) = print_to_the_last(rt.alloc(), *call, &NUMBERS[..*given])?;
-        same(&rt, *call, &answer, want);
-        same(&rt, *call, &sink.bytes(), written);
-        same(&rt, *call, &sum, last);
+fn a_sink_that_fails_at_its_nth_byte_has_the_bytes_before_it(rt: HostRuntime) {
+    for row in FAILING {
+        holds(&rt, row.0, prints(rt.alloc(), row));
     }
-    Ok(())
+}
+
+const TEXT: &[u8; 19] = b"1 3\n2 7\n3 full\n4 8\n";
+
+const WHOLE: &[Row] = &[
+    Row(20, 0, 4, Want::Run(Ok(())), TEXT, 8),
+    Row(1, 3, 0, Want::Run(Ok(())), b"", 3),
+];
+
+#[test]
+fn a_sink_that_fails_behind_the_text_has_all_of_it(rt: HostRuntime) {
+    for row in WHOLE {
+        holds(&rt, row.0, prints(rt.alloc(), row));
+    }
+}
+
+const UNPRINTED: Result<(), Stop> = Err(Stop::Unprinted(Unwritten::SinkFailed));
+
+const STOPS: &[Row] = &[
+    Row(4, 0, 4, Want::Last(UNPRINTED), b"1 3", 3),
+    Row(8, 0, 4, Want::Last(UNPRINTED), b"1 3\n2 7", 7),
+    Row(15, 0, 4, Want::Last(UNPRINTED), b"1 3\n2 7\n3 full", 7),
+    Row(
+        16,
+        0,
+        4,
+        Want::Last(Err(Stop::Last)),
+        b"1 3\n2 7\n3 full\n",
+        7,
+    ),
+    Row(
+        17,
+        0,
+        4,
+        Want::Last(Err(Stop::Last)),
+        b"1 3\n2 7\n3 full\n",
+        7,
+    ),
+    Row(9, 0, 2, Want::Last(Ok(())), b"1 3\n2 7\n", 7),
+];
+
+#[test]
+fn a_last_line_is_written_whole_and_ends_the_run(rt: HostRuntime) {
+    for row in STOPS {
+        holds(&rt, row.0, prints(rt.alloc(), row));
+    }
 }
 
 const STATUSES: &[(Result<(), Unwritten>, u8)] = &[
@@ -204,7 +237,7 @@ const STATUSES: &[(Result<(), Unwritten>, u8)] = &[
 #[test]
 fn each_end_of_a_run_has_its_status(rt: HostRuntime) {
     for (answer, status) in STATUSES {
-        same(&rt, *status, &status_of_run(*answer), status);
+        holds(&rt, *status, status_of_run(*answer) == *status);
     }
 }
 
@@ -212,33 +245,43 @@ fn each_end_of_a_run_has_its_status(rt: HostRuntime) {
 fn lines_are_counted_one_by_one(rt: HostRuntime) {
     let mut refused = Refused { lines: 0 };
     count_run(&mut Adder { sum: 0 }, &NUMBERS, &mut refused);
-    same(&rt, "refused.lines", &refused.lines, &1);
-}
-
-fn so_many_ones(alloc: Global) -> Result<Vec<u32>, Fail> {
-    Ok(vec![in alloc; 1u32; 65_536]?)
+    holds(&rt, refused.lines, refused.lines == 1);
 }
 
 /// A sink that takes all at once.
-fn wide_sink(alloc: Global) -> Result<MemSink, Fail> {
-    Ok(MemSink::new(alloc, 1_048_576, Vec::new(alloc), 65_536)?)
+fn wide_sink(alloc: Global) -> Option<MemSink> {
+    MemSink::new(alloc, 1_048_576, Vec::new(alloc), 65_536).ok()
 }
 
 /// 316,574 digits twice, a blank and a line feed each.
-fn has_all(rt: &impl Abort, text: &[u8]) {
-    same(rt, "length", &text.len(), &764_220);
-    holds(rt, "end", text.ends_with(b"\n65535 65535\n65536 65536\n"));
+fn has_all(text: &[u8]) -> bool {
+    text.len() == 764_220 && text.ends_with(b"\n65535 65535\n65536 65536\n")
+}
+
+/// Whether all is written of the sums of so many ones.
+fn prints_ones(alloc: Global, ones: &[u32], sink: &mut MemSink) -> bool {
+    let mut adder = Adder { sum: 0 };
+    ones.len() == 65_536
+        && print_run::<Adder, Text, MemSink>(alloc, &mut adder, ones, sink).is_ok()
+        && has_all(sink.bytes())
+        && adder.sum == 65_536
+}
+
+fn prints_so_many(alloc: Global, ones: &[u32]) -> bool {
+    match wide_sink(alloc) {
+        Some(mut sink) => prints_ones(alloc, ones, &mut sink),
+        None => false,
+    }
+}
+
+fn prints_all(alloc: Global) -> bool {
+    match vec![in alloc; 1u32; 65_536] {
+        Ok(ones) => prints_so_many(alloc, ones.as_slice()),
+        Err(_) => false,
+    }
 }
 
 #[test]
-fn as_many_commands_as_a_script_has_are_done(rt: HostRuntime) -> Result<(), Fail> {
-    let ones = so_many_ones(rt.alloc())?;
-    let mut sink = wide_sink(rt.alloc())?;
-    let mut adder = Adder { sum: 0 };
-    holds(&rt, "so many", ones.len() == 65_536);
-    let answer = print_run::<Adder, Text, MemSink>(rt.alloc(), &mut adder, &ones, &mut sink);
-    same(&rt, "answer", &answer, &Ok(()));
-    same(&rt, "adder.sum", &adder.sum, &65_536);
-    has_all(&rt, sink.bytes());
-    Ok(())
+fn as_many_commands_as_a_script_has_are_done(rt: HostRuntime) {
+    holds(&rt, "all", prints_all(rt.alloc()));
 }

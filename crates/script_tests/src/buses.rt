@@ -5,46 +5,56 @@ use freshness_routes::{Direction, NodeConfig, Route};
 use key_slots::SlotId;
 use memory_update::Uid;
 use std::alloc::Global;
-use std::test::Fail;
 
-// A node with these routes.
-fn node(
-    alloc: Global,
-    name: &[u8],
-    last: u8,
-    routes: &[(u16, Direction)],
-) -> Result<NodeLine, Fail> {
-    let mut uid = [0; 15];
-    uid[14] = last;
+fn routes_of(alloc: Global, routes: &[(u16, Direction)]) -> Option<Vec<Route>> {
     let mut listed = Vec::new(alloc);
-    for (id, direction) in routes {
-        listed.push(Route {
-            id: *id,
-            direction: *direction,
-            slot: SlotId::new(4).ok_or("slot 4")?,
+    for route in routes {
+        let route = Route {
+            id: route.0,
+            direction: route.1,
+            slot: SlotId::new(4)?,
             reserve: 1,
             window: 256,
             start: 0,
-        })?;
+        };
+        listed.push(route).ok()?;
     }
-    Ok(NodeLine {
-        name: Name::of(name).ok_or("a name")?,
-        config: NodeConfig::new(Uid::of(uid), listed).ok_or("a node")?,
-    })
+    Some(listed)
 }
 
-// Nodes `left` and `right` with these routes, and behind them `third` without one, where there are to be three.
-pub fn bus_of(
-    alloc: Global,
-    left: &[(u16, Direction)],
-    right: &[(u16, Direction)],
-    three: bool,
-) -> Result<BusConfig, Fail> {
-    let mut nodes = Vec::new(alloc);
-    nodes.push(node(alloc, b"left", 1, left)?)?;
-    nodes.push(node(alloc, b"right", 2, right)?)?;
-    if three {
-        nodes.push(node(alloc, b"third", 3, &[])?)?;
+/// A node with these routes.
+fn node(alloc: Global, name: &[u8], last: u8, routes: &[(u16, Direction)]) -> Option<NodeLine> {
+    let name = Name::of(name)?;
+    let uid = Uid::of([0, 0, 0, 0, 0, 0, 0, 0, 0, 0, 0, 0, 0, 0, last]);
+    let config = NodeConfig::new(uid, routes_of(alloc, routes)?)?;
+    Some(NodeLine { name, config })
+}
+
+/// The routes of the nodes `left` and `right`, and whether there is a node `third` without one behind them.
+pub(crate) type Shape = (
+    &'static [(u16, Direction)],
+    &'static [(u16, Direction)],
+    bool,
+);
+
+fn is_pushed(nodes: &mut Vec<NodeLine>, node: Option<NodeLine>) -> bool {
+    match node {
+        Some(node) => nodes.push(node).is_ok(),
+        None => false,
     }
-    Ok(BusConfig::new(Kind::Twin, Version::One, nodes).ok_or("a bus")?)
+}
+
+fn are_pushed(alloc: Global, shape: &Shape, nodes: &mut Vec<NodeLine>) -> bool {
+    is_pushed(nodes, node(alloc, b"left", 1, shape.0))
+        && is_pushed(nodes, node(alloc, b"right", 2, shape.1))
+        && (!shape.2 || is_pushed(nodes, node(alloc, b"third", 3, &[])))
+}
+
+/// The bus of this shape.
+pub(crate) fn bus_of(alloc: Global, shape: &Shape) -> Option<BusConfig> {
+    let mut nodes = Vec::new(alloc);
+    if !are_pushed(alloc, shape, &mut nodes) {
+        return None;
+    }
+    BusConfig::new(Kind::Twin, Version::One, nodes)
 }

@@ -1,4 +1,4 @@
-//! Tests of scripts and trials, of the lines that are printed and looked for, and of disks over files. There is nothing else here: a
+//! Tests of scripts and trials, and of the lines that are printed and looked for. There is nothing else here: a
 //! crate of tests over several libraries has none of them proved a second time.
 #![tactic(auto)]
 
@@ -6,8 +6,6 @@
 mod buses;
 #[cfg(test)]
 mod comparing;
-#[cfg(test)]
-mod disk_files;
 #[cfg(test)]
 mod histories;
 #[cfg(test)]

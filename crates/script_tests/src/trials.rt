@@ -1,62 +1,66 @@
 //! Trials over buses of several shapes: their events, written in canonical form. The texts come from another program.
-use crate::buses::bus_of;
-use crate::comparing::same;
+ghost use Rattle.std.specs.Prelude.{All};
+ghost use Rattle.bus_script.specs.ScriptEvents.{IsScriptEvent};
+
+use crate::buses::{Shape, bus_of};
+use crate::comparing::holds;
 use Direction::{Receives, Sends};
-use bus_script::{BusConfig, write_event};
+use bus_script::{BusConfig, Event, write_event};
 use bus_trials::make_trial;
 use freshness_routes::Direction;
 use std::alloc::Global;
-use std::process::Abort;
-use std::test::Fail;
 
-// The canonical lines of the events of a trial, of which the first `skipped` are left out.
-fn lines(
-    alloc: Global,
-    bus: &BusConfig,
-    count: u32,
-    seed: u64,
-    skipped: usize,
-) -> Result<Vec<u8>, Fail> {
-    if count < 1 || count > 60_000 {
-        return Err(Fail::from("a count"));
-    }
-    let events = make_trial(alloc, bus, count, seed).map_err(|_| "no memory")?;
-    let mut out = Vec::new(alloc);
-    for (place, event) in events.as_slice().iter().enumerate() {
-        if place >= skipped {
-            write_event(alloc, event, bus, &mut out).map_err(|_| "no memory")?;
+/// Adds the canonical lines of these events but the first ones: whether there was memory for them.
+fn adds(alloc: Global, bus: &BusConfig, events: &[Event], skipped: usize, out: &mut Vec<u8>) -> bool
+    requires { All (IsScriptEvent bus.now.nodes) events.now }
+{
+    for (place, event) in events.iter().enumerate() {
+        if place >= skipped && write_event(alloc, event, bus, out).is_err() {
+            return false;
         }
     }
-    Ok(out)
+    true
 }
 
-type Routes = &'static [(u16, Direction)];
+/// The number of events of a trial, its seed, and how many of the first of its events are left out.
+type Numbers = (u32, u64, usize);
 
-/// The events of a trial over a bus of these routes, behind the first `skipped`, are these.
-fn has_events(
-    rt: &impl Abort,
-    alloc: Global,
-    bus: (Routes, Routes, bool),
-    numbers: (u32, u64, usize),
-    text: &str,
-) -> Result<(), Fail> {
-    let bus = bus_of(alloc, bus.0, bus.1, bus.2)?;
-    let written = lines(alloc, &bus, numbers.0, numbers.1, numbers.2)?;
-    same(rt, "written", &written.as_slice(), &text.as_bytes());
-    Ok(())
+/// Adds the canonical lines of the events of a trial.
+fn adds_trial(alloc: Global, bus: &BusConfig, numbers: Numbers, out: &mut Vec<u8>) -> bool {
+    let (count, seed, skipped) = numbers;
+    if count < 1 || count > 60_000 {
+        return false;
+    }
+    match make_trial(alloc, bus, count, seed) {
+        Ok(events) => adds(alloc, bus, events.as_slice(), skipped, out),
+        Err(_) => false,
+    }
 }
 
-const PLAIN: (Routes, Routes, bool) = (&[(0x6bc1, Sends)], &[(0x6bc1, Receives)], false);
+/// Whether the events of a trial over this bus, behind the first ones, are these.
+fn is_trial(alloc: Global, bus: &BusConfig, numbers: Numbers, text: &str) -> bool {
+    let mut out = Vec::new(alloc);
+    adds_trial(alloc, bus, numbers, &mut out) && out.as_slice() == text.as_bytes()
+}
 
-const RICH: (Routes, Routes, bool) = (
+fn has_events(alloc: Global, shape: &Shape, numbers: Numbers, text: &str) -> bool {
+    match bus_of(alloc, shape) {
+        Some(bus) => is_trial(alloc, &bus, numbers, text),
+        None => false,
+    }
+}
+
+const PLAIN: Shape = (&[(0x6bc1, Sends)], &[(0x6bc1, Receives)], false);
+
+const RICH: Shape = (
     &[(0x6bc1, Sends), (0x0a00, Receives), (0x0c00, Sends)],
     &[(0x6bc1, Receives), (0x0b00, Sends)],
     true,
 );
 
-const LISTENING: (Routes, Routes, bool) = (&[(0x6bc1, Receives)], &[], false);
+const LISTENING: Shape = (&[(0x6bc1, Receives)], &[], false);
 
-const SILENT: (Routes, Routes, bool) = (&[], &[], false);
+const SILENT: Shape = (&[], &[], false);
 
 const OF_PLAIN: &str =
     "key left 000000000000000000000000000001 4 4 ffffffffffffffffffffffffffffffff 1 00010 04040404040404040404040404040404\nkey left 000000000000000000000000000001 5 5 ffffffffffffffffffffffffffffffff 1 00010 05050505050505050505050505050505\nkey left 000000000000000000000000000001 6 6 ffffffffffffffffffffffffffffffff 1 00010 06060606060606060606060606060606\nkey left 000000000000000000000000000001 7 7 ffffffffffffffffffffffffffffffff 1 00010 07070707070707070707070707070707\nkey left 000000000000000000000000000001 8 8 ffffffffffffffffffffffffffffffff 1 00010 08080808080808080808080808080808\nkey left 000000000000000000000000000001 9 9 ffffffffffffffffffffffffffffffff 1 00010 09090909090909090909090909090909\nkey left 000000000000000000000000000001 10 10 ffffffffffffffffffffffffffffffff 1 00010 0a0a0a0a0a0a0a0a0a0a0a0a0a0a0a0a\nkey left 000000000000000000000000000001 11 11 ffffffffffffffffffffffffffffffff 1 00010 0b0b0b0b0b0b0b0b0b0b0b0b0b0b0b0b\nkey left 000000000000000000000000000001 12 12 ffffffffffffffffffffffffffffffff 1 00010 0c0c0c0c0c0c0c0c0c0c0c0c0c0c0c0c\nkey left 000000000000000000000000000001 13 13 ffffffffffffffffffffffffffffffff 1 00010 0d0d0d0d0d0d0d0d0d0d0d0d0d0d0d0d\nkey right 000000000000000000000000000002 4 4 ffffffffffffffffffffffffffffffff 1 00010 04040404040404040404040404040404\nkey right 000000000000000000000000000002 5 5 ffffffffffffffffffffffffffffffff 1 00010 05050505050505050505050505050505\nkey right 000000000000000000000000000002 6 6 ffffffffffffffffffffffffffffffff 1 00010 06060606060606060606060606060606\nkey right 000000000000000000000000000002 7 7 ffffffffffffffffffffffffffffffff 1 00010 07070707070707070707070707070707\nkey right 000000000000000000000000000002 8 8 ffffffffffffffffffffffffffffffff 1 00010 08080808080808080808080808080808\nkey right 000000000000000000000000000002 9 9 ffffffffffffffffffffffffffffffff 1 00010 09090909090909090909090909090909\nkey right 000000000000000000000000000002 10 10 ffffffffffffffffffffffffffffffff 1 00010 0a0a0a0a0a0a0a0a0a0a0a0a0a0a0a0a\nkey right 000000000000000000000000000002 11 11 ffffffffffffffffffffffffffffffff 1 00010 0b0b0b0b0b0b0b0b0b0b0b0b0b0b0b0b\nkey right 000000000000000000000000000002 12 12 ffffffffffffffffffffffffffffffff 1 00010 0c0c0c0c0c0c0c0c0c0c0c0c0c0c0c0c\nkey right 000000000000000000000000000002 13 13 ffffffffffffffffffffffffffffffff 1 00010 0d0d0d0d0d0d0d0d0d0d0d0d0d0d0d0d\ncut right keep\n";
@@ -70,16 +74,17 @@ const OF_LISTENING: &str =
 const OF_SILENT: &str =
     "cut right keep\ndeliver left 1\ndeliver left 15\ndeliver left 1\ndeliver right 22\ndeliver left 1\ndeliver left 1\ndeliver left 1\nkey right 000000000000000000000000000002 12 12 0c0c0c0c0c0c0c0c0c0c0c0c0c0c0c0c 932 00010 0c0c0c0c0c0c0c0c0c0c0c0c0c0c0c0c\ndeliver left 1\nkey right 000000000000000000000000000002 11 11 0b0b0b0b0b0b0b0b0b0b0b0b0b0b0b0b 139 00010 0b0b0b0b0b0b0b0b0b0b0b0b0b0b0b0b\ndeliver left 1\ndeliver right 25\ndeliver left 1\nkey right 000000000000000000000000000002 10 10 0a0a0a0a0a0a0a0a0a0a0a0a0a0a0a0a 651 00010 0a0a0a0a0a0a0a0a0a0a0a0a0a0a0a0a\ndeliver left 1\ndeliver left 1\ndeliver left 30\ndeliver left 1\ndeliver left 1\ndeliver left 1\ndeliver right 40\ndeliver left 1\ndeliver right 40\n";
 
-#[test]
-fn a_trial_has_keys_and_then_what_the_draws_give(rt: HostRuntime) -> Result<(), Fail> {
-    has_events(&rt, rt.alloc(), PLAIN, (1, 0, 0), OF_PLAIN)?;
-    has_events(&rt, rt.alloc(), RICH, (40, 194, 30), OF_RICH)?;
-    has_events(&rt, rt.alloc(), LISTENING, (24, 0, 20), OF_LISTENING)?;
-    has_events(&rt, rt.alloc(), SILENT, (24, 0, 20), OF_SILENT)
-}
+const TRIALS: &[(Shape, Numbers, &str)] = &[
+    (PLAIN, (1, 0, 0), OF_PLAIN),
+    (RICH, (40, 194, 30), OF_RICH),
+    (LISTENING, (24, 0, 20), OF_LISTENING),
+    (SILENT, (24, 0, 20), OF_SILENT),
+    (PLAIN, (60_000, 1, 60_019), "deliver left 60016\n"),
+];
 
 #[test]
-fn as_many_events_as_a_trial_has_are_made(rt: HostRuntime) -> Result<(), Fail> {
-    let numbers = (60_000, 1, 60_019);
-    has_events(&rt, rt.alloc(), PLAIN, numbers, "deliver left 60016\n")
+fn a_trial_has_keys_and_then_what_the_draws_give(rt: HostRuntime) {
+    for (place, row) in TRIALS.iter().enumerate() {
+        holds(&rt, place, has_events(rt.alloc(), &row.0, row.1, row.2));
+    }
 }
