@@ -80,7 +80,7 @@ fn has_bytes(bytes: Bytes) -> bool {
 }
 
 fn is_list(alloc: Global) -> bool {
-    match WITH_ZERO.to_vec(alloc) {
+    match [0x5a, 0xff, 0].to_vec(alloc) {
         Ok(bytes) => has_bytes(Bytes::of(bytes)),
         Err(_) => false,
     }
