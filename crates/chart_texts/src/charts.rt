@@ -8,6 +8,7 @@ use crate::counting::{CountedKind, count_lines};
 use crate::headers::push_headers;
 use crate::lifelines::push_lifelines;
 use crate::rows::push_rows;
+use crate::shown::push_shown;
 use bus_machine::{Event, Line};
 use bus_nodes::BusConfig;
 use chart_marks::places::{chart_height, chart_width};
@@ -81,10 +82,13 @@ fn push_opening(
 fn push_tag(alloc: Global, text: &mut Vec<u8>, width: u64, height: u64) -> Result<(), AllocError>
     ensures { OnOk result (text.new.items ≡ text.old.items ++ whole_tag width height) }
 {
-    let tag = format!(in alloc;
-        "<svg xmlns=\"http://www.w3.org/2000/svg\" width=\"{width}\" height=\"{height}\" viewBox=\"0 0 {width} {height}\">\n"
-    )?;
-    text.extend_from_slice(tag.as_bytes())
+    push_shown(
+        alloc,
+        text,
+        format_args!(
+            "<svg xmlns=\"http://www.w3.org/2000/svg\" width=\"{width}\" height=\"{height}\" viewBox=\"0 0 {width} {height}\">\n"
+        ),
+    )
 }
 
 // Adds the page, the title, the counts and the legend.
@@ -118,8 +122,11 @@ fn push_page_rect(
 ) -> Result<(), AllocError>
     ensures { OnOk result (text.new.items ≡ text.old.items ++ page_rect width height) }
 {
-    let page = format!(in alloc; "<rect class=\"page\" width=\"{width}\" height=\"{height}\"/>\n")?;
-    text.extend_from_slice(page.as_bytes())
+    push_shown(
+        alloc,
+        text,
+        format_args!("<rect class=\"page\" width=\"{width}\" height=\"{height}\"/>\n"),
+    )
 }
 
 // Adds the seven numbers of a trial's summary, on one line.
@@ -173,10 +180,11 @@ fn push_four(
 ) -> Result<(), AllocError>
     ensures { OnOk result (text.new.items ≡ text.old.items ++ four_numbers events sent accepted failures) }
 {
-    let numbers = format!(in alloc;
-        "events {events}, sent {sent}, accepted {accepted}, failures {failures}"
-    )?;
-    text.extend_from_slice(numbers.as_bytes())
+    push_shown(
+        alloc,
+        text,
+        format_args!("events {events}, sent {sent}, accepted {accepted}, failures {failures}"),
+    )
 }
 
 // Adds the numbers of keys that were set, of cuts and of refusals.
@@ -189,6 +197,9 @@ fn push_three(
 ) -> Result<(), AllocError>
     ensures { OnOk result (text.new.items ≡ text.old.items ++ three_numbers keyed cuts refused) }
 {
-    let numbers = format!(in alloc; ", keyed {keyed}, cuts {cuts}, refused {refused}")?;
-    text.extend_from_slice(numbers.as_bytes())
+    push_shown(
+        alloc,
+        text,
+        format_args!(", keyed {keyed}, cuts {cuts}, refused {refused}"),
+    )
 }

@@ -4,6 +4,7 @@ ghost use Rattle.std.specs.List.{flat_map, range_with_len};
 ghost use Rattle.chart_marks.specs.Places.{head_count as count_of_heads};
 ghost use Rattle.chart_texts.specs.ChartTexts.{text_at, box_text, name_box, name_boxes, header_text};
 
+use crate::shown::push_shown;
 use bus_nodes::NodeLine;
 use chart_marks::places::{head_count, head_top, lifeline_x};
 use std::alloc::{AllocError, Global};
@@ -98,10 +99,11 @@ fn push_box(
 ) -> Result<(), AllocError>
     ensures { OnOk result (text.new.items ≡ text.old.items ++ box_text left top width) }
 {
-    let side = format!(in alloc;
-        "<rect x=\"{left}\" y=\"{top}\" width=\"{width}\" height=\"26\" rx=\"4\"/>"
-    )?;
-    text.extend_from_slice(side.as_bytes())
+    push_shown(
+        alloc,
+        text,
+        format_args!("<rect x=\"{left}\" y=\"{top}\" width=\"{width}\" height=\"26\" rx=\"4\"/>"),
+    )
 }
 
 // Adds a name at a place.
@@ -114,8 +116,7 @@ fn push_name_at(
 ) -> Result<(), AllocError>
     ensures { OnOk result (text.new.items ≡ text.old.items ++ text_at x y name.now) }
 {
-    let open = format!(in alloc; "<text x=\"{x}\" y=\"{y}\">")?;
-    text.extend_from_slice(open.as_bytes())?;
+    push_shown(alloc, text, format_args!("<text x=\"{x}\" y=\"{y}\">"))?;
     text.extend_from_slice(name)?;
     text.extend_from_slice(b"</text>")
 }

@@ -12,6 +12,7 @@ mod labels;
 pub mod laws;
 mod lifelines;
 mod rows;
+mod shown;
 
 pub use charts::chart_of;
 pub use counting::{CountedKind, count_lines};

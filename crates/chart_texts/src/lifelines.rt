@@ -5,6 +5,7 @@ ghost use Rattle.chart_marks.specs.Lifelines.{lifeline_of};
 ghost use Rattle.chart_texts.specs.ChartTexts.{stretch_text, life_strokes, path_text, life_path, lifeline_text};
 ghost use Rattle.chart_texts.specs.LifeSteps.{GoesOnBy};
 
+use crate::shown::push_shown;
 use bus_machine::{Event, Line};
 use chart_marks::places::{lifeline_bottom, lifeline_x};
 use chart_marks::{Life, Stretch, life_turn};
@@ -73,8 +74,7 @@ fn push_strokes(
 ) -> Result<(), AllocError>
     ensures { OnOk result (text.new.items ≡ text.old.items ++ path_text class.now strokes.now) }
 {
-    let open = format!(in alloc; "<path class=\"{class}\" d=\"")?;
-    text.extend_from_slice(open.as_bytes())?;
+    push_shown(alloc, text, format_args!("<path class=\"{class}\" d=\""))?;
     text.extend_from_slice(strokes)?;
     text.extend_from_slice(b"\"/>")?;
     Ok(())
@@ -164,6 +164,5 @@ fn push_stretch(
     let x = lifeline_x(node);
     let from = stretch.from;
     let to = stretch.to;
-    let stroke = format!(in alloc; "M{x} {from}V{to}")?;
-    strokes.extend_from_slice(stroke.as_bytes())
+    push_shown(alloc, strokes, format_args!("M{x} {from}V{to}"))
 }

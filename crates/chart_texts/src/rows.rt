@@ -8,6 +8,7 @@ ghost use Rattle.chart_marks.specs.declared.marks.MarkKind.TheVariants.{Arrow};
 ghost use Rattle.chart_texts.specs.ChartTexts.{class_name as name_of_class, sign_strokes as strokes_of_sign, head_strokes as strokes_of_head, place_text, title_of_row, band_text, number_text, front_of_row, label_of_row, marked_row, rows_text};
 
 use crate::labels::push_label;
+use crate::shown::push_shown;
 use bus_machine::{Event, Line};
 use bus_texts::push_told;
 use chart_marks::places::{
@@ -92,8 +93,11 @@ fn push_title(
 ) -> Result<(), AllocError>
     ensures { OnOk result (text.new.items ≡ text.old.items ++ title_of_row class.now row line.now) }
 {
-    let open = format!(in alloc; "<g class=\"{class}\"><title>{row}")?;
-    text.extend_from_slice(open.as_bytes())?;
+    push_shown(
+        alloc,
+        text,
+        format_args!("<g class=\"{class}\"><title>{row}"),
+    )?;
     push_told(text, line)?;
     text.extend_from_slice(b"</title>")
 }
@@ -102,16 +106,22 @@ fn push_title(
 fn push_band(alloc: Global, text: &mut Vec<u8>, top: u64) -> Result<(), AllocError>
     ensures { OnOk result (text.new.items ≡ text.old.items ++ band_text top) }
 {
-    let band = format!(in alloc; "<rect y=\"{top}\" width=\"100%\" height=\"28\"/>")?;
-    text.extend_from_slice(band.as_bytes())
+    push_shown(
+        alloc,
+        text,
+        format_args!("<rect y=\"{top}\" width=\"100%\" height=\"28\"/>"),
+    )
 }
 
 // Adds the number of a row.
 fn push_number(alloc: Global, text: &mut Vec<u8>, base: u64, row: u32) -> Result<(), AllocError>
     ensures { OnOk result (text.new.items ≡ text.old.items ++ number_text base row) }
 {
-    let number = format!(in alloc; "<text class=\"number\" x=\"44\" y=\"{base}\">{row}</text>")?;
-    text.extend_from_slice(number.as_bytes())
+    push_shown(
+        alloc,
+        text,
+        format_args!("<text class=\"number\" x=\"44\" y=\"{base}\">{row}</text>"),
+    )
 }
 
 // Adds the label of a row, at its place.
@@ -126,8 +136,7 @@ fn push_labelled(
 {
     let x = label_x(mark);
     let y = label_y(mark);
-    let open = format!(in alloc; "<text x=\"{x}\" y=\"{y}\">")?;
-    text.extend_from_slice(open.as_bytes())?;
+    push_shown(alloc, text, format_args!("<text x=\"{x}\" y=\"{y}\">"))?;
     push_label(text, event, line)?;
     text.extend_from_slice(b"</text>")
 }
@@ -235,16 +244,18 @@ fn push_sign(
     ensures { OnOk result (text.new.items ≡ text.old.items ++ place_text (sign across down kind)) }
 {
     let strokes = sign_strokes(kind);
-    let path = format!(in alloc; "<path d=\"M{across} {down}{strokes}\"/>")?;
-    text.extend_from_slice(path.as_bytes())
+    push_shown(
+        alloc,
+        text,
+        format_args!("<path d=\"M{across} {down}{strokes}\"/>"),
+    )
 }
 
 // Adds the short stroke at the left edge.
 fn push_edge(alloc: Global, text: &mut Vec<u8>, top: u64) -> Result<(), AllocError>
     ensures { OnOk result (text.new.items ≡ text.old.items ++ place_text (edge top)) }
 {
-    let path = format!(in alloc; "<path d=\"M52 {top}v12\"/>")?;
-    text.extend_from_slice(path.as_bytes())
+    push_shown(alloc, text, format_args!("<path d=\"M52 {top}v12\"/>"))
 }
 
 // Adds the way of what waits, from its row to another.
@@ -258,8 +269,11 @@ fn push_wait(
 ) -> Result<(), AllocError>
     ensures { OnOk result (text.new.items ≡ text.old.items ++ place_text (wait across down gutter_x row)) }
 {
-    let path = format!(in alloc; "<path class=\"wait\" d=\"M{across} {down}H{gutter_x}V{row}\"/>")?;
-    text.extend_from_slice(path.as_bytes())
+    push_shown(
+        alloc,
+        text,
+        format_args!("<path class=\"wait\" d=\"M{across} {down}H{gutter_x}V{row}\"/>"),
+    )
 }
 
 // Adds an arrow.
@@ -274,8 +288,11 @@ fn push_arrow(
     ensures { OnOk result (text.new.items ≡ text.old.items ++ place_text (arrow begin axis end head)) }
 {
     let strokes = head_strokes(head);
-    let path = format!(in alloc; "<path d=\"M{begin} {axis}H{end}{strokes}\"/>")?;
-    text.extend_from_slice(path.as_bytes())
+    push_shown(
+        alloc,
+        text,
+        format_args!("<path d=\"M{begin} {axis}H{end}{strokes}\"/>"),
+    )
 }
 
 // The class of a row.

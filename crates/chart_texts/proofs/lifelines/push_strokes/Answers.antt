@@ -1,4 +1,3 @@
-use Rattle.std.proofs.Common.{◌++◌, ◌∙◌, ap}
 use Rattle.std.specs.Prelude.{codes}
 use Rattle.chart_texts.proofs.Pieces.{path_added}
 use Rattle.chart_texts.proofs.lifelines.push_strokes.Goals as goal
@@ -6,5 +5,4 @@ use Rattle.chart_texts.proofs.lifelines.push_strokes.Goals as goal
 pub returns : goal.returns
 returns c =
     path_added c.args.text.now.items (codes "<path class=\"") c.args.class.now (codes "\" d=\"") c.args.strokes.now (codes "\"/>") _ _ _
-    (c.in_ok-extend_from_slice.ensures.items ∙ ap (λ b. c.args.text.now.items ++ b) (c.as_bytes.ensures.value ∙ c.in_ok-open.ensures.ok))
-    c.in_ok-extend_from_slice-2.ensures.items c.in_ok-extend_from_slice-3.ensures.items
+    c.in_ok-push_shown.ensures c.in_ok-extend_from_slice.ensures.items c.in_ok-extend_from_slice-2.ensures.items
