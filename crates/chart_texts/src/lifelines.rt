@@ -42,12 +42,29 @@ fn push_lifeline(
     requires as_many { length lines.now ≡ length events.now }
     ensures { OnOk result (text.new.items ≡ text.old.items ++ lifeline_text events.now lines.now node) }
 {
-    let up = strokes_of(alloc, node, false, events, lines)?;
-    let down = strokes_of(alloc, node, true, events, lines)?;
-    push_path(alloc, text, "up", up.as_slice())?;
-    push_path(alloc, text, "down", down.as_slice())?;
-    text.push(b'\n')?;
+    push_life(alloc, text, "up", node, false, events, lines)?;
+    push_life(alloc, text, "down", node, true, events, lines)?;
+    text.extend_from_slice(b"\n")?;
     Ok(())
+}
+
+// Adds the path of this class, of the stretches of a node's lifeline that are down, or of those that are up.
+fn push_life(
+    alloc: Global,
+    text: &mut Vec<u8>,
+    class: &str,
+    node: u8,
+    down: bool,
+    events: &[Event],
+    lines: &[Line],
+) -> Result<(), AllocError>
+    requires few { length events.now < 2 ^ 32 }
+    requires as_many { length lines.now ≡ length events.now }
+    ensures { OnOk result (text.new.items ≡ text.old.items
+        ++ life_path class.now (life_strokes node down (lifeline_of node events.now lines.now))) }
+{
+    let strokes = strokes_of(alloc, node, down, events, lines)?;
+    push_path(alloc, text, class, strokes.as_slice())
 }
 
 // Adds a path of this class, unless there are no strokes.
