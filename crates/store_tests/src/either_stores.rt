@@ -3,7 +3,7 @@ ghost use Rattle.std.specs.Prelude.{◌≡◌, ◌≤◌, length, false, IfOk};
 ghost use Rattle.any_cells.specs.Either.{any_state};
 
 use crate::comparing::{holds, same};
-use crate::cutting::{ELEVENS, ZEROS, put_and_cut};
+use crate::cutting::{EITHER, ELEVENS, TORN, ZEROS, is_either, put_and_cut};
 use any_cells::{
     AnyCells, Found, look, migrate, open_store, probe_two, store_fault_text, store_size,
 };
@@ -29,87 +29,91 @@ fn fresh_store(alloc: Global, kind: Kind, version: Version) -> Result<AnyCells<M
     }
 }
 
+/// What a put into the second cell of a fresh store and a cut come to.
+fn cut_in_a_put(
+    alloc: Global,
+    kind: Kind,
+    version: Version,
+    calls: u64,
+    torn: Torn,
+) -> Result<(bool, bool), Fail> {
+    if calls == 0 {
+        return Err(Fail::from("no call"));
+    }
+    let mut store = fresh_store(alloc, kind, version)?;
+    let (done, cell) = put_and_cut(&mut store, 1, calls, torn)?;
+    is_either(done, &cell)
+}
+
+/// A kind of store, and the call that opens the new cell's gate.
+const OPENINGS: [(Kind, u64); 2] = [(Kind::Twin, 5), (Kind::Log, 3)];
+
+/// A put that stops at this call, in either version: it is done where the disk stops behind the call that opens the gate
+/// and the next.
+fn is_whole_or_absent(
+    rt: &impl Abort,
+    alloc: Global,
+    kind: Kind,
+    calls: u64,
+    opening: u64,
+) -> Result<(), Fail> {
+    let done = calls > opening.saturating_add(1);
+    for (torn, is_new) in TORN.iter().zip(EITHER.iter()) {
+        let wanted = (done, done || (calls >= opening && *is_new));
+        let came = cut_in_a_put(alloc, kind, Version::One, calls, *torn)?;
+        same(rt, calls, &came, &wanted);
+        let came = cut_in_a_put(alloc, kind, Version::Two, calls, *torn)?;
+        same(rt, calls, &came, &wanted);
+    }
+    Ok(())
+}
+
 #[test]
 fn a_put_is_whole_or_absent_in_either_store(rt: HostRuntime) -> Result<(), Fail> {
-    let torn = [
-        (Torn::Keep, true),
-        (Torn::Old, false),
-        (Torn::Half, true),
-        (Torn::Fill(0xa7), true),
-        (Torn::Fill(0), false),
-    ];
-    let kinds = [(Kind::Twin, 5), (Kind::Log, 3)];
-    for (kind, opening) in &kinds {
-        for version in &[Version::One, Version::Two] {
-            for (torn, is_new) in &torn {
-                for call in 1..8u8 {
-                    let mut store = fresh_store(rt.alloc(), *kind, *version)?;
-                    let (done, cell) = put_and_cut(&mut store, 1, u64::from(call), *torn)?;
-                    let new = done || (call >= *opening && *is_new);
-                    same(&rt, "cell", &cell, &(if new { ELEVENS } else { ZEROS }));
-                    same(&rt, "done", &done, &(call > *opening + 1));
-                }
-            }
+    for (kind, opening) in OPENINGS {
+        for calls in 1..8u64 {
+            is_whole_or_absent(&rt, rt.alloc(), kind, calls, opening)?;
         }
     }
     Ok(())
 }
 
-#[test]
-fn the_store_of_version_two_is_probed(rt: HostRuntime) -> Result<(), Fail> {
-    for kind in &[Kind::Twin, Kind::Log] {
-        let mut store = fresh_store(rt.alloc(), *kind, Version::Two)?;
-        holds(&rt, "store.count()", store.count() == 2);
-        store.fail_at(9);
-        let mut disk = store.release();
-        let found = Probe::Store {
-            kind: *kind,
-            cells: 2,
-        };
-        same(
-            &rt,
-            "probe_two(&mut disk)",
-            &probe_two(&mut disk),
-            &Ok(found),
-        );
+/// What is found of a fresh store of version 2, whose disk fails at a call behind.
+fn found_two(alloc: Global, kind: Kind) -> Result<Result<Probe, StoreFault>, Fail> {
+    let mut store = fresh_store(alloc, kind, Version::Two)?;
+    if store.count() != 2 {
+        return Err(Fail::from("not two cells"));
     }
-    let mut disk = MemDisk::new(rt.alloc(), 32799)?;
-    same(
-        &rt,
-        "probe_two(&mut disk)",
-        &probe_two(&mut disk),
-        &Err(StoreFault::TooSmall),
-    );
-    Ok(())
+    store.fail_at(9);
+    let mut disk = store.release();
+    Ok(probe_two(&mut disk))
 }
 
 #[test]
-fn sizes_are_those_of_kind_and_version(rt: HostRuntime) -> Result<(), Fail> {
-    same(
-        &rt,
-        "store_size",
-        &store_size(Kind::Twin, Version::One, 15),
-        &1052,
-    );
-    same(
-        &rt,
-        "store_size",
-        &store_size(Kind::Log, Version::One, 15),
-        &5476,
-    );
-    same(
-        &rt,
-        "store_size",
-        &store_size(Kind::Twin, Version::Two, 15),
-        &33820,
-    );
-    same(
-        &rt,
-        "store_size",
-        &store_size(Kind::Log, Version::Two, 15),
-        &38244,
-    );
+fn the_store_of_version_two_is_probed(rt: HostRuntime) -> Result<(), Fail> {
+    for kind in [Kind::Twin, Kind::Log] {
+        let found = Probe::Store { kind, cells: 2 };
+        same(&rt, "found", &found_two(rt.alloc(), kind)?, &Ok(found));
+    }
+    let mut disk = MemDisk::new(rt.alloc(), 32799)?;
+    let found = probe_two(&mut disk);
+    same(&rt, "a small disk", &found, &Err(StoreFault::TooSmall));
     Ok(())
+}
+
+/// The size of a store of fifteen cells.
+const SIZES: &[(Kind, Version, u64)] = &[
+    (Kind::Twin, Version::One, 1052),
+    (Kind::Log, Version::One, 5476),
+    (Kind::Twin, Version::Two, 33820),
+    (Kind::Log, Version::Two, 38244),
+];
+
+#[test]
+fn sizes_are_those_of_kind_and_version(rt: HostRuntime) {
+    for (kind, version, size) in SIZES {
+        same(&rt, *size, &store_size(*kind, *version, 15), size);
+    }
 }
 
 /// Fifteen cells, of which no two are the same.
@@ -172,101 +176,114 @@ fn stop_and_migrate(
     }
 }
 
+/// Whether the first migration is done, and the cells are all there.
+fn keeps_the_cells(alloc: Global, kind: Kind, call: u64, torn: Torn) -> Result<(bool, bool), Fail> {
+    if call == 0 {
+        return Err(Fail::from("no call"));
+    }
+    let (done, disk) = stop_and_migrate(alloc, kind, call, torn)?;
+    Ok((done, has_fifteen(alloc, disk, kind)?))
+}
+
+/// A kind of store, and from which call on a stop comes behind its migration.
+const MIGRATIONS: [(Kind, u64); 2] = [(Kind::Twin, 36), (Kind::Log, 259)];
+
 #[test]
 fn a_migration_that_is_stopped_and_cut_keeps_the_cells(rt: HostRuntime) -> Result<(), Fail> {
-    let torn = [
-        Torn::Keep,
-        Torn::Old,
-        Torn::Half,
-        Torn::Fill(0xa7),
-        Torn::Fill(0),
-    ];
-    for (kind, calls) in &[(Kind::Twin, 35u16), (Kind::Log, 258)] {
-        for call in 1..*calls + 2 {
-            for torn in &torn {
-                let (done, disk) = stop_and_migrate(rt.alloc(), *kind, u64::from(call), *torn)?;
-                same(&rt, "done", &done, &(call > *calls));
-                holds(&rt, "has_fifteen", has_fifteen(rt.alloc(), disk, *kind)?);
+    for (kind, behind) in MIGRATIONS {
+        for call in 1..=behind {
+            for torn in TORN {
+                let came = keeps_the_cells(rt.alloc(), kind, call, torn)?;
+                same(&rt, call, &came, &(call == behind, true));
             }
         }
     }
     Ok(())
 }
 
-/// Migrates a disk of this kind on which these bytes are changed: the fault, if it is refused.
-fn migrated(
-    alloc: Global,
-    disk: MemDisk,
-    kind: Kind,
-    changes: &[(u64, u8); 2],
-) -> Result<Option<StoreFault>, Fail> {
-    let mut disk = disk;
-    for (place, byte) in changes {
-        if *place < disk.size() {
-            disk.write(*place, &[*byte])?;
-        }
+/// Changes a byte of a disk, where it has that place.
+fn changes(disk: &mut MemDisk, change: (u64, u8)) -> Result<(), Fail> {
+    let (place, byte) = change;
+    if place < disk.size() {
+        disk.write(place, &[byte])?;
     }
+    Ok(())
+}
+
+/// How a migration of this disk is refused, if it is.
+fn migrated(alloc: Global, disk: MemDisk, kind: Kind) -> Option<StoreFault> {
     match migrate(alloc, disk, kind, 15) {
-        Ok(_) => Ok(None),
-        Err(refused) => Ok(Some(refused.fault)),
+        Ok(_) => None,
+        Err(refused) => Some(refused.fault),
     }
+}
+
+/// The store of fifteen cells that stands there, the bytes that are changed, and the fault.
+type Migrated = (Kind, Version, (u64, u8), (u64, u8), Option<StoreFault>);
+
+const MIGRATED: &[Migrated] = &[
+    (Kind::Twin, Version::One, (0, 0x53), (0, 0x53), None),
+    (Kind::Twin, Version::Two, (0, 0), (0, 0), None),
+    (
+        Kind::Twin,
+        Version::One,
+        (0, 0),
+        (0, 0),
+        Some(StoreFault::NotFormatted),
+    ),
+    (
+        Kind::Twin,
+        Version::Two,
+        (32768, 0),
+        (0, 0),
+        Some(StoreFault::NotFormatted),
+    ),
+    (
+        Kind::Twin,
+        Version::One,
+        (100, 0),
+        (134, 0),
+        Some(StoreFault::Damaged(1)),
+    ),
+    (
+        Kind::Twin,
+        Version::Two,
+        (32868, 0),
+        (32902, 0),
+        Some(StoreFault::Damaged(1)),
+    ),
+    (
+        Kind::Log,
+        Version::One,
+        (32, 0),
+        (32, 0),
+        Some(StoreFault::Damaged(0)),
+    ),
+    (
+        Kind::Log,
+        Version::Two,
+        (32800, 0),
+        (32800, 0),
+        Some(StoreFault::Damaged(0)),
+    ),
+];
+
+fn migrates_to(rt: &impl Abort, alloc: Global, place: usize, row: &Migrated) -> Result<(), Fail> {
+    let (kind, version, first, second, fault) = row;
+    let mut disk = disk_of_fifteen(alloc, *kind, *version)?;
+    changes(&mut disk, *first)?;
+    changes(&mut disk, *second)?;
+    same(rt, place, &migrated(alloc, disk, *kind), fault);
+    Ok(())
 }
 
 #[test]
 fn a_migration_is_refused_by_size_and_by_the_bytes_that_count(rt: HostRuntime) -> Result<(), Fail> {
-    let rows = [
-        (Kind::Twin, Version::One, [(0, 0x53), (0, 0x53)], None),
-        (Kind::Twin, Version::Two, [(0, 0), (0, 0)], None),
-        (
-            Kind::Twin,
-            Version::One,
-            [(0, 0), (0, 0)],
-            Some(StoreFault::NotFormatted),
-        ),
-        (
-            Kind::Twin,
-            Version::Two,
-            [(32768, 0), (0, 0)],
-            Some(StoreFault::NotFormatted),
-        ),
-        (
-            Kind::Twin,
-            Version::One,
-            [(100, 0), (134, 0)],
-            Some(StoreFault::Damaged(1)),
-        ),
-        (
-            Kind::Twin,
-            Version::Two,
-            [(32868, 0), (32902, 0)],
-            Some(StoreFault::Damaged(1)),
-        ),
-        (
-            Kind::Log,
-            Version::One,
-            [(32, 0), (32, 0)],
-            Some(StoreFault::Damaged(0)),
-        ),
-        (
-            Kind::Log,
-            Version::Two,
-            [(32800, 0), (32800, 0)],
-            Some(StoreFault::Damaged(0)),
-        ),
-    ];
-    for (kind, version, changes, fault) in &rows {
-        let disk = disk_of_fifteen(rt.alloc(), *kind, *version)?;
-        same(
-            &rt,
-            "migrated",
-            &migrated(rt.alloc(), disk, *kind, changes)?,
-            fault,
-        );
+    for (place, row) in MIGRATED.iter().enumerate() {
+        migrates_to(&rt, rt.alloc(), place, row)?;
     }
-    let disk = MemDisk::new(rt.alloc(), 33819)?;
-    let unchanged = [(0, 0), (0, 0)];
-    let fault = migrated(rt.alloc(), disk, Kind::Twin, &unchanged)?;
-    same(&rt, "fault", &fault, &Some(StoreFault::TooSmall));
+    let found = migrated(rt.alloc(), MemDisk::new(rt.alloc(), 33819)?, Kind::Twin);
+    same(&rt, "a small disk", &found, &Some(StoreFault::TooSmall));
     Ok(())
 }
 
@@ -292,19 +309,25 @@ fn lay(one: bool, two: bool, kind: Kind, change: (u64, u8)) -> Laid {
 
 /// A disk of 40000 bytes with this on it.
 fn disk_with(alloc: Global, laid: &Laid) -> Result<MemDisk, Fail> {
-    let mut disk = MemDisk::new(alloc, 40000)?;
-    if laid.one {
-        disk = formatted(disk, laid.kind, Version::One)?;
-    }
-    if laid.two {
-        disk = formatted(disk, laid.kind, Version::Two)?;
-    }
-    let (place, byte) = laid.change;
-    if place < disk.size() {
-        disk.write(place, &[byte])?;
-        disk.sync()?;
-    }
+    let disk = with_store(MemDisk::new(alloc, 40000)?, laid, laid.one, Version::One)?;
+    let mut disk = with_store(disk, laid, laid.two, Version::Two)?;
+    changes(&mut disk, laid.change)?;
+    disk.sync()?;
     Ok(disk)
+}
+
+/// The disk with a store of this version, where one is to stand there.
+fn with_store(
+    disk: MemDisk,
+    laid: &Laid,
+    is_there: bool,
+    version: Version,
+) -> Result<MemDisk, Fail> {
+    if is_there {
+        formatted(disk, laid.kind, version)
+    } else {
+        Ok(disk)
+    }
 }
 
 fn formatted(disk: MemDisk, kind: Kind, version: Version) -> Result<MemDisk, Fail> {
@@ -340,70 +363,98 @@ fn finds(
     version: Version,
     found: Found,
 ) -> Result<(), Fail> {
-    same(
-        rt,
-        "looked",
-        &looked(alloc, laid, kind, version, 0)?,
-        &Ok(found),
-    );
-    for stop in 1..3 {
-        same(
-            rt,
-            "looked",
-            &looked(alloc, laid, kind, version, stop)?,
-            &Err(DiskFailed),
-        );
+    for stop in 0..4 {
+        let wanted = if stop == 1 || stop == 2 {
+            Err(DiskFailed)
+        } else {
+            Ok(found)
+        };
+        let looked = looked(alloc, laid, kind, version, stop)?;
+        same(rt, stop, &looked, &wanted);
     }
-    same(
+    Ok(())
+}
+
+/// A disk to be looked at: whether stores of version 1 and 2 stand on it, whether these are of the other kind, the byte
+/// that is changed, and what is found.
+type Look = (bool, bool, bool, (u64, u8), Found);
+
+const LOOKS_FOR_ONE: &[Look] = &[
+    (true, true, false, NONE, Found::Foreign),
+    (false, true, false, NONE, Found::Foreign),
+    (false, false, false, NONE, Found::Blank),
+    (false, false, false, (32, 1), Found::Blank),
+    (false, false, false, (32768, 1), Found::Blank),
+    (false, true, true, NONE, Found::Blank),
+    (true, false, false, NONE, Found::Standing),
+    (true, true, false, (32768, 0), Found::Standing),
+    (false, false, false, (31, 1), Found::Foreign),
+    (true, false, false, (11, 14), Found::Foreign),
+    (true, false, true, NONE, Found::Foreign),
+];
+
+const LOOKS_FOR_TWO: &[Look] = &[
+    (false, true, false, NONE, Found::Standing),
+    (true, true, false, NONE, Found::Standing),
+    (true, false, false, NONE, Found::Older),
+    (true, true, false, (32768, 0), Found::Older),
+    (false, false, false, NONE, Found::Blank),
+    (false, false, false, (0, 1), Found::Foreign),
+    (false, false, false, (32799, 1), Found::Foreign),
+    (false, true, false, (32779, 14), Found::Foreign),
+    (false, true, true, NONE, Found::Foreign),
+    (true, false, true, NONE, Found::Foreign),
+];
+
+fn other_than(kind: Kind) -> Kind {
+    match kind {
+        Kind::Twin => Kind::Log,
+        Kind::Log => Kind::Twin,
+    }
+}
+
+/// A look for a store of this kind and version.
+fn finds_one(
+    rt: &impl Abort,
+    alloc: Global,
+    kind: Kind,
+    version: Version,
+    row: &Look,
+) -> Result<(), Fail> {
+    let (one, two, is_other, change, found) = row;
+    let standing = if *is_other { other_than(kind) } else { kind };
+    finds(
         rt,
-        "looked",
-        &looked(alloc, laid, kind, version, 3)?,
-        &Ok(found),
-    );
+        alloc,
+        &lay(*one, *two, standing, *change),
+        kind,
+        version,
+        *found,
+    )
+}
+
+/// Looks for a store of either kind in this version.
+fn finds_each(
+    rt: &impl Abort,
+    alloc: Global,
+    version: Version,
+    looks: &[Look],
+) -> Result<(), Fail> {
+    for row in looks {
+        finds_one(rt, alloc, Kind::Twin, version, row)?;
+        finds_one(rt, alloc, Kind::Log, version, row)?;
+    }
     Ok(())
 }
 
 #[test]
 fn a_look_for_version_one_finds_by_both_headers(rt: HostRuntime) -> Result<(), Fail> {
-    for (kind, other) in [(Kind::Twin, Kind::Log), (Kind::Log, Kind::Twin)] {
-        for (on_disk, found) in [
-            (lay(true, true, kind, NONE), Found::Foreign),
-            (lay(false, true, kind, NONE), Found::Foreign),
-            (lay(false, false, kind, NONE), Found::Blank),
-            (lay(false, false, kind, (32, 1)), Found::Blank),
-            (lay(false, false, kind, (32768, 1)), Found::Blank),
-            (lay(false, true, other, NONE), Found::Blank),
-            (lay(true, false, kind, NONE), Found::Standing),
-            (lay(true, true, kind, (32768, 0)), Found::Standing),
-            (lay(false, false, kind, (31, 1)), Found::Foreign),
-            (lay(true, false, kind, (11, 14)), Found::Foreign),
-            (lay(true, false, other, NONE), Found::Foreign),
-        ] {
-            finds(&rt, rt.alloc(), &on_disk, kind, Version::One, found)?;
-        }
-    }
-    Ok(())
+    finds_each(&rt, rt.alloc(), Version::One, LOOKS_FOR_ONE)
 }
 
 #[test]
 fn a_look_for_version_two_finds_by_both_headers(rt: HostRuntime) -> Result<(), Fail> {
-    for (kind, other) in [(Kind::Twin, Kind::Log), (Kind::Log, Kind::Twin)] {
-        for (on_disk, found) in [
-            (lay(false, true, kind, NONE), Found::Standing),
-            (lay(true, true, kind, NONE), Found::Standing),
-            (lay(true, false, kind, NONE), Found::Older),
-            (lay(true, true, kind, (32768, 0)), Found::Older),
-            (lay(false, false, kind, NONE), Found::Blank),
-            (lay(false, false, kind, (0, 1)), Found::Foreign),
-            (lay(false, false, kind, (32799, 1)), Found::Foreign),
-            (lay(false, true, kind, (32779, 14)), Found::Foreign),
-            (lay(false, true, other, NONE), Found::Foreign),
-            (lay(true, false, other, NONE), Found::Foreign),
-        ] {
-            finds(&rt, rt.alloc(), &on_disk, kind, Version::Two, found)?;
-        }
-    }
-    Ok(())
+    finds_each(&rt, rt.alloc(), Version::Two, LOOKS_FOR_TWO)
 }
 
 #[test]
@@ -464,84 +515,121 @@ fn is_refused(
     Ok(())
 }
 
+/// The disk of a store that is opened with other cells than it has.
+fn reopened(alloc: Global, disk: MemDisk, kind: Kind, version: Version) -> Result<MemDisk, Fail> {
+    match open_store(alloc, disk, kind, version, &[ZEROS, ZEROS]) {
+        Ok(store) => Ok(store.release()),
+        Err(refused) => Err(Fail::from(refused.fault)),
+    }
+}
+
+/// What is read of a blank disk that is opened, and again behind that.
+fn found_again(
+    alloc: Global,
+    kind: Kind,
+    version: Version,
+) -> Result<[Result<[u8; 32], StoreFault>; 2], Fail> {
+    let (made, disk) = opened(alloc, MemDisk::new(alloc, 40000)?, kind, version);
+    let (found, _) = opened(alloc, reopened(alloc, disk, kind, version)?, kind, version);
+    Ok([made, found])
+}
+
 #[test]
 fn a_blank_disk_gets_a_store_that_is_found_again(rt: HostRuntime) -> Result<(), Fail> {
-    let alloc = rt.alloc();
     for kind in [Kind::Twin, Kind::Log] {
         for version in [Version::One, Version::Two] {
-            let disk = MemDisk::new(alloc, 40000)?;
-            let (made, disk) = opened(alloc, disk, kind, version);
-            same(&rt, "made", &made, &Ok([0x22; 32]));
-            let (found, _) = match open_store(alloc, disk, kind, version, &[ZEROS, ZEROS]) {
-                Ok(store) => opened(alloc, store.release(), kind, version),
-                Err(refused) => return Err(Fail::from(refused.fault)),
-            };
-            same(&rt, "found", &found, &Ok([0x22; 32]));
+            let found = found_again(rt.alloc(), kind, version)?;
+            same(&rt, "found", &found, &[Ok([0x22; 32]); 2]);
         }
     }
     Ok(())
 }
+
+/// A version, whether stores of both versions stand there, and the byte that is changed.
+const FOREIGN: &[(Version, bool, (u64, u8))] = &[
+    (Version::One, true, NONE),
+    (Version::One, true, (0, 0)),
+    (Version::One, true, (31, 1)),
+    (Version::One, false, (31, 1)),
+    (Version::Two, true, NONE),
+    (Version::Two, true, (32768, 0)),
+    (Version::Two, true, (32799, 1)),
+    (Version::Two, false, (32799, 1)),
+];
 
 #[test]
 fn a_disk_with_anything_else_is_refused_as_it_was(rt: HostRuntime) -> Result<(), Fail> {
     for kind in [Kind::Twin, Kind::Log] {
-        for (version, byte) in [(Version::One, 0), (Version::Two, 32768)] {
-            for change in [NONE, (byte, 0), (byte + 31, 1)] {
-                let on_disk = lay(true, true, kind, change);
-                is_refused(&rt, rt.alloc(), &on_disk, version, StoreFault::NotFormatted)?;
-            }
-            let on_disk = lay(false, false, kind, (byte + 31, 1));
-            is_refused(&rt, rt.alloc(), &on_disk, version, StoreFault::NotFormatted)?;
+        for (version, both, change) in FOREIGN {
+            let laid = lay(*both, *both, kind, *change);
+            is_refused(&rt, rt.alloc(), &laid, *version, StoreFault::NotFormatted)?;
         }
     }
     Ok(())
 }
 
-#[test]
-fn a_damaged_store_and_a_small_disk_are_refused(rt: HostRuntime) -> Result<(), Fail> {
-    let alloc = rt.alloc();
-    for (kind, gate, number) in [(Kind::Twin, 100, 1), (Kind::Log, 32, 0)] {
-        let (_, mut disk) = opened(alloc, MemDisk::new(alloc, 40000)?, kind, Version::One);
-        holds(&rt, "gate <= 100", gate <= 100);
-        holds(&rt, "disk.size() == 40000", disk.size() == 40000);
-        disk.write(gate, &[0])?;
-        disk.write(gate + 34, &[0])?;
-        let (answer, _) = opened(alloc, disk, kind, Version::One);
-        same(&rt, "answer", &answer, &Err(StoreFault::Damaged(number)));
+/// What is answered where a store of version 1 has lost both gates from this place on.
+fn damaged(alloc: Global, kind: Kind, gate: u64) -> Result<Result<[u8; 32], StoreFault>, Fail> {
+    let (_, mut disk) = opened(alloc, MemDisk::new(alloc, 40000)?, kind, Version::One);
+    if gate > 100 || disk.size() != 40000 {
+        return Err(Fail::from("a gate"));
     }
-    let (answer, disk) = opened(alloc, MemDisk::new(alloc, 167)?, Kind::Twin, Version::One);
-    same(&rt, "answer", &answer, &Err(StoreFault::TooSmall));
-    holds(&rt, "disk.size()", disk.size() == 167);
-    Ok(())
+    disk.write(gate, &[0])?;
+    disk.write(gate + 34, &[0])?;
+    let (answer, _) = opened(alloc, disk, kind, Version::One);
+    Ok(answer)
 }
 
 #[test]
+fn a_damaged_store_and_a_small_disk_are_refused(rt: HostRuntime) -> Result<(), Fail> {
+    let answer = damaged(rt.alloc(), Kind::Twin, 100)?;
+    same(&rt, "a twin", &answer, &Err(StoreFault::Damaged(1)));
+    let answer = damaged(rt.alloc(), Kind::Log, 32)?;
+    same(&rt, "a log", &answer, &Err(StoreFault::Damaged(0)));
+    let disk = MemDisk::new(rt.alloc(), 167)?;
+    let (answer, disk) = opened(rt.alloc(), disk, Kind::Twin, Version::One);
+    same(&rt, "a small disk", &answer, &Err(StoreFault::TooSmall));
+    same(&rt, "a small disk", &disk.size(), &167);
+    Ok(())
+}
+
+/// What is answered over a disk that stops at this call, and behind a cut.
+fn stopped(alloc: Global, call: u64) -> Result<[Result<[u8; 32], StoreFault>; 2], Fail> {
+    if call == 0 {
+        return Err(Fail::from("no call"));
+    }
+    let mut disk = MemDisk::new(alloc, 168)?;
+    disk.stop_at(call);
+    let (answer, mut disk) = opened(alloc, disk, Kind::Twin, Version::One);
+    disk.power_cut(Torn::Old);
+    let (again, _) = opened(alloc, disk, Kind::Twin, Version::One);
+    Ok([answer, again])
+}
+
+/// A look, seven calls of a format, and three reads.
+#[test]
 fn opening_over_a_disk_that_stops_is_refused(rt: HostRuntime) -> Result<(), Fail> {
-    let alloc = rt.alloc();
-    // A look, seven calls of a format, and three reads.
-    for call in 1..12u8 {
-        let mut disk = MemDisk::new(alloc, 168)?;
-        disk.stop_at(u64::from(call));
-        let (answer, mut disk) = opened(alloc, disk, Kind::Twin, Version::One);
-        same(&rt, "answer", &answer, &Err(StoreFault::DiskFailed));
-        disk.power_cut(Torn::Old);
-        let (again, _) = opened(alloc, disk, Kind::Twin, Version::One);
-        same(&rt, "again", &again, &Ok([0x22; 32]));
+    for call in 1..12u64 {
+        let answers = stopped(rt.alloc(), call)?;
+        let wanted = [Err(StoreFault::DiskFailed), Ok([0x22; 32])];
+        same(&rt, call, &answers, &wanted);
     }
     Ok(())
 }
+
+const TEXTS: &[(StoreFault, &str)] = &[
+    (StoreFault::DiskFailed, "DiskFailed"),
+    (StoreFault::NotFormatted, "NotFormatted"),
+    (StoreFault::Damaged(0), "Damaged 0"),
+    (StoreFault::Damaged(1023), "Damaged 1023"),
+    (StoreFault::TooSmall, "TooSmall"),
+];
 
 #[test]
 fn faults_are_told_by_name_and_number(rt: HostRuntime) -> Result<(), Fail> {
-    for (fault, text) in [
-        (StoreFault::DiskFailed, "DiskFailed"),
-        (StoreFault::NotFormatted, "NotFormatted"),
-        (StoreFault::Damaged(0), "Damaged 0"),
-        (StoreFault::Damaged(1023), "Damaged 1023"),
-        (StoreFault::TooSmall, "TooSmall"),
-    ] {
-        let told = store_fault_text(rt.alloc(), fault)?;
-        same(&rt, "told", &told.as_str(), &text);
+    for (place, (fault, text)) in TEXTS.iter().enumerate() {
+        let told = store_fault_text(rt.alloc(), *fault)?;
+        same(&rt, place, &told.as_str(), text);
     }
     Ok(())
 }

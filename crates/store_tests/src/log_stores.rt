@@ -2,10 +2,11 @@
 ghost use Rattle.std.specs.Prelude.{◌≡◌, length, false, IfOk};
 
 use crate::comparing::{holds, same};
-use crate::cutting::{ELEVENS, ZEROS, put_and_cut};
+use crate::cutting::{EITHER, ELEVENS, NEW, OLD, TORN, ZEROS, is_either, put_and_cut};
 use cell_store::*;
 use cut_disk::{Disk, MemDisk, Torn};
 use std::alloc::Global;
+use std::process::Abort;
 use std::test::Fail;
 
 /// The header of a version's log store of one cell.
@@ -61,33 +62,37 @@ fn fresh_store(alloc: Global, version: Version) -> Result<LogCells<MemDisk>, Fai
     }
 }
 
-#[test]
-fn a_fresh_log_store_has_these_bytes(rt: HostRuntime) -> Result<(), Fail> {
-    let mut disk = fresh_store(rt.alloc(), Version::One)?.release();
+fn bytes_of_fresh(alloc: Global) -> Result<[u8; 4580], Fail> {
+    let mut disk = fresh_store(alloc, Version::One)?.release();
     let mut out = [0; 4580];
     read_from(&mut disk, Version::One, 0, &mut out)?;
-    same(&rt, "out", &out.as_slice(), &fresh_bytes().as_slice());
-    let mut disk = fresh_store(rt.alloc(), Version::Two)?.release();
-    let mut head = [0; 32];
-    read_from(&mut disk, Version::Two, 0, &mut head)?;
-    same(&rt, "head", &head, &head_of(Version::Two));
+    Ok(out)
+}
+
+/// What is found for either version on a disk with a fresh store of version 2 is none and that store.
+fn probes_two(rt: &impl Abort, disk: &mut MemDisk) {
     let found = Probe::Store {
         kind: Kind::Log,
         cells: 1,
     };
-    same(
-        &rt,
-        "probe(&mut disk)",
-        &probe(&mut disk),
-        &Ok(Probe::Blank),
-    );
-    same(
-        &rt,
-        "probe_as",
-        &probe_as(&mut disk, Version::Two),
-        &Ok(found),
-    );
+    same(rt, "probe", &probe(disk), &Ok(Probe::Blank));
+    same(rt, "probe_as", &probe_as(disk, Version::Two), &Ok(found));
+}
+
+fn begins_behind_the_base(rt: &impl Abort, alloc: Global) -> Result<(), Fail> {
+    let mut disk = fresh_store(alloc, Version::Two)?.release();
+    let mut head = [0; 32];
+    read_from(&mut disk, Version::Two, 0, &mut head)?;
+    same(rt, "head", &head, &head_of(Version::Two));
+    probes_two(rt, &mut disk);
     Ok(())
+}
+
+#[test]
+fn a_fresh_log_store_has_these_bytes(rt: HostRuntime) -> Result<(), Fail> {
+    let out = bytes_of_fresh(rt.alloc())?;
+    same(&rt, "out", &out.as_slice(), &fresh_bytes().as_slice());
+    begins_behind_the_base(&rt, rt.alloc())
 }
 
 #[test]
@@ -168,69 +173,94 @@ fn the_65th_and_the_130th_put_fill_the_other_bank(rt: HostRuntime) -> Result<(),
     Ok(())
 }
 
+/// Three bytes at a place, and the fault.
+const DAMAGES: &[(usize, [u8; 3], Option<StoreFault>)] = &[
+    (32, [0, 0, 0], Some(StoreFault::Damaged(0))),
+    (66, [0xa7, 0, 1], Some(StoreFault::Damaged(1))),
+    (101, [0xa7, 0, 0], Some(StoreFault::Damaged(2))),
+    (8, [1, 1, 0], Some(StoreFault::NotFormatted)),
+    (66, [0xa7, 0, 0], None),
+];
+
+/// Attaches the fresh bytes with these three at a place.
+fn attach_damaged(
+    alloc: Global,
+    place: usize,
+    changes: &[u8; 3],
+) -> Result<Option<StoreFault>, Fail> {
+    let mut bytes = fresh_bytes();
+    if place < 4577 {
+        bytes[place..place + 3].copy_from_slice(changes);
+    }
+    let disk = MemDisk::of(alloc, &bytes)?;
+    match LogCells::attach(alloc, disk, 1) {
+        Ok(_) => Ok(None),
+        Err(refused) => Ok(Some(refused.fault)),
+    }
+}
+
 #[test]
 fn damages_of_a_log_are_found(rt: HostRuntime) -> Result<(), Fail> {
-    let rows = [
-        (32, [0, 0, 0], Some(StoreFault::Damaged(0))),
-        (66, [0xa7, 0, 1], Some(StoreFault::Damaged(1))),
-        (101, [0xa7, 0, 0], Some(StoreFault::Damaged(2))),
-        (8, [1, 1, 0], Some(StoreFault::NotFormatted)),
-        (66, [0xa7, 0, 0], None),
-    ];
-    for (place, changes, fault) in &rows {
-        let mut bytes = fresh_bytes();
-        if *place < 4577 {
-            bytes[*place..*place + 3].copy_from_slice(changes);
-        }
-        let disk = MemDisk::of(rt.alloc(), &bytes)?;
-        let found = match LogCells::attach(rt.alloc(), disk, 1) {
-            Ok(_) => None,
-            Err(refused) => Some(refused.fault),
-        };
-        same(&rt, "found", &found, fault);
+    for (place, changes, fault) in DAMAGES {
+        let found = attach_damaged(rt.alloc(), *place, changes)?;
+        same(&rt, *place, &found, fault);
     }
     Ok(())
+}
+
+/// Of the call at which the disk stops, from 1, whether the cell is the new one behind each kind of cut.
+const IS_NEW: [[bool; 5]; 5] = [OLD, OLD, EITHER, EITHER, NEW];
+
+/// What a put into a fresh store and a cut come to.
+fn cut_in_a_put(
+    alloc: Global,
+    version: Version,
+    calls: u64,
+    torn: Torn,
+) -> Result<(bool, bool), Fail> {
+    if calls == 0 {
+        return Err(Fail::from("no call"));
+    }
+    let mut store = fresh_store(alloc, version)?;
+    let (done, cell) = put_and_cut(&mut store, 0, calls, torn)?;
+    is_either(done, &cell)
 }
 
 #[test]
 fn a_record_is_whole_or_absent_after_a_cut(rt: HostRuntime) -> Result<(), Fail> {
-    let torn = [
-        Torn::Keep,
-        Torn::Old,
-        Torn::Half,
-        Torn::Fill(0xa7),
-        Torn::Fill(0),
-    ];
-    let old = [false; 5];
-    let either = [true, false, true, true, false];
-    let new = [true; 5];
-    let rows = [old, old, either, either, new];
-    for version in &[Version::One, Version::Two] {
-        for (stop, row) in rows.iter().enumerate() {
-            for (torn, is_new) in torn.iter().zip(row) {
-                let mut store = fresh_store(rt.alloc(), *version)?;
-                let (done, cell) = put_and_cut(&mut store, 0, stop as u64 + 1, *torn)?;
-                same(&rt, "done", &done, &(stop == 4));
-                same(&rt, "cell", &cell, &(if *is_new { ELEVENS } else { ZEROS }));
-            }
+    for (stop, row) in IS_NEW.iter().enumerate() {
+        let calls = stop as u64 + 1;
+        for (torn, is_new) in TORN.iter().zip(row) {
+            let wanted = (calls == 5, *is_new);
+            let came = cut_in_a_put(rt.alloc(), Version::One, calls, *torn)?;
+            same(&rt, calls, &came, &wanted);
+            let came = cut_in_a_put(rt.alloc(), Version::Two, calls, *torn)?;
+            same(&rt, calls, &came, &wanted);
         }
     }
     Ok(())
 }
 
-#[test]
-fn a_log_store_has_up_to_1024_cells(rt: HostRuntime) -> Result<(), Fail> {
-    let alloc = rt.alloc();
+/// A store of 1024 cells of zeros.
+fn widest_store(alloc: Global) -> Result<LogCells<MemDisk>, Fail>
+    ensures count { IfOk result (λ s. length s.cells ≡ 1024) }
+    ensures whole { IfOk result (λ s. s.broken ≡ false) }
+{
     let cells = vec![in alloc; ZEROS; 1024]?;
     let disk = MemDisk::new(alloc, 70052)?;
     let disk = match LogCells::format(disk, &cells) {
         Ok(disk) => disk,
         Err(refused) => return Err(Fail::from(refused.fault)),
     };
-    let mut store = match LogCells::attach(alloc, disk, 1024) {
-        Ok(store) => store,
-        Err(refused) => return Err(Fail::from(refused.fault)),
-    };
+    match LogCells::attach(alloc, disk, 1024) {
+        Ok(store) => Ok(store),
+        Err(refused) => Err(Fail::from(refused.fault)),
+    }
+}
+
+#[test]
+fn a_log_store_has_up_to_1024_cells(rt: HostRuntime) -> Result<(), Fail> {
+    let mut store = widest_store(rt.alloc())?;
     let read = put_and_cut(&mut store, 1023, 5, Torn::Old)?;
     same(&rt, "read", &read, &(true, ELEVENS));
     Ok(())

@@ -5,6 +5,7 @@ use crate::comparing::holds;
 use crate::cutting::ELEVENS;
 use cell_store::{Cells, TwinCells};
 use cut_disk::{Disk, MemDisk};
+use std::alloc::Global;
 use std::test::Fail;
 use store_plan::{Plan, done, is_within, make, perform, plan_put};
 
@@ -35,33 +36,40 @@ fn a_fresh_image_is_what_format_writes(rt: HostRuntime) -> Result<(), Fail> {
     Ok(())
 }
 
+/// Plans a put of elevens, and performs it on the disk and on the image.
+fn puts(disk: &mut MemDisk, image: &mut [u8; 168], cell: u16) -> Result<(), Fail> {
+    let Ok(mut plan) = plan_put(image, cell, &ELEVENS) else {
+        return Err(Fail::from("there is no plan"));
+    };
+    if disk.size() < 168 || !is_within(&plan, 168) {
+        return Err(Fail::from("the plan reaches beyond the disk"));
+    }
+    perform(disk, &plan)?;
+    done(image, &mut plan);
+    Ok(())
+}
+
+/// The second cell of the store of two cells on this disk.
+fn second_cell(alloc: Global, disk: MemDisk) -> Result<[u8; 32], Fail> {
+    let store = match TwinCells::attach(alloc, disk, 2) {
+        Ok(store) => store,
+        Err(refused) => return Err(Fail::from(refused.fault)),
+    };
+    let mut cell = [0; 32];
+    store.get(1, &mut cell);
+    Ok(cell)
+}
+
 #[test]
 fn a_planned_put_is_what_a_store_reads(rt: HostRuntime) -> Result<(), Fail> {
     let mut image = [0; 168];
     make(&mut image, 2);
     let mut disk = MemDisk::of(rt.alloc(), &image)?;
     for cell in [0, 1, 1, 0, 1] {
-        let Ok(mut plan) = plan_put(&image, cell, &ELEVENS) else {
-            return Err(Fail::from("there is no plan"));
-        };
-        if disk.size() < 168 || !is_within(&plan, 168) {
-            return Err(Fail::from("the plan reaches beyond the disk"));
-        }
-        perform(&mut disk, &plan)?;
-        done(&mut image, &mut plan);
-        holds(
-            &rt,
-            "image == bytes_of(&mut disk)",
-            image == bytes_of(&mut disk)?,
-        );
+        puts(&mut disk, &mut image, cell)?;
+        holds(&rt, cell, image == bytes_of(&mut disk)?);
     }
-    let store = match TwinCells::attach(rt.alloc(), disk, 2) {
-        Ok(store) => store,
-        Err(refused) => return Err(Fail::from(refused.fault)),
-    };
-    let mut cell = [0; 32];
-    store.get(1, &mut cell);
-    holds(&rt, "cell == ELEVENS", cell == ELEVENS);
+    holds(&rt, "cell", second_cell(rt.alloc(), disk)? == ELEVENS);
     Ok(())
 }
 

@@ -1,8 +1,8 @@
 // Stores over disks in memory.
 ghost use Rattle.std.specs.Prelude.{◌≡◌, length, false, IfOk};
 
-use crate::comparing::{holds, same};
-use crate::cutting::{ELEVENS, ZEROS, put_and_cut};
+use crate::comparing::same;
+use crate::cutting::{EITHER, ELEVENS, NEW, OLD, TORN, ZEROS, is_either, put_and_cut};
 use cell_store::*;
 use cut_disk::{CutDisk, Disk, MemDisk, Torn};
 use std::alloc::Global;
@@ -57,55 +57,62 @@ fn fresh_store(alloc: Global, version: Version) -> Result<TwinCells<MemDisk>, Fa
     }
 }
 
+/// The bytes of a fresh store behind a put of elevens.
+fn bytes_behind_a_put(alloc: Global, version: Version) -> Result<[u8; 100], Fail> {
+    let mut store = fresh_store(alloc, version)?;
+    if store.count() != 1 || store.put(0, &ELEVENS).is_err() {
+        return Err(Fail::from("no put"));
+    }
+    bytes_of(&mut store.release(), version)
+}
+
 #[test]
 fn a_store_is_formatted_and_a_cell_is_put(rt: HostRuntime) -> Result<(), Fail> {
-    let alloc = rt.alloc();
-    for version in &VERSIONS {
-        let mut store = fresh_store(alloc, *version)?;
-        holds(&rt, "store.count()", store.count() == 1);
-        let put = store.put(0, &ELEVENS);
-        holds(&rt, "put.is_ok()", put.is_ok());
-        let mut disk = store.release();
-        let mut expected = fresh_bytes(*version);
+    for version in VERSIONS {
+        let mut expected = fresh_bytes(version);
         expected[67] = 1;
         expected[68..].copy_from_slice(&ELEVENS);
-        same(
-            &rt,
-            "bytes_of",
-            &bytes_of(&mut disk, *version)?.as_slice(),
-            &expected.as_slice(),
-        );
+        let bytes = bytes_behind_a_put(rt.alloc(), version)?;
+        same(&rt, "bytes", &bytes.as_slice(), &expected.as_slice());
     }
     Ok(())
+}
+
+fn bytes_of_fresh(alloc: Global, version: Version) -> Result<[u8; 100], Fail> {
+    let mut disk = fresh_store(alloc, version)?.release();
+    bytes_of(&mut disk, version)
 }
 
 #[test]
 fn a_fresh_store_has_these_bytes(rt: HostRuntime) -> Result<(), Fail> {
-    for version in &VERSIONS {
-        let mut disk = fresh_store(rt.alloc(), *version)?.release();
-        same(
-            &rt,
-            "bytes_of",
-            &bytes_of(&mut disk, *version)?.as_slice(),
-            &fresh_bytes(*version).as_slice(),
-        );
+    for version in VERSIONS {
+        let bytes = bytes_of_fresh(rt.alloc(), version)?;
+        let expected = fresh_bytes(version);
+        same(&rt, "bytes", &bytes.as_slice(), &expected.as_slice());
     }
     Ok(())
 }
 
-#[test]
-fn a_store_has_up_to_1024_cells(rt: HostRuntime) -> Result<(), Fail> {
-    let alloc = rt.alloc();
+/// A store of 1024 cells of zeros.
+fn widest_store(alloc: Global) -> Result<TwinCells<MemDisk>, Fail>
+    ensures count { IfOk result (λ s. length s.cells ≡ 1024) }
+    ensures whole { IfOk result (λ s. s.broken ≡ false) }
+{
     let cells = vec![in alloc; ZEROS; 1024]?;
     let disk = MemDisk::new(alloc, 69664)?;
     let disk = match TwinCells::format(disk, &cells) {
         Ok(disk) => disk,
         Err(refused) => return Err(Fail::from(refused.fault)),
     };
-    let mut store = match TwinCells::attach(alloc, disk, 1024) {
-        Ok(store) => store,
-        Err(refused) => return Err(Fail::from(refused.fault)),
-    };
+    match TwinCells::attach(alloc, disk, 1024) {
+        Ok(store) => Ok(store),
+        Err(refused) => Err(Fail::from(refused.fault)),
+    }
+}
+
+#[test]
+fn a_store_has_up_to_1024_cells(rt: HostRuntime) -> Result<(), Fail> {
+    let mut store = widest_store(rt.alloc())?;
     let read = put_and_cut(&mut store, 1023, 7, Torn::Old)?;
     same(&rt, "read", &read, &(true, ELEVENS));
     Ok(())
@@ -142,109 +149,127 @@ fn attach_damaged(alloc: Global, changes: &[(usize, u8); 2]) -> Result<Option<St
     }
 }
 
+const DAMAGES: &[((usize, u8), (usize, u8), Option<StoreFault>)] = &[
+    ((32, 0), (66, 0), Some(StoreFault::Damaged(0))),
+    ((33, 2), (33, 2), Some(StoreFault::Damaged(0))),
+    ((0, 0), (0, 0), Some(StoreFault::NotFormatted)),
+    ((66, 0), (66, 0), None),
+];
+
 #[test]
 fn damaged_bytes_are_found(rt: HostRuntime) -> Result<(), Fail> {
-    let rows = [
-        ([(32, 0), (66, 0)], Some(StoreFault::Damaged(0))),
-        ([(33, 2), (33, 2)], Some(StoreFault::Damaged(0))),
-        ([(0, 0), (0, 0)], Some(StoreFault::NotFormatted)),
-        ([(66, 0), (66, 0)], None),
-    ];
-    for (changes, fault) in &rows {
-        same(
-            &rt,
-            "attach_damaged",
-            &attach_damaged(rt.alloc(), changes)?,
-            fault,
-        );
+    for (first, second, fault) in DAMAGES {
+        let found = attach_damaged(rt.alloc(), &[*first, *second])?;
+        same(&rt, "found", &found, fault);
     }
     Ok(())
 }
 
+/// Of the call at which the disk stops, from 1, whether the cell is the new one behind each kind of cut.
+const IS_NEW: [[bool; 5]; 7] = [OLD, OLD, OLD, OLD, EITHER, EITHER, NEW];
+
+/// What a put into a fresh store and a cut come to.
+fn cut_in_a_put(alloc: Global, calls: u64, torn: Torn) -> Result<(bool, bool), Fail> {
+    if calls == 0 {
+        return Err(Fail::from("no call"));
+    }
+    let mut store = fresh_store(alloc, Version::One)?;
+    let (done, cell) = put_and_cut(&mut store, 0, calls, torn)?;
+    is_either(done, &cell)
+}
+
 #[test]
 fn a_put_is_whole_or_absent_after_a_cut(rt: HostRuntime) -> Result<(), Fail> {
-    let torn = [
-        Torn::Keep,
-        Torn::Old,
-        Torn::Half,
-        Torn::Fill(0xa7),
-        Torn::Fill(0),
-    ];
-    let old = [false; 5];
-    let either = [true, false, true, true, false];
-    let new = [true; 5];
-    let rows = [old, old, old, old, either, either, new];
-    for (stop, row) in rows.iter().enumerate() {
+    for (stop, row) in IS_NEW.iter().enumerate() {
         let calls = stop as u64 + 1;
-        for (torn, is_new) in torn.iter().zip(row) {
-            let mut store = fresh_store(rt.alloc(), Version::One)?;
-            let (done, cell) = put_and_cut(&mut store, 0, calls, *torn)?;
-            same(&rt, "done", &done, &(calls == 7));
-            same(&rt, "cell", &cell, &(if *is_new { ELEVENS } else { ZEROS }));
+        for (torn, is_new) in TORN.iter().zip(row) {
+            let came = cut_in_a_put(rt.alloc(), calls, *torn)?;
+            same(&rt, calls, &came, &(calls == 7, *is_new));
         }
     }
     Ok(())
 }
 
+/// A disk to be probed: blank with so many bytes, or with a fresh store of one cell, whose number of the kind is this
+/// byte; and a fresh store of version 2.
+#[derive(Clone, Copy)]
+enum Probed {
+    Blank(usize),
+    Fresh(u8),
+    FreshTwo,
+}
+
+fn disk_of(alloc: Global, probed: Probed) -> Result<MemDisk, Fail> {
+    match probed {
+        Probed::Blank(size) => {
+            if size > 65_536 {
+                return Err(Fail::from("a large disk"));
+            }
+            Ok(MemDisk::new(alloc, size)?)
+        }
+        Probed::Fresh(kind) => {
+            let mut bytes = fresh_bytes(Version::One);
+            bytes[8] = kind;
+            Ok(MemDisk::of(alloc, &bytes)?)
+        }
+        Probed::FreshTwo => Ok(fresh_store(alloc, Version::Two)?.release()),
+    }
+}
+
+/// What is found on it for this version, where its disk stops at this call; at none for 0.
+fn found_on(
+    alloc: Global,
+    probed: Probed,
+    version: Version,
+    stop: u64,
+) -> Result<Result<Probe, StoreFault>, Fail> {
+    let mut disk = disk_of(alloc, probed)?;
+    if stop > 0 {
+        disk.stop_at(stop);
+    }
+    match version {
+        Version::One => Ok(probe(&mut disk)),
+        Version::Two => Ok(probe_as(&mut disk, Version::Two)),
+    }
+}
+
+const FOUND: Probe = Probe::Store {
+    kind: Kind::Twin,
+    cells: 1,
+};
+
+const PROBES: &[(Probed, Version, u64, Result<Probe, StoreFault>)] = &[
+    (Probed::Blank(32), Version::One, 0, Ok(Probe::Blank)),
+    (
+        Probed::Blank(31),
+        Version::One,
+        0,
+        Err(StoreFault::TooSmall),
+    ),
+    (Probed::Fresh(1), Version::One, 0, Ok(FOUND)),
+    (Probed::Fresh(3), Version::One, 0, Ok(Probe::Foreign)),
+    (
+        Probed::Fresh(3),
+        Version::One,
+        1,
+        Err(StoreFault::DiskFailed),
+    ),
+    (Probed::FreshTwo, Version::One, 0, Ok(Probe::Blank)),
+    (Probed::FreshTwo, Version::Two, 0, Ok(FOUND)),
+    (
+        Probed::Blank(32_799),
+        Version::Two,
+        0,
+        Err(StoreFault::TooSmall),
+    ),
+];
+
 #[test]
 fn the_first_bytes_are_probed(rt: HostRuntime) -> Result<(), Fail> {
-    let alloc = rt.alloc();
-    let mut disk = MemDisk::new(alloc, 32)?;
-    same(
-        &rt,
-        "probe(&mut disk)",
-        &probe(&mut disk),
-        &Ok(Probe::Blank),
-    );
-    let mut disk = MemDisk::new(alloc, 31)?;
-    same(
-        &rt,
-        "probe(&mut disk)",
-        &probe(&mut disk),
-        &Err(StoreFault::TooSmall),
-    );
-    let mut bytes = fresh_bytes(Version::One);
-    let mut disk = MemDisk::of(alloc, &bytes)?;
-    let found = Probe::Store {
-        kind: Kind::Twin,
-        cells: 1,
-    };
-    same(&rt, "probe(&mut disk)", &probe(&mut disk), &Ok(found));
-    bytes[8] = 3;
-    let mut disk = MemDisk::of(alloc, &bytes)?;
-    same(
-        &rt,
-        "probe(&mut disk)",
-        &probe(&mut disk),
-        &Ok(Probe::Foreign),
-    );
-    disk.stop_at(1);
-    same(
-        &rt,
-        "probe(&mut disk)",
-        &probe(&mut disk),
-        &Err(StoreFault::DiskFailed),
-    );
-    let mut disk = fresh_store(alloc, Version::Two)?.release();
-    same(
-        &rt,
-        "probe(&mut disk)",
-        &probe(&mut disk),
-        &Ok(Probe::Blank),
-    );
-    same(
-        &rt,
-        "probe_as",
-        &probe_as(&mut disk, Version::Two),
-        &Ok(found),
-    );
-    let mut disk = MemDisk::new(alloc, 32799)?;
-    same(
-        &rt,
-        "probe_as",
-        &probe_as(&mut disk, Version::Two),
-        &Err(StoreFault::TooSmall),
-    );
+    for (place, (probed, version, stop, answer)) in PROBES.iter().enumerate() {
+        let found = found_on(rt.alloc(), *probed, *version, *stop)?;
+        same(&rt, place, &found, answer);
+    }
     Ok(())
 }
 

@@ -1,6 +1,6 @@
 //! What a start doesn't go on over: each fault with its node, and the disks as they were.
 use crate::attached::{SIZE, pair};
-use crate::bench::{bytes_of, disks, starts};
+use crate::bench::{bytes_at, disks, starts};
 use crate::comparing::same;
 use any_cells::AnyCells;
 use bus_world::{Start, StartFault};
@@ -116,11 +116,21 @@ const ROWS: &[Row] = &[
     Row(LOG_ONE, LOG_TWO, 2, Harm::Fails(3), FAILED),
 ];
 
-/// The disks of the bus, formatted as these stores.
-fn standing(alloc: Global, store: (Kind, Version)) -> Result<Vec<MemDisk>, Fail> {
+/// A start over these disks as such stores.
+fn starts_as(
+    alloc: Global,
+    store: (Kind, Version),
+    made: &mut Vec<MemDisk>,
+    start: Start,
+) -> Result<Option<StartFault>, Fail> {
     let bus = pair(alloc, store.0, store.1)?;
+    Ok(starts(alloc, &bus, made, start))
+}
+
+/// The disks of the bus, formatted as these stores.
+pub(crate) fn standing(alloc: Global, store: (Kind, Version)) -> Result<Vec<MemDisk>, Fail> {
     let mut made = disks(alloc, &[SIZE, SIZE])?;
-    match starts(alloc, &bus, &mut made, Start::Format) {
+    match starts_as(alloc, store, &mut made, Start::Format)? {
         None => Ok(made),
         Some(fault) => Err(Fail::from(fault)),
     }
@@ -138,26 +148,38 @@ fn with_cell(alloc: Global, store: (Kind, Version), cell: u16) -> Result<MemDisk
     }
 }
 
-/// Does this harm to a disk, but for a failure of a call.
-fn harms(
-    alloc: Global,
-    disk: MemDisk,
-    store: (Kind, Version),
-    harm: Harm,
-) -> Result<MemDisk, Fail> {
-    let mut disk = disk;
-    match harm {
-        Harm::Bytes(places, byte) => {
-            for place in places {
-                if *place < disk.size() {
-                    disk.write(*place, &[byte])?;
-                }
-            }
-            disk.sync()?;
-            Ok(disk)
+/// These bytes of a disk become this.
+fn writes(disk: &mut MemDisk, places: &[u64], byte: u8) -> Result<(), Fail> {
+    for place in places {
+        if *place < disk.size() {
+            disk.write(*place, &[byte])?;
         }
-        Harm::Cell(cell) => with_cell(alloc, store, cell),
-        Harm::Fails(_) => Ok(disk),
+    }
+    disk.sync()?;
+    Ok(())
+}
+
+/// Does the harm of a row to the disk of its node, but for a failure of a call.
+fn harms(alloc: Global, disks: &mut [MemDisk], row: &Row) -> Result<(), Fail> {
+    let place = usize::from(row.2).saturating_sub(1);
+    if place >= disks.len() {
+        return Err(Fail::from("no disk"));
+    }
+    match row.3 {
+        Harm::Bytes(places, byte) => writes(&mut disks[place], places, byte)?,
+        Harm::Cell(cell) => disks[place] = with_cell(alloc, row.0, cell)?,
+        Harm::Fails(_) => {}
+    }
+    Ok(())
+}
+
+/// Arms the failure of a row.
+fn arms(disks: &mut [MemDisk], row: &Row) {
+    let place = usize::from(row.2).saturating_sub(1);
+    if let Harm::Fails(call) = row.3 {
+        if call >= 1 && place < disks.len() {
+            disks[place].fail_at(call);
+        }
     }
 }
 
@@ -170,45 +192,29 @@ fn fault_of(number: u8, refused: Refused) -> Result<StartFault, Fail> {
     })
 }
 
-/// The disks of a row, and the bytes of the one that was harmed.
-fn lay(alloc: Global, row: &Row) -> Result<(Vec<MemDisk>, Vec<u8>), Fail> {
-    let Row(stood, _, number, harm, _) = row;
-    let mut made = standing(alloc, *stood)?;
-    let place = usize::from(*number).saturating_sub(1);
-    if place >= made.len() {
-        return Err(Fail::from("a disk"));
-    }
-    let mut disk = harms(alloc, made.remove(place), *stood, *harm)?;
-    let bytes = bytes_of(alloc, &mut disk)?;
-    if let Harm::Fails(call) = harm {
-        if *call >= 1 {
-            disk.fail_at(*call);
-        }
-    }
-    made.insert(place, disk)?;
-    Ok((made, bytes))
+/// The start over the disks of a row is refused. Bytes are as they were, but where a store was moved before its cells were
+/// looked at.
+fn is_refused(
+    rt: &impl Abort,
+    alloc: Global,
+    row: &Row,
+    made: &mut Vec<MemDisk>,
+) -> Result<(), Fail> {
+    let Row(stood, store, number, _, refused) = *row;
+    let before = bytes_at(made.as_mut_slice(), number)?;
+    arms(made.as_mut_slice(), row);
+    let fault = starts_as(alloc, store, made, Start::Attach)?;
+    same(rt, "fault", &fault, &Some(fault_of(number, refused)?));
+    let after = bytes_at(made.as_mut_slice(), number)?;
+    let is_moved = stood.1 != store.1 && !matches!(refused, Refused::Store(_));
+    same(rt, "after == before", &(after == before), &(!is_moved));
+    Ok(())
 }
 
-/// Bytes are as they were, but where a store was moved before its cells were looked at.
 fn refuses(rt: &impl Abort, alloc: Global, row: &Row) -> Result<(), Fail> {
-    let (mut made, before) = lay(alloc, row)?;
-    let Row(stood, store, number, _, refused) = row;
-    let bus = pair(alloc, store.0, store.1)?;
-    let fault = starts(alloc, &bus, &mut made, Start::Attach);
-    same(rt, "fault", &fault, &Some(fault_of(*number, *refused)?));
-    let place = usize::from(*number).saturating_sub(1);
-    if place >= made.len() {
-        return Err(Fail::from("a disk"));
-    }
-    let after = bytes_of(alloc, &mut made[place])?;
-    let is_moved = stood.1 != store.1 && !matches!(refused, Refused::Store(_));
-    same(
-        rt,
-        "after.as_slice() == before",
-        &(after.as_slice() == before.as_slice()),
-        &(!is_moved),
-    );
-    Ok(())
+    let mut made = standing(alloc, row.0)?;
+    harms(alloc, made.as_mut_slice(), row)?;
+    is_refused(rt, alloc, row, &mut made)
 }
 
 #[test]
