@@ -76,42 +76,65 @@ fn a_node_takes_its_turns_alone(rt: HostRuntime) -> Result<(), Fail> {
     Ok(())
 }
 
+/// What a start is refused by.
+#[derive(Clone, Copy)]
+enum Refused {
+    TooFew,
+    TooSmall(u8),
+    Store(u8, Reread),
+    BadSlot(u8, u8),
+    BadBound(u8, u16),
+    Memory,
+}
+
+fn fault_of(refused: Refused) -> Result<StartFault, &'static str> {
+    let fault = match refused {
+        Refused::TooFew => StartFault::TooFew,
+        Refused::TooSmall(number) => StartFault::TooSmall(number),
+        Refused::Store(number, fault) => StartFault::Store(number, fault),
+        Refused::BadSlot(number, slot) => {
+            StartFault::BadSlot(number, SlotId::new(slot).ok_or("a slot")?)
+        }
+        Refused::BadBound(number, cell) => StartFault::BadBound(number, cell),
+        Refused::Memory => StartFault::Memory,
+    };
+    Ok(fault)
+}
+
+/// The status and the text of each.
+const REFUSALS: &[(Refused, u8, &str)] = &[
+    (Refused::TooFew, 9, "disks: too few\n"),
+    (Refused::TooSmall(2), 9, "disks: node 2 too small\n"),
+    (
+        Refused::Store(1, Reread::DiskFailed),
+        10,
+        "store: node 1: DiskFailed\n",
+    ),
+    (
+        Refused::Store(8, Reread::NotFormatted),
+        10,
+        "store: node 8: NotFormatted\n",
+    ),
+    (
+        Refused::Store(3, Reread::Damaged(17)),
+        10,
+        "store: node 3: Damaged 17\n",
+    ),
+    (Refused::BadSlot(1, 13), 10, "store: node 1: BadSlot 13\n"),
+    (
+        Refused::BadBound(2, 269),
+        10,
+        "store: node 2: BadBound 269\n",
+    ),
+    (Refused::Memory, 7, ""),
+];
+
 #[test]
 fn a_start_that_is_refused_has_its_row(rt: HostRuntime) -> Result<(), Fail> {
-    let slot = SlotId::new(13).ok_or("a slot")?;
-    for (fault, status, text) in [
-        (StartFault::TooFew, 9, "disks: too few\n"),
-        (StartFault::TooSmall(2), 9, "disks: node 2 too small\n"),
-        (
-            StartFault::Store(1, Reread::DiskFailed),
-            10,
-            "store: node 1: DiskFailed\n",
-        ),
-        (
-            StartFault::Store(8, Reread::NotFormatted),
-            10,
-            "store: node 8: NotFormatted\n",
-        ),
-        (
-            StartFault::Store(3, Reread::Damaged(17)),
-            10,
-            "store: node 3: Damaged 17\n",
-        ),
-        (
-            StartFault::BadSlot(1, slot),
-            10,
-            "store: node 1: BadSlot 13\n",
-        ),
-        (
-            StartFault::BadBound(2, 269),
-            10,
-            "store: node 2: BadBound 269\n",
-        ),
-        (StartFault::Memory, 7, ""),
-    ] {
-        let refusal = start_refusal(rt.alloc(), &fault);
-        same(&rt, "refusal.status()", &refusal.status(), &status);
-        same(&rt, "refusal.text()", &refusal.text(), &text);
+    for (refused, status, text) in REFUSALS {
+        let refusal = start_refusal(rt.alloc(), &fault_of(*refused)?);
+        same(&rt, *text, &refusal.status(), status);
+        same(&rt, *text, &refusal.text(), text);
     }
     Ok(())
 }

@@ -1,16 +1,16 @@
 //! Worlds that go on where their disks stand: further lives, stores that are moved to version 2, and the most routes.
 use crate::bench::{
-    Act, Bench, NodeRow, RouteRow, Row, STORES, Told, are_of, bus_of, disk, disks, node, route,
+    Act, NodeRow, RouteRow, Row, STORES, Told, are_of, bus_of, disk, disks, lives, node, route,
     starts,
 };
-use crate::comparing::{holds, same};
-use crate::lives::{marks, tape};
+use crate::comparing::same;
+use crate::lives::{have_marks, tapes};
 use any_cells::AnyCells;
 use bus_nodes::BusConfig;
 use bus_world::{Start, StartFault};
 use cell_store::{Kind, Reread, Version};
 use cut_disk::{CutDisk, Disk, MemDisk};
-use freshness_routes::Direction;
+use freshness_routes::{Direction, Route};
 use key_slots::Erc;
 use secoc_node::first_cells;
 use std::alloc::Global;
@@ -61,66 +61,59 @@ pub(crate) fn pair(alloc: Global, kind: Kind, version: Version) -> Result<BusCon
 }
 
 /// A life over these disks, which come back.
-fn lives<D: CutDisk + Drop>(
-    rt: &impl Abort,
-    bus: &BusConfig,
-    disks: Vec<D>,
-    rows: &[Row],
-    alloc: Global,
-) -> Result<Vec<D>, Fail> {
-    let mut bench = Bench::new(alloc, bus, disks, 2, Start::Attach)?;
-    bench.tells(rt, alloc, rows)?;
-    Ok(bench.end())
-}
-
-/// The first life of the bus, and the second, over these disks.
-fn two_lives<D: CutDisk + Drop>(
+fn lives_in<D: CutDisk + Drop>(
     rt: &impl Abort,
     alloc: Global,
     store: (Kind, Version),
     disks: Vec<D>,
+    rows: &[Row],
 ) -> Result<Vec<D>, Fail> {
     let bus = pair(alloc, store.0, store.1)?;
-    let disks = lives(rt, &bus, disks, FIRST_LIFE, alloc)?;
-    lives(rt, &bus, disks, SECOND_LIFE, alloc)
+    lives(rt, alloc, &bus, disks, 2, Start::Attach, rows)
+}
+
+/// The first life of the bus over stores of the first version, and its second over those of the other.
+fn two_lives<D: CutDisk + Drop>(
+    rt: &impl Abort,
+    alloc: Global,
+    kind: Kind,
+    versions: (Version, Version),
+    disks: Vec<D>,
+) -> Result<Vec<D>, Fail> {
+    let disks = lives_in(rt, alloc, (kind, versions.0), disks, FIRST_LIFE)?;
+    lives_in(rt, alloc, (kind, versions.1), disks, SECOND_LIFE)
 }
 
 /// The size of each disk.
 pub(crate) const SIZE: usize = 40_000;
 
+/// Both lives over disks in memory, which come back in their order.
+fn goes_on(rt: &impl Abort, alloc: Global, kind: Kind, version: Version) -> Result<(), Fail> {
+    let made = disks(alloc, &[SIZE, SIZE])?;
+    let made = two_lives(rt, alloc, kind, (version, version), made)?;
+    are_of(rt, made.as_slice(), &[SIZE, SIZE]);
+    Ok(())
+}
+
 #[test]
 fn a_bus_goes_on_where_its_disks_stand(rt: HostRuntime) -> Result<(), Fail> {
-    for store in STORES {
-        let disks = disks(rt.alloc(), &[SIZE, SIZE])?;
-        let disks = two_lives(&rt, rt.alloc(), store, disks)?;
-        are_of(&rt, disks.as_slice(), &[SIZE, SIZE]);
+    for (kind, version) in STORES {
+        goes_on(&rt, rt.alloc(), kind, version)?;
     }
     Ok(())
+}
+
+/// Both lives over disks that tell their past, which has no mark.
+fn adds_no_mark(rt: &impl Abort, alloc: Global, kind: Kind) -> Result<(), Fail> {
+    let made = tapes(alloc, &[6_001, 6_002])?;
+    let made = two_lives(rt, alloc, kind, (Version::One, Version::One), made)?;
+    have_marks(rt, made.as_slice(), &[&[], &[]])
 }
 
 #[test]
 fn a_second_life_adds_to_the_past_of_its_disks(rt: HostRuntime) -> Result<(), Fail> {
-    for kind in [Kind::Twin, Kind::Log] {
-        let mut disks = Vec::new(rt.alloc());
-        for size in [6_001, 6_002] {
-            disks.push(tape(rt.alloc(), size)?)?;
-        }
-        let disks = two_lives(&rt, rt.alloc(), (kind, Version::One), disks)?;
-        for disk in disks.as_slice() {
-            same(&rt, "marks", &marks(rt.alloc(), disk)?.len(), &0);
-        }
-    }
-    Ok(())
-}
-
-/// Whether a disk has these bytes at a place.
-fn has(alloc: Global, disk: &mut MemDisk, place: u64, bytes: &[u8]) -> Result<bool, Fail> {
-    if bytes.len() > 64 || place > 40_000 || disk.size() < 40_064 {
-        return Err(Fail::from("a place"));
-    }
-    let mut read = vec![in alloc; 0; bytes.len()]?;
-    disk.read(place, read.as_mut_slice())?;
-    Ok(read.as_slice() == bytes)
+    adds_no_mark(&rt, rt.alloc(), Kind::Twin)?;
+    adds_no_mark(&rt, rt.alloc(), Kind::Log)
 }
 
 /// The header of fifteen cells in version 2.
@@ -129,87 +122,106 @@ const HEADERS: [(Kind, &[u8]); 2] = [
     (Kind::Log, b"SECOCST1\x02\x02\x00\x0f"),
 ];
 
-/// The disks of a bus that lived over stores of version 1 and then over those of version 2.
-fn moved(rt: &impl Abort, alloc: Global, kind: Kind) -> Result<Vec<MemDisk>, Fail> {
-    let one = pair(alloc, kind, Version::One)?;
-    let disks = disks(alloc, &[65_536, 65_536])?;
-    let disks = lives(rt, &one, disks, FIRST_LIFE, alloc)?;
-    let two = pair(alloc, kind, Version::Two)?;
-    lives(rt, &two, disks, SECOND_LIFE, alloc)
+/// A disk has this header, and zeros behind it, where a store of version 2 begins.
+fn is_headed(rt: &impl Abort, disk: &mut MemDisk, header: &[u8]) -> Result<(), Fail> {
+    let mut read = [0xff; 32];
+    if disk.size() != 65_536 {
+        return Err(Fail::from("a disk of another size"));
+    }
+    disk.read(32_768, &mut read)?;
+    same(rt, "the header", &&read[..12], &header);
+    same(rt, "behind the header", &&read[12..], &[0; 20].as_slice());
+    Ok(())
 }
 
-/// Both disks have this header where a store of version 2 begins.
-fn are_headed(
+fn are_headed(rt: &impl Abort, disks: &mut [MemDisk], header: &[u8]) -> Result<(), Fail> {
+    for disk in disks.iter_mut() {
+        is_headed(rt, disk, header)?;
+    }
+    Ok(())
+}
+
+/// Version 1 refuses disks that were moved.
+fn are_refused(
     rt: &impl Abort,
     alloc: Global,
-    disks: &mut [MemDisk],
-    header: &[u8],
+    kind: Kind,
+    disks: &mut Vec<MemDisk>,
 ) -> Result<(), Fail> {
-    holds(rt, "disks.len()", disks.len() == 2);
-    for disk in disks.iter_mut() {
-        holds(rt, "has", has(alloc, disk, 32_768, header)?);
-        holds(rt, "has", has(alloc, disk, 32_780, &[0; 20])?);
-    }
+    let one = pair(alloc, kind, Version::One)?;
+    let fault = starts(alloc, &one, disks, Start::Attach);
+    let wanted = StartFault::Store(1, Reread::NotFormatted);
+    same(rt, "starts", &fault, &Some(wanted));
+    Ok(())
+}
+
+/// A bus lives over stores of version 1, and then over those of version 2.
+fn is_moved(rt: &impl Abort, alloc: Global, kind: Kind, header: &[u8]) -> Result<(), Fail> {
+    let made = disks(alloc, &[65_536, 65_536])?;
+    let mut made = two_lives(rt, alloc, kind, (Version::One, Version::Two), made)?;
+    are_headed(rt, made.as_mut_slice(), header)?;
+    are_refused(rt, alloc, kind, &mut made)?;
+    are_of(rt, made.as_slice(), &[65_536, 65_536]);
     Ok(())
 }
 
 #[test]
 fn a_store_is_moved_and_counts_from_then_on(rt: HostRuntime) -> Result<(), Fail> {
     for (kind, header) in HEADERS {
-        let alloc = rt.alloc();
-        let mut made = moved(&rt, alloc, kind)?;
-        are_headed(&rt, alloc, made.as_mut_slice(), header)?;
-        let one = pair(alloc, kind, Version::One)?;
-        let fault = StartFault::Store(1, Reread::NotFormatted);
-        same(
-            &rt,
-            "starts",
-            &starts(alloc, &one, &mut made, Start::Attach),
-            &Some(fault),
-        );
-        are_of(&rt, made.as_slice(), &[65_536, 65_536]);
+        is_moved(&rt, rt.alloc(), kind, header)?;
     }
     Ok(())
 }
 
-/// A bus of one node with 256 routes, in version 2.
-fn crowded(alloc: Global, kind: Kind) -> Result<BusConfig, Fail> {
+fn most_routes(alloc: Global) -> Result<Vec<Route>, Fail> {
     let mut routes = Vec::new(alloc);
     for id in 0..256u16 {
         routes.push(route(id, Direction::Receives, 4, 1, 0)?)?;
     }
+    Ok(routes)
+}
+
+/// A bus of one node with 256 routes, in version 2.
+fn crowded(alloc: Global, kind: Kind) -> Result<BusConfig, Fail> {
     let mut nodes = Vec::new(alloc);
-    nodes.push(node(b"a", 1, routes)?)?;
+    nodes.push(node(b"a", 1, most_routes(alloc)?)?)?;
     Ok(BusConfig::new(kind, Version::Two, nodes).ok_or("a bus")?)
 }
 
-/// The disk of that node, with a store of version 1 where it is older.
-fn crowded_disk(alloc: Global, bus: &BusConfig, is_older: bool) -> Result<MemDisk, Fail> {
-    let disk = disk(alloc, 65_536)?;
+/// The disk of that node.
+fn crowded_disks(alloc: Global, disk: MemDisk) -> Result<Vec<MemDisk>, Fail> {
+    let mut disks = Vec::new(alloc);
+    disks.push(disk)?;
+    Ok(disks)
+}
+
+/// A disk with a store of that node in version 1.
+fn older_disk(alloc: Global, bus: &BusConfig) -> Result<MemDisk, Fail> {
     let mut cells = [[0; 32]; 270];
     for line in bus.nodes() {
         first_cells(&line.config, &mut cells);
     }
-    if !is_older {
-        return Ok(disk);
-    }
-    match AnyCells::format_as(disk, bus.kind(), Version::One, &cells) {
+    match AnyCells::format_as(disk(alloc, 65_536)?, bus.kind(), Version::One, &cells) {
         Ok(disk) => Ok(disk),
         Err(refused) => Err(Fail::from(refused.fault)),
     }
+}
+
+/// Two lives of that bus over this disk.
+fn crowd_lives(rt: &impl Abort, alloc: Global, bus: &BusConfig, disk: MemDisk) -> Result<(), Fail> {
+    let disks = crowded_disks(alloc, disk)?;
+    let disks = lives(rt, alloc, bus, disks, 2, Start::Attach, &[])?;
+    let disks = lives(rt, alloc, bus, disks, 2, Start::Attach, &[])?;
+    are_of(rt, disks.as_slice(), &[65_536]);
+    Ok(())
 }
 
 #[test]
 fn a_node_of_256_routes_goes_on(rt: HostRuntime) -> Result<(), Fail> {
     for kind in [Kind::Twin, Kind::Log] {
         let bus = crowded(rt.alloc(), kind)?;
-        for is_older in [false, true] {
-            let mut disks = Vec::new(rt.alloc());
-            disks.push(crowded_disk(rt.alloc(), &bus, is_older)?)?;
-            let disks = lives(&rt, &bus, disks, &[], rt.alloc())?;
-            let disks = lives(&rt, &bus, disks, &[], rt.alloc())?;
-            are_of(&rt, disks.as_slice(), &[65_536]);
-        }
+        crowd_lives(&rt, rt.alloc(), &bus, disk(rt.alloc(), 65_536)?)?;
+        crowd_lives(&rt, rt.alloc(), &bus, older_disk(rt.alloc(), &bus)?)?;
     }
     Ok(())
 }

@@ -317,18 +317,27 @@ pub(crate) fn starts<D: CutDisk>(
 }
 
 /// The bytes of a disk of 40,000.
-pub(crate) fn bytes_of(alloc: Global, disk: &mut MemDisk) -> Result<Vec<u8>, Fail> {
+fn bytes_of(disk: &mut MemDisk) -> Result<[u8; 40_000], Fail> {
+    let mut bytes = [0; 40_000];
     if disk.size() != 40_000 {
         return Err(Fail::from("a disk of another size"));
     }
-    let mut bytes = vec![in alloc; 0; 40_000]?;
-    disk.read(0, bytes.as_mut_slice())?;
+    disk.read(0, &mut bytes)?;
     Ok(bytes)
+}
+
+/// The bytes of the disk of the node with this number, from 1.
+pub(crate) fn bytes_at(disks: &mut [MemDisk], number: u8) -> Result<[u8; 40_000], Fail> {
+    let place = usize::from(number).saturating_sub(1);
+    if place >= disks.len() {
+        return Err(Fail::from("no disk"));
+    }
+    bytes_of(&mut disks[place])
 }
 
 /// A world over its disks, and the disks that it doesn't take. Contracts see the world.
 #[derive(Drop)]
-pub(crate) struct Bench<D: CutDisk + Drop> {
+struct Bench<D: CutDisk + Drop> {
     world: World<D>,
     spare: Vec<D>,
     nodes: usize,
@@ -351,7 +360,7 @@ impl<D: CutDisk + Drop> Model for Bench<D> {
 
 impl<D: CutDisk + Drop> Bench<D> {
     /// A new world over the first of these disks, for so many events.
-    pub(crate) fn new(
+    fn new(
         alloc: Global,
         bus: &BusConfig,
         disks: Vec<D>,
@@ -381,12 +390,7 @@ impl<D: CutDisk + Drop> Bench<D> {
     }
 
     /// Does the events of these rows, and compares their lines.
-    pub(crate) fn tells(
-        &mut self,
-        rt: &impl Abort,
-        alloc: Global,
-        rows: &[Row],
-    ) -> Result<(), Fail> {
+    fn tells(&mut self, rt: &impl Abort, alloc: Global, rows: &[Row]) -> Result<(), Fail> {
         for (place, row) in rows.iter().enumerate() {
             let event = event_of(alloc, row)?;
             let line = self.answer(&event)?;
@@ -396,10 +400,25 @@ impl<D: CutDisk + Drop> Bench<D> {
     }
 
     /// All disks, those of the world first.
-    pub(crate) fn end(self) -> Vec<D> {
+    fn end(self) -> Vec<D> {
         let Bench { world, spare, .. } = self;
         let mut disks = spare;
         world.finish(&mut disks);
         disks
     }
+}
+
+/// A life of so many events over these disks, which come back.
+pub(crate) fn lives<D: CutDisk + Drop>(
+    rt: &impl Abort,
+    alloc: Global,
+    bus: &BusConfig,
+    disks: Vec<D>,
+    events: u32,
+    start: Start,
+    rows: &[Row],
+) -> Result<Vec<D>, Fail> {
+    let mut bench = Bench::new(alloc, bus, disks, events, start)?;
+    bench.tells(rt, alloc, rows)?;
+    Ok(bench.end())
 }

@@ -1,5 +1,5 @@
 //! Three nodes that send, receive, load, boot, stop and lose power.
-use crate::bench::{Act, Bench, NodeRow, RouteRow, Row, STORES, Told, are_of, bus_of, disks};
+use crate::bench::{Act, NodeRow, RouteRow, Row, STORES, Told, are_of, bus_of, disks, lives};
 use crate::comparing::{holds, same};
 use bus_world::Start;
 use cell_store::{Kind, Version};
@@ -185,60 +185,89 @@ fn life<D: CutDisk + Drop>(
     disks: Vec<D>,
 ) -> Result<Vec<D>, Fail> {
     let bus = bus_of(alloc, store.0, store.1, THREE)?;
-    let mut bench = Bench::new(alloc, &bus, disks, 43, Start::Format)?;
-    bench.tells(rt, alloc, LIFE)?;
-    Ok(bench.end())
+    lives(rt, alloc, &bus, disks, 43, Start::Format, LIFE)
 }
 
 /// Disks of different sizes, one more than there are nodes.
 const SIZES: [usize; 4] = [39_001, 39_002, 39_003, 39_004];
 
+/// A life over disks in memory, which come back in their order.
+fn comes_back(rt: &impl Abort, alloc: Global, store: (Kind, Version)) -> Result<(), Fail> {
+    let disks = life(rt, alloc, store, disks(alloc, &SIZES)?)?;
+    are_of(rt, disks.as_slice(), &SIZES);
+    Ok(())
+}
+
 #[test]
 fn three_nodes_live_over_each_store_and_their_disks_come_back(rt: HostRuntime) -> Result<(), Fail> {
     for store in STORES {
-        let disks = life(&rt, rt.alloc(), store, disks(rt.alloc(), &SIZES)?)?;
-        are_of(&rt, disks.as_slice(), &SIZES);
+        comes_back(&rt, rt.alloc(), store)?;
     }
     Ok(())
 }
 
 /// A disk that tells its past, of at most 8,192 bytes.
-pub(crate) fn tape(alloc: Global, size: usize) -> Result<TapeDisk, Fail> {
+fn tape(alloc: Global, size: usize) -> Result<TapeDisk, Fail> {
     if size == 0 || size > 8_192 {
         return Err(Fail::from("a size"));
     }
     Ok(TapeDisk::new(alloc, size, 400)?)
 }
 
-/// The marks in the past of a disk.
-pub(crate) fn marks(alloc: Global, disk: &TapeDisk) -> Result<Vec<Mark>, Fail> {
-    let mut marks = Vec::new(alloc);
+/// Disks of these sizes that tell their past.
+pub(crate) fn tapes(alloc: Global, sizes: &[usize]) -> Result<Vec<TapeDisk>, Fail> {
+    let mut tapes = Vec::new(alloc);
+    for size in sizes {
+        tapes.push(tape(alloc, *size)?)?;
+    }
+    Ok(tapes)
+}
+
+const TAPES: [usize; 4] = [6_001, 6_002, 6_003, 6_004];
+
+/// What each of them tells.
+const MARKS: &[&[Mark]] = &[
+    &[Mark::Stop(1), Mark::Cut(Torn::Keep)],
+    &[Mark::Cut(Torn::Keep)],
+    &[Mark::Fail(1), Mark::Cut(Torn::Old)],
+    &[],
+];
+
+/// The marks in the past of a disk are these.
+fn has_marks(rt: &impl Abort, disk: &TapeDisk, told: &[Mark]) -> Result<(), Fail> {
+    let mut count = 0usize;
     for entry in disk.past().ok_or("no past")? {
         if let Some(mark) = entry.mark {
-            marks.push(mark)?;
+            same(rt, count, &told.get(count), &Some(&mark));
+            count = count.saturating_add(1);
         }
     }
-    Ok(marks)
+    same(rt, "marks", &count, &told.len());
+    Ok(())
+}
+
+/// These disks have these marks, in their order.
+pub(crate) fn have_marks(
+    rt: &impl Abort,
+    tapes: &[TapeDisk],
+    told: &[&[Mark]],
+) -> Result<(), Fail> {
+    holds(rt, "tapes.len()", tapes.len() == told.len());
+    for (place, tape) in tapes.iter().enumerate() {
+        has_marks(rt, tape, told[place])?;
+    }
+    Ok(())
+}
+
+/// A life over disks that tell their past.
+fn tells_marks(rt: &impl Abort, alloc: Global, kind: Kind) -> Result<(), Fail> {
+    let tapes = tapes(alloc, &TAPES)?;
+    let tapes = life(rt, alloc, (kind, Version::One), tapes)?;
+    have_marks(rt, tapes.as_slice(), MARKS)
 }
 
 #[test]
 fn each_disk_tells_the_stops_and_cuts_of_its_own_node(rt: HostRuntime) -> Result<(), Fail> {
-    for kind in [Kind::Twin, Kind::Log] {
-        let mut disks = Vec::new(rt.alloc());
-        for size in [6_001, 6_002, 6_003, 6_004] {
-            disks.push(tape(rt.alloc(), size)?)?;
-        }
-        let disks = life(&rt, rt.alloc(), (kind, Version::One), disks)?;
-        let told: [&[Mark]; 4] = [
-            &[Mark::Stop(1), Mark::Cut(Torn::Keep)],
-            &[Mark::Cut(Torn::Keep)],
-            &[Mark::Fail(1), Mark::Cut(Torn::Old)],
-            &[],
-        ];
-        holds(&rt, "disks.len()", disks.len() == 4);
-        for (disk, told) in disks.as_slice().iter().zip(told.iter()) {
-            same(&rt, "marks", &marks(rt.alloc(), disk)?.as_slice(), told);
-        }
-    }
-    Ok(())
+    tells_marks(&rt, rt.alloc(), Kind::Twin)?;
+    tells_marks(&rt, rt.alloc(), Kind::Log)
 }

@@ -1,6 +1,6 @@
 //! Starts that are refused, and the most nodes.
 use crate::bench::{
-    Act, Bench, NodeRow, RouteRow, Row, STORES, Told, are_of, bus_of, disk, disks, starts,
+    Act, NodeRow, RouteRow, Row, STORES, Told, are_of, bus_of, disks, lives, starts,
 };
 use crate::comparing::same;
 use bus_nodes::BusConfig;
@@ -27,21 +27,17 @@ const UNEQUAL: &[NodeRow] = &[
     NodeRow(b"c", 1, &[HEARD, HEARD_TOO]),
 ];
 
-/// A start that formats these disks answers this fault, and all disks are back in their order.
-fn refuses(
+/// A start that formats these disks answers this fault, or none, and all disks are back in their order.
+fn answers(
     rt: &impl Abort,
     alloc: Global,
     bus: &BusConfig,
     disks: &mut Vec<MemDisk>,
     sizes: &[usize],
-    refusal: StartFault,
+    fault: Option<StartFault>,
 ) {
-    same(
-        rt,
-        "starts",
-        &starts(alloc, bus, disks, Start::Format),
-        &Some(refusal),
-    );
+    let answer = starts(alloc, bus, disks, Start::Format);
+    same(rt, "starts", &answer, &fault);
     are_of(rt, disks.as_slice(), sizes);
 }
 
@@ -73,77 +69,109 @@ const LEAST: [(Kind, Version, [usize; 3], [usize; 3]); 4] = [
     ),
 ];
 
+/// Which of the three disks are a byte too small, and the number of the node that is named.
+const SMALL: &[([bool; 3], u8)] = &[
+    ([true, false, false], 1),
+    ([false, true, false], 2),
+    ([false, false, true], 3),
+    ([false, true, true], 2),
+];
+
+fn size_of(is_less: bool, least: usize, less: usize) -> usize {
+    if is_less { less } else { least }
+}
+
+fn sizes_of(small: &[bool; 3], least: &[usize; 3], less: &[usize; 3]) -> [usize; 3] {
+    [
+        size_of(small[0], least[0], less[0]),
+        size_of(small[1], least[1], less[1]),
+        size_of(small[2], least[2], less[2]),
+    ]
+}
+
+/// A start over new disks of these sizes.
+fn answers_sizes(
+    rt: &impl Abort,
+    alloc: Global,
+    bus: &BusConfig,
+    sizes: &[usize],
+    fault: Option<StartFault>,
+) -> Result<(), Fail> {
+    let mut made = disks(alloc, sizes)?;
+    answers(rt, alloc, bus, &mut made, sizes, fault);
+    Ok(())
+}
+
+/// Starts over disks of these sizes, of those one byte less, and of others.
+fn are_told(
+    rt: &impl Abort,
+    alloc: Global,
+    bus: &BusConfig,
+    least: &[usize; 3],
+    less: &[usize; 3],
+) -> Result<(), Fail> {
+    for (small, number) in SMALL {
+        let sizes = sizes_of(small, least, less);
+        let fault = StartFault::TooSmall(*number);
+        answers_sizes(rt, alloc, bus, &sizes, Some(fault))?;
+    }
+    let shifted = [least[0], least[0], least[1]];
+    answers_sizes(rt, alloc, bus, &shifted, Some(StartFault::TooSmall(2)))?;
+    answers_sizes(rt, alloc, bus, &least[..2], Some(StartFault::TooFew))?;
+    answers_sizes(rt, alloc, bus, least, None)
+}
+
 #[test]
 fn too_few_and_too_small_disks_are_named(rt: HostRuntime) -> Result<(), Fail> {
-    for (kind, version, least, small) in LEAST {
-        let bus = bus_of(rt.alloc(), kind, version, UNEQUAL)?;
-        let [first, second, third] = least;
-        let [small_first, small_second, small_third] = small;
-        for (sizes, number) in [
-            ([small_first, second, third], 1),
-            ([first, small_second, third], 2),
-            ([first, second, small_third], 3),
-            ([first, small_second, small_third], 2),
-            ([first, first, second], 2),
-        ] {
-            let mut made = disks(rt.alloc(), &sizes)?;
-            refuses(
-                &rt,
-                rt.alloc(),
-                &bus,
-                &mut made,
-                &sizes,
-                StartFault::TooSmall(number),
-            );
-        }
-        let mut made = disks(rt.alloc(), &[first, second])?;
-        refuses(
-            &rt,
-            rt.alloc(),
-            &bus,
-            &mut made,
-            &[first, second],
-            StartFault::TooFew,
-        );
-        Bench::new(
-            rt.alloc(),
-            &bus,
-            disks(rt.alloc(), &least)?,
-            0,
-            Start::Format,
-        )?;
+    for (kind, version, least, less) in &LEAST {
+        let bus = bus_of(rt.alloc(), *kind, *version, UNEQUAL)?;
+        are_told(&rt, rt.alloc(), &bus, least, less)?;
     }
     Ok(())
 }
 
-/// Disks of which the one of the node with this number fails at this call.
-fn failing(alloc: Global, sizes: &[usize], number: u8, call: u64) -> Result<Vec<MemDisk>, Fail> {
-    let mut disks = Vec::new(alloc);
-    let mut left = number;
-    for size in sizes {
-        let mut made = disk(alloc, *size)?;
-        if left == 1 && call >= 1 {
-            made.fail_at(call);
-        }
-        left = left.saturating_sub(1);
-        disks.push(made)?;
+const THREE_SIZES: [usize; 3] = [39_000, 39_001, 39_002];
+
+/// Three disks, of which the one of the node with this number fails at this call.
+fn failing(alloc: Global, number: u8, call: u64) -> Result<Vec<MemDisk>, Fail> {
+    let mut made = disks(alloc, &THREE_SIZES)?;
+    let place = usize::from(number).saturating_sub(1);
+    if place >= made.len() || call == 0 {
+        return Err(Fail::from("no disk or no call"));
     }
-    Ok(disks)
+    made[place].fail_at(call);
+    Ok(made)
+}
+
+/// A start over them, and one over the same disks behind it.
+fn fails_and_starts(
+    rt: &impl Abort,
+    alloc: Global,
+    bus: &BusConfig,
+    number: u8,
+    call: u64,
+) -> Result<(), Fail> {
+    let mut made = failing(alloc, number, call)?;
+    let fault = StartFault::Store(number, Reread::DiskFailed);
+    answers(rt, alloc, bus, &mut made, &THREE_SIZES, Some(fault));
+    answers(rt, alloc, bus, &mut made, &THREE_SIZES, None);
+    Ok(())
+}
+
+/// Each node fails at its first call, and at its twentieth.
+fn each_is_named(rt: &impl Abort, alloc: Global, bus: &BusConfig) -> Result<(), Fail> {
+    for number in 1..4 {
+        fails_and_starts(rt, alloc, bus, number, 1)?;
+        fails_and_starts(rt, alloc, bus, number, 20)?;
+    }
+    Ok(())
 }
 
 #[test]
 fn the_node_whose_disk_fails_is_named(rt: HostRuntime) -> Result<(), Fail> {
-    let sizes = [39_000, 39_001, 39_002];
     for (kind, version) in STORES {
         let bus = bus_of(rt.alloc(), kind, version, UNEQUAL)?;
-        for call in [1, 20] {
-            for number in 1..4 {
-                let mut made = failing(rt.alloc(), &sizes, number, call)?;
-                let fault = StartFault::Store(number, Reread::DiskFailed);
-                refuses(&rt, rt.alloc(), &bus, &mut made, &sizes, fault);
-                Bench::new(rt.alloc(), &bus, made, 0, Start::Format)?;
-            }
-        }
+        each_is_named(&rt, rt.alloc(), &bus)?;
     }
     Ok(())
 }
@@ -327,22 +355,23 @@ const RING_LIFE: &[Row] = &[
     Row(0, Act::Deliver(24), Told::Accepted(7, 2, b"\x07\xff", 24)),
 ];
 
+const RING_SIZES: [usize; 8] = [
+    40_000, 40_001, 40_002, 40_003, 40_004, 40_005, 40_006, 40_007,
+];
+
+/// The life of the ring over stores of this kind and version.
+fn ring_lives(rt: &impl Abort, alloc: Global, store: (Kind, Version)) -> Result<(), Fail> {
+    let bus = bus_of(alloc, store.0, store.1, RING)?;
+    let made = disks(alloc, &RING_SIZES)?;
+    let made = lives(rt, alloc, &bus, made, 40, Start::Format, RING_LIFE)?;
+    are_of(rt, made.as_slice(), &RING_SIZES);
+    Ok(())
+}
+
 #[test]
 fn eight_nodes_hear_one_another(rt: HostRuntime) -> Result<(), Fail> {
-    let sizes = [
-        40_000, 40_001, 40_002, 40_003, 40_004, 40_005, 40_006, 40_007,
-    ];
-    for (kind, version) in STORES {
-        let bus = bus_of(rt.alloc(), kind, version, RING)?;
-        let mut bench = Bench::new(
-            rt.alloc(),
-            &bus,
-            disks(rt.alloc(), &sizes)?,
-            40,
-            Start::Format,
-        )?;
-        bench.tells(&rt, rt.alloc(), RING_LIFE)?;
-        are_of(&rt, bench.end().as_slice(), &sizes);
+    for store in STORES {
+        ring_lives(&rt, rt.alloc(), store)?;
     }
     Ok(())
 }

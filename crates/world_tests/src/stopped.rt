@@ -2,8 +2,9 @@
 ghost use Rattle.std.specs.Prelude.{◌≤◌};
 
 use crate::attached::{SIZE, pair};
-use crate::bench::{bytes_of, disks, starts};
+use crate::bench::{bytes_at, starts};
 use crate::comparing::{holds, same};
+use crate::refused::standing;
 use bus_nodes::BusConfig;
 use bus_world::{Start, StartFault};
 use cell_store::{Kind, Reread, Version};
@@ -15,34 +16,40 @@ use std::test::Fail;
 /// The bytes of the disks of a bus with stores of version 1, and the store of the second when it was moved to version 2.
 #[derive(Drop)]
 struct Laid {
-    first: Vec<u8>,
-    second: Vec<u8>,
-    moved: Vec<u8>,
+    first: [u8; SIZE],
+    second: [u8; SIZE],
+    moved: [u8; STORE_SIZE],
 }
 
 /// The bytes of a disk of 40,000 from 32,768 on, where a store of version 2 stands.
-fn store_of(alloc: Global, disk: &mut MemDisk) -> Result<Vec<u8>, Fail> {
+const STORE_SIZE: usize = 7_232;
+
+fn store_of(disk: &mut MemDisk) -> Result<[u8; STORE_SIZE], Fail> {
+    let mut bytes = [0; STORE_SIZE];
     if disk.size() != 40_000 {
         return Err(Fail::from("a disk of another size"));
     }
-    let mut bytes = vec![in alloc; 0; 7_232]?;
-    disk.read(32_768, bytes.as_mut_slice())?;
+    disk.read(32_768, &mut bytes)?;
     Ok(bytes)
 }
 
-fn lay(alloc: Global, kind: Kind) -> Result<Laid, Fail> {
-    let mut made = disks(alloc, &[SIZE, SIZE])?;
-    let one = pair(alloc, kind, Version::One)?;
-    let two = pair(alloc, kind, Version::Two)?;
-    if starts(alloc, &one, &mut made, Start::Format).is_some() || made.len() != 2 {
-        return Err(Fail::from("not formatted"));
+/// A start that isn't refused, and the store of the second disk then.
+fn moved_store(
+    alloc: Global,
+    bus: &BusConfig,
+    made: &mut Vec<MemDisk>,
+) -> Result<[u8; STORE_SIZE], Fail> {
+    if starts(alloc, bus, made, Start::Attach).is_some() || made.len() != 2 {
+        return Err(Fail::from("not started"));
     }
-    let first = bytes_of(alloc, &mut made[0])?;
-    let second = bytes_of(alloc, &mut made[1])?;
-    if starts(alloc, &two, &mut made, Start::Attach).is_some() || made.len() != 2 {
-        return Err(Fail::from("not moved"));
-    }
-    let moved = store_of(alloc, &mut made[1])?;
+    store_of(&mut made[1])
+}
+
+fn lay(alloc: Global, bus: &BusConfig) -> Result<Laid, Fail> {
+    let mut made = standing(alloc, (bus.kind(), Version::One))?;
+    let first = bytes_at(made.as_mut_slice(), 1)?;
+    let second = bytes_at(made.as_mut_slice(), 2)?;
+    let moved = moved_store(alloc, bus, &mut made)?;
     Ok(Laid {
         first,
         second,
@@ -54,12 +61,9 @@ fn lay(alloc: Global, kind: Kind) -> Result<Laid, Fail> {
 fn stopping(alloc: Global, laid: &Laid, call: u64) -> Result<Vec<MemDisk>, Fail>
     requires { 1 ≤ call }
 {
-    if laid.first.len() != SIZE || laid.second.len() != SIZE {
-        return Err(Fail::from("other bytes"));
-    }
     let mut made = Vec::new(alloc);
-    made.push(MemDisk::of(alloc, laid.first.as_slice())?)?;
-    let mut second = MemDisk::of(alloc, laid.second.as_slice())?;
+    made.push(MemDisk::of(alloc, &laid.first)?)?;
+    let mut second = MemDisk::of(alloc, &laid.second)?;
     second.stop_at(call);
     made.push(second)?;
     Ok(made)
@@ -69,19 +73,15 @@ fn stopping(alloc: Global, laid: &Laid, call: u64) -> Result<Vec<MemDisk>, Fail>
 fn stop_and_start(
     alloc: Global,
     bus: &BusConfig,
-    made: Vec<MemDisk>,
+    made: &mut Vec<MemDisk>,
     torn: Torn,
-) -> Result<(Option<StartFault>, Vec<u8>), Fail> {
-    let mut made = made;
-    let fault = starts(alloc, bus, &mut made, Start::Attach);
+) -> Result<(Option<StartFault>, [u8; STORE_SIZE]), Fail> {
+    let fault = starts(alloc, bus, made, Start::Attach);
     if made.len() != 2 {
         return Err(Fail::from("two disks"));
     }
     made[1].power_cut(torn);
-    if starts(alloc, bus, &mut made, Start::Attach).is_some() || made.len() != 2 {
-        return Err(Fail::from("not started again"));
-    }
-    Ok((fault, store_of(alloc, &mut made[1])?))
+    Ok((fault, moved_store(alloc, bus, made)?))
 }
 
 /// A start that stops at this call.
@@ -95,20 +95,12 @@ fn is_moved(
 ) -> Result<(), Fail>
     requires { 1 ≤ stop.0 }
 {
-    let made = stopping(alloc, laid, stop.0)?;
-    let (fault, after) = stop_and_start(alloc, bus, made, stop.1)?;
+    let mut made = stopping(alloc, laid, stop.0)?;
+    let (fault, after) = stop_and_start(alloc, bus, &mut made, stop.1)?;
     let refused = StartFault::Store(2, Reread::DiskFailed);
-    same(
-        rt,
-        "fault",
-        &fault,
-        &(if is_done { None } else { Some(refused) }),
-    );
-    holds(
-        rt,
-        "after.as_slice",
-        after.as_slice() == laid.moved.as_slice(),
-    );
+    let wanted = if is_done { None } else { Some(refused) };
+    same(rt, "fault", &fault, &wanted);
+    holds(rt, "after", after == laid.moved);
     Ok(())
 }
 
@@ -117,8 +109,8 @@ fn is_moved(
 fn stops(rt: &impl Abort, alloc: Global, kind: Kind, calls: u16, cuts: &[Torn]) -> Result<(), Fail>
     requires { calls ≤ 1000 }
 {
-    let laid = lay(alloc, kind)?;
     let bus = pair(alloc, kind, Version::Two)?;
+    let laid = lay(alloc, &bus)?;
     for torn in cuts {
         for call in 0..calls + 1 {
             let stop = (u64::from(call) + 1, *torn);
