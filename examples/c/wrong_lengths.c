@@ -144,6 +144,8 @@ int main(void) {
     updates(16, 4, 14, 0, 1, RATHONSI_BAD_VALUE);
     updates(16, 4, 1, 32, 1, RATHONSI_BAD_VALUE);
     updates(16, 4, 1, 0, 0x10000000, RATHONSI_BAD_VALUE);
+    updates(15, 4, 1, 0, 0x10000000, RATHONSI_BAD_LENGTH);
+    protects(16, 60, 63, RATHONSI_BAD_LENGTH);
     requests(16, 0xe1, RATHONSI_BAD_ID);
     requests(16, 0x1e, RATHONSI_BAD_ID);
     printf("%d calls, %d failures\n", calls, failures);
