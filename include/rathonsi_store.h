@@ -112,7 +112,7 @@ typedef struct RathonsiPlan {
 /* A Data ID in one direction. The caller fills in all but the counter. Reserve, window, slot and booted may be others at any time, and a
  * route may be opened again at any time. */
 typedef struct RathonsiRoute {
-    uint64_t counter;  /* the last freshness that was sent or accepted; rathonsi_route_open sets it */
+    uint64_t counter;  /* the last freshness that was sent or accepted; rathonsi_route_open sets it to the kept bound, which is at least that */
     uint16_t data_id;
     uint16_t cell;     /* of its bound, from RATHONSI_SLOT_CELLS on */
     uint16_t reserve;  /* how far a reserve moves the bound, 1 to 128. A power cut makes a sender skip what is reserved and not sent, and
