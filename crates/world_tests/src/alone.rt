@@ -1,9 +1,8 @@
 //! A node that is in no world, and how a start that is refused is answered.
 use crate::bench::{
-    Act, NodeRow, RouteRow, Row, Told, are_of, bus_of, can_be_done, disks, event_of, line_of,
+    Act, NodeRow, RouteRow, Row, Told, are_of, bus_of, can_be_done, disks, event_of, line_is,
 };
 use crate::comparing::same;
-use bus_machine::Line;
 use bus_nodes::BusConfig;
 use bus_world::{Start, StartFault, close_nodes, open_nodes, own_turn, start_refusal};
 use cell_store::{CutCells, Kind, Reread, Version};
@@ -29,25 +28,25 @@ const TURNS: &[Row] = &[
     Row(0, Act::Deliver(2), Told::NoFrame),
 ];
 
-/// The node takes the turn of a row.
-fn turn<C: CutCells>(alloc: Global, node: &mut Node<C>, row: &Row) -> Result<Line, Fail> {
-    let event = event_of(alloc, row)?;
-    if !can_be_done(&event) {
-        return Err(Fail::from("no event of the bus"));
-    }
-    Ok(own_turn(node, &event))
-}
-
-/// The node takes the turns of these rows, and tells their lines.
-fn tells<C: CutCells>(
+/// The first of these nodes takes the turn of a row.
+fn turn<C: CutCells>(
     rt: &impl Abort,
     alloc: Global,
-    node: &mut Node<C>,
-    rows: &[Row],
+    nodes: &mut [Node<C>],
+    place: usize,
+    row: &Row,
 ) -> Result<(), Fail> {
-    for (place, row) in rows.iter().enumerate() {
-        let wanted = line_of(row)?;
-        same(rt, place, &turn(alloc, node, row)?, &wanted);
+    let event = event_of(alloc, row)?;
+    if nodes.is_empty() || !can_be_done(&event) {
+        return Err(Fail::from("no event of the bus"));
+    }
+    line_is(rt, place, &own_turn(&mut nodes[0], &event), row)
+}
+
+/// It takes its turns.
+fn turns<C: CutCells>(rt: &impl Abort, alloc: Global, nodes: &mut [Node<C>]) -> Result<(), Fail> {
+    for (place, row) in TURNS.iter().enumerate() {
+        turn(rt, alloc, nodes, place, row)?;
     }
     Ok(())
 }
@@ -59,25 +58,28 @@ fn lives_alone(
     bus: &BusConfig,
     made: &mut Vec<MemDisk>,
 ) -> Result<(), Fail> {
-    let mut nodes = match open_nodes(alloc, bus, made, Start::Format) {
-        Ok(nodes) => nodes,
-        Err(fault) => return Err(Fail::from(fault)),
-    };
-    if nodes.is_empty() {
-        return Err(Fail::from("no node"));
+    match open_nodes(alloc, bus, made, Start::Format) {
+        Ok(mut nodes) => {
+            let done = turns(rt, alloc, nodes.as_mut_slice());
+            close_nodes(nodes, made);
+            done
+        }
+        Err(fault) => Err(Fail::from(fault)),
     }
-    tells(rt, alloc, &mut nodes[0], TURNS)?;
-    close_nodes(nodes, made);
+}
+
+/// It does so over one of two disks, which are back in their order then.
+fn is_alone(rt: &impl Abort, alloc: Global, bus: &BusConfig) -> Result<(), Fail> {
+    let mut made = disks(alloc, &[40_000, 40_001])?;
+    lives_alone(rt, alloc, bus, &mut made)?;
+    are_of(rt, made.as_slice(), &[40_000, 40_001]);
     Ok(())
 }
 
 #[test]
 fn a_node_takes_its_turns_alone(rt: HostRuntime) -> Result<(), Fail> {
     let bus = bus_of(rt.alloc(), Kind::Twin, Version::One, ONE_NODE)?;
-    let mut made = disks(rt.alloc(), &[40_000, 40_001])?;
-    lives_alone(&rt, rt.alloc(), &bus, &mut made)?;
-    are_of(&rt, made.as_slice(), &[40_000, 40_001]);
-    Ok(())
+    is_alone(&rt, rt.alloc(), &bus)
 }
 
 /// What a start is refused by.

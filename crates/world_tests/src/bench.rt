@@ -19,30 +19,15 @@ use std::marker::Model;
 use std::process::Abort;
 use std::test::Fail;
 
-/// A route with a window of 256.
-pub(crate) fn route(
-    id: u16,
-    direction: Direction,
-    slot: u8,
-    reserve: u16,
-    start: u64,
-) -> Result<Route, Fail> {
+/// The route of a row, with a window of 256.
+fn route_of(row: &RouteRow) -> Result<Route, Fail> {
     Ok(Route {
-        id,
-        direction,
-        slot: SlotId::new(slot).ok_or("a slot")?,
-        reserve,
+        id: row.0,
+        direction: row.1,
+        slot: SlotId::new(row.2).ok_or("a slot")?,
+        reserve: row.3,
         window: 256,
-        start,
-    })
-}
-
-/// A node with these routes, whose UID has this number.
-pub(crate) fn node(name: &[u8], number: u8, routes: Vec<Route>) -> Result<NodeLine, Fail> {
-    let uid = Uid::of([0, 0, 0, 0, 0, 0, 0, 0, 0, 0, 0, 0, 0, 0, number]);
-    Ok(NodeLine {
-        name: Name::of(name).ok_or("a name")?,
-        config: NodeConfig::new(uid, routes).ok_or("a node")?,
+        start: row.4,
     })
 }
 
@@ -97,9 +82,26 @@ pub(crate) struct NodeRow(
 fn routes_of(alloc: Global, rows: &[RouteRow]) -> Result<Vec<Route>, Fail> {
     let mut routes = Vec::new(alloc);
     for row in rows {
-        routes.push(route(row.0, row.1, row.2, row.3, row.4)?)?;
+        routes.push(route_of(row)?)?;
     }
     Ok(routes)
+}
+
+/// The node of a row, whose UID has its number.
+fn node_line(alloc: Global, row: &NodeRow) -> Result<NodeLine, Fail> {
+    let uid = Uid::of([0, 0, 0, 0, 0, 0, 0, 0, 0, 0, 0, 0, 0, 0, row.1]);
+    let name = Name::of(row.0).ok_or("a name")?;
+    let config = NodeConfig::new(uid, routes_of(alloc, row.2)?).ok_or("a node")?;
+    Ok(NodeLine { name, config })
+}
+
+/// The nodes of these rows.
+fn nodes_of(alloc: Global, rows: &[NodeRow]) -> Result<Vec<NodeLine>, Fail> {
+    let mut nodes = Vec::new(alloc);
+    for row in rows {
+        nodes.push(node_line(alloc, row)?)?;
+    }
+    Ok(nodes)
 }
 
 /// The bus of these nodes.
@@ -109,11 +111,7 @@ pub(crate) fn bus_of(
     version: Version,
     rows: &[NodeRow],
 ) -> Result<BusConfig, Fail> {
-    let mut nodes = Vec::new(alloc);
-    for row in rows {
-        nodes.push(node(row.0, row.1, routes_of(alloc, row.2)?)?)?;
-    }
-    Ok(BusConfig::new(kind, version, nodes).ok_or("a bus")?)
+    Ok(BusConfig::new(kind, version, nodes_of(alloc, rows)?).ok_or("a bus")?)
 }
 
 /// What is asked of a node.
@@ -192,7 +190,7 @@ pub(crate) fn event_of(alloc: Global, row: &Row) -> Result<Event, Fail> {
 }
 
 /// The line of a row.
-pub(crate) fn line_of(row: &Row) -> Result<Line, Fail> {
+fn line_of(row: &Row) -> Result<Line, Fail> {
     Ok(match row.2 {
         Told::Keyed => Line::Keyed {
             slot: SlotId::new(4).ok_or("a slot")?,
@@ -209,6 +207,12 @@ pub(crate) fn line_of(row: &Row) -> Result<Line, Fail> {
         Told::Down => Line::Refused(Refusal::Down),
         Told::MemoryFailure => Line::Refused(Refusal::MemoryFailure),
     })
+}
+
+/// A line is that of its row, which stands at this place.
+pub(crate) fn line_is(rt: &impl Abort, place: usize, line: &Line, row: &Row) -> Result<(), Fail> {
+    same(rt, place, line, &line_of(row)?);
+    Ok(())
 }
 
 /// The node of an event.
@@ -328,17 +332,22 @@ impl<D: CutDisk + Drop> Bench<D> {
         Ok(self.world.step(event))
     }
 
-    /// Does the event of a row.
-    fn line(&mut self, alloc: Global, row: &Row) -> Result<Line, Fail> {
+    /// Does the event of a row, and compares its line.
+    fn line(
+        &mut self,
+        rt: &impl Abort,
+        alloc: Global,
+        place: usize,
+        row: &Row,
+    ) -> Result<(), Fail> {
         let event = event_of(alloc, row)?;
-        self.answer(&event)
+        line_is(rt, place, &self.answer(&event)?, row)
     }
 
-    /// Does the events of these rows, and compares their lines.
+    /// Does the events of these rows.
     fn tells(&mut self, rt: &impl Abort, alloc: Global, rows: &[Row]) -> Result<(), Fail> {
         for (place, row) in rows.iter().enumerate() {
-            let wanted = line_of(row)?;
-            same(rt, place, &self.line(alloc, row)?, &wanted);
+            self.line(rt, alloc, place, row)?;
         }
         Ok(())
     }

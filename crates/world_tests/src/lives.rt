@@ -2,6 +2,7 @@
 use crate::attached::{ID, PAYLOAD, START};
 use crate::bench::{Act, NodeRow, RouteRow, Row, Told, bus_of, lives};
 use crate::comparing::{holds, same};
+use bus_nodes::BusConfig;
 use bus_world::Start;
 use cell_store::{Kind, Version};
 use cut_disk::{CutDisk, Mark, TapeDisk, Torn};
@@ -124,15 +125,24 @@ pub(crate) fn have_marks(
 }
 
 /// A life over disks that tell their past, one more than there are nodes.
-fn tells_marks(rt: &impl Abort, alloc: Global, kind: Kind) -> Result<(), Fail> {
-    let bus = bus_of(alloc, kind, Version::One, THREE)?;
-    let tapes = tapes(alloc, &TAPES)?;
-    let tapes = lives(rt, alloc, &bus, tapes, 20, Start::Format, LIFE)?;
+fn tells_marks(rt: &impl Abort, alloc: Global, bus: &BusConfig) -> Result<(), Fail> {
+    let tapes = lives(
+        rt,
+        alloc,
+        bus,
+        tapes(alloc, &TAPES)?,
+        20,
+        Start::Format,
+        LIFE,
+    )?;
     have_marks(rt, tapes.as_slice(), MARKS)
 }
 
 #[test]
 fn each_disk_tells_the_stops_and_cuts_of_its_own_node(rt: HostRuntime) -> Result<(), Fail> {
-    tells_marks(&rt, rt.alloc(), Kind::Twin)?;
-    tells_marks(&rt, rt.alloc(), Kind::Log)
+    for kind in [Kind::Twin, Kind::Log] {
+        let bus = bus_of(rt.alloc(), kind, Version::One, THREE)?;
+        tells_marks(&rt, rt.alloc(), &bus)?;
+    }
+    Ok(())
 }

@@ -39,91 +39,190 @@ fn answers(
     are_of(rt, disks.as_slice(), sizes);
 }
 
-/// The sizes of the three stores, by the layouts of the stores, and those one byte less.
-const LEAST: [(Kind, Version, [usize; 3], [usize; 3]); 4] = [
-    (
+/// What a start over disks of some sizes answers.
+#[derive(Clone, Copy)]
+enum Wanted {
+    Starts,
+    TooFew,
+    TooSmall(u8),
+}
+
+/// The layout of the stores, the sizes of the disks, and the answer.
+struct Sized(Kind, Version, &'static [usize], Wanted);
+
+/// In each layout a disk or two are a byte too small, the largest disk isn't that of the second node, a disk is missing; and all are as the stores
+/// need them.
+const SIZED: &[Sized] = &[
+    Sized(
         Kind::Twin,
         Version::One,
-        [1_120, 1_188, 1_120],
-        [1_119, 1_187, 1_119],
+        &[1_119, 1_188, 1_120],
+        Wanted::TooSmall(1),
     ),
-    (
+    Sized(
+        Kind::Twin,
+        Version::One,
+        &[1_120, 1_187, 1_120],
+        Wanted::TooSmall(2),
+    ),
+    Sized(
+        Kind::Twin,
+        Version::One,
+        &[1_120, 1_188, 1_119],
+        Wanted::TooSmall(3),
+    ),
+    Sized(
+        Kind::Twin,
+        Version::One,
+        &[1_120, 1_187, 1_119],
+        Wanted::TooSmall(2),
+    ),
+    Sized(
+        Kind::Twin,
+        Version::One,
+        &[1_120, 1_120, 1_188],
+        Wanted::TooSmall(2),
+    ),
+    Sized(Kind::Twin, Version::One, &[1_120, 1_188], Wanted::TooFew),
+    Sized(
+        Kind::Twin,
+        Version::One,
+        &[1_120, 1_188, 1_120],
+        Wanted::Starts,
+    ),
+    Sized(
         Kind::Twin,
         Version::Two,
-        [33_888, 33_956, 33_888],
-        [33_887, 33_955, 33_887],
+        &[33_887, 33_956, 33_888],
+        Wanted::TooSmall(1),
     ),
-    (
+    Sized(
+        Kind::Twin,
+        Version::Two,
+        &[33_888, 33_955, 33_888],
+        Wanted::TooSmall(2),
+    ),
+    Sized(
+        Kind::Twin,
+        Version::Two,
+        &[33_888, 33_956, 33_887],
+        Wanted::TooSmall(3),
+    ),
+    Sized(
+        Kind::Twin,
+        Version::Two,
+        &[33_888, 33_955, 33_887],
+        Wanted::TooSmall(2),
+    ),
+    Sized(
+        Kind::Twin,
+        Version::Two,
+        &[33_888, 33_888, 33_956],
+        Wanted::TooSmall(2),
+    ),
+    Sized(Kind::Twin, Version::Two, &[33_888, 33_956], Wanted::TooFew),
+    Sized(
+        Kind::Twin,
+        Version::Two,
+        &[33_888, 33_956, 33_888],
+        Wanted::Starts,
+    ),
+    Sized(
         Kind::Log,
         Version::One,
-        [5_540, 5_604, 5_540],
-        [5_539, 5_603, 5_539],
+        &[5_539, 5_604, 5_540],
+        Wanted::TooSmall(1),
     ),
-    (
+    Sized(
+        Kind::Log,
+        Version::One,
+        &[5_540, 5_603, 5_540],
+        Wanted::TooSmall(2),
+    ),
+    Sized(
+        Kind::Log,
+        Version::One,
+        &[5_540, 5_604, 5_539],
+        Wanted::TooSmall(3),
+    ),
+    Sized(
+        Kind::Log,
+        Version::One,
+        &[5_540, 5_603, 5_539],
+        Wanted::TooSmall(2),
+    ),
+    Sized(
+        Kind::Log,
+        Version::One,
+        &[5_540, 5_540, 5_604],
+        Wanted::TooSmall(2),
+    ),
+    Sized(Kind::Log, Version::One, &[5_540, 5_604], Wanted::TooFew),
+    Sized(
+        Kind::Log,
+        Version::One,
+        &[5_540, 5_604, 5_540],
+        Wanted::Starts,
+    ),
+    Sized(
         Kind::Log,
         Version::Two,
-        [38_308, 38_372, 38_308],
-        [38_307, 38_371, 38_307],
+        &[38_307, 38_372, 38_308],
+        Wanted::TooSmall(1),
+    ),
+    Sized(
+        Kind::Log,
+        Version::Two,
+        &[38_308, 38_371, 38_308],
+        Wanted::TooSmall(2),
+    ),
+    Sized(
+        Kind::Log,
+        Version::Two,
+        &[38_308, 38_372, 38_307],
+        Wanted::TooSmall(3),
+    ),
+    Sized(
+        Kind::Log,
+        Version::Two,
+        &[38_308, 38_371, 38_307],
+        Wanted::TooSmall(2),
+    ),
+    Sized(
+        Kind::Log,
+        Version::Two,
+        &[38_308, 38_308, 38_372],
+        Wanted::TooSmall(2),
+    ),
+    Sized(Kind::Log, Version::Two, &[38_308, 38_372], Wanted::TooFew),
+    Sized(
+        Kind::Log,
+        Version::Two,
+        &[38_308, 38_372, 38_308],
+        Wanted::Starts,
     ),
 ];
 
-/// Which of the three disks are a byte too small, and the number of the node that is named.
-const SMALL: &[([bool; 3], u8)] = &[
-    ([true, false, false], 1),
-    ([false, true, false], 2),
-    ([false, false, true], 3),
-    ([false, true, true], 2),
-];
-
-fn size_of(is_less: bool, least: usize, less: usize) -> usize {
-    if is_less { less } else { least }
-}
-
-fn sizes_of(small: &[bool; 3], least: &[usize; 3], less: &[usize; 3]) -> [usize; 3] {
-    [
-        size_of(small[0], least[0], less[0]),
-        size_of(small[1], least[1], less[1]),
-        size_of(small[2], least[2], less[2]),
-    ]
-}
-
-/// A start over new disks of these sizes.
-fn answers_sizes(
-    rt: &impl Abort,
-    alloc: Global,
-    bus: &BusConfig,
-    sizes: &[usize],
-    fault: Option<StartFault>,
-) -> Result<(), Fail> {
-    let mut made = disks(alloc, sizes)?;
-    answers(rt, alloc, bus, &mut made, sizes, fault);
-    Ok(())
-}
-
-/// Starts over disks of these sizes, of those one byte less, and of others.
-fn are_told(
-    rt: &impl Abort,
-    alloc: Global,
-    bus: &BusConfig,
-    least: &[usize; 3],
-    less: &[usize; 3],
-) -> Result<(), Fail> {
-    for (small, number) in SMALL {
-        let sizes = sizes_of(small, least, less);
-        let fault = StartFault::TooSmall(*number);
-        answers_sizes(rt, alloc, bus, &sizes, Some(fault))?;
+fn fault_of(wanted: Wanted) -> Option<StartFault> {
+    match wanted {
+        Wanted::Starts => None,
+        Wanted::TooFew => Some(StartFault::TooFew),
+        Wanted::TooSmall(number) => Some(StartFault::TooSmall(number)),
     }
-    let shifted = [least[0], least[0], least[1]];
-    answers_sizes(rt, alloc, bus, &shifted, Some(StartFault::TooSmall(2)))?;
-    answers_sizes(rt, alloc, bus, &least[..2], Some(StartFault::TooFew))?;
-    answers_sizes(rt, alloc, bus, least, None)
+}
+
+/// A start over new disks of the sizes of a row.
+fn answers_sizes(rt: &impl Abort, alloc: Global, bus: &BusConfig, row: &Sized) -> Result<(), Fail> {
+    let mut made = disks(alloc, row.2)?;
+    answers(rt, alloc, bus, &mut made, row.2, fault_of(row.3));
+    Ok(())
 }
 
 #[test]
 fn too_few_and_too_small_disks_are_named(rt: HostRuntime) -> Result<(), Fail> {
-    for (kind, version, least, less) in &LEAST {
-        let bus = bus_of(rt.alloc(), *kind, *version, UNEQUAL)?;
-        are_told(&rt, rt.alloc(), &bus, least, less)?;
+    for row in SIZED {
+        let bus = bus_of(rt.alloc(), row.0, row.1, UNEQUAL)?;
+        answers_sizes(&rt, rt.alloc(), &bus, row)?;
     }
     Ok(())
 }
