@@ -1,10 +1,12 @@
 //! A node that is in no world, and how a start that is refused is answered.
 use crate::bench::{
-    Act, NodeRow, RouteRow, Row, Told, are_of, bus_of, can_be_done, disks, event_of, line_of,
+    Act, NodeRow, RouteRow, Row, Told, are_of, bus_of, can_be_done, disks, event_of, line_is,
 };
 use crate::comparing::same;
+use bus_nodes::BusConfig;
 use bus_world::{Start, StartFault, close_nodes, open_nodes, own_turn, start_refusal};
 use cell_store::{CutCells, Kind, Reread, Version};
+use cut_disk::MemDisk;
 use freshness_routes::Direction;
 use key_slots::SlotId;
 use secoc_node::Node;
@@ -12,68 +14,72 @@ use std::alloc::Global;
 use std::process::Abort;
 use std::test::Fail;
 
-/// A bus of one node, which sends under 0000 and receives under 0007.
-const ONE_NODE: &[NodeRow] = &[NodeRow(
-    b"a",
-    1,
-    &[
-        RouteRow(0, Direction::Sends, 4, 4, 0),
-        RouteRow(7, Direction::Receives, 4, 1, 0),
-    ],
-)];
+/// A bus of one node, which sends.
+const ONE_NODE: &[NodeRow] = &[NodeRow(b"a", 1, &[RouteRow(0, Direction::Sends, 4, 4, 0)])];
 
-/// It gets its key, sends, and hears; what it accepts is from none, and no event sent anything to it.
+/// It gets its key and sends; no event sent anything to it. (What it accepts is from none: a row of gateway.)
 const TURNS: &[Row] = &[
-    Row(
-        0,
-        Act::Key(1, 4, 2, 0x2b7e151628aed2a6abf7158809cf4f3c),
-        Told::Keyed(4),
-    ),
+    Row(0, Act::Key(1), Told::Keyed),
     Row(
         0,
         Act::Send(0, b"\x00"),
         Told::Sent(0, 1, b"\x00\x01\xbe\xe0\x08"),
     ),
-    Row(
-        0,
-        Act::Inject(7, b"\x07\x01\xbc\x6b\x0f"),
-        Told::Accepted(7, 1, b"\x07", 0),
-    ),
     Row(0, Act::Deliver(2), Told::NoFrame),
 ];
 
-/// The node takes the turns of these rows, and tells their lines.
-fn tells<C: CutCells>(
+/// The first of these nodes takes the turn of a row.
+fn turn<C: CutCells>(
     rt: &impl Abort,
     alloc: Global,
-    node: &mut Node<C>,
-    rows: &[Row],
+    nodes: &mut [Node<C>],
+    place: usize,
+    row: &Row,
 ) -> Result<(), Fail> {
-    for row in rows {
-        let event = event_of(alloc, row)?;
-        if !can_be_done(&event) {
-            return Err(Fail::from("no event of the bus"));
-        }
-        same(rt, "own_turn", &own_turn(node, &event), &line_of(row)?);
+    let event = event_of(alloc, row)?;
+    if nodes.is_empty() || !can_be_done(&event) {
+        return Err(Fail::from("no event of the bus"));
     }
+    line_is(rt, place, &own_turn(&mut nodes[0], &event), row)
+}
+
+/// It takes its turns.
+fn turns<C: CutCells>(rt: &impl Abort, alloc: Global, nodes: &mut [Node<C>]) -> Result<(), Fail> {
+    for (place, row) in TURNS.iter().enumerate() {
+        turn(rt, alloc, nodes, place, row)?;
+    }
+    Ok(())
+}
+
+/// The first node of the bus takes its turns over one of these disks, which is back then.
+fn lives_alone(
+    rt: &impl Abort,
+    alloc: Global,
+    bus: &BusConfig,
+    made: &mut Vec<MemDisk>,
+) -> Result<(), Fail> {
+    match open_nodes(alloc, bus, made, Start::Format) {
+        Ok(mut nodes) => {
+            let done = turns(rt, alloc, nodes.as_mut_slice());
+            close_nodes(nodes, made);
+            done
+        }
+        Err(fault) => Err(Fail::from(fault)),
+    }
+}
+
+/// It does so over one of two disks, which are back in their order then.
+fn is_alone(rt: &impl Abort, alloc: Global, bus: &BusConfig) -> Result<(), Fail> {
+    let mut made = disks(alloc, &[40_000, 40_001])?;
+    lives_alone(rt, alloc, bus, &mut made)?;
+    are_of(rt, made.as_slice(), &[40_000, 40_001]);
     Ok(())
 }
 
 #[test]
 fn a_node_takes_its_turns_alone(rt: HostRuntime) -> Result<(), Fail> {
     let bus = bus_of(rt.alloc(), Kind::Twin, Version::One, ONE_NODE)?;
-    let mut made = disks(rt.alloc(), &[40_000, 40_001])?;
-    let mut nodes = match open_nodes(rt.alloc(), &bus, &mut made, Start::Format) {
-        Ok(nodes) => nodes,
-        Err(fault) => return Err(Fail::from(fault)),
-    };
-    if nodes.is_empty() {
-        return Err(Fail::from("no node"));
-    }
-    tells(&rt, rt.alloc(), &mut nodes[0], TURNS)?;
-    close_nodes(nodes, &mut made);
-    are_of(&rt, made.as_slice(), &[40_000, 40_001]);
-    Ok(())
+    is_alone(&rt, rt.alloc(), &bus)
 }
 
 /// What a start is refused by.
@@ -129,12 +135,16 @@ const REFUSALS: &[(Refused, u8, &str)] = &[
     (Refused::Memory, 7, ""),
 ];
 
+fn has_row(rt: &impl Abort, alloc: Global, fault: StartFault, status: u8, text: &str) {
+    let refusal = start_refusal(alloc, &fault);
+    same(rt, text, &refusal.status(), &status);
+    same(rt, text, &refusal.text(), &text);
+}
+
 #[test]
 fn a_start_that_is_refused_has_its_row(rt: HostRuntime) -> Result<(), Fail> {
     for (refused, status, text) in REFUSALS {
-        let refusal = start_refusal(rt.alloc(), &fault_of(*refused)?);
-        same(&rt, *text, &refusal.status(), status);
-        same(&rt, *text, &refusal.text(), text);
+        has_row(&rt, rt.alloc(), fault_of(*refused)?, *status, text);
     }
     Ok(())
 }

@@ -1,18 +1,14 @@
-//! Worlds that go on where their disks stand: further lives, stores that are moved to version 2, and the most routes.
+//! Worlds that go on where their disks stand: further lives, and stores that are moved to version 2.
 use crate::bench::{
-    Act, NodeRow, RouteRow, Row, STORES, Told, are_of, bus_of, disk, disks, lives, node, route,
-    starts,
+    Act, NodeRow, RouteRow, Row, STORES, Told, are_of, bus_of, disks, lives, starts,
 };
 use crate::comparing::same;
 use crate::lives::{have_marks, tapes};
-use any_cells::AnyCells;
 use bus_nodes::BusConfig;
 use bus_world::{Start, StartFault};
 use cell_store::{Kind, Reread, Version};
 use cut_disk::{CutDisk, Disk, MemDisk};
-use freshness_routes::{Direction, Route};
-use key_slots::Erc;
-use secoc_node::first_cells;
+use freshness_routes::Direction;
 use std::alloc::Global;
 use std::process::Abort;
 use std::test::Fail;
@@ -20,15 +16,13 @@ use std::test::Fail;
 /// `left` sends this Data ID and `right` receives it, both with the key of their slot 4.
 pub(crate) const ID: u16 = 0x6bc1;
 
-const START: u64 = 0xe93d_7e11_7393_1729;
+pub(crate) const START: u64 = 0xe93d_7e11_7393_1729;
 
-const PAYLOAD: &[u8] = b"\xbe\xe2\x2e\x40\x9f\x96";
-
-const KEY: Act = Act::Key(2, 4, 2, 0x2b7e151628aed2a6abf7158809cf4f3c);
+pub(crate) const PAYLOAD: &[u8] = b"\xbe\xe2\x2e\x40\x9f\x96";
 
 /// `left` gets its key, which an empty slot takes, and sends.
 const FIRST_LIFE: &[Row] = &[
-    Row(0, KEY, Told::Keyed(4)),
+    Row(0, Act::Key(2), Told::Keyed),
     Row(
         0,
         Act::Send(ID, PAYLOAD),
@@ -38,7 +32,7 @@ const FIRST_LIFE: &[Row] = &[
 
 /// A filled slot refuses it; the reserve is 4.
 const SECOND_LIFE: &[Row] = &[
-    Row(0, KEY, Told::Refused(Erc::KeyUpdateError)),
+    Row(0, Act::Key(2), Told::Filled),
     Row(
         0,
         Act::Send(ID, PAYLOAD),
@@ -117,26 +111,31 @@ fn a_second_life_adds_to_the_past_of_its_disks(rt: HostRuntime) -> Result<(), Fa
 }
 
 /// The header of fifteen cells in version 2.
-const HEADERS: [(Kind, &[u8]); 2] = [
-    (Kind::Twin, b"SECOCST1\x01\x02\x00\x0f"),
-    (Kind::Log, b"SECOCST1\x02\x02\x00\x0f"),
+const HEADERS: [(Kind, &[u8; 32]); 2] = [
+    (
+        Kind::Twin,
+        b"SECOCST1\x01\x02\0\x0f\0\0\0\0\0\0\0\0\0\0\0\0\0\0\0\0\0\0\0\0",
+    ),
+    (
+        Kind::Log,
+        b"SECOCST1\x02\x02\0\x0f\0\0\0\0\0\0\0\0\0\0\0\0\0\0\0\0\0\0\0\0",
+    ),
 ];
 
-/// A disk has this header, and zeros behind it, where a store of version 2 begins.
-fn is_headed(rt: &impl Abort, disk: &mut MemDisk, header: &[u8]) -> Result<(), Fail> {
-    let mut read = [0xff; 32];
+/// The bytes of a disk where a store of version 2 begins.
+fn head_of(disk: &mut MemDisk) -> Result<[u8; 32], Fail> {
+    let mut head = [0xff; 32];
     if disk.size() != 65_536 {
         return Err(Fail::from("a disk of another size"));
     }
-    disk.read(32_768, &mut read)?;
-    same(rt, "the header", &&read[..12], &header);
-    same(rt, "behind the header", &&read[12..], &[0; 20].as_slice());
-    Ok(())
+    disk.read(32_768, &mut head)?;
+    Ok(head)
 }
 
-fn are_headed(rt: &impl Abort, disks: &mut [MemDisk], header: &[u8]) -> Result<(), Fail> {
+/// These disks have this header.
+fn are_headed(rt: &impl Abort, disks: &mut [MemDisk], header: &[u8; 32]) -> Result<(), Fail> {
     for disk in disks.iter_mut() {
-        is_headed(rt, disk, header)?;
+        same(rt, "the header", &head_of(disk)?, header);
     }
     Ok(())
 }
@@ -155,73 +154,31 @@ fn are_refused(
     Ok(())
 }
 
-/// A bus lives over stores of version 1, and then over those of version 2.
-fn is_moved(rt: &impl Abort, alloc: Global, kind: Kind, header: &[u8]) -> Result<(), Fail> {
-    let made = disks(alloc, &[65_536, 65_536])?;
-    let mut made = two_lives(rt, alloc, kind, (Version::One, Version::Two), made)?;
+/// Both disks have this header, version 1 refuses them, and they are back.
+fn are_moved(
+    rt: &impl Abort,
+    alloc: Global,
+    kind: Kind,
+    header: &[u8; 32],
+    made: &mut Vec<MemDisk>,
+) -> Result<(), Fail> {
     are_headed(rt, made.as_mut_slice(), header)?;
-    are_refused(rt, alloc, kind, &mut made)?;
+    are_refused(rt, alloc, kind, made)?;
     are_of(rt, made.as_slice(), &[65_536, 65_536]);
     Ok(())
+}
+
+/// A bus lives over stores of version 1, and then over those of version 2.
+fn is_moved(rt: &impl Abort, alloc: Global, kind: Kind, header: &[u8; 32]) -> Result<(), Fail> {
+    let made = disks(alloc, &[65_536, 65_536])?;
+    let mut made = two_lives(rt, alloc, kind, (Version::One, Version::Two), made)?;
+    are_moved(rt, alloc, kind, header, &mut made)
 }
 
 #[test]
 fn a_store_is_moved_and_counts_from_then_on(rt: HostRuntime) -> Result<(), Fail> {
     for (kind, header) in HEADERS {
         is_moved(&rt, rt.alloc(), kind, header)?;
-    }
-    Ok(())
-}
-
-fn most_routes(alloc: Global) -> Result<Vec<Route>, Fail> {
-    let mut routes = Vec::new(alloc);
-    for id in 0..256u16 {
-        routes.push(route(id, Direction::Receives, 4, 1, 0)?)?;
-    }
-    Ok(routes)
-}
-
-/// A bus of one node with 256 routes, in version 2.
-fn crowded(alloc: Global, kind: Kind) -> Result<BusConfig, Fail> {
-    let mut nodes = Vec::new(alloc);
-    nodes.push(node(b"a", 1, most_routes(alloc)?)?)?;
-    Ok(BusConfig::new(kind, Version::Two, nodes).ok_or("a bus")?)
-}
-
-/// The disk of that node.
-fn crowded_disks(alloc: Global, disk: MemDisk) -> Result<Vec<MemDisk>, Fail> {
-    let mut disks = Vec::new(alloc);
-    disks.push(disk)?;
-    Ok(disks)
-}
-
-/// A disk with a store of that node in version 1.
-fn older_disk(alloc: Global, bus: &BusConfig) -> Result<MemDisk, Fail> {
-    let mut cells = [[0; 32]; 270];
-    for line in bus.nodes() {
-        first_cells(&line.config, &mut cells);
-    }
-    match AnyCells::format_as(disk(alloc, 65_536)?, bus.kind(), Version::One, &cells) {
-        Ok(disk) => Ok(disk),
-        Err(refused) => Err(Fail::from(refused.fault)),
-    }
-}
-
-/// Two lives of that bus over this disk.
-fn crowd_lives(rt: &impl Abort, alloc: Global, bus: &BusConfig, disk: MemDisk) -> Result<(), Fail> {
-    let disks = crowded_disks(alloc, disk)?;
-    let disks = lives(rt, alloc, bus, disks, 2, Start::Attach, &[])?;
-    let disks = lives(rt, alloc, bus, disks, 2, Start::Attach, &[])?;
-    are_of(rt, disks.as_slice(), &[65_536]);
-    Ok(())
-}
-
-#[test]
-fn a_node_of_256_routes_goes_on(rt: HostRuntime) -> Result<(), Fail> {
-    for kind in [Kind::Twin, Kind::Log] {
-        let bus = crowded(rt.alloc(), kind)?;
-        crowd_lives(&rt, rt.alloc(), &bus, disk(rt.alloc(), 65_536)?)?;
-        crowd_lives(&rt, rt.alloc(), &bus, older_disk(rt.alloc(), &bus)?)?;
     }
     Ok(())
 }

@@ -12,37 +12,22 @@ use cell_store::{Kind, Version};
 use cut_disk::{CutDisk, Disk, MemDisk, Torn};
 use freshness_routes::{Direction, NodeConfig, Route};
 use key_slots::{Counter28, Erc, Flags, SlotId};
-use memory_update::{Reply, Request, Uid, Update};
+use memory_update::{Uid, Update};
 use she_aes::Block;
 use std::alloc::Global;
 use std::marker::Model;
 use std::process::Abort;
 use std::test::Fail;
 
-/// A route with a window of 256.
-pub(crate) fn route(
-    id: u16,
-    direction: Direction,
-    slot: u8,
-    reserve: u16,
-    start: u64,
-) -> Result<Route, Fail> {
+/// The route of a row, with a window of 256.
+fn route_of(row: &RouteRow) -> Result<Route, Fail> {
     Ok(Route {
-        id,
-        direction,
-        slot: SlotId::new(slot).ok_or("a slot")?,
-        reserve,
+        id: row.0,
+        direction: row.1,
+        slot: SlotId::new(row.2).ok_or("a slot")?,
+        reserve: row.3,
         window: 256,
-        start,
-    })
-}
-
-/// A node with these routes, whose UID has this number.
-pub(crate) fn node(name: &[u8], number: u8, routes: Vec<Route>) -> Result<NodeLine, Fail> {
-    let uid = Uid::of([0, 0, 0, 0, 0, 0, 0, 0, 0, 0, 0, 0, 0, 0, number]);
-    Ok(NodeLine {
-        name: Name::of(name).ok_or("a name")?,
-        config: NodeConfig::new(uid, routes).ok_or("a node")?,
+        start: row.4,
     })
 }
 
@@ -97,9 +82,26 @@ pub(crate) struct NodeRow(
 fn routes_of(alloc: Global, rows: &[RouteRow]) -> Result<Vec<Route>, Fail> {
     let mut routes = Vec::new(alloc);
     for row in rows {
-        routes.push(route(row.0, row.1, row.2, row.3, row.4)?)?;
+        routes.push(route_of(row)?)?;
     }
     Ok(routes)
+}
+
+/// The node of a row, whose UID has its number.
+fn node_line(alloc: Global, row: &NodeRow) -> Result<NodeLine, Fail> {
+    let uid = Uid::of([0, 0, 0, 0, 0, 0, 0, 0, 0, 0, 0, 0, 0, 0, row.1]);
+    let name = Name::of(row.0).ok_or("a name")?;
+    let config = NodeConfig::new(uid, routes_of(alloc, row.2)?).ok_or("a node")?;
+    Ok(NodeLine { name, config })
+}
+
+/// The nodes of these rows.
+fn nodes_of(alloc: Global, rows: &[NodeRow]) -> Result<Vec<NodeLine>, Fail> {
+    let mut nodes = Vec::new(alloc);
+    for row in rows {
+        nodes.push(node_line(alloc, row)?)?;
+    }
+    Ok(nodes)
 }
 
 /// The bus of these nodes.
@@ -109,28 +111,18 @@ pub(crate) fn bus_of(
     version: Version,
     rows: &[NodeRow],
 ) -> Result<BusConfig, Fail> {
-    let mut nodes = Vec::new(alloc);
-    for row in rows {
-        nodes.push(node(row.0, row.1, routes_of(alloc, row.2)?)?)?;
-    }
-    Ok(BusConfig::new(kind, version, nodes).ok_or("a bus")?)
+    Ok(BusConfig::new(kind, version, nodes_of(alloc, rows)?).ok_or("a bus")?)
 }
 
 /// What is asked of a node.
 #[derive(Clone, Copy)]
 pub(crate) enum Act {
-    /// An empty slot gets a key: the last byte of the node's UID, the slot, the flags, and the key.
-    Key(u8, u8, u8, u128),
-    /// The request of the example of the SHE specification.
-    Load,
-    /// An image.
-    Boot(&'static [u8]),
+    /// Slot 4 gets the key, which an empty slot takes: the last byte of the node's UID.
+    Key(u8),
     /// A Data ID and a payload.
     Send(u16, &'static [u8]),
     /// The number of the event whose line is delivered.
     Deliver(u32),
-    /// A Data ID and the bytes of a PDU.
-    Inject(u16, &'static [u8]),
     /// The call at which the disk stops.
     Stop(u32),
     /// The call that fails.
@@ -141,46 +133,34 @@ pub(crate) enum Act {
 /// The line that tells what comes of it.
 #[derive(Clone, Copy)]
 pub(crate) enum Told {
-    /// The slot.
-    Keyed(u8),
-    /// The reply of the example.
-    Loaded,
+    Keyed,
     /// The Data ID, the freshness and the PDU.
     Sent(u16, u64, &'static [u8]),
-    /// The Data ID, the freshness, the payload, and the number of the event that sent it, 0 where none did.
-    Accepted(u16, u64, &'static [u8], u32),
-    VerificationFailure,
     NoFrame,
     Armed,
     Up,
-    NoRoute,
+    /// Slot 4 isn't empty.
+    Filled,
     Down,
     MemoryFailure,
-    /// What the engine refuses.
-    Refused(Erc),
 }
 
 /// The number of the node, what is asked of it, and what it tells.
 pub(crate) struct Row(pub(crate) u8, pub(crate) Act, pub(crate) Told);
 
-fn pdu(bytes: &[u8]) -> Result<Pdu, Fail> {
-    Ok(Pdu::of(bytes).ok_or("too long")?)
-}
+/// The key of the CMAC examples of SP 800-38B.
+const KEY: u128 = 0x2b7e151628aed2a6abf7158809cf4f3c;
 
-fn bytes(alloc: Global, bytes: &[u8]) -> Result<Bytes, Fail> {
-    Ok(Bytes::of(Vec::from_slice(alloc, bytes)?))
-}
-
-/// An empty slot gets a key.
-fn key_event(node: u8, uid: u8, slot: u8, flags: u8, key: u128) -> Result<Event, Fail> {
-    let id = SlotId::new(slot).ok_or("a slot")?;
+/// Slot 4 of a node with this UID gets the key, by which it may sign.
+fn key_event(node: u8, uid: u8) -> Result<Event, Fail> {
+    let id = SlotId::new(4).ok_or("a slot")?;
     let update = Update {
         uid: Uid::of([0, 0, 0, 0, 0, 0, 0, 0, 0, 0, 0, 0, 0, 0, uid]),
         id,
         auth: id,
         counter: Counter28::new(1).ok_or("a counter")?,
-        flags: Flags::of(flags % 32),
-        key: Block::of(key.to_be_bytes()),
+        flags: Flags::of(2),
+        key: Block::of(KEY.to_be_bytes()),
     };
     let authkey = Block::of([0xff; 16]);
     Ok(Event::Key {
@@ -190,86 +170,49 @@ fn key_event(node: u8, uid: u8, slot: u8, flags: u8, key: u128) -> Result<Event,
     })
 }
 
-/// The request of the example of the SHE specification, for slot 4 of the node with UID 1, whose slot 1 has the master key.
-fn example_request() -> Request {
-    let m1 = Block::of(0x00000000000000000000000000000141u128.to_be_bytes());
-    let m2 = [
-        Block::of(0x2b111e2d93f486566bcbba1d7f7a9797u128.to_be_bytes()),
-        Block::of(0xc94643b050fc5d4d7de14cff682203c3u128.to_be_bytes()),
-    ];
-    let m3 = Block::of(0xb9d745e5ace7d41860bc63c2b9f5bb46u128.to_be_bytes());
-    Request { m1, m2, m3 }
-}
-
-/// Its reply.
-fn example_reply() -> Reply {
-    let m4 = [
-        Block::of(0x00000000000000000000000000000141u128.to_be_bytes()),
-        Block::of(0xb472e8d8727d70d57295e74849a27917u128.to_be_bytes()),
-    ];
-    let m5 = Block::of(0x820d8d95dc11b4668878160cb2a4e23eu128.to_be_bytes());
-    Reply { m4, m5 }
+/// A node sends a payload.
+fn send_event(alloc: Global, node: u8, id: u16, payload: &[u8]) -> Result<Event, Fail> {
+    let payload = Bytes::of(Vec::from_slice(alloc, payload)?);
+    Ok(Event::Send { node, id, payload })
 }
 
 /// The event of a row.
 pub(crate) fn event_of(alloc: Global, row: &Row) -> Result<Event, Fail> {
     let Row(node, act, _) = *row;
-    Ok(match act {
-        Act::Key(uid, slot, flags, key) => key_event(node, uid, slot, flags, key)?,
-        Act::Load => Event::Load {
-            node,
-            request: example_request(),
-        },
-        Act::Boot(image) => Event::Boot {
-            node,
-            image: bytes(alloc, image)?,
-        },
-        Act::Send(id, payload) => Event::Send {
-            node,
-            id,
-            payload: bytes(alloc, payload)?,
-        },
-        Act::Deliver(event) => Event::Deliver { node, event },
-        Act::Inject(id, pdu) => Event::Inject {
-            node,
-            id,
-            pdu: bytes(alloc, pdu)?,
-        },
-        Act::Stop(calls) => Event::Stop { node, calls },
-        Act::Fail(calls) => Event::Fail { node, calls },
-        Act::Cut(torn) => Event::Cut { node, torn },
-    })
+    match act {
+        Act::Key(uid) => key_event(node, uid),
+        Act::Send(id, payload) => send_event(alloc, node, id, payload),
+        Act::Deliver(event) => Ok(Event::Deliver { node, event }),
+        Act::Stop(calls) => Ok(Event::Stop { node, calls }),
+        Act::Fail(calls) => Ok(Event::Fail { node, calls }),
+        Act::Cut(torn) => Ok(Event::Cut { node, torn }),
+    }
 }
 
 /// The line of a row.
-pub(crate) fn line_of(row: &Row) -> Result<Line, Fail> {
+fn line_of(row: &Row) -> Result<Line, Fail> {
     Ok(match row.2 {
-        Told::Keyed(slot) => Line::Keyed {
-            slot: SlotId::new(slot).ok_or("a slot")?,
+        Told::Keyed => Line::Keyed {
+            slot: SlotId::new(4).ok_or("a slot")?,
         },
-        Told::Loaded => Line::Loaded {
-            reply: example_reply(),
-        },
-        Told::Sent(id, freshness, frame) => Line::Sent {
+        Told::Sent(id, freshness, pdu) => Line::Sent {
             id,
             freshness,
-            pdu: pdu(frame)?,
+            pdu: Pdu::of(pdu).ok_or("too long")?,
         },
-        Told::Accepted(id, freshness, payload, event) => Line::Accepted {
-            id,
-            freshness,
-            payload: pdu(payload)?,
-            from: if event == 0 { None } else { Some(event) },
-        },
-        Told::VerificationFailure => Line::VerificationFailure,
         Told::NoFrame => Line::NoFrame,
         Told::Armed => Line::Armed,
         Told::Up => Line::Up,
-        Told::NoRoute => Line::Refused(Refusal::NoRoute),
+        Told::Filled => Line::Refused(Refusal::Key(Erc::KeyUpdateError)),
         Told::Down => Line::Refused(Refusal::Down),
         Told::MemoryFailure => Line::Refused(Refusal::MemoryFailure),
-        Told::Refused(erc) => Line::Refused(Refusal::Key(erc)),
     })
+}
+
+/// A line is that of its row, which stands at this place.
+pub(crate) fn line_is(rt: &impl Abort, place: usize, line: &Line, row: &Row) -> Result<(), Fail> {
+    same(rt, place, line, &line_of(row)?);
+    Ok(())
 }
 
 /// The node of an event.
@@ -389,12 +332,22 @@ impl<D: CutDisk + Drop> Bench<D> {
         Ok(self.world.step(event))
     }
 
-    /// Does the events of these rows, and compares their lines.
+    /// Does the event of a row, and compares its line.
+    fn line(
+        &mut self,
+        rt: &impl Abort,
+        alloc: Global,
+        place: usize,
+        row: &Row,
+    ) -> Result<(), Fail> {
+        let event = event_of(alloc, row)?;
+        line_is(rt, place, &self.answer(&event)?, row)
+    }
+
+    /// Does the events of these rows.
     fn tells(&mut self, rt: &impl Abort, alloc: Global, rows: &[Row]) -> Result<(), Fail> {
         for (place, row) in rows.iter().enumerate() {
-            let event = event_of(alloc, row)?;
-            let line = self.answer(&event)?;
-            same(rt, place, &line, &line_of(row)?);
+            self.line(rt, alloc, place, row)?;
         }
         Ok(())
     }

@@ -2,7 +2,6 @@
 use crate::attached::{SIZE, pair};
 use crate::bench::{bytes_at, disks, starts};
 use crate::comparing::same;
-use any_cells::AnyCells;
 use bus_world::{Start, StartFault};
 use cell_store::{Kind, Reread, Version};
 use cut_disk::{CutDisk, Disk, MemDisk};
@@ -14,10 +13,8 @@ use std::test::Fail;
 /// What is done to the disk of a node that stood before.
 #[derive(Clone, Copy)]
 enum Harm {
-    /// These bytes become this.
-    Bytes(&'static [u64], u8),
-    /// A cell becomes 32 bytes ff, in a fresh store of zeros.
-    Cell(u16),
+    /// From each of these places on it has these bytes.
+    Bytes(&'static [u64], &'static [u8]),
     /// Its call of this number fails.
     Fails(u64),
 }
@@ -54,62 +51,106 @@ const LOG_GATE: &[u64] = &[32];
 
 const LOG_GATE_TWO: &[u64] = &[32_800];
 
+/// No slot and no bound.
+const NO_CELL: &[u8] = &[0xff; 32];
+
+/// An empty slot, which is no bound.
+const EMPTY: &[u8] = &[0; 32];
+
 const ROWS: &[Row] = &[
-    Row(TWIN_ONE, TWIN_ONE, 1, Harm::Bytes(&[0], 0), FOREIGN),
-    Row(LOG_ONE, LOG_ONE, 2, Harm::Bytes(&[31], 1), FOREIGN),
-    Row(TWIN_TWO, TWIN_TWO, 1, Harm::Bytes(&[32_768], 0), FOREIGN),
-    Row(LOG_TWO, LOG_TWO, 2, Harm::Bytes(&[32_779], 14), FOREIGN),
-    Row(TWIN_ONE, LOG_ONE, 1, Harm::Bytes(&[], 0), FOREIGN),
-    Row(LOG_ONE, TWIN_TWO, 1, Harm::Bytes(&[], 0), FOREIGN),
-    Row(TWIN_TWO, TWIN_ONE, 1, Harm::Bytes(&[], 0), FOREIGN),
-    Row(LOG_TWO, LOG_ONE, 1, Harm::Bytes(&[], 0), FOREIGN),
+    Row(TWIN_ONE, TWIN_ONE, 1, Harm::Bytes(&[0], &[0]), FOREIGN),
+    Row(LOG_ONE, LOG_ONE, 2, Harm::Bytes(&[31], &[1]), FOREIGN),
+    Row(TWIN_TWO, TWIN_TWO, 1, Harm::Bytes(&[32_768], &[0]), FOREIGN),
+    Row(LOG_TWO, LOG_TWO, 2, Harm::Bytes(&[32_779], &[14]), FOREIGN),
+    Row(TWIN_ONE, LOG_ONE, 1, Harm::Bytes(&[], &[0]), FOREIGN),
+    Row(LOG_ONE, TWIN_TWO, 1, Harm::Bytes(&[], &[0]), FOREIGN),
+    Row(TWIN_TWO, TWIN_ONE, 1, Harm::Bytes(&[], &[0]), FOREIGN),
+    Row(LOG_TWO, LOG_ONE, 1, Harm::Bytes(&[], &[0]), FOREIGN),
     Row(
         TWIN_ONE,
         TWIN_ONE,
         2,
-        Harm::Bytes(TWIN_GATES, 0),
+        Harm::Bytes(TWIN_GATES, &[0]),
         Refused::Store(Reread::Damaged(1)),
     ),
     Row(
         TWIN_ONE,
         TWIN_TWO,
         2,
-        Harm::Bytes(TWIN_GATES, 0),
+        Harm::Bytes(TWIN_GATES, &[0]),
         Refused::Store(Reread::Damaged(1)),
     ),
     Row(
         TWIN_TWO,
         TWIN_TWO,
         1,
-        Harm::Bytes(TWIN_GATES_TWO, 0),
+        Harm::Bytes(TWIN_GATES_TWO, &[0]),
         Refused::Store(Reread::Damaged(1)),
     ),
     Row(
         LOG_ONE,
         LOG_ONE,
         1,
-        Harm::Bytes(LOG_GATE, 0),
+        Harm::Bytes(LOG_GATE, &[0]),
         Refused::Store(Reread::Damaged(0)),
     ),
     Row(
         LOG_ONE,
         LOG_TWO,
         1,
-        Harm::Bytes(LOG_GATE, 0),
+        Harm::Bytes(LOG_GATE, &[0]),
         Refused::Store(Reread::Damaged(0)),
     ),
     Row(
         LOG_TWO,
         LOG_TWO,
         2,
-        Harm::Bytes(LOG_GATE_TWO, 0),
+        Harm::Bytes(LOG_GATE_TWO, &[0]),
         Refused::Store(Reread::Damaged(0)),
     ),
-    Row(TWIN_ONE, TWIN_ONE, 1, Harm::Cell(5), Refused::Slot(5)),
-    Row(LOG_TWO, LOG_TWO, 2, Harm::Cell(13), Refused::Slot(13)),
-    Row(TWIN_TWO, TWIN_TWO, 2, Harm::Cell(14), Refused::Bound(14)),
-    Row(LOG_ONE, LOG_ONE, 1, Harm::Cell(14), Refused::Bound(14)),
-    Row(TWIN_ONE, TWIN_TWO, 1, Harm::Cell(3), Refused::Slot(3)),
+    // cells, in both copies of a twin store: slots, with the bound in cell 14; and the bound
+    Row(
+        TWIN_ONE,
+        TWIN_ONE,
+        1,
+        Harm::Bytes(&[374, 408, 986, 1_020], NO_CELL),
+        Refused::Slot(5),
+    ),
+    Row(
+        LOG_TWO,
+        LOG_TWO,
+        2,
+        Harm::Bytes(&[33_218, 33_250], NO_CELL),
+        Refused::Slot(13),
+    ),
+    Row(
+        TWIN_TWO,
+        TWIN_TWO,
+        2,
+        Harm::Bytes(&[33_754, 33_788], NO_CELL),
+        Refused::Bound(14),
+    ),
+    Row(
+        LOG_ONE,
+        LOG_ONE,
+        1,
+        Harm::Bytes(&[482], NO_CELL),
+        Refused::Bound(14),
+    ),
+    Row(
+        TWIN_ONE,
+        TWIN_TWO,
+        1,
+        Harm::Bytes(&[238, 272, 986, 1_020], NO_CELL),
+        Refused::Slot(3),
+    ),
+    Row(
+        LOG_TWO,
+        LOG_TWO,
+        1,
+        Harm::Bytes(&[33_250], EMPTY),
+        Refused::Bound(14),
+    ),
     Row(TWIN_ONE, TWIN_ONE, 2, Harm::Fails(1), FAILED),
     Row(LOG_ONE, LOG_ONE, 1, Harm::Fails(2), FAILED),
     Row(TWIN_TWO, TWIN_TWO, 2, Harm::Fails(3), FAILED),
@@ -136,41 +177,28 @@ pub(crate) fn standing(alloc: Global, store: (Kind, Version)) -> Result<Vec<MemD
     }
 }
 
-/// A disk with fifteen cells, of which this one is 32 bytes ff, and the others are zero.
-fn with_cell(alloc: Global, store: (Kind, Version), cell: u16) -> Result<MemDisk, Fail> {
-    let mut cells = [[0; 32]; 15];
-    if cell < 15 {
-        cells[usize::from(cell)] = [0xff; 32];
-    }
-    match AnyCells::format_as(MemDisk::new(alloc, SIZE)?, store.0, store.1, &cells) {
-        Ok(disk) => Ok(disk),
-        Err(refused) => Err(Fail::from(refused.fault)),
-    }
-}
-
-/// These bytes of a disk become this.
-fn writes(disk: &mut MemDisk, places: &[u64], byte: u8) -> Result<(), Fail> {
+/// From each of these places on a disk has these bytes.
+fn writes(disk: &mut MemDisk, places: &[u64], bytes: &[u8]) -> Result<(), Fail> {
     for place in places {
-        if *place < disk.size() {
-            disk.write(*place, &[byte])?;
+        if bytes.len() > 32 || *place > 39_968 || disk.size() != 40_000 {
+            return Err(Fail::from("no such place"));
         }
+        disk.write(*place, bytes)?;
     }
     disk.sync()?;
     Ok(())
 }
 
 /// Does the harm of a row to the disk of its node, but for a failure of a call.
-fn harms(alloc: Global, disks: &mut [MemDisk], row: &Row) -> Result<(), Fail> {
+fn harms(disks: &mut [MemDisk], row: &Row) -> Result<(), Fail> {
     let place = usize::from(row.2).saturating_sub(1);
     if place >= disks.len() {
         return Err(Fail::from("no disk"));
     }
     match row.3 {
-        Harm::Bytes(places, byte) => writes(&mut disks[place], places, byte)?,
-        Harm::Cell(cell) => disks[place] = with_cell(alloc, row.0, cell)?,
-        Harm::Fails(_) => {}
+        Harm::Bytes(places, bytes) => writes(&mut disks[place], places, bytes),
+        Harm::Fails(_) => Ok(()),
     }
-    Ok(())
 }
 
 /// Arms the failure of a row.
@@ -213,7 +241,7 @@ fn is_refused(
 
 fn refuses(rt: &impl Abort, alloc: Global, row: &Row) -> Result<(), Fail> {
     let mut made = standing(alloc, row.0)?;
-    harms(alloc, made.as_mut_slice(), row)?;
+    harms(made.as_mut_slice(), row)?;
     is_refused(rt, alloc, row, &mut made)
 }
 

@@ -1,7 +1,5 @@
-//! Starts that are refused, and the most nodes.
-use crate::bench::{
-    Act, NodeRow, RouteRow, Row, STORES, Told, are_of, bus_of, disks, lives, starts,
-};
+//! Starts over disks that are too few, too small or fail.
+use crate::bench::{NodeRow, RouteRow, STORES, are_of, bus_of, disks, starts};
 use crate::comparing::same;
 use bus_nodes::BusConfig;
 use bus_world::{Start, StartFault};
@@ -41,100 +39,218 @@ fn answers(
     are_of(rt, disks.as_slice(), sizes);
 }
 
-/// The sizes of the three stores, by the layouts of the stores, and those one byte less.
-const LEAST: [(Kind, Version, [usize; 3], [usize; 3]); 4] = [
-    (
+/// What a start over disks of some sizes answers.
+#[derive(Clone, Copy)]
+enum Wanted {
+    Starts,
+    TooFew,
+    TooSmall(u8),
+}
+
+/// The layout of the stores, the sizes of the disks, and the answer.
+struct Sized(Kind, Version, &'static [usize], Wanted);
+
+/// In each layout a disk or two are a byte too small, the largest disk isn't that of the second node, a disk is missing; and all are as the stores
+/// need them.
+const SIZED: &[Sized] = &[
+    Sized(
         Kind::Twin,
         Version::One,
-        [1_120, 1_188, 1_120],
-        [1_119, 1_187, 1_119],
+        &[1_119, 1_188, 1_120],
+        Wanted::TooSmall(1),
     ),
-    (
+    Sized(
+        Kind::Twin,
+        Version::One,
+        &[1_120, 1_187, 1_120],
+        Wanted::TooSmall(2),
+    ),
+    Sized(
+        Kind::Twin,
+        Version::One,
+        &[1_120, 1_188, 1_119],
+        Wanted::TooSmall(3),
+    ),
+    Sized(
+        Kind::Twin,
+        Version::One,
+        &[1_120, 1_187, 1_119],
+        Wanted::TooSmall(2),
+    ),
+    Sized(
+        Kind::Twin,
+        Version::One,
+        &[1_120, 1_120, 1_188],
+        Wanted::TooSmall(2),
+    ),
+    Sized(Kind::Twin, Version::One, &[1_120, 1_188], Wanted::TooFew),
+    Sized(
+        Kind::Twin,
+        Version::One,
+        &[1_120, 1_188, 1_120],
+        Wanted::Starts,
+    ),
+    Sized(
         Kind::Twin,
         Version::Two,
-        [33_888, 33_956, 33_888],
-        [33_887, 33_955, 33_887],
+        &[33_887, 33_956, 33_888],
+        Wanted::TooSmall(1),
     ),
-    (
+    Sized(
+        Kind::Twin,
+        Version::Two,
+        &[33_888, 33_955, 33_888],
+        Wanted::TooSmall(2),
+    ),
+    Sized(
+        Kind::Twin,
+        Version::Two,
+        &[33_888, 33_956, 33_887],
+        Wanted::TooSmall(3),
+    ),
+    Sized(
+        Kind::Twin,
+        Version::Two,
+        &[33_888, 33_955, 33_887],
+        Wanted::TooSmall(2),
+    ),
+    Sized(
+        Kind::Twin,
+        Version::Two,
+        &[33_888, 33_888, 33_956],
+        Wanted::TooSmall(2),
+    ),
+    Sized(Kind::Twin, Version::Two, &[33_888, 33_956], Wanted::TooFew),
+    Sized(
+        Kind::Twin,
+        Version::Two,
+        &[33_888, 33_956, 33_888],
+        Wanted::Starts,
+    ),
+    Sized(
         Kind::Log,
         Version::One,
-        [5_540, 5_604, 5_540],
-        [5_539, 5_603, 5_539],
+        &[5_539, 5_604, 5_540],
+        Wanted::TooSmall(1),
     ),
-    (
+    Sized(
+        Kind::Log,
+        Version::One,
+        &[5_540, 5_603, 5_540],
+        Wanted::TooSmall(2),
+    ),
+    Sized(
+        Kind::Log,
+        Version::One,
+        &[5_540, 5_604, 5_539],
+        Wanted::TooSmall(3),
+    ),
+    Sized(
+        Kind::Log,
+        Version::One,
+        &[5_540, 5_603, 5_539],
+        Wanted::TooSmall(2),
+    ),
+    Sized(
+        Kind::Log,
+        Version::One,
+        &[5_540, 5_540, 5_604],
+        Wanted::TooSmall(2),
+    ),
+    Sized(Kind::Log, Version::One, &[5_540, 5_604], Wanted::TooFew),
+    Sized(
+        Kind::Log,
+        Version::One,
+        &[5_540, 5_604, 5_540],
+        Wanted::Starts,
+    ),
+    Sized(
         Kind::Log,
         Version::Two,
-        [38_308, 38_372, 38_308],
-        [38_307, 38_371, 38_307],
+        &[38_307, 38_372, 38_308],
+        Wanted::TooSmall(1),
+    ),
+    Sized(
+        Kind::Log,
+        Version::Two,
+        &[38_308, 38_371, 38_308],
+        Wanted::TooSmall(2),
+    ),
+    Sized(
+        Kind::Log,
+        Version::Two,
+        &[38_308, 38_372, 38_307],
+        Wanted::TooSmall(3),
+    ),
+    Sized(
+        Kind::Log,
+        Version::Two,
+        &[38_308, 38_371, 38_307],
+        Wanted::TooSmall(2),
+    ),
+    Sized(
+        Kind::Log,
+        Version::Two,
+        &[38_308, 38_308, 38_372],
+        Wanted::TooSmall(2),
+    ),
+    Sized(Kind::Log, Version::Two, &[38_308, 38_372], Wanted::TooFew),
+    Sized(
+        Kind::Log,
+        Version::Two,
+        &[38_308, 38_372, 38_308],
+        Wanted::Starts,
     ),
 ];
 
-/// Which of the three disks are a byte too small, and the number of the node that is named.
-const SMALL: &[([bool; 3], u8)] = &[
-    ([true, false, false], 1),
-    ([false, true, false], 2),
-    ([false, false, true], 3),
-    ([false, true, true], 2),
-];
-
-fn size_of(is_less: bool, least: usize, less: usize) -> usize {
-    if is_less { less } else { least }
-}
-
-fn sizes_of(small: &[bool; 3], least: &[usize; 3], less: &[usize; 3]) -> [usize; 3] {
-    [
-        size_of(small[0], least[0], less[0]),
-        size_of(small[1], least[1], less[1]),
-        size_of(small[2], least[2], less[2]),
-    ]
-}
-
-/// A start over new disks of these sizes.
-fn answers_sizes(
-    rt: &impl Abort,
-    alloc: Global,
-    bus: &BusConfig,
-    sizes: &[usize],
-    fault: Option<StartFault>,
-) -> Result<(), Fail> {
-    let mut made = disks(alloc, sizes)?;
-    answers(rt, alloc, bus, &mut made, sizes, fault);
-    Ok(())
-}
-
-/// Starts over disks of these sizes, of those one byte less, and of others.
-fn are_told(
-    rt: &impl Abort,
-    alloc: Global,
-    bus: &BusConfig,
-    least: &[usize; 3],
-    less: &[usize; 3],
-) -> Result<(), Fail> {
-    for (small, number) in SMALL {
-        let sizes = sizes_of(small, least, less);
-        let fault = StartFault::TooSmall(*number);
-        answers_sizes(rt, alloc, bus, &sizes, Some(fault))?;
+fn fault_of(wanted: Wanted) -> Option<StartFault> {
+    match wanted {
+        Wanted::Starts => None,
+        Wanted::TooFew => Some(StartFault::TooFew),
+        Wanted::TooSmall(number) => Some(StartFault::TooSmall(number)),
     }
-    let shifted = [least[0], least[0], least[1]];
-    answers_sizes(rt, alloc, bus, &shifted, Some(StartFault::TooSmall(2)))?;
-    answers_sizes(rt, alloc, bus, &least[..2], Some(StartFault::TooFew))?;
-    answers_sizes(rt, alloc, bus, least, None)
+}
+
+/// A start over new disks of the sizes of a row.
+fn answers_sizes(rt: &impl Abort, alloc: Global, bus: &BusConfig, row: &Sized) -> Result<(), Fail> {
+    let mut made = disks(alloc, row.2)?;
+    answers(rt, alloc, bus, &mut made, row.2, fault_of(row.3));
+    Ok(())
 }
 
 #[test]
 fn too_few_and_too_small_disks_are_named(rt: HostRuntime) -> Result<(), Fail> {
-    for (kind, version, least, less) in &LEAST {
-        let bus = bus_of(rt.alloc(), *kind, *version, UNEQUAL)?;
-        are_told(&rt, rt.alloc(), &bus, least, less)?;
+    for row in SIZED {
+        let bus = bus_of(rt.alloc(), row.0, row.1, UNEQUAL)?;
+        answers_sizes(&rt, rt.alloc(), &bus, row)?;
     }
     Ok(())
 }
 
-const THREE_SIZES: [usize; 3] = [39_000, 39_001, 39_002];
+/// Eight nodes, of which the second has a route more.
+const EIGHT: &[NodeRow] = &[
+    NodeRow(b"a", 1, &[HEARD, HEARD_TOO]),
+    NodeRow(
+        b"b",
+        1,
+        &[HEARD, HEARD_TOO, RouteRow(2, Direction::Receives, 4, 1, 0)],
+    ),
+    NodeRow(b"c", 1, &[HEARD, HEARD_TOO]),
+    NodeRow(b"d", 1, &[HEARD, HEARD_TOO]),
+    NodeRow(b"e", 1, &[HEARD, HEARD_TOO]),
+    NodeRow(b"f", 1, &[HEARD, HEARD_TOO]),
+    NodeRow(b"g", 1, &[HEARD, HEARD_TOO]),
+    NodeRow(b"h", 1, &[HEARD, HEARD_TOO]),
+];
 
-/// Three disks, of which the one of the node with this number fails at this call.
+/// Disks of different sizes, one more than there are nodes.
+const SIZES: [usize; 9] = [
+    39_000, 39_001, 39_002, 39_003, 39_004, 39_005, 39_006, 39_007, 39_008,
+];
+
+/// These disks, of which the one of the node with this number fails at this call.
 fn failing(alloc: Global, number: u8, call: u64) -> Result<Vec<MemDisk>, Fail> {
-    let mut made = disks(alloc, &THREE_SIZES)?;
+    let mut made = disks(alloc, &SIZES)?;
     let place = usize::from(number).saturating_sub(1);
     if place >= made.len() || call == 0 {
         return Err(Fail::from("no disk or no call"));
@@ -153,14 +269,14 @@ fn fails_and_starts(
 ) -> Result<(), Fail> {
     let mut made = failing(alloc, number, call)?;
     let fault = StartFault::Store(number, Reread::DiskFailed);
-    answers(rt, alloc, bus, &mut made, &THREE_SIZES, Some(fault));
-    answers(rt, alloc, bus, &mut made, &THREE_SIZES, None);
+    answers(rt, alloc, bus, &mut made, &SIZES, Some(fault));
+    answers(rt, alloc, bus, &mut made, &SIZES, None);
     Ok(())
 }
 
-/// Each node fails at its first call, and at its twentieth.
+/// The first node, that with the most routes and the last fail at their first call, and at their twentieth.
 fn each_is_named(rt: &impl Abort, alloc: Global, bus: &BusConfig) -> Result<(), Fail> {
-    for number in 1..4 {
+    for number in [1, 2, 8] {
         fails_and_starts(rt, alloc, bus, number, 1)?;
         fails_and_starts(rt, alloc, bus, number, 20)?;
     }
@@ -170,208 +286,8 @@ fn each_is_named(rt: &impl Abort, alloc: Global, bus: &BusConfig) -> Result<(), 
 #[test]
 fn the_node_whose_disk_fails_is_named(rt: HostRuntime) -> Result<(), Fail> {
     for (kind, version) in STORES {
-        let bus = bus_of(rt.alloc(), kind, version, UNEQUAL)?;
+        let bus = bus_of(rt.alloc(), kind, version, EIGHT)?;
         each_is_named(&rt, rt.alloc(), &bus)?;
-    }
-    Ok(())
-}
-
-/// A ring of eight nodes: each sends under the Data ID of its place, and receives what the one before it sends.
-const RING: &[NodeRow] = &[
-    NodeRow(
-        b"a",
-        1,
-        &[
-            RouteRow(0, Direction::Sends, 4, 4, 0),
-            RouteRow(7, Direction::Receives, 4, 1, 0),
-        ],
-    ),
-    NodeRow(
-        b"b",
-        1,
-        &[
-            RouteRow(1, Direction::Sends, 4, 4, 0),
-            RouteRow(0, Direction::Receives, 4, 1, 0),
-        ],
-    ),
-    NodeRow(
-        b"c",
-        1,
-        &[
-            RouteRow(2, Direction::Sends, 4, 4, 0),
-            RouteRow(1, Direction::Receives, 4, 1, 0),
-        ],
-    ),
-    NodeRow(
-        b"d",
-        1,
-        &[
-            RouteRow(3, Direction::Sends, 4, 4, 0),
-            RouteRow(2, Direction::Receives, 4, 1, 0),
-        ],
-    ),
-    NodeRow(
-        b"e",
-        1,
-        &[
-            RouteRow(4, Direction::Sends, 4, 4, 0),
-            RouteRow(3, Direction::Receives, 4, 1, 0),
-        ],
-    ),
-    NodeRow(
-        b"f",
-        1,
-        &[
-            RouteRow(5, Direction::Sends, 4, 4, 0),
-            RouteRow(4, Direction::Receives, 4, 1, 0),
-        ],
-    ),
-    NodeRow(
-        b"g",
-        1,
-        &[
-            RouteRow(6, Direction::Sends, 4, 4, 0),
-            RouteRow(5, Direction::Receives, 4, 1, 0),
-        ],
-    ),
-    NodeRow(
-        b"h",
-        1,
-        &[
-            RouteRow(7, Direction::Sends, 4, 4, 0),
-            RouteRow(6, Direction::Receives, 4, 1, 0),
-        ],
-    ),
-];
-
-const KEY: Act = Act::Key(1, 4, 2, 0x2b7e151628aed2a6abf7158809cf4f3c);
-
-const RING_LIFE: &[Row] = &[
-    // events 1 to 24: each node gets the key and sends twice
-    Row(0, KEY, Told::Keyed(4)),
-    Row(1, KEY, Told::Keyed(4)),
-    Row(2, KEY, Told::Keyed(4)),
-    Row(3, KEY, Told::Keyed(4)),
-    Row(4, KEY, Told::Keyed(4)),
-    Row(5, KEY, Told::Keyed(4)),
-    Row(6, KEY, Told::Keyed(4)),
-    Row(7, KEY, Told::Keyed(4)),
-    Row(
-        0,
-        Act::Send(0, b"\x00"),
-        Told::Sent(0, 1, b"\x00\x01\xbe\xe0\x08"),
-    ),
-    Row(
-        1,
-        Act::Send(1, b"\x01"),
-        Told::Sent(1, 1, b"\x01\x01\xca\xb6\xd3"),
-    ),
-    Row(
-        2,
-        Act::Send(2, b"\x02"),
-        Told::Sent(2, 1, b"\x02\x01\x67\xaa\x37"),
-    ),
-    Row(
-        3,
-        Act::Send(3, b"\x03"),
-        Told::Sent(3, 1, b"\x03\x01\x5e\x0b\xc1"),
-    ),
-    Row(
-        4,
-        Act::Send(4, b"\x04"),
-        Told::Sent(4, 1, b"\x04\x01\x4b\x29\x75"),
-    ),
-    Row(
-        5,
-        Act::Send(5, b"\x05"),
-        Told::Sent(5, 1, b"\x05\x01\x05\xa7\x2b"),
-    ),
-    Row(
-        6,
-        Act::Send(6, b"\x06"),
-        Told::Sent(6, 1, b"\x06\x01\x87\x87\xee"),
-    ),
-    Row(
-        7,
-        Act::Send(7, b"\x07"),
-        Told::Sent(7, 1, b"\x07\x01\xbc\x6b\x0f"),
-    ),
-    Row(
-        0,
-        Act::Send(0, b"\x00\xff"),
-        Told::Sent(0, 2, b"\x00\xff\x02\x7b\xaa\xe8"),
-    ),
-    Row(
-        1,
-        Act::Send(1, b"\x01\xff"),
-        Told::Sent(1, 2, b"\x01\xff\x02\xd2\xbb\x9b"),
-    ),
-    Row(
-        2,
-        Act::Send(2, b"\x02\xff"),
-        Told::Sent(2, 2, b"\x02\xff\x02\x3d\x41\xc2"),
-    ),
-    Row(
-        3,
-        Act::Send(3, b"\x03\xff"),
-        Told::Sent(3, 2, b"\x03\xff\x02\xae\xcf\x94"),
-    ),
-    Row(
-        4,
-        Act::Send(4, b"\x04\xff"),
-        Told::Sent(4, 2, b"\x04\xff\x02\xfb\x18\x8c"),
-    ),
-    Row(
-        5,
-        Act::Send(5, b"\x05\xff"),
-        Told::Sent(5, 2, b"\x05\xff\x02\x5e\xae\x15"),
-    ),
-    Row(
-        6,
-        Act::Send(6, b"\x06\xff"),
-        Told::Sent(6, 2, b"\x06\xff\x02\xf4\xe3\x6e"),
-    ),
-    Row(
-        7,
-        Act::Send(7, b"\x07\xff"),
-        Told::Sent(7, 2, b"\x07\xff\x02\xcc\xc8\x2d"),
-    ),
-    // events 25 to 40: each node gets both lines of the one before it
-    Row(1, Act::Deliver(9), Told::Accepted(0, 1, b"\x00", 9)),
-    Row(2, Act::Deliver(10), Told::Accepted(1, 1, b"\x01", 10)),
-    Row(3, Act::Deliver(11), Told::Accepted(2, 1, b"\x02", 11)),
-    Row(4, Act::Deliver(12), Told::Accepted(3, 1, b"\x03", 12)),
-    Row(5, Act::Deliver(13), Told::Accepted(4, 1, b"\x04", 13)),
-    Row(6, Act::Deliver(14), Told::Accepted(5, 1, b"\x05", 14)),
-    Row(7, Act::Deliver(15), Told::Accepted(6, 1, b"\x06", 15)),
-    Row(0, Act::Deliver(16), Told::Accepted(7, 1, b"\x07", 16)),
-    Row(1, Act::Deliver(17), Told::Accepted(0, 2, b"\x00\xff", 17)),
-    Row(2, Act::Deliver(18), Told::Accepted(1, 2, b"\x01\xff", 18)),
-    Row(3, Act::Deliver(19), Told::Accepted(2, 2, b"\x02\xff", 19)),
-    Row(4, Act::Deliver(20), Told::Accepted(3, 2, b"\x03\xff", 20)),
-    Row(5, Act::Deliver(21), Told::Accepted(4, 2, b"\x04\xff", 21)),
-    Row(6, Act::Deliver(22), Told::Accepted(5, 2, b"\x05\xff", 22)),
-    Row(7, Act::Deliver(23), Told::Accepted(6, 2, b"\x06\xff", 23)),
-    Row(0, Act::Deliver(24), Told::Accepted(7, 2, b"\x07\xff", 24)),
-];
-
-const RING_SIZES: [usize; 8] = [
-    40_000, 40_001, 40_002, 40_003, 40_004, 40_005, 40_006, 40_007,
-];
-
-/// The life of the ring over stores of this kind and version.
-fn ring_lives(rt: &impl Abort, alloc: Global, store: (Kind, Version)) -> Result<(), Fail> {
-    let bus = bus_of(alloc, store.0, store.1, RING)?;
-    let made = disks(alloc, &RING_SIZES)?;
-    let made = lives(rt, alloc, &bus, made, 40, Start::Format, RING_LIFE)?;
-    are_of(rt, made.as_slice(), &RING_SIZES);
-    Ok(())
-}
-
-#[test]
-fn eight_nodes_hear_one_another(rt: HostRuntime) -> Result<(), Fail> {
-    for store in STORES {
-        ring_lives(&rt, rt.alloc(), store)?;
     }
     Ok(())
 }
