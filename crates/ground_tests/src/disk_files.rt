@@ -418,16 +418,18 @@ const ARMS: &[Step] = &[
     ),
     Step(
         Opening::Disk,
-        &[Part(
-            &[
-                Act(What::Calls(Mark::Fail(2)), 0, b""),
-                Act(What::Answers, 0, b".x."),
-                Act(What::Answers, 0, b"..."),
-            ],
-            Other::Nothing,
-            0,
-            b"",
-        )],
+        &[
+            Part(
+                &[
+                    Act(What::Calls(Mark::Fail(2)), 0, b""),
+                    Act(What::Answers, 0, b".x."),
+                ],
+                Other::FindsBytes,
+                0,
+                &[1, 2],
+            ),
+            Part(&[Act(What::Answers, 0, b"...")], Other::Nothing, 0, b""),
+        ],
     ),
     Step(Opening::Not, &[Part(&[], Other::FindsBytes, 0, &[5, 6])]),
 ];
