@@ -48,6 +48,8 @@ const LOG_LIVES: &[Life] = &[
     Life(LOG, Run(NODE, [SEND, ""], 10, [FOREIGN, ""])),
 ];
 
+const LIVES: &[&[Life]] = &[TWIN_LIVES, LOG_LIVES];
+
 /// The lives one behind the other over these disks.
 fn lives<D: CutDisk + Drop>(
     rt: &impl Abort,
@@ -64,7 +66,7 @@ fn lives<D: CutDisk + Drop>(
 
 #[test]
 fn a_bus_goes_on_where_its_disks_stand(rt: HostRuntime) -> Result<(), Fail> {
-    for rows in [TWIN_LIVES, LOG_LIVES] {
+    for rows in LIVES {
         lives(
             &rt,
             rt.alloc(),

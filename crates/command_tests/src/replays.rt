@@ -155,6 +155,9 @@ const LAYOUTS: &[(&str, usize)] = &[
     ("store = \"log\"\nversion = 2\n", 38_244),
 ];
 
+/// The summary of a trial of one event of the seed 0, a power cut, behind the keys of two nodes: the same each time.
+const TRIED: &str = "events 21\nsent 0\naccepted 0\nfailures 0\nkeyed 20\ncuts 1\nrefused 0\n";
+
 /// Disks, and the run over them.
 struct Start(&'static [Size], Run);
 
@@ -179,6 +182,8 @@ const STARTS: &[Start] = &[
         &[Size::Of(65_536), Size::Of(65_536), Size::Of(0)],
         Run(REPLAY, [SENT, ""], 0, [SENT_LINES, ""]),
     ),
+    Start(TWO_DISKS, Run("trial B 1 0", [SENT, ""], 0, [TRIED, ""])),
+    Start(TWO_DISKS, Run("trial B 1 0", [SENT, ""], 0, [TRIED, ""])),
     Start(
         TWICE_100,
         Run(
