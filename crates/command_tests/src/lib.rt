@@ -7,12 +7,8 @@ mod comparing;
 #[cfg(test)]
 mod counting;
 #[cfg(test)]
-mod lines;
-#[cfg(test)]
 mod nodes;
 #[cfg(test)]
 mod playing;
 #[cfg(test)]
 mod replays;
-#[cfg(test)]
-mod trials;

@@ -1,9 +1,8 @@
 //! Whole replays over disks and ports in memory: what a program over disks of its own can't show. What it can is a row
 //! of checks/.
-use crate::comparing::{holds, same};
-use crate::lines::BUS;
-use crate::playing::{Run, Text, clean_run, plays, plays_once};
-use cut_disk::{CutDisk, Disk, DiskFailed, MemDisk, TapeDisk};
+use crate::comparing::holds;
+use crate::playing::{Run, Text, plays, plays_once};
+use cut_disk::{CutDisk, MemDisk, TapeDisk};
 use file_disk::{ByteFile, FileDisk, FileFailed, HeldFile, room_to_hold};
 use std::alloc::{AllocError, Global};
 use std::process::Abort;
@@ -24,68 +23,104 @@ const SENT: &str =
 const SENT_LINES: &str =
     "1 keyed 4\n2 keyed 4\n3 sent 6bc1 e93d7e117393172a bee22e409f962a070a16\n";
 
-/// Scripts and their lines: the ordinary run; a stop within the write of the receiver's bound, a cut, and the delivery
-/// again; and a cut that fails.
-const PAST: &[(Text, Text)] = &[
-    ([ORDINARY, ""], [ORDINARY_LINES, ""]),
-    (
+const REPLAY: &str = "replay B F";
+
+/// The ordinary run; a stop within the write of the receiver's bound, a cut, and the delivery again; and a cut that
+/// fails.
+const PAST: &[Run] = &[
+    Run(REPLAY, [ORDINARY, ""], 0, [ORDINARY_LINES, ""]),
+    Run(
+        REPLAY,
         [
             SENT,
             "stop right 2\ndeliver right 3\ndeliver right 3\ncut right old\ndeliver right 3\n",
         ],
+        0,
         [
             SENT_LINES,
             "4 armed\n5 refused MEMORY_FAILURE\n6 refused Down\n7 up\n8 accepted 6bc1 e93d7e117393172a bee22e409f96 from 3\n",
         ],
     ),
-    (
+    Run(
+        REPLAY,
         [
             SENT,
             "stop right 6\ndeliver right 3\ndeliver right 3\ncut right keep\ndeliver right 3\n",
         ],
+        0,
         [
             SENT_LINES,
             "4 armed\n5 refused MEMORY_FAILURE\n6 refused Down\n7 up\n8 VERIFICATIONFAILURE\n",
         ],
     ),
-    (
+    Run(
+        REPLAY,
         [
             SENT,
             "stop right 6\ndeliver right 3\ndeliver right 3\ncut right old\ndeliver right 3\n",
         ],
+        0,
         [
             SENT_LINES,
             "4 armed\n5 refused MEMORY_FAILURE\n6 refused Down\n7 up\n8 accepted 6bc1 e93d7e117393172a bee22e409f96 from 3\n",
         ],
     ),
-    (
+    Run(
+        REPLAY,
         [SENT, "fail right 1\ncut right keep\ncut right keep\n"],
+        0,
         [SENT_LINES, "4 armed\n5 refused MEMORY_FAILURE\n6 up\n"],
     ),
 ];
 
+/// The bytes of a disk: as many as the store takes, one fewer, or a number.
+#[derive(Clone, Copy)]
+pub(crate) enum Size {
+    Least,
+    OneLess,
+    Of(usize),
+}
+
+impl Size {
+    /// As many, where the store takes so many.
+    fn bytes(self, least: usize) -> usize {
+        match self {
+            Size::Least => least,
+            Size::OneLess => least.saturating_sub(1),
+            Size::Of(number) => number,
+        }
+    }
+}
+
+/// Two disks of as many bytes.
+pub(crate) const TWO_DISKS: &[Size] = &[Size::Least, Size::Least];
+
+/// A disk in memory of so many bytes.
+fn disk_of(alloc: Global, bytes: usize) -> Result<MemDisk, AllocError> {
+    if bytes > 65_536 {
+        return Err(AllocError);
+    }
+    match MemDisk::new(alloc, bytes) {
+        Ok(disk) => Ok(disk),
+        Err(_) => Err(AllocError),
+    }
+}
+
 /// Disks in memory of these sizes.
-pub(crate) fn disks_of(alloc: Global, sizes: &[usize]) -> Result<Vec<MemDisk>, AllocError> {
+pub(crate) fn disks_of(
+    alloc: Global,
+    least: usize,
+    sizes: &[Size],
+) -> Result<Vec<MemDisk>, AllocError> {
     let mut disks = Vec::new(alloc);
     for size in sizes {
-        if *size > 65_536 {
-            return Err(AllocError);
-        }
-        match MemDisk::new(alloc, *size) {
-            Ok(disk) => disks.push(disk)?,
-            Err(_) => return Err(AllocError),
-        }
+        disks.push(disk_of(alloc, size.bytes(least))?)?;
     }
     Ok(disks)
 }
 
-/// A replay of a script.
-fn replay(bus: Text, script: Text, status: u8, output: Text) -> Run {
-    clean_run("replay B F", bus, script, status, output)
-}
-
 /// Two disks that tell their past.
-pub(crate) fn tapes_of(alloc: Global) -> Result<Vec<TapeDisk>, Fail> {
+fn tapes_of(alloc: Global) -> Result<Vec<TapeDisk>, Fail> {
     let mut tapes = Vec::new(alloc);
     for _ in 0..2 {
         tapes.push(TapeDisk::new(alloc, 2_048, 400)?)?;
@@ -93,16 +128,10 @@ pub(crate) fn tapes_of(alloc: Global) -> Result<Vec<TapeDisk>, Fail> {
     Ok(tapes)
 }
 
-/// A script over two disks that tell their past.
-fn over_tapes(rt: &impl Abort, alloc: Global, script: Text, lines: Text) -> Result<(), Fail> {
+/// A run over two disks that tell their past.
+fn over_tapes(rt: &impl Abort, alloc: Global, given: &Run) -> Result<(), Fail> {
     let mut tapes = tapes_of(alloc)?;
-    plays(
-        rt,
-        alloc,
-        &replay([BUS, ""], script, 0, lines),
-        None,
-        &mut tapes,
-    )?;
+    plays(rt, alloc, "", given, &mut tapes)?;
     for tape in tapes.as_slice() {
         holds(rt, "the past is told", tape.past().is_some());
     }
@@ -112,56 +141,8 @@ fn over_tapes(rt: &impl Abort, alloc: Global, script: Text, lines: Text) -> Resu
 /// The same lines that a row of checks/ has of disks that don't tell it.
 #[test]
 fn disks_that_tell_their_past_print_the_same(rt: HostRuntime) -> Result<(), Fail> {
-    for (script, lines) in PAST {
-        over_tapes(&rt, rt.alloc(), *script, *lines)?;
-    }
-    Ok(())
-}
-
-/// The byte at an address of a disk.
-fn byte_at<D: Disk>(disk: &mut D, at: u64) -> Result<u8, DiskFailed> {
-    let mut out = [0];
-    if at >= disk.size() {
-        return Err(DiskFailed);
-    }
-    disk.read(at, &mut out)?;
-    Ok(out[0])
-}
-
-/// Behind how many lines the byte at an address of a node's disk is 1: the first four events put the cell of slot 1 and
-/// then that of slot 4, of the first node and then of the second, and have a line of ten bytes each. The mark of the
-/// second copy of a cell is 2 in a new twin store, and 1 behind the first put.
-const PUTS: &[(usize, usize, u64)] = &[(0, 0, 135), (1, 1, 135), (2, 0, 339), (3, 1, 339)];
-
-/// The byte at an address of the disk of this node.
-fn byte_of(disks: &mut [MemDisk], node: usize, at: u64) -> Result<u8, Fail> {
-    match disks.get_mut(node) {
-        Some(disk) => Ok(byte_at(disk, at)?),
-        None => Err(Fail::from("no disk")),
-    }
-}
-
-/// The events whose lines were begun are done, and no others.
-fn are_done(rt: &impl Abort, disks: &mut [MemDisk], written: usize) -> Result<(), Fail> {
-    for (lines, node, at) in PUTS {
-        let is_done = byte_of(disks, *node, *at)? == 1;
-        same(rt, written, &is_done, &(written / 10 >= *lines));
-    }
-    Ok(())
-}
-
-/// A replay over a sink that fails once so many bytes are written.
-fn stops_behind(rt: &impl Abort, alloc: Global, written: usize) -> Result<(), Fail> {
-    let given = replay([BUS, ""], [ORDINARY, ""], 0, [ORDINARY_LINES, ""]);
-    let mut disks = disks_of(alloc, &[2_048, 2_048])?;
-    plays(rt, alloc, &given, Some(written), &mut disks)?;
-    are_done(rt, disks.as_mut_slice(), written)
-}
-
-#[test]
-fn after_a_write_that_fails_nothing_more_is_written_or_done(rt: HostRuntime) -> Result<(), Fail> {
-    for written in 0..40 {
-        stops_behind(&rt, rt.alloc(), written)?;
+    for row in PAST {
+        over_tapes(&rt, rt.alloc(), row)?;
     }
     Ok(())
 }
@@ -174,105 +155,89 @@ const LAYOUTS: &[(&str, usize)] = &[
     ("store = \"log\"\nversion = 2\n", 38_244),
 ];
 
-/// The bytes of a disk: as many as the store takes, one fewer, or a number.
-#[derive(Clone, Copy)]
-enum Size {
-    Least,
-    OneLess,
-    Of(usize),
-}
+/// The summary of a trial of one event of the seed 0, a power cut, behind the keys of two nodes: the same each time.
+const TRIED: &str = "events 21\nsent 0\naccepted 0\nfailures 0\nkeyed 20\ncuts 1\nrefused 0\n";
 
-/// Disks, and the status and the text over them.
-struct Start(&'static [Size], u8, &'static str);
+/// Disks, and the run over them.
+struct Start(&'static [Size], Run);
+
+const TWICE_100: &[Size] = &[Size::Of(100), Size::Of(100)];
 
 const STARTS: &[Start] = &[
-    Start(&[], 9, "disks: too few\n"),
-    Start(&[Size::Least], 9, "disks: too few\n"),
+    Start(&[], Run(REPLAY, [SENT, ""], 9, ["disks: too few\n", ""])),
     Start(
-        &[Size::Of(100), Size::Of(100)],
-        9,
-        "disks: node 1 too small\n",
+        &[Size::Least],
+        Run(REPLAY, [SENT, ""], 9, ["disks: too few\n", ""]),
+    ),
+    Start(
+        TWICE_100,
+        Run(REPLAY, [SENT, ""], 9, ["disks: node 1 too small\n", ""]),
     ),
     Start(
         &[Size::Least, Size::OneLess],
-        9,
-        "disks: node 2 too small\n",
+        Run(REPLAY, [SENT, ""], 9, ["disks: node 2 too small\n", ""]),
     ),
-    Start(&[Size::Least, Size::Least], 0, SENT_LINES),
+    Start(TWO_DISKS, Run(REPLAY, [SENT, ""], 0, [SENT_LINES, ""])),
     Start(
         &[Size::Of(65_536), Size::Of(65_536), Size::Of(0)],
-        0,
-        SENT_LINES,
+        Run(REPLAY, [SENT, ""], 0, [SENT_LINES, ""]),
+    ),
+    Start(TWO_DISKS, Run("trial B 1 0", [SENT, ""], 0, [TRIED, ""])),
+    Start(TWO_DISKS, Run("trial B 1 0", [SENT, ""], 0, [TRIED, ""])),
+    Start(
+        TWICE_100,
+        Run(
+            "trial B 1 0",
+            [SENT, ""],
+            9,
+            ["disks: node 1 too small\n", ""],
+        ),
     ),
 ];
 
-/// Disks of these sizes.
-fn sized_disks(alloc: Global, least: usize, sizes: &[Size]) -> Result<Vec<MemDisk>, AllocError> {
-    let mut numbers = Vec::new(alloc);
-    for size in sizes {
-        let number = match size {
-            Size::Least => least,
-            Size::OneLess => least.saturating_sub(1),
-            Size::Of(number) => *number,
-        };
-        numbers.push(number)?;
-    }
-    disks_of(alloc, numbers.as_slice())
-}
-
-/// Over a sink that takes all, and over one that fails behind seven bytes.
+/// Each start in one of the layouts.
 fn starts_or_not(
     rt: &impl Abort,
     alloc: Global,
     layout: &'static str,
     least: usize,
-    row: &Start,
 ) -> Result<(), Fail> {
-    let given = replay([layout, BUS], [SENT, ""], row.1, [row.2, ""]);
-    plays_once(rt, alloc, &given, None, sized_disks(alloc, least, row.0)?)?;
-    plays_once(
-        rt,
-        alloc,
-        &given,
-        Some(7),
-        sized_disks(alloc, least, row.0)?,
-    )
+    for row in STARTS {
+        plays_once(rt, alloc, layout, &row.1, disks_of(alloc, least, row.0)?)?;
+    }
+    Ok(())
 }
 
 #[test]
 fn disks_that_are_too_few_or_too_small_are_told(rt: HostRuntime) -> Result<(), Fail> {
     for (layout, least) in LAYOUTS {
-        for row in STARTS {
-            starts_or_not(&rt, rt.alloc(), *layout, *least, row)?;
-        }
+        starts_or_not(&rt, rt.alloc(), *layout, *least)?;
     }
     Ok(())
 }
 
-/// A node whose disk fails, the call at which it does, where the sink fails, the status and the text. A start over a
-/// twin store of fifteen cells makes twenty calls to format it and sixteen to read it.
-struct Failure(usize, u64, Option<usize>, u8, &'static str);
+const STARTED: &Run = &Run(REPLAY, ["", ""], 0, ["", ""]);
 
-const FIRST_FAILED: &str = "store: node 1: DiskFailed\n";
+const FIRST_FAILED: &Run = &Run(REPLAY, ["", ""], 10, ["store: node 1: DiskFailed\n", ""]);
 
-const SECOND_FAILED: &str = "store: node 2: DiskFailed\n";
+const SECOND_FAILED: &Run = &Run(REPLAY, ["", ""], 10, ["store: node 2: DiskFailed\n", ""]);
 
-const FAILURES: &[Failure] = &[
-    Failure(0, 1, None, 10, FIRST_FAILED),
-    Failure(0, 20, None, 10, FIRST_FAILED),
-    Failure(0, 36, None, 10, FIRST_FAILED),
-    Failure(0, 36, Some(7), 10, FIRST_FAILED),
-    Failure(0, 37, None, 0, ""),
-    Failure(1, 1, None, 10, SECOND_FAILED),
-    Failure(1, 20, None, 10, SECOND_FAILED),
-    Failure(1, 36, None, 10, SECOND_FAILED),
-    Failure(1, 36, Some(7), 10, SECOND_FAILED),
-    Failure(1, 37, None, 0, ""),
+/// A node whose disk fails, the call at which it does, and a replay of nothing. A start over a twin store of fifteen
+/// cells makes twenty calls to format it and sixteen to read it.
+const FAILURES: &[(usize, u64, &Run)] = &[
+    (0, 1, FIRST_FAILED),
+    (0, 20, FIRST_FAILED),
+    (0, 36, FIRST_FAILED),
+    (0, 37, STARTED),
+    (1, 1, SECOND_FAILED),
+    (1, 20, SECOND_FAILED),
+    (1, 36, SECOND_FAILED),
+    (1, 37, STARTED),
 ];
 
 /// Two disks, of which that of this node fails at this call.
 fn failing_disks(alloc: Global, node: usize, call: u64) -> Result<Vec<MemDisk>, Fail> {
-    let mut disks = disks_of(alloc, &[2_048, 2_048])?;
+    let mut disks = disks_of(alloc, 2_048, TWO_DISKS)?;
     match disks.as_mut_slice().get_mut(node) {
         Some(disk) if call >= 1 => disk.fail_at(call),
         _ => return Err(Fail::from("no disk")),
@@ -280,22 +245,11 @@ fn failing_disks(alloc: Global, node: usize, call: u64) -> Result<Vec<MemDisk>, 
     Ok(disks)
 }
 
-/// A replay of nothing over these disks.
-fn names(rt: &impl Abort, alloc: Global, row: &Failure) -> Result<(), Fail> {
-    let given = replay([BUS, ""], ["", ""], row.3, [row.4, ""]);
-    plays_once(
-        rt,
-        alloc,
-        &given,
-        row.2,
-        failing_disks(alloc, row.0, row.1)?,
-    )
-}
-
 #[test]
 fn a_disk_that_fails_at_the_start_is_named(rt: HostRuntime) -> Result<(), Fail> {
-    for row in FAILURES {
-        names(&rt, rt.alloc(), row)?;
+    for (node, call, given) in FAILURES {
+        let disks = failing_disks(rt.alloc(), *node, *call)?;
+        plays_once(&rt, rt.alloc(), "", given, disks)?;
     }
     Ok(())
 }
@@ -344,23 +298,67 @@ impl ByteFile for WornFile {
     }
 }
 
-/// A layout, the address and the byte that the second disk reads there, the status and the text: the first byte of the
-/// header, the mark of a copy that counts, the first byte of a slot's cell and of a bound's; and a byte that no cell
-/// has.
-struct Otherwise(&'static str, usize, u8, u8, &'static str);
+const LOG: &str = "store = \"log\"\n";
+
+/// A layout, the address and the byte that the second disk reads there, and the run: the first byte of the header, the
+/// mark of a copy that counts, the first byte of a slot's cell and of a bound's; and a byte that no cell has.
+struct Otherwise(&'static str, usize, u8, Run);
 
 const READ_OTHERWISE: &[Otherwise] = &[
-    Otherwise("", 0, 0, 10, "store: node 2: NotFormatted\n"),
-    Otherwise("", 985, 3, 10, "store: node 2: Damaged 14\n"),
-    Otherwise("", 918, 7, 10, "store: node 2: BadSlot 13\n"),
-    Otherwise("", 986, 1, 10, "store: node 2: BadBound 14\n"),
-    Otherwise("", 1_052, 1, 0, SENT_LINES),
-    Otherwise(LOG, 31, 1, 10, "store: node 2: NotFormatted\n"),
-    Otherwise(LOG, 32, 0, 10, "store: node 2: Damaged 0\n"),
-    Otherwise(LOG, 549, 0xa7, 10, "store: node 2: Damaged 2\n"),
+    Otherwise(
+        "",
+        0,
+        0,
+        Run(
+            REPLAY,
+            [SENT, ""],
+            10,
+            ["store: node 2: NotFormatted\n", ""],
+        ),
+    ),
+    Otherwise(
+        "",
+        985,
+        3,
+        Run(REPLAY, [SENT, ""], 10, ["store: node 2: Damaged 14\n", ""]),
+    ),
+    Otherwise(
+        "",
+        918,
+        7,
+        Run(REPLAY, [SENT, ""], 10, ["store: node 2: BadSlot 13\n", ""]),
+    ),
+    Otherwise(
+        "",
+        986,
+        1,
+        Run(REPLAY, [SENT, ""], 10, ["store: node 2: BadBound 14\n", ""]),
+    ),
+    Otherwise("", 1_052, 1, Run(REPLAY, [SENT, ""], 0, [SENT_LINES, ""])),
+    Otherwise(
+        LOG,
+        31,
+        1,
+        Run(
+            REPLAY,
+            [SENT, ""],
+            10,
+            ["store: node 2: NotFormatted\n", ""],
+        ),
+    ),
+    Otherwise(
+        LOG,
+        32,
+        0,
+        Run(REPLAY, [SENT, ""], 10, ["store: node 2: Damaged 0\n", ""]),
+    ),
+    Otherwise(
+        LOG,
+        549,
+        0xa7,
+        Run(REPLAY, [SENT, ""], 10, ["store: node 2: Damaged 2\n", ""]),
+    ),
 ];
-
-const LOG: &str = "store = \"log\"\n";
 
 fn worn(alloc: Global, at: usize, byte: u8) -> Result<FileDisk<WornFile>, AllocError> {
     let bytes = vec![in alloc; 0; 65_536]?;
@@ -369,21 +367,18 @@ fn worn(alloc: Global, at: usize, byte: u8) -> Result<FileDisk<WornFile>, AllocE
 
 fn worn_disks(alloc: Global, at: usize, byte: u8) -> Result<Vec<FileDisk<WornFile>>, AllocError> {
     let mut disks = Vec::new(alloc);
-    disks.push(worn(alloc, 65_536, 0)?)?;
-    disks.push(worn(alloc, at, byte)?)?;
+    for (at, byte) in [(65_536, 0), (at, byte)] {
+        disks.push(worn(alloc, at, byte)?)?;
+    }
     Ok(disks)
 }
 
 /// Over disks that tell no bytes, and read otherwise than they were written.
-fn reads_otherwise(rt: &impl Abort, alloc: Global, row: &Otherwise) -> Result<(), Fail> {
-    let given = replay([row.0, BUS], [SENT, ""], row.3, [row.4, ""]);
-    plays_once(rt, alloc, &given, None, worn_disks(alloc, row.1, row.2)?)
-}
-
 #[test]
 fn what_is_read_again_otherwise_is_told(rt: HostRuntime) -> Result<(), Fail> {
     for row in READ_OTHERWISE {
-        reads_otherwise(&rt, rt.alloc(), row)?;
+        let disks = worn_disks(rt.alloc(), row.1, row.2)?;
+        plays_once(&rt, rt.alloc(), row.0, &row.3, disks)?;
     }
     Ok(())
 }
@@ -403,26 +398,25 @@ pub(crate) fn held_disks(
     byte: u8,
 ) -> Result<Vec<FileDisk<HeldFile<WornFile>>>, AllocError> {
     let mut disks = Vec::new(alloc);
-    disks.push(held(alloc, 65_536, 0)?)?;
-    disks.push(held(alloc, at, byte)?)?;
+    for (at, byte) in [(65_536, 0), (at, byte)] {
+        disks.push(held(alloc, at, byte)?)?;
+    }
     Ok(disks)
 }
 
-/// Over disks that tell their bytes: what reads otherwise than it was written is a disk that failed.
-fn fails_as_it_reads_otherwise(
-    rt: &impl Abort,
-    alloc: Global,
-    row: &Otherwise,
-) -> Result<(), Fail> {
-    let output = if row.3 == 0 { row.4 } else { SECOND_FAILED };
-    let given = replay([row.0, BUS], [SENT, ""], row.3, [output, ""]);
-    plays_once(rt, alloc, &given, None, held_disks(alloc, row.1, row.2)?)
+const HELD_FAILED: &Run = &Run(REPLAY, [SENT, ""], 10, ["store: node 2: DiskFailed\n", ""]);
+
+/// What comes of a run where a disk that is read otherwise is one that failed.
+fn failed(given: &'static Run) -> &'static Run {
+    if given.2 == 0 { given } else { HELD_FAILED }
 }
 
+/// Over disks that tell their bytes: what reads otherwise than it was written is a disk that failed.
 #[test]
 fn what_a_held_file_reads_otherwise_is_a_failed_disk(rt: HostRuntime) -> Result<(), Fail> {
     for row in READ_OTHERWISE {
-        fails_as_it_reads_otherwise(&rt, rt.alloc(), row)?;
+        let disks = held_disks(rt.alloc(), row.1, row.2)?;
+        plays_once(&rt, rt.alloc(), row.0, failed(&row.3), disks)?;
     }
     Ok(())
 }

@@ -12,6 +12,21 @@ pub(crate) enum Then {
     Cut,
 }
 
+/// What another than the disk over a file does to the file, or finds, with a size or bytes.
+#[derive(Clone, Copy)]
+pub(crate) enum Other {
+    /// The file has this size from now on.
+    Resizes,
+    /// It has these bytes from now on.
+    Writes,
+    /// Nobody may write it from now on.
+    Protects,
+    FindsSize,
+    FindsBytes,
+    /// Another disk over the file is one of 65,536 bytes, each of whose calls fails.
+    IsLockedOut,
+}
+
 /// What is done to a disk.
 #[derive(Clone, Copy)]
 pub(crate) enum What {
@@ -19,6 +34,8 @@ pub(crate) enum What {
     Size,
     /// A read from an address on gives these bytes, at most 100.
     Reads,
+    /// Each of so many bytes is read as 0.
+    Zeros,
     /// A read of so many bytes fails.
     ReadFails,
     /// A write of these bytes from an address on, and what is done behind it: whether all that is Ok.
@@ -28,6 +45,8 @@ pub(crate) enum What {
     /// In the same way a read of a byte, a write of 5 and 6, and a sync, from the address 0 on.
     Answers,
     Calls(Mark),
+    /// Done by another, to the file that the disk is over; to any other disk nothing can be done so.
+    Other(Other),
 }
 
 /// What is done, a size or an address, and bytes or answers.
@@ -50,6 +69,16 @@ fn reads<D: Disk>(disk: &mut D, at: u64, bytes: &[u8]) -> bool {
     let mut out = [9; 100];
     let count = bytes.len();
     count <= 100 && is_read(disk, at, &mut out[..count]) && &out[..count] == bytes
+}
+
+/// Whether each of so many bytes is read as 0.
+fn are_zeros<D: Disk>(disk: &mut D, count: u64) -> bool {
+    for at in 0..count {
+        if !reads(disk, at, &[0]) {
+            return false;
+        }
+    }
+    true
 }
 
 /// Whether a read of so many bytes fails.
@@ -112,11 +141,13 @@ pub(crate) fn does<D: CutDisk>(disk: &mut D, act: &Act) -> bool {
     match act.0 {
         What::Size => disk.size() == at,
         What::Reads => reads(disk, at, bytes),
+        What::Zeros => are_zeros(disk, at),
         What::ReadFails => read_fails(disk, at, bytes.len()),
         What::Writes(then, is_ok) => writes(disk, at, bytes, then) == is_ok,
         What::Syncs => syncs(disk, bytes),
         What::Answers => answers_so(disk, bytes),
         What::Calls(call) => calls(disk, call),
+        What::Other(_) => false,
     }
 }
 

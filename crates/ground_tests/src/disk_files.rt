@@ -1,30 +1,11 @@
 //! Disks over real files, each test in a folder of its own.
-use crate::acts::{Act, Then, What, answers_so, done};
+use crate::acts::{Act, Other, Then, What, answers_so, does};
 use crate::comparing::holds;
 use cut_disk::{CutDisk, Disk, Mark, Torn};
 use file_disk::{FileDisk, SystemFile};
 use std::fs::OpenOptions;
 use std::process::Abort;
 use std::{env, fs, process};
-
-/// What another than the disk over a file does to the file, or finds, with a size or bytes.
-#[derive(Clone, Copy)]
-enum Other {
-    Nothing,
-    /// The file has this size from now on.
-    Resizes,
-    /// It has these bytes from now on.
-    Writes,
-    /// Nobody may write it from now on.
-    Protects,
-    FindsSize,
-    FindsBytes,
-    /// Another disk over the file is one of 65,536 bytes, each of whose calls fails.
-    IsLockedOut,
-}
-
-/// What is done to a disk, and behind that by another: a size, and bytes.
-struct Part(&'static [Act], Other, u64, &'static [u8]);
 
 /// How a file is opened.
 #[derive(Clone, Copy)]
@@ -33,16 +14,14 @@ enum Opening {
     Not,
     /// A disk over it.
     Disk,
-    /// A disk over it of 65,536 zero bytes.
-    Zeros,
     /// Two disks one behind the other, of which the first is closed: each call of the second fails.
     Second,
     /// A disk of no bytes over the file itself, of which nothing is held: its sync is Ok.
     NothingHeld,
 }
 
-/// How it is opened, and what is done then.
-struct Step(Opening, &'static [Part]);
+/// How it is opened, and what is done then, to the disk and by another.
+struct Step(Opening, &'static [Act]);
 
 fn resizes(rt: &HostRuntime, path: &str, size: u64) -> bool {
     match OpenOptions::new().write(true).open(rt, path) {
@@ -84,10 +63,8 @@ fn is_locked_out(rt: &HostRuntime, path: &str) -> bool {
 }
 
 /// Whether this comes of what another does.
-fn does_beside(rt: &HostRuntime, path: &str, part: &Part) -> bool {
-    let (size, bytes) = (part.2, part.3);
-    match part.1 {
-        Other::Nothing => true,
+fn does_beside(rt: &HostRuntime, path: &str, other: Other, size: u64, bytes: &[u8]) -> bool {
+    match other {
         Other::Resizes => resizes(rt, path, size),
         Other::Writes => fs::write(rt, path, bytes).is_ok(),
         Other::Protects => protects(rt, path),
@@ -97,52 +74,45 @@ fn does_beside(rt: &HostRuntime, path: &str, part: &Part) -> bool {
     }
 }
 
-/// Whether the acts of a part come out as they are to, and then what another does.
-fn is_done<D: CutDisk>(rt: &HostRuntime, path: &str, disk: &mut D, part: &Part) -> bool {
-    done(disk, part.0) == part.0.len() && does_beside(rt, path, part)
+/// Whether this comes of what is done to the disk, or by another.
+fn is_done<D: CutDisk>(rt: &HostRuntime, path: &str, disk: &mut D, act: &Act) -> bool {
+    match act.0 {
+        What::Other(other) => does_beside(rt, path, other, act.1, act.2),
+        _ => does(disk, act),
+    }
 }
 
-fn are_done<D: CutDisk>(rt: &HostRuntime, path: &str, disk: &mut D, parts: &[Part]) -> bool {
-    for part in parts {
-        if !is_done(rt, path, disk, part) {
+fn are_done<D: CutDisk>(rt: &HostRuntime, path: &str, disk: &mut D, acts: &[Act]) -> bool {
+    for act in acts {
+        if !is_done(rt, path, disk, act) {
             return false;
         }
     }
     true
 }
 
-fn is_opened(rt: &HostRuntime, path: &str, parts: &[Part]) -> bool {
+fn is_opened(rt: &HostRuntime, path: &str, acts: &[Act]) -> bool {
     match FileDisk::on(rt.alloc(), rt, path) {
-        Ok(mut disk) => are_done(rt, path, &mut disk, parts),
+        Ok(mut disk) => are_done(rt, path, &mut disk, acts),
         Err(_) => false,
     }
 }
 
-fn is_left(rt: &HostRuntime, path: &str, parts: &[Part]) -> bool {
-    for part in parts {
-        if !does_beside(rt, path, part) {
+/// Whether this comes of what is done by another.
+fn is_left_so(rt: &HostRuntime, path: &str, act: &Act) -> bool {
+    match act.0 {
+        What::Other(other) => does_beside(rt, path, other, act.1, act.2),
+        _ => false,
+    }
+}
+
+fn is_left(rt: &HostRuntime, path: &str, acts: &[Act]) -> bool {
+    for act in acts {
+        if !is_left_so(rt, path, act) {
             return false;
         }
     }
     true
-}
-
-fn reads_zeros<D: Disk>(rt: &HostRuntime, disk: &mut D) -> bool {
-    match vec![in rt.alloc(); 9; 65536] {
-        Ok(mut all) => {
-            disk.size() == 65536
-                && disk.read(0, &mut all).is_ok()
-                && all.iter().all(|byte| *byte == 0)
-        }
-        Err(_) => false,
-    }
-}
-
-fn is_zeros(rt: &HostRuntime, path: &str) -> bool {
-    match FileDisk::on(rt.alloc(), rt, path) {
-        Ok(mut disk) => reads_zeros(rt, &mut disk),
-        Err(_) => false,
-    }
 }
 
 /// Whether a second disk fails behind a first one, which is closed.
@@ -173,7 +143,6 @@ fn comes(rt: &HostRuntime, path: &str, step: &Step) -> bool {
     match step.0 {
         Opening::Not => is_left(rt, path, step.1),
         Opening::Disk => is_opened(rt, path, step.1),
-        Opening::Zeros => is_zeros(rt, path),
         Opening::Second => stays_out(rt, path),
         Opening::NothingHeld => is_synced(rt, path),
     }
@@ -221,32 +190,28 @@ fn plays(rt: &impl Abort, system: &HostRuntime, test: &str, names: &[&str], step
 const DISK: &[&str] = &["/disk"];
 
 const MADE: &[Step] = &[
-    Step(Opening::Zeros, &[]),
-    Step(Opening::Not, &[Part(&[], Other::FindsSize, 65536, b"")]),
     Step(
         Opening::Disk,
-        &[Part(
-            &[
-                Act(What::Writes(Then::Nothing, true), 65534, &[7, 8]),
-                Act(What::Syncs, 0, b"."),
-                Act(What::Calls(Mark::Cut(Torn::Old)), 0, b""),
-            ],
-            Other::Nothing,
-            0,
-            b"",
-        )],
+        &[Act(What::Size, 65536, b""), Act(What::Zeros, 65536, b"")],
+    ),
+    Step(
+        Opening::Not,
+        &[Act(What::Other(Other::FindsSize), 65536, b"")],
     ),
     Step(
         Opening::Disk,
-        &[Part(
-            &[
-                Act(What::Size, 65536, b""),
-                Act(What::Reads, 65533, &[0, 7, 8]),
-            ],
-            Other::Nothing,
-            0,
-            b"",
-        )],
+        &[
+            Act(What::Writes(Then::Nothing, true), 65534, &[7, 8]),
+            Act(What::Syncs, 0, b"."),
+            Act(What::Calls(Mark::Cut(Torn::Old)), 0, b""),
+        ],
+    ),
+    Step(
+        Opening::Disk,
+        &[
+            Act(What::Size, 65536, b""),
+            Act(What::Reads, 65533, &[0, 7, 8]),
+        ],
     ),
 ];
 
@@ -256,14 +221,8 @@ fn a_file_is_made_and_keeps_what_was_synced(rt: HostRuntime) {
 }
 
 const NO_FILE: &[Step] = &[
-    Step(
-        Opening::Disk,
-        &[Part(&[Act(What::Size, 65536, b"")], Other::Nothing, 0, b"")],
-    ),
-    Step(
-        Opening::Disk,
-        &[Part(&[Act(What::Answers, 0, b"xxx")], Other::Nothing, 0, b"")],
-    ),
+    Step(Opening::Disk, &[Act(What::Size, 65536, b"")]),
+    Step(Opening::Disk, &[Act(What::Answers, 0, b"xxx")]),
 ];
 
 /// A file in no folder, and a folder.
@@ -275,22 +234,20 @@ fn a_disk_over_no_file_has_65536_bytes_and_each_call_fails(rt: HostRuntime) {
 }
 
 const PROTECTED: &[Step] = &[
-    Step(Opening::Not, &[Part(&[], Other::Writes, 0, &[1, 2, 3])]),
-    Step(Opening::Not, &[Part(&[], Other::Protects, 0, b"")]),
+    Step(
+        Opening::Not,
+        &[Act(What::Other(Other::Writes), 0, &[1, 2, 3])],
+    ),
+    Step(Opening::Not, &[Act(What::Other(Other::Protects), 0, b"")]),
     Step(
         Opening::Disk,
-        &[Part(
-            &[
-                Act(What::Size, 3, b""),
-                Act(What::Reads, 0, &[1, 2, 3]),
-                Act(What::Syncs, 0, b"."),
-                Act(What::Answers, 0, b".xx"),
-                Act(What::Answers, 0, b"xxx"),
-            ],
-            Other::Nothing,
-            0,
-            b"",
-        )],
+        &[
+            Act(What::Size, 3, b""),
+            Act(What::Reads, 0, &[1, 2, 3]),
+            Act(What::Syncs, 0, b"."),
+            Act(What::Answers, 0, b".xx"),
+            Act(What::Answers, 0, b"xxx"),
+        ],
     ),
 ];
 
@@ -301,37 +258,25 @@ fn a_write_protected_file_is_read_until_a_write_fails(rt: HostRuntime) {
 
 /// The file of four bytes becomes shorter by one, and then as long as it was.
 const SHORTER: &[Step] = &[
-    Step(Opening::Not, &[Part(&[], Other::Writes, 0, &[1, 2, 3, 4])]),
+    Step(
+        Opening::Not,
+        &[Act(What::Other(Other::Writes), 0, &[1, 2, 3, 4])],
+    ),
     Step(
         Opening::Disk,
         &[
-            Part(&[Act(What::Answers, 0, b"...")], Other::Resizes, 3, b""),
-            Part(
-                &[
-                    Act(What::Size, 4, b""),
-                    Act(What::ReadFails, 2, &[0, 0]),
-                    Act(What::Answers, 0, b".xx"),
-                ],
-                Other::FindsBytes,
-                0,
-                &[5, 6, 3],
-            ),
-            Part(&[], Other::Resizes, 4, b""),
-            Part(
-                &[
-                    Act(What::Calls(Mark::Cut(Torn::Keep)), 0, b""),
-                    Act(What::Answers, 0, b"xxx"),
-                ],
-                Other::Nothing,
-                0,
-                b"",
-            ),
+            Act(What::Answers, 0, b"..."),
+            Act(What::Other(Other::Resizes), 3, b""),
+            Act(What::Size, 4, b""),
+            Act(What::ReadFails, 2, &[0, 0]),
+            Act(What::Answers, 0, b".xx"),
+            Act(What::Other(Other::FindsBytes), 0, &[5, 6, 3]),
+            Act(What::Other(Other::Resizes), 4, b""),
+            Act(What::Calls(Mark::Cut(Torn::Keep)), 0, b""),
+            Act(What::Answers, 0, b"xxx"),
         ],
     ),
-    Step(
-        Opening::Disk,
-        &[Part(&[Act(What::Answers, 0, b"...")], Other::Nothing, 0, b"")],
-    ),
+    Step(Opening::Disk, &[Act(What::Answers, 0, b"...")]),
 ];
 
 #[test]
@@ -340,96 +285,70 @@ fn a_file_that_became_shorter_is_not_asked_again(rt: HostRuntime) {
 }
 
 const ARMS: &[Step] = &[
-    Step(Opening::Not, &[Part(&[], Other::Writes, 0, &[1, 2])]),
+    Step(Opening::Not, &[Act(What::Other(Other::Writes), 0, &[1, 2])]),
     Step(
         Opening::Disk,
-        &[Part(
-            &[
-                Act(What::Calls(Mark::Stop(2)), 0, b""),
-                Act(What::Calls(Mark::Fail(9)), 0, b""),
-                Act(What::Syncs, 0, b".xxx"),
-                Act(What::Calls(Mark::Cut(Torn::Fill(0xa7))), 0, b""),
-                Act(What::Syncs, 0, b"...."),
-            ],
-            Other::Nothing,
-            0,
-            b"",
-        )],
+        &[
+            Act(What::Calls(Mark::Stop(2)), 0, b""),
+            Act(What::Calls(Mark::Fail(9)), 0, b""),
+            Act(What::Syncs, 0, b".xxx"),
+            Act(What::Calls(Mark::Cut(Torn::Fill(0xa7))), 0, b""),
+            Act(What::Syncs, 0, b"...."),
+        ],
     ),
     Step(
         Opening::Disk,
-        &[Part(
-            &[
-                Act(What::Calls(Mark::Stop(9)), 0, b""),
-                Act(What::Calls(Mark::Fail(2)), 0, b""),
-                Act(What::Syncs, 0, b".x.."),
-                Act(What::Calls(Mark::Cut(Torn::Fill(0xa7))), 0, b""),
-                Act(What::Syncs, 0, b"...."),
-            ],
-            Other::Nothing,
-            0,
-            b"",
-        )],
+        &[
+            Act(What::Calls(Mark::Stop(9)), 0, b""),
+            Act(What::Calls(Mark::Fail(2)), 0, b""),
+            Act(What::Syncs, 0, b".x.."),
+            Act(What::Calls(Mark::Cut(Torn::Fill(0xa7))), 0, b""),
+            Act(What::Syncs, 0, b"...."),
+        ],
     ),
     Step(
         Opening::Disk,
-        &[Part(
-            &[
-                Act(What::Calls(Mark::Stop(2)), 0, b""),
-                Act(What::Calls(Mark::Fail(6)), 0, b""),
-                Act(What::Syncs, 0, b".xxx"),
-                Act(What::Calls(Mark::Cut(Torn::Fill(0xa7))), 0, b""),
-                Act(What::Syncs, 0, b".x.."),
-            ],
-            Other::Nothing,
-            0,
-            b"",
-        )],
+        &[
+            Act(What::Calls(Mark::Stop(2)), 0, b""),
+            Act(What::Calls(Mark::Fail(6)), 0, b""),
+            Act(What::Syncs, 0, b".xxx"),
+            Act(What::Calls(Mark::Cut(Torn::Fill(0xa7))), 0, b""),
+            Act(What::Syncs, 0, b".x.."),
+        ],
     ),
     Step(
         Opening::Disk,
-        &[Part(
-            &[
-                Act(What::Calls(Mark::Stop(1)), 0, b""),
-                Act(What::Calls(Mark::Fail(1)), 0, b""),
-                Act(What::Syncs, 0, b"xxxx"),
-                Act(What::Calls(Mark::Cut(Torn::Fill(0xa7))), 0, b""),
-                Act(What::Syncs, 0, b"...."),
-            ],
-            Other::Nothing,
-            0,
-            b"",
-        )],
+        &[
+            Act(What::Calls(Mark::Stop(1)), 0, b""),
+            Act(What::Calls(Mark::Fail(1)), 0, b""),
+            Act(What::Syncs, 0, b"xxxx"),
+            Act(What::Calls(Mark::Cut(Torn::Fill(0xa7))), 0, b""),
+            Act(What::Syncs, 0, b"...."),
+        ],
     ),
     Step(
         Opening::Disk,
-        &[Part(
-            &[
-                Act(What::Calls(Mark::Stop(4)), 0, b""),
-                Act(What::Calls(Mark::Fail(3)), 0, b""),
-                Act(What::Syncs, 0, b"..xx"),
-                Act(What::Calls(Mark::Cut(Torn::Fill(0xa7))), 0, b""),
-                Act(What::Syncs, 0, b"...."),
-            ],
-            Other::Nothing,
-            0,
-            b"",
-        )],
+        &[
+            Act(What::Calls(Mark::Stop(4)), 0, b""),
+            Act(What::Calls(Mark::Fail(3)), 0, b""),
+            Act(What::Syncs, 0, b"..xx"),
+            Act(What::Calls(Mark::Cut(Torn::Fill(0xa7))), 0, b""),
+            Act(What::Syncs, 0, b"...."),
+        ],
     ),
     Step(
         Opening::Disk,
-        &[Part(
-            &[
-                Act(What::Calls(Mark::Fail(2)), 0, b""),
-                Act(What::Answers, 0, b".x."),
-                Act(What::Answers, 0, b"..."),
-            ],
-            Other::Nothing,
-            0,
-            b"",
-        )],
+        &[
+            Act(What::Calls(Mark::Fail(2)), 0, b""),
+            Act(What::Answers, 0, b".x."),
+            Act(What::Other(Other::FindsBytes), 0, &[1, 2]),
+            Act(What::Answers, 0, b"..."),
+        ],
     ),
-    Step(Opening::Not, &[Part(&[], Other::FindsBytes, 0, &[5, 6])]),
+    Step(
+        Opening::Not,
+        &[Act(What::Other(Other::FindsBytes), 0, &[5, 6])],
+    ),
 ];
 
 #[test]
@@ -438,12 +357,9 @@ fn arms_and_stops_are_those_of_the_disk_in_memory(rt: HostRuntime) {
 }
 
 const EMPTY: &[Step] = &[
-    Step(Opening::Not, &[Part(&[], Other::Writes, 0, &[])]),
+    Step(Opening::Not, &[Act(What::Other(Other::Writes), 0, &[])]),
     Step(Opening::NothingHeld, &[]),
-    Step(
-        Opening::Disk,
-        &[Part(&[Act(What::Size, 0, b"")], Other::Nothing, 0, b"")],
-    ),
+    Step(Opening::Disk, &[Act(What::Size, 0, b"")]),
 ];
 
 #[test]
@@ -452,19 +368,16 @@ fn an_empty_file_stays_one(rt: HostRuntime) {
 }
 
 const LOCKED: &[Step] = &[
-    Step(Opening::Not, &[Part(&[], Other::Writes, 0, &[1, 2])]),
+    Step(Opening::Not, &[Act(What::Other(Other::Writes), 0, &[1, 2])]),
     Step(
         Opening::Disk,
         &[
-            Part(&[], Other::IsLockedOut, 0, b""),
-            Part(&[Act(What::Answers, 0, b"...")], Other::Nothing, 0, b""),
+            Act(What::Other(Other::IsLockedOut), 0, b""),
+            Act(What::Answers, 0, b"..."),
         ],
     ),
     Step(Opening::Second, &[]),
-    Step(
-        Opening::Disk,
-        &[Part(&[Act(What::Size, 2, b"")], Other::Nothing, 0, b"")],
-    ),
+    Step(Opening::Disk, &[Act(What::Size, 2, b"")]),
 ];
 
 #[test]
@@ -474,32 +387,22 @@ fn a_file_is_open_in_one_place_at_a_time(rt: HostRuntime) {
 
 /// Of the file of four bytes another program writes the second.
 const OTHERWISE: &[Step] = &[
-    Step(Opening::Not, &[Part(&[], Other::Writes, 0, &[1, 2, 3, 4])]),
+    Step(
+        Opening::Not,
+        &[Act(What::Other(Other::Writes), 0, &[1, 2, 3, 4])],
+    ),
     Step(
         Opening::Disk,
         &[
-            Part(
-                &[Act(What::Answers, 0, b"...")],
-                Other::Writes,
-                0,
-                &[5, 9, 3, 4],
-            ),
-            Part(
-                &[
-                    Act(What::Reads, 2, &[3, 4]),
-                    Act(What::ReadFails, 0, &[0, 0]),
-                    Act(What::Answers, 0, b"xxx"),
-                ],
-                Other::FindsBytes,
-                0,
-                &[5, 9, 3, 4],
-            ),
+            Act(What::Answers, 0, b"..."),
+            Act(What::Other(Other::Writes), 0, &[5, 9, 3, 4]),
+            Act(What::Reads, 2, &[3, 4]),
+            Act(What::ReadFails, 0, &[0, 0]),
+            Act(What::Answers, 0, b"xxx"),
+            Act(What::Other(Other::FindsBytes), 0, &[5, 9, 3, 4]),
         ],
     ),
-    Step(
-        Opening::Disk,
-        &[Part(&[Act(What::Answers, 0, b"...")], Other::Nothing, 0, b"")],
-    ),
+    Step(Opening::Disk, &[Act(What::Answers, 0, b"...")]),
 ];
 
 #[test]
@@ -509,16 +412,13 @@ fn a_file_that_reads_otherwise_than_it_was_written_is_not_asked_again(rt: HostRu
 
 /// Of a longer file the first 131,072 bytes are the disk.
 const LONG: &[Step] = &[
-    Step(Opening::Not, &[Part(&[], Other::Writes, 0, &[])]),
-    Step(Opening::Not, &[Part(&[], Other::Resizes, 131_073, b"")]),
+    Step(Opening::Not, &[Act(What::Other(Other::Writes), 0, &[])]),
     Step(
-        Opening::Disk,
-        &[Part(&[Act(What::Size, 131_072, b"")], Other::Nothing, 0, b"")],
+        Opening::Not,
+        &[Act(What::Other(Other::Resizes), 131_073, b"")],
     ),
-    Step(
-        Opening::Disk,
-        &[Part(&[Act(What::Answers, 0, b"...")], Other::Nothing, 0, b"")],
-    ),
+    Step(Opening::Disk, &[Act(What::Size, 131_072, b"")]),
+    Step(Opening::Disk, &[Act(What::Answers, 0, b"...")]),
 ];
 
 #[test]

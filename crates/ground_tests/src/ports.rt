@@ -202,17 +202,6 @@ fn a_read_that_fails_is_told_and_a_later_one_works(rt: HostRuntime) {
     holds(&rt, "it is missing", fails(rt.alloc(), &mut missing));
 }
 
-fn is_written_by_std(alloc: Global) -> bool {
-    let mut text = Vec::new(alloc);
-    let answer = write_all(&mut StdSink::new(&mut text), HELLO);
-    answer.is_ok() && text.as_slice() == HELLO
-}
-
-#[test]
-fn standard_sinks_write_all(rt: HostRuntime) {
-    holds(&rt, "all", is_written_by_std(rt.alloc()));
-}
-
 /// Whether a writer whose first call takes nothing, or fails, takes all behind it.
 fn is_written_again(alloc: Global, takes_nothing: bool) -> bool {
     let mut text = Vec::new(alloc);
