@@ -22,14 +22,6 @@ pub(crate) const ID: u16 = 0x6bc1;
 
 pub(crate) const UID: [u8; 15] = [0, 0, 0, 0, 0, 0, 0, 0, 0, 0, 0, 0, 0, 0, 1];
 
-/// Either store in both versions.
-pub(crate) const STORES: [(Kind, Version); 4] = [
-    (Kind::Twin, Version::One),
-    (Kind::Twin, Version::Two),
-    (Kind::Log, Version::One),
-    (Kind::Log, Version::Two),
-];
-
 pub(crate) fn block(number: u128) -> Block {
     Block::of(number.to_be_bytes())
 }
@@ -46,46 +38,32 @@ pub(crate) fn filled(key: u128, counter: u32, flags: u8) -> Result<Slot, &'stati
     })
 }
 
-/// A store of this kind and version with these cells, on a disk in memory.
-pub(crate) fn store_of(
-    alloc: Global,
-    store: (Kind, Version),
-    cells: &[[u8; 32]],
-) -> Result<AnyCells<MemDisk>, Fail>
+/// A twin store with these cells, on a disk in memory.
+fn store_of(alloc: Global, cells: &[[u8; 32]]) -> Result<AnyCells<MemDisk>, Fail>
     requires { FewCells (length cells.now) }
     ensures count { IfOk result (λ store. length (any_state store).cells ≡ length cells.now) }
     ensures whole { IfOk result (λ store. (any_state store).broken ≡ false) }
 {
-    let (kind, version) = store;
     let disk = MemDisk::new(alloc, 40_000)?;
-    let disk = match AnyCells::format_as(disk, kind, version, cells) {
+    let disk = match AnyCells::format_as(disk, Kind::Twin, Version::One, cells) {
         Ok(disk) => disk,
         Err(refused) => return Err(Fail::from(refused.fault)),
     };
-    match AnyCells::attach_as(alloc, disk, kind, version, cells.len() as u16) {
+    match AnyCells::attach_as(alloc, disk, Kind::Twin, Version::One, cells.len() as u16) {
         Ok(store) => Ok(store),
         Err(refused) => Err(Fail::from(refused.fault)),
     }
 }
 
-/// The store of tests that one suffices for.
-pub(crate) const TWIN: (Kind, Version) = (Kind::Twin, Version::One);
-
-/// Whom the key serves, by its flags: MACs, MACs after a secure boot, ciphers.
-const SERVES: [(usize, u8); 3] = [(4, 2), (5, 10), (6, 0)];
-
-/// The cells of fourteen slots, three of them with the key, and of a bound.
+/// The cells of fourteen slots, one of them with the key, and of a bound.
 fn cells_with(direction: Direction, bound: u64) -> Result<[[u8; 32]; 15], &'static str> {
     let mut cells = [[0; 32]; 15];
-    for (number, flags) in SERVES {
-        cells[number] = slot_bytes(&filled(KEY, 1, flags)?);
-    }
+    cells[4] = slot_bytes(&filled(KEY, 1, 2)?);
     cells[14] = bound_bytes(ID, direction, bound);
     Ok(cells)
 }
 
-/// A twin store of these slots and this bound: the key of slot 4 serves MACs, that of slot 5 only after a secure
-/// boot, that of slot 6 ciphers, and slot 7 is empty.
+/// A twin store of fourteen slots and this bound: the key of slot 4 serves MACs, and the others are empty.
 pub(crate) fn store_with(
     alloc: Global,
     direction: Direction,
@@ -95,5 +73,5 @@ pub(crate) fn store_with(
     ensures count { IfOk result (λ store. length (any_state store).cells ≡ 15) }
 {
     let cells = cells_with(direction, bound)?;
-    store_of(alloc, TWIN, &cells)
+    store_of(alloc, &cells)
 }
