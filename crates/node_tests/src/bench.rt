@@ -5,12 +5,12 @@ ghost use Rattle.any_cells.specs.Either.{any_state};
 
 use crate::comparing::{holds, same};
 use any_cells::AnyCells;
-use cell_store::{Cells, CutCells, Kind, Reread, Version};
+use cell_store::{Cells, CutCells, Kind, Version};
 use cut_disk::{MemDisk, Torn};
 use freshness_manager::{Direction, NodeConfig, Route};
 use key_slots::{Counter28, Flags, SlotId};
 use memory_update::{Request, Uid, Update, build};
-use secoc_node::{CutFault, Node, NodeFault, first_cells};
+use secoc_node::{Node, NodeFault, first_cells};
 use secoc_receiver::Reception;
 use she_aes::Block;
 use std::alloc::Global;
@@ -22,48 +22,24 @@ use std::test::Fail;
 pub enum Act {
     /// A key for a slot: target, authorising slot and its key, counter, flags, and the new key.
     Load(u8, u8, u128, u32, u8, u128),
-    /// A boot with an image of one zero byte.
-    Boot,
     Send(u16, &'static [u8]),
     Receive(u16, &'static [u8]),
     Count(u16, Direction),
     Cut(Torn),
-    Stop(u64),
-    Fail(u64),
-    /// A send whose bytes aren't looked at.
-    SendAny(u16, &'static [u8]),
     IsDown,
-    /// The same with the number of calls and the kind of cut that are given to all rows.
-    StopThen,
-    FailThen,
-    CutThen,
 }
-
-/// What the rows of a table take from outside: a number of calls, and a kind of cut.
-#[derive(Clone, Copy)]
-pub struct Given {
-    pub calls: u64,
-    pub torn: Torn,
-}
-
-pub const NOTHING_GIVEN: Given = Given {
-    calls: 0,
-    torn: Torn::Keep,
-};
 
 /// What a node answers.
 #[derive(Clone, Copy, Debug, PartialEq, Eq)]
 pub enum Answer {
     Done,
-    Booted(bool),
     /// The freshness of what was sent.
     Sent(u64),
     Heard(Reception),
     Count(Option<u64>),
     Refused(NodeFault),
-    NotCut(Reread),
     Down(bool),
-    /// The table is wrong.
+    /// The table is wrong, or what is answered.
     NoAct,
 }
 
@@ -152,7 +128,7 @@ fn arm<C: CutCells>(store: &mut C, stop: u64)
     }
 }
 
-fn node_of(
+pub fn node_of(
     alloc: Global,
     store: (Kind, Version),
     plan: &Plan<'_>,
@@ -193,16 +169,15 @@ fn loads<C: CutCells>(node: &mut Node<C>, number: u8, key: &Key) -> Answer {
     }
 }
 
-fn boots<C: CutCells>(node: &mut Node<C>) -> Answer {
-    match node.boot(&[0]) {
-        Ok(good) => Answer::Booted(good),
-        Err(fault) => Answer::Refused(fault),
-    }
-}
-
-fn sends<C: CutCells>(node: &mut Node<C>, id: u16, payload: &[u8], out: &mut [u8; 64]) -> Answer {
+pub fn sends<C: CutCells>(
+    node: &mut Node<C>,
+    id: u16,
+    payload: &[u8],
+    out: &mut [u8; 64],
+) -> Answer {
     match node.send(id, payload, out) {
-        Ok(sent) => Answer::Sent(sent.freshness),
+        Ok(sent) if usize::from(sent.len) == payload.len() + 4 => Answer::Sent(sent.freshness),
+        Ok(_) => Answer::NoAct,
         Err(fault) => Answer::Refused(fault),
     }
 }
@@ -217,25 +192,8 @@ fn receives<C: CutCells>(node: &mut Node<C>, id: u16, pdu: &[u8]) -> Answer {
 fn is_cut<C: CutCells>(node: &mut Node<C>, torn: Torn) -> Answer {
     match node.power_cut(torn) {
         Ok(()) => Answer::Done,
-        Err(CutFault::Store(fault)) => Answer::NotCut(fault),
         Err(_) => Answer::NoAct,
     }
-}
-
-fn stops<C: CutCells>(node: &mut Node<C>, calls: u64) -> Answer {
-    if calls == 0 {
-        return Answer::NoAct;
-    }
-    node.stop_at(calls);
-    Answer::Done
-}
-
-fn fails<C: CutCells>(node: &mut Node<C>, calls: u64) -> Answer {
-    if calls == 0 {
-        return Answer::NoAct;
-    }
-    node.fail_at(calls);
-    Answer::Done
 }
 
 fn counts<C: CutCells>(node: &Node<C>, id: u16, direction: Direction) -> Answer {
@@ -243,29 +201,16 @@ fn counts<C: CutCells>(node: &Node<C>, id: u16, direction: Direction) -> Answer 
 }
 
 /// Does this to the node of this number, and gives its answer.
-fn does<C: CutCells>(
-    node: &mut Node<C>,
-    number: u8,
-    given: &Given,
-    act: &Act,
-    out: &mut [u8; 64],
-) -> Answer {
+fn does<C: CutCells>(node: &mut Node<C>, number: u8, act: &Act, out: &mut [u8; 64]) -> Answer {
     match act {
         Act::Load(target, auth, authkey, counter, flags, key) => {
             let key = Key(*target, *auth, *authkey, *counter, *flags, *key);
             loads(node, number, &key)
         }
-        Act::Boot => boots(node),
         Act::Send(id, payload) => sends(node, *id, payload, out),
         Act::Receive(id, pdu) => receives(node, *id, pdu),
         Act::Count(id, direction) => counts(node, *id, *direction),
         Act::Cut(torn) => is_cut(node, *torn),
-        Act::Stop(calls) => stops(node, *calls),
-        Act::Fail(calls) => fails(node, *calls),
-        Act::SendAny(id, payload) => sends(node, *id, payload, &mut [0; 64]),
-        Act::StopThen => stops(node, given.calls),
-        Act::FailThen => fails(node, given.calls),
-        Act::CutThen => is_cut(node, given.torn),
         Act::IsDown => Answer::Down(node.is_down()),
     }
 }
@@ -280,10 +225,10 @@ fn buffer(pdu: &[u8]) -> [u8; 64] {
 }
 
 /// Plays these rows, and compares each answer.
-fn play<C: CutCells>(rt: &impl Abort, node: &mut Node<C>, number: u8, given: &Given, rows: &[Row]) {
+pub fn play<C: CutCells>(rt: &impl Abort, node: &mut Node<C>, number: u8, rows: &[Row]) {
     for (place, row) in rows.iter().enumerate() {
         let mut out = buffer(&[]);
-        let answer = does(node, number, given, &row.0, &mut out);
+        let answer = does(node, number, &row.0, &mut out);
         same(rt, place, &answer, &row.1);
         holds(rt, place, out == buffer(row.2));
     }
@@ -319,18 +264,17 @@ fn keeps<C: Cells>(rt: &impl Abort, store: &C, bounds: &[[u8; 12]]) {
     }
 }
 
-/// Plays these rows to a new node of this plan over a store of this kind and version, whose first bounds are these at the end.
-pub fn plays_over(
+/// Plays these rows to a new node of this plan, whose first bounds are these at the end.
+fn plays_over(
     rt: &impl Abort,
     alloc: Global,
     store: (Kind, Version),
     plan: &Plan<'_>,
-    given: &Given,
     rows: &[Row],
     bounds: &[[u8; 12]],
 ) -> Result<(), Fail> {
     let mut node = node_of(alloc, store, plan)?;
-    play(rt, &mut node, plan.number, given, rows);
+    play(rt, &mut node, plan.number, rows);
     keeps(rt, &node.release(), bounds);
     Ok(())
 }
@@ -342,10 +286,16 @@ pub const STORES: [(Kind, Version); 4] = [
     (Kind::Log, Version::Two),
 ];
 
-/// Plays these rows to a new node of this plan over each store in both versions.
-pub fn plays(rt: &impl Abort, alloc: Global, plan: &Plan<'_>, rows: &[Row]) -> Result<(), Fail> {
+/// Plays these rows to a new node of this plan over each store in both versions; its first bounds are then these.
+pub fn plays(
+    rt: &impl Abort,
+    alloc: Global,
+    plan: &Plan<'_>,
+    rows: &[Row],
+    bounds: &[[u8; 12]],
+) -> Result<(), Fail> {
     for store in STORES {
-        plays_over(rt, alloc, store, plan, &NOTHING_GIVEN, rows, &[])?;
+        plays_over(rt, alloc, store, plan, rows, bounds)?;
     }
     Ok(())
 }

@@ -1,14 +1,16 @@
 //! Nodes of several routes, and one of the most.
 use crate::bench::{
-    Act, Answer, NOTHING_GIVEN, Plan, Row, STORES, Way, config, have_bounds, plays, plays_over,
+    Act, Answer, Plan, Row, STORES, Way, config, have_bounds, node_of, play, plays, sends,
 };
 use crate::comparing::{holds, same};
 use crate::lives::{AFTER_CUT, EMPTY, FIRST, FIRST_KEY, ID, MAC, MASTER, PAYLOAD, START};
+use cell_store::{CutCells, Kind, Version};
 use cut_disk::Torn;
 use freshness_manager::Direction;
-use secoc_node::first_cells;
+use secoc_node::{Node, first_cells};
 use secoc_receiver::Reception;
 use std::alloc::Global;
+use std::process::Abort;
 use std::test::Fail;
 
 /// The Data IDs of the second route, which receives, and of the third, which sends.
@@ -134,6 +136,7 @@ const COUNTS_EACH_ROUTE: &[Row] = &[
         Answer::Heard(Reception::VerificationFailure),
         &[],
     ),
+    Row(TAKEN, Answer::Count(Some(0x1f4)), &[]),
     Row(
         Act::Receive(HEARD, HEARD_AFTER_CUT),
         Answer::Heard(Reception::Accepted {
@@ -155,18 +158,7 @@ const COUNTS_EACH_ROUTE: &[Row] = &[
 
 #[test]
 fn each_route_counts_for_itself(rt: HostRuntime) -> Result<(), Fail> {
-    for store in STORES {
-        plays_over(
-            &rt,
-            rt.alloc(),
-            store,
-            &THREE,
-            &NOTHING_GIVEN,
-            COUNTS_EACH_ROUTE,
-            &LAST_BOUNDS,
-        )?;
-    }
-    Ok(())
+    plays(&rt, rt.alloc(), &THREE, COUNTS_EACH_ROUTE, &LAST_BOUNDS)
 }
 
 /// The PDUs of route 0, 1, 254 and 255 of a node of 256 routes, whose freshness is one above the route's place.
@@ -198,23 +190,23 @@ fn the_most_ways(alloc: Global) -> Result<Vec<Way>, Fail> {
     Ok(ways)
 }
 
-/// Each route that sends sends once; the bytes of the first and the last are looked at.
-fn add_sends(rows: &mut Vec<Row>) -> Result<(), Fail> {
-    for place in 0..128u16 {
-        let answer = Answer::Sent(u64::from(2 * place + 1));
-        let id = 0x100 + 2 * place;
-        let row = match place {
-            0 => Row(Act::Send(id, PAYLOAD), answer, OF_ROUTE_0),
-            127 => Row(Act::Send(id, PAYLOAD), answer, OF_ROUTE_254),
-            _ => Row(Act::SendAny(id, PAYLOAD), answer, &[]),
-        };
-        rows.push(row)?;
+/// The first route that sends does it.
+const SENDS_FIRST: &[Row] = &[
+    FIRST_KEY,
+    Row(Act::Send(0x100, PAYLOAD), Answer::Sent(1), OF_ROUTE_0),
+];
+
+/// The others do but the last.
+fn sends_each<C: CutCells>(rt: &impl Abort, node: &mut Node<C>) {
+    for place in 1..127u16 {
+        let sent = sends(node, 0x100 + 2 * place, PAYLOAD, &mut [0; 64]);
+        same(rt, place, &sent, &Answer::Sent(u64::from(2 * place + 1)));
     }
-    Ok(())
 }
 
-/// Two that receive hear, and the power is cut.
-const HEARS_TWO: &[Row] = &[
+/// The last does, two that receive hear, and the power is cut.
+const SENDS_LAST: &[Row] = &[
+    Row(Act::Send(0x1fe, PAYLOAD), Answer::Sent(255), OF_ROUTE_254),
     Row(
         Act::Receive(0x101, OF_ROUTE_1),
         Answer::Heard(Reception::Accepted {
@@ -244,25 +236,35 @@ fn use_of(place: u16) -> (Direction, bool) {
 }
 
 /// Each route is where it was.
-fn add_counts(rows: &mut Vec<Row>) -> Result<(), Fail> {
+fn counts_each<C: CutCells>(rt: &impl Abort, node: &Node<C>) {
     for place in 0..256u16 {
         let (direction, is_used) = use_of(place);
         let counter = u64::from(place) + u64::from(is_used);
-        let act = Act::Count(0x100 + place, direction);
-        rows.push(Row(act, Answer::Count(Some(counter)), &[]))?;
+        same(
+            rt,
+            place,
+            &node.counter(0x100 + place, direction),
+            &Some(counter),
+        );
     }
+}
+
+fn serves_each(
+    rt: &impl Abort,
+    alloc: Global,
+    store: (Kind, Version),
+    plan: &Plan<'_>,
+) -> Result<(), Fail> {
+    let mut node = node_of(alloc, store, plan)?;
+    play(rt, &mut node, 1, SENDS_FIRST);
+    sends_each(rt, &mut node);
+    play(rt, &mut node, 1, SENDS_LAST);
+    counts_each(rt, &node);
     Ok(())
 }
 
-fn serves_each(alloc: Global) -> Result<Vec<Row>, Fail> {
-    let mut rows = Vec::new(alloc);
-    rows.push(FIRST_KEY)?;
-    add_sends(&mut rows)?;
-    for row in HEARS_TWO {
-        rows.push(*row)?;
-    }
-    add_counts(&mut rows)?;
-    Ok(rows)
+fn first_count(alloc: Global, plan: &Plan<'_>) -> Result<usize, Fail> {
+    Ok(first_cells(&config(alloc, plan)?, &mut [[0; 32]; 270]))
 }
 
 #[test]
@@ -274,5 +276,9 @@ fn the_most_routes_are_served(rt: HostRuntime) -> Result<(), Fail> {
         slot_4: [0; 32],
         stop: 0,
     };
-    plays(&rt, rt.alloc(), &plan, &serves_each(rt.alloc())?)
+    same(&rt, "count", &first_count(rt.alloc(), &plan)?, &270);
+    for store in STORES {
+        serves_each(&rt, rt.alloc(), store, &plan)?;
+    }
+    Ok(())
 }
