@@ -27,6 +27,9 @@ pub enum Act {
     Count(u16, Direction),
     Cut(Torn),
     IsDown,
+    /// Of a node of 256 routes: each route that sends does it, but the first and the last; and each counter is looked at.
+    SendEach(&'static [u8]),
+    CountEach,
 }
 
 /// What a node answers.
@@ -128,7 +131,7 @@ fn arm<C: CutCells>(store: &mut C, stop: u64)
     }
 }
 
-pub fn node_of(
+fn node_of(
     alloc: Global,
     store: (Kind, Version),
     plan: &Plan<'_>,
@@ -169,12 +172,7 @@ fn loads<C: CutCells>(node: &mut Node<C>, number: u8, key: &Key) -> Answer {
     }
 }
 
-pub fn sends<C: CutCells>(
-    node: &mut Node<C>,
-    id: u16,
-    payload: &[u8],
-    out: &mut [u8; 64],
-) -> Answer {
+fn sends<C: CutCells>(node: &mut Node<C>, id: u16, payload: &[u8], out: &mut [u8; 64]) -> Answer {
     match node.send(id, payload, out) {
         Ok(sent) if usize::from(sent.len) == payload.len() + 4 => Answer::Sent(sent.freshness),
         Ok(_) => Answer::NoAct,
@@ -200,8 +198,43 @@ fn counts<C: CutCells>(node: &Node<C>, id: u16, direction: Direction) -> Answer 
     Answer::Count(node.counter(id, direction))
 }
 
+/// Each of the 256 routes that sends, but the first and the last, sends once, with the freshness above its place.
+fn sends_each<C: CutCells>(rt: &impl Abort, node: &mut Node<C>, payload: &[u8]) -> Answer {
+    for place in 1..127u16 {
+        let sent = sends(node, 0x100 + 2 * place, payload, &mut [0; 64]);
+        same(rt, place, &sent, &Answer::Sent(u64::from(2 * place + 1)));
+    }
+    Answer::Done
+}
+
+/// The direction of one of the 256 routes, and whether a PDU passed it.
+fn use_of(place: u16) -> (Direction, bool) {
+    if place % 2 == 0 {
+        (Direction::Sends, true)
+    } else {
+        (Direction::Receives, place == 1 || place == 255)
+    }
+}
+
+/// The counter of each of the 256 routes is its place, or one above it where a PDU passed.
+fn counts_each<C: CutCells>(rt: &impl Abort, node: &Node<C>) -> Answer {
+    for place in 0..256u16 {
+        let (direction, is_used) = use_of(place);
+        let counter = u64::from(place) + u64::from(is_used);
+        let counted = node.counter(0x100 + place, direction);
+        same(rt, place, &counted, &Some(counter));
+    }
+    Answer::Done
+}
+
 /// Does this to the node of this number, and gives its answer.
-fn does<C: CutCells>(node: &mut Node<C>, number: u8, act: &Act, out: &mut [u8; 64]) -> Answer {
+fn does<C: CutCells>(
+    rt: &impl Abort,
+    node: &mut Node<C>,
+    number: u8,
+    act: &Act,
+    out: &mut [u8; 64],
+) -> Answer {
     match act {
         Act::Load(target, auth, authkey, counter, flags, key) => {
             let key = Key(*target, *auth, *authkey, *counter, *flags, *key);
@@ -212,6 +245,8 @@ fn does<C: CutCells>(node: &mut Node<C>, number: u8, act: &Act, out: &mut [u8; 6
         Act::Count(id, direction) => counts(node, *id, *direction),
         Act::Cut(torn) => is_cut(node, *torn),
         Act::IsDown => Answer::Down(node.is_down()),
+        Act::SendEach(payload) => sends_each(rt, node, payload),
+        Act::CountEach => counts_each(rt, node),
     }
 }
 
@@ -225,58 +260,13 @@ fn buffer(pdu: &[u8]) -> [u8; 64] {
 }
 
 /// Plays these rows, and compares each answer.
-pub fn play<C: CutCells>(rt: &impl Abort, node: &mut Node<C>, number: u8, rows: &[Row]) {
+fn play<C: CutCells>(rt: &impl Abort, node: &mut Node<C>, number: u8, rows: &[Row]) {
     for (place, row) in rows.iter().enumerate() {
         let mut out = buffer(&[]);
-        let answer = does(node, number, &row.0, &mut out);
+        let answer = does(rt, node, number, &row.0, &mut out);
         same(rt, place, &answer, &row.1);
         holds(rt, place, out == buffer(row.2));
     }
-}
-
-/// The cells behind the slots begin with these bytes, and end in zeros.
-pub fn have_bounds(rt: &impl Abort, cells: &[[u8; 32]], bounds: &[[u8; 12]]) {
-    holds(rt, "cells.len()", cells.len() == bounds.len());
-    for (cell, bound) in cells.iter().zip(bounds) {
-        let mut wanted = [0; 32];
-        wanted[..12].copy_from_slice(bound);
-        holds(rt, "*cell == wanted", *cell == wanted);
-    }
-}
-
-/// The cell at this place, if there is one.
-fn cell_of<C: Cells>(store: &C, cell: u16) -> Option<[u8; 32]> {
-    let mut out = [1; 32];
-    if cell >= store.count() {
-        return None;
-    }
-    store.get(cell, &mut out);
-    Some(out)
-}
-
-/// The cells behind the slots begin with these bytes.
-fn keeps<C: Cells>(rt: &impl Abort, store: &C, bounds: &[[u8; 12]]) {
-    let mut place = 14;
-    for bound in bounds {
-        let cell = cell_of(store, place).unwrap_or([1; 32]);
-        have_bounds(rt, &[cell], &[*bound]);
-        place = if place < 300 { place + 1 } else { place };
-    }
-}
-
-/// Plays these rows to a new node of this plan, whose first bounds are these at the end.
-fn plays_over(
-    rt: &impl Abort,
-    alloc: Global,
-    store: (Kind, Version),
-    plan: &Plan<'_>,
-    rows: &[Row],
-    bounds: &[[u8; 12]],
-) -> Result<(), Fail> {
-    let mut node = node_of(alloc, store, plan)?;
-    play(rt, &mut node, plan.number, rows);
-    keeps(rt, &node.release(), bounds);
-    Ok(())
 }
 
 pub const STORES: [(Kind, Version); 4] = [
@@ -286,16 +276,24 @@ pub const STORES: [(Kind, Version); 4] = [
     (Kind::Log, Version::Two),
 ];
 
-/// Plays these rows to a new node of this plan over each store in both versions; its first bounds are then these.
-pub fn plays(
+/// Plays these rows to a new node of this plan over a store of this kind and version.
+fn plays_over(
     rt: &impl Abort,
     alloc: Global,
+    store: (Kind, Version),
     plan: &Plan<'_>,
     rows: &[Row],
-    bounds: &[[u8; 12]],
 ) -> Result<(), Fail> {
+    let mut node = node_of(alloc, store, plan)?;
+    play(rt, &mut node, plan.number, rows);
+    node.release();
+    Ok(())
+}
+
+/// Plays these rows to a new node of this plan over each store in both versions.
+pub fn plays(rt: &impl Abort, alloc: Global, plan: &Plan<'_>, rows: &[Row]) -> Result<(), Fail> {
     for store in STORES {
-        plays_over(rt, alloc, store, plan, rows, bounds)?;
+        plays_over(rt, alloc, store, plan, rows)?;
     }
     Ok(())
 }

@@ -100,7 +100,7 @@ const FAULTS_ONCE: &[Row] = &[
 
 #[test]
 fn a_store_that_is_about_to_stop_faults_and_then_is_down(rt: HostRuntime) -> Result<(), Fail> {
-    plays(&rt, rt.alloc(), &OVER_A_STOP, FAULTS_ONCE, &[])
+    plays(&rt, rt.alloc(), &OVER_A_STOP, FAULTS_ONCE)
 }
 
 const LAST_SENDER: Plan<'static> = Plan {
@@ -135,5 +135,5 @@ const ENDS: &[Row] = &[
 
 #[test]
 fn the_counter_ends_at_the_last_freshness(rt: HostRuntime) -> Result<(), Fail> {
-    plays(&rt, rt.alloc(), &LAST_SENDER, ENDS, &[])
+    plays(&rt, rt.alloc(), &LAST_SENDER, ENDS)
 }

@@ -1,16 +1,10 @@
-//! Nodes of several routes, and one of the most.
-use crate::bench::{
-    Act, Answer, Plan, Row, STORES, Way, config, have_bounds, node_of, play, plays, sends,
-};
-use crate::comparing::{holds, same};
+//! Nodes of several routes, and one of the most. The bounds that they keep are rows of `checks/node_rows`.
+use crate::bench::{Act, Answer, Plan, Row, Way, plays};
 use crate::lives::{AFTER_CUT, EMPTY, FIRST, FIRST_KEY, ID, MAC, MASTER, PAYLOAD, START};
-use cell_store::{CutCells, Kind, Version};
 use cut_disk::Torn;
 use freshness_manager::Direction;
-use secoc_node::{Node, first_cells};
 use secoc_receiver::Reception;
 use std::alloc::Global;
-use std::process::Abort;
 use std::test::Fail;
 
 /// The Data IDs of the second route, which receives, and of the third, which sends.
@@ -27,25 +21,8 @@ const TOLD_FIRST: &[u8] = &[0xbe, 0xe2, 0x2e, 0x40, 0x9f, 0x96, 0x00, 0x73, 0x9f
 
 const TOLD_AFTER_CUT: &[u8] = &[0xbe, 0xe2, 0x2e, 0x40, 0x9f, 0x96, 0x01, 0x9f, 0x6d, 0x0b];
 
-/// The bounds of the three routes at first, and at the end: kind, direction, Data ID and bound.
-const FIRST_BOUNDS: [[u8; 12]; 3] = [
-    [
-        2, 1, 0x6b, 0xc1, 0xe9, 0x3d, 0x7e, 0x11, 0x73, 0x93, 0x17, 0x29,
-    ],
-    [2, 2, 0x01, 0x02, 0, 0, 0, 0, 0, 0, 0x01, 0xf0],
-    [2, 1, 0x03, 0x04, 0, 0, 0, 0, 0, 0, 0, 0xff],
-];
-
-const LAST_BOUNDS: [[u8; 12]; 3] = [
-    [
-        2, 1, 0x6b, 0xc1, 0xe9, 0x3d, 0x7e, 0x11, 0x73, 0x93, 0x17, 0x31,
-    ],
-    [2, 2, 0x01, 0x02, 0, 0, 0, 0, 0, 0, 0x01, 0xf6],
-    [2, 1, 0x03, 0x04, 0, 0, 0, 0, 0, 0, 0x01, 0x01],
-];
-
 /// A first route that sends, a second that receives, and a third that sends; the keys of the latter two are in slot 5.
-const THREE: Plan<'static> = Plan {
+pub const THREE: Plan<'static> = Plan {
     number: 1,
     ways: &[
         Way {
@@ -76,25 +53,6 @@ const THREE: Plan<'static> = Plan {
     slot_4: [0; 32],
     stop: 0,
 };
-
-#[test]
-fn the_first_cells_are_empty_slots_and_starts(rt: HostRuntime) -> Result<(), Fail> {
-    let mut cells = [[9; 32]; 270];
-    let count = first_cells(&config(rt.alloc(), &THREE)?, &mut cells);
-    same(&rt, "count", &count, &17);
-    holds(
-        &rt,
-        "cells[..14] == [[0; 32]; 14]",
-        cells[..14] == [[0; 32]; 14],
-    );
-    have_bounds(&rt, &cells[14..17], &FIRST_BOUNDS);
-    holds(
-        &rt,
-        "cells[17..] == [[9; 32]; 253]",
-        cells[17..] == [[9; 32]; 253],
-    );
-    Ok(())
-}
 
 const SENT: Act = Act::Count(ID, Direction::Sends);
 
@@ -158,7 +116,7 @@ const COUNTS_EACH_ROUTE: &[Row] = &[
 
 #[test]
 fn each_route_counts_for_itself(rt: HostRuntime) -> Result<(), Fail> {
-    plays(&rt, rt.alloc(), &THREE, COUNTS_EACH_ROUTE, &LAST_BOUNDS)
+    plays(&rt, rt.alloc(), &THREE, COUNTS_EACH_ROUTE)
 }
 
 /// The PDUs of route 0, 1, 254 and 255 of a node of 256 routes, whose freshness is one above the route's place.
@@ -190,22 +148,12 @@ fn the_most_ways(alloc: Global) -> Result<Vec<Way>, Fail> {
     Ok(ways)
 }
 
-/// The first route that sends does it.
-const SENDS_FIRST: &[Row] = &[
+/// Each route that sends does it; the bytes of the first and the last are looked at. Two that receive hear, and the power is cut: each route
+/// is where it was.
+const SERVES_EACH: &[Row] = &[
     FIRST_KEY,
     Row(Act::Send(0x100, PAYLOAD), Answer::Sent(1), OF_ROUTE_0),
-];
-
-/// The others do but the last.
-fn sends_each<C: CutCells>(rt: &impl Abort, node: &mut Node<C>) {
-    for place in 1..127u16 {
-        let sent = sends(node, 0x100 + 2 * place, PAYLOAD, &mut [0; 64]);
-        same(rt, place, &sent, &Answer::Sent(u64::from(2 * place + 1)));
-    }
-}
-
-/// The last does, two that receive hear, and the power is cut.
-const SENDS_LAST: &[Row] = &[
+    Row(Act::SendEach(PAYLOAD), Answer::Done, &[]),
     Row(Act::Send(0x1fe, PAYLOAD), Answer::Sent(255), OF_ROUTE_254),
     Row(
         Act::Receive(0x101, OF_ROUTE_1),
@@ -224,48 +172,8 @@ const SENDS_LAST: &[Row] = &[
         &[],
     ),
     Row(Act::Cut(Torn::Half), Answer::Done, &[]),
+    Row(Act::CountEach, Answer::Done, &[]),
 ];
-
-/// The direction of a route, and whether a PDU passed it.
-fn use_of(place: u16) -> (Direction, bool) {
-    if place % 2 == 0 {
-        (Direction::Sends, true)
-    } else {
-        (Direction::Receives, place == 1 || place == 255)
-    }
-}
-
-/// Each route is where it was.
-fn counts_each<C: CutCells>(rt: &impl Abort, node: &Node<C>) {
-    for place in 0..256u16 {
-        let (direction, is_used) = use_of(place);
-        let counter = u64::from(place) + u64::from(is_used);
-        same(
-            rt,
-            place,
-            &node.counter(0x100 + place, direction),
-            &Some(counter),
-        );
-    }
-}
-
-fn serves_each(
-    rt: &impl Abort,
-    alloc: Global,
-    store: (Kind, Version),
-    plan: &Plan<'_>,
-) -> Result<(), Fail> {
-    let mut node = node_of(alloc, store, plan)?;
-    play(rt, &mut node, 1, SENDS_FIRST);
-    sends_each(rt, &mut node);
-    play(rt, &mut node, 1, SENDS_LAST);
-    counts_each(rt, &node);
-    Ok(())
-}
-
-fn first_count(alloc: Global, plan: &Plan<'_>) -> Result<usize, Fail> {
-    Ok(first_cells(&config(alloc, plan)?, &mut [[0; 32]; 270]))
-}
 
 #[test]
 fn the_most_routes_are_served(rt: HostRuntime) -> Result<(), Fail> {
@@ -276,9 +184,5 @@ fn the_most_routes_are_served(rt: HostRuntime) -> Result<(), Fail> {
         slot_4: [0; 32],
         stop: 0,
     };
-    same(&rt, "count", &first_count(rt.alloc(), &plan)?, &270);
-    for store in STORES {
-        serves_each(&rt, rt.alloc(), store, &plan)?;
-    }
-    Ok(())
+    plays(&rt, rt.alloc(), &plan, SERVES_EACH)
 }
