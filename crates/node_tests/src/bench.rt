@@ -5,12 +5,12 @@ ghost use Rattle.any_cells.specs.Either.{any_state};
 
 use crate::comparing::{holds, same};
 use any_cells::AnyCells;
-use cell_store::{Cells, CutCells, Kind, Reread, Version};
+use cell_store::{Cells, CutCells, Kind, Version};
 use cut_disk::{MemDisk, Torn};
 use freshness_manager::{Direction, NodeConfig, Route};
 use key_slots::{Counter28, Flags, SlotId};
 use memory_update::{Request, Uid, Update, build};
-use secoc_node::{CutFault, Node, NodeFault, first_cells};
+use secoc_node::{Node, NodeFault, first_cells};
 use secoc_receiver::Reception;
 use she_aes::Block;
 use std::alloc::Global;
@@ -22,48 +22,27 @@ use std::test::Fail;
 pub enum Act {
     /// A key for a slot: target, authorising slot and its key, counter, flags, and the new key.
     Load(u8, u8, u128, u32, u8, u128),
-    /// A boot with an image of one zero byte.
-    Boot,
     Send(u16, &'static [u8]),
     Receive(u16, &'static [u8]),
     Count(u16, Direction),
     Cut(Torn),
-    Stop(u64),
-    Fail(u64),
-    /// A send whose bytes aren't looked at.
-    SendAny(u16, &'static [u8]),
     IsDown,
-    /// The same with the number of calls and the kind of cut that are given to all rows.
-    StopThen,
-    FailThen,
-    CutThen,
+    /// Of a node of 256 routes: each route that sends does it, but the first and the last; and each counter is looked at.
+    SendEach(&'static [u8]),
+    CountEach,
 }
-
-/// What the rows of a table take from outside: a number of calls, and a kind of cut.
-#[derive(Clone, Copy)]
-pub struct Given {
-    pub calls: u64,
-    pub torn: Torn,
-}
-
-pub const NOTHING_GIVEN: Given = Given {
-    calls: 0,
-    torn: Torn::Keep,
-};
 
 /// What a node answers.
 #[derive(Clone, Copy, Debug, PartialEq, Eq)]
 pub enum Answer {
     Done,
-    Booted(bool),
     /// The freshness of what was sent.
     Sent(u64),
     Heard(Reception),
     Count(Option<u64>),
     Refused(NodeFault),
-    NotCut(Reread),
     Down(bool),
-    /// The table is wrong.
+    /// The table is wrong, or what is answered.
     NoAct,
 }
 
@@ -193,16 +172,10 @@ fn loads<C: CutCells>(node: &mut Node<C>, number: u8, key: &Key) -> Answer {
     }
 }
 
-fn boots<C: CutCells>(node: &mut Node<C>) -> Answer {
-    match node.boot(&[0]) {
-        Ok(good) => Answer::Booted(good),
-        Err(fault) => Answer::Refused(fault),
-    }
-}
-
 fn sends<C: CutCells>(node: &mut Node<C>, id: u16, payload: &[u8], out: &mut [u8; 64]) -> Answer {
     match node.send(id, payload, out) {
-        Ok(sent) => Answer::Sent(sent.freshness),
+        Ok(sent) if usize::from(sent.len) == payload.len() + 4 => Answer::Sent(sent.freshness),
+        Ok(_) => Answer::NoAct,
         Err(fault) => Answer::Refused(fault),
     }
 }
@@ -217,36 +190,48 @@ fn receives<C: CutCells>(node: &mut Node<C>, id: u16, pdu: &[u8]) -> Answer {
 fn is_cut<C: CutCells>(node: &mut Node<C>, torn: Torn) -> Answer {
     match node.power_cut(torn) {
         Ok(()) => Answer::Done,
-        Err(CutFault::Store(fault)) => Answer::NotCut(fault),
         Err(_) => Answer::NoAct,
     }
-}
-
-fn stops<C: CutCells>(node: &mut Node<C>, calls: u64) -> Answer {
-    if calls == 0 {
-        return Answer::NoAct;
-    }
-    node.stop_at(calls);
-    Answer::Done
-}
-
-fn fails<C: CutCells>(node: &mut Node<C>, calls: u64) -> Answer {
-    if calls == 0 {
-        return Answer::NoAct;
-    }
-    node.fail_at(calls);
-    Answer::Done
 }
 
 fn counts<C: CutCells>(node: &Node<C>, id: u16, direction: Direction) -> Answer {
     Answer::Count(node.counter(id, direction))
 }
 
+/// Each of the 256 routes that sends, but the first and the last, sends once, with the freshness above its place.
+fn sends_each<C: CutCells>(rt: &impl Abort, node: &mut Node<C>, payload: &[u8]) -> Answer {
+    for place in 1..127u16 {
+        let sent = sends(node, 0x100 + 2 * place, payload, &mut [0; 64]);
+        same(rt, place, &sent, &Answer::Sent(u64::from(2 * place + 1)));
+    }
+    Answer::Done
+}
+
+/// The direction of one of the 256 routes, and whether a PDU passed it.
+fn use_of(place: u16) -> (Direction, bool) {
+    if place % 2 == 0 {
+        (Direction::Sends, true)
+    } else {
+        (Direction::Receives, place == 1 || place == 255)
+    }
+}
+
+/// The counter of each of the 256 routes is its place, or one above it where a PDU passed.
+fn counts_each<C: CutCells>(rt: &impl Abort, node: &Node<C>) -> Answer {
+    for place in 0..256u16 {
+        let (direction, is_used) = use_of(place);
+        let counter = u64::from(place) + u64::from(is_used);
+        let counted = node.counter(0x100 + place, direction);
+        same(rt, place, &counted, &Some(counter));
+    }
+    Answer::Done
+}
+
 /// Does this to the node of this number, and gives its answer.
 fn does<C: CutCells>(
+    rt: &impl Abort,
     node: &mut Node<C>,
     number: u8,
-    given: &Given,
     act: &Act,
     out: &mut [u8; 64],
 ) -> Answer {
@@ -255,18 +240,13 @@ fn does<C: CutCells>(
             let key = Key(*target, *auth, *authkey, *counter, *flags, *key);
             loads(node, number, &key)
         }
-        Act::Boot => boots(node),
         Act::Send(id, payload) => sends(node, *id, payload, out),
         Act::Receive(id, pdu) => receives(node, *id, pdu),
         Act::Count(id, direction) => counts(node, *id, *direction),
         Act::Cut(torn) => is_cut(node, *torn),
-        Act::Stop(calls) => stops(node, *calls),
-        Act::Fail(calls) => fails(node, *calls),
-        Act::SendAny(id, payload) => sends(node, *id, payload, &mut [0; 64]),
-        Act::StopThen => stops(node, given.calls),
-        Act::FailThen => fails(node, given.calls),
-        Act::CutThen => is_cut(node, given.torn),
         Act::IsDown => Answer::Down(node.is_down()),
+        Act::SendEach(payload) => sends_each(rt, node, payload),
+        Act::CountEach => counts_each(rt, node),
     }
 }
 
@@ -280,59 +260,13 @@ fn buffer(pdu: &[u8]) -> [u8; 64] {
 }
 
 /// Plays these rows, and compares each answer.
-fn play<C: CutCells>(rt: &impl Abort, node: &mut Node<C>, number: u8, given: &Given, rows: &[Row]) {
+fn play<C: CutCells>(rt: &impl Abort, node: &mut Node<C>, number: u8, rows: &[Row]) {
     for (place, row) in rows.iter().enumerate() {
         let mut out = buffer(&[]);
-        let answer = does(node, number, given, &row.0, &mut out);
+        let answer = does(rt, node, number, &row.0, &mut out);
         same(rt, place, &answer, &row.1);
         holds(rt, place, out == buffer(row.2));
     }
-}
-
-/// The cells behind the slots begin with these bytes, and end in zeros.
-pub fn have_bounds(rt: &impl Abort, cells: &[[u8; 32]], bounds: &[[u8; 12]]) {
-    holds(rt, "cells.len()", cells.len() == bounds.len());
-    for (cell, bound) in cells.iter().zip(bounds) {
-        let mut wanted = [0; 32];
-        wanted[..12].copy_from_slice(bound);
-        holds(rt, "*cell == wanted", *cell == wanted);
-    }
-}
-
-/// The cell at this place, if there is one.
-fn cell_of<C: Cells>(store: &C, cell: u16) -> Option<[u8; 32]> {
-    let mut out = [1; 32];
-    if cell >= store.count() {
-        return None;
-    }
-    store.get(cell, &mut out);
-    Some(out)
-}
-
-/// The cells behind the slots begin with these bytes.
-fn keeps<C: Cells>(rt: &impl Abort, store: &C, bounds: &[[u8; 12]]) {
-    let mut place = 14;
-    for bound in bounds {
-        let cell = cell_of(store, place).unwrap_or([1; 32]);
-        have_bounds(rt, &[cell], &[*bound]);
-        place = if place < 300 { place + 1 } else { place };
-    }
-}
-
-/// Plays these rows to a new node of this plan over a store of this kind and version, whose first bounds are these at the end.
-pub fn plays_over(
-    rt: &impl Abort,
-    alloc: Global,
-    store: (Kind, Version),
-    plan: &Plan<'_>,
-    given: &Given,
-    rows: &[Row],
-    bounds: &[[u8; 12]],
-) -> Result<(), Fail> {
-    let mut node = node_of(alloc, store, plan)?;
-    play(rt, &mut node, plan.number, given, rows);
-    keeps(rt, &node.release(), bounds);
-    Ok(())
 }
 
 pub const STORES: [(Kind, Version); 4] = [
@@ -342,10 +276,24 @@ pub const STORES: [(Kind, Version); 4] = [
     (Kind::Log, Version::Two),
 ];
 
+/// Plays these rows to a new node of this plan over a store of this kind and version.
+fn plays_over(
+    rt: &impl Abort,
+    alloc: Global,
+    store: (Kind, Version),
+    plan: &Plan<'_>,
+    rows: &[Row],
+) -> Result<(), Fail> {
+    let mut node = node_of(alloc, store, plan)?;
+    play(rt, &mut node, plan.number, rows);
+    node.release();
+    Ok(())
+}
+
 /// Plays these rows to a new node of this plan over each store in both versions.
 pub fn plays(rt: &impl Abort, alloc: Global, plan: &Plan<'_>, rows: &[Row]) -> Result<(), Fail> {
     for store in STORES {
-        plays_over(rt, alloc, store, plan, &NOTHING_GIVEN, rows, &[])?;
+        plays_over(rt, alloc, store, plan, rows)?;
     }
     Ok(())
 }

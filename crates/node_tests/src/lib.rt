@@ -11,5 +11,3 @@ mod comparing;
 mod lives;
 #[cfg(test)]
 mod routes;
-#[cfg(test)]
-mod stops;

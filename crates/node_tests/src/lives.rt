@@ -1,8 +1,7 @@
-//! Keys that gate sends, frames that are accepted once, power cuts, and the last freshness. The tags are those of OpenSSL's CMAC.
+//! A store that stops, and the last freshness. The tags are those of OpenSSL's CMAC.
 use crate::bench::{Act, Answer, Plan, Row, Way, plays};
 use cut_disk::Torn;
 use freshness_manager::Direction;
-use key_slots::Erc;
 use secoc_node::NodeFault;
 use secoc_receiver::Reception;
 use std::test::Fail;
@@ -15,16 +14,6 @@ pub const PAYLOAD: &[u8] = &[0xbe, 0xe2, 0x2e, 0x40, 0x9f, 0x96];
 
 /// The payload with the freshness above the start.
 pub const FIRST: &[u8] = &[0xbe, 0xe2, 0x2e, 0x40, 0x9f, 0x96, 0x2a, 0x07, 0x0a, 0x16];
-
-/// The first PDU with another payload, and with another tag.
-const ALTERED: &[u8] = &[0xbe, 0xe2, 0x2e, 0x40, 0x9f, 0x97, 0x2a, 0x07, 0x0a, 0x16];
-
-const FORGED: &[u8] = &[0xbe, 0xe2, 0x2e, 0x40, 0x9f, 0x96, 0x2a, 0x07, 0x0a, 0x17];
-
-/// The payload with the freshness 16 and 17 above the start.
-const AHEAD_16: &[u8] = &[0xbe, 0xe2, 0x2e, 0x40, 0x9f, 0x96, 0x39, 0x5c, 0x4c, 0xd9];
-
-const AHEAD_17: &[u8] = &[0xbe, 0xe2, 0x2e, 0x40, 0x9f, 0x96, 0x3a, 0xd9, 0x46, 0x9b];
 
 /// The same with the freshness that follows a power cut.
 pub const AFTER_CUT: &[u8] = &[0xbe, 0xe2, 0x2e, 0x40, 0x9f, 0x96, 0x2e, 0x56, 0x7e, 0x86];
@@ -39,27 +28,80 @@ pub const MASTER: u128 = 0x000102030405060708090a0b0c0d0e0f;
 /// What authorises an empty slot.
 pub const EMPTY: u128 = 0xffffffffffffffffffffffffffffffff;
 
-/// The boot MAC of one zero byte under the key.
-const BOOT_MAC: u128 = 0x9338c4e062a714ace2849c32772de6c6;
-
-/// The flags: the key serves MACs, and only after a successful boot.
+/// The flags: the key serves MACs.
 pub const MAC: u8 = 2;
 
-const MAC_AFTER_BOOT: u8 = 10;
+/// The key for MACs in slot 4, which was empty.
+pub const FIRST_KEY: Row = Row(Act::Load(4, 4, EMPTY, 1, MAC, KEY), Answer::Done, &[]);
 
-pub const SENDER: Plan<'static> = Plan {
-    number: 1,
+/// A receiver that has its key, and whose disk stops at its second call.
+const OVER_A_STOP: Plan<'static> = Plan {
+    number: 2,
     ways: &[Way {
         id: ID,
-        direction: Direction::Sends,
+        direction: Direction::Receives,
         slot: 4,
-        reserve: 4,
+        reserve: 1,
         window: 256,
         start: START,
     }],
-    slot_4: [0; 32],
-    stop: 0,
+    slot_4: [
+        1, MAC, 0, 0, 0, 1, 0x2b, 0x7e, 0x15, 0x16, 0x28, 0xae, 0xd2, 0xa6, 0xab, 0xf7, 0x15, 0x88,
+        0x09, 0xcf, 0x4f, 0x3c, 0, 0, 0, 0, 0, 0, 0, 0, 0, 0,
+    ],
+    stop: 2,
 };
+
+const RECEIVED: Act = Act::Count(ID, Direction::Receives);
+
+const IS_DOWN: Row = Row(Act::IsDown, Answer::Down(true), &[]);
+
+const FAULTS_ONCE: &[Row] = &[
+    Row(Act::IsDown, Answer::Down(false), &[]),
+    Row(
+        Act::Receive(ID, FIRST),
+        Answer::Refused(NodeFault::Faulted),
+        &[],
+    ),
+    IS_DOWN,
+    Row(
+        Act::Receive(ID, FIRST),
+        Answer::Refused(NodeFault::Down),
+        &[],
+    ),
+    Row(Act::Send(ID, &[1]), Answer::Refused(NodeFault::Down), &[]),
+    Row(
+        Act::Load(4, 4, EMPTY, 1, MAC, KEY),
+        Answer::Refused(NodeFault::Down),
+        &[],
+    ),
+    IS_DOWN,
+    Row(RECEIVED, Answer::Count(Some(START)), &[]),
+    Row(Act::Cut(Torn::Old), Answer::Done, &[]),
+    Row(Act::IsDown, Answer::Down(false), &[]),
+    Row(RECEIVED, Answer::Count(Some(START)), &[]),
+    Row(
+        Act::Receive(ID, FIRST),
+        Answer::Heard(Reception::Accepted {
+            freshness: START + 1,
+            len: 6,
+        }),
+        &[],
+    ),
+    Row(RECEIVED, Answer::Count(Some(START + 1)), &[]),
+    Row(
+        Act::Receive(ID, FIRST),
+        Answer::Heard(Reception::VerificationFailure),
+        &[],
+    ),
+    Row(RECEIVED, Answer::Count(Some(START + 1)), &[]),
+    Row(Act::Count(ID, Direction::Sends), Answer::Count(None), &[]),
+];
+
+#[test]
+fn a_store_that_is_about_to_stop_faults_and_then_is_down(rt: HostRuntime) -> Result<(), Fail> {
+    plays(&rt, rt.alloc(), &OVER_A_STOP, FAULTS_ONCE)
+}
 
 const LAST_SENDER: Plan<'static> = Plan {
     number: 1,
@@ -75,340 +117,23 @@ const LAST_SENDER: Plan<'static> = Plan {
     stop: 0,
 };
 
-pub const RECEIVER: Plan<'static> = Plan {
-    number: 2,
-    ways: &[Way {
-        id: ID,
-        direction: Direction::Receives,
-        slot: 4,
-        reserve: 1,
-        window: 256,
-        start: START,
-    }],
-    slot_4: [0; 32],
-    stop: 0,
-};
+const SENT: Act = Act::Count(ID, Direction::Sends);
 
-const NARROW: Plan<'static> = Plan {
-    number: 2,
-    ways: &[Way {
-        id: ID,
-        direction: Direction::Receives,
-        slot: 4,
-        reserve: 1,
-        window: 16,
-        start: START,
-    }],
-    slot_4: [0; 32],
-    stop: 0,
-};
-
-/// The key for MACs in slot 4, which was empty.
-pub const FIRST_KEY: Row = Row(Act::Load(4, 4, EMPTY, 1, MAC, KEY), Answer::Done, &[]);
-
-pub const KEY_EMPTY: NodeFault = NodeFault::Key(Erc::KeyEmpty);
-
-const KEY_INVALID: NodeFault = NodeFault::Key(Erc::KeyInvalid);
-
-const KEY_NOT_AVAILABLE: NodeFault = NodeFault::Key(Erc::KeyNotAvailable);
-
-/// A key that serves no MAC, then one that serves them after a boot; a boot that comes first has no keys to decide by.
-const GOOD_BOOT: &[Row] = &[
-    Row(Act::Send(ID, &[1]), Answer::Refused(KEY_EMPTY), &[]),
-    Row(
-        Act::Boot,
-        Answer::Refused(NodeFault::Key(Erc::NoSecureBoot)),
-        &[],
-    ),
-    Row(Act::Load(4, 4, EMPTY, 1, 0, KEY), Answer::Done, &[]),
-    Row(Act::Send(ID, &[1]), Answer::Refused(KEY_INVALID), &[]),
-    Row(
-        Act::Load(4, 4, KEY, 2, MAC_AFTER_BOOT, KEY),
-        Answer::Done,
-        &[],
-    ),
-    Row(Act::Load(2, 2, EMPTY, 1, 0, KEY), Answer::Done, &[]),
-    Row(Act::Load(3, 2, KEY, 1, 0, BOOT_MAC), Answer::Done, &[]),
-    Row(Act::Send(ID, &[1]), Answer::Refused(KEY_NOT_AVAILABLE), &[]),
-    Row(Act::Boot, Answer::Booted(true), &[]),
-    Row(Act::Send(ID, PAYLOAD), Answer::Sent(START + 1), FIRST),
-    Row(
-        Act::Count(ID, Direction::Sends),
-        Answer::Count(Some(START + 1)),
-        &[],
-    ),
-    Row(
-        Act::Boot,
-        Answer::Refused(NodeFault::Key(Erc::SequenceError)),
-        &[],
-    ),
-    Row(Act::Cut(Torn::Keep), Answer::Done, &[]),
-    Row(Act::Send(ID, &[1]), Answer::Refused(KEY_NOT_AVAILABLE), &[]),
-    Row(Act::Boot, Answer::Booted(true), &[]),
-];
-
-/// The same with another boot MAC: nothing is sent.
-const BAD_BOOT: &[Row] = &[
-    Row(Act::Send(ID, &[1]), Answer::Refused(KEY_EMPTY), &[]),
-    Row(
-        Act::Boot,
-        Answer::Refused(NodeFault::Key(Erc::NoSecureBoot)),
-        &[],
-    ),
-    Row(Act::Load(4, 4, EMPTY, 1, 0, KEY), Answer::Done, &[]),
-    Row(Act::Send(ID, &[1]), Answer::Refused(KEY_INVALID), &[]),
-    Row(
-        Act::Load(4, 4, KEY, 2, MAC_AFTER_BOOT, KEY),
-        Answer::Done,
-        &[],
-    ),
-    Row(Act::Load(2, 2, EMPTY, 1, 0, KEY), Answer::Done, &[]),
-    Row(Act::Load(3, 2, KEY, 1, 0, BOOT_MAC ^ 1), Answer::Done, &[]),
-    Row(Act::Send(ID, &[1]), Answer::Refused(KEY_NOT_AVAILABLE), &[]),
-    Row(Act::Boot, Answer::Booted(false), &[]),
-    Row(Act::Send(ID, &[1]), Answer::Refused(KEY_NOT_AVAILABLE), &[]),
-    Row(
-        Act::Boot,
-        Answer::Refused(NodeFault::Key(Erc::SequenceError)),
-        &[],
-    ),
-    Row(Act::Cut(Torn::Keep), Answer::Done, &[]),
-    Row(Act::Send(ID, &[1]), Answer::Refused(KEY_NOT_AVAILABLE), &[]),
-    Row(Act::Boot, Answer::Booted(false), &[]),
-];
-
-#[test]
-fn keys_and_boots_gate_sends(rt: HostRuntime) -> Result<(), Fail> {
-    plays(&rt, rt.alloc(), &SENDER, GOOD_BOOT)?;
-    plays(&rt, rt.alloc(), &SENDER, BAD_BOOT)
-}
-
-const SENDS_ONCE: &[Row] = &[
-    Row(Act::Load(1, 1, EMPTY, 1, 0, MASTER), Answer::Done, &[]),
-    Row(Act::Load(4, 1, MASTER, 1, MAC, KEY), Answer::Done, &[]),
-    Row(Act::Send(ID, PAYLOAD), Answer::Sent(START + 1), FIRST),
-    Row(
-        Act::Count(ID, Direction::Sends),
-        Answer::Count(Some(START + 1)),
-        &[],
-    ),
-    Row(
-        Act::Send(ID, &[]),
-        Answer::Refused(NodeFault::BadLength),
-        &[],
-    ),
-];
-
-/// A PDU is accepted once, and another payload or tag is refused, by a node whose key is loaded under its master key.
-const ACCEPTS_ONCE: &[Row] = &[
-    Row(Act::Load(1, 1, EMPTY, 1, 0, MASTER), Answer::Done, &[]),
-    Row(Act::Load(4, 1, MASTER, 1, MAC, KEY), Answer::Done, &[]),
-    Row(
-        Act::Receive(ID, FIRST),
-        Answer::Heard(Reception::Accepted {
-            freshness: START + 1,
-            len: 6,
-        }),
-        &[],
-    ),
-    Row(
-        Act::Count(ID, Direction::Receives),
-        Answer::Count(Some(START + 1)),
-        &[],
-    ),
-    Row(
-        Act::Receive(ID, FIRST),
-        Answer::Heard(Reception::VerificationFailure),
-        &[],
-    ),
-    Row(
-        Act::Receive(ID, ALTERED),
-        Answer::Heard(Reception::VerificationFailure),
-        &[],
-    ),
-    Row(
-        Act::Receive(ID, FORGED),
-        Answer::Heard(Reception::VerificationFailure),
-        &[],
-    ),
-    Row(
-        Act::Receive(ID, &[1, 2, 3, 4]),
-        Answer::Refused(NodeFault::BadLength),
-        &[],
-    ),
-    Row(
-        Act::Receive(7, FIRST),
-        Answer::Refused(NodeFault::NoRoute),
-        &[],
-    ),
-    Row(
-        Act::Send(ID, &[1]),
-        Answer::Refused(NodeFault::NoRoute),
-        &[],
-    ),
-    Row(Act::Count(ID, Direction::Sends), Answer::Count(None), &[]),
-    Row(
-        Act::Count(ID, Direction::Receives),
-        Answer::Count(Some(START + 1)),
-        &[],
-    ),
-];
-
-/// Where the window is narrow, the failure is of the freshness.
-const ACCEPTS_ONCE_NARROWLY: &[Row] = &[
-    Row(Act::Load(1, 1, EMPTY, 1, 0, MASTER), Answer::Done, &[]),
-    Row(Act::Load(4, 1, MASTER, 1, MAC, KEY), Answer::Done, &[]),
-    Row(
-        Act::Receive(ID, FIRST),
-        Answer::Heard(Reception::Accepted {
-            freshness: START + 1,
-            len: 6,
-        }),
-        &[],
-    ),
-    Row(
-        Act::Count(ID, Direction::Receives),
-        Answer::Count(Some(START + 1)),
-        &[],
-    ),
-    Row(
-        Act::Receive(ID, FIRST),
-        Answer::Heard(Reception::FreshnessFailure),
-        &[],
-    ),
-    Row(
-        Act::Receive(ID, ALTERED),
-        Answer::Heard(Reception::FreshnessFailure),
-        &[],
-    ),
-    Row(
-        Act::Receive(ID, FORGED),
-        Answer::Heard(Reception::FreshnessFailure),
-        &[],
-    ),
-    Row(
-        Act::Receive(ID, &[1, 2, 3, 4]),
-        Answer::Refused(NodeFault::BadLength),
-        &[],
-    ),
-    Row(
-        Act::Receive(7, FIRST),
-        Answer::Refused(NodeFault::NoRoute),
-        &[],
-    ),
-    Row(
-        Act::Send(ID, &[1]),
-        Answer::Refused(NodeFault::NoRoute),
-        &[],
-    ),
-    Row(Act::Count(ID, Direction::Sends), Answer::Count(None), &[]),
-    Row(
-        Act::Count(ID, Direction::Receives),
-        Answer::Count(Some(START + 1)),
-        &[],
-    ),
-];
-
-#[test]
-fn a_frame_is_accepted_once(rt: HostRuntime) -> Result<(), Fail> {
-    plays(&rt, rt.alloc(), &SENDER, SENDS_ONCE)?;
-    plays(&rt, rt.alloc(), &RECEIVER, ACCEPTS_ONCE)?;
-    plays(&rt, rt.alloc(), &NARROW, ACCEPTS_ONCE_NARROWLY)
-}
-
-/// An authentic PDU that is too far ahead, and one at the window's end.
-const HEARS_WITHIN_16: &[Row] = &[
-    FIRST_KEY,
-    Row(
-        Act::Receive(ID, AHEAD_17),
-        Answer::Heard(Reception::FreshnessFailure),
-        &[],
-    ),
-    Row(
-        Act::Receive(ID, AHEAD_16),
-        Answer::Heard(Reception::Accepted {
-            freshness: START + 16,
-            len: 6,
-        }),
-        &[],
-    ),
-    Row(
-        Act::Count(ID, Direction::Receives),
-        Answer::Count(Some(START + 16)),
-        &[],
-    ),
-];
-
-#[test]
-fn a_window_of_16_has_no_freshness_17_ahead(rt: HostRuntime) -> Result<(), Fail> {
-    plays(&rt, rt.alloc(), &NARROW, HEARS_WITHIN_16)
-}
-
-/// A sender begins again at its bound.
-const BEGINS_AGAIN: &[Row] = &[
-    FIRST_KEY,
-    Row(Act::Send(ID, PAYLOAD), Answer::Sent(START + 1), FIRST),
-    Row(Act::Cut(Torn::Old), Answer::Done, &[]),
-    Row(Act::Send(ID, PAYLOAD), Answer::Sent(START + 5), AFTER_CUT),
-    Row(
-        Act::Count(ID, Direction::Sends),
-        Answer::Count(Some(START + 5)),
-        &[],
-    ),
-];
-
-const HEARS_BOTH: &[Row] = &[
-    FIRST_KEY,
-    Row(
-        Act::Receive(ID, FIRST),
-        Answer::Heard(Reception::Accepted {
-            freshness: START + 1,
-            len: 6,
-        }),
-        &[],
-    ),
-    Row(
-        Act::Receive(ID, AFTER_CUT),
-        Answer::Heard(Reception::Accepted {
-            freshness: START + 5,
-            len: 6,
-        }),
-        &[],
-    ),
-    Row(
-        Act::Count(ID, Direction::Receives),
-        Answer::Count(Some(START + 5)),
-        &[],
-    ),
-];
-
-/// The last freshness is sent once, in all lives.
 const ENDS: &[Row] = &[
     FIRST_KEY,
     Row(Act::Send(ID, PAYLOAD), Answer::Sent(u64::MAX), LAST),
-    Row(
-        Act::Count(ID, Direction::Sends),
-        Answer::Count(Some(u64::MAX)),
-        &[],
-    ),
+    Row(SENT, Answer::Count(Some(u64::MAX)), &[]),
     Row(
         Act::Send(ID, &[1]),
         Answer::Refused(NodeFault::Exhausted),
         &[],
     ),
+    Row(SENT, Answer::Count(Some(u64::MAX)), &[]),
     Row(Act::Cut(Torn::Keep), Answer::Done, &[]),
-    Row(
-        Act::Send(ID, &[1]),
-        Answer::Refused(NodeFault::Exhausted),
-        &[],
-    ),
+    Row(SENT, Answer::Count(Some(u64::MAX)), &[]),
 ];
 
 #[test]
-fn a_sender_goes_on_at_its_bound_and_ends_at_the_last_freshness(
-    rt: HostRuntime,
-) -> Result<(), Fail> {
-    plays(&rt, rt.alloc(), &SENDER, BEGINS_AGAIN)?;
-    plays(&rt, rt.alloc(), &RECEIVER, HEARS_BOTH)?;
+fn the_counter_ends_at_the_last_freshness(rt: HostRuntime) -> Result<(), Fail> {
     plays(&rt, rt.alloc(), &LAST_SENDER, ENDS)
 }

@@ -1,12 +1,8 @@
-//! Nodes of several routes, and one of the most.
-use crate::bench::{
-    Act, Answer, NOTHING_GIVEN, Plan, Row, STORES, Way, config, have_bounds, plays, plays_over,
-};
-use crate::comparing::{holds, same};
+//! Nodes of several routes, and one of the most. The bounds that they keep are rows of `checks/node_rows`.
+use crate::bench::{Act, Answer, Plan, Row, Way, plays};
 use crate::lives::{AFTER_CUT, EMPTY, FIRST, FIRST_KEY, ID, MAC, MASTER, PAYLOAD, START};
 use cut_disk::Torn;
 use freshness_manager::Direction;
-use secoc_node::first_cells;
 use secoc_receiver::Reception;
 use std::alloc::Global;
 use std::test::Fail;
@@ -25,25 +21,8 @@ const TOLD_FIRST: &[u8] = &[0xbe, 0xe2, 0x2e, 0x40, 0x9f, 0x96, 0x00, 0x73, 0x9f
 
 const TOLD_AFTER_CUT: &[u8] = &[0xbe, 0xe2, 0x2e, 0x40, 0x9f, 0x96, 0x01, 0x9f, 0x6d, 0x0b];
 
-/// The bounds of the three routes at first, and at the end: kind, direction, Data ID and bound.
-const FIRST_BOUNDS: [[u8; 12]; 3] = [
-    [
-        2, 1, 0x6b, 0xc1, 0xe9, 0x3d, 0x7e, 0x11, 0x73, 0x93, 0x17, 0x29,
-    ],
-    [2, 2, 0x01, 0x02, 0, 0, 0, 0, 0, 0, 0x01, 0xf0],
-    [2, 1, 0x03, 0x04, 0, 0, 0, 0, 0, 0, 0, 0xff],
-];
-
-const LAST_BOUNDS: [[u8; 12]; 3] = [
-    [
-        2, 1, 0x6b, 0xc1, 0xe9, 0x3d, 0x7e, 0x11, 0x73, 0x93, 0x17, 0x31,
-    ],
-    [2, 2, 0x01, 0x02, 0, 0, 0, 0, 0, 0, 0x01, 0xf6],
-    [2, 1, 0x03, 0x04, 0, 0, 0, 0, 0, 0, 0x01, 0x01],
-];
-
 /// A first route that sends, a second that receives, and a third that sends; the keys of the latter two are in slot 5.
-const THREE: Plan<'static> = Plan {
+pub const THREE: Plan<'static> = Plan {
     number: 1,
     ways: &[
         Way {
@@ -74,25 +53,6 @@ const THREE: Plan<'static> = Plan {
     slot_4: [0; 32],
     stop: 0,
 };
-
-#[test]
-fn the_first_cells_are_empty_slots_and_starts(rt: HostRuntime) -> Result<(), Fail> {
-    let mut cells = [[9; 32]; 270];
-    let count = first_cells(&config(rt.alloc(), &THREE)?, &mut cells);
-    same(&rt, "count", &count, &17);
-    holds(
-        &rt,
-        "cells[..14] == [[0; 32]; 14]",
-        cells[..14] == [[0; 32]; 14],
-    );
-    have_bounds(&rt, &cells[14..17], &FIRST_BOUNDS);
-    holds(
-        &rt,
-        "cells[17..] == [[9; 32]; 253]",
-        cells[17..] == [[9; 32]; 253],
-    );
-    Ok(())
-}
 
 const SENT: Act = Act::Count(ID, Direction::Sends);
 
@@ -134,6 +94,7 @@ const COUNTS_EACH_ROUTE: &[Row] = &[
         Answer::Heard(Reception::VerificationFailure),
         &[],
     ),
+    Row(TAKEN, Answer::Count(Some(0x1f4)), &[]),
     Row(
         Act::Receive(HEARD, HEARD_AFTER_CUT),
         Answer::Heard(Reception::Accepted {
@@ -155,18 +116,7 @@ const COUNTS_EACH_ROUTE: &[Row] = &[
 
 #[test]
 fn each_route_counts_for_itself(rt: HostRuntime) -> Result<(), Fail> {
-    for store in STORES {
-        plays_over(
-            &rt,
-            rt.alloc(),
-            store,
-            &THREE,
-            &NOTHING_GIVEN,
-            COUNTS_EACH_ROUTE,
-            &LAST_BOUNDS,
-        )?;
-    }
-    Ok(())
+    plays(&rt, rt.alloc(), &THREE, COUNTS_EACH_ROUTE)
 }
 
 /// The PDUs of route 0, 1, 254 and 255 of a node of 256 routes, whose freshness is one above the route's place.
@@ -198,23 +148,13 @@ fn the_most_ways(alloc: Global) -> Result<Vec<Way>, Fail> {
     Ok(ways)
 }
 
-/// Each route that sends sends once; the bytes of the first and the last are looked at.
-fn add_sends(rows: &mut Vec<Row>) -> Result<(), Fail> {
-    for place in 0..128u16 {
-        let answer = Answer::Sent(u64::from(2 * place + 1));
-        let id = 0x100 + 2 * place;
-        let row = match place {
-            0 => Row(Act::Send(id, PAYLOAD), answer, OF_ROUTE_0),
-            127 => Row(Act::Send(id, PAYLOAD), answer, OF_ROUTE_254),
-            _ => Row(Act::SendAny(id, PAYLOAD), answer, &[]),
-        };
-        rows.push(row)?;
-    }
-    Ok(())
-}
-
-/// Two that receive hear, and the power is cut.
-const HEARS_TWO: &[Row] = &[
+/// Each route that sends does it; the bytes of the first and the last are looked at. Two that receive hear, and the power is cut: each route
+/// is where it was.
+const SERVES_EACH: &[Row] = &[
+    FIRST_KEY,
+    Row(Act::Send(0x100, PAYLOAD), Answer::Sent(1), OF_ROUTE_0),
+    Row(Act::SendEach(PAYLOAD), Answer::Done, &[]),
+    Row(Act::Send(0x1fe, PAYLOAD), Answer::Sent(255), OF_ROUTE_254),
     Row(
         Act::Receive(0x101, OF_ROUTE_1),
         Answer::Heard(Reception::Accepted {
@@ -232,38 +172,8 @@ const HEARS_TWO: &[Row] = &[
         &[],
     ),
     Row(Act::Cut(Torn::Half), Answer::Done, &[]),
+    Row(Act::CountEach, Answer::Done, &[]),
 ];
-
-/// The direction of a route, and whether a PDU passed it.
-fn use_of(place: u16) -> (Direction, bool) {
-    if place % 2 == 0 {
-        (Direction::Sends, true)
-    } else {
-        (Direction::Receives, place == 1 || place == 255)
-    }
-}
-
-/// Each route is where it was.
-fn add_counts(rows: &mut Vec<Row>) -> Result<(), Fail> {
-    for place in 0..256u16 {
-        let (direction, is_used) = use_of(place);
-        let counter = u64::from(place) + u64::from(is_used);
-        let act = Act::Count(0x100 + place, direction);
-        rows.push(Row(act, Answer::Count(Some(counter)), &[]))?;
-    }
-    Ok(())
-}
-
-fn serves_each(alloc: Global) -> Result<Vec<Row>, Fail> {
-    let mut rows = Vec::new(alloc);
-    rows.push(FIRST_KEY)?;
-    add_sends(&mut rows)?;
-    for row in HEARS_TWO {
-        rows.push(*row)?;
-    }
-    add_counts(&mut rows)?;
-    Ok(rows)
-}
 
 #[test]
 fn the_most_routes_are_served(rt: HostRuntime) -> Result<(), Fail> {
@@ -274,5 +184,5 @@ fn the_most_routes_are_served(rt: HostRuntime) -> Result<(), Fail> {
         slot_4: [0; 32],
         stop: 0,
     };
-    plays(&rt, rt.alloc(), &plan, &serves_each(rt.alloc())?)
+    plays(&rt, rt.alloc(), &plan, SERVES_EACH)
 }
