@@ -1,156 +1,223 @@
-// Whole campaigns over disks in memory: a script, the disk that it meets, the status and what is printed.
-use crate::comparing::{holds, same};
+//! Whole campaigns over disks in memory: a script, the status and what is printed.
+use crate::comparing::same;
 use bus_port::{CleanSource, MemSink};
-use campaign_commands::{run_campaign, run_example};
-use cell_store::TwinCells;
-use cut_disk::{CutDisk, Disk, MemDisk};
+use campaign_commands::run_campaign;
+use cut_disk::{CutDisk, MemDisk};
 use std::alloc::{AllocError, Global};
+use std::process::Abort;
 use std::test::Fail;
 
-const ISSUE: &str =
-    "issue 000000000000000000000000000001 4 1 00000 0f0e0d0c0b0a09080706050403020100 000102030405060708090a0b0c0d0e0f\n";
+/// What stands before the number of the call that a disk stops at, and between this number and what a cut leaves: the
+/// commands are those of the example of a memory update in the SHE specification.
+const STOP: &str = "stop ";
 
-const ISSUED: &str =
-    " issued 1 00000000000000000000000000000141 2b111e2d93f486566bcbba1d7f7a9797c94643b050fc5d4d7de14cff682203c3 b9d745e5ace7d41860bc63c2b9f5bb46\n";
+const ISSUE_AND_STOP: &str =
+    "issue 000000000000000000000000000001 4 1 00000 0f0e0d0c0b0a09080706050403020100 000102030405060708090a0b0c0d0e0f\nstop ";
 
-/// Which disk a script meets.
-#[derive(Clone, Copy, Debug)]
+const ISSUE_AND_CUT: &str =
+    "\nissue 000000000000000000000000000001 4 1 00000 0f0e0d0c0b0a09080706050403020100 000102030405060708090a0b0c0d0e0f\ncut ";
+
+const CONFIRM_AND_CUT: &str =
+    "\nconfirm 000000000000000000000000000001 4 1 0f0e0d0c0b0a09080706050403020100 00000000000000000000000000000141b472e8d8727d70d57295e74849a27917 820d8d95dc11b4668878160cb2a4e23e\ncut ";
+
+const SHOW: &str = "\nshow 000000000000000000000000000001 4\n";
+
+const SHOW_AND_ISSUE: &str =
+    "\nshow 000000000000000000000000000001 4\nissue 000000000000000000000000000001 4 1 00000 0f0e0d0c0b0a09080706050403020100 000102030405060708090a0b0c0d0e0f\n";
+
+/// The script before a stop, the calls that the disk stops at, the command that has them, the cuts behind it, the script
+/// behind these, and what is printed.
+struct Stop(
+    &'static str,
+    &'static [&'static str],
+    &'static str,
+    &'static [&'static str],
+    &'static str,
+    &'static str,
+);
+
+/// The put of a command has six calls, of which the fifth writes the gate that makes the new cell count, at an even
+/// address: it was 00 at the last sync.
+const BEFORE_THE_GATE: &[&str] = &["1", "2", "3", "4"];
+
+const AT_THE_GATE: &[&str] = &["5", "6"];
+
+const BEHIND: &[&str] = &["7"];
+
+const ALL: &[&str] = &["keep", "old", "half", "a7", "00"];
+
+const OPENING: &[&str] = &["keep", "half", "a7"];
+
+const CLOSING: &[&str] = &["old", "00"];
+
+const ISSUE_LOST: &str =
+    "1 armed\n2 refused MEMORY_FAILURE\n3 up\n4 none\n5 issued 1 00000000000000000000000000000141 2b111e2d93f486566bcbba1d7f7a9797c94643b050fc5d4d7de14cff682203c3 b9d745e5ace7d41860bc63c2b9f5bb46\n";
+
+const ISSUE_FOUND: &str = "1 armed\n2 refused MEMORY_FAILURE\n3 up\n4 issued 1\n";
+
+const ISSUE_MADE: &str =
+    "1 armed\n2 issued 1 00000000000000000000000000000141 2b111e2d93f486566bcbba1d7f7a9797c94643b050fc5d4d7de14cff682203c3 b9d745e5ace7d41860bc63c2b9f5bb46\n3 up\n4 issued 1\n";
+
+const CONFIRMATION_LOST: &str =
+    "1 issued 1 00000000000000000000000000000141 2b111e2d93f486566bcbba1d7f7a9797c94643b050fc5d4d7de14cff682203c3 b9d745e5ace7d41860bc63c2b9f5bb46\n2 armed\n3 refused MEMORY_FAILURE\n4 up\n5 issued 1\n";
+
+const CONFIRMATION_FOUND: &str =
+    "1 issued 1 00000000000000000000000000000141 2b111e2d93f486566bcbba1d7f7a9797c94643b050fc5d4d7de14cff682203c3 b9d745e5ace7d41860bc63c2b9f5bb46\n2 armed\n3 refused MEMORY_FAILURE\n4 up\n5 confirmed 1\n";
+
+const CONFIRMATION_MADE: &str =
+    "1 issued 1 00000000000000000000000000000141 2b111e2d93f486566bcbba1d7f7a9797c94643b050fc5d4d7de14cff682203c3 b9d745e5ace7d41860bc63c2b9f5bb46\n2 armed\n3 confirmed 1\n4 up\n5 confirmed 1\n";
+
+const STOPS: &[Stop] = &[
+    Stop(
+        STOP,
+        BEFORE_THE_GATE,
+        ISSUE_AND_CUT,
+        ALL,
+        SHOW_AND_ISSUE,
+        ISSUE_LOST,
+    ),
+    Stop(
+        STOP,
+        AT_THE_GATE,
+        ISSUE_AND_CUT,
+        CLOSING,
+        SHOW_AND_ISSUE,
+        ISSUE_LOST,
+    ),
+    Stop(STOP, AT_THE_GATE, ISSUE_AND_CUT, OPENING, SHOW, ISSUE_FOUND),
+    Stop(STOP, BEHIND, ISSUE_AND_CUT, ALL, SHOW, ISSUE_MADE),
+    Stop(
+        ISSUE_AND_STOP,
+        BEFORE_THE_GATE,
+        CONFIRM_AND_CUT,
+        ALL,
+        SHOW,
+        CONFIRMATION_LOST,
+    ),
+    Stop(
+        ISSUE_AND_STOP,
+        AT_THE_GATE,
+        CONFIRM_AND_CUT,
+        CLOSING,
+        SHOW,
+        CONFIRMATION_LOST,
+    ),
+    Stop(
+        ISSUE_AND_STOP,
+        AT_THE_GATE,
+        CONFIRM_AND_CUT,
+        OPENING,
+        SHOW,
+        CONFIRMATION_FOUND,
+    ),
+    Stop(
+        ISSUE_AND_STOP,
+        BEHIND,
+        CONFIRM_AND_CUT,
+        ALL,
+        SHOW,
+        CONFIRMATION_MADE,
+    ),
+];
+
+/// A disk of zero bytes; or one whose first call fails, or none.
+#[derive(Clone, Copy)]
 enum Medium {
-    /// None.
+    Blank,
+    Failing,
     Missing,
-    /// So many zero bytes.
-    Zeros(usize),
-    /// A store of this many cells, each of which begins with this byte.
-    Cells(usize, u8),
-    /// A ledger of which both copies of a cell are zero.
-    Damaged,
-    /// Zero bytes, and the call of this number fails.
-    Failing(u64),
-}
-
-fn cells_on(alloc: Global, count: usize, first: u8) -> Result<MemDisk, Fail> {
-    let disk = MemDisk::new(alloc, 65536)?;
-    let mut cell = [0; 32];
-    cell[0] = first;
-    let cells = vec![in alloc; cell; count]?;
-    if cells.is_empty() || cells.len() > 1024 {
-        return Err(Fail::from("a store has 1 to 1024 cells"));
-    }
-    match TwinCells::format(disk, &cells) {
-        Ok(disk) => Ok(disk),
-        Err(refused) => Err(Fail::from(refused.fault)),
-    }
 }
 
 fn disk_of(alloc: Global, medium: Medium) -> Result<MemDisk, Fail> {
-    match medium {
-        Medium::Missing => Err(Fail::from("no disk")),
-        Medium::Zeros(size) => {
-            if size > 65536 {
-                return Err(Fail::from("a small disk"));
-            }
-            Ok(MemDisk::new(alloc, size)?)
-        }
-        Medium::Cells(count, first) => cells_on(alloc, count, first),
-        Medium::Damaged => {
-            let mut disk = cells_on(alloc, 256, 0)?;
-            if disk.size() < 304 {
-                return Err(Fail::from("a small disk"));
-            }
-            disk.write(32 + 68 * 3, &[0; 68])?;
-            Ok(disk)
-        }
-        Medium::Failing(calls) => {
-            let mut disk = MemDisk::new(alloc, 65536)?;
-            if calls > 0 {
-                disk.fail_at(calls);
-            }
-            Ok(disk)
-        }
+    let mut disk = MemDisk::new(alloc, 65_536)?;
+    if let Medium::Failing = medium {
+        disk.fail_at(1);
     }
+    Ok(disk)
 }
 
 fn disks_of(alloc: Global, medium: Medium) -> Result<Vec<MemDisk>, Fail> {
     let mut disks = Vec::new(alloc);
-    if let Medium::Missing = medium {
-        return Ok(disks);
+    match medium {
+        Medium::Missing => {}
+        _ => disks.push(disk_of(alloc, medium)?)?,
     }
-    disks.push(disk_of(alloc, medium)?)?;
     Ok(disks)
 }
 
-fn two_words(alloc: Global) -> Result<Vec<String>, AllocError> {
+/// The words of a script and a disk; no source and no disk is opened by them here.
+fn words(alloc: Global) -> Result<Vec<String>, AllocError> {
     let mut words = Vec::new(alloc);
-    words.push(String::from_str(alloc, "F")?)?;
-    words.push(String::from_str(alloc, "DISK")?)?;
+    for word in ["F", "DISK"] {
+        words.push(String::from_str(alloc, word)?)?;
+    }
     Ok(words)
 }
 
-/// The status of a script over disks, and what it prints.
-fn played(alloc: Global, script: &str, disks: &mut Vec<MemDisk>) -> Result<(u8, Vec<u8>), Fail> {
-    let words = two_words(alloc)?;
-    let mut source = CleanSource::new(Vec::from_slice(alloc, script.as_bytes())?);
-    let mut sink = MemSink::new(alloc, 1024, Vec::new(alloc), 1024)?;
-    let status = run_campaign(alloc, words.as_slice(), &mut source, &mut sink, disks);
-    Ok((status, Vec::from_slice(alloc, sink.bytes())?))
+/// The script of a row with a stop at this call and this cut.
+fn script_of(alloc: Global, row: &Stop, call: &str, torn: &str) -> Result<Vec<u8>, AllocError> {
+    let mut script = Vec::new(alloc);
+    script.extend_from_slice(row.0.as_bytes())?;
+    script.extend_from_slice(call.as_bytes())?;
+    script.extend_from_slice(row.2.as_bytes())?;
+    script.extend_from_slice(torn.as_bytes())?;
+    script.extend_from_slice(row.4.as_bytes())?;
+    Ok(script)
 }
 
-#[test]
-fn a_cut_finds_an_issue_or_loses_it(rt: HostRuntime) -> Result<(), Fail> {
-    let alloc = rt.alloc();
-    for (torn, shown, issued) in [("keep", "issued 1", " issued 2 "), ("old", "none", ISSUED)] {
-        let script = format!(in alloc;
-            "stop 6\n{ISSUE}cut {torn}\nshow 000000000000000000000000000001 4\n{ISSUE}"
-        )?;
-        let front = format!(in alloc;
-            "1 armed\n2 refused MEMORY_FAILURE\n3 up\n4 {shown}\n5{issued}"
-        )?;
-        let mut disks = disks_of(alloc, Medium::Zeros(65536))?;
-        let (status, text) = played(alloc, script.as_str(), &mut disks)?;
-        same(&rt, "status", &status, &0);
-        holds(&rt, torn, text.as_slice().starts_with(front.as_bytes()));
+/// The status of a script over a disk.
+fn status_of(
+    alloc: Global,
+    medium: Medium,
+    script: &mut CleanSource,
+    sink: &mut MemSink,
+) -> Result<u8, Fail> {
+    let words = words(alloc)?;
+    let mut disks = disks_of(alloc, medium)?;
+    Ok(run_campaign(alloc, words.as_slice(), script, sink, &mut disks))
+}
+
+/// Plays a script over a disk, and compares the status and what is printed.
+fn prints(
+    rt: &impl Abort,
+    alloc: Global,
+    medium: Medium,
+    script: Vec<u8>,
+    status: u8,
+    printed: &str,
+) -> Result<(), Fail> {
+    let mut script = CleanSource::new(script);
+    let mut sink = MemSink::new(alloc, 1024, Vec::new(alloc), 1024)?;
+    let found = status_of(alloc, medium, &mut script, &mut sink)?;
+    let told = (found, sink.bytes());
+    same(rt, printed, &told, &(status, printed.as_bytes()));
+    Ok(())
+}
+
+/// Plays a row with a stop at this call.
+fn stops_at(rt: &impl Abort, alloc: Global, row: &Stop, call: &str) -> Result<(), Fail> {
+    for torn in row.3 {
+        let script = script_of(alloc, row, call, torn)?;
+        prints(rt, alloc, Medium::Blank, script, 0, row.5)?;
     }
     Ok(())
 }
 
 #[test]
-fn a_second_campaign_reads_what_the_first_wrote(rt: HostRuntime) -> Result<(), Fail> {
-    let alloc = rt.alloc();
-    let mut disks = disks_of(alloc, Medium::Zeros(17440))?;
-    let (first, _) = played(alloc, ISSUE, &mut disks)?;
-    let (second, text) = played(alloc, "show 000000000000000000000000000001 4\n", &mut disks)?;
-    same(&rt, "(first, second)", &(first, second), &(0, 0));
-    same(&rt, "text", &text.as_slice(), &b"1 issued 1\n".as_slice());
-    Ok(())
-}
-
-#[test]
-fn a_disk_without_a_ledger_is_refused(rt: HostRuntime) -> Result<(), Fail> {
-    let alloc = rt.alloc();
-    const ROWS: [(Medium, u8, &str); 7] = [
-        (Medium::Missing, 9, "disks: too few\n"),
-        (Medium::Zeros(17439), 9, "disks: too small\n"),
-        (Medium::Cells(15, 0), 10, "store: NotFormatted\n"),
-        (Medium::Cells(256, 2), 10, "store: BadEntry 0\n"),
-        (Medium::Damaged, 10, "store: Damaged 3\n"),
-        (Medium::Failing(1), 10, "store: DiskFailed\n"),
-        (Medium::Cells(256, 0), 0, ""),
-    ];
-    for (medium, status, output) in &ROWS {
-        let mut disks = disks_of(alloc, *medium)?;
-        let (answer, text) = played(alloc, "", &mut disks)?;
-        same(&rt, "answer", &answer, status);
-        same(&rt, "text", &text.as_slice(), &output.as_bytes());
+fn a_command_is_whole_or_absent_behind_a_cut(rt: HostRuntime) -> Result<(), Fail> {
+    for row in STOPS {
+        for call in row.1 {
+            stops_at(&rt, rt.alloc(), row, call)?;
+        }
     }
     Ok(())
 }
 
 #[test]
-fn the_example_is_confirmed_once(rt: HostRuntime) -> Result<(), Fail> {
+fn no_disk_and_one_that_fails_have_no_ledger(rt: HostRuntime) -> Result<(), Fail> {
     let alloc = rt.alloc();
-    let mut sink = MemSink::new(alloc, 1024, Vec::new(alloc), 1024)?;
-    let wanted = format!(in alloc; "1{ISSUED}2 confirmed 1\n3 refused AlreadyConfirmed\n4 none\n")?;
-    same(&rt, "run_example", &run_example(alloc, &mut sink), &0);
-    same(&rt, "sink.bytes()", &sink.bytes(), &wanted.as_bytes());
-    Ok(())
+    let missing = "disks: too few\n";
+    prints(&rt, alloc, Medium::Missing, Vec::new(alloc), 9, missing)?;
+    let failing = "store: DiskFailed\n";
+    prints(&rt, alloc, Medium::Failing, Vec::new(alloc), 10, failing)
 }
