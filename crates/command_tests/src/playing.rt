@@ -39,8 +39,7 @@ fn source_of(alloc: Global, text: Text) -> Result<CleanSource, AllocError> {
     Ok(CleanSource::new(bytes_of(alloc, text)?))
 }
 
-/// A run of these words: by itself, since what it promises is taken up anew for each way out behind it; over ports of
-/// any kind, since nothing of them is computed then.
+/// A run of these words: by itself, since what it promises is taken up anew for each way out behind it.
 fn done<S: Source, T: Source, K: Sink, D: CutDisk>(
     alloc: Global,
     words: &[String],
