@@ -1,5 +1,5 @@
 //! Tests of worlds over disks in memory and over disks that tell their past, with both stores in both versions. The tags are those of
-//! OpenSSL's CMAC, and the key update with M4 and M5 is the example of the SHE specification.
+//! OpenSSL's CMAC.
 #![tactic(auto)]
 
 #[cfg(test)]

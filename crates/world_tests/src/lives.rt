@@ -30,7 +30,7 @@ const THREE: &[NodeRow] = &[
 const FOURTH: &[u8] = b"\xbe\xe2\x2e\x40\x9f\x96\x2d\x0b\xa6\xdc";
 
 const LIFE: &[Row] = &[
-    // events 1 to 6: no event has the number 0, and none that is behind it sent; `left` sends three times
+    // events 1 to 6: no event has the number 0, and that of a key sent nothing; `left` sends three times
     Row(1, Act::Deliver(0), Told::NoFrame),
     Row(0, Act::Key(2), Told::Keyed),
     Row(1, Act::Deliver(2), Told::NoFrame),
