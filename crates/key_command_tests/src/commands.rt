@@ -1,23 +1,15 @@
 //! Whole runs over ports in memory: the words, the status and the bytes that go out.
 ghost use Rattle.std.specs.Prelude.{◌≤◌};
 
-use crate::comparing::{holds, same};
+use crate::comparing::same;
 use bus_port::{CleanSource, MemSink};
 use cut_disk::MemDisk;
-use key_commands::{run_example, run_key};
+use key_commands::run_key;
 use std::alloc::{AllocError, Global};
 use std::process::Abort;
 use std::test::Fail;
 
-/// The messages of the example of a memory update in the SHE specification.
-const REQUEST: &str =
-    "00000000000000000000000000000141\n2b111e2d93f486566bcbba1d7f7a9797c94643b050fc5d4d7de14cff682203c3\nb9d745e5ace7d41860bc63c2b9f5bb46\n";
-
-/// The words that make them.
-const MAKE: &str =
-    "keytool make 000000000000000000000000000001 4 1 1 00000 0f0e0d0c0b0a09080706050403020100 000102030405060708090a0b0c0d0e0f";
-
-/// The words that confirm its update.
+/// The words that confirm the update of the example of a memory update in the SHE specification.
 const CONFIRM: &str =
     "keytool confirm 000000000000000000000000000001 4 1 1 0f0e0d0c0b0a09080706050403020100 00000000000000000000000000000141b472e8d8727d70d57295e74849a27917 820d8d95dc11b4668878160cb2a4e23e";
 
@@ -33,8 +25,7 @@ fn words_of(alloc: Global, line: &str) -> Result<Vec<String>, AllocError> {
     Ok(words)
 }
 
-/// The status of the words, or of the example where there are none, over a source, a sink and a disk in memory, of
-/// which there is still one then.
+/// The status of the words over a source, a sink and a disk in memory, of which there is still one then.
 fn status_of(
     rt: &impl Abort,
     alloc: Global,
@@ -44,11 +35,8 @@ fn status_of(
     let mut request = CleanSource::new(Vec::from_slice(alloc, b"unread\n")?);
     let mut disks: Vec<MemDisk> = Vec::new(alloc);
     disks.push(MemDisk::new(alloc, 16)?)?;
-    let status = match words {
-        [] => run_example(alloc, &mut request, sink, &mut disks),
-        _ => run_key(alloc, words, &mut request, sink, &mut disks),
-    };
-    holds(rt, "disks.len()", disks.len() == 1);
+    let status = run_key(alloc, words, &mut request, sink, &mut disks);
+    same(rt, "disks", &disks.len(), &1);
     Ok(status)
 }
 
@@ -67,26 +55,26 @@ fn check(
     Ok(())
 }
 
-#[test]
-fn the_example_is_made_by_its_words_and_without_words(rt: HostRuntime) -> Result<(), Fail> {
-    let words = words_of(rt.alloc(), MAKE)?;
-    check(&rt, rt.alloc(), words.as_slice(), 0, REQUEST)?;
-    check(&rt, rt.alloc(), &[], 0, REQUEST)
+/// The words of a boot MAC of an image of so many digits.
+fn image_words(alloc: Global, digits: usize) -> Result<Vec<String>, Fail> {
+    let image = String::from_utf8(vec![in alloc; b'0'; digits]?);
+    let mut words = words_of(alloc, "keytool bootmac 2b7e151628aed2a6abf7158809cf4f3c")?;
+    words.push(image.ok().ok_or("no text")?)?;
+    Ok(words)
 }
+
+const IMAGES: &[(usize, u8, &str)] = &[
+    (131_072, 0, "31ed7e5e6a493ae8dbd126253c12cdcc\n"),
+    (131_074, 3, "value 2\n"),
+];
 
 /// No command line holds an image of 65,536 bytes, since Linux allows a word at most 131,071 bytes. The MAC is that of
 /// OpenSSL.
 #[test]
 fn the_largest_image_has_a_boot_mac(rt: HostRuntime) -> Result<(), Fail> {
-    let alloc = rt.alloc();
-    for (digits, status, output) in [
-        (131_072, 0, "31ed7e5e6a493ae8dbd126253c12cdcc\n"),
-        (131_074, 3, "value 2\n"),
-    ] {
-        let mut words = words_of(alloc, "keytool bootmac 2b7e151628aed2a6abf7158809cf4f3c")?;
-        let image = String::from_utf8(vec![in alloc; b'0'; digits]?);
-        words.push(image.ok().ok_or("no text")?)?;
-        check(&rt, alloc, words.as_slice(), status, output)?;
+    for (digits, status, output) in IMAGES {
+        let words = image_words(rt.alloc(), *digits)?;
+        check(&rt, rt.alloc(), words.as_slice(), *status, output)?;
     }
     Ok(())
 }
@@ -112,17 +100,13 @@ fn check_failing(
 
 #[test]
 fn a_failing_sink_is_told(rt: HostRuntime) -> Result<(), Fail> {
-    for (room, failing, piece, written) in [
-        (64, 1, 64, ""),
-        (64, 6, 1, "confi"),
-        (8, 0, 5, "confirme"),
-    ] {
-        check_failing(&rt, rt.alloc(), room, failing, piece, written)?;
-    }
-    Ok(())
+    check_failing(&rt, rt.alloc(), 64, 1, 64, "")?;
+    check_failing(&rt, rt.alloc(), 64, 6, 1, "confi")?;
+    check_failing(&rt, rt.alloc(), 8, 0, 5, "confirme")
 }
 
-/// What is told of these requests where there is no disk: the first fault of the requests, and then that there is no disk.
+/// What is told of these requests where there is no disk: the first fault of the requests, and then that there is no
+/// disk.
 fn check_without_disk(
     rt: &impl Abort,
     alloc: Global,
