@@ -1,6 +1,4 @@
-//! Whole runs over ports in memory: the words, the status and the bytes that go out.
-ghost use Rattle.std.specs.Prelude.{◌≤◌};
-
+//! Runs of the key commands that no command line has: the longest image, and a load without a disk.
 use crate::comparing::same;
 use bus_port::{CleanSource, MemSink};
 use cut_disk::MemDisk;
@@ -8,10 +6,6 @@ use key_commands::run_key;
 use std::alloc::{AllocError, Global};
 use std::process::Abort;
 use std::test::Fail;
-
-/// The words that confirm the update of the example of a memory update in the SHE specification.
-const CONFIRM: &str =
-    "keytool confirm 000000000000000000000000000001 4 1 1 0f0e0d0c0b0a09080706050403020100 00000000000000000000000000000141b472e8d8727d70d57295e74849a27917 820d8d95dc11b4668878160cb2a4e23e";
 
 /// The words that ask for a load.
 const LOAD: &str = "keytool load FILE 000000000000000000000000000001";
@@ -77,32 +71,6 @@ fn the_largest_image_has_a_boot_mac(rt: HostRuntime) -> Result<(), Fail> {
         check(&rt, rt.alloc(), words.as_slice(), *status, output)?;
     }
     Ok(())
-}
-
-/// What is left in a sink that fails: the status and the bytes.
-fn check_failing(
-    rt: &impl Abort,
-    alloc: Global,
-    room: usize,
-    failing: u64,
-    piece: usize,
-    written: &str,
-) -> Result<(), Fail>
-    requires { 1 ≤ piece }
-{
-    let words = words_of(alloc, CONFIRM)?;
-    let mut sink = MemSink::new(alloc, room, vec![in alloc; failing]?, piece)?;
-    let status = status_of(rt, alloc, words.as_slice(), &mut sink)?;
-    same(rt, "status", &status, &6);
-    same(rt, "sink.bytes()", &sink.bytes(), &written.as_bytes());
-    Ok(())
-}
-
-#[test]
-fn a_failing_sink_is_told(rt: HostRuntime) -> Result<(), Fail> {
-    check_failing(&rt, rt.alloc(), 64, 1, 64, "")?;
-    check_failing(&rt, rt.alloc(), 64, 6, 1, "confi")?;
-    check_failing(&rt, rt.alloc(), 8, 0, 5, "confirme")
 }
 
 /// What is told of these requests where there is no disk: the first fault of the requests, and then that there is no
