@@ -1,6 +1,5 @@
-//! What is compared: a call of a function in place of the steps of a macro, each of which would be proved in each test anew.
-ghost use Rattle.std.specs.Prelude.{IsTrue};
-
+//! What is compared: a call of a function in place of the steps of a macro, each of which would be proved in each test
+//! anew.
 use std::fmt::{Debug, Display};
 use std::process::Abort;
 
@@ -12,11 +11,4 @@ pub(crate) fn same<W: Display + Copy, T: PartialEq + Debug>(
     right: &T,
 ) {
     assert_eq!(rt; *left, *right, "{what}");
-}
-
-/// This holds; `what` tells what was asked, where it doesn't.
-pub(crate) fn holds<W: Display + Copy>(rt: &impl Abort, what: W, it: bool)
-    ensures { IsTrue it }
-{
-    assert!(rt; it, "{what}");
 }
