@@ -30,10 +30,9 @@ const THREE: &[NodeRow] = &[
 const FOURTH: &[u8] = b"\xbe\xe2\x2e\x40\x9f\x96\x2d\x0b\xa6\xdc";
 
 const LIFE: &[Row] = &[
-    // events 1 to 6: no event has the number 0, and that of a key sent nothing; `left` sends three times
-    Row(1, Act::Deliver(0), Told::NoFrame),
+    // events 1 to 6: that of a key sent nothing; `left` sends three times; no event has the number 0
     Row(0, Act::Key(2), Told::Keyed),
-    Row(1, Act::Deliver(2), Told::NoFrame),
+    Row(1, Act::Deliver(1), Told::NoFrame),
     Row(
         0,
         Act::Send(ID, PAYLOAD),
@@ -49,6 +48,7 @@ const LIFE: &[Row] = &[
         Act::Send(ID, PAYLOAD),
         Told::Sent(ID, START + 3, b"\xbe\xe2\x2e\x40\x9f\x96\x2c\xfb\xeb\x6a"),
     ),
+    Row(1, Act::Deliver(0), Told::NoFrame),
     // events 7 to 12: its disk stops, which the second send finds, that puts a bound; its power is cut
     Row(0, Act::Stop(1), Told::Armed),
     Row(0, Act::Send(ID, PAYLOAD), Told::Sent(ID, START + 4, FOURTH)),
