@@ -1,8 +1,22 @@
-//! What is asked: a call of a function in place of the steps of a macro, each of which would be proved in each test anew.
-use std::fmt::Display;
+//! What is compared: a call of a function in place of the steps of a macro, each of which would be proved in each test anew.
+ghost use Rattle.std.specs.Prelude.{IsTrue};
+
+use std::fmt::{Debug, Display};
 use std::process::Abort;
 
+/// Two values are the same; `what` tells which, where they aren't.
+pub(crate) fn same<W: Display + Copy, T: PartialEq + Debug>(
+    rt: &impl Abort,
+    what: W,
+    left: &T,
+    right: &T,
+) {
+    assert_eq!(rt; *left, *right, "{what}");
+}
+
 /// This holds; `what` tells what was asked, where it doesn't.
-pub(crate) fn holds<W: Display + Copy>(rt: &impl Abort, what: W, it: bool) {
+pub(crate) fn holds<W: Display + Copy>(rt: &impl Abort, what: W, it: bool)
+    ensures { IsTrue it }
+{
     assert!(rt; it, "{what}");
 }

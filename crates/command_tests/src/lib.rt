@@ -1,11 +1,22 @@
-//! Tests of the commands of a bus: whole runs over ports and disks in memory. There is nothing else here: a crate of
-//! tests over the library has none of it proved a second time.
+//! Tests of the programs' top calls over ports and disks in memory: the commands of a bus, key campaigns, key commands and
+//! key loading, and collecting, auditing and watching where a port fails. There is nothing else here: a crate of tests over
+//! several libraries has none of them proved a second time. What a row of checks/ shows of a built program isn't shown again.
 #![tactic(auto)]
 
+#[cfg(test)]
+mod campaigns;
 #[cfg(test)]
 mod comparing;
 #[cfg(test)]
 mod counting;
+#[cfg(test)]
+mod failing_ports;
+#[cfg(test)]
+mod key_commands;
+#[cfg(test)]
+mod key_loading;
+#[cfg(test)]
+mod ledger_down;
 #[cfg(test)]
 mod nodes;
 #[cfg(test)]

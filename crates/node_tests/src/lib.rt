@@ -1,4 +1,6 @@
-//! Tests of nodes: each is a table of what is done to a node and of what it answers, played over each store. There is nothing else here.
+//! Tests of slots in cells, of counters, of the engine, of one send and one verdict (over `engine_bench`), and of nodes, each
+//! a table of what is done to a node and of what it answers, played over each store (over `bench`). There is nothing else
+//! here: a crate of tests over several libraries has none of them proved a second time.
 #![tactic(auto)]
 
 #[cfg(test)]
@@ -8,6 +10,20 @@ mod bench;
 #[cfg(test)]
 mod comparing;
 #[cfg(test)]
+mod counters;
+#[cfg(test)]
+mod engine_bench;
+#[cfg(test)]
+mod engine_lives;
+#[cfg(test)]
+mod engines;
+#[cfg(test)]
 mod lives;
 #[cfg(test)]
+mod receptions;
+#[cfg(test)]
 mod routes;
+#[cfg(test)]
+mod sends;
+#[cfg(test)]
+mod slots;

@@ -1,10 +1,21 @@
-//! Tests of lines of text and of a bus as it is told. There is nothing else here: a crate of tests over several
-//! libraries has none of them proved a second time. Bus files are rows of checks/text_rows.
+//! Tests of lines of text, of a bus as it is told, of scripts and trials, and of the lines that are printed and looked
+//! for. There is nothing else here: a crate of tests over several libraries has none of them proved a second time. Bus files
+//! are rows of checks/text_rows.
 #![tactic(auto)]
 
+#[cfg(test)]
+mod bus_shapes;
 #[cfg(test)]
 mod buses;
 #[cfg(test)]
 mod comparing;
 #[cfg(test)]
+mod histories;
+#[cfg(test)]
 mod lines;
+#[cfg(test)]
+mod printed_lines;
+#[cfg(test)]
+mod scripts;
+#[cfg(test)]
+mod trials;

@@ -3,9 +3,9 @@ ghost use Rattle.std.specs.Prelude.{◌≡◌, false, length, IfOk};
 ghost use Rattle.freshness_routes.specs.declared.routes.Direction.TheVariants.{Sends};
 ghost use Rattle.freshness_manager.specs.Counters.{KeepsBound};
 
-use crate::bench::{ID, slot};
 use crate::comparing::same;
-use crate::lives::{Act, Life, live};
+use crate::engine_bench::{ID, slot};
+use crate::engine_lives::{Act, Life, live};
 use cell_store::{Cells, CutCells};
 use freshness_manager::Tx;
 use freshness_routes::{Direction, Route};

@@ -1,9 +1,9 @@
 // Cells as they are written down in the formats, and the first slot, which no update names, over a store in memory.
 ghost use Rattle.std.specs.Prelude.{◌≡◌, length, false};
 
-use crate::bench::{filled, slot};
 use crate::comparing::holds;
-use crate::lives::{Act, Life, live};
+use crate::engine_bench::{filled, slot};
+use crate::engine_lives::{Act, Life, live};
 use cell_store::Cells;
 use freshness_routes::Direction;
 use key_slots::Slot;

@@ -1,6 +1,6 @@
 //! Pairs that a gateway doesn't take.
-use crate::bench::{SHAPES, Way, node};
 use crate::comparing::holds;
+use crate::gateway_bench::{SHAPES, Way, node};
 use freshness_manager::Direction;
 use secoc_gateway::Gateway;
 use std::alloc::Global;

@@ -2,7 +2,7 @@
 ghost use Rattle.std.specs.Prelude.{All};
 ghost use Rattle.bus_script.specs.ScriptEvents.{IsScriptEvent};
 
-use crate::buses::{Shape, bus_of};
+use crate::bus_shapes::{Shape, bus_of};
 use crate::comparing::holds;
 use Direction::{Receives, Sends};
 use bus_script::{BusConfig, Event, write_event};

@@ -1,7 +1,7 @@
 //! What is done with an engine over a store in memory. One function owns the store of all tests, and one the engine.
 ghost use Rattle.std.specs.Prelude.{◌≡◌, length, false};
 
-use crate::bench::{UID, store_with};
+use crate::engine_bench::{UID, store_with};
 use crate::{engines, receptions, sends, slots};
 use cell_store::CutCells;
 use freshness_routes::Direction;

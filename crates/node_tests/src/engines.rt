@@ -3,9 +3,9 @@
 ghost use Rattle.std.specs.Prelude.{◌≡◌, false};
 ghost use Rattle.slot_disk.specs.Cell.{HoldSlots};
 
-use crate::bench::{KEY, UID, block, slot};
 use crate::comparing::{holds, same};
-use crate::lives::{self, Life, live};
+use crate::engine_bench::{KEY, UID, block, slot};
+use crate::engine_lives::{self, Life, live};
 use cell_store::CutCells;
 use freshness_routes::Direction;
 use key_slots::{Counter28, Erc, Flags, SlotId};
@@ -213,7 +213,7 @@ pub(crate) fn serves<C: CutCells>(
 const SERVES: &[Life] = &[Life {
     direction: Direction::Sends,
     bound: 0,
-    act: lives::Act::Serves,
+    act: engine_lives::Act::Serves,
 }];
 
 #[test]

@@ -1,5 +1,5 @@
 //! Worked runs of gateways.
-use crate::bench::{Act, Answer, EMPTY, KEY, Row, SHAPES, Way, plays};
+use crate::gateway_bench::{Act, Answer, EMPTY, KEY, Row, SHAPES, Way, plays};
 use cut_disk::Torn;
 use freshness_manager::Direction;
 use key_slots::Erc;

@@ -15,7 +15,7 @@ const CELLS: [[u8; 32]; 3] = [[0; 32], [0x11; 32], [0x22; 32]];
 fn new_path(rt: &HostRuntime, name: &str) -> Result<String, Fail> {
     let id = process::id(rt.process());
     let above = env::temp_dir(rt)?.into_string();
-    let path = format!(in rt.alloc(); "{above}/cross_tests_{id}_{name}")?;
+    let path = format!(in rt.alloc(); "{above}/store_tests_{id}_{name}")?;
     Ok(path)
 }
 

@@ -1,6 +1,6 @@
 //! Scripts of a node's own events. Those of a whole bus, which `bus_replay check` prints, are rows of
 //! checks/script_rows.
-use crate::buses::{Shape, bus_of};
+use crate::bus_shapes::{Shape, bus_of};
 use crate::comparing::holds;
 use bus_script::{BusConfig, Cause, ScriptFault, read_own_script};
 use freshness_routes::Direction;

@@ -1,6 +1,6 @@
 // The counter of a receiver, which no program asks for its window.
-use crate::bench::ID;
 use crate::comparing::same;
+use crate::engine_bench::ID;
 use freshness_manager::Rx;
 
 #[test]
