@@ -1,4 +1,3 @@
 pub mod Input
-pub mod Named
 pub mod Told
 pub mod ToldLaws
