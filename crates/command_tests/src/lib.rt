@@ -12,11 +12,11 @@ mod counting;
 #[cfg(test)]
 mod failing_ports;
 #[cfg(test)]
-mod key_commands;
-#[cfg(test)]
-mod key_loading;
+mod key_runs;
 #[cfg(test)]
 mod ledger_down;
+#[cfg(test)]
+mod loading;
 #[cfg(test)]
 mod nodes;
 #[cfg(test)]
