@@ -1,6 +1,7 @@
 //! A store of cells over a real file.
 ghost use Rattle.std.specs.Prelude.{◌≡◌, length, false, IfOk};
 
+use crate::comparing::{holds, same};
 use cell_store::{Cells, TwinCells};
 use cut_disk::Disk;
 use file_disk::FileDisk;
@@ -10,6 +11,9 @@ use std::test::Fail;
 use std::{env, fs, process};
 
 const CELLS: [[u8; 32]; 3] = [[0; 32], [0x11; 32], [0x22; 32]];
+
+/// What [`puts`] leaves.
+const PUT: [[u8; 32]; 3] = [[0; 32], [0x55; 32], [0x44; 32]];
 
 /// The path of a file in the folder for temporary files, which isn't there.
 fn new_path(rt: &HostRuntime, name: &str) -> Result<String, Fail> {
@@ -43,23 +47,49 @@ fn cells_of(store: &TwinCells<FileDisk>) -> Result<[[u8; 32]; 3], Fail> {
     Ok(cells)
 }
 
-#[test]
-fn a_twin_store_outlasts_its_run_in_a_file(rt: HostRuntime) -> Result<(), Fail> {
-    let path = new_path(&rt, "twin")?;
-    let disk = FileDisk::on(rt.alloc(), &rt, path.as_str())?;
+/// Formats a store of these cells on the file at this path.
+fn formats(rt: &HostRuntime, path: &str) -> Result<(), Fail> {
+    let disk = FileDisk::on(rt.alloc(), rt, path)?;
     match TwinCells::format(disk, &CELLS) {
-        Ok(_) => {}
-        Err(refused) => return Err(Fail::from(refused.fault)),
+        Ok(_) => Ok(()),
+        Err(refused) => Err(Fail::from(refused.fault)),
     }
-    let mut store = attached(&rt, path.as_str())?;
-    assert_eq!(rt; cells_of(&store)?, CELLS);
+}
+
+/// Puts three times into the store on the file, two of them the same cell.
+fn puts(rt: &HostRuntime, path: &str) -> Result<(), Fail> {
+    let mut store = attached(rt, path)?;
     store.put(1, &[0x33; 32])?;
     store.put(2, &[0x44; 32])?;
     store.put(1, &[0x55; 32])?;
     drop(store.release());
-    let again = attached(&rt, path.as_str())?;
-    assert_eq!(rt; cells_of(&again)?, [[0; 32], [0x55; 32], [0x44; 32]]);
-    assert_eq!(rt; fs::metadata(&rt, path.as_str())?.len(), 65536);
+    Ok(())
+}
+
+/// Whether the store on the file holds these cells.
+fn are_in(rt: &HostRuntime, path: &str, cells: &[[u8; 32]; 3]) -> Result<bool, Fail> {
+    let store = attached(rt, path)?;
+    Ok(cells_of(&store)? == *cells)
+}
+
+fn length_of(rt: &HostRuntime, path: &str) -> Result<u64, Fail> {
+    Ok(fs::metadata(rt, path)?.len())
+}
+
+/// Whether the store is as it was formatted, then as it was put, in a file of this length.
+fn outlasts(rt: &HostRuntime, path: &str) -> Result<[bool; 3], Fail> {
+    formats(rt, path)?;
+    let is_formatted = are_in(rt, path, &CELLS)?;
+    puts(rt, path)?;
+    let is_put = are_in(rt, path, &PUT)?;
+    Ok([is_formatted, is_put, length_of(rt, path)? == 65536])
+}
+
+#[test]
+fn a_twin_store_outlasts_its_run_in_a_file(rt: HostRuntime) -> Result<(), Fail> {
+    let path = new_path(&rt, "twin")?;
+    let found = outlasts(&rt, path.as_str())?;
+    same(&rt, "as it was formatted, as it was put, its length", &found, &[true; 3]);
     fs::remove_file(&rt, path.as_str())?;
     Ok(())
 }
@@ -77,8 +107,8 @@ fn size_of_opened<P: DiskOpener>(alloc: Global, opener: &P, word: &str) -> Resul
 fn a_word_opens_the_disk_over_the_file_at_its_path(rt: HostRuntime) -> Result<(), Fail> {
     let path = new_path(&rt, "word")?;
     let size = size_of_opened(rt.alloc(), &DiskPaths::of(&rt), path.as_str())?;
-    assert_eq!(rt; size, 65536);
-    assert_eq!(rt; fs::metadata(&rt, path.as_str())?.len(), 65536);
+    holds(&rt, "the disk's size", size == 65536);
+    holds(&rt, "the file's length", length_of(&rt, path.as_str())? == 65536);
     fs::remove_file(&rt, path.as_str())?;
     Ok(())
 }
