@@ -89,7 +89,12 @@ fn outlasts(rt: &HostRuntime, path: &str) -> Result<[bool; 3], Fail> {
 fn a_twin_store_outlasts_its_run_in_a_file(rt: HostRuntime) -> Result<(), Fail> {
     let path = new_path(&rt, "twin")?;
     let found = outlasts(&rt, path.as_str())?;
-    same(&rt, "as it was formatted, as it was put, its length", &found, &[true; 3]);
+    same(
+        &rt,
+        "as it was formatted, as it was put, its length",
+        &found,
+        &[true; 3],
+    );
     fs::remove_file(&rt, path.as_str())?;
     Ok(())
 }
@@ -108,7 +113,11 @@ fn a_word_opens_the_disk_over_the_file_at_its_path(rt: HostRuntime) -> Result<()
     let path = new_path(&rt, "word")?;
     let size = size_of_opened(rt.alloc(), &DiskPaths::of(&rt), path.as_str())?;
     holds(&rt, "the disk's size", size == 65536);
-    holds(&rt, "the file's length", length_of(&rt, path.as_str())? == 65536);
+    holds(
+        &rt,
+        "the file's length",
+        length_of(&rt, path.as_str())? == 65536,
+    );
     fs::remove_file(&rt, path.as_str())?;
     Ok(())
 }
