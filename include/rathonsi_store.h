@@ -12,13 +12,15 @@
  * several routes and slots, wherever within a write the power goes: whatever it opens, sends, accepts, reserves, loads, finishes or drops
  * with the calls below, whichever key, window, reserve and boot a route has, in this life and the next, the freshness sent under a Data ID
  * strictly rises, so does the freshness accepted, and both stay at most the bound on the device; an update that was confirmed stays in its
- * slot, and the same reply confirms it, until another update of the slot is done or was begun; no filled slot becomes empty; and a store
- * of which rathonsi_store_check answers RATHONSI_OK stays one.
+ * slot, and the same reply confirms it, until another update of the slot is done or is planned as the power goes; no filled slot becomes
+ * empty; and a store of which rathonsi_store_check answers RATHONSI_OK stays one.
  *
  * What the caller owes, beside what rathonsi.h says:
  *   - the image is what the device holds, but for a plan that isn't done yet: it is read from the device at power-up, and only the
  *     functions below change image, plan and the counters of routes (rathonsi_store_make and rathonsi_route_make before the first
- *     power-up alone);
+ *     power-up alone), but that a plan is zeroed as said here;
+ *   - as each power-up begins, and wherever all begins again as at one, the plan is zeroed, whatever was planned before: also where its
+ *     memory outlives a reset;
  *   - what is read at power-up is durable, and reads the same ever after: a device with a cache is synced before it is read, else what
  *     a write that failed has left may be read, relied on, and then be gone;
  *   - the writes of a plan are done in their order, each durable before the next begins. A write that is durable stays. A write within
@@ -26,8 +28,8 @@
  *     sectors (memory with error correction over words, NOR flash, many EEPROMs, eMMC) keeps this only behind an emulation that does;
  *   - a plan that was begun is done, or the power-up is: where one of its writes fails, no further one is made and no other call, and
  *     all begins again as at power-up. A plan of which no write was begun may be dropped (zeroed);
- *   - after each power-up every route is opened, with RATHONSI_OK, before any other call; a route has the same Data ID, direction and cell in
- *     every life, and all its other fields may change;
+ *   - after each power-up every route is opened, with RATHONSI_OK, before any other call but rathonsi_store_check; a route has the same
+ *     Data ID, direction and cell in every life, and all its other fields may change;
  *   - one image, one plan and one task at a time for a store;
  *   - one cell for a Data ID and direction, and one route; no other route uses the cell.
  *
@@ -166,9 +168,9 @@ int32_t rathonsi_route_reserve(const RathonsiRoute *route, uint64_t freshness, c
 int32_t rathonsi_route_send(RathonsiRoute *route, const uint8_t *image, size_t image_length, const uint8_t *payload,
                             size_t payload_length, uint8_t *pdu, size_t pdu_length);
 
-/* The verdict of a receiver. RATHONSI_OK: the PDU is accepted, and its freshness becomes the counter. RATHONSI_RESERVE: its authenticator
- * agrees; freshness is the one to reserve, payload_length is 0, and the same call accepts the PDU then (which is proved of it). So nobody
- * without the key makes the device wear. With any other status payload_length and freshness are 0.
+/* The verdict of a receiver. RATHONSI_OK: the PDU is accepted, and its freshness becomes the counter. RATHONSI_RESERVE, behind all refusals
+ * below: its authenticator agrees; freshness is the one to reserve, payload_length is 0, and the same call accepts the PDU then (which is
+ * proved of it). So nobody without the key makes the device wear. With any other status payload_length and freshness are 0.
  * RATHONSI_BAD_LENGTH: pdu_length is below 5 or over 64.
  * RATHONSI_BAD_VALUE: a number of the route is outside its range, or it doesn't receive.
  * RATHONSI_DAMAGED, RATHONSI_KEY_EMPTY, RATHONSI_KEY_INVALID, RATHONSI_KEY_NOT_AVAILABLE: as above.

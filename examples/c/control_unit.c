@@ -17,6 +17,7 @@
  *     loses_writes      its device loses, where power goes, the write before, which was durable
  *     reads_loose       it reads at power-up what a write that was cut has left in a cache, and what is gone in the next life
  *     opens_nothing     it opens no route after a power-up, whose counters are then zero
+ *     keeps_plan        its plan outlives a power-up, and is done behind it
  */
 #include <stdio.h>
 #include <stdlib.h>
@@ -26,10 +27,10 @@
 
 enum { ROUTES = 4, SENDERS = 2, SLOT = 4, MASTER = 1, PAGE = 64 };
 enum duty { KEEPS_ALL, SAYS_DONE_FIRST, GATE_FIRST, REWRITES_PAGES, FORGETS_DONE, TWO_TASKS, TWO_CELLS, DROPS_BEGUN, GOES_ON,
-            LOSES_WRITES, READS_LOOSE, OPENS_NOTHING, DUTIES };
+            LOSES_WRITES, READS_LOOSE, OPENS_NOTHING, KEEPS_PLAN, DUTIES };
 static const char *const duty_names[DUTIES] = {"", "says_done_first", "gate_first", "rewrites_pages", "forgets_done", "two_tasks",
                                                "two_cells", "drops_begun", "goes_on", "loses_writes", "reads_loose",
-                                               "opens_nothing"};
+                                               "opens_nothing", "keeps_plan"};
 
 /* The control unit: all that it has in RAM, and its device. */
 static uint8_t image[RATHONSI_STORE_SIZE(ROUTES)];
@@ -135,7 +136,8 @@ static void open_route(int which) {
 
 static void power_up(void) {
     read_file(0, image, sizeof image);
-    memset(&plan, 0, sizeof plan);
+    if (broken != KEEPS_PLAN || cuts == 0)
+        memset(&plan, 0, sizeof plan);
     expect(rathonsi_store_check(image, sizeof image) == RATHONSI_OK, "the store is damaged");
     for (int i = 0; i < ROUTES; i++) {
         routes[i].reserve = (uint16_t)(i == 0 ? 1 : 1 + draw(128)); /* another one in each life */
@@ -278,6 +280,12 @@ static enum outcome do_plan(void) {
     return DONE;
 }
 
+/* A plan that outlived a power-up is done before another one is asked for, which is BUSY until then. */
+static void do_kept_plan(void) {
+    if (plan.writes[1].length != 0 && do_plan() == POWER_WENT)
+        cut_power();
+}
+
 static enum outcome reserve(int which, uint64_t freshness) {
     int32_t status = rathonsi_route_reserve(&routes[which], freshness, image, sizeof image, &plan);
     expect(status == RATHONSI_OK, "a bound isn't planned");
@@ -382,6 +390,8 @@ static void one_event(void) {
     uint64_t wanted;
     int32_t status = RATHONSI_RESERVE;
     int received = 0;
+    if (broken == KEEPS_PLAN)
+        do_kept_plan();
     if (draw(300) == 0) {
         cut_power();
         return;
