@@ -12,8 +12,8 @@
  * several routes and slots, wherever within a write the power goes: whatever it opens, sends, accepts, reserves, loads, finishes or drops
  * with the calls below, whichever key, window, reserve and boot a route has, in this life and the next, the freshness sent under a Data ID
  * strictly rises, so does the freshness accepted, and both stay at most the bound on the device; an update that was confirmed stays in its
- * slot, and the same reply confirms it, until another update of the slot is done or is planned as the power goes; no filled slot becomes
- * empty; and a store of which rathonsi_store_check answers RATHONSI_OK stays one.
+ * slot, and the same reply confirms it, until another update of the slot is done, or is planned as the power goes or as all begins again
+ * behind a write that failed; no filled slot becomes empty; and a store of which rathonsi_store_check answers RATHONSI_OK stays one.
  *
  * What the caller owes, beside what rathonsi.h says:
  *   - the image is what the device holds, but for a plan that isn't done yet: it is read from the device at power-up, and only the
@@ -38,11 +38,14 @@
  *
  * How it is used (examples/c/control_unit.c does all of it):
  *
- *     static uint8_t image[RATHONSI_STORE_SIZE(2)];                                                     // power-up
- *     static RathonsiPlan plan;                                                                         // zero bytes: empty
- *     read_device(image, sizeof image);
- *     if (rathonsi_store_check(image, sizeof image) != RATHONSI_OK) stop();
- *     rathonsi_route_open(&speed, image, sizeof image);                                                 // and every other route
+ *     static uint8_t image[RATHONSI_STORE_SIZE(2)];
+ *     static RathonsiPlan plan;
+ *     void power_up(void) {                                                                             // and where all begins again
+ *         memset(&plan, 0, sizeof plan);
+ *         read_device(image, sizeof image);
+ *         if (rathonsi_store_check(image, sizeof image) != RATHONSI_OK) stop();
+ *         if (rathonsi_route_open(&speed, image, sizeof image) != RATHONSI_OK) stop();                  // and so every other route
+ *     }
  *
  *     void do_plan(void) {
  *         for (int i = 0; i < 3; i++)                                                                   // durable, or stop()

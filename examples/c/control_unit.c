@@ -280,13 +280,25 @@ static enum outcome do_plan(void) {
     return DONE;
 }
 
-/* A plan that outlived a power-up is done before another one is asked for, which is BUSY until then. */
-static void do_kept_plan(void) {
-    if (plan.writes[1].length != 0 && do_plan() == POWER_WENT)
-        cut_power();
+/* A plan that outlived a power-up is done, however often the power goes, before another one is asked for, which is BUSY until then. It may
+ * have been a key's. Whether there was one. */
+static int do_kept_plan(void) {
+    int kept = plan.writes[1].length != 0;
+    while (plan.writes[1].length != 0) {
+        is_loading = 1;
+        enum outcome outcome = do_plan();
+        if (outcome == POWER_WENT)
+            cut_power();
+        else if (outcome == DONE)
+            confirm();
+    }
+    is_loading = 0;
+    return kept;
 }
 
 static enum outcome reserve(int which, uint64_t freshness) {
+    if (broken == KEEPS_PLAN && do_kept_plan())
+        return POWER_WENT;
     int32_t status = rathonsi_route_reserve(&routes[which], freshness, image, sizeof image, &plan);
     expect(status == RATHONSI_OK, "a bound isn't planned");
     if (plan.writes[1].length == 0)
@@ -310,6 +322,8 @@ static void do_other_task(void) {
 static void load_key(void) {
     RathonsiRequest request;
     RathonsiReply reply, wanted;
+    if (broken == KEEPS_PLAN && do_kept_plan())
+        return;
     loading = confirmed;
     loading.counter++;
     for (int i = 0; i < 16; i++)
@@ -390,8 +404,6 @@ static void one_event(void) {
     uint64_t wanted;
     int32_t status = RATHONSI_RESERVE;
     int received = 0;
-    if (broken == KEEPS_PLAN)
-        do_kept_plan();
     if (draw(300) == 0) {
         cut_power();
         return;

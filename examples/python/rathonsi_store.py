@@ -60,7 +60,8 @@ def make(routes):
 
 
 class Store:
-    """A store as a power-up finds it: `read()` gives the bytes of the device, `write(offset, bytes)` writes durably, or raises."""
+    """A store as a power-up finds it: `read()` gives the bytes of the device, `write(offset, bytes)` writes durably, or raises; then this
+    store is used no more, and another one is made of the device."""
 
     def __init__(self, read, write, routes):
         self.write, self.image, self.plan = write, read(), Plan()
