@@ -133,8 +133,9 @@ use Rattle.world_runs.specs.WorldRuns.{IsFirstOf, EachSkipsLittle, Honest}
 -- ==== the headline
 
 -- One run of the machine from `first`, over the disks of the nodes. A moment is an event that was done, with its line
--- and the world behind it; `last` is the world behind them all. `WorldRun` of world_runs, which all programs share, has
--- these members, and each record gives the other (a law in src/laws.rt): they stand here to be read in one place.
+-- and the world behind it; `last` is the world behind them all. `WorldRun` of world_runs, which `chart` and the lives
+-- of a bus share, has these members, and each record gives the other (a law in src/laws.rt): they stand here to be
+-- read in one place.
 pub record HeadlineRun (first : World) (bus : NamedBus) (d : DiskStates) (events : List Event) (moments : Moments)
     (last : World) : Type 0 where
   -- Each node is sound, up and at the bounds that it keeps; no event of this call was done; a Data ID has one sender.

@@ -1,4 +1,4 @@
--- The headline's record, and the one that all programs share
+-- The headline's record, and the one that `chart` and the lives of a bus share
 use Rattle.std.specs.Prelude.{List}
 use Rattle.bus_machine.specs.declared.events.Event.{Event}
 use Rattle.bus_machine.specs.Bus.{World, Moments}

@@ -30,7 +30,7 @@ pub fn trials_are_runs()
     turns_are_world_runs();
 }
 
-/// The record of the headline and that of a run of a bus, which all programs share, give each other.
+/// The record of the headline and that of a run of a bus, which `chart` and the lives of a bus share, give each other.
 pub fn the_headline_is_a_run_of_the_bus()
     ensures { HeadlineIsWorldRun }
 {}

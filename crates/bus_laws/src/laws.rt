@@ -38,7 +38,7 @@ pub fn runs_are_authentic()
     ensures { RunsAreAuthentic }
 {}
 
-/// Freshness sent under one Data ID strictly rises, where no two nodes send it.
+/// Freshness sent under one Data ID strictly rises, where no Data ID is sent by two nodes.
 pub fn no_freshness_is_sent_twice()
     ensures { RunsAreSingle }
 {}

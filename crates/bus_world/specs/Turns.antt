@@ -54,7 +54,7 @@ IsCertain (Some (mark.Cut torn)) s = TellsFitting s
 IsCertain _ s = Unit {0}
 
 -- what a cut leads to over a disk of any kind: the node is up with what its store's cells keep, and bytes that are told
--- stand for these; or it is down, for a cause that such bytes show
+-- stand for these; or it is down, as the disk failed or for a cause that such bytes show
 pub record AnswersCut (before : NodeState) (line : Line) (after : NodeState) : Type 0 where
   pub result : Result (Unit {0}) CutFault
   pub line_is : line ≡ cut_line result

@@ -48,8 +48,8 @@ StepIsKnown (command.Cut torn) s = TellsLedger s
 StepIsKnown cmd s = Unit {0}
 
 -- What a power cut leads to over a disk of any kind: the ledger is up with the entries that its store's cells hold, and
--- bytes that are told stand for these; or it is down with the entries and the pending change that it had, for a cause
--- that such bytes show, and its line tells this cause.
+-- bytes that are told stand for these; or it is down with the entries and the pending change that it had, as the disk
+-- failed or for a cause that such bytes show, and its line tells which.
 pub record AnswersLedgerCut (old : LedgerState) (told : LedgerLine) (new : LedgerState) : Type 0 where
   pub result : Result (Unit {0}) LedgerCut
   pub line_is : told ≡ ledger_cut_line result

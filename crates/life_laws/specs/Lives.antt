@@ -224,7 +224,8 @@ AllLivesGoOn = (bus : NamedBus) (lives : List Life) → LivesOf bus lives → Li
 -- ---- that the next one is started
 
 -- Whatever a power cut may leave of a disk of the life is such as its node is started over, in the same version or
--- moved to version 2: so no next start is refused for these bytes.
+-- moved to version 2, of a life in version 1 where no header of version 2 stands there: so no next start is refused
+-- for these bytes.
 abbrev pub LeavesNodes : Life → Type 0
 LeavesNodes life =
     (i : ℕ) (l : NodeLine) (d : DiskState) (t : Told) (x : List ℕ) (next : Version)

@@ -11,8 +11,8 @@ pub fn lives_go_on()
     ensures { AllLivesGoOn }
 {}
 
-/// Whatever a power cut leaves of the disks of a life, the next start isn't refused for their bytes: in version 1
-/// where no header of version 2 stands there.
+/// Whatever a power cut leaves of the disks of a life, the next start isn't refused for their bytes: behind a life in
+/// version 1, where no header of version 2 stands there.
 pub fn lives_can_go_on()
     ensures { EachLife LeavesNodes }
 {}
@@ -29,8 +29,8 @@ pub fn next_starts_blame_no_bytes()
     ensures { EachLife NextBlamesNoBytes }
 {}
 
-/// A start of the same bus between two lives that is refused, for want of memory or a failing disk, leaves the bytes as
-/// it found them.
+/// A start of the bus of a life, in the same version, that is refused over what the life or a power cut left, for want
+/// of memory or a failing disk, leaves the bytes as it found them.
 pub fn refused_starts_leave_lives()
     ensures { EachLife OutlastsRefusals }
 {}

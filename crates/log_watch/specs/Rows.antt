@@ -80,11 +80,12 @@ pub record FailsBoth (mapping : List MapLine) (log : Reading) (e : Ending) : Typ
   pub prints : Appended e.before e.after (found_text findings ++ take size (codes "read fault\n"))
 
 -- where the sink failed and the log's count of faults rose, the log failed first; as any call of the log may fail, none
--- was made after the sink failed
+-- was made after the sink failed within what was found of its complete lines
 abbrev pub AsksNoMore : List MapLine → Reading → Ending → Type 0
 AsksNoMore mapping log e = e.status ≡ 6 → CountsFault log → FailsBoth mapping log e
 
 -- how a log ends: in one of its rows, or where the sink failed before; and nothing is asked of it after the sink failed
+-- within what was found of its complete lines
 abbrev pub EndsLog : List MapLine → Reading → Ending → Type 0
 EndsLog mapping log e = (EndsInRow (ComesOfLog mapping log) e ⊎ Stops mapping log e) × AsksNoMore mapping log e
 

@@ -84,7 +84,7 @@ pub record Watches (i : AuditInputs) (e : Ending) : Type 0 where
       × (PrintsFront (ComesInWatch i) e ⊎ OverMap i (λ mapping. Stops mapping i.log e))
   pub write_fault_only : CountsWriteFault e → e.status ≡ 6
   -- 6, where the log's count of faults rose, too: the log failed first, and what is found of the complete lines that
-  -- came was printed whole. So nothing is asked of the log after the sink failed, as that could fail.
+  -- came was printed whole. So nothing is asked of the log after the sink failed within that, as it could fail.
   pub log_fails_first : e.status ≡ 6 → CountsFault i.log → OverMap i (λ mapping. FailsBoth mapping i.log e)
   -- 7: only before the log, where the words are of the form and the map didn't fail; nothing was written.
   pub no_memory : e.status ≡ 7 → NamesInputs i.words × Lacks i.map input.Memory × IsUnread i.log × PrintsWhole e []

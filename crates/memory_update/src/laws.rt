@@ -74,8 +74,8 @@ pub fn a_taken_update_raises_the_counter()
         → Allows slots good uid request (Ok u) → counter_of (slot_at slots u.id) < u.counter }
 {}
 
-/// A request that is built for an engine is taken by it, where the first four refusals don't apply, the authorising slot has the
-/// given key, and the target's counter is lower.
+/// A request that is built for an engine whose UID isn't zero is taken by it, where the first four refusals don't apply, the
+/// authorising slot has the given key, and the target's counter is lower.
 pub fn a_built_request_is_taken()
     ensures { (slots : List Slot) (good : Bool) (uid : List ℕ) (request : Request) (authkey : List ℕ) (u : Update)
         → IsBlock authkey → Builds request authkey u → key_in (slot_at slots u.auth) ≡ authkey

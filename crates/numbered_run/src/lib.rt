@@ -10,7 +10,7 @@
 //!
 //! So whatever fails in the middle, what was done is a run of the machine over the first of the
 //! commands, and the sink has the texts of its lines, the last maybe in part. [`status_of_run`] is the
-//! status of a program that wrote them so.
+//! status of a program whose lines [`print_run`] wrote.
 #![tactic(auto)]
 
 mod counting;

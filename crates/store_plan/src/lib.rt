@@ -2,8 +2,8 @@
 //! image, asks for a plan of at most three writes, does them on its own device, each durable before the next, and then
 //! says that they are done.
 //!
-//! [`perform`] is that loop over any disk: what it leaves is what a store's own put leaves, at every exit. A program
-//! in another language copies its three lines.
+//! [`perform`] is that loop over any disk: of a plan for the bytes of this disk, what it leaves is what a store's own
+//! put leaves, at every exit. A program in another language copies its three lines.
 //!
 //! No call takes memory.
 #![tactic(auto)]
