@@ -1,11 +1,9 @@
-//! Tests of ciphers, key slots, key updates, secure boot, Secured I-PDUs and routes. There is nothing else here: a crate of tests
-//! over several libraries has none of them proved a second time.
+//! Tests of ciphers, key slots, key updates, Secured I-PDUs and routes. There is nothing else here: a crate of tests over several
+//! libraries has none of them proved a second time.
 #![tactic(auto)]
 
 #[cfg(test)]
 mod blocks;
-#[cfg(test)]
-mod boots;
 #[cfg(test)]
 mod ciphers;
 #[cfg(test)]

@@ -1,6 +1,6 @@
-//! A configuration one step within and one step past each of its bounds, and each call once.
+//! A configuration one step within and one step past each of its bounds, and its copy.
 use crate::comparing::holds;
-use freshness_routes::{Direction, NodeConfig, Route, Routes, receiver_change, sender_change};
+use freshness_routes::{Direction, NodeConfig, Route};
 use key_slots::SlotId;
 use memory_update::Uid;
 use std::alloc::Global;
@@ -120,48 +120,4 @@ fn are_copied(alloc: Global) -> bool {
 #[test]
 fn a_copy_is_equal(rt: HostRuntime) {
     holds(&rt, "a copy", are_copied(rt.alloc()));
-}
-
-/// Whether the list of these routes is the first of all alone.
-fn is_listed(routes: Vec<Route>) -> bool {
-    match receiving(0) {
-        Some(wanted) => Routes::of(routes).as_slice() == [wanted].as_slice(),
-        None => false,
-    }
-}
-
-#[test]
-fn routes_are_those_of_the_vector(rt: HostRuntime) {
-    let is_so = numbered(rt.alloc(), 1).map(|routes| is_listed(routes));
-    holds(&rt, "routes", is_so == Some(true));
-}
-
-/// A counter, a bound and a reserve of a sender, and the bound that is put.
-const SENDERS: &[(u64, u64, u16, Option<u64>)] = &[
-    (99, 99, 4, Some(103)),
-    (99, 100, 4, None),
-    (u64::MAX - 1, u64::MAX - 1, 128, Some(u64::MAX)),
-];
-
-/// A bound, a reserve and a freshness of a receiver, and the bound that is put.
-const RECEIVERS: &[(u64, u16, u64, Option<u64>)] = &[
-    (100, 8, 105, Some(112)),
-    (112, 8, 112, None),
-    (112, 8, 113, Some(120)),
-    (100, 128, u64::MAX, Some(u64::MAX)),
-];
-
-/// Whether this bound of a receiver is put.
-fn moves(bound: u64, reserve: u16, freshness: u64, change: Option<u64>) -> bool {
-    reserve >= 1 && receiver_change(bound, reserve, freshness) == change
-}
-
-#[test]
-fn bounds_move(rt: HostRuntime) {
-    for row in SENDERS {
-        holds(&rt, row.1, sender_change(row.0, row.1, row.2) == row.3);
-    }
-    for row in RECEIVERS {
-        holds(&rt, row.2, moves(row.0, row.1, row.2, row.3));
-    }
 }

@@ -1,7 +1,7 @@
-//! Vectors from the SHE specification, the printed names, and each call once.
+//! Numbers of slots and counters, uses of a key, the printed names, and slots as they are shown.
 use crate::blocks::block;
 use crate::comparing::holds;
-use key_slots::{Counter28, Erc, Flags, Purpose, Slot, SlotId, Slots, may_authorise, usable};
+use key_slots::{Counter28, Erc, Flags, Purpose, Slot, SlotId, Slots, usable};
 use std::alloc::Global;
 
 /// A slot with a key and this number as its flags.
@@ -15,31 +15,6 @@ fn filled(flags: u8) -> Option<Slot> {
 
 /// The flag of a key that is protected by a boot.
 const BOOT: u8 = 8;
-
-fn is_allowed(target: u8, by: u8) -> bool {
-    match (SlotId::new(target), SlotId::new(by)) {
-        (Some(id), Some(auth)) => may_authorise(id, auth),
-        _ => false,
-    }
-}
-
-fn allowed_pairs() -> u32 {
-    let mut allowed = 0u32;
-    for target in 0..14 {
-        for by in 0..14 {
-            if is_allowed(target, by) {
-                allowed = allowed.wrapping_add(1);
-            }
-        }
-    }
-    allowed
-}
-
-#[test]
-fn of_the_196_pairs_25_are_allowed(rt: HostRuntime) {
-    let allowed = allowed_pairs();
-    holds(&rt, allowed, allowed == 25);
-}
 
 /// A number, and that of the slot, or of the counter.
 const SLOTS: &[(u8, Option<u8>)] = &[(13, Some(13)), (14, None), (255, None)];
@@ -64,65 +39,11 @@ fn slots_and_counters_have_their_bounds(rt: HostRuntime) {
     }
 }
 
-fn flags_of(set: &[bool; 5]) -> Flags {
-    let [write, boot, debugger, usage, wildcard] = *set;
-    Flags {
-        write,
-        boot,
-        debugger,
-        usage,
-        wildcard,
-    }
-}
-
-/// A number, and the flags that it sets: of write protection, boot, debugger, usage and wildcard.
-const FLAGS: &[(u8, [bool; 5])] = &[
-    (16, [true, false, false, false, false]),
-    (8, [false, true, false, false, false]),
-    (4, [false, false, true, false, false]),
-    (2, [false, false, false, true, false]),
-    (1, [false, false, false, false, true]),
-];
-
-fn are_flags(number: u8, set: &[bool; 5]) -> bool {
-    let flags = flags_of(set);
-    number < 32 && flags.number() == number && Flags::of(number) == flags
-}
-
-#[test]
-fn flags_are_five_bits(rt: HostRuntime) {
-    for row in FLAGS {
-        holds(&rt, row.0, are_flags(row.0, &row.1));
-    }
-}
-
 /// Slots of which the one of this number has a key, with this number as its flags.
 fn slots_with(number: u8, flags: u8) -> Option<Slots> {
     let mut slots = Slots::empty();
     slots.set(SlotId::new(number)?, filled(flags)?);
     Some(slots)
-}
-
-/// Whether the slot of this number holds this.
-fn holds_slot(slots: &Slots, number: u8, slot: Option<Slot>) -> bool {
-    match SlotId::new(number) {
-        Some(id) => slot == Some(*slots.get(id)),
-        None => false,
-    }
-}
-
-fn is_set() -> bool {
-    match slots_with(13, 0) {
-        Some(slots) => {
-            holds_slot(&slots, 13, filled(0)) && holds_slot(&slots, 12, Some(Slot::Empty))
-        }
-        None => false,
-    }
-}
-
-#[test]
-fn a_slot_that_was_set_is_there(rt: HostRuntime) {
-    holds(&rt, "the slots 13 and 12", is_set());
 }
 
 /// Whether a boot was made, a use, and what is answered of a slot whose key is protected by it.
