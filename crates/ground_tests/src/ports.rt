@@ -1,8 +1,6 @@
 //! The table of answers of the whole-stream calls over memory, and the standard streams' adapters.
 use crate::comparing::holds;
-use bus_port::{
-    CleanSource, MemSink, MemSource, ReadAll, Source, StdSink, StdSource, read_all, write_all,
-};
+use bus_port::{MemSink, MemSource, ReadAll, Source, StdSink, StdSource, read_all, write_all};
 use std::alloc::Global;
 use std::io;
 use std::io::{ErrorKind, Read, Write};
@@ -137,18 +135,6 @@ fn write_all_stops_at_the_failing_call_or_the_full_room(rt: HostRuntime) {
     for (place, row) in WRITES.iter().enumerate() {
         holds(&rt, place, is_written(rt.alloc(), row));
     }
-}
-
-fn is_read_clean(alloc: Global) -> bool {
-    match HELLO.to_vec(alloc) {
-        Ok(bytes) => reads(alloc, &mut CleanSource::new(bytes), 5, &Ok(HELLO)),
-        Err(_) => false,
-    }
-}
-
-#[test]
-fn a_clean_source_is_read_to_its_end(rt: HostRuntime) {
-    holds(&rt, "all", is_read_clean(rt.alloc()));
 }
 
 /// Whether two reads give five bytes, and then none.
