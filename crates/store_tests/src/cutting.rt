@@ -11,29 +11,12 @@ pub const ZEROS: [u8; 32] = [0; 32];
 /// A cell that is put.
 pub const ELEVENS: [u8; 32] = [0x11; 32];
 
-/// The kinds of cuts, and whether each leaves the new cell: none does, those that keep the gate that was being written do,
-/// and each does.
-pub const TORN: [Torn; 5] = [
-    Torn::Keep,
-    Torn::Old,
-    Torn::Half,
-    Torn::Fill(0xa7),
-    Torn::Fill(0),
-];
-
-pub const OLD: [bool; 5] = [false; 5];
-
-pub const EITHER: [bool; 5] = [true, false, true, true, false];
-
-pub const NEW: [bool; 5] = [true; 5];
-
 /// Puts elevens into a cell of a store whose disk stops at this call, and cuts the power: whether the
 /// put was done, and the cell that is read then.
 pub fn put_and_cut<C: CutCells>(
     store: &mut C,
     cell: u16,
     calls: u64,
-    torn: Torn,
 ) -> Result<(bool, [u8; 32]), Fail>
     requires calls { 1 ≤ calls }
     requires cell { cell < length (C.state store.old).cells }
@@ -42,18 +25,7 @@ pub fn put_and_cut<C: CutCells>(
     let mut read = [0x5a; 32];
     store.stop_at(calls);
     let done = store.put(cell, &ELEVENS).is_ok();
-    store.power_cut(torn)?;
+    store.power_cut(Torn::Old)?;
     store.get(cell, &mut read);
     Ok((done, read))
-}
-
-/// Whether a put was done, and whether the cell is the new one and not the old.
-pub fn is_either(done: bool, cell: &[u8; 32]) -> Result<(bool, bool), Fail> {
-    if *cell == ELEVENS {
-        return Ok((done, true));
-    }
-    if *cell == ZEROS {
-        return Ok((done, false));
-    }
-    Err(Fail::from("another cell"))
 }

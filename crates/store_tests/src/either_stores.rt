@@ -1,9 +1,8 @@
-// Either store over disks in memory: puts, migration, a look at a disk, and opening.
-ghost use Rattle.std.specs.Prelude.{◌≡◌, ◌≤◌, length, false, IfOk};
-ghost use Rattle.any_cells.specs.Either.{any_state};
+// Either store over disks in memory: probing, migration, a look at a disk, and opening.
+ghost use Rattle.std.specs.Prelude.{◌≤◌};
 
 use crate::comparing::{holds, same};
-use crate::cutting::{EITHER, ELEVENS, TORN, ZEROS, is_either, put_and_cut};
+use crate::cutting::{ELEVENS, ZEROS};
 use any_cells::{
     AnyCells, Found, look, migrate, open_store, probe_two, store_fault_text, store_size,
 };
@@ -13,74 +12,22 @@ use std::alloc::Global;
 use std::process::Abort;
 use std::test::Fail;
 
-/// A fresh store of two cells of zeros.
-fn fresh_store(alloc: Global, kind: Kind, version: Version) -> Result<AnyCells<MemDisk>, Fail>
-    ensures count { IfOk result (λ s. length (any_state s).cells ≡ 2) }
-    ensures whole { IfOk result (λ s. (any_state s).broken ≡ false) }
-{
+/// A fresh store of two cells of zeros, in version 2.
+fn fresh_store(alloc: Global, kind: Kind) -> Result<AnyCells<MemDisk>, Fail> {
     let disk = MemDisk::new(alloc, 40000)?;
-    let disk = match AnyCells::format_as(disk, kind, version, &[ZEROS, ZEROS]) {
+    let disk = match AnyCells::format_as(disk, kind, Version::Two, &[ZEROS, ZEROS]) {
         Ok(disk) => disk,
         Err(refused) => return Err(Fail::from(refused.fault)),
     };
-    match AnyCells::attach_as(alloc, disk, kind, version, 2) {
+    match AnyCells::attach_as(alloc, disk, kind, Version::Two, 2) {
         Ok(store) => Ok(store),
         Err(refused) => Err(Fail::from(refused.fault)),
     }
 }
 
-/// What a put into the second cell of a fresh store and a cut come to.
-fn cut_in_a_put(
-    alloc: Global,
-    kind: Kind,
-    version: Version,
-    calls: u64,
-    torn: Torn,
-) -> Result<(bool, bool), Fail> {
-    if calls == 0 {
-        return Err(Fail::from("no call"));
-    }
-    let mut store = fresh_store(alloc, kind, version)?;
-    let (done, cell) = put_and_cut(&mut store, 1, calls, torn)?;
-    is_either(done, &cell)
-}
-
-/// A kind of store, and the call that opens the new cell's gate.
-const OPENINGS: [(Kind, u64); 2] = [(Kind::Twin, 5), (Kind::Log, 3)];
-
-/// A put that stops at this call, in either version: it is done where the disk stops behind the call that opens the gate
-/// and the next.
-fn is_whole_or_absent(
-    rt: &impl Abort,
-    alloc: Global,
-    kind: Kind,
-    calls: u64,
-    opening: u64,
-) -> Result<(), Fail> {
-    let done = calls > opening.saturating_add(1);
-    for (torn, is_new) in TORN.iter().zip(EITHER.iter()) {
-        let wanted = (done, done || (calls >= opening && *is_new));
-        let came = cut_in_a_put(alloc, kind, Version::One, calls, *torn)?;
-        same(rt, calls, &came, &wanted);
-        let came = cut_in_a_put(alloc, kind, Version::Two, calls, *torn)?;
-        same(rt, calls, &came, &wanted);
-    }
-    Ok(())
-}
-
-#[test]
-fn a_put_is_whole_or_absent_in_either_store(rt: HostRuntime) -> Result<(), Fail> {
-    for (kind, opening) in OPENINGS {
-        for calls in 1..8u64 {
-            is_whole_or_absent(&rt, rt.alloc(), kind, calls, opening)?;
-        }
-    }
-    Ok(())
-}
-
-/// What is found of a fresh store of version 2, whose disk fails at a call behind.
+/// What is found of a fresh store, whose disk fails at a call behind.
 fn found_two(alloc: Global, kind: Kind) -> Result<Result<Probe, StoreFault>, Fail> {
-    let mut store = fresh_store(alloc, kind, Version::Two)?;
+    let mut store = fresh_store(alloc, kind)?;
     if store.count() != 2 {
         return Err(Fail::from("not two cells"));
     }
@@ -184,6 +131,15 @@ fn keeps_the_cells(alloc: Global, kind: Kind, call: u64, torn: Torn) -> Result<(
     let (done, disk) = stop_and_migrate(alloc, kind, call, torn)?;
     Ok((done, has_fifteen(alloc, disk, kind)?))
 }
+
+/// The kinds of cuts.
+const TORN: [Torn; 5] = [
+    Torn::Keep,
+    Torn::Old,
+    Torn::Half,
+    Torn::Fill(0xa7),
+    Torn::Fill(0),
+];
 
 /// A kind of store, and from which call on a stop comes behind its migration.
 const MIGRATIONS: [(Kind, u64); 2] = [(Kind::Twin, 36), (Kind::Log, 259)];
@@ -455,18 +411,6 @@ fn a_look_for_version_one_finds_by_both_headers(rt: HostRuntime) -> Result<(), F
 #[test]
 fn a_look_for_version_two_finds_by_both_headers(rt: HostRuntime) -> Result<(), Fail> {
     finds_each(&rt, rt.alloc(), Version::Two, LOOKS_FOR_TWO)
-}
-
-#[test]
-fn a_look_for_version_one_needs_no_place_for_version_two(rt: HostRuntime) -> Result<(), Fail> {
-    let mut disk = MemDisk::new(rt.alloc(), 1052)?;
-    same(
-        &rt,
-        "look",
-        &look(&mut disk, Kind::Twin, Version::One, 15),
-        &Ok(Found::Blank),
-    );
-    Ok(())
 }
 
 /// Two cells to begin with.

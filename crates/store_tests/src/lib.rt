@@ -1,5 +1,5 @@
-//! Tests of the stores of cells, of plans of their puts, and of what crosses crates: a store over a file, and a file that
-//! tells its bytes. There is nothing else here: a crate of tests over several libraries has none of them proved a second time.
+//! Tests of the stores of cells, of plans of their puts, and of what crosses crates: a file that tells its bytes, and the disk
+//! over it. There is nothing else here: a crate of tests over several libraries has none of them proved a second time.
 #![tactic(auto)]
 
 #[cfg(test)]
@@ -8,8 +8,6 @@ mod comparing;
 mod cutting;
 #[cfg(test)]
 mod either_stores;
-#[cfg(test)]
-mod file_stores;
 #[cfg(test)]
 mod log_stores;
 #[cfg(test)]

@@ -1,10 +1,10 @@
 // Log stores over disks in memory.
 ghost use Rattle.std.specs.Prelude.{◌≡◌, length, false, IfOk};
 
-use crate::comparing::{holds, same};
-use crate::cutting::{EITHER, ELEVENS, NEW, OLD, TORN, ZEROS, is_either, put_and_cut};
+use crate::comparing::same;
+use crate::cutting::{ELEVENS, ZEROS, put_and_cut};
 use cell_store::*;
-use cut_disk::{Disk, MemDisk, Torn};
+use cut_disk::{Disk, MemDisk};
 use std::alloc::Global;
 use std::process::Abort;
 use std::test::Fail;
@@ -43,10 +43,7 @@ fn read_from(disk: &mut MemDisk, version: Version, place: u64, out: &mut [u8]) -
 }
 
 /// A fresh store of one cell of zeros on a disk that just has room for it.
-fn fresh_store(alloc: Global, version: Version) -> Result<LogCells<MemDisk>, Fail>
-    ensures count { IfOk result (λ s. length s.cells ≡ 1) }
-    ensures whole { IfOk result (λ s. s.broken ≡ false) }
-{
+fn fresh_store(alloc: Global, version: Version) -> Result<LogCells<MemDisk>, Fail> {
     let size = match version {
         Version::One => 4580,
         Version::Two => 37348,
@@ -111,68 +108,6 @@ fn a_smaller_disk_is_too_small_for_a_log(rt: HostRuntime) -> Result<(), Fail> {
     Ok(())
 }
 
-#[test]
-fn a_put_takes_the_first_free_place(rt: HostRuntime) -> Result<(), Fail> {
-    let mut store = fresh_store(rt.alloc(), Version::One)?;
-    holds(&rt, "store.put", store.put(0, &ELEVENS).is_ok());
-    let mut disk = store.release();
-    let mut out = [0; 4580];
-    read_from(&mut disk, Version::One, 0, &mut out)?;
-    let mut expected = fresh_bytes();
-    expected[66] = 0xa7;
-    expected[69..101].copy_from_slice(&ELEVENS);
-    same(&rt, "out", &out.as_slice(), &expected.as_slice());
-    Ok(())
-}
-
-/// Attaches the store of version 1 on this disk and puts elevens into its cell. Where `calls` isn't 0, the
-/// call behind so many is to fail.
-fn put_elevens(alloc: Global, disk: MemDisk, calls: u8) -> Result<MemDisk, Fail> {
-    let mut store = match LogCells::attach(alloc, disk, 1) {
-        Ok(store) => store,
-        Err(refused) => return Err(Fail::from(refused.fault)),
-    };
-    if calls > 0 {
-        store.fail_at(u64::from(calls) + 1);
-    }
-    if store.put(0, &ELEVENS).is_err() {
-        return Err(Fail::from("the put failed"));
-    }
-    Ok(store.release())
-}
-
-/// After 64 puts, each into a free place, one more that makes just so many calls: the first two bytes of
-/// the bank at this place.
-fn fill_and_put(
-    alloc: Global,
-    disk: MemDisk,
-    calls: u8,
-    place: u64,
-) -> Result<(bool, [u8; 2], MemDisk), Fail> {
-    let mut disk = disk;
-    for _ in 0..64u8 {
-        disk = put_elevens(alloc, disk, 0)?;
-    }
-    let mut disk = put_elevens(alloc, disk, calls)?;
-    let next_fails = disk.read(0, &mut []).is_err();
-    let mut out = [0; 2];
-    read_from(&mut disk, Version::One, place, &mut out)?;
-    Ok((next_fails, out, disk))
-}
-
-#[test]
-fn the_65th_and_the_130th_put_fill_the_other_bank(rt: HostRuntime) -> Result<(), Fail> {
-    let alloc = rt.alloc();
-    let disk = fresh_store(alloc, Version::One)?.release();
-    let (next_fails, out, disk) = fill_and_put(alloc, disk, 4, 2306)?;
-    holds(&rt, "next_fails", next_fails);
-    same(&rt, "out", &out, &[0xa7, 1]);
-    let (next_fails, out, _) = fill_and_put(alloc, disk, 6, 32)?;
-    holds(&rt, "next_fails", next_fails);
-    same(&rt, "out", &out, &[0xa7, 2]);
-    Ok(())
-}
-
 /// Three bytes at a place, and the fault.
 const DAMAGES: &[(usize, [u8; 3], Option<StoreFault>)] = &[
     (32, [0, 0, 0], Some(StoreFault::Damaged(0))),
@@ -208,39 +143,6 @@ fn damages_of_a_log_are_found(rt: HostRuntime) -> Result<(), Fail> {
     Ok(())
 }
 
-/// Of the call at which the disk stops, from 1, whether the cell is the new one behind each kind of cut.
-const IS_NEW: [[bool; 5]; 5] = [OLD, OLD, EITHER, EITHER, NEW];
-
-/// What a put into a fresh store and a cut come to.
-fn cut_in_a_put(
-    alloc: Global,
-    version: Version,
-    calls: u64,
-    torn: Torn,
-) -> Result<(bool, bool), Fail> {
-    if calls == 0 {
-        return Err(Fail::from("no call"));
-    }
-    let mut store = fresh_store(alloc, version)?;
-    let (done, cell) = put_and_cut(&mut store, 0, calls, torn)?;
-    is_either(done, &cell)
-}
-
-#[test]
-fn a_record_is_whole_or_absent_after_a_cut(rt: HostRuntime) -> Result<(), Fail> {
-    for (stop, row) in IS_NEW.iter().enumerate() {
-        let calls = stop as u64 + 1;
-        for (torn, is_new) in TORN.iter().zip(row) {
-            let wanted = (calls == 5, *is_new);
-            let came = cut_in_a_put(rt.alloc(), Version::One, calls, *torn)?;
-            same(&rt, calls, &came, &wanted);
-            let came = cut_in_a_put(rt.alloc(), Version::Two, calls, *torn)?;
-            same(&rt, calls, &came, &wanted);
-        }
-    }
-    Ok(())
-}
-
 /// A store of 1024 cells of zeros.
 fn widest_store(alloc: Global) -> Result<LogCells<MemDisk>, Fail>
     ensures count { IfOk result (λ s. length s.cells ≡ 1024) }
@@ -261,7 +163,7 @@ fn widest_store(alloc: Global) -> Result<LogCells<MemDisk>, Fail>
 #[test]
 fn a_log_store_has_up_to_1024_cells(rt: HostRuntime) -> Result<(), Fail> {
     let mut store = widest_store(rt.alloc())?;
-    let read = put_and_cut(&mut store, 1023, 5, Torn::Old)?;
+    let read = put_and_cut(&mut store, 1023, 5)?;
     same(&rt, "read", &read, &(true, ELEVENS));
     Ok(())
 }

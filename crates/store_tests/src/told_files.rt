@@ -4,7 +4,7 @@ ghost use Rattle.cut_disk.specs.MemDisk.{contents};
 ghost use Rattle.cell_store.specs.Layout.{layout};
 ghost use Rattle.cell_store.specs.Store.{store_size};
 
-use cell_store::{Kind, StoreFault, TwinCells, Version, log_size, twin_size};
+use cell_store::{Kind, Version, log_size, twin_size};
 use cut_disk::{CutDisk, Disk, DiskFailed, MemDisk, Torn};
 use file_disk::{ByteFile, FileDisk, FileFailed, HeldFile, MOST_HELD, room_to_hold};
 use std::alloc::Global;
@@ -88,30 +88,6 @@ fn a_cut_over_a_file_that_tells_leaves_its_bytes(rt: HostRuntime) -> Result<(), 
         over.fail_at(disk_fails);
         let left = cut_behind_two_writes(&mut over, torn)?;
         assert_eq!(rt; left, (is_ok, bytes));
-    }
-    Ok(())
-}
-
-/// Of a store of three cells one byte is another: of the header, of the mark of the second cell's copy that counts, and of
-/// what no cell has.
-#[test]
-fn a_store_over_a_file_that_tells_is_refused_for_its_bytes(rt: HostRuntime) -> Result<(), Fail> {
-    for (at, byte, want) in [
-        (0, 0, Some(StoreFault::NotFormatted)),
-        (101, 3, Some(StoreFault::Damaged(1))),
-        (239, 7, None),
-    ] {
-        let disk = MemDisk::new(rt.alloc(), 240)?;
-        let mut disk = match TwinCells::format(disk, &[[0x11; 32]; 3]) {
-            Ok(disk) => disk,
-            Err(refused) => return Err(Fail::from(refused.fault)),
-        };
-        disk.write(at, &[byte])?;
-        let answer = match TwinCells::attach(rt.alloc(), twice(disk), 3) {
-            Ok(_) => None,
-            Err(refused) => Some(refused.fault),
-        };
-        assert_eq!(rt; answer, want);
     }
     Ok(())
 }

@@ -2,95 +2,21 @@
 ghost use Rattle.std.specs.Prelude.{◌≡◌, length, false, IfOk};
 
 use crate::comparing::same;
-use crate::cutting::{EITHER, ELEVENS, NEW, OLD, TORN, ZEROS, is_either, put_and_cut};
+use crate::cutting::{ELEVENS, ZEROS, put_and_cut};
 use cell_store::*;
-use cut_disk::{CutDisk, Disk, MemDisk, Torn};
+use cut_disk::{CutDisk, MemDisk};
 use std::alloc::Global;
 use std::test::Fail;
 
-const VERSIONS: [Version; 2] = [Version::One, Version::Two];
-
-/// The header of a store of one cell, and its two copies when it is fresh.
-fn fresh_bytes(version: Version) -> [u8; 100] {
+/// The header of a store of one cell in version 1, and its two copies when it is fresh.
+fn fresh_bytes() -> [u8; 100] {
     let mut bytes = [0; 100];
-    let number = match version {
-        Version::One => 1,
-        Version::Two => 2,
-    };
-    let head = [
-        0x53, 0x45, 0x43, 0x4f, 0x43, 0x53, 0x54, 0x31, 1, number, 0, 1,
-    ];
+    let head = [0x53, 0x45, 0x43, 0x4f, 0x43, 0x53, 0x54, 0x31, 1, 1, 0, 1];
     bytes[..12].copy_from_slice(&head);
     bytes[32] = 0xa7;
     bytes[66] = 0xa7;
     bytes[67] = 2;
     bytes
-}
-
-/// The 100 bytes at the base.
-fn bytes_of(disk: &mut MemDisk, version: Version) -> Result<[u8; 100], Fail> {
-    let mut out = [0; 100];
-    if disk.size() < version.base() + 100 {
-        return Err(Fail::from("the disk is too small"));
-    }
-    disk.read(version.base(), &mut out)?;
-    Ok(out)
-}
-
-/// A fresh store of one cell of zeros on a disk that just has room for it.
-fn fresh_store(alloc: Global, version: Version) -> Result<TwinCells<MemDisk>, Fail>
-    ensures count { IfOk result (λ s. length s.cells ≡ 1) }
-    ensures whole { IfOk result (λ s. s.broken ≡ false) }
-{
-    let size = match version {
-        Version::One => 100,
-        Version::Two => 32868,
-    };
-    let disk = MemDisk::new(alloc, size)?;
-    let disk = match TwinCells::format_as(disk, version, &[ZEROS]) {
-        Ok(disk) => disk,
-        Err(refused) => return Err(Fail::from(refused.fault)),
-    };
-    match TwinCells::attach_as(alloc, disk, version, 1) {
-        Ok(store) => Ok(store),
-        Err(refused) => Err(Fail::from(refused.fault)),
-    }
-}
-
-/// The bytes of a fresh store behind a put of elevens.
-fn bytes_behind_a_put(alloc: Global, version: Version) -> Result<[u8; 100], Fail> {
-    let mut store = fresh_store(alloc, version)?;
-    if store.count() != 1 || store.put(0, &ELEVENS).is_err() {
-        return Err(Fail::from("no put"));
-    }
-    bytes_of(&mut store.release(), version)
-}
-
-#[test]
-fn a_store_is_formatted_and_a_cell_is_put(rt: HostRuntime) -> Result<(), Fail> {
-    for version in VERSIONS {
-        let mut expected = fresh_bytes(version);
-        expected[67] = 1;
-        expected[68..].copy_from_slice(&ELEVENS);
-        let bytes = bytes_behind_a_put(rt.alloc(), version)?;
-        same(&rt, "bytes", &bytes.as_slice(), &expected.as_slice());
-    }
-    Ok(())
-}
-
-fn bytes_of_fresh(alloc: Global, version: Version) -> Result<[u8; 100], Fail> {
-    let mut disk = fresh_store(alloc, version)?.release();
-    bytes_of(&mut disk, version)
-}
-
-#[test]
-fn a_fresh_store_has_these_bytes(rt: HostRuntime) -> Result<(), Fail> {
-    for version in VERSIONS {
-        let bytes = bytes_of_fresh(rt.alloc(), version)?;
-        let expected = fresh_bytes(version);
-        same(&rt, "bytes", &bytes.as_slice(), &expected.as_slice());
-    }
-    Ok(())
 }
 
 /// A store of 1024 cells of zeros.
@@ -113,7 +39,7 @@ fn widest_store(alloc: Global) -> Result<TwinCells<MemDisk>, Fail>
 #[test]
 fn a_store_has_up_to_1024_cells(rt: HostRuntime) -> Result<(), Fail> {
     let mut store = widest_store(rt.alloc())?;
-    let read = put_and_cut(&mut store, 1023, 7, Torn::Old)?;
+    let read = put_and_cut(&mut store, 1023, 7)?;
     same(&rt, "read", &read, &(true, ELEVENS));
     Ok(())
 }
@@ -136,7 +62,7 @@ fn a_smaller_disk_is_too_small(rt: HostRuntime) -> Result<(), Fail> {
 
 /// Attaches the fresh bytes with two of them changed.
 fn attach_damaged(alloc: Global, changes: &[(usize, u8); 2]) -> Result<Option<StoreFault>, Fail> {
-    let mut bytes = fresh_bytes(Version::One);
+    let mut bytes = fresh_bytes();
     for (place, byte) in changes {
         if *place < 100 {
             bytes[*place] = *byte;
@@ -165,31 +91,6 @@ fn damaged_bytes_are_found(rt: HostRuntime) -> Result<(), Fail> {
     Ok(())
 }
 
-/// Of the call at which the disk stops, from 1, whether the cell is the new one behind each kind of cut.
-const IS_NEW: [[bool; 5]; 7] = [OLD, OLD, OLD, OLD, EITHER, EITHER, NEW];
-
-/// What a put into a fresh store and a cut come to.
-fn cut_in_a_put(alloc: Global, calls: u64, torn: Torn) -> Result<(bool, bool), Fail> {
-    if calls == 0 {
-        return Err(Fail::from("no call"));
-    }
-    let mut store = fresh_store(alloc, Version::One)?;
-    let (done, cell) = put_and_cut(&mut store, 0, calls, torn)?;
-    is_either(done, &cell)
-}
-
-#[test]
-fn a_put_is_whole_or_absent_after_a_cut(rt: HostRuntime) -> Result<(), Fail> {
-    for (stop, row) in IS_NEW.iter().enumerate() {
-        let calls = stop as u64 + 1;
-        for (torn, is_new) in TORN.iter().zip(row) {
-            let came = cut_in_a_put(rt.alloc(), calls, *torn)?;
-            same(&rt, calls, &came, &(calls == 7, *is_new));
-        }
-    }
-    Ok(())
-}
-
 /// A disk to be probed: blank with so many bytes, or with a fresh store of one cell, whose number of the kind is this
 /// byte; and a fresh store of version 2.
 #[derive(Clone, Copy)]
@@ -208,11 +109,17 @@ fn disk_of(alloc: Global, probed: Probed) -> Result<MemDisk, Fail> {
             Ok(MemDisk::new(alloc, size)?)
         }
         Probed::Fresh(kind) => {
-            let mut bytes = fresh_bytes(Version::One);
+            let mut bytes = fresh_bytes();
             bytes[8] = kind;
             Ok(MemDisk::of(alloc, &bytes)?)
         }
-        Probed::FreshTwo => Ok(fresh_store(alloc, Version::Two)?.release()),
+        Probed::FreshTwo => {
+            let disk = MemDisk::new(alloc, 32_868)?;
+            match TwinCells::format_as(disk, Version::Two, &[ZEROS]) {
+                Ok(disk) => Ok(disk),
+                Err(refused) => Err(Fail::from(refused.fault)),
+            }
+        }
     }
 }
 
@@ -270,24 +177,5 @@ fn the_first_bytes_are_probed(rt: HostRuntime) -> Result<(), Fail> {
         let found = found_on(rt.alloc(), *probed, *version, *stop)?;
         same(&rt, place, &found, answer);
     }
-    Ok(())
-}
-
-#[test]
-fn a_call_that_fails_once_is_told(rt: HostRuntime) -> Result<(), Fail> {
-    let mut store = fresh_store(rt.alloc(), Version::One)?;
-    store.fail_at(2);
-    same(
-        &rt,
-        "store.power_cut(Torn::Keep)",
-        &store.power_cut(Torn::Keep),
-        &Err(Reread::DiskFailed),
-    );
-    same(
-        &rt,
-        "store.power_cut(Torn::Keep)",
-        &store.power_cut(Torn::Keep),
-        &Ok(()),
-    );
     Ok(())
 }
