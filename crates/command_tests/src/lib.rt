@@ -1,6 +1,6 @@
-//! Tests of the programs' top calls over ports and disks in memory: the commands of a bus, key campaigns, key commands and
-//! key loading, and collecting, auditing and watching where a port fails. There is nothing else here: a crate of tests over
-//! several libraries has none of them proved a second time. What a row of checks/ shows of a built program isn't shown again.
+//! Tests of the programs' top calls over ports and disks in memory: the commands of a bus, key campaigns, key commands, and
+//! collecting without a word. There is nothing else here: a crate of tests over several libraries has none of them proved a
+//! second time. What a row of checks/ shows of a built program isn't shown again.
 #![tactic(auto)]
 
 #[cfg(test)]
@@ -10,13 +10,11 @@ mod comparing;
 #[cfg(test)]
 mod counting;
 #[cfg(test)]
-mod failing_ports;
-#[cfg(test)]
 mod key_runs;
 #[cfg(test)]
 mod ledger_down;
 #[cfg(test)]
-mod loading;
+mod no_word;
 #[cfg(test)]
 mod nodes;
 #[cfg(test)]
