@@ -1,6 +1,6 @@
 //! Buses one step within and one step past each of their bounds, and each call once.
 use crate::comparing::{holds, same};
-use bus_nodes::{BusConfig, Name, NodeLine, most_routes, place_named, sent_again};
+use bus_nodes::{BusConfig, Name, NodeLine, place_named, sent_again};
 use cell_store::{Kind, Version};
 use freshness_routes::{Direction, NodeConfig, Route};
 use key_slots::SlotId;
@@ -79,12 +79,6 @@ fn a_bus_of_two_nodes_is_one_and_its_nodes_are_found(rt: HostRuntime) -> Result<
     let bus = BusConfig::new(Kind::Log, Version::Two, nodes).ok_or("a bus")?;
     is_the_bus(&rt, &bus);
     Ok(())
-}
-
-#[test]
-fn a_node_has_as_many_routes_as_its_version_has(rt: HostRuntime) {
-    same(&rt, "version 1", &most_routes(Version::One), &64);
-    same(&rt, "version 2", &most_routes(Version::Two), &256);
 }
 
 // A node that receives so many Data IDs, counted from 0.

@@ -1,6 +1,6 @@
-//! Tests of lines of text, of a bus as it is told, of scripts and trials, and of the lines that are printed and looked
-//! for. There is nothing else here: a crate of tests over several libraries has none of them proved a second time. Bus files
-//! are rows of checks/text_rows.
+//! Tests of lines of text, of a bus as it is told, of trials, and of the lines that are printed and looked for. There is
+//! nothing else here: a crate of tests over several libraries has none of them proved a second time. Bus files are rows of
+//! checks/text_rows, and scripts of checks/script_rows and checks/gateway_rows.
 #![tactic(auto)]
 
 #[cfg(test)]
@@ -15,7 +15,5 @@ mod histories;
 mod lines;
 #[cfg(test)]
 mod printed_lines;
-#[cfg(test)]
-mod scripts;
 #[cfg(test)]
 mod trials;

@@ -76,51 +76,6 @@ fn one_line_may_be_too_many(rt: HostRuntime) -> Result<(), Fail> {
     Ok(())
 }
 
-// Gives the number of lines before a line, and refuses the first word of the fourth.
-struct FewLines;
-
-impl LineReader for FewLines {
-    ghost use Rattle.std.specs.Prelude.{◌==◌, length, if◌then◌else◌, Ok, Err};
-    ghost use Rattle.text_lines.specs.declared.fault.Cause.TheVariants.{Field};
-
-    type Item = usize;
-
-    ghost means = { λ _ before _. if length before == 3 then Err (Field 1) else Ok (length before) };
-
-    fn read(
-        &self,
-        _alloc: Global,
-        _words: &Words<'_>,
-        before: &[usize],
-    ) -> Result<usize, LineFault> {
-        if before.len() == 3 {
-            return Err(LineFault::Refused(Cause::Field(1)));
-        }
-        Ok(before.len())
-    }
-}
-
-/// What the lines of a text give.
-fn gives(rt: &impl Abort, alloc: Global, text: &[u8], values: Result<&[usize], ScriptFault>) {
-    holds(rt, "a short text", text.len() < 1000);
-    let read = read_lines(alloc, text, MOST_LINES, &FewLines);
-    let read = match &read {
-        Ok(values) => Ok(values.as_slice()),
-        Err(fault) => Err(*fault),
-    };
-    same(rt, text.len(), &read, &values);
-}
-
-#[test]
-fn a_reader_sees_what_the_lines_before_gave(rt: HostRuntime) {
-    gives(&rt, rt.alloc(), b"a\n#\nb\nc\n", Ok(&[0, 1, 2]));
-    let fault = ScriptFault::At {
-        line: 5,
-        cause: Cause::Field(1),
-    };
-    gives(&rt, rt.alloc(), b"a\n#\nb\nc\nd\n", Err(fault));
-}
-
 #[test]
 fn a_kind_of_line_is_read_through_its_reader(rt: HostRuntime) -> Result<(), Fail> {
     let read = read_lines(rt.alloc(), LINE.as_bytes(), 1, &FrameReader);
@@ -130,7 +85,7 @@ fn a_kind_of_line_is_read_through_its_reader(rt: HostRuntime) -> Result<(), Fail
     let read = read_lines(rt.alloc(), b"# none", 1, &LoadReader);
     same(&rt, "read.map", &read.map(|lines| lines.len()), &Ok(0));
     laws::values_are_those_of_the_lines::<FrameReader>();
-    laws::a_fault_is_the_first::<FewLines>();
+    laws::a_fault_is_the_first::<AnyLine>();
     Ok(())
 }
 
