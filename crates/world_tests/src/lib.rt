@@ -21,8 +21,6 @@ mod gateway_runs;
 #[cfg(test)]
 mod lives;
 #[cfg(test)]
-mod refused;
-#[cfg(test)]
 mod starts;
 #[cfg(test)]
 mod stopped;

@@ -2,9 +2,8 @@
 ghost use Rattle.std.specs.Prelude.{◌≤◌};
 
 use crate::attached::{SIZE, pair};
-use crate::bench::{bytes_at, starts};
+use crate::bench::{bytes_at, disks, starts};
 use crate::comparing::{holds, same};
-use crate::refused::standing;
 use bus_nodes::BusConfig;
 use bus_world::{Start, StartFault};
 use cell_store::{Kind, Reread, Version};
@@ -12,6 +11,21 @@ use cut_disk::{CutDisk, Disk, MemDisk, Torn};
 use std::alloc::Global;
 use std::process::Abort;
 use std::test::Fail;
+
+/// A start that formats these disks as stores of version 1.
+fn formats(alloc: Global, kind: Kind, made: &mut Vec<MemDisk>) -> Result<Option<StartFault>, Fail> {
+    let bus = pair(alloc, kind, Version::One)?;
+    Ok(starts(alloc, &bus, made, Start::Format))
+}
+
+/// The disks of the bus, formatted so.
+fn standing(alloc: Global, kind: Kind) -> Result<Vec<MemDisk>, Fail> {
+    let mut made = disks(alloc, &[SIZE, SIZE])?;
+    match formats(alloc, kind, &mut made)? {
+        None => Ok(made),
+        Some(fault) => Err(Fail::from(fault)),
+    }
+}
 
 /// The bytes of the disks of a bus with stores of version 1, and the store of the second when it was moved to version 2.
 #[derive(Drop)]
@@ -46,7 +60,7 @@ fn moved_store(
 }
 
 fn lay(alloc: Global, bus: &BusConfig) -> Result<Laid, Fail> {
-    let mut made = standing(alloc, (bus.kind(), Version::One))?;
+    let mut made = standing(alloc, bus.kind())?;
     let first = bytes_at(made.as_mut_slice(), 1)?;
     let second = bytes_at(made.as_mut_slice(), 2)?;
     let moved = moved_store(alloc, bus, &mut made)?;
