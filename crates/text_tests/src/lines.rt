@@ -2,21 +2,16 @@
 // checks/text_rows.
 use crate::comparing::{holds, same};
 use byte_lists::Bytes;
-use secoc_words::frames::FrameReader;
-use secoc_words::judges::JudgeReader;
-use secoc_words::loads::LoadReader;
 use std::alloc::Global;
 use std::fmt::Display;
 use std::process::Abort;
 use std::test::Fail;
 use text_lines::fault::{Cause, LineFault, Memory, ScriptFault};
+use text_lines::forms;
 use text_lines::pushing::push_digits;
 use text_lines::reader::{LineReader, MOST_LINES, read_lines};
 use text_lines::texts::fault_text;
 use text_lines::words::Words;
-use text_lines::{forms, laws};
-
-const LINE: &str = "2b7e151628aed2a6abf7158809cf4f3c 6bc1 e93d7e117393172a bee22e409f96\n";
 
 // Takes any line.
 struct AnyLine;
@@ -73,19 +68,6 @@ fn one_line_may_be_too_many(rt: HostRuntime) -> Result<(), Fail> {
         };
         same(&rt, *count, &read, &want);
     }
-    Ok(())
-}
-
-#[test]
-fn a_kind_of_line_is_read_through_its_reader(rt: HostRuntime) -> Result<(), Fail> {
-    let read = read_lines(rt.alloc(), LINE.as_bytes(), 1, &FrameReader);
-    same(&rt, "read.map", &read.map(|lines| lines.len()), &Ok(1));
-    let read = read_lines(rt.alloc(), LINE.as_bytes(), 1, &JudgeReader);
-    same(&rt, "read.map", &read.map(|lines| lines.len()), &Ok(1));
-    let read = read_lines(rt.alloc(), b"# none", 1, &LoadReader);
-    same(&rt, "read.map", &read.map(|lines| lines.len()), &Ok(0));
-    laws::values_are_those_of_the_lines::<FrameReader>();
-    laws::a_fault_is_the_first::<AnyLine>();
     Ok(())
 }
 
