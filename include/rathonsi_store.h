@@ -12,8 +12,8 @@
  * several routes and slots, wherever within a write the power goes: whatever it opens, sends, accepts, reserves, loads, finishes or drops
  * with the calls below, whichever key, window, reserve and boot a route has, in this life and the next, the freshness sent under a Data ID
  * strictly rises, so does the freshness accepted, and both stay at most the bound on the device; an update that was confirmed stays in its
- * slot, and the same reply confirms it, until another update of the slot is done, or is planned as the power goes or as all begins again
- * behind a write that failed; no filled slot becomes empty; and a store of which rathonsi_store_check answers RATHONSI_OK stays one.
+ * slot, and the same reply confirms it, until another update of the slot is done, or is planned as the power goes or all begins again; no
+ * filled slot becomes empty; and a store of which rathonsi_store_check answers RATHONSI_OK stays one.
  *
  * What the caller owes, beside what rathonsi.h says:
  *   - the image is what the device holds, but for a plan that isn't done yet: it is read from the device at power-up, and only the
@@ -26,10 +26,10 @@
  *   - the writes of a plan are done in their order, each durable before the next begins. A write that is durable stays. A write within
  *     which the power goes may leave anything in its own bytes, and changes no other byte. Memory that rewrites whole words, pages or
  *     sectors (memory with error correction over words, NOR flash, many EEPROMs, eMMC) keeps this only behind an emulation that does;
- *   - a plan that was begun is done, or the power-up is: where one of its writes fails, no further one is made and no other call, and
- *     all begins again as at power-up. A plan of which no write was begun may be dropped (zeroed);
- *   - after each power-up every route is opened, with RATHONSI_OK, before any other call but rathonsi_store_check; a route has the same
- *     Data ID, direction and cell in every life, and all its other fields may change;
+ *   - a plan that was begun is done, or the power-up is: where one of its writes fails, no further one is made and no other call of this
+ *     header, and all begins again as at power-up. A plan of which no write was begun may be dropped (zeroed);
+ *   - after each power-up every route is opened, with RATHONSI_OK, before any other call of this header but rathonsi_store_check; a route
+ *     has the same Data ID, direction and cell in every life, and all its other fields may change;
  *   - one image, one plan and one task at a time for a store;
  *   - one cell for a Data ID and direction, and one route; no other route uses the cell.
  *
@@ -123,7 +123,7 @@ typedef struct RathonsiRoute {
     uint16_t reserve;  /* how far a reserve moves the bound, 1 to 128. A power cut makes a sender skip what is reserved and not sent, and
                           a receiver refuse what is reserved and not accepted */
     uint16_t window;   /* how far above its counter a receiver accepts freshness, 1 to 256, and at least what its sender may skip at a
-                          power cut, else it may never accept again; 1 for a sender */
+                          power cut, else it may never accept again; of a sender it plays no part */
     uint8_t slot;      /* of its key, 4 to 13 */
     uint8_t direction; /* RATHONSI_SENDS or RATHONSI_RECEIVES */
     uint8_t booted;    /* 1 after a secure boot that succeeded in this life, else 0 */

@@ -280,8 +280,8 @@ static enum outcome do_plan(void) {
     return DONE;
 }
 
-/* A plan that outlived a power-up is done, however often the power goes, before another one is asked for, which is BUSY until then. It may
- * have been a key's. Whether there was one. */
+/* A plan that outlived a power-up is done (or dropped, as do_plan may) before another one is asked for, which is BUSY until then, however
+ * often the power goes. It may have been a key's. Whether there was one. */
 static int do_kept_plan(void) {
     int kept = plan.writes[1].length != 0;
     while (plan.writes[1].length != 0) {

@@ -31,7 +31,7 @@ IsPlainCall words s values =
 
 -- what a run promises that has these inputs and ends so, in the order of the table of answers
 pub record Keys {S D : Type 0} (i : KeyInputs S D) (e : Ending) : Type 0 where
-  -- A row of the table comes, and its text and status are told; or requests are loaded, and answered in lines.
+  -- A row of the table comes, and is told or cut short at 6; or requests are loaded, and answered in lines.
   pub ends : EndsKey i e
   -- Of plain values it is a row of what they ask for, or a load: they are taken as they are.
   pub plain : (s : Subcommand) (values : List (List ℕ)) → IsPlainCall i.words s values

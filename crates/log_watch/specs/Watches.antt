@@ -56,7 +56,8 @@ pub record PrintsRising (mapping : List MapLine) (log : Reading) (e : Ending) : 
 
 -- what a run promises that has these inputs and ends so, in the order of the table of answers
 pub record Watches (i : AuditInputs) (e : Ending) : Type 0 where
-  -- A row of the table comes, and its text and status are told; or the sink failed before the log ended.
+  -- A row of the table comes, and is told or cut short at 6; or the sink failed at what was found of a log that hadn't
+  -- ended.
   pub ends : EndsWatch i e
   -- 0, 1 and 3: the log was read to its end, and all that is found of it was printed. 0 where a mapped frame came and
   -- every one was accepted, 1 where one wasn't, 3 where none came.

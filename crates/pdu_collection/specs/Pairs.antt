@@ -13,7 +13,7 @@ use Rattle.pdu_collection.specs.Rows.{PairingInputs, NamesInput, pairing_usage, 
 
 -- what a run promises that has these inputs and ends so, in the order of the table of answers
 pub record RunsPairs (i : PairingInputs) (e : Ending) : Type 0 where
-  -- A row of the table comes, and its text and status are told.
+  -- A row of the table comes, and is told or cut short at 6.
   pub ends : EndsInRow (ComesInPairing i) e
   -- 0: the script was read whole, and exactly what is said of its lines was printed.
   pub done : e.status ≡ 0 → OverPairs i (λ read. (text : List ℕ) × PrintsPairs read text × PrintsWhole e text)

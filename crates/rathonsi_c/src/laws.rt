@@ -30,9 +30,9 @@ pub fn freshness_rises_over_all_lives()
 {}
 
 /// An update that `rathonsi_slot_confirm` confirmed stays in its slot, with its key, its counter and its flags, and the same reply
-/// confirms it, until another update of the slot is done, or is planned as the power goes or as all begins again behind a write that
-/// failed: one that was planned and dropped changes nothing. Where one is planned now, whatever the power leaves holds the one or the
-/// other. All this also where another one of the slot was `planned` when it was confirmed. And no filled slot becomes empty.
+/// confirms it, until another update of the slot is done, or is planned as the power goes or all begins again: one that was planned and
+/// dropped changes nothing. Where one is planned now, whatever the power leaves holds the one or the other. All this also where another
+/// one of the slot was `planned` when it was confirmed. And no filled slot becomes empty.
 pub fn keys_are_kept_over_all_lives()
     ensures kept { (n : ℕ) (deeds : List Deed) (first last : Memory) (uid m1 : List ℕ) (reply : Reply) (planned : Bool)
         → (c : ConfirmsSlot uid m1 first.image reply) → (planned ≡ false → NoUpdatePlanned c.update.id first)

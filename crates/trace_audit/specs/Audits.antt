@@ -17,7 +17,7 @@ use Rattle.trace_audit.specs.Rows.{IsMapFault, OverAudit, ComesInAudit}
 
 -- what a run promises that has these inputs and ends so, in the order of the table of answers
 pub record Audits (i : AuditInputs) (e : Ending) : Type 0 where
-  -- A row of the table comes, and its text and status are told.
+  -- A row of the table comes, and is told or cut short at 6.
   pub ends : EndsInRow (ComesInAudit i) e
   -- 0: the map and the log were read whole, and exactly what is found of the log's lines was printed.
   pub done : e.status ≡ 0 →
