@@ -1,4 +1,4 @@
-//! Buses one step within and one step past each of their bounds, and each call once.
+//! Buses one step within and one step past each of their bounds, and some calls once.
 use crate::comparing::{holds, same};
 use bus_nodes::{BusConfig, Name, NodeLine, place_named, sent_again};
 use cell_store::{Kind, Version};
