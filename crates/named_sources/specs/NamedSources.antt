@@ -1,5 +1,5 @@
 -- What words of a command line name
-use Rattle.std.specs.Prelude.{◌≡◌, ℕ, List, codes, None}
+use Rattle.std.specs.Prelude.{◌≡◌, ℕ, Bool, true, false, List, codes, None}
 use Rattle.bus_port.specs.Source.{SourceState}
 use Rattle.named_sources.specs.declared.words.WordSource.{WordSource}
 use Rattle.named_sources.specs.declared.words.WordSource.TheVariants.{Opened, Input, Missing}
@@ -13,6 +13,12 @@ abbrev pub word_source : {O I : Type 0} → (O → SourceState) → (I → Sourc
 word_source opened input (Opened source) = opened source
 word_source opened input (Input source) = input source
 word_source opened input (Missing source) = missing_source source
+
+-- whether a word names a source that isn't there
+abbrev pub is_missing : {O I : Type 0} → WordSource O I → Bool
+is_missing (Opened _) = false
+is_missing (Input _) = false
+is_missing (Missing _) = true
 
 -- nothing came from it yet, and it counted no fault
 abbrev pub IsFresh : SourceState → Type 0

@@ -1,7 +1,7 @@
 //! What a word of a command line names.
-ghost use Rattle.std.specs.Prelude.{◌≡◌, codes};
+ghost use Rattle.std.specs.Prelude.{◌≡◌, true, codes, IsErr};
 ghost use Rattle.bus_port.specs.Source.{Reads};
-ghost use Rattle.named_sources.specs.NamedSources.{word_source, missing_source, IsNamed, AreBothDashes};
+ghost use Rattle.named_sources.specs.NamedSources.{word_source, missing_source, is_missing, IsNamed, AreBothDashes};
 
 use crate::missing::MissingSource;
 use crate::opener::Opener;
@@ -21,7 +21,13 @@ pub enum WordSource<O: Source, I: Source> {
 impl<O: Source, I: Source> Source for WordSource<O, I> {
     ghost state = { word_source O.state I.state };
 
-    fn read(&mut self, out: &mut [u8]) -> Result<usize, PortFailed> {
+    /// A missing source fails each read, and stays one.
+    fn read(&mut self, out: &mut [u8]) -> Result<usize, PortFailed>
+        ensures fails { is_missing self.old ≡ true → IsErr result }
+        ensures stays { is_missing self.old ≡ true → is_missing self.new ≡ true }
+        ensures reads { Reads (word_source O.state I.state self.old) (word_source O.state I.state self.new)
+            out.old out.new result }
+    {
         match self {
             WordSource::Opened(source) => source.read(out),
             WordSource::Input(source) => source.read(out),
@@ -56,6 +62,7 @@ pub fn open_second<O: Opener, I: Source + Drop>(
         → IsNamed (O.opens opener.now) (I.state input) second.now (word_source O.Opened.state I.state result) }
     ensures missing { AreBothDashes first.now second.now
         → word_source O.Opened.state I.state result ≡ missing_source 0 }
+    ensures absent { AreBothDashes first.now second.now → is_missing result ≡ true }
 {
     if first == "-" && second == "-" {
         return WordSource::Missing(MissingSource::new());
