@@ -1,5 +1,5 @@
-//! The parts of a frame, and lengths that are none of a frame, under the key of NIST's examples for the CMAC. The input is the example
-//! of 16 bytes.
+//! The parts of a frame, and lengths that are none of a frame, under the key of NIST's examples for the CMAC. The input
+//! is the example of 16 bytes.
 use crate::blocks::{block, schedule};
 use crate::comparing::holds;
 use secured_pdu::{assemble, build, input_bytes, input_mac, split};

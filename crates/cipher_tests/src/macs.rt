@@ -1,4 +1,5 @@
-//! The examples of NIST for the CMAC over AES-128 (SP 800-38B, appendix D.1, and its example of 20 bytes), whole and in pieces.
+//! The examples of NIST for the CMAC over AES-128 (SP 800-38B, appendix D.1, and its example of 20 bytes), whole and in
+//! pieces.
 use crate::blocks::{block, schedule};
 use crate::comparing::holds;
 use she_aes::Block;

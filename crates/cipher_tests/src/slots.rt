@@ -46,6 +46,19 @@ fn slots_with(number: u8, flags: u8) -> Option<Slots> {
     Some(slots)
 }
 
+/// Whether a slot that had a key holds none once it is emptied.
+fn is_emptied(number: u8) -> Option<bool> {
+    let mut slots = slots_with(number, 0)?;
+    let id = SlotId::new(number)?;
+    slots.set(id, Slot::Empty);
+    Some(*slots.get(id) == Slot::Empty)
+}
+
+#[test]
+fn a_slot_is_emptied(rt: HostRuntime) {
+    holds(&rt, "slot 2", is_emptied(2) == Some(true));
+}
+
 /// Whether a boot was made, a use, and what is answered of a slot whose key is protected by it.
 struct Use(bool, Purpose, Result<(), Erc>);
 

@@ -25,8 +25,8 @@ const SHOW: &str = "\nshow 000000000000000000000000000001 4\n";
 const SHOW_AND_ISSUE: &str =
     "\nshow 000000000000000000000000000001 4\nissue 000000000000000000000000000001 4 1 00000 0f0e0d0c0b0a09080706050403020100 000102030405060708090a0b0c0d0e0f\n";
 
-/// The script before a stop, the calls that the disk stops at, the command that has them, the cuts behind it, the script
-/// behind these, and what is printed.
+/// The script before a stop, the calls that the disk stops at, the command that has them, the cuts behind it, the
+/// script behind these, and what is printed.
 struct Stop(
     &'static str,
     &'static [&'static str],

@@ -1,4 +1,5 @@
-//! Runs of the key commands that no command line has: the longest image, and a load without a disk.
+//! Runs of the key commands that no command line has: the program's name alone, the longest image, and a load without a
+//! disk.
 use crate::comparing::same;
 use bus_port::{CleanSource, MemSink};
 use cut_disk::MemDisk;
@@ -47,6 +48,14 @@ fn check(
     same(rt, "answer", &answer, &status);
     same(rt, "sink.bytes()", &sink.bytes(), &output.as_bytes());
     Ok(())
+}
+
+/// For a command line without a word `main` runs the example.
+#[test]
+fn the_name_alone_tells_the_usage(rt: HostRuntime) -> Result<(), Fail> {
+    let words = words_of(rt.alloc(), "keytool")?;
+    let usage = "usage: make, read, confirm, bootmac, load\n";
+    check(&rt, rt.alloc(), words.as_slice(), 2, usage)
 }
 
 /// The words of a boot MAC of an image of so many digits.

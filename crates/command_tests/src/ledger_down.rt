@@ -1,6 +1,7 @@
-//! Whether a ledger is down, which no program asks.
+//! Whether a ledger is down, and how many cells it hands back, which no program asks.
 use crate::comparing::same;
 use campaign_commands::open_ledger;
+use cell_store::Cells;
 use cut_disk::{MemDisk, Torn};
 use key_campaign::LedgerFault;
 use key_slots::{Flags, SlotId};
@@ -36,5 +37,6 @@ fn a_ledger_is_down_from_a_fault_to_the_next_power_up(rt: HostRuntime) -> Result
     same(&rt, "shown", &(none, ledger.is_down()), &(true, true));
     let up = ledger.power_cut(Torn::Keep).is_ok();
     same(&rt, "cut", &(up, ledger.is_down()), &(true, false));
+    same(&rt, "cells", &ledger.release().count(), &256);
     Ok(())
 }

@@ -1,7 +1,7 @@
-//! Two nodes that go on where their disks in memory stand, or those over files in memory whose bytes are held. What one
-//! node over a file shows is a row of checks/.
+//! Two nodes that go on where their disks in memory stand, those that tell their past, or those over files in memory
+//! whose bytes are held. What one node over a file shows is a row of checks/.
 use crate::playing::{Run, plays};
-use crate::replays::{TWO_DISKS, disks_of, held_disks};
+use crate::replays::{TWO_DISKS, disks_of, held_disks, tapes_of};
 use cut_disk::CutDisk;
 use std::alloc::Global;
 use std::process::Abort;
@@ -48,6 +48,15 @@ const LOG_LIVES: &[Life] = &[
     Life(LOG, Run(NODE, [SEND, ""], 10, [FOREIGN, ""])),
 ];
 
+const AGAIN_LINES: &str =
+    "1 refused KEY_UPDATE_ERROR\n2 sent 6bc1 e93d7e117393172e bee22e409f962e567e86\n";
+
+/// The same script twice.
+const TWICE: &[Life] = &[
+    Life("", Run(NODE, [KEYED, ""], 0, [KEYED_LINES, ""])),
+    Life("", Run(NODE, [KEYED, ""], 0, [AGAIN_LINES, ""])),
+];
+
 const LIVES: &[&[Life]] = &[TWIN_LIVES, LOG_LIVES];
 
 /// The lives one behind the other over these disks.
@@ -76,4 +85,9 @@ fn a_bus_goes_on_where_its_disks_stand(rt: HostRuntime) -> Result<(), Fail> {
         lives(&rt, rt.alloc(), held_disks(rt.alloc(), 65_536, 0)?, rows)?;
     }
     Ok(())
+}
+
+#[test]
+fn a_bus_goes_on_over_disks_that_tell_their_past(rt: HostRuntime) -> Result<(), Fail> {
+    lives(&rt, rt.alloc(), tapes_of(rt.alloc())?, TWICE)
 }

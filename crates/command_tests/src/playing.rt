@@ -66,6 +66,18 @@ fn answer_to<D: CutDisk>(
     Ok(done(alloc, words, &mut bus, &mut script, sink, disks))
 }
 
+/// The status of a run over these disks, and a sink that takes a byte in a call and fails once behind so many.
+pub(crate) fn status_behind<D: CutDisk>(
+    alloc: Global,
+    given: &Run,
+    written: u64,
+    disks: &mut Vec<D>,
+) -> Result<u8, Fail> {
+    let failing = vec![in alloc; written.saturating_add(1)]?;
+    let mut sink = MemSink::new(alloc, 4096, failing, 1)?;
+    Ok(answer_to(alloc, "", given, &mut sink, disks)?)
+}
+
 /// Whether both parts of a text, and no more, are the output.
 fn is_text(output: &[u8], text: Text) -> bool {
     let [front, rest] = text;

@@ -10,7 +10,7 @@ use std::test::Fail;
 
 /// Keys for both nodes, under a master key that each gets first, and a PDU that is sent, delivered twice, and altered.
 /// The key and the MAC are of the second CMAC example of SP 800-38B.
-const ORDINARY: &str =
+pub(crate) const ORDINARY: &str =
     "key left - 1 1 ffffffffffffffffffffffffffffffff 1 00000 000102030405060708090a0b0c0d0e0f\nkey right - 1 1 ffffffffffffffffffffffffffffffff 1 00000 000102030405060708090a0b0c0d0e0f\nkey left - 4 1 000102030405060708090a0b0c0d0e0f 1 00010 2b7e151628aed2a6abf7158809cf4f3c\nkey right - 4 1 000102030405060708090a0b0c0d0e0f 1 00010 2b7e151628aed2a6abf7158809cf4f3c\nsend left 6bc1 bee22e409f96\ndeliver right 5\ndeliver right 5\ninject right 6bc1 bee22e409f972a070a16\n";
 
 const ORDINARY_LINES: &str =
@@ -120,7 +120,7 @@ pub(crate) fn disks_of(
 }
 
 /// Two disks that tell their past.
-fn tapes_of(alloc: Global) -> Result<Vec<TapeDisk>, Fail> {
+pub(crate) fn tapes_of(alloc: Global) -> Result<Vec<TapeDisk>, Fail> {
     let mut tapes = Vec::new(alloc);
     for _ in 0..2 {
         tapes.push(TapeDisk::new(alloc, 2_048, 400)?)?;

@@ -34,8 +34,6 @@ pub(crate) enum What {
     Size,
     /// A read from an address on gives these bytes, at most 100.
     Reads,
-    /// Each of so many bytes is read as 0.
-    Zeros,
     /// A read of so many bytes fails.
     ReadFails,
     /// A write of these bytes from an address on, and what is done behind it: whether all that is Ok.
@@ -69,16 +67,6 @@ fn reads<D: Disk>(disk: &mut D, at: u64, bytes: &[u8]) -> bool {
     let mut out = [9; 100];
     let count = bytes.len();
     count <= 100 && is_read(disk, at, &mut out[..count]) && &out[..count] == bytes
-}
-
-/// Whether each of so many bytes is read as 0.
-fn are_zeros<D: Disk>(disk: &mut D, count: u64) -> bool {
-    for at in 0..count {
-        if !reads(disk, at, &[0]) {
-            return false;
-        }
-    }
-    true
 }
 
 /// Whether a read of so many bytes fails.
@@ -141,7 +129,6 @@ pub(crate) fn does<D: CutDisk>(disk: &mut D, act: &Act) -> bool {
     match act.0 {
         What::Size => disk.size() == at,
         What::Reads => reads(disk, at, bytes),
-        What::Zeros => are_zeros(disk, at),
         What::ReadFails => read_fails(disk, at, bytes.len()),
         What::Writes(then, is_ok) => writes(disk, at, bytes, then) == is_ok,
         What::Syncs => syncs(disk, bytes),

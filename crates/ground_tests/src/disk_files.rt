@@ -14,6 +14,8 @@ enum Opening {
     Not,
     /// A disk over it.
     Disk,
+    /// A disk over it of 65,536 zero bytes, which are read in one call.
+    Zeros,
     /// Two disks one behind the other, of which the first is closed: each call of the second fails.
     Second,
     /// A disk of no bytes over the file itself, of which nothing is held: its sync is Ok.
@@ -138,11 +140,30 @@ fn is_synced(rt: &HostRuntime, path: &str) -> bool {
     disk.size() == 0 && disk.sync().is_ok()
 }
 
+fn reads_zeros<D: Disk>(rt: &HostRuntime, disk: &mut D) -> bool {
+    match vec![in rt.alloc(); 9; 65536] {
+        Ok(mut all) => {
+            disk.size() == 65536
+                && disk.read(0, &mut all).is_ok()
+                && all.iter().all(|byte| *byte == 0)
+        }
+        Err(_) => false,
+    }
+}
+
+fn is_zeros(rt: &HostRuntime, path: &str) -> bool {
+    match FileDisk::on(rt.alloc(), rt, path) {
+        Ok(mut disk) => reads_zeros(rt, &mut disk),
+        Err(_) => false,
+    }
+}
+
 /// Whether this comes of the step.
 fn comes(rt: &HostRuntime, path: &str, step: &Step) -> bool {
     match step.0 {
         Opening::Not => is_left(rt, path, step.1),
         Opening::Disk => is_opened(rt, path, step.1),
+        Opening::Zeros => is_zeros(rt, path),
         Opening::Second => stays_out(rt, path),
         Opening::NothingHeld => is_synced(rt, path),
     }
@@ -190,10 +211,7 @@ fn plays(rt: &impl Abort, system: &HostRuntime, test: &str, names: &[&str], step
 const DISK: &[&str] = &["/disk"];
 
 const MADE: &[Step] = &[
-    Step(
-        Opening::Disk,
-        &[Act(What::Size, 65536, b""), Act(What::Zeros, 65536, b"")],
-    ),
+    Step(Opening::Zeros, &[]),
     Step(
         Opening::Not,
         &[Act(What::Other(Other::FindsSize), 65536, b"")],

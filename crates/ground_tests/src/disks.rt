@@ -16,12 +16,17 @@ fn done_in_memory(alloc: Global, size: usize, acts: &[Act]) -> usize {
     }
 }
 
-/// The same over one that tells its past.
+/// The same over one that tells its past: of one byte with room for one entry, the least, of four for more than there are.
 fn done_on_tape(alloc: Global, size: usize, acts: &[Act]) -> usize {
     if size == 0 || size > 100 {
         return 0;
     }
-    match TapeDisk::new(alloc, size, 4) {
+    let made = match size {
+        1 => TapeDisk::new(alloc, size, 1),
+        4 => TapeDisk::new(alloc, size, 9),
+        _ => TapeDisk::new(alloc, size, 4),
+    };
+    match made {
         Ok(mut disk) => done(&mut disk, acts),
         Err(_) => 0,
     }
@@ -122,6 +127,12 @@ const ARMS: &[&[Act]] = &[
         Act(What::Syncs, 0, b"..xx"),
         Act(What::Calls(Mark::Stop(3)), 0, b""),
         Act(What::Syncs, 0, b"xxxx"),
+    ],
+    // a read of no byte is a call, too
+    &[
+        Act(What::Calls(Mark::Fail(1)), 0, b""),
+        Act(What::ReadFails, 0, b""),
+        Act(What::Reads, 0, b""),
     ],
 ];
 

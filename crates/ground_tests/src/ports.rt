@@ -1,6 +1,8 @@
 //! The table of answers of the whole-stream calls over memory, and the standard streams' adapters.
 use crate::comparing::holds;
-use bus_port::{MemSink, MemSource, ReadAll, Source, StdSink, StdSource, read_all, write_all};
+use bus_port::{
+    CleanSource, MemSink, MemSource, ReadAll, Source, StdSink, StdSource, read_all, write_all,
+};
 use std::alloc::Global;
 use std::io;
 use std::io::{ErrorKind, Read, Write};
@@ -128,6 +130,7 @@ const WRITES: &[Writing] = &[
     Writing(5, &[1], 5, false, b""),
     Writing(5, &[3], 1, false, b"he"),
     Writing(5, &[6], 1, true, HELLO),
+    Writing(1_048_576, &[], 65_536, true, HELLO),
 ];
 
 #[test]
@@ -135,6 +138,35 @@ fn write_all_stops_at_the_failing_call_or_the_full_room(rt: HostRuntime) {
     for (place, row) in WRITES.iter().enumerate() {
         holds(&rt, place, is_written(rt.alloc(), row));
     }
+}
+
+/// Whether a source of which no read fails has its bytes, where no more are taken.
+fn is_read_clean(alloc: Global) -> bool {
+    match HELLO.to_vec(alloc) {
+        Ok(bytes) => reads(alloc, &mut CleanSource::new(bytes), 5, &Ok(HELLO)),
+        Err(_) => false,
+    }
+}
+
+/// Whether all of 4,097 bytes, one more than a piece has, are read of a source.
+fn is_long<S: Source>(alloc: Global, source: &mut S) -> bool {
+    match read_all(alloc, source, 4_097) {
+        Ok(all) => all.len() == 4_097 && all.iter().all(|byte| *byte == b'x'),
+        Err(_) => false,
+    }
+}
+
+fn is_long_read(alloc: Global) -> bool {
+    match vec![in alloc; b'x'; 4_097] {
+        Ok(bytes) => is_long(alloc, &mut CleanSource::new(bytes)),
+        Err(_) => false,
+    }
+}
+
+#[test]
+fn a_clean_source_is_read_to_its_end(rt: HostRuntime) {
+    holds(&rt, "all", is_read_clean(rt.alloc()));
+    holds(&rt, "a piece and a byte", is_long_read(rt.alloc()));
 }
 
 /// Whether two reads give five bytes, and then none.

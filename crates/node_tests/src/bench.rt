@@ -27,7 +27,8 @@ pub enum Act {
     Count(u16, Direction),
     Cut(Torn),
     IsDown,
-    /// Of a node of 256 routes: each route that sends does it, but the first and the last; and each counter is looked at.
+    /// Of a node of 256 routes: each route that sends does it, but the first and the last; and each counter is looked
+    /// at.
     SendEach(&'static [u8]),
     CountEach,
 }
@@ -61,7 +62,8 @@ pub struct Way {
     pub start: u64,
 }
 
-/// A node's number and its routes; what its slot 4 has from the start; and the call of its disk at which that stops, 0 for none.
+/// A node's number and its routes; what its slot 4 has from the start; and the call of its disk at which that stops, 0
+/// for none.
 #[derive(Clone, Copy)]
 pub struct Plan<'a> {
     pub number: u8,

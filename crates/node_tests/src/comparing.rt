@@ -1,4 +1,5 @@
-//! What is compared: a call of a function in place of the steps of a macro, each of which would be proved in each test anew.
+//! What is compared: a call of a function in place of the steps of a macro, each of which would be proved in each test
+//! anew.
 ghost use Rattle.std.specs.Prelude.{IsTrue};
 
 use std::fmt::{Debug, Display};

@@ -1,5 +1,5 @@
-//! An engine over a twin store: its calls of a MAC and of a cipher, which no program makes so, and a load whose disk fails.
-//! What is asked of it is rows.
+//! An engine over a twin store: its calls of a MAC and of a cipher, which no program makes so, and a load whose disk
+//! fails. What is asked of it is rows.
 ghost use Rattle.std.specs.Prelude.{◌≡◌, false};
 ghost use Rattle.slot_disk.specs.Cell.{HoldSlots};
 

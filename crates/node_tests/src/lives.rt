@@ -2,6 +2,7 @@
 use crate::bench::{Act, Answer, Plan, Row, Way, plays};
 use cut_disk::Torn;
 use freshness_manager::Direction;
+use key_slots::Erc;
 use secoc_node::NodeFault;
 use secoc_receiver::Reception;
 use std::test::Fail;
@@ -96,6 +97,11 @@ const FAULTS_ONCE: &[Row] = &[
     ),
     Row(RECEIVED, Answer::Count(Some(START + 1)), &[]),
     Row(Act::Count(ID, Direction::Sends), Answer::Count(None), &[]),
+    Row(
+        Act::Send(ID, &[1]),
+        Answer::Refused(NodeFault::NoRoute),
+        &[],
+    ),
 ];
 
 #[test]
@@ -119,8 +125,35 @@ const LAST_SENDER: Plan<'static> = Plan {
 
 const SENT: Act = Act::Count(ID, Direction::Sends);
 
+/// A payload of one byte more than is sent.
+const TOO_LONG: Row = Row(
+    Act::Send(ID, &[0xbe; 61]),
+    Answer::Refused(NodeFault::BadLength),
+    &[],
+);
+
+/// The length is looked at before the key and the counter. The key of slot 4 waits for a boot, and then it doesn't.
 const ENDS: &[Row] = &[
-    FIRST_KEY,
+    TOO_LONG,
+    Row(
+        Act::Send(ID, &[1]),
+        Answer::Refused(NodeFault::Key(Erc::KeyEmpty)),
+        &[],
+    ),
+    Row(Act::Load(1, 1, EMPTY, 1, 0, MASTER), Answer::Done, &[]),
+    Row(Act::Load(4, 1, MASTER, 1, 8 + MAC, KEY), Answer::Done, &[]),
+    TOO_LONG,
+    Row(
+        Act::Send(ID, &[1]),
+        Answer::Refused(NodeFault::Key(Erc::KeyNotAvailable)),
+        &[],
+    ),
+    Row(Act::Load(4, 1, MASTER, 2, MAC, KEY), Answer::Done, &[]),
+    Row(
+        Act::Send(ID, &[]),
+        Answer::Refused(NodeFault::BadLength),
+        &[],
+    ),
     Row(Act::Send(ID, PAYLOAD), Answer::Sent(u64::MAX), LAST),
     Row(SENT, Answer::Count(Some(u64::MAX)), &[]),
     Row(
@@ -128,6 +161,7 @@ const ENDS: &[Row] = &[
         Answer::Refused(NodeFault::Exhausted),
         &[],
     ),
+    TOO_LONG,
     Row(SENT, Answer::Count(Some(u64::MAX)), &[]),
     Row(Act::Cut(Torn::Keep), Answer::Done, &[]),
     Row(SENT, Answer::Count(Some(u64::MAX)), &[]),

@@ -1,4 +1,5 @@
-// One reception over a twin store in memory: a PDU that is accepted, and the bound that a fault tells. The PDUs were made by OpenSSL's CMAC.
+// One reception over a twin store in memory: a PDU that is accepted, and the bound that a fault tells. The PDUs were
+// made by OpenSSL's CMAC.
 ghost use Rattle.std.specs.Prelude.{◌≡◌, false, length, IfOk};
 ghost use Rattle.freshness_routes.specs.declared.routes.Direction.TheVariants.{Receives};
 ghost use Rattle.freshness_manager.specs.Counters.{KeepsBound};

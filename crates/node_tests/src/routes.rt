@@ -112,6 +112,12 @@ const COUNTS_EACH_ROUTE: &[Row] = &[
     Row(SENT, Answer::Count(Some(START + 5)), &[]),
     Row(TAKEN, Answer::Count(Some(0x1f5)), &[]),
     Row(TELLS, Answer::Count(Some(0x101)), &[]),
+    // a PDU of five bytes
+    Row(
+        Act::Send(ID, &[0xbe]),
+        Answer::Sent(START + 6),
+        &[0xbe, 0x2f, 0x3c, 0xd0, 0x5f],
+    ),
 ];
 
 #[test]
@@ -148,8 +154,8 @@ fn the_most_ways(alloc: Global) -> Result<Vec<Way>, Fail> {
     Ok(ways)
 }
 
-/// Each route that sends does it; the bytes of the first and the last are looked at. Two that receive hear, and the power is cut: each route
-/// is where it was.
+/// Each route that sends does it; the bytes of the first and the last are looked at. Two that receive hear, and the
+/// power is cut: each route is where it was.
 const SERVES_EACH: &[Row] = &[
     FIRST_KEY,
     Row(Act::Send(0x100, PAYLOAD), Answer::Sent(1), OF_ROUTE_0),

@@ -1,4 +1,5 @@
-// One send over a twin store in memory: a PDU that OpenSSL's CMAC made, a route that no bus file has, and the bound that a fault tells.
+// One send over a twin store in memory: a PDU that OpenSSL's CMAC made, a route that no bus file has, and the bound
+// that a fault tells.
 ghost use Rattle.std.specs.Prelude.{◌≡◌, false, length, IfOk};
 ghost use Rattle.freshness_routes.specs.declared.routes.Direction.TheVariants.{Sends};
 ghost use Rattle.freshness_manager.specs.Counters.{KeepsBound};
@@ -45,8 +46,8 @@ fn sender_in<C: Cells>(store: &C) -> Result<Tx, Fail>
     Ok(Tx::restore(14, ID, RESERVE, bound))
 }
 
-/// A send of the payload: the slot of the key, whether the disk has stopped, what is answered, and the counter and the buffer
-/// behind it.
+/// A send of the payload: the slot of the key, whether the disk has stopped, what is answered, and the counter and the
+/// buffer behind it.
 pub(crate) struct Row {
     slot: u8,
     stops: bool,

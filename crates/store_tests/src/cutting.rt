@@ -17,6 +17,7 @@ pub fn put_and_cut<C: CutCells>(
     store: &mut C,
     cell: u16,
     calls: u64,
+    torn: Torn,
 ) -> Result<(bool, [u8; 32]), Fail>
     requires calls { 1 ≤ calls }
     requires cell { cell < length (C.state store.old).cells }
@@ -25,7 +26,7 @@ pub fn put_and_cut<C: CutCells>(
     let mut read = [0x5a; 32];
     store.stop_at(calls);
     let done = store.put(cell, &ELEVENS).is_ok();
-    store.power_cut(Torn::Old)?;
+    store.power_cut(torn)?;
     store.get(cell, &mut read);
     Ok((done, read))
 }

@@ -243,7 +243,8 @@ fn a_migration_is_refused_by_size_and_by_the_bytes_that_count(rt: HostRuntime) -
     Ok(())
 }
 
-/// What stands on a disk: a store of fifteen cells in version 1, one in version 2, both or none, and one byte that is changed.
+/// What stands on a disk: a store of fifteen cells in version 1, one in version 2, both or none, and one byte that is
+/// changed.
 #[derive(Clone, Copy)]
 struct Laid {
     one: bool,

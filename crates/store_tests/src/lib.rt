@@ -1,5 +1,6 @@
-//! Tests of the stores of cells, of plans of their puts, and of what crosses crates: a file that tells its bytes, and the disk
-//! over it. There is nothing else here: a crate of tests over several libraries has none of them proved a second time.
+//! Tests of the stores of cells, of plans of their puts, and of what crosses crates: a file that tells its bytes, and
+//! the disk over it. There is nothing else here: a crate of tests over several libraries has none of them proved a
+//! second time.
 #![tactic(auto)]
 
 #[cfg(test)]
@@ -8,6 +9,8 @@ mod comparing;
 mod cutting;
 #[cfg(test)]
 mod either_stores;
+#[cfg(test)]
+mod least_stores;
 #[cfg(test)]
 mod log_stores;
 #[cfg(test)]

@@ -4,7 +4,8 @@ ghost use Rattle.cut_disk.specs.MemDisk.{contents};
 ghost use Rattle.cell_store.specs.Layout.{layout};
 ghost use Rattle.cell_store.specs.Store.{store_size};
 
-use cell_store::{Kind, Version, log_size, twin_size};
+use crate::comparing::same;
+use cell_store::{Kind, StoreFault, TwinCells, Version, log_size, twin_size};
 use cut_disk::{CutDisk, Disk, DiskFailed, MemDisk, Torn};
 use file_disk::{ByteFile, FileDisk, FileFailed, HeldFile, MOST_HELD, room_to_hold};
 use std::alloc::Global;
@@ -72,8 +73,8 @@ fn cut_behind_two_writes<D: CutDisk>(
     Ok((outcome.is_ok(), bytes))
 }
 
-/// Of the disk and of the file the number of the one call that is to fail. A cut takes nothing from a file, also where its sync of
-/// the file, the fourth call, fails; and a write that is armed to fail doesn't reach it.
+/// Of the disk and of the file the number of the one call that is to fail. A cut takes nothing from a file, also where
+/// its sync of the file, the fourth call, fails; and a write that is armed to fail doesn't reach it.
 #[test]
 fn a_cut_over_a_file_that_tells_leaves_its_bytes(rt: HostRuntime) -> Result<(), Fail> {
     for (disk_fails, file_fails, torn, is_ok, bytes) in [
@@ -87,7 +88,44 @@ fn a_cut_over_a_file_that_tells_leaves_its_bytes(rt: HostRuntime) -> Result<(), 
         let mut over = twice(disk);
         over.fail_at(disk_fails);
         let left = cut_behind_two_writes(&mut over, torn)?;
-        assert_eq!(rt; left, (is_ok, bytes));
+        same(&rt, "left", &left, &(is_ok, bytes));
+    }
+    Ok(())
+}
+
+/// A disk with a store of three cells, of which this byte is another.
+fn changed_store(alloc: Global, at: u64, byte: u8) -> Result<MemDisk, Fail> {
+    let disk = MemDisk::new(alloc, 240)?;
+    let mut disk = match TwinCells::format(disk, &[[0x11; 32]; 3]) {
+        Ok(disk) => disk,
+        Err(refused) => return Err(Fail::from(refused.fault)),
+    };
+    if at >= disk.size() {
+        return Err(Fail::from("no such place"));
+    }
+    disk.write(at, &[byte])?;
+    Ok(disk)
+}
+
+/// How such a store over the file over its disk is refused, if it is.
+fn refusal(alloc: Global, at: u64, byte: u8) -> Result<Option<StoreFault>, Fail> {
+    let disk = changed_store(alloc, at, byte)?;
+    match TwinCells::attach(alloc, twice(disk), 3) {
+        Ok(_) => Ok(None),
+        Err(refused) => Ok(Some(refused.fault)),
+    }
+}
+
+/// The byte that is another is of the header, of the mark of the second cell's copy that counts, and of what no cell
+/// has.
+#[test]
+fn a_store_over_a_file_that_tells_is_refused_for_its_bytes(rt: HostRuntime) -> Result<(), Fail> {
+    for (at, byte, want) in [
+        (0, 0, Some(StoreFault::NotFormatted)),
+        (101, 3, Some(StoreFault::Damaged(1))),
+        (239, 7, None),
+    ] {
+        same(&rt, at, &refusal(rt.alloc(), at, byte)?, &want);
     }
     Ok(())
 }
@@ -113,7 +151,7 @@ fn the_largest_store_is_held_of_its_file(rt: HostRuntime) {
         (Kind::Twin, Version::Two, 102_432),
         (Kind::Log, Version::Two, 102_820),
     ] {
-        assert_eq!(rt; held_size(kind, version, 1024), size);
+        same(&rt, size, &held_size(kind, version, 1024), &size);
     }
 }
 
@@ -154,7 +192,7 @@ fn a_held_file_fails_where_the_file_below_does(rt: HostRuntime) -> Result<(), Fa
         (4, 4, Err(DiskFailed)),
         (5, 4, Ok([0, 5, 6, 0])),
     ] {
-        assert_eq!(rt; held_bytes(rt.alloc(), stops)?, (size, bytes));
+        same(&rt, stops, &held_bytes(rt.alloc(), stops)?, &(size, bytes));
     }
     Ok(())
 }

@@ -4,7 +4,7 @@ ghost use Rattle.std.specs.Prelude.{◌≡◌, length, false, IfOk};
 use crate::comparing::same;
 use crate::cutting::{ELEVENS, ZEROS, put_and_cut};
 use cell_store::*;
-use cut_disk::{CutDisk, MemDisk};
+use cut_disk::{CutDisk, MemDisk, Torn};
 use std::alloc::Global;
 use std::test::Fail;
 
@@ -39,7 +39,7 @@ fn widest_store(alloc: Global) -> Result<TwinCells<MemDisk>, Fail>
 #[test]
 fn a_store_has_up_to_1024_cells(rt: HostRuntime) -> Result<(), Fail> {
     let mut store = widest_store(rt.alloc())?;
-    let read = put_and_cut(&mut store, 1023, 7)?;
+    let read = put_and_cut(&mut store, 1023, 7, Torn::Old)?;
     same(&rt, "read", &read, &(true, ELEVENS));
     Ok(())
 }

@@ -1,8 +1,10 @@
-//! Tests of lines of text, of a bus as it is told, of trials, and of the lines that are printed and looked for. There is
-//! nothing else here: a crate of tests over several libraries has none of them proved a second time. Bus files are rows of
-//! checks/text_rows, and scripts of checks/script_rows and checks/gateway_rows.
+//! Tests of lines of text, of a bus as it is told, of trials, and of the lines that are printed and looked for. There
+//! is nothing else here: a crate of tests over several libraries has none of them proved a second time. Bus files are
+//! rows of checks/text_rows, and scripts of checks/script_rows and checks/gateway_rows.
 #![tactic(auto)]
 
+#[cfg(test)]
+mod bus_faults;
 #[cfg(test)]
 mod bus_shapes;
 #[cfg(test)]
@@ -13,6 +15,8 @@ mod comparing;
 mod histories;
 #[cfg(test)]
 mod lines;
+#[cfg(test)]
+mod own_events;
 #[cfg(test)]
 mod printed_lines;
 #[cfg(test)]

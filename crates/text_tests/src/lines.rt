@@ -2,16 +2,17 @@
 // checks/text_rows.
 use crate::comparing::{holds, same};
 use byte_lists::Bytes;
+use secoc_words::frames::FrameReader;
 use std::alloc::Global;
 use std::fmt::Display;
 use std::process::Abort;
 use std::test::Fail;
 use text_lines::fault::{Cause, LineFault, Memory, ScriptFault};
-use text_lines::forms;
 use text_lines::pushing::push_digits;
 use text_lines::reader::{LineReader, MOST_LINES, read_lines};
 use text_lines::texts::fault_text;
 use text_lines::words::Words;
+use text_lines::{forms, laws};
 
 // Takes any line.
 struct AnyLine;
@@ -71,6 +72,24 @@ fn one_line_may_be_too_many(rt: HostRuntime) -> Result<(), Fail> {
     Ok(())
 }
 
+/// A line of a file of frames.
+const FRAME: &[u8] = b"2b7e151628aed2a6abf7158809cf4f3c 6bc1 e93d7e117393172a bee22e409f96";
+
+/// What holds of every text that is read holds of a program's reader, too.
+#[test]
+fn a_kind_of_line_is_read_through_its_reader(rt: HostRuntime) {
+    laws::values_are_those_of_the_lines::<FrameReader>();
+    laws::a_fault_is_the_first::<FrameReader>();
+    let read = read_lines(rt.alloc(), FRAME, 1, &FrameReader);
+    same(&rt, "one", &read.map(|lines| lines.len()), &Ok(1));
+    let read = read_lines(rt.alloc(), FRAME, 0, &FrameReader);
+    let too_many = ScriptFault::At {
+        line: 1,
+        cause: Cause::TooMany,
+    };
+    same(&rt, "none", &read.map(|lines| lines.len()), &Err(too_many));
+}
+
 /// A word, the least and the most number, and the number that it is.
 const NUMBERS: &[(&[u8], u64, u64, Option<u64>)] = &[
     (b"0", 0, 65_536, Some(0)),
@@ -103,6 +122,29 @@ const BYTES: &[(&[u8], Option<&[u8]>)] = &[
 fn bytes_are_read_by_their_form(rt: HostRuntime) -> Result<(), Fail> {
     for (word, bytes) in BYTES {
         let found: Option<Bytes> = forms::bytes(rt.alloc(), word)?;
+        let found = found.as_ref().map(|found| found.bytes());
+        same(&rt, word.len(), &found, bytes);
+    }
+    Ok(())
+}
+
+/// What arrives, as a word: none, a few bytes, and 65, one more than a PDU has.
+const RECEIVED: &[(&[u8], Option<&[u8]>)] = &[
+    (b"-", Some(b"")),
+    (b"00fF", Some(b"\x00\xff")),
+    (
+        b"000102030405060708090a0b0c0d0e0f101112131415161718191a1b1c1d1e1f202122232425262728292a2b2c2d2e2f303132333435363738393a3b3c3d3e3f40",
+        Some(
+            b"\x00\x01\x02\x03\x04\x05\x06\x07\x08\x09\x0a\x0b\x0c\x0d\x0e\x0f\x10\x11\x12\x13\x14\x15\x16\x17\x18\x19\x1a\x1b\x1c\x1d\x1e\x1f\x20\x21\x22\x23\x24\x25\x26\x27\x28\x29\x2a\x2b\x2c\x2d\x2e\x2f\x30\x31\x32\x33\x34\x35\x36\x37\x38\x39\x3a\x3b\x3c\x3d\x3e\x3f\x40",
+        ),
+    ),
+    (b"--", None),
+];
+
+#[test]
+fn what_arrives_is_read_whole(rt: HostRuntime) -> Result<(), Fail> {
+    for (word, bytes) in RECEIVED {
+        let found = secoc_words::received(rt.alloc(), word)?;
         let found = found.as_ref().map(|found| found.bytes());
         same(&rt, word.len(), &found, bytes);
     }

@@ -45,6 +45,8 @@ pub enum Answer {
     Count(Option<u64>),
     /// The freshness of the arrival, and of the departure.
     Forwarded(u64, u64),
+    /// The freshness of an arrival that didn't depart.
+    Dropped(u64),
     VerificationFailure,
     /// The freshness that was accepted.
     Heard(u64),
@@ -198,8 +200,9 @@ fn arrives(
     }
     match gateway.arrive(id, pdu, out) {
         Ok(Arrival::Forwarded { freshness, sent }) => Answer::Forwarded(freshness, sent.freshness),
+        Ok(Arrival::Dropped { freshness, .. }) => Answer::Dropped(freshness),
         Ok(Arrival::VerificationFailure) => Answer::VerificationFailure,
-        Ok(_) => Answer::Other,
+        Ok(Arrival::FreshnessFailure) => Answer::Other,
         Err(fault) => Answer::Refused(fault),
     }
 }

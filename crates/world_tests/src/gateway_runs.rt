@@ -140,11 +140,36 @@ const PASSED_ON: &[Row] = &[
 /// A gateway of no pairs.
 const NO_PAIR: &[Row] = &[FIRST_KEY, Row(Act::Second(IN), Answer::Id(None), &[])];
 
+/// A gateway whose departures have another key than its arrivals.
+const OF_TWO_KEYS: &[Way] = &[
+    Way {
+        id: IN,
+        direction: Direction::Receives,
+        slot: 4,
+        reserve: 1,
+        start: 0,
+    },
+    Way {
+        id: OUT,
+        direction: Direction::Sends,
+        slot: 5,
+        reserve: 4,
+        start: START,
+    },
+];
+
+/// What can't depart, since that key isn't there, is dropped, and nothing is written.
+const DROPS: &[Row] = &[
+    FIRST_KEY,
+    Row(Act::Arrive(IN, FIRST_IN), Answer::Dropped(1), &[]),
+];
+
 #[test]
 fn a_pdu_is_forwarded_once(rt: HostRuntime) -> Result<(), Fail> {
     for shape in SHAPES {
         plays(&rt, rt.alloc(), shape, GATE, PAIR, ONCE)?;
     }
+    plays(&rt, rt.alloc(), SHAPES[0], OF_TWO_KEYS, PAIR, DROPS)?;
     plays(&rt, rt.alloc(), SHAPES[0], GATE, &[], NO_PAIR)
 }
 

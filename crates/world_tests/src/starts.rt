@@ -50,8 +50,8 @@ enum Wanted {
 /// The layout of the stores, the sizes of the disks, and the answer.
 struct Sized(Kind, Version, &'static [usize], Wanted);
 
-/// In each layout a disk or two are a byte too small, the largest disk isn't that of the second node, a disk is missing; and all are as the stores
-/// need them.
+/// In each layout a disk or two are a byte too small, the largest disk isn't that of the second node, a disk is
+/// missing; and all are as the stores need them.
 const SIZED: &[Sized] = &[
     Sized(
         Kind::Twin,

@@ -1,4 +1,5 @@
-//! A start that moves two nodes to version 2, and stops at any call of the second disk: started again, it makes the same store.
+//! A start that moves two nodes to version 2, and stops at any call of the second disk: started again, it makes the
+//! same store.
 ghost use Rattle.std.specs.Prelude.{◌≤◌};
 
 use crate::attached::{SIZE, pair};
@@ -83,7 +84,8 @@ fn stopping(alloc: Global, laid: &Laid, call: u64) -> Result<Vec<MemDisk>, Fail>
     Ok(made)
 }
 
-/// Starts over them, cuts the power of the second and starts again: how the first start was refused, and the store of the second.
+/// Starts over them, cuts the power of the second and starts again: how the first start was refused, and the store of
+/// the second.
 fn stop_and_start(
     alloc: Global,
     bus: &BusConfig,
@@ -118,8 +120,8 @@ fn is_moved(
     Ok(())
 }
 
-/// Starts over stores of this kind, of which the second disk has so many calls: a look of two calls, a move, and all reads. They stop at
-/// each call, and the power is cut in each of these ways.
+/// Starts over stores of this kind, of which the second disk has so many calls: a look of two calls, a move, and all
+/// reads. They stop at each call, and the power is cut in each of these ways.
 fn stops(rt: &impl Abort, alloc: Global, kind: Kind, calls: u16, cuts: &[Torn]) -> Result<(), Fail>
     requires { calls ≤ 1000 }
 {
