@@ -308,6 +308,25 @@ static const struct {
     {ROUTE_MAKE, 0, low_slot, RATHONSI_BAD_VALUE, "slot 3"},
 };
 
+/* From a bound of 4 on, a reserve of 8 from the freshness 6 on covers all up to 13, and no more. */
+static void reserve_reaches(void) {
+    struct unit unit = unit_of(0);
+    counter_at_bound(&unit);
+    unit.freshness = 6;
+    expect(call_on(&unit, SEND), RATHONSI_RESERVE, "send: a counter at its bound");
+    expect(call_on(&unit, RESERVE), RATHONSI_OK, "reserve: 6 and seven more");
+    expect(call_on(&unit, DONE), RATHONSI_OK, "done: the plan of a bound");
+    for (uint64_t freshness = 5; freshness <= 13; freshness++) {
+        expect(call_on(&unit, SEND), RATHONSI_OK, "send: a freshness that is reserved");
+        expect(unit.route.counter == freshness, 1, "send: its counter");
+    }
+    expect(call_on(&unit, SEND), RATHONSI_RESERVE, "send: behind the reserve");
+    expect(unit.route.counter == 13, 1, "send: the counter stays");
+    free(unit.image);
+    free(unit.payload);
+    free(unit.pdu);
+}
+
 int main(void) {
     expect(sizeof(RathonsiWrite), 48, "a write has no padding");
     expect(sizeof(RathonsiPlan), 144, "a plan has no padding");
@@ -344,6 +363,7 @@ int main(void) {
         free(unit.payload);
         free(unit.pdu);
     }
+    reserve_reaches();
     printf("%d calls, %d failures\n", calls, failures);
     return failures != 0;
 }
