@@ -118,7 +118,8 @@ of_offered i P task input offers lines (set_task, set, (read, whole, holds)) =
     subst (λ (t : Task). P t input) (same_task i set_task task set offers)
     (subst (λ (text : List ℕ). P set_task text) (Offers-whole i.script input read lines whole) holds)
 
--- the rows that come then: want of memory, the first fault of the lines, what is printed of them, or those of a bus that doesn't start
+-- the rows that come then: want of memory, the first fault of the lines, what is printed of them, or those of a bus
+-- that doesn't start
 abbrev pub OfTask : DiskStates → Row → Task → List ℕ → Type 0
 OfTask d row task input =
     (row.status ≡ 7)

@@ -230,7 +230,8 @@ KeysKept-run start ms now s run = record {
 
 -- ---- from a world where nothing is pending
 
--- a slot is as it was, or holds an update of a moment that was acknowledged or failed, or one that was pending from the start
+-- a slot is as it was, or holds an update of a moment that was acknowledged or failed, or one that was pending from the
+-- start
 abbrev pub Renewed : ℕ → ℕ → World → Moments → Slot → Type 0
 Renewed i t start ms final =
     (final ≡ slot_in start i t)

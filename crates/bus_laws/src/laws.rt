@@ -66,8 +66,8 @@ pub fn honest_pdus_are_accepted()
     ensures { HonestIsHeard }
 {}
 
-/// The key that the sender's slot held at the send secures the PDU: where the receiver's slot holds that key and is usable,
-/// a PDU that comes in time is accepted.
+/// The key that the sender's slot held at the send secures the PDU: where the receiver's slot holds that key and is
+/// usable, a PDU that comes in time is accepted.
 pub fn same_key_is_honest()
     ensures { SameKeyIsHonest }
 {}

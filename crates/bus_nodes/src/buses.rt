@@ -69,8 +69,8 @@ impl BusConfig {
     ghost use Rattle.std.specs.Option.{SomeIff};
     ghost use Rattle.bus_nodes.specs.Buses.{IsNamedBus, place_named};
 
-    /// The bus of these nodes; `None` where it is none: there isn't one node to 8, or two have one name, or one has more routes
-    /// than the version allows, or two routes send one Data ID. It takes no memory.
+    /// The bus of these nodes; `None` where it is none: there isn't one node to 8, or two have one name, or one has
+    /// more routes than the version allows, or two routes send one Data ID. It takes no memory.
     pub fn new(kind: Kind, version: Version, nodes: Vec<NodeLine>) -> Option<BusConfig>
         ensures { SomeIff result (IsNamedBus (record { kind = kind; version = version; nodes = nodes.items }))
             (record { kind = kind; version = version; nodes = nodes.items }) }

@@ -35,7 +35,8 @@ impl From<AllocError> for ReadAll {
     }
 }
 
-/// Appends the next piece of the source to `bytes`, and returns its length, which is 0 at the end. `piece` is room for it.
+/// Appends the next piece of the source to `bytes`, and returns its length, which is 0 at the end. `piece` is room for
+/// it.
 fn add_piece<S: Source>(
     source: &mut S,
     piece: &mut [u8; PIECE],

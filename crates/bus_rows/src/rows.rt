@@ -80,7 +80,8 @@ pub fn frames_routes_and_lengths_come_first()
     ensures { HasRun bus_a refused_early }
 {}
 
-/// The disk fails while a PDU is sent, and the cut leaves the old bound: the same freshness is sent then, for the first time.
+/// The disk fails while a PDU is sent, and the cut leaves the old bound: the same freshness is sent then, for the first
+/// time.
 pub fn a_failed_send_leaves_the_old_bound()
     ensures { HasRun bus_a failed_send_old }
 {}

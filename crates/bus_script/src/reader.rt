@@ -73,9 +73,9 @@ fn read_fields(
     }
 }
 
-/// The events of a script over a bus: at most 65,536 lines that aren't skipped, each an event of one of the bus's nodes;
-/// or the first fault, by the line it stands in. A line's cause is the first of: too many events, no event's name, a wrong
-/// number of words, and the lowest word that isn't of its form.
+/// The events of a script over a bus: at most 65,536 lines that aren't skipped, each an event of one of the bus's
+/// nodes; or the first fault, by the line it stands in. A line's cause is the first of: too many events, no event's
+/// name, a wrong number of words, and the lowest word that isn't of its form.
 pub fn read_script(alloc: Global, text: &[u8], bus: &BusConfig) -> Result<Vec<Event>, ScriptFault>
     requires { length text.now < 2 ^ 32 }
     ensures exact { Gives (events_of bus.now.nodes text.now) result }
@@ -85,8 +85,8 @@ pub fn read_script(alloc: Global, text: &[u8], bus: &BusConfig) -> Result<Vec<Ev
     read_kinds(alloc, text, bus, &KINDS)
 }
 
-/// The events of a script in which each is a node's own, as [`read_script`] reads them: here `send` and `deliver` are no
-/// event's name.
+/// The events of a script in which each is a node's own, as [`read_script`] reads them: here `send` and `deliver` are
+/// no event's name.
 pub fn read_own_script(
     alloc: Global,
     text: &[u8],

@@ -21,8 +21,8 @@ use std::alloc::{AllocError, Global};
 use text_lines::Memory;
 use text_lines::pushing::push_digits;
 
-/// Adds the canonical line of an event to `out`, with its line feed: single spaces, lower-case digits, the identifier of a
-/// `key` written out, and `-` for no bytes. The event's node is in the bus. Without memory `out` is as before.
+/// Adds the canonical line of an event to `out`, with its line feed: single spaces, lower-case digits, the identifier
+/// of a `key` written out, and `-` for no bytes. The event's node is in the bus. Without memory `out` is as before.
 pub fn write_event(
     alloc: Global,
     event: &Event,

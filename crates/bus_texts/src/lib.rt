@@ -1,4 +1,5 @@
-//! The printed text of what came of the events of a bus: a line of plain words for each event, with its number in front.
+//! The printed text of what came of the events of a bus: a line of plain words for each event, with its number in
+//! front.
 #![tactic(auto)]
 
 pub mod laws;

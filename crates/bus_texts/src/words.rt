@@ -1,6 +1,6 @@
-//! The pieces that lines are written with: a line begins with its number, words are added, each behind a space, and a line
-//! feed ends it. Whoever writes a line of its own in the same form, uses the same pieces. For want of memory a piece may
-//! have been added in part; what a finished line is appended to is then as before.
+//! The pieces that lines are written with: a line begins with its number, words are added, each behind a space, and a
+//! line feed ends it. Whoever writes a line of its own in the same form, uses the same pieces. For want of memory a
+//! piece may have been added in part; what a finished line is appended to is then as before.
 
 ghost use Rattle.std.specs.Prelude.{◌≡◌, [], ◌∷◌, ◌++◌, IfOk, OnOk, OnErr};
 ghost use Rattle.std.specs.Fmt.{decimal};

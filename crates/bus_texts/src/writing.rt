@@ -19,8 +19,8 @@ use text_lines::pushing::push_digits;
 /// Appends the text of the line with this number, from 1: the number in decimal digits, the words of the line with a
 /// space before each, and a line feed.
 ///
-/// Data IDs have four digits, freshness 16, and bytes two each, the highest byte first and in lower case. Without memory
-/// `out` is as before.
+/// Data IDs have four digits, freshness 16, and bytes two each, the highest byte first and in lower case. Without
+/// memory `out` is as before.
 pub fn write_line(alloc: Global, number: u32, line: &Line, out: &mut Vec<u8>) -> Result<(), Memory>
     ensures appended { OnOk result (out.new.items ≡ out.old.items ++ line_text number line.now) }
     ensures as_before { OnErr result (out.new.items ≡ out.old.items) }

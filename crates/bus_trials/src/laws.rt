@@ -10,8 +10,8 @@ pub fn worked_draws()
     ensures event { WorkedEvent }
 {}
 
-/// Law: the events of a trial are a script: each is one that a script can have, they are at most 65,536, and they are read
-/// again from their canonical lines.
+/// Law: the events of a trial are a script: each is one that a script can have, they are at most 65,536, and they are
+/// read again from their canonical lines.
 pub fn trials_are_scripts()
     ensures { TrialsAreScripts }
 {}

@@ -50,8 +50,8 @@ pub struct Trial<'a> {
     pub ids: Vec<u16>,
 }
 
-/// The events of a trial over a bus: for each node and each of the slots 4 to 13 a `key` event, and then `count` events,
-/// 1 to 60,000, that the seed gives. Each is one that a script can have, and they are at most 60,080.
+/// The events of a trial over a bus: for each node and each of the slots 4 to 13 a `key` event, and then `count`
+/// events, 1 to 60,000, that the seed gives. Each is one that a script can have, and they are at most 60,080.
 pub fn make_trial(
     alloc: Global,
     bus: &BusConfig,

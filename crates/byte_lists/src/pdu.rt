@@ -45,8 +45,8 @@ impl Pdu {
         })
     }
 
-    /// The PDU of the `len` bytes that `fill` leaves: it gets as many zeros, and writes over them in their place. `None` where `len` is more
-    /// than 64, or where `fill` answers false.
+    /// The PDU of the `len` bytes that `fill` leaves: it gets as many zeros, and writes over them in their place.
+    /// `None` where `len` is more than 64, or where `fill` answers false.
     pub fn filled_by<F: FnOnce(&mut [u8]) -> bool>(len: usize, fill: F) -> Option<Pdu>
         requires { F.IsAlwaysCallable fill }
         ensures too_long { 64 < len → IsNone result }

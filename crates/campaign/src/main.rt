@@ -1,9 +1,9 @@
-//! `campaign`: issues key updates (SHE specification, memory update) for many units and records which were confirmed, in
-//! a ledger that survives power cuts.
+//! `campaign`: issues key updates (SHE specification, memory update) for many units and records which were confirmed,
+//! in a ledger that survives power cuts.
 //!
-//! [`run_campaign`] is the program; its clauses say what each status means and what is printed. This file makes the objects
-//! that it works on: standard output, standard input or the script's file, and the disk over the file that the second
-//! word names. Without words behind its name the program runs an example over memory.
+//! [`run_campaign`] is the program; its clauses say what each status means and what is printed. This file makes the
+//! objects that it works on: standard output, standard input or the script's file, and the disk over the file that the
+//! second word names. Without words behind its name the program runs an example over memory.
 #![tactic(auto)]
 
 ghost use Rattle.std.specs.Prelude.{◌≡◌, ◌≢◌, ◌⊎◌, [], length, map, string_bytes};

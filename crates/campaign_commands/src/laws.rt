@@ -6,8 +6,8 @@ use campaign_machine::{
     issued_requests_are_allowed, issued_requests_build_their_updates, no_entry_goes_away,
 };
 
-/// What was done of a campaign over a disk that tells its bytes, none of them loose, is one run of the machine, and all of
-/// `Campaigned` holds of it.
+/// What was done of a campaign over a disk that tells its bytes, none of them loose, is one run of the machine, and all
+/// of `Campaigned` holds of it.
 pub fn campaigns_are_runs()
     ensures { CampaignsAreRuns }
 {

@@ -35,8 +35,8 @@ pub fn small_disk_refusal() -> Refusal
     Refusal::fixed(9, "disks: too small\n")
 }
 
-/// The refusal of a disk without a ledger, with the text that names its cause; or want of memory, also for a text with a
-/// number. Telling a disk that failed, or has no store, takes no memory.
+/// The refusal of a disk without a ledger, with the text that names its cause; or want of memory, also for a text with
+/// a number. Telling a disk that failed, or has no store, takes no memory.
 pub fn no_ledger_refusal(alloc: Global, cause: NoLedgerCause) -> Refusal
     ensures { IsNoLedgerRow cause result }
 {

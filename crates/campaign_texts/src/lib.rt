@@ -9,7 +9,8 @@
 //! | `stop CALLS` | from the call of this number on each call of the disk fails |
 //! | `fail CALLS` | the call of this number fails |
 //!
-//! UID is 30 hexadecimal digits, not all 0; the other words are those of scripts of a bus. Lines are cut, skipped and counted as there.
+//! UID is 30 hexadecimal digits, not all 0; the other words are those of scripts of a bus. Lines are cut, skipped and
+//! counted as there.
 #![tactic(auto)]
 
 mod kinds;

@@ -59,8 +59,8 @@ fn read_fields(kind: CommandKind, words: &Words<'_>) -> Result<LedgerCommand, Li
 }
 
 /// The commands of a script: at most 65,536 lines that aren't skipped; or the first fault, by the line it stands in. A
-/// line's cause is the first of: too many commands, no command's name, a wrong number of words, and the lowest word that
-/// isn't of its form.
+/// line's cause is the first of: too many commands, no command's name, a wrong number of words, and the lowest word
+/// that isn't of its form.
 #[tactic(auto, unfolding(crate::specs::CommandForms::campaign_of))]
 pub fn read_campaign(alloc: Global, text: &[u8]) -> Result<Vec<LedgerCommand>, ScriptFault>
     requires { length text.now < 2 ^ 32 }

@@ -1,4 +1,5 @@
--- Each acceptance has one arrow, from the row of the event that it names, or from the left edge, and there is no other arrow to one
+-- Each acceptance has one arrow, from the row of the event that it names, or from the left edge, and there is no other
+-- arrow to one
 use Rattle.std.specs.Prelude.{◌≡◌, ℕ, ◌+◌, ◌-◌, ◌<◌, ◌==◌, true, false, filter, option_map, Option, None, Some, List, [], ◌∷◌, ◌++◌, length, slice_get}
 use Rattle.std.proofs.Common.{refl, sym, ◌∙◌, ap, subst, arith, inl, inr, append_assoc, length-append}
 use Rattle.std.proofs.lemmas.Bool.{cond-true, cond-false, eq-eqb, ne_eqb}

@@ -13,7 +13,8 @@ pub fn arrows_are_acceptances()
 }
 
 /// In each run from a first world, behind each row a lifeline is drawn down exactly where its node is down in the world
-/// behind that row, and it is drawn up exactly where the node is up, but that it may be left out beside the sign of a cut.
+/// behind that row, and it is drawn up exactly where the node is up, but that it may be left out beside the sign of a
+/// cut.
 pub fn down_is_drawn_down()
     ensures { DownIsDrawnDown }
 {}

@@ -13,8 +13,8 @@ use std::alloc::AllocError;
 pub const WIDEST_WINDOW: u16 = 256;
 
 /// Adds the text of the verdict on a Secured I-PDU of 5 to 64 bytes, under the key of this schedule, and by a receiver
-/// with this Data ID, window (1 to 256) and counter. Where it is accepted, the counter is its freshness. In room for 158
-/// bytes no memory is taken.
+/// with this Data ID, window (1 to 256) and counter. Where it is accepted, the counter is its freshness. In room for
+/// 158 bytes no memory is taken.
 pub fn push_verdict(
     schedule: &Schedule,
     id: u16,

@@ -24,7 +24,8 @@ pub struct MemDisk {
     synced: Vec<u8>,
     /// For each byte whether it was written since then.
     loose: Vec<bool>,
-    /// The range of the bytes that were written since then: outside of it none is loose, and each is that of the last sync.
+    /// The range of the bytes that were written since then: outside of it none is loose, and each is that of the last
+    /// sync.
     from: usize,
     to: usize,
     arms: Arms,

@@ -8,8 +8,8 @@ use crate::{Mark, Memory};
 use std::alloc::Global;
 use std::marker::Model;
 
-/// An entry of a past: the bytes and the loose marks that a call left, and the mark of the call, which a read, a write and a
-/// sync don't have.
+/// An entry of a past: the bytes and the loose marks that a call left, and the mark of the call, which a read, a write
+/// and a sync don't have.
 #[derive(Drop)]
 pub struct PastEntry {
     pub bytes: Vec<u8>,

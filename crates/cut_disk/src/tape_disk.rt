@@ -13,8 +13,8 @@ use crate::tape::{PastEntry, Tape};
 use crate::{CutDisk, Disk, DiskFailed, Mark, MemDisk, Memory, Torn};
 use std::alloc::Global;
 
-/// A disk in memory, a [`MemDisk`] in every call, that also tells its past: its first state without a mark, and an entry for
-/// each call, with the whole state that the call left. It tells its past while that has no more entries than
+/// A disk in memory, a [`MemDisk`] in every call, that also tells its past: its first state without a mark, and an
+/// entry for each call, with the whole state that the call left. It tells its past while that has no more entries than
 /// there is room for, and tells none from the next call on. It takes memory only when it is made.
 #[derive(Drop)]
 pub struct TapeDisk {

@@ -1,9 +1,8 @@
 //! Counts of faults.
 //!
-//! Each source, sink and disk has a count of its faults, of 64 bits. It rises at each call that fails (that of the ports and
-//! disks of this repository by one), never falls, and
-//! stands still at its last value. So a caller that hands such an object on sees afterwards whether a fault came in between:
-//! the count then rose, or stands at its last value.
+//! Each source, sink and disk has a count of its faults, of 64 bits. It rises at each call that fails (that of the
+//! ports and disks of this repository by one), never falls, and stands still at its last value. So a caller that hands
+//! such an object on sees afterwards whether a fault came in between: the count then rose, or stands at its last value.
 #![tactic(auto)]
 
 ghost use Rattle.std.specs.Prelude.{◌≡◌, ◌⊎◌, ℕ, ◌<◌, ◌≤◌, ◌↔◌};

@@ -7,13 +7,14 @@ ghost use Rattle.file_disk.specs.FileCalls.{FileCall, ReadAt, WriteAt, SyncAll, 
 #[derive(Clone, Copy, Debug, PartialEq, Eq, Drop)]
 pub struct FileFailed;
 
-/// A file of bytes at offsets from 0. It may tell which calls were made of it, and what its bytes are. One that tells its
-/// bytes reads as it was written.
+/// A file of bytes at offsets from 0. It may tell which calls were made of it, and what its bytes are. One that tells
+/// its bytes reads as it was written.
 pub trait ByteFile {
     /// Whether there is a file at all. Where there is none each call fails.
     ghost is_open: { Self → Bool };
 
-    /// The calls so far, the oldest first, each with what it read or wrote and whether it was Ok, if the file tells them.
+    /// The calls so far, the oldest first, each with what it read or wrote and whether it was Ok, if the file tells
+    /// them.
     ghost calls: { Self → Option (List FileCall) };
 
     /// Its bytes, as a read gives them, if the file tells them.

@@ -17,9 +17,10 @@ use cut_disk::{Arms, CutDisk, Disk, DiskFailed, Torn, count_call};
 use fault_count::count_fault;
 use std::alloc::{AllocError, Global};
 
-/// A disk over one file. It tells the bytes that its file tells, if that tells any, and no past, and is never quiet: any call of the
-/// file may fail. A byte is loose that was written since the last sync that was Ok, or the last power cut. That takes nothing from
-/// the file and syncs it, so that what is read behind it is what a cut of the system's own power leaves.
+/// A disk over one file. It tells the bytes that its file tells, if that tells any, and no past, and is never quiet:
+/// any call of the file may fail. A byte is loose that was written since the last sync that was Ok, or the last power
+/// cut. That takes nothing from the file and syncs it, so that what is read behind it is what a cut of the system's own
+/// power leaves.
 #[derive(Drop)]
 pub struct FileDisk<F: ByteFile = HeldFile<SystemFile>> {
     file: F,
@@ -38,10 +39,11 @@ pub struct FileDisk<F: ByteFile = HeldFile<SystemFile>> {
 impl FileDisk<HeldFile<SystemFile>> {
     ghost use Rattle.file_disk.specs.FileDisk.{file_contents, IsJustOpened};
 
-    /// A disk over the file at this path, which is made with 65,536 zero bytes where it isn't there. It tells its bytes: those that
-    /// the file reads as now, of a longer file the first 131,072, which alone are the disk. They are held in memory. A file that can
-    /// be neither opened nor made, or not read, is a disk of 65,536 zero bytes, each of whose reads, writes and syncs fails. Where
-    /// there is no memory nothing is opened or made. Which file is opened, and what is read of it, no clause says.
+    /// A disk over the file at this path, which is made with 65,536 zero bytes where it isn't there. It tells its
+    /// bytes: those that the file reads as now, of a longer file the first 131,072, which alone are the disk. They are
+    /// held in memory. A file that can be neither opened nor made, or not read, is a disk of 65,536 zero bytes, each of
+    /// whose reads, writes and syncs fails. Where there is no memory nothing is opened or made. Which file is opened,
+    /// and what is read of it, no clause says.
     pub fn on(
         alloc: Global,
         rt: &HostRuntime,

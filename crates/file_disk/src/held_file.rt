@@ -8,13 +8,13 @@ use crate::byte_file::{ByteFile, FileFailed};
 use crate::system_file::{FIRST_SIZE, SystemFile};
 use std::alloc::{AllocError, Global};
 
-/// How many bytes are held at most, from the first one on. The largest store, a log store of 1,024 cells in version 2, ends
-/// behind 102,820 bytes; this is the power of two above it.
+/// How many bytes are held at most, from the first one on. The largest store, a log store of 1,024 cells in version 2,
+/// ends behind 102,820 bytes; this is the power of two above it.
 pub const MOST_HELD: usize = 131_072;
 
-/// A file that tells its bytes: those that it read as when it was opened, and what was written to it since then. They are
-/// held in memory, and each read of the file below is compared with them. One that gives other bytes fails, and so does
-/// each call behind it: a file that doesn't read as it was written keeps nothing.
+/// A file that tells its bytes: those that it read as when it was opened, and what was written to it since then. They
+/// are held in memory, and each read of the file below is compared with them. One that gives other bytes fails, and so
+/// does each call behind it: a file that doesn't read as it was written keeps nothing.
 ///
 /// Where there is no file it tells 65,536 zero bytes, and each of its calls fails.
 #[derive(Drop)]
@@ -31,8 +31,8 @@ pub struct HeldFile<F: ByteFile = SystemFile> {
 impl HeldFile<SystemFile> {
     ghost use Rattle.file_disk.specs.HeldFile.{held_contents, HoldsSystem};
 
-    /// The file of the system at this path, as [`SystemFile::on`] opens or makes it. Its first bytes are read at once, at most
-    /// 131,072; where that fails there is no file. Room is asked for before anything is opened or made. Which
+    /// The file of the system at this path, as [`SystemFile::on`] opens or makes it. Its first bytes are read at once,
+    /// at most 131,072; where that fails there is no file. Room is asked for before anything is opened or made. Which
     /// file is opened, and what is read of it, no clause says.
     pub fn on(
         alloc: Global,
@@ -58,8 +58,8 @@ pub fn room_to_hold(alloc: Global) -> Result<Vec<u8>, AllocError>
 impl<F: ByteFile> HeldFile<F> {
     ghost use Rattle.file_disk.specs.HeldFile.{held_contents, is_asked, HoldsFirst};
 
-    /// Holds the first bytes of this file of so many, which are all that it tells, if it tells any. They are read at once;
-    /// where that fails there is no file.
+    /// Holds the first bytes of this file of so many, which are all that it tells, if it tells any. They are read at
+    /// once; where that fails there is no file.
     pub fn over(file: F, size: u64, room: Vec<u8>) -> HeldFile<F>
         requires sized { TellsSize size (F.told file) }
         requires room { length room.items ≡ MOST_HELD }

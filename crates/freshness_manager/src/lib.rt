@@ -3,8 +3,9 @@
 //!
 //! A sender puts a bound before it uses a freshness above the old one, a receiver before it accepts
 //! one, and each begins again at its bound: at least at each freshness that was used or accepted.
-//! That none is used twice under one Data ID, where no Data ID is sent by two nodes, nor accepted twice by one node under one, are laws of
-//! the machine of a bus. A reserve of 1 to 128 says how far a bound moves ahead, so that not every PDU is a put.
+//! That none is used twice under one Data ID, where no Data ID is sent by two nodes, nor accepted twice by one node
+//! under one, are laws of the machine of a bus. A reserve of 1 to 128 says how far a bound moves ahead, so that not
+//! every PDU is a put.
 //!
 //! No call takes memory.
 #![tactic(auto)]

@@ -33,9 +33,9 @@ CutShort Comes e unwritten.SinkFailed = PrintsFront Comes e
 CutShort Comes e unwritten.Memory = Comes memory_row × PrintsWhole e []
 
 -- what is told and done where the sink fails, or memory is wanting: the words are of another form, or an input isn't
--- valid, wasn't read to its end or found no memory, and every disk is as before; or the first is as before, or stands in every image for the first
--- node's cells, or its count rose; or the first events were done, with the texts of all their lines but the last, and a
--- front of this one
+-- valid, wasn't read to its end or found no memory, and every disk is as before; or the first is as before, or stands
+-- in every image for the first node's cells, or its count rose; or the first events were done, with the texts of all
+-- their lines but the last, and a front of this one
 pub data EndsEarly (same : Type 0) (i : GatewayInputs) (d : DiskStates) (e : Ending) (cause : Unwritten) : Type 0 where
   unprepared : same → CutShort (RowOfInputs i) e cause → EndsEarly same i d e cause
   unstarted : OverGateway i

@@ -1,4 +1,5 @@
--- What one event does to the node of a gateway: it stays sound, no counter falls, and a freshness that is told was above its counter
+-- What one event does to the node of a gateway: it stays sound, no counter falls, and a freshness that is told was
+-- above its counter
 use Rattle.std.specs.Prelude.{◌≡◌, ℕ, ◌<◌, ◌≤◌, Option, None, Some, List, length}
 use Rattle.std.proofs.Common.{refl, sym, ap, subst, arith}
 use Rattle.freshness_routes.specs.declared.routes.Direction.{Direction}

@@ -1,8 +1,8 @@
-//! The machine of a re-authenticating gateway: a node that verifies each Secured I-PDU that arrives under the first Data ID of a pair, and
-//! sends its payload anew under the second, with that route's key and freshness.
+//! The machine of a re-authenticating gateway: a node that verifies each Secured I-PDU that arrives under the first
+//! Data ID of a pair, and sends its payload anew under the second, with that route's key and freshness.
 //!
-//! The machine is a text of definitions over any relation of a node's steps, in `specs/`; here stand the type of its lines, and the laws
-//! over all its runs, each as the contract of a function without parameters and with an empty body.
+//! The machine is a text of definitions over any relation of a node's steps, in `specs/`; here stand the type of its
+//! lines, and the laws over all its runs, each as the contract of a function without parameters and with an empty body.
 #![tactic(auto)]
 
 mod laws;

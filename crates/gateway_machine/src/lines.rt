@@ -28,6 +28,7 @@ pub enum GatewayLine {
         /// Why its payload wasn't sent.
         refusal: Refusal,
     },
-    /// What the node tells: of an arrival under the first Data ID of a pair that wasn't accepted, or of any other event.
+    /// What the node tells: of an arrival under the first Data ID of a pair that wasn't accepted, or of any other
+    /// event.
     OfNode(Line),
 }

@@ -13,8 +13,8 @@ pub enum LedgerFault {
     Full,
     /// The counter 2^28 - 1 was issued for this unit and slot.
     Spent,
-    /// A call of the disk failed in this call. The ledger is down; what was to be put is there whole or not at all after
-    /// the next power-up.
+    /// A call of the disk failed in this call. The ledger is down; what was to be put is there whole or not at all
+    /// after the next power-up.
     Faulted,
     /// There is no entry for this unit and slot.
     Unknown,
@@ -39,7 +39,7 @@ pub struct BadEntry<C> {
 pub enum LedgerCut {
     /// The store couldn't be read anew.
     Store(Reread),
-    /// The store was read anew, and this cell, the lowest, is neither empty nor an entry, or repeats an earlier one's unit
-    /// and slot.
+    /// The store was read anew, and this cell, the lowest, is neither empty nor an entry, or repeats an earlier one's
+    /// unit and slot.
     BadEntry(u16),
 }

@@ -16,8 +16,8 @@ pub fn a_place_has_a_cell_of_32_bytes()
     ensures { (place : Option LedgerEntry) → IsLedgerPlace place → IsBytes 32 (place_cell place) }
 {}
 
-/// Cells tell entries one-to-one: a cell is the cell of at most one place, empty or an entry, and a list of cells is that
-/// of at most one list of places.
+/// Cells tell entries one-to-one: a cell is the cell of at most one place, empty or an entry, and a list of cells is
+/// that of at most one list of places.
 pub fn cells_tell_entries()
     ensures cell { (cell : List ℕ) (place other : Option LedgerEntry)
         → HoldsPlace cell place → HoldsPlace cell other → place ≡ other }
@@ -25,7 +25,8 @@ pub fn cells_tell_entries()
         → HoldEntries cells others → entries ≡ others }
 {}
 
-/// A disk without a loose byte that stands for the cells of a ledger's entries fits the ledger that powers up with them.
+/// A disk without a loose byte that stands for the cells of a ledger's entries fits the ledger that powers up with
+/// them.
 pub fn a_settled_disk_fits_its_ledger()
     ensures { (layout : Layout) (entries : List (Option LedgerEntry)) (bytes : List ℕ)
         → Stands layout bytes (ledger_cells entries)

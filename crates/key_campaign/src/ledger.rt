@@ -26,8 +26,8 @@ use memory_update::{Reply, Request, Uid, Update, build, is_confirmed};
 use she_aes::Block;
 use std::marker::Model;
 
-/// The ledger of a key campaign over a store of cells. Contracts see the machine's ledger and the state of the store. The
-/// ledger is always sound, and while it is up its store has the cells of its entries.
+/// The ledger of a key campaign over a store of cells. Contracts see the machine's ledger and the state of the store.
+/// The ledger is always sound, and while it is up its store has the cells of its entries.
 #[derive(Drop)]
 pub struct Ledger<C: Cells> {
     entries: Places,
@@ -51,8 +51,8 @@ impl<C: Cells> Model for Ledger<C> {
 }
 
 impl<C: Cells> Ledger<C> {
-    /// The ledger over a store of 256 cells. `BadEntry` exactly where a cell is neither empty nor an entry, or repeats the
-    /// unit and slot of an earlier one; the lowest is named, and the cells are handed back as they were.
+    /// The ledger over a store of 256 cells. `BadEntry` exactly where a cell is neither empty nor an entry, or repeats
+    /// the unit and slot of an earlier one; the lowest is named, and the cells are handed back as they were.
     pub fn attach(cells: C) -> Result<Ledger<C>, BadEntry<C>>
         requires count { length (C.state cells).cells ≡ place_count }
         requires whole { (C.state cells).broken ≡ false }
@@ -75,8 +75,8 @@ impl<C: Cells> Ledger<C> {
         }
     }
 
-    // Puts an entry into its place, in the store and then in memory. Where the disk fails, the change is pending and the
-    // ledger down.
+    // Puts an entry into its place, in the store and then in memory. Where the disk fails, the change is pending and
+    // the ledger down.
     fn put(&mut self, place: u16, entry: LedgerEntry) -> Result<(), PutFailed>
         requires up { self.old.campaign.up ≡ true }
         requires advances { Advances self.old.campaign.entries (record { place = place; entry = entry }) }
@@ -172,8 +172,8 @@ impl<C: Cells> Ledger<C> {
 
     /// Records that a unit's engine confirmed the update that was issued last for its slot `id`, with this new key and
     /// authorised by the key of slot `auth` (SHE specification, memory update); gives the update's counter. Errors, in
-    /// their order: `Down`, `Unknown`, `AlreadyConfirmed`, `NotConfirmed`, `Faulted`. After each of them but `Faulted` all is
-    /// as before, and no call of the disk was made.
+    /// their order: `Down`, `Unknown`, `AlreadyConfirmed`, `NotConfirmed`, `Faulted`. After each of them but `Faulted`
+    /// all is as before, and no call of the disk was made.
     pub fn confirm(
         &mut self,
         uid: Uid,
@@ -234,8 +234,8 @@ impl<C: Cells> Ledger<C> {
         }
     }
 
-    /// The counter that was issued last for a unit and slot, and whether it was confirmed, also while the ledger is down;
-    /// `None` exactly where there is no entry.
+    /// The counter that was issued last for a unit and slot, and whether it was confirmed, also while the ledger is
+    /// down; `None` exactly where there is no entry.
     pub fn show(&self, uid: Uid, id: SlotId) -> Option<(Counter28, bool)>
         ensures { result ≡ option_map told_entry (entry_for uid id self.now.campaign.entries) }
     {
@@ -243,8 +243,8 @@ impl<C: Cells> Ledger<C> {
         Some((entry.counter, entry.confirmed))
     }
 
-    /// Whether the ledger issues and confirms nothing until its power is cut: a call of its disk failed, or a power cut was
-    /// refused, since it was last powered up. Whatever was called before and answered, the ledger is sound.
+    /// Whether the ledger issues and confirms nothing until its power is cut: a call of its disk failed, or a power cut
+    /// was refused, since it was last powered up. Whatever was called before and answered, the ledger is sound.
     pub fn is_down(&self) -> bool
         ensures down { result ≡ not self.now.campaign.up }
         ensures sound { SoundLedger self.now.campaign }
@@ -261,10 +261,10 @@ impl<C: Cells> Ledger<C> {
 }
 
 impl<C: CutCells> Ledger<C> {
-    /// Cuts the power and powers up again, from a ledger that is up as from one that is down: the cells are read anew, so
-    /// that the bytes of the disk stand for them. Errors: `Store` where the store isn't read, then `BadEntry`. The ledger is
-    /// then down, and its entries and its pending change are as before. Over a disk that tells its bytes, and fits the
-    /// ledger, only the disk itself can fail.
+    /// Cuts the power and powers up again, from a ledger that is up as from one that is down: the cells are read anew,
+    /// so that the bytes of the disk stand for them. Errors: `Store` where the store isn't read, then `BadEntry`. The
+    /// ledger is then down, and its entries and its pending change are as before. Over a disk that tells its bytes, and
+    /// fits the ledger, only the disk itself can fail.
     pub fn power_cut(&mut self, torn: Torn) -> Result<(), LedgerCut>
         ensures step { TellsLedger self.old
             → LedgerStep self.old.campaign (LedgerCommand.Cut torn) (ledger_cut_line result) self.new.campaign }
@@ -299,8 +299,8 @@ impl<C: CutCells> Ledger<C> {
         }
     }
 
-    /// Passes on to the disk: from the call of this number on, 1 for the next, each call of the disk fails until the power
-    /// is cut.
+    /// Passes on to the disk: from the call of this number on, 1 for the next, each call of the disk fails until the
+    /// power is cut.
     pub fn stop_at(&mut self, calls: u64)
         requires { 1 ≤ calls }
         ensures step { LedgerStep self.old.campaign (LedgerCommand.Stop calls) LedgerLine.Armed self.new.campaign }

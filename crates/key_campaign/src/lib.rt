@@ -12,12 +12,13 @@
 //! | 21 | 0 where it was issued, 1 where it was confirmed |
 //! | 22 to 31 | zero |
 //!
-//! Each call's contract is a step of the machine of [`campaign_machine`] (a cut's where the disk tells bytes that fit the
-//! ledger): what the call answers stands for one line, and the ledger is then the machine's ledger after that line. An entry is put before its request is answered, so no counter
-//! is issued again after a power cut.
+//! Each call's contract is a step of the machine of [`campaign_machine`] (a cut's where the disk tells bytes that fit
+//! the ledger): what the call answers stands for one line, and the ledger is then the machine's ledger after that line.
+//! An entry is put before its request is answered, so no counter is issued again after a power cut.
 //!
-//! Where the disk fails in a call, the ledger is down, and issues and confirms nothing until its power was cut and it came
-//! up. It remembers the one change that the call was to make: after the power-up that change is there whole or not at all.
+//! Where the disk fails in a call, the ledger is down, and issues and confirms nothing until its power was cut and it
+//! came up. It remembers the one change that the call was to make: after the power-up that change is there whole or not
+//! at all.
 //!
 //! No call takes memory.
 #![tactic(auto)]

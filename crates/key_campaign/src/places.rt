@@ -73,7 +73,8 @@ impl Places {
         find_in(&self.places, uid, id)
     }
 
-    /// The place and the counter of the next update that is issued for this unit and slot. Errors: `Full`, then `Spent`.
+    /// The place and the counter of the next update that is issued for this unit and slot. Errors: `Full`, then
+    /// `Spent`.
     pub fn next(&self, uid: &Uid, id: SlotId) -> Result<(u16, Counter28), LedgerFault>
         ensures next { IfOk result (λ next. IsNext uid.now id self.now next.0 next.1) }
         ensures none { IfErr result (HasNoNext uid.now id self.now) }
@@ -131,8 +132,8 @@ fn read_next<C: Cells>(cells: &C, place: u16, places: &mut Places) -> bool
     }
 }
 
-/// The places that the cells hold. The number of the lowest cell that is neither empty nor an entry, or that repeats the
-/// unit and slot of an earlier one, exactly where there is one.
+/// The places that the cells hold. The number of the lowest cell that is neither empty nor an entry, or that repeats
+/// the unit and slot of an earlier one, exactly where there is one.
 pub fn read_places<C: Cells>(cells: &C) -> Result<Places, u16>
     requires { length (C.state cells.now).cells ≡ place_count }
     ensures places { IfOk result (HoldEntries (C.state cells.now).cells) }
@@ -148,8 +149,8 @@ pub fn read_places<C: Cells>(cells: &C) -> Result<Places, u16>
     Ok(places)
 }
 
-/// Puts the cell of an entry, with the conditions and answers of a put. Where it fails, the cell on the disk is as before
-/// or the entry's, whatever a power cut leaves.
+/// Puts the cell of an entry, with the conditions and answers of a put. Where it fails, the cell on the disk is as
+/// before or the entry's, whatever a power cut leaves.
 pub fn put_entry<C: Cells>(cells: &mut C, place: u16, entry: &LedgerEntry) -> Result<(), PutFailed>
     requires place { place < length (C.state cells.old).cells }
     requires whole { (C.state cells.old).broken ≡ false }

@@ -148,8 +148,8 @@ pending_moves i t slot world m step p = elim (eqb_tells i (node_of m.command)) [
 
 -- ---- several stages
 
--- slot t of node i, which holds this behind the stages, held it before them, or a moment of them put it there, or it was
--- pending
+-- slot t of node i, which holds this behind the stages, held it before them, or a moment of them put it there, or it
+-- was pending
 abbrev Renewed : ℕ → ℕ → World → List Stage → Slot → Type 0
 Renewed i t world xs final =
     (final ≡ slot_in world i t) ⊎ (AtSomeStage (RenewsSlot i t final) world xs ⊎ ((node_at world i).pending ≡ Some (slot_to t final)))

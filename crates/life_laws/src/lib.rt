@@ -1,6 +1,6 @@
-//! What holds over all lives of a bus: over runs of it, one after another over the same disks, which tell their bytes; each
-//! ends as its program does, or loses its power (that a killed process is such a run is how the definition is read). It is
-//! what a user of real files asks for.
+//! What holds over all lives of a bus: over runs of it, one after another over the same disks, which tell their bytes;
+//! each ends as its program does, or loses its power (that a killed process is such a run is how the definition is
+//! read). It is what a user of real files asks for.
 //!
 //! Here are definitions and laws alone: the body of each function has calls of the laws below at most, and its contract
 //! is the law.

@@ -13,7 +13,8 @@ use trace_audit::open_inputs;
 
 /// Watches what two words name, the map's word first, and gives the status that the program ends with, and the sources
 /// of the map and of the log as the watch left them. `-` is the input, which is handed in once for each word; where
-/// both are `-`, the map has it, and the log is missing. Of other words nothing is opened, and both sources are missing.
+/// both are `-`, the map has it, and the log is missing. Of other words nothing is opened, and both sources are
+/// missing.
 pub fn watch_words<O: Opener, I: Source + Drop, K: Sink>(
     alloc: Global,
     opener: &O,

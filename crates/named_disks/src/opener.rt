@@ -14,8 +14,8 @@ pub trait DiskOpener {
     /// What is known of a disk that is opened by this word.
     ghost opens: { Self → List ℕ → DiskState → Type 0 };
 
-    /// The disk that the word opens, which tells its bytes. Where nothing can be opened it is one each of whose reads, writes
-    /// and syncs fails. Where there is no memory for it nothing is opened, which no clause says.
+    /// The disk that the word opens, which tells its bytes. Where nothing can be opened it is one each of whose reads,
+    /// writes and syncs fails. Where there is no memory for it nothing is opened, which no clause says.
     fn open(&self, alloc: Global, word: &str) -> Result<Self::Opened, AllocError>
         ensures opened { IfOk result (λ disk. opens self.now word.now (Self.Opened.state disk)) }
         ensures tells { IfOk result (λ disk. TellsFirmBytes (Self.Opened.state disk)) };

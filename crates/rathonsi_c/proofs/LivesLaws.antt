@@ -26,7 +26,8 @@ pub record Elsewhere (image : List ℕ) (plan : Plan) (cell : ℕ) : Type 0 wher
   pub apart : place ≢ cell
   pub plans : PlansPut plan image place new
 
--- what holds of a route at all times: its counter is at most the bound in the image, and what is planned doesn't lower that
+-- what holds of a route at all times: its counter is at most the bound in the image, and what is planned doesn't lower
+-- that
 pub record Holds (image : List ℕ) (plan : Plan) (r : RathonsiRoute) : Type 0 where
   pub direction : Direction
   pub ranges : InRanges r direction

@@ -11,8 +11,8 @@ use crate::{BAD_LENGTH, OK};
 use she_aes::{Block, Schedule, decrypt, encrypt};
 use she_cmac::cmac;
 
-/// Encrypts a text of whole blocks in place, each block by itself (ECB, SP 800-38A, section 6.1). The key has 16 bytes, the text a
-/// multiple of 16, which may be 0; else it is `BAD_LENGTH`.
+/// Encrypts a text of whole blocks in place, each block by itself (ECB, SP 800-38A, section 6.1). The key has 16 bytes,
+/// the text a multiple of 16, which may be 0; else it is `BAD_LENGTH`.
 #[unsafe(no_mangle)]
 pub extern "C" fn rathonsi_aes128_encrypt(key: &[u8], text: &mut [u8]) -> i32
     ensures done { (result ≡ OK) ↔ TakesText key.now text.old }
@@ -48,8 +48,8 @@ pub extern "C" fn rathonsi_aes128_decrypt(key: &[u8], text: &mut [u8]) -> i32
     OK
 }
 
-/// Encrypts a text of whole blocks in place, chained from an IV of 16 bytes (CBC, SP 800-38A, section 6.2). Lengths as for
-/// [`rathonsi_aes128_encrypt`].
+/// Encrypts a text of whole blocks in place, chained from an IV of 16 bytes (CBC, SP 800-38A, section 6.2). Lengths as
+/// for [`rathonsi_aes128_encrypt`].
 #[unsafe(no_mangle)]
 pub extern "C" fn rathonsi_aes128_cbc_encrypt(key: &[u8], iv: &[u8; 16], text: &mut [u8]) -> i32
     ensures done { (result ≡ OK) ↔ TakesText key.now text.old }
@@ -85,8 +85,8 @@ pub extern "C" fn rathonsi_aes128_cbc_decrypt(key: &[u8], iv: &[u8; 16], text: &
     OK
 }
 
-/// Writes the CMAC of a message of any length to `mac`, all 16 bytes (SP 800-38B, section 6.2). The key has 16 bytes; else it is
-/// `BAD_LENGTH`.
+/// Writes the CMAC of a message of any length to `mac`, all 16 bytes (SP 800-38B, section 6.2). The key has 16 bytes;
+/// else it is `BAD_LENGTH`.
 #[unsafe(no_mangle)]
 pub extern "C" fn rathonsi_cmac(key: &[u8], message: &[u8], mac: &mut [u8; 16]) -> i32
     ensures done { (result ≡ OK) ↔ IsKey key.now }

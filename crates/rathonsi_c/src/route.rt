@@ -156,8 +156,8 @@ fn may_send(route: &RathonsiRoute, image: &[u8]) -> Result<Sending, Refusal>
     Ok(Sending { key, freshness })
 }
 
-/// Sets the counter to the bound that the image keeps. `BAD_VALUE`: a number of the route is outside its range. `DAMAGED`: its cell is
-/// no bound of this Data ID and direction.
+/// Sets the counter to the bound that the image keeps. `BAD_VALUE`: a number of the route is outside its range.
+/// `DAMAGED`: its cell is no bound of this Data ID and direction.
 #[unsafe(no_mangle)]
 pub extern "C" fn rathonsi_route_open(route: &mut RathonsiRoute, image: &[u8]) -> i32
     ensures answer { OpenAnswers route.old image.now result }
@@ -176,8 +176,8 @@ pub extern "C" fn rathonsi_route_open(route: &mut RathonsiRoute, image: &[u8]) -
     }
 }
 
-/// Plans the bound that covers this freshness and a reserve less one above it. The plan stays empty where the bound in the image is as
-/// high already. `BUSY`, `BAD_VALUE`, `DAMAGED`: the first that applies.
+/// Plans the bound that covers this freshness and a reserve less one above it. The plan stays empty where the bound in
+/// the image is as high already. `BUSY`, `BAD_VALUE`, `DAMAGED`: the first that applies.
 #[unsafe(no_mangle)]
 pub extern "C" fn rathonsi_route_reserve(
     route: &RathonsiRoute,
@@ -216,9 +216,9 @@ pub extern "C" fn rathonsi_route_reserve(
     }
 }
 
-/// Writes the Secured I-PDU of a payload of 1 to 60 bytes, with the freshness above the counter, to the front of `pdu`, which has room
-/// for four bytes more than the payload. That freshness becomes the counter. `BAD_LENGTH`, `BAD_VALUE`, `DAMAGED`, `KEY_EMPTY`,
-/// `KEY_INVALID`, `KEY_NOT_AVAILABLE`, `EXHAUSTED`, `RESERVE`: the first that applies.
+/// Writes the Secured I-PDU of a payload of 1 to 60 bytes, with the freshness above the counter, to the front of `pdu`,
+/// which has room for four bytes more than the payload. That freshness becomes the counter. `BAD_LENGTH`, `BAD_VALUE`,
+/// `DAMAGED`, `KEY_EMPTY`, `KEY_INVALID`, `KEY_NOT_AVAILABLE`, `EXHAUSTED`, `RESERVE`: the first that applies.
 #[unsafe(no_mangle)]
 pub extern "C" fn rathonsi_route_send(
     route: &mut RathonsiRoute,
@@ -280,9 +280,10 @@ fn answer(judgement: Judgement, bound: u64, payload: &[u8]) -> RathonsiVerdict
     }
 }
 
-/// Judges a PDU of 5 to 64 bytes. `OK`: it is accepted, and its freshness becomes the counter. `RESERVE`: its authenticator agrees, and
-/// the same call accepts it once its freshness is reserved. `BAD_LENGTH`, `BAD_VALUE`, `DAMAGED`, `KEY_EMPTY`, `KEY_INVALID`,
-/// `KEY_NOT_AVAILABLE`, `FRESHNESS_FAILURE`, `VERIFICATION_FAILURE`: the first that applies.
+/// Judges a PDU of 5 to 64 bytes. `OK`: it is accepted, and its freshness becomes the counter. `RESERVE`: its
+/// authenticator agrees, and the same call accepts it once its freshness is reserved. `BAD_LENGTH`, `BAD_VALUE`,
+/// `DAMAGED`, `KEY_EMPTY`, `KEY_INVALID`, `KEY_NOT_AVAILABLE`, `FRESHNESS_FAILURE`, `VERIFICATION_FAILURE`: the first
+/// that applies.
 #[unsafe(no_mangle)]
 pub extern "C" fn rathonsi_route_receive(
     route: &mut RathonsiRoute,

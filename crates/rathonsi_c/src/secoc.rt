@@ -18,13 +18,13 @@ pub struct RathonsiVerdict {
     pub status: i32,
     /// The length in bytes of the payload, which stands at the front of the PDU; 0 where the PDU isn't accepted.
     pub payload_length: u32,
-    /// The full freshness, which is the receiver's next counter; 0 where the PDU isn't accepted, but for the status RESERVE
-    /// of `rathonsi_route_receive`, with which it is the freshness to reserve.
+    /// The full freshness, which is the receiver's next counter; 0 where the PDU isn't accepted, but for the status
+    /// RESERVE of `rathonsi_route_receive`, with which it is the freshness to reserve.
     pub freshness: u64,
 }
 
-/// Writes the Secured I-PDU of a payload of 1 to 60 bytes to the front of `pdu`, which has room for four bytes more than the payload.
-/// With another length of key, payload or buffer it is `BAD_LENGTH`.
+/// Writes the Secured I-PDU of a payload of 1 to 60 bytes to the front of `pdu`, which has room for four bytes more
+/// than the payload. With another length of key, payload or buffer it is `BAD_LENGTH`.
 #[unsafe(no_mangle)]
 pub extern "C" fn rathonsi_secoc_protect(
     key: &[u8],
@@ -53,8 +53,8 @@ pub extern "C" fn rathonsi_secoc_protect(
     OK
 }
 
-/// Makes the Secured I-PDU of the payload that stands in the first `payload_length` bytes of `pdu`, in place. Lengths as for
-/// [`rathonsi_secoc_protect`].
+/// Makes the Secured I-PDU of the payload that stands in the first `payload_length` bytes of `pdu`, in place. Lengths
+/// as for [`rathonsi_secoc_protect`].
 #[unsafe(no_mangle)]
 pub extern "C" fn rathonsi_secoc_protect_in_place(
     key: &[u8],
@@ -84,8 +84,9 @@ pub extern "C" fn rathonsi_secoc_protect_in_place(
     OK
 }
 
-/// Says what a receiver with this counter and a window of 1 to 256 says of a PDU of 5 to 64 bytes. With another length of key or PDU
-/// it is `BAD_LENGTH`, and else with another window `BAD_VALUE`. What is accepted has its payload at its front.
+/// Says what a receiver with this counter and a window of 1 to 256 says of a PDU of 5 to 64 bytes. With another length
+/// of key or PDU it is `BAD_LENGTH`, and else with another window `BAD_VALUE`. What is accepted has its payload at its
+/// front.
 #[unsafe(no_mangle)]
 pub extern "C" fn rathonsi_secoc_verify(
     key: &[u8],

@@ -53,8 +53,8 @@ pub struct RathonsiReply {
     pub m5: [u8; 16],
 }
 
-/// Writes the key that is derived from a key of 16 bytes to `derived`, with KEY_UPDATE_ENC_C for 1 and KEY_UPDATE_MAC_C for 2. Another
-/// length of the key is `BAD_LENGTH`, and else another constant `BAD_VALUE`.
+/// Writes the key that is derived from a key of 16 bytes to `derived`, with KEY_UPDATE_ENC_C for 1 and KEY_UPDATE_MAC_C
+/// for 2. Another length of the key is `BAD_LENGTH`, and else another constant `BAD_VALUE`.
 #[unsafe(no_mangle)]
 pub extern "C" fn rathonsi_she_derive(key: &[u8], constant: u32, derived: &mut [u8; 16]) -> i32
     ensures done { (result ≡ OK) ↔ (IsKey key.now × IsConstant constant) }
@@ -78,8 +78,8 @@ pub extern "C" fn rathonsi_she_derive(key: &[u8], constant: u32, derived: &mut [
     }
 }
 
-/// Writes the request M1, M2, M3 that puts the update into an engine whose slot `auth` holds the authorising key, of 16 bytes. Another
-/// length of the key is `BAD_LENGTH`, and else a number of the update outside its range `BAD_VALUE`.
+/// Writes the request M1, M2, M3 that puts the update into an engine whose slot `auth` holds the authorising key, of 16
+/// bytes. Another length of the key is `BAD_LENGTH`, and else a number of the update outside its range `BAD_VALUE`.
 #[unsafe(no_mangle)]
 pub extern "C" fn rathonsi_she_make_update(
     authkey: &[u8],
@@ -102,8 +102,9 @@ pub extern "C" fn rathonsi_she_make_update(
     OK
 }
 
-/// Reads the update that a request carries under the authorising key, of 16 bytes; its padding bits aren't examined. Another length of
-/// the key is `BAD_LENGTH`; else an M1 that names no slots is `BAD_ID`, and else an M3 that differs `BAD_MAC`.
+/// Reads the update that a request carries under the authorising key, of 16 bytes; its padding bits aren't examined.
+/// Another length of the key is `BAD_LENGTH`; else an M1 that names no slots is `BAD_ID`, and else an M3 that differs
+/// `BAD_MAC`.
 #[unsafe(no_mangle)]
 pub extern "C" fn rathonsi_she_read_update(
     authkey: &[u8],
@@ -133,8 +134,8 @@ pub extern "C" fn rathonsi_she_read_update(
     }
 }
 
-/// Writes the reply M4, M5 by which the engine with this identifier of 15 bytes confirms the update. A number of the update outside its
-/// range is `BAD_VALUE`.
+/// Writes the reply M4, M5 by which the engine with this identifier of 15 bytes confirms the update. A number of the
+/// update outside its range is `BAD_VALUE`.
 #[unsafe(no_mangle)]
 pub extern "C" fn rathonsi_she_confirm(
     update: &RathonsiUpdate,

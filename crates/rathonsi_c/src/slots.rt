@@ -15,9 +15,9 @@ use she_engine::{allowed, slot_of};
 use slot_disk::slot_bytes;
 use store_plan::{Plan, is_empty, plan_put};
 
-/// Plans the update that the request carries for the engine with this identifier; `booted` is 1 after a secure boot that succeeded in
-/// this life, else 0. `BUSY`, `BAD_VALUE` (`booted` is neither), `DAMAGED`, and of a load `KEY_INVALID`, `KEY_WRITE_PROTECTED`,
-/// `KEY_EMPTY`, `KEY_NOT_AVAILABLE`, `KEY_UPDATE_ERROR`: the first that applies.
+/// Plans the update that the request carries for the engine with this identifier; `booted` is 1 after a secure boot
+/// that succeeded in this life, else 0. `BUSY`, `BAD_VALUE` (`booted` is neither), `DAMAGED`, and of a load
+/// `KEY_INVALID`, `KEY_WRITE_PROTECTED`, `KEY_EMPTY`, `KEY_NOT_AVAILABLE`, `KEY_UPDATE_ERROR`: the first that applies.
 #[unsafe(no_mangle)]
 pub extern "C" fn rathonsi_slot_load(
     uid: &[u8; 15],
@@ -57,9 +57,9 @@ pub extern "C" fn rathonsi_slot_load(
     }
 }
 
-/// Writes the reply M4, M5 by which the engine with this identifier confirms what the slot that M1 names holds in the image. So no reply
-/// tells of a key before its plan is done. `BAD_ID`: M1 names no slots. `DAMAGED`: the cell is no slot's. `KEY_EMPTY`. The first that
-/// applies.
+/// Writes the reply M4, M5 by which the engine with this identifier confirms what the slot that M1 names holds in the
+/// image. So no reply tells of a key before its plan is done. `BAD_ID`: M1 names no slots. `DAMAGED`: the cell is no
+/// slot's. `KEY_EMPTY`. The first that applies.
 #[unsafe(no_mangle)]
 pub extern "C" fn rathonsi_slot_confirm(
     uid: &[u8; 15],

@@ -27,8 +27,8 @@ fn cells_of(size: usize) -> Option<u16>
     Some(count)
 }
 
-/// Makes the image of a store with fourteen empty slots, and a cell of zero bytes for each route. `BAD_LENGTH`: the image has the size
-/// of no store of up to 256 routes.
+/// Makes the image of a store with fourteen empty slots, and a cell of zero bytes for each route. `BAD_LENGTH`: the
+/// image has the size of no store of up to 256 routes.
 #[unsafe(no_mangle)]
 pub extern "C" fn rathonsi_store_make(image: &mut [u8]) -> i32
     ensures answer { MakeAnswers (length image.old) result }
@@ -45,8 +45,8 @@ pub extern "C" fn rathonsi_store_make(image: &mut [u8]) -> i32
     }
 }
 
-/// Makes the cell of a route hold this bound, as in a fresh store. `BAD_LENGTH` as above. `BAD_VALUE`: a number of the route is outside
-/// its range, or the image has no such cell.
+/// Makes the cell of a route hold this bound, as in a fresh store. `BAD_LENGTH` as above. `BAD_VALUE`: a number of the
+/// route is outside its range, or the image has no such cell.
 #[unsafe(no_mangle)]
 pub extern "C" fn rathonsi_route_make(route: &RathonsiRoute, bound: u64, image: &mut [u8]) -> i32
     ensures answer { RouteMakeAnswers route.now image.old result }
@@ -70,8 +70,8 @@ pub extern "C" fn rathonsi_route_make(route: &RathonsiRoute, bound: u64, image: 
     OK
 }
 
-/// Checks an image that was read from the device: the header of a store of this size, and in every cell a copy that counts.
-/// `BAD_LENGTH` as above, `NO_STORE`, `DAMAGED`: the first that applies.
+/// Checks an image that was read from the device: the header of a store of this size, and in every cell a copy that
+/// counts. `BAD_LENGTH` as above, `NO_STORE`, `DAMAGED`: the first that applies.
 #[unsafe(no_mangle)]
 pub extern "C" fn rathonsi_store_check(image: &[u8]) -> i32
     ensures answer { CheckAnswers image.now result }
@@ -87,8 +87,8 @@ pub extern "C" fn rathonsi_store_check(image: &[u8]) -> i32
     }
 }
 
-/// Says that all writes of the plan are durable: brings the image up to date, and empties the plan. `BAD_VALUE`: a write reaches beyond
-/// the image, or has more than the forty bytes that a plan keeps of it.
+/// Says that all writes of the plan are durable: brings the image up to date, and empties the plan. `BAD_VALUE`: a
+/// write reaches beyond the image, or has more than the forty bytes that a plan keeps of it.
 #[unsafe(no_mangle)]
 pub extern "C" fn rathonsi_store_done(image: &mut [u8], plan: &mut Plan) -> i32
     ensures answer { DoneAnswers image.old plan.old result }

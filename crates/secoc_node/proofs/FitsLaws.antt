@@ -1,4 +1,5 @@
--- When a disk fits a node, and what puts and power cuts leave of it: the laws of disks that fit what a store keeps, for a node
+-- When a disk fits a node, and what puts and power cuts leave of it: the laws of disks that fit what a store keeps, for
+-- a node
 use Rattle.std.proofs.Common.{◌≡◌, ℕ, true, List, length, set, refl, sym, ap, subst, ◌∙◌, inl, inr}
 use Rattle.std.specs.Prelude.{Option, None, Some, is_some, ◌⊎◌, option_map}
 use Rattle.std.proofs.lemmas.Option.{same_Some, none-some}

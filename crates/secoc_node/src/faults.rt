@@ -15,8 +15,8 @@ pub enum NodeFault {
     Key(Erc),
     /// The counter of a route that sends stands at 2^64 - 1, the greatest freshness.
     Exhausted,
-    /// A call of the disk failed in this call. The node is down; what was to be put is there whole or not at all after the next
-    /// power-up.
+    /// A call of the disk failed in this call. The node is down; what was to be put is there whole or not at all after
+    /// the next power-up.
     Faulted,
 }
 

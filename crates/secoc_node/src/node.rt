@@ -34,8 +34,9 @@ use she_engine::LoadFault;
 use std::alloc::Global;
 use std::marker::Model;
 
-/// A node over a store of cells: it sends, receives, loads keys and boots, loses power and comes up again. Contracts see the machine's
-/// node and the state of the store. The node is always sound, and while it is up its store has the cells of what it keeps.
+/// A node over a store of cells: it sends, receives, loads keys and boots, loses power and comes up again. Contracts
+/// see the machine's node and the state of the store. The node is always sound, and while it is up its store has the
+/// cells of what it keeps.
 #[derive(Drop)]
 pub struct Node<C: Cells> {
     known: Known,
@@ -55,9 +56,9 @@ impl<C: Cells> Model for Node<C> {
 }
 
 impl<C: Cells> Node<C> {
-    /// The node with this configuration over its cells: one for each of the fourteen slots, and then one for each route's bound. It is
-    /// up, no boot was made, and each counter is its bound. Errors, in their order: `BadSlot`, `BadBound` and `Memory`; the cells are
-    /// then handed back as they were.
+    /// The node with this configuration over its cells: one for each of the fourteen slots, and then one for each
+    /// route's bound. It is up, no boot was made, and each counter is its bound. Errors, in their order: `BadSlot`,
+    /// `BadBound` and `Memory`; the cells are then handed back as they were.
     pub fn attach(alloc: Global, config: NodeConfig, cells: C) -> Result<Node<C>, NodeRefused<C>>
         requires count { length (C.state cells).cells ≡ 14 + length config.routes }
         requires whole { (C.state cells).broken ≡ false }
@@ -77,9 +78,10 @@ impl<C: Cells> Node<C> {
         }
     }
 
-    /// Sends a payload of 1 to 60 bytes under a Data ID: its Secured I-PDU (AUTOSAR SecOC, profile 1) stands at the front of `out`,
-    /// whose rest is as before. Errors, in their order: `Down`, `NoRoute`, `BadLength`, `Key`, `Exhausted`, `Faulted`. After each of them
-    /// `out` is as before, and but for `Faulted` so is all else, and no call of the disk was made.
+    /// Sends a payload of 1 to 60 bytes under a Data ID: its Secured I-PDU (AUTOSAR SecOC, profile 1) stands at the
+    /// front of `out`, whose rest is as before. Errors, in their order: `Down`, `NoRoute`, `BadLength`, `Key`,
+    /// `Exhausted`, `Faulted`. After each of them `out` is as before, and but for `Faulted` so is all else, and no call
+    /// of the disk was made.
     pub fn send(&mut self, id: u16, payload: &[u8], out: &mut [u8; 64]) -> Result<Sent, NodeFault>
         ensures step { NodeStep self.old.node (sends id payload.now) (sent_line id out.new result) self.new.node }
         ensures length { IfOk result (λ sent. sent.len ≡ length payload.now + 4) }
@@ -127,9 +129,9 @@ impl<C: Cells> Node<C> {
         }
     }
 
-    /// Receives a PDU of 5 to 64 bytes under a Data ID. An accepted payload is a front of the PDU. Errors, in their order: `Down`,
-    /// `NoRoute`, `BadLength`, `Key`, `Faulted`. After each of them but `Faulted`, and after the two failures, all is as before, and no
-    /// call of the disk was made.
+    /// Receives a PDU of 5 to 64 bytes under a Data ID. An accepted payload is a front of the PDU. Errors, in their
+    /// order: `Down`, `NoRoute`, `BadLength`, `Key`, `Faulted`. After each of them but `Faulted`, and after the two
+    /// failures, all is as before, and no call of the disk was made.
     pub fn receive(&mut self, id: u16, pdu: &[u8]) -> Result<Reception, NodeFault>
         ensures step { (source : Option ℕ)
             → NodeStep self.old.node (receives id pdu.now) (received_line id pdu.now source result) self.new.node }
@@ -167,9 +169,9 @@ impl<C: Cells> Node<C> {
         }
     }
 
-    /// Loads the key of a request into its slot, and confirms it (SHE specification, memory update protocol). Errors: `Down`, then
-    /// `Key` with the first refusal that applies, then `Faulted`. After the first two all is as before, and no call of the disk was
-    /// made.
+    /// Loads the key of a request into its slot, and confirms it (SHE specification, memory update protocol). Errors:
+    /// `Down`, then `Key` with the first refusal that applies, then `Faulted`. After the first two all is as before,
+    /// and no call of the disk was made.
     pub fn load(&mut self, request: &Request) -> Result<Reply, NodeFault>
         ensures step { NodeStep self.old.node (loads request.now) (loaded_line result) self.new.node }
         // of the request that was built of an update: what the machine answers to that update
@@ -195,8 +197,8 @@ impl<C: Cells> Node<C> {
         }
     }
 
-    /// Decides the secure boot of this life with an image of 1 to 65,536 bytes (SHE specification, secure booting). Errors: `Down`, then
-    /// `Key`, and then the node is as before. No call of the disk is made.
+    /// Decides the secure boot of this life with an image of 1 to 65,536 bytes (SHE specification, secure booting).
+    /// Errors: `Down`, then `Key`, and then the node is as before. No call of the disk is made.
     pub fn boot(&mut self, image: &[u8]) -> Result<bool, NodeFault>
         requires { IsImage image.now }
         ensures step { NodeStep self.old.node (boots image.now) (boot_line result) self.new.node }
@@ -215,8 +217,9 @@ impl<C: Cells> Node<C> {
         }
     }
 
-    /// The counter of the route with this Data ID and direction: the last freshness that was sent or accepted, or the bound at which it
-    /// began. `None` exactly where there is no such route. Whatever was called before and answered, the node is sound.
+    /// The counter of the route with this Data ID and direction: the last freshness that was sent or accepted, or the
+    /// bound at which it began. `None` exactly where there is no such route. Whatever was called before and answered,
+    /// the node is sound.
     pub fn counter(&self, id: u16, direction: Direction) -> Option<u64>
         ensures value { MatchOption result (¬ HasRoute self.now.node id direction)
             (λ v. HasRoute self.now.node id direction
@@ -235,8 +238,8 @@ impl<C: Cells> Node<C> {
         self.known.config.routes.as_slice()
     }
 
-    /// Whether the node serves no call until its power is cut: a call of its disk failed, or a power cut was refused, since it was last
-    /// powered up. Whatever was called before and answered, the node is sound.
+    /// Whether the node serves no call until its power is cut: a call of its disk failed, or a power cut was refused,
+    /// since it was last powered up. Whatever was called before and answered, the node is sound.
     pub fn is_down(&self) -> bool
         ensures down { result ≡ not self.now.node.up }
         ensures sound { Sound self.now.node }
@@ -253,10 +256,10 @@ impl<C: Cells> Node<C> {
 }
 
 impl<C: CutCells> Node<C> {
-    /// Cuts the power and powers up again, from a node that is up as from one that is down: the cells are read anew, so that the bytes of
-    /// the disk stand for them, each counter is its bound, and no boot was made. Errors: `Store` where the store isn't read, then
-    /// `BadSlot`, then `BadBound`. The node is then down, and what it knows is as before. Over a disk that tells its bytes, and fits the
-    /// node, only the disk itself can fail.
+    /// Cuts the power and powers up again, from a node that is up as from one that is down: the cells are read anew, so
+    /// that the bytes of the disk stand for them, each counter is its bound, and no boot was made. Errors: `Store`
+    /// where the store isn't read, then `BadSlot`, then `BadBound`. The node is then down, and what it knows is as
+    /// before. Over a disk that tells its bytes, and fits the node, only the disk itself can fail.
     pub fn power_cut(&mut self, torn: Torn) -> Result<(), CutFault>
         ensures step { TellsFitting self.old → NodeStep self.old.node cuts (cut_line result) self.new.node }
         ensures up { OnOk result (self.new.node ≡ powered self.old.node.config self.new.node.kept) }
@@ -284,7 +287,8 @@ impl<C: CutCells> Node<C> {
         self.known.power_up(&self.cells)
     }
 
-    /// Passes on to the disk: from the call of this number on, 1 for the next, each call of the disk fails until the power is cut.
+    /// Passes on to the disk: from the call of this number on, 1 for the next, each call of the disk fails until the
+    /// power is cut.
     pub fn stop_at(&mut self, calls: u64)
         requires { 1 ≤ calls }
         ensures node { self.new.node ≡ self.old.node }

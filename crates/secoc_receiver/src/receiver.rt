@@ -49,17 +49,19 @@ pub enum ReceiveFault {
     BadLength,
     /// The engine refuses a MAC under the route's key.
     Key(Erc),
-    /// The PDU is authentic, and the disk failed as this bound was put. After the next power-up the bound is the old one or this.
+    /// The PDU is authentic, and the disk failed as this bound was put. After the next power-up the bound is the old
+    /// one or this.
     Faulted {
         /// The bound that was to be put.
         bound: u64,
     },
 }
 
-/// Receives a PDU: the key is asked first, then the freshness, then the authenticator, and only then a bound is put that no longer covers
-/// the freshness. Where it is accepted, the freshness becomes the counter. The receiver is that of the route. Errors: the first of
-/// `BadLength`, `Key` and `Faulted` that applies, and `Faulted` only where the disk failed. But where the PDU is accepted the receiver is
-/// as before, and a refusal and a failure make no call of the disk.
+/// Receives a PDU: the key is asked first, then the freshness, then the authenticator, and only then a bound is put
+/// that no longer covers the freshness. Where it is accepted, the freshness becomes the counter. The receiver is that
+/// of the route. Errors: the first of `BadLength`, `Key` and `Faulted` that applies, and `Faulted` only where the disk
+/// failed. But where the PDU is accepted the receiver is as before, and a refusal and a failure make no call of the
+/// disk.
 pub fn receive<C: Cells>(
     engine: &Engine,
     rx: &mut Rx,

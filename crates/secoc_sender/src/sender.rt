@@ -48,9 +48,10 @@ pub enum SendFault {
     },
 }
 
-/// Sends a payload under the freshness above the counter, which becomes the counter: the Secured I-PDU stands at the front of `out`.
-/// The sender is that of the route. Errors: the first of `BadLength`, `Key`, `Exhausted` and `Faulted` that applies, and `Faulted` only
-/// where the disk failed. After each of them `out` and the sender are as before, and no call of the disk was made but for `Faulted`.
+/// Sends a payload under the freshness above the counter, which becomes the counter: the Secured I-PDU stands at the
+/// front of `out`. The sender is that of the route. Errors: the first of `BadLength`, `Key`, `Exhausted` and `Faulted`
+/// that applies, and `Faulted` only where the disk failed. After each of them `out` and the sender are as before, and
+/// no call of the disk was made but for `Faulted`.
 pub fn send<C: Cells>(
     engine: &Engine,
     tx: &mut Tx,

@@ -7,7 +7,8 @@ use cut_disk::Torn;
 use hex::FromHex;
 use text_lines::forms::number;
 
-/// What a power cut leaves of loose bytes: `keep`, `old`, `half`, or two hexadecimal digits for the byte that fills them.
+/// What a power cut leaves of loose bytes: `keep`, `old`, `half`, or two hexadecimal digits for the byte that fills
+/// them.
 #[tactic(auto, unfolding(crate::specs::DiskForms::torn_form))]
 pub fn torn(word: &[u8]) -> Option<Torn>
     ensures { result ≡ torn_form word.now }

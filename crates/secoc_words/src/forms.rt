@@ -51,7 +51,8 @@ pub fn fresh(word: &[u8]) -> Option<u64>
     Some(u64::from_be_bytes(bytes))
 }
 
-/// Bytes that arrive, of any number: two hexadecimal digits a byte, or `-` for no bytes. Up to 64 bytes ask for no memory.
+/// Bytes that arrive, of any number: two hexadecimal digits a byte, or `-` for no bytes. Up to 64 bytes ask for no
+/// memory.
 #[tactic(auto, unfolding(text_lines::specs::Forms::bytes_form, text_lines::specs::Forms::hex_bytes_form))]
 pub fn received(alloc: Global, word: &[u8]) -> Result<Option<ReceivedBytes>, Memory>
     ensures { IfOk result (λ found. found ≡ bytes_form word.now) }
@@ -65,7 +66,8 @@ pub fn received(alloc: Global, word: &[u8]) -> Result<Option<ReceivedBytes>, Mem
     }
 }
 
-/// A PDU of a number of bytes from `least` to `most`, which is at most 64: two hexadecimal digits a byte. No memory is asked for.
+/// A PDU of a number of bytes from `least` to `most`, which is at most 64: two hexadecimal digits a byte. No memory is
+/// asked for.
 #[tactic(auto, unfolding(text_lines::specs::Forms::hex_bytes_form))]
 pub fn pdu(word: &[u8], least: usize, most: usize) -> Option<Pdu>
     requires { most ≤ 64 }

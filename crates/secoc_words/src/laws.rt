@@ -10,8 +10,8 @@ ghost use Rattle.text_lines.specs.Readings.{most_lines};
 ghost use Rattle.secoc_words.specs.Written.{frame_words, judge_words, load_words, IsFrameLine, IsJudgeLine, IsLoad};
 ghost use Rattle.text_lines.specs.Written.{written};
 
-/// Law: each list of at most 65,536 lines of `frame` is what some text gives, namely its lines in lower-case digits with
-/// single spaces.
+/// Law: each list of at most 65,536 lines of `frame` is what some text gives, namely its lines in lower-case digits
+/// with single spaces.
 pub fn written_frames_are_read()
     ensures { (lines : List FrameLine) → All IsFrameLine lines → length lines ≤ most_lines
         → frames_of (flat_map written (map frame_words lines)) ≡ Ok lines }

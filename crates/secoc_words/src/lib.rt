@@ -1,7 +1,8 @@
 //! The words of SecOC and SHE in lines of text: keys, Data IDs, freshness, flags, slots and torn kinds by their forms,
 //! the lines of `frame`, `judge` and `load`, and the texts of verdicts and flags.
 //!
-//! Each form takes one word, and answers none exactly where it isn't of the form. Hexadecimal digits are of either case.
+//! Each form takes one word, and answers none exactly where it isn't of the form. Hexadecimal digits are of either
+//! case.
 #![tactic(auto)]
 
 mod disk_forms;

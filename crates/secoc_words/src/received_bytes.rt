@@ -7,8 +7,8 @@ use byte_lists::{Bytes, Pdu};
 use std::alloc::Global;
 use std::marker::Model;
 
-/// Bytes of any number. Those that a PDU may have, up to 64, stand in the value itself and take no memory; more than these stand in a
-/// vector. A contract sees the list of them.
+/// Bytes of any number. Those that a PDU may have, up to 64, stand in the value itself and take no memory; more than
+/// these stand in a vector. A contract sees the list of them.
 #[derive(Debug, Drop)]
 pub struct ReceivedBytes {
     short: Pdu,

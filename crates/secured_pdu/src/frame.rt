@@ -28,8 +28,8 @@ pub fn input_mac(schedule: &Schedule, id: u16, payload: &[u8], freshness: u64) -
     cmac(schedule, &input[..length])
 }
 
-/// Writes the PDU to the front of `out` and gives its length in bytes: the payload, the low byte of the freshness, and the
-/// first three bytes of the authenticator.
+/// Writes the PDU to the front of `out` and gives its length in bytes: the payload, the low byte of the freshness, and
+/// the first three bytes of the authenticator.
 pub fn assemble(payload: &[u8], freshness: u64, mac: &Block, out: &mut [u8; 64]) -> usize
     requires { IsPayload payload.now }
     ensures length { result ≡ length payload.now + 4 }
@@ -41,8 +41,8 @@ pub fn assemble(payload: &[u8], freshness: u64, mac: &Block, out: &mut [u8; 64])
     append(out, after_low, &tag_of(mac))
 }
 
-/// Writes the Secured I-PDU to the front of `out` and gives its length in bytes. For a payload that has not 1 to 60 bytes it gives
-/// `None` and writes nothing.
+/// Writes the Secured I-PDU to the front of `out` and gives its length in bytes. For a payload that has not 1 to 60
+/// bytes it gives `None` and writes nothing.
 pub fn build(
     schedule: &Schedule,
     id: u16,

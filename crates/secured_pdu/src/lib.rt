@@ -1,6 +1,6 @@
 //! The Secured I-PDU of AUTOSAR SecOC profile 1 (24Bit-CMAC-8Bit-FV), and a receiver's verdict on one.
-//! A payload has 1 to 60 bytes, so a PDU has 5 to 64. A receiver accepts freshness up to its window, 1 to 256, above its counter.
-//! Nothing here takes memory.
+//! A payload has 1 to 60 bytes, so a PDU has 5 to 64. A receiver accepts freshness up to its window, 1 to 256, above
+//! its counter. Nothing here takes memory.
 #![tactic(auto)]
 
 mod frame;

@@ -1,5 +1,5 @@
--- The cipher with its S-box read from a table: it is the cipher. Examples are computed by it, in a tenth of the time, since by its
--- definition the S-box searches an inverse among 256 bytes.
+-- The cipher with its S-box read from a table: it is the cipher. Examples are computed by it, in a tenth of the time,
+-- since by its definition the S-box searches an inverse among 256 bytes.
 use Rattle.std.specs.Prelude.{◌≡◌, ℕ, zero, suc, ◌-◌, ◌/◌, ◌%◌, ◌==◌, nat_lt, if◌then◌else◌, List, [], ◌∷◌, ◌++◌, length, map, slice_index}
 use Rattle.std.proofs.Common.{refl, ap, ◌∙◌, arith}
 use Rattle.std.specs.List.{range_with_len}

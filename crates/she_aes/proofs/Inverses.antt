@@ -1,4 +1,5 @@
--- A byte has one inverse: to multiply by a byte and then by its inverse changes nothing, since it changes no power of x and is linear.
+-- A byte has one inverse: to multiply by a byte and then by its inverse changes nothing, since it changes no power of x
+-- and is linear.
 use Rattle.std.proofs.Common.{◌≡◌, ℕ, zero, suc, ◌+◌, ◌*◌, ◌^◌, ◌<◌, Bool, true, map, fold, refl, ap, sym, ◌∙◌, arith}
 use Rattle.std.specs.Prelude.{◌==◌, nat_lt}
 use Rattle.std.specs.Int.{bit_at}

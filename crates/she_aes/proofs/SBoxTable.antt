@@ -1,5 +1,5 @@
--- The S-box as one byte of each entry of a round's first table: it is computed from the field once, for all 256 bytes, and other
--- facts read it there.
+-- The S-box as one byte of each entry of a round's first table: it is computed from the field once, for all 256 bytes,
+-- and other facts read it there.
 use Rattle.std.proofs.Common.{◌≡◌, ℕ, ◌/◌, ◌^◌, ◌<◌, true, slice_index, bit_and, refl}
 use Rattle.std.specs.Prelude.{◌==◌}
 use Rattle.std.proofs.lemmas.Bool.{agree_below, agree_below_at, eqb-true}

@@ -1,4 +1,5 @@
-// The rounds by tables, for processors that shuffle no bytes: a column of a round is the sum of four words, one from each table.
+// The rounds by tables, for processors that shuffle no bytes: a column of a round is the sum of four words, one from
+// each table.
 //
 // The tables are read at places that depend on the key and the text.
 ghost use Rattle.std.specs.Prelude.{◌≡◌, ◌<◌, List, ℕ};
@@ -10,8 +11,8 @@ ghost use Rattle.she_aes.specs.declared.substitution.TheConstants.{BYTE_OF_LOWER
 
 use crate::rounds::{State, xor};
 
-// Entry `s` of the table of row `r` is the column that MixColumns gives for one that has the S-box of `s` in row `r` and zeros elsewhere,
-// its first row in the highest byte.
+// Entry `s` of the table of row `r` is the column that MixColumns gives for one that has the S-box of `s` in row `r`
+// and zeros elsewhere, its first row in the highest byte.
 pub(crate) static ROW_0: [u32; 256] = [
     0xc66363a5, 0xf87c7c84, 0xee777799, 0xf67b7b8d, 0xfff2f20d, 0xd66b6bbd, 0xde6f6fb1, 0x91c5c554,
     0x60303050, 0x02010103, 0xce6767a9, 0x562b2b7d, 0xe7fefe19, 0xb5d7d762, 0x4dababe6, 0xec76769a,
@@ -163,7 +164,8 @@ fn column<const C: usize>(state: &State) -> [u8; 4]
     (top ^ bottom).to_be_bytes()
 }
 
-// The bytes of these columns of the state after SubBytes, ShiftRows and MixColumns, one column behind the other, by these names.
+// The bytes of these columns of the state after SubBytes, ShiftRows and MixColumns, one column behind the other, by
+// these names.
 macro_rules! columns {
     ($state:expr, $($number:literal as [$($byte:ident),+]),+) => {{
         $(let [$($byte),+] = column::<$number>($state);)+

@@ -60,7 +60,8 @@ pub fn cbc_encryption_undoes_decryption()
         → cbc key iv (cbc_inverse key iv text) ≡ text }
 {}
 
-/// Each of the 1,024 entries of the round tables is the column that MixColumns gives for one byte of the S-box in the table's row.
+/// Each of the 1,024 entries of the round tables is the column that MixColumns gives for one byte of the S-box in the
+/// table's row.
 pub fn round_tables_are_mixed_columns()
     ensures { AreRoundTables }
 {}

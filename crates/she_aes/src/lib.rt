@@ -5,8 +5,9 @@
 //! with any number of blocks. [`laws`] says of the definitions that each direction undoes the other.
 //! No call refuses, and none takes memory.
 //!
-//! All of them work on the 16 bytes of a block at once. Where the processor shuffles bytes, none but [`encrypt_by_tables`], which stands beside
-//! for those that don't, reads a table at a place that depends on a key or a text (as seen in the code that was built; no clause speaks of it).
+//! All of them work on the 16 bytes of a block at once. Where the processor shuffles bytes, none but
+//! [`encrypt_by_tables`], which stands beside for those that don't, reads a table at a place that depends on a key or a
+//! text (as seen in the code that was built; no clause speaks of it).
 #![tactic(auto)]
 
 mod by_tables;
@@ -26,7 +27,8 @@ use std::fmt;
 use std::marker::Model;
 use std::simd::prelude::*;
 
-/// A block of 16 bytes: a key, a text, or a value that is made of them. Printed for debugging it shows no byte, since it may be a key.
+/// A block of 16 bytes: a key, a text, or a value that is made of them. Printed for debugging it shows no byte, since
+/// it may be a key.
 #[derive(Clone, Copy, PartialEq, Eq)]
 pub struct Block {
     bytes: [u8; 16],
@@ -102,7 +104,8 @@ impl fmt::Debug for Block {
 pub struct Schedule {
     // the key, which is the first round key
     key: State,
-    // what the ten rounds add: nine round keys in pairs and the last one in bytes, each together with the constant of the S-box
+    // what the ten rounds add: nine round keys in pairs and the last one in bytes, each together with the constant of
+    // the S-box
     added: [State; 10],
 }
 
@@ -150,8 +153,8 @@ pub fn encrypt(schedule: &Schedule, block: &Block) -> Block
     Block::of(rounds::last_round(&added[9], s9).to_array())
 }
 
-/// What [`encrypt`] gives, by tables of words and one of bytes, for processors that shuffle no bytes. It reads them at places that depend on
-/// the key and the block.
+/// What [`encrypt`] gives, by tables of words and one of bytes, for processors that shuffle no bytes. It reads them at
+/// places that depend on the key and the block.
 pub fn encrypt_by_tables(schedule: &Schedule, block: &Block) -> Block
     ensures value { result ≡ enc schedule.now block.now }
     ensures is_block { IsBlock result }

@@ -1,9 +1,9 @@
 // SubBytes and its inverse (FIPS 197, sections 5.1.1 and 5.3.2) by byte shuffles: no table is read at a secret index.
 //
-// A byte is taken for a pair of elements of the field of 16, an upper and a lower one, since the field of 256 is an extension of it. There
-// its inverse is found by look-ups in tables of 16 bytes, each of which is one shuffle of all 16 bytes of the state. The quotient by
-// 0 is no element of the field: it is a place from 128 on, and what is looked up there is 0. (M. Hamburg, Accelerating AES with vector
-// permute instructions, 2009.)
+// A byte is taken for a pair of elements of the field of 16, an upper and a lower one, since the field of 256 is an
+// extension of it. There its inverse is found by look-ups in tables of 16 bytes, each of which is one shuffle of all 16
+// bytes of the state. The quotient by 0 is no element of the field: it is a place from 128 on, and what is looked up
+// there is 0. (M. Hamburg, Accelerating AES with vector permute instructions, 2009.)
 //
 // The sum of two bytes is taken for the sum of their pairs, so between two rounds the state stays in pairs.
 ghost use Rattle.std.specs.Prelude.{◌≡◌, List, ℕ, All, IsTrue, map, bit_xor};
@@ -28,7 +28,8 @@ const QUOTIENTS: Table = [
     0x80, 0x02, 0x01, 0x0f, 0x09, 0x05, 0x0e, 0x0c, 0x0d, 0x04, 0x0b, 0x0a, 0x07, 0x08, 0x06, 0x03,
 ];
 
-// The pair of elements that a byte is taken for by the S-box: what its low four bits add to it, and what its high four bits add.
+// The pair of elements that a byte is taken for by the S-box: what its low four bits add to it, and what its high four
+// bits add.
 const LOW: Table = [
     0x00, 0x11, 0xdc, 0xcd, 0xfd, 0xec, 0x21, 0x30, 0x57, 0x46, 0x8b, 0x9a, 0xaa, 0xbb, 0x76, 0x67,
 ];
@@ -73,7 +74,8 @@ const BYTE_OF_UPPER: Table = [
     0x00, 0xb2, 0xb5, 0x07, 0x3a, 0x88, 0x8f, 0x3d, 0xac, 0x1e, 0x19, 0xab, 0x96, 0x24, 0x23, 0x91,
 ];
 
-// The same for the inverse S-box, which begins with the inverse of the affine map: its constant stands in the first of these tables.
+// The same for the inverse S-box, which begins with the inverse of the affine map: its constant stands in the first of
+// these tables.
 const LOW_OF_INVERSE: Table = [
     0xec, 0x09, 0xf0, 0x15, 0x87, 0x62, 0x9b, 0x7e, 0xb8, 0x5d, 0xa4, 0x41, 0xd3, 0x36, 0xcf, 0x2a,
 ];

@@ -68,8 +68,8 @@ impl<'a> Mac<'a> {
         Block::of(padded).xor(&second_subkey(self.schedule))
     }
 
-    // Takes bytes from the front of these, up to the end of a block, and says how many. A block that is complete is chained only when
-    // another byte comes after it.
+    // Takes bytes from the front of these, up to the end of a block, and says how many. A block that is complete is
+    // chained only when another byte comes after it.
     fn take(&mut self, bytes: &[u8]) -> usize
         requires { 0 < length bytes.now }
         ensures some { 0 < result × result ≤ length bytes.now }

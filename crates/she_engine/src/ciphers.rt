@@ -23,7 +23,8 @@ impl Engine {
         Ok(cmac(schedule, message))
     }
 
-    /// Whether the tag, of 1 to 16 bytes, is the first bytes of the message's CMAC under the key that the slot holds now.
+    /// Whether the tag, of 1 to 16 bytes, is the first bytes of the message's CMAC under the key that the slot holds
+    /// now.
     pub fn verify_mac(&self, slot: SlotId, message: &[u8], tag: &[u8]) -> Result<bool, Erc>
         requires { (1 ≤ length tag.now) × (length tag.now ≤ 16) }
         ensures refusal { result_err result ≡ usable self.now.slots slot (is_good self.now.boot) Purpose.Mac }

@@ -104,7 +104,8 @@ fn head_refusal(slots: &Slots, good: bool, id: SlotId, auth: SlotId) -> Result<(
     }
 }
 
-// Whether the update is for the engine with this identifier, or for every engine where the target lets it, and raises the counter.
+// Whether the update is for the engine with this identifier, or for every engine where the target lets it, and raises
+// the counter.
 fn is_fit(uid: Uid, target: &Slot, update: &Update) -> bool
     ensures { result ≡ (is_meant uid target.now update.now.uid
         && nat_lt (counter_of target.now) update.now.counter) }
@@ -114,8 +115,8 @@ fn is_fit(uid: Uid, target: &Slot, update: &Update) -> bool
     meant && counter_of(target) < update.counter.number()
 }
 
-/// The update that the engine with this identifier takes, or the first refusal that applies; `good` says that a successful boot was
-/// made in this life.
+/// The update that the engine with this identifier takes, or the first refusal that applies; `good` says that a
+/// successful boot was made in this life.
 pub fn allowed(slots: &Slots, good: bool, uid: Uid, request: &Request) -> Result<Update, Erc>
     ensures { Allows slots.now good uid request.now result }
 {

@@ -21,8 +21,8 @@ fn until_stop(bytes: &[u8]) -> usize
     stops.next().unwrap_or(bytes.len())
 }
 
-// The end of the word that begins at `start`: the next blank or line feed, or the end of the text. Words are short: the iterator over 32
-// bytes compares them once, where a search of a longer text begins with wider runs.
+// The end of the word that begins at `start`: the next blank or line feed, or the end of the text. Words are short: the
+// iterator over 32 bytes compares them once, where a search of a longer text begins with wider runs.
 #[inline(always)]
 fn word_end(text: &[u8], start: usize) -> usize
     requires { start ≤ length text.now }
@@ -84,8 +84,9 @@ fn put_word(spans: &mut Vec<Span>, at: usize, stop: usize) -> Result<(), Memory>
     Ok(())
 }
 
-/// The words of the line that begins at `start`, in place of what was in `spans`; the end of the line is given, which is the next line feed
-/// or the end of the text. Without memory nothing is said of `spans`; with room for as many places as the text has bytes none is taken.
+/// The words of the line that begins at `start`, in place of what was in `spans`; the end of the line is given, which
+/// is the next line feed or the end of the text. Without memory nothing is said of `spans`; with room for as many
+/// places as the text has bytes none is taken.
 pub fn put_line(spans: &mut Vec<Span>, text: &[u8], start: usize) -> Result<usize, Memory>
     requires within { start ≤ length text.now }
     requires short { length text.now < 2 ^ 32 }

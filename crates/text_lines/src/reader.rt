@@ -50,7 +50,8 @@ pub fn expect_count(words: &Words<'_>, count: usize) -> Result<(), Cause>
     }
 }
 
-/// What a reader makes of the lines of a text that aren't skipped, of which at most `most` are read; or the first fault.
+/// What a reader makes of the lines of a text that aren't skipped, of which at most `most` are read; or the first
+/// fault.
 pub fn read_lines<R: LineReader>(
     alloc: Global,
     text: &[u8],

@@ -54,7 +54,8 @@ pub fn open_inputs<O: Opener, I: Source + Drop>(
 }
 
 /// Audits what two words name, the map's word first, and gives the status that the program ends with, and the sources
-/// of the map and of the log as the audit left them; without a word it audits the example, and both sources are missing.
+/// of the map and of the log as the audit left them; without a word it audits the example, and both sources are
+/// missing.
 pub fn audit_words<O: Opener, I: Source + Drop, K: Sink>(
     alloc: Global,
     opener: &O,

@@ -1,4 +1,5 @@
--- A bus that was started over formatted disks is set up; where they tell their bytes, it begins at the first world of the bus
+-- A bus that was started over formatted disks is set up; where they tell their bytes, it begins at the first world of
+-- the bus
 use Rattle.std.specs.Prelude.{◌≡◌, ℕ, ◌<◌, Some, List, length, map, get_or}
 use Rattle.std.proofs.Common.{sym, ap, ◌∙◌, subst, arith}
 use Rattle.std.proofs.lemmas.List.{length-map, get_or-map, ext_get_or}
