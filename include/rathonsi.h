@@ -33,7 +33,7 @@ extern "C" {
 #endif
 
 /* The version of this header and of rathonsi_store.h: major times 65536, minor times 256, patch. */
-#define RATHONSI_VERSION 0x000c01u
+#define RATHONSI_VERSION 0x000c02u
 
 /* The statuses. Where several could come, the first of this list does. */
 
