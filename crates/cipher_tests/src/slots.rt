@@ -1,4 +1,4 @@
-//! Numbers of slots and counters, uses of a key, the printed names, and slots as they are shown.
+//! Numbers of slots and counters, a slot that is emptied, uses of a key, the printed names, and slots as they are shown.
 use crate::blocks::block;
 use crate::comparing::holds;
 use key_slots::{Counter28, Erc, Flags, Purpose, Slot, SlotId, Slots, usable};

@@ -16,7 +16,8 @@ fn foreign() -> Option<Line> {
     })
 }
 
-/// A boot counts as an event alone, what a store is refused for as a refusal, and what is accepted from none as accepted.
+/// A boot counts as an event alone, what a store is refused for as a refusal, and what is accepted from none as
+/// accepted.
 fn summary(foreign: Line) -> Summary {
     let mut summary = Summary::none();
     summary.count(1, Line::Boot { good: true });

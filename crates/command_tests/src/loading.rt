@@ -1,8 +1,6 @@
 //! Requests that are loaded over a disk in memory that stops in a put, and what each kind of cut leaves of that put: a
 //! file is left as it is. Which store counts, what is loaded into it, and sinks and files that fail are rows of
 //! checks/.
-ghost use Rattle.std.specs.Prelude.{◌≤◌};
-
 use crate::comparing::same;
 use any_cells::AnyCells;
 use bus_port::MemSink;
@@ -97,10 +95,11 @@ const STOPS: &[Stop] = &[
 ];
 
 /// Loads the requests over a disk that stops at this call: the disk then, behind a cut.
-fn cut_within(rt: &impl Abort, alloc: Global, call: u64, torn: Torn) -> Result<MemDisk, Fail>
-    requires { 1 ≤ call }
-{
+fn cut_within(rt: &impl Abort, alloc: Global, call: u64, torn: Torn) -> Result<MemDisk, Fail> {
     let mut disk = fresh(alloc)?;
+    if call == 0 {
+        return Err(Fail::from("no call"));
+    }
     disk.stop_at(call);
     let mut disk = answers(rt, alloc, disk, 10, STOPPED)?;
     disk.power_cut(torn);
@@ -110,10 +109,8 @@ fn cut_within(rt: &impl Abort, alloc: Global, call: u64, torn: Torn) -> Result<M
 /// Loads the requests again behind each stop of a row.
 fn check_stops(rt: &impl Abort, alloc: Global, row: &Stop) -> Result<(), Fail> {
     for call in row.0 {
-        if *call > 0 {
-            let disk = cut_within(rt, alloc, *call, row.1)?;
-            answers(rt, alloc, disk, 0, row.2)?;
-        }
+        let disk = cut_within(rt, alloc, *call, row.1)?;
+        answers(rt, alloc, disk, 0, row.2)?;
     }
     Ok(())
 }

@@ -1,6 +1,7 @@
 //! Two nodes that go on where their disks in memory stand, those that tell their past, or those over files in memory
 //! whose bytes are held. What one node over a file shows is a row of checks/.
-use crate::playing::{Run, plays};
+use crate::comparing::holds;
+use crate::playing::{Run, plays, status_behind};
 use crate::replays::{TWO_DISKS, disks_of, held_disks, tapes_of};
 use cut_disk::CutDisk;
 use std::alloc::Global;
@@ -57,6 +58,19 @@ const TWICE: &[Life] = &[
     Life("", Run(NODE, [KEYED, ""], 0, [AGAIN_LINES, ""])),
 ];
 
+/// A life whose sink fails within its first line, and the next: the key is there, and nothing was sent.
+const FAULTED: &Run = &Run(NODE, [KEYED, ""], 6, ["", ""]);
+
+const BEHIND_A_FAULT: &Run = &Run(
+    NODE,
+    [KEYED, ""],
+    0,
+    [
+        "1 refused KEY_UPDATE_ERROR\n",
+        "2 sent 6bc1 e93d7e117393172a bee22e409f962a070a16\n",
+    ],
+);
+
 const LIVES: &[&[Life]] = &[TWIN_LIVES, LOG_LIVES];
 
 /// The lives one behind the other over these disks.
@@ -87,7 +101,15 @@ fn a_bus_goes_on_where_its_disks_stand(rt: HostRuntime) -> Result<(), Fail> {
     Ok(())
 }
 
+fn goes_on_behind_a_fault(rt: &impl Abort, alloc: Global) -> Result<(), Fail> {
+    let mut tapes = tapes_of(alloc)?;
+    let status = status_behind(alloc, FAULTED, 4, &mut tapes)?;
+    holds(rt, "a fault", status == FAULTED.2);
+    plays(rt, alloc, "", BEHIND_A_FAULT, &mut tapes)
+}
+
 #[test]
 fn a_bus_goes_on_over_disks_that_tell_their_past(rt: HostRuntime) -> Result<(), Fail> {
-    lives(&rt, rt.alloc(), tapes_of(rt.alloc())?, TWICE)
+    lives(&rt, rt.alloc(), tapes_of(rt.alloc())?, TWICE)?;
+    goes_on_behind_a_fault(&rt, rt.alloc())
 }

@@ -4,10 +4,11 @@
 //!
 //! A [`Disk`] has a fixed number of bytes, below 2^64, with addresses from 0. To a proof it means (`DiskState`):
 //!
-//! - **its bytes**, as a read gives them, and for each byte whether it is **loose**: whether a power cut may change it. A
-//!   disk tells both or neither, and no call changes which. The disks in memory tell them, and so does a disk over a file
-//!   whose bytes are held in memory (`file_disk`).
-//! - **its arms**: which of the calls to come are to fail, because [`CutDisk::stop_at`] or [`CutDisk::fail_at`] said so.
+//! - **its bytes**, as a read gives them, and for each byte whether it is **loose**: whether a power cut may change it.
+//!   A disk tells both or neither, and no call changes which. The disks in memory tell them, and so does a disk over a
+//!   file whose bytes are held in memory (`file_disk`).
+//! - **its arms**: which of the calls to come are to fail, because [`CutDisk::stop_at`] or [`CutDisk::fail_at`] said
+//!   so.
 //! - **its count of faults**, which rises at each read, write and sync that fails, and at no other call.
 //! - whether it is **quiet**: no call of it fails until one is armed. A disk that isn't quiet may fail at any call.
 //! - **its past**, if it tells that: its first state, and one entry for each call so far, with the bytes and the loose

@@ -16,7 +16,8 @@ fn done_in_memory(alloc: Global, size: usize, acts: &[Act]) -> usize {
     }
 }
 
-/// The same over one that tells its past: of one byte with room for one entry, the least, of four for more than there are.
+/// The same over one that tells its past, with room for one entry, the least, where the disk has one byte, and for nine,
+/// which no life has, where it has four.
 fn done_on_tape(alloc: Global, size: usize, acts: &[Act]) -> usize {
     if size == 0 || size > 100 {
         return 0;

@@ -14,7 +14,7 @@ word_source opened input (Opened source) = opened source
 word_source opened input (Input source) = input source
 word_source opened input (Missing source) = missing_source source
 
--- whether a word names a source that isn't there
+-- whether what a word names is a source that isn't there
 abbrev pub is_missing : {O I : Type 0} → WordSource O I → Bool
 is_missing (Opened _) = false
 is_missing (Input _) = false

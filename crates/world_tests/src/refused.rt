@@ -37,8 +37,9 @@ struct Row(Layout, Layout, &'static [u64], &'static [u8], Refused);
 /// No slot and no bound.
 const NO_CELL: &[u8] = &[0xff; 32];
 
-/// Bytes of the header, the gates of both copies of the second cell of a twin store and of the first bank of a log
-/// store; slots, of one with the bound in cell 14; and the bound, in both copies of a twin store.
+/// Bytes of the header; the gates of both copies of the second cell of a twin store, and of the first bank of a log
+/// store; slot 13 of a log store, with the bound behind it, of which the slot is named; and the bound, in both copies of
+/// a twin store.
 const ROWS: &[Row] = &[
     Row(
         LOG_ONE,
@@ -171,21 +172,24 @@ fn what_is_no_store_of_the_second_node_is_refused_under_its_number(
     Ok(())
 }
 
-/// The disks of the bus, formatted as these stores, of which the second fails at this call.
-fn failing(alloc: Global, store: Layout, call: u64) -> Result<Vec<MemDisk>, Fail> {
-    let mut made = standing(alloc, store)?;
+/// The second of these disks fails at this call.
+fn arms(made: &mut [MemDisk], call: u64) -> Result<(), Fail> {
     if made.len() != 2 || call == 0 {
         return Err(Fail::from("not two disks, or no call"));
     }
     made[1].fail_at(call);
-    Ok(made)
+    Ok(())
 }
 
 fn fails_at(rt: &impl Abort, alloc: Global, store: Layout, call: u64) -> Result<(), Fail> {
-    let mut made = failing(alloc, store, call)?;
+    let mut made = standing(alloc, store)?;
+    let before = bytes_at(made.as_mut_slice(), 2)?;
+    arms(made.as_mut_slice(), call)?;
     let fault = starts_as(alloc, store, &mut made, Start::Attach)?;
     let wanted = StartFault::Store(2, Reread::DiskFailed);
     same(rt, call, &fault, &Some(wanted));
+    let after = bytes_at(made.as_mut_slice(), 2)?;
+    same(rt, "as it was", &(after == before), &true);
     Ok(())
 }
 

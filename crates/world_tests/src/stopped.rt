@@ -28,7 +28,8 @@ fn standing(alloc: Global, kind: Kind) -> Result<Vec<MemDisk>, Fail> {
     }
 }
 
-/// The bytes of the disks of a bus with stores of version 1, and the store of the second when it was moved to version 2.
+/// The bytes of the disks of a bus with stores of version 1, and the store of the second when it was moved to version
+/// 2.
 #[derive(Drop)]
 struct Laid {
     first: [u8; SIZE],
