@@ -1,7 +1,7 @@
 /*
  * Every status of the calls of rathonsi_store.h, each from one change of a store and a call that answer RATHONSI_OK; where two causes
  * stand together, the first that the header names. With each status but RATHONSI_OK it looks that nothing was written: image, plan,
- * route, PDU and reply are compared whole.
+ * route, PDU and reply are compared whole. At the end: how far a reserve reaches.
  */
 #include <stdio.h>
 #include <stdlib.h>
