@@ -1,20 +1,20 @@
 -- The phases of a campaign, put together
-use Rattle.std.proofs.Common.{◌≡◌, ◌≤◌, ℕ, List, [], ◌∷◌, get_or, refl, inl, inr, ap, sym, subst, ◌∙◌, arith}
-use Rattle.std.specs.Prelude.{◌⊎◌, drop, length, None, Some, Result, Ok, Err, Vec}
+use Rattle.std.proofs.Common.{◌≡◌, ◌≤◌, ℕ, List, ◌∷◌, get_or, refl, inl, inr, ap, sym, subst, ◌∙◌, arith}
+use Rattle.std.specs.Prelude.{◌⊎◌, drop, length, Some, Result, Ok, Err, Vec}
 use Rattle.std.specs.declared.alloc.Global.{Global}
 use Rattle.command_edge.specs.declared.input.InputFault.TheVariants as input
 use Rattle.cell_store.specs.declared.faults.StoreFault.TheVariants as store
 use Rattle.answer_rows.specs.Rows.{Row, row_of, memory_row}
 use Rattle.answer_rows.specs.Inputs.{ReadsWhole}
 use Rattle.answer_rows.specs.InputLaws.{Lacks-whole}
-use Rattle.answer_rows.specs.Endings.{Ending, EndsInRow}
+use Rattle.answer_rows.specs.Endings.{Ending}
 use Rattle.answer_rows.specs.EndingLaws.{EndsInRow-more}
 use Rattle.cut_disk.specs.State.{DiskState}
 use Rattle.campaign_machine.specs.declared.commands.LedgerCommand.{LedgerCommand}
 use Rattle.campaign_commands.specs.declared.opening.NoLedgerCause.{NoLedgerCause}
 use Rattle.campaign_commands.specs.declared.opening.NoLedgerCause.TheVariants.{Store, BadEntry}
 use Rattle.campaign_commands.specs.Opening.{LacksLedger, ledger_size}
-use Rattle.campaign_commands.specs.Rows.{CampaignInputs, CampaignDisks, AreTwo, HasCommands, no_ledger_text, ComesBefore, no_form, no_commands, bad_line, too_few, too_small, no_ledger, no_memory_to_open, DoneCampaign, EndsCampaign, in_row, campaigned}
+use Rattle.campaign_commands.specs.Rows.{CampaignInputs, CampaignDisks, AreTwo, HasCommands, no_ledger_text, ComesBefore, no_form, no_commands, bad_line, too_few, too_small, no_ledger, no_memory_to_open, EndsCampaign, in_row, campaigned}
 use Rattle.campaign_commands.specs.Steps.{HasScriptCommands, ComesOfScript, not_two, no_script, script_refused, PreparesCampaign, IsNoLedgerRow, ComesOfDisk, disk_too_small, disk_without, disk_unopened, HasDisk, LacksDisk, no_disk, small_disk, DoesOnDisk, not_opened, first_done, DoesCampaign, disk_wanting, on_first}
 use Rattle.campaign_commands.proofs.Opened.{lacks_none, small_of_none, unopened_leaves}
 

@@ -1,14 +1,14 @@
 -- What holds of a campaign over a disk that tells its bytes
-use Rattle.std.specs.Prelude.{◌≡◌, ℕ, suc, Bool, Ok, Err, Result, Some, List, [], ◌∷◌, ◌++◌, length, take, is_some}
+use Rattle.std.specs.Prelude.{◌≡◌, ℕ, suc, Bool, Ok, Err, Result, List, [], ◌∷◌, ◌++◌, length, take}
 use Rattle.std.proofs.Common.{refl, sym, ap, ◌∙◌, subst}
 use Rattle.bus_port.specs.Sink.{SinkState}
 use Rattle.machine_runs.specs.Run.{Moment, Run, seen_as, commands_in, lines_in}
 use Rattle.machine_runs.specs.RunLaws.{Run-seen_as}
 use Rattle.numbered_run.specs.declared.printing.Unwritten.{Unwritten}
 use Rattle.numbered_run.specs.Printed.{Written}
-use Rattle.cut_disk.specs.State.{DiskState, Told}
+use Rattle.cut_disk.specs.State.{DiskState}
 use Rattle.cell_store.specs.declared.kinds.Layout.{Layout}
-use Rattle.store_runs.specs.Keeping.{Fits, TellsKept}
+use Rattle.store_runs.specs.Keeping.{Fits}
 use Rattle.store_runs.specs.KeepingLaws.{told_before, fits_store, tells_kept}
 use Rattle.store_runs.specs.DiskTurns.{DiskTurn, TellsBytes, TracedSince, FailuresTold}
 use Rattle.store_runs.specs.DiskTurnLaws.{failures_told, traced_since}
@@ -21,7 +21,7 @@ use Rattle.campaign_machine.specs.Claims.{LedgerMoment, BeginsLedger, RunsCounte
 use Rattle.key_campaign.specs.State.{LedgerState, keeping_of, TellsLedger}
 use Rattle.campaign_texts.specs.LedgerTexts.{ledger_line_text}
 use Rattle.campaign_commands.specs.Turns.{ledger_mark, ledger_calls, tells_disk_failure, StepIsKnown, LedgerTurn}
-use Rattle.campaign_commands.specs.Opening.{ledger_layout, calls_to_open, TellsFirm, LedgerOpened}
+use Rattle.campaign_commands.specs.Opening.{ledger_layout, calls_to_open, TellsFirm}
 use Rattle.campaign_commands.specs.Headline.{RanCampaign, FitsCampaign, LedgerDisk, Campaigned}
 
 -- the laws of the machine, as its public functions ensure them

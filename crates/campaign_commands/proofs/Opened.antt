@@ -1,14 +1,14 @@
 -- What is open on a disk, or why nothing is
-use Rattle.std.proofs.Common.{◌≡◌, ◌≢◌, ℕ, ◌+◌, ◌<◌, ◌≤◌, Bool, true, false, true≢false, List, [], length, replicate, refl, sym, ap, subst, ◌∙◌, inl, inr, arith}
+use Rattle.std.proofs.Common.{◌≡◌, ◌≢◌, ℕ, ◌<◌, ◌≤◌, true, false, true≢false, List, [], length, replicate, refl, sym, ap, subst, ◌∙◌, inl, inr}
 use Rattle.std.specs.Prelude.{◌⊎◌, Option, None, Some, is_some}
 use Rattle.std.specs.Str.{bytes_eq}
 use Rattle.std.proofs.lemmas.Bool.{cases_Bool}
 use Rattle.std.proofs.lemmas.List.{length-map, length-replicate}
-use Rattle.std.proofs.lemmas.Option.{same_Some, none-some}
+use Rattle.std.proofs.lemmas.Option.{none-some}
 use Rattle.std.proofs.lemmas.Slice.Eq.{bytes_eq-Decides}
 use Rattle.cut_disk.specs.State.{DiskState, Told}
 use Rattle.cut_disk.specs.Images.{firm}
-use Rattle.cut_disk.specs.Calls.{Rose, Runs, AsBefore, IsQuiet}
+use Rattle.cut_disk.specs.Calls.{Rose, Runs, AsBefore}
 use Rattle.cut_disk.specs.CallLaws.{quiet_never_rose}
 use Rattle.cell_store.specs.declared.kinds.Kind.TheVariants.{Twin}
 use Rattle.cell_store.specs.declared.kinds.Version.TheVariants.{One}
@@ -26,15 +26,15 @@ use Rattle.campaign_machine.specs.declared.entries.LedgerEntry.{LedgerEntry}
 use Rattle.campaign_machine.specs.Entries.{place_count, no_entries, AreLedgerEntries}
 use Rattle.campaign_machine.specs.Campaign.{powered_ledger, SoundLedger}
 use Rattle.key_campaign.specs.Cell.{place_cell, ledger_cells, HoldEntries, FirstBadEntry}
-use Rattle.key_campaign.specs.State.{LedgerState, keeping_of, FitsLedger, TellsLedger}
+use Rattle.key_campaign.specs.State.{LedgerState, keeping_of, FitsLedger}
 use Rattle.key_campaign.proofs.CellLaws.{one_ledger}
 use Rattle.key_campaign.proofs.CutLaws.{none_bad}
 use Rattle.key_campaign.proofs.NoEntries.{no_entries-held}
 use Rattle.campaign_commands.specs.declared.opening.NoLedgerCause.{NoLedgerCause}
 use Rattle.campaign_commands.specs.declared.opening.NoLedgerCause.TheVariants.{Store, BadEntry}
-use Rattle.campaign_commands.specs.Opening.{ledger_layout, ledger_size, calls_to_open, HasNoHeader, StandsForEntries, StartsFrom, TellsFirm, LedgerOpened, IsNoLedger, FindsBadEntry, LacksLedger, StandsForNone, KeepsBytes, LeavesRead, LeavesNone, HasEntries, HasLedger}
+use Rattle.campaign_commands.specs.Opening.{ledger_layout, ledger_size, calls_to_open, HasNoHeader, StandsForEntries, StartsFrom, TellsFirm, LedgerOpened, IsNoLedger, FindsBadEntry, LacksLedger, StandsForNone, LeavesRead, LeavesNone, HasEntries}
 use Rattle.campaign_commands.specs.Rows.{no_ledger_text}
-use Rattle.campaign_commands.specs.Campaigns.{CountsNone, NoLedgerBecause, TellsNoLedger, ServesLedger}
+use Rattle.campaign_commands.specs.Campaigns.{NoLedgerBecause, TellsNoLedger, ServesLedger}
 
 -- ---- a header of zeros
 

@@ -1,28 +1,24 @@
 -- What a campaign promises that ends in a row of the table, or did its first commands
-use Rattle.std.specs.Prelude.{◌≡◌, ◌≢◌, ◌⊎◌, ℕ, ◌<◌, ◌≤◌, List, [], ◌∷◌, drop, length, Result, Ok, Err}
-use Rattle.std.proofs.Common.{refl, sym, ap, ◌∙◌, subst, arith, inl, inr}
+use Rattle.std.specs.Prelude.{◌≡◌, ◌⊎◌, ℕ, ◌<◌, ◌≤◌, List, [], drop, length, Result, Ok, Err}
+use Rattle.std.proofs.Common.{refl, ◌∙◌, subst, arith, inl, inr}
 use Rattle.bus_port.specs.Sink.{SinkState}
-use Rattle.text_lines.specs.Readings.{Fault}
-use Rattle.answer_rows.specs.Rows.{Row, memory_row}
-use Rattle.answer_rows.specs.Inputs.{CountsFault, CountsTooMuch}
-use Rattle.answer_rows.specs.Endings.{Ending, EndsIn, MayEndIn, EndsInRow, PrintsWhole, PrintsFront, SinkFailed, CountsWriteFault}
+use Rattle.answer_rows.specs.Endings.{Ending, EndsInRow, PrintsWhole, PrintsFront, SinkFailed, CountsWriteFault}
 use Rattle.answer_rows.specs.EndingLaws.{EndsInRow-at, EndsInRow-front, EndsInRow-rose, EndsInRow-only, EndsInRow-may, EndsInRow-done}
 use Rattle.numbered_run.specs.declared.printing.Unwritten.{Unwritten}
 use Rattle.numbered_run.specs.declared.printing.Unwritten.TheVariants as unwritten
-use Rattle.numbered_run.specs.Printed.{Written, WrittenPart}
+use Rattle.numbered_run.specs.Printed.{Written}
 use Rattle.numbered_run.specs.Statuses.{unwritten_status}
 use Rattle.machine_runs.specs.Run.{Moment}
-use Rattle.cut_disk.specs.State.{DiskState}
 use Rattle.campaign_machine.specs.declared.commands.LedgerCommand.{LedgerCommand}
 use Rattle.campaign_machine.specs.declared.lines.LedgerLine.{LedgerLine}
 use Rattle.key_campaign.specs.State.{LedgerState}
 use Rattle.campaign_texts.specs.LedgerTexts.{ledger_line_text}
 use Rattle.campaign_commands.specs.declared.opening.NoLedgerCause.{NoLedgerCause}
 use Rattle.campaign_commands.specs.Opening.{ledger_size}
-use Rattle.campaign_commands.specs.Rows.{CampaignInputs, CampaignDisks, AreTwo, HasCommands, OffersCommands, OffersBadLine, OverFirst, DoneCampaign, ComesBefore, EndsCampaign, in_row, campaigned}
-use Rattle.campaign_commands.specs.Campaigns.{TellsNoLedger, ServesLedger, RanTo, DoneNone, RunsCampaign}
+use Rattle.campaign_commands.specs.Rows.{CampaignInputs, CampaignDisks, AreTwo, HasCommands, OverFirst, DoneCampaign, ComesBefore, EndsCampaign, in_row, campaigned}
+use Rattle.campaign_commands.specs.Campaigns.{TellsNoLedger, DoneNone, RunsCampaign}
 use Rattle.campaign_commands.proofs.Opened.{opened_or_none}
-use Rattle.campaign_commands.proofs.Told.{bad_or_good, few_or_first, first_or_small, over_both}
+use Rattle.campaign_commands.proofs.Told.{bad_or_good, first_or_small, over_both}
 use Rattle.campaign_commands.proofs.RowFacts.{over_first, row_2, row_4, row_5, row_7, row_8, row_9, row_10, row_status, row_unused, row_leaves, row_two, calm_whole, row_rose, row_too_much, row_bad, row_no_room, row_no_ledger, row_serves}
 
 -- ---- where it ended in a row

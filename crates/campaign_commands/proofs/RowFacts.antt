@@ -1,32 +1,24 @@
 -- What each row of the table says
-use Rattle.std.specs.Prelude.{◌≡◌, ◌≢◌, ◌⊎◌, ℕ, ◌+◌, ◌<◌, ◌≤◌, ◌==◌, Bool, false, List, [], ◌∷◌, drop, None, Some, Result, Ok, Err, codes}
-use Rattle.std.proofs.Common.{refl, sym, ap, ◌∙◌, subst, arith, inl, inr}
-use Rattle.command_edge.specs.Input.{input_limit, input_fault_status}
-use Rattle.command_edge.specs.declared.input.InputFault.{InputFault}
+use Rattle.std.specs.Prelude.{◌≡◌, ◌≢◌, ◌⊎◌, ℕ, ◌<◌, List, [], codes}
+use Rattle.std.proofs.Common.{refl, ap, arith, inl, inr}
+use Rattle.command_edge.specs.Input.{input_fault_status}
 use Rattle.command_edge.specs.declared.input.InputFault.TheVariants as input
-use Rattle.bus_port.specs.Fault.{last_count}
 use Rattle.bus_port.specs.Source.{SourceState}
 use Rattle.text_lines.specs.Readings.{Fault}
 use Rattle.text_lines.specs.Texts.{fault_text_of}
 use Rattle.answer_rows.specs.Rows.{Row, memory_row}
-use Rattle.answer_rows.specs.Inputs.{Reading, IsUnread, ReadsWhole, Offers, CountsFault, CountsTooMuch}
-use Rattle.answer_rows.specs.InputLaws.{Offers-whole, Offers-is, CountsFault-is, CountsTooMuch-is}
-use Rattle.answer_rows.specs.Endings.{Ending, EndsIn, MayEndIn, EndsInRow, PrintsWhole, PrintsFront, SinkFailed, CountsWriteFault}
-use Rattle.answer_rows.specs.EndingLaws.{EndsInRow-at, EndsInRow-front, EndsInRow-rose, EndsInRow-only, EndsInRow-may, EndsInRow-done}
-use Rattle.numbered_run.specs.declared.printing.Unwritten.{Unwritten}
+use Rattle.answer_rows.specs.Inputs.{Reading, IsUnread, ReadsWhole, CountsFault, CountsTooMuch}
+use Rattle.answer_rows.specs.InputLaws.{Offers-is, CountsFault-is, CountsTooMuch-is}
+use Rattle.answer_rows.specs.Endings.{Ending, PrintsWhole}
 use Rattle.numbered_run.specs.declared.printing.Unwritten.TheVariants as unwritten
-use Rattle.numbered_run.specs.Printed.{Written}
 use Rattle.cut_disk.specs.State.{DiskState}
 use Rattle.campaign_machine.specs.declared.commands.LedgerCommand.{LedgerCommand}
-use Rattle.campaign_texts.specs.CommandForms.{campaign_of}
-use Rattle.campaign_texts.specs.LedgerTexts.{ledger_line_text}
 use Rattle.campaign_commands.specs.declared.opening.NoLedgerCause.{NoLedgerCause}
-use Rattle.campaign_commands.specs.Opening.{ledger_size, LacksLedger}
-use Rattle.campaign_commands.specs.Headline.{RanCampaign}
-use Rattle.campaign_commands.specs.Rows.{CampaignInputs, CampaignDisks, AreTwo, NoCommands, HasBadLine, HasCommands, OffersCommands, OffersBadLine, OverFirst, campaign_usage, too_few_text, too_small_text, no_ledger_text, DoneCampaign}
-use Rattle.campaign_commands.specs.Rows.{ComesBefore, no_form, no_commands, bad_line, too_few, too_small, no_ledger, no_memory_to_open, EndsCampaign, in_row, campaigned}
-use Rattle.campaign_commands.specs.Campaigns.{RefusesDisk, TellsNoLedger, ServesLedger, RanTo, DoneNone, RunsCampaign}
-use Rattle.campaign_commands.proofs.Opened.{lacks_leaves, lacks_none, lacks_because, lacks_room, opened_or_none, serves_or_lacks}
+use Rattle.campaign_commands.specs.Opening.{ledger_size}
+use Rattle.campaign_commands.specs.Rows.{CampaignInputs, CampaignDisks, AreTwo, NoCommands, HasBadLine, HasCommands, OffersCommands, OffersBadLine, OverFirst, campaign_usage, too_few_text, too_small_text}
+use Rattle.campaign_commands.specs.Rows.{ComesBefore, no_form, no_commands, bad_line, too_few, too_small, no_ledger, no_memory_to_open}
+use Rattle.campaign_commands.specs.Campaigns.{RefusesDisk, TellsNoLedger, ServesLedger, DoneNone}
+use Rattle.campaign_commands.proofs.Opened.{lacks_leaves, lacks_none, lacks_because, lacks_room, serves_or_lacks}
 use Rattle.campaign_commands.proofs.Told.{same_commands_told, bad_or_good, few_or_first, first_or_small, over_both}
 
 -- what holds of the first disk in one way holds in another

@@ -1,6 +1,6 @@
 -- What contradicts itself among inputs and disks
-use Rattle.std.specs.Prelude.{◌≡◌, ◌⊎◌, ℕ, ◌<◌, ◌≤◌, List, [], ◌∷◌, Result, Ok, Err}
-use Rattle.std.proofs.Common.{refl, sym, ap, ◌∙◌, subst, arith, inl, inr}
+use Rattle.std.specs.Prelude.{◌≡◌, ◌⊎◌, ◌<◌, ◌≤◌, List, [], ◌∷◌, Result, Ok, Err}
+use Rattle.std.proofs.Common.{sym, ap, ◌∙◌, subst, arith, inl, inr}
 use Rattle.text_lines.specs.Readings.{Fault}
 use Rattle.answer_rows.specs.InputLaws.{Offers-whole}
 use Rattle.cut_disk.specs.State.{DiskState}

@@ -1,6 +1,6 @@
 -- The calls of a ledger as turns
-use Rattle.std.specs.Prelude.{◌≡◌, ◌≢◌, ℕ, ◌+◌, Bool, Option, None, Some, option_map, Result, Ok, Err, IfErr, IsErrOf, OnOk, OnErr, List, [], ◌∷◌}
-use Rattle.std.proofs.Common.{refl, sym, ap, subst}
+use Rattle.std.specs.Prelude.{◌≡◌, ◌≢◌, ℕ, ◌+◌, Bool, Option, option_map, Result, Ok, Err, IfErr, OnOk, OnErr, List, [], ◌∷◌}
+use Rattle.std.proofs.Common.{refl, ap}
 use Rattle.cut_disk.specs.declared.Torn.{Torn}
 use Rattle.cut_disk.specs.State.{Cut, Stop, Fail}
 use Rattle.cut_disk.specs.Calls.{Rose, Runs}
@@ -11,9 +11,7 @@ use Rattle.cell_store.specs.Cells.{CellsState, StandsNow}
 use Rattle.memory_update.specs.declared.messages.Request.{Request}
 use Rattle.campaign_machine.specs.declared.commands.Confirm.{Confirm}
 use Rattle.campaign_machine.specs.declared.commands.Issue.{Issue}
-use Rattle.campaign_machine.specs.declared.commands.LedgerCommand.{LedgerCommand}
 use Rattle.campaign_machine.specs.declared.commands.LedgerCommand.TheVariants as command
-use Rattle.campaign_machine.specs.declared.lines.LedgerLine.{LedgerLine}
 use Rattle.campaign_machine.specs.declared.lines.LedgerLine.TheVariants as line
 use Rattle.campaign_machine.specs.Entries.{place_count, entry_for}
 use Rattle.campaign_machine.specs.Campaign.{powered_ledger, stays_off}

@@ -1,8 +1,7 @@
 -- The campaign of the example
-use Rattle.std.proofs.Common.{◌≡◌, ◌≤◌, List, [], ◌∷◌, length, refl, arith}
+use Rattle.std.proofs.Common.{◌≡◌, ◌≤◌, [], ◌∷◌, length, refl, arith}
 use Rattle.std.specs.Prelude.{Some}
 use Rattle.bus_port.specs.Sink.{SinkState}
-use Rattle.cut_disk.specs.State.{DiskState}
 use Rattle.command_edge.specs.Input.{input_limit}
 use Rattle.command_edge.specs.declared.input.InputFault.TheVariants as input
 use Rattle.answer_rows.specs.Endings.{Ending}

@@ -1,5 +1,5 @@
 -- What a campaign promises (own)
-use Rattle.std.specs.Prelude.{◌≡◌, ◌⊎◌, ℕ, ◌<◌, ◌≤◌, List, [], drop, length, Option, Some, Result, Ok, Err, codes}
+use Rattle.std.specs.Prelude.{◌≡◌, ◌⊎◌, ℕ, ◌<◌, ◌≤◌, List, [], drop, length, Some, Result, Ok, Err, codes}
 use Rattle.command_edge.specs.declared.input.InputFault.TheVariants.{ReadFault, TooLong}
 use Rattle.cut_disk.specs.State.{DiskState, Told}
 use Rattle.cut_disk.specs.Calls.{Rose, IsQuiet}

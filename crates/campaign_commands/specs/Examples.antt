@@ -1,5 +1,5 @@
 -- What the example of a campaign is run over (own)
-use Rattle.std.specs.Prelude.{◌≡◌, ℕ, List, [], ◌∷◌, replicate}
+use Rattle.std.specs.Prelude.{◌≡◌, ℕ, [], ◌∷◌, replicate}
 use Rattle.cut_disk.specs.State.{DiskState}
 use Rattle.cut_disk.specs.Memory.{fresh, disk_of}
 use Rattle.answer_rows.specs.Inputs.{Offers}

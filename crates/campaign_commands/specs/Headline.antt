@@ -1,5 +1,5 @@
 -- What holds of a campaign over a disk that tells its bytes: all of it is said of one run of the machine (own)
-use Rattle.std.specs.Prelude.{◌≡◌, ℕ, Bool, Option, Some, List, length, take, All, Result}
+use Rattle.std.specs.Prelude.{◌≡◌, Bool, Option, Some, List, length, take, All, Result}
 use Rattle.bus_port.specs.Sink.{SinkState}
 use Rattle.cut_disk.specs.State.{DiskState, Told, Entry}
 use Rattle.key_slots.specs.declared.memory.Slot.{Slot}
@@ -10,7 +10,6 @@ use Rattle.store_runs.specs.Keeping.{Fits}
 use Rattle.store_runs.specs.DiskTurns.{TracedSince, FailuresTold}
 use Rattle.campaign_machine.specs.declared.commands.LedgerCommand.{LedgerCommand}
 use Rattle.campaign_machine.specs.declared.entries.LedgerEntry.{LedgerEntry}
-use Rattle.campaign_machine.specs.declared.lines.LedgerLine.{LedgerLine}
 use Rattle.campaign_machine.specs.Entries.{AreLedgerEntries}
 use Rattle.campaign_machine.specs.Campaign.{Campaign, powered_ledger}
 use Rattle.campaign_machine.specs.Steps.{LedgerStep}

@@ -15,7 +15,7 @@ use Rattle.store_runs.specs.DiskTurns.{OpenedDisk}
 use Rattle.campaign_machine.specs.declared.entries.LedgerEntry.{LedgerEntry}
 use Rattle.campaign_machine.specs.Entries.{place_count, no_entries, AreLedgerEntries}
 use Rattle.campaign_machine.specs.Campaign.{powered_ledger, SoundLedger}
-use Rattle.key_campaign.specs.Cell.{ledger_cells, HoldEntries, FirstBadEntry}
+use Rattle.key_campaign.specs.Cell.{ledger_cells, FirstBadEntry}
 use Rattle.key_campaign.specs.State.{LedgerState, TellsLedger}
 use Rattle.campaign_commands.specs.declared.opening.NoLedgerCause.{NoLedgerCause}
 use Rattle.campaign_commands.specs.declared.opening.NoLedgerCause.TheVariants.{Store, BadEntry}

@@ -17,7 +17,7 @@ use Rattle.campaign_machine.specs.declared.commands.LedgerCommand.{LedgerCommand
 use Rattle.campaign_texts.specs.CommandForms.{campaign_of}
 use Rattle.campaign_commands.specs.declared.opening.NoLedgerCause.{NoLedgerCause}
 use Rattle.campaign_commands.specs.declared.opening.NoLedgerCause.TheVariants.{Store, BadEntry}
-use Rattle.campaign_commands.specs.Opening.{ledger_size, LacksLedger, LeavesRead, LeftWithoutMemory, TellsFirm}
+use Rattle.campaign_commands.specs.Opening.{ledger_size, LacksLedger, LeftWithoutMemory, TellsFirm}
 use Rattle.campaign_commands.specs.Headline.{RanCampaign, Campaigned}
 
 -- ---- what goes in

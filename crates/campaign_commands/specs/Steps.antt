@@ -17,7 +17,7 @@ use Rattle.campaign_machine.specs.declared.commands.LedgerCommand.{LedgerCommand
 use Rattle.campaign_texts.specs.CommandForms.{campaign_of}
 use Rattle.campaign_texts.specs.ScriptCommands.{IsScriptCommand}
 use Rattle.campaign_commands.specs.declared.opening.NoLedgerCause.{NoLedgerCause}
-use Rattle.campaign_commands.specs.declared.opening.NoLedgerCause.TheVariants.{Store, BadEntry}
+use Rattle.campaign_commands.specs.declared.opening.NoLedgerCause.TheVariants.{Store}
 use Rattle.campaign_commands.specs.Opening.{ledger_size, LacksLedger, LeftWithoutMemory}
 use Rattle.campaign_commands.specs.Rows.{CampaignInputs, CampaignDisks, AreTwo, NoCommands, HasBadLine, HasCommands}
 use Rattle.campaign_commands.specs.Rows.{OverFirst, campaign_usage, too_few_text, too_small_text, no_ledger_text}

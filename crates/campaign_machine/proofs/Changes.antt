@@ -1,7 +1,6 @@
 -- What the change of one place leaves of the entries
-use Rattle.std.specs.Prelude.{◌≡◌, ◌≢◌, ◌⊎◌, ℕ, ◌<◌, ◌≤◌, Bool, true, false, Option, None, Some, is_none, List, length, set}
-use Rattle.std.specs.List.{position_or_len}
-use Rattle.std.proofs.Common.{refl, sym, ap, subst, ◌∙◌, arith, inl, inr, true≢false}
+use Rattle.std.specs.Prelude.{◌≡◌, ◌≢◌, ◌⊎◌, ℕ, ◌<◌, ◌≤◌, true, false, Option, None, Some, is_none, List, length, set}
+use Rattle.std.proofs.Common.{sym, ap, subst, ◌∙◌, arith, inl, inr, true≢false}
 use Rattle.std.proofs.Math.ListN.{get_or}
 use Rattle.std.proofs.lemmas.Bool.{cases_Bool}
 use Rattle.std.proofs.lemmas.Bool.Decides.{eqb_tells}
@@ -11,8 +10,8 @@ use Rattle.std.proofs.lemmas.List.Sums.{position_or_len_is, fails_before_first, 
 use Rattle.std.proofs.lemmas.Option.{same_Some}
 use Rattle.campaign_machine.specs.declared.entries.LedgerEntry.{LedgerEntry}
 use Rattle.campaign_machine.specs.declared.entries.PendingEntry.{PendingEntry}
-use Rattle.campaign_machine.specs.Entries.{IsEntry, same_slot, is_of, place_for, empty_place, entry_at, entry_for, last_issued, entry_counter, TakesPlace, AreLedgerEntries, with_change, Advances}
-use Rattle.campaign_machine.proofs.Places.{same_slot_is, same_slot_self, none_is_of, Finds, is_of_same, at_place, inside_of}
+use Rattle.campaign_machine.specs.Entries.{IsEntry, same_slot, is_of, place_for, entry_at, entry_for, last_issued, entry_counter, TakesPlace, AreLedgerEntries, with_change, Advances}
+use Rattle.campaign_machine.proofs.Places.{same_slot_is, same_slot_self, none_is_of, at_place, inside_of}
 
 module _ (entries : List (Option LedgerEntry)) (k : ℕ) (e : LedgerEntry) (takes : TakesPlace e.uid e.id entries k) where
   abbrev after : List (Option LedgerEntry)

@@ -1,12 +1,10 @@
 -- What a step leaves of a ledger, whatever it was told: the rows by what they do
-use Rattle.std.specs.Prelude.{◌≡◌, Option, None, Some}
-use Rattle.std.proofs.Common.{refl}
+use Rattle.std.specs.Prelude.{◌≡◌}
 use Rattle.campaign_machine.specs.declared.commands.LedgerCommand.{LedgerCommand}
 use Rattle.campaign_machine.specs.declared.commands.LedgerCommand.TheVariants as command
 use Rattle.campaign_machine.specs.declared.entries.PendingEntry.{PendingEntry}
 use Rattle.campaign_machine.specs.declared.lines.LedgerLine.{LedgerLine}
 use Rattle.campaign_machine.specs.declared.lines.LedgerLine.TheVariants as line
-use Rattle.campaign_machine.specs.declared.lines.LedgerRefusal.{LedgerRefusal}
 use Rattle.campaign_machine.specs.declared.lines.LedgerRefusal.TheVariants as refusal
 use Rattle.campaign_machine.specs.Campaign.{Campaign, changed_ledger, failed_change, stays_off}
 use Rattle.campaign_machine.specs.Steps.{MakesEntry, PowersLedger, LedgerStep}

@@ -1,5 +1,5 @@
 -- What an entry that is confirmed tells
-use Rattle.std.specs.Prelude.{◌≡◌, ◌⊎◌, ℕ, suc, ◌+◌, ◌<◌, Bool, true, false, Option, None, Some, List, [], ◌∷◌, length, Any}
+use Rattle.std.specs.Prelude.{◌≡◌, ◌⊎◌, ℕ, suc, true, Option, None, Some, List, [], ◌∷◌, Any}
 use Rattle.std.proofs.Common.{refl, sym, ap, subst, ◌∙◌, arith, inl, inr, true≢false}
 use Rattle.std.proofs.lemmas.Option.{same_Some, none-some}
 use Rattle.machine_runs.specs.Run.{Run}
@@ -10,14 +10,14 @@ use Rattle.campaign_machine.specs.declared.commands.LedgerCommand.TheVariants as
 use Rattle.campaign_machine.specs.declared.entries.LedgerEntry.{LedgerEntry}
 use Rattle.campaign_machine.specs.declared.entries.PendingEntry.{PendingEntry}
 use Rattle.campaign_machine.specs.declared.lines.LedgerLine.{LedgerLine}
-use Rattle.campaign_machine.specs.Entries.{entry_for, entry_counter, with_change, Advances}
+use Rattle.campaign_machine.specs.Entries.{entry_for, with_change, Advances}
 use Rattle.campaign_machine.specs.Campaign.{Campaign, SoundLedger}
-use Rattle.campaign_machine.specs.Steps.{ConfirmsWith, MakesConfirm, MakesEntry, LedgerStep}
+use Rattle.campaign_machine.specs.Steps.{ConfirmsWith, MakesEntry, LedgerStep}
 use Rattle.campaign_machine.specs.Claims.{LedgerMoment, CarriesReply, ConfirmedByReply}
 use Rattle.campaign_machine.proofs.Places.{found_of}
 use Rattle.campaign_machine.proofs.Changes.{entry_after}
 use Rattle.campaign_machine.proofs.Effects.{effect_of, stays, made, failed, powers, off}
-use Rattle.campaign_machine.proofs.SoundSteps.{advances_made, up_made, pending_advances, Sound-step}
+use Rattle.campaign_machine.proofs.SoundSteps.{advances_made, pending_advances, Sound-step}
 
 -- the command carries a reply for this entry
 abbrev pub CarriesFor : LedgerEntry → LedgerMoment → Type 0

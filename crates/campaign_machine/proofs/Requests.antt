@@ -1,12 +1,10 @@
 -- What the requests of a run build, and which engine allows them
-use Rattle.std.specs.Prelude.{◌≡◌, ℕ, ◌<◌, Bool, Option, None, Ok, List, [], ◌∷◌, All}
+use Rattle.std.specs.Prelude.{Bool, List, [], ◌∷◌, All}
 use Rattle.std.proofs.Common.{refl}
 use Rattle.std.proofs.lemmas.List.Elements.{All-nil, All-cons}
 use Rattle.key_slots.specs.declared.memory.Slot.{Slot}
-use Rattle.key_slots.specs.Slots.{slot_at, counter_of, IsSlots}
+use Rattle.key_slots.specs.Slots.{slot_at}
 use Rattle.key_slots.specs.SlotsLaws.{IsSlot-slot_at}
-use Rattle.key_slots.specs.Usage.{first_applying}
-use Rattle.memory_update.specs.Loading.{key_in, head_refusals, Allows}
 use Rattle.memory_update.specs.LoadingLaws.{Allows-Builds, IsBlock-key_in}
 use Rattle.she_aes.specs.Cipher.{IsBlock}
 use Rattle.std.proofs.Common.{subst}

@@ -1,7 +1,6 @@
 -- The counters of a unit and slot rise, and its entry stays
-use Rattle.std.specs.Prelude.{◌≡◌, ◌⊎◌, ℕ, ◌+◌, ◌<◌, ◌≤◌, Bool, true, false, cond, Option, None, Some, List, [], ◌∷◌, All, AllPairs}
+use Rattle.std.specs.Prelude.{◌≡◌, ℕ, ◌+◌, ◌<◌, ◌≤◌, Bool, true, false, cond, Option, None, Some, List, [], ◌∷◌, All}
 use Rattle.std.proofs.Common.{refl, sym, ap, subst, ◌∙◌, arith, inl, inr}
-use Rattle.std.proofs.lemmas.Bool.{cases_Bool}
 use Rattle.std.proofs.lemmas.List.Elements.{All-nil, All-cons}
 use Rattle.std.proofs.lemmas.List.Kept.{AllPairs-cons}
 use Rattle.std.proofs.lemmas.Option.{same_Some, none-some}
@@ -15,8 +14,8 @@ use Rattle.campaign_machine.specs.declared.lines.LedgerLine.{LedgerLine}
 use Rattle.campaign_machine.specs.declared.lines.LedgerLine.TheVariants as line
 use Rattle.campaign_machine.specs.Entries.{same_slot, entry_for, last_issued, entry_counter, with_change, Advances}
 use Rattle.campaign_machine.specs.Campaign.{Campaign, SoundLedger}
-use Rattle.campaign_machine.specs.Steps.{IssuesRequest, MakesIssue, LedgerStep}
-use Rattle.campaign_machine.specs.Claims.{LedgerMoment, issued_for, CountersRise, StillKept, KeepsEntries}
+use Rattle.campaign_machine.specs.Steps.{MakesIssue, LedgerStep}
+use Rattle.campaign_machine.specs.Claims.{LedgerMoment, issued_for, CountersRise, KeepsEntries}
 use Rattle.campaign_machine.proofs.Places.{same_slot_is}
 use Rattle.campaign_machine.proofs.Changes.{entry_after, own_entry, last_issued_change}
 use Rattle.campaign_machine.proofs.Effects.{effect_of, stays, made, failed, powers, off}

@@ -1,7 +1,6 @@
 -- How many counters a run skips
-use Rattle.std.specs.Prelude.{◌≡◌, ◌⊎◌, ℕ, ◌+◌, ◌<◌, ◌≤◌, Bool, true, false, cond, Option, None, Some, IfSome, List, [], ◌∷◌, ◌++◌, unwrap_or}
+use Rattle.std.specs.Prelude.{◌≡◌, ℕ, ◌+◌, ◌≤◌, Bool, true, false, cond, Option, None, Some, List, [], ◌∷◌, ◌++◌, unwrap_or}
 use Rattle.std.proofs.Common.{refl, sym, ap, subst, ◌∙◌, arith, inl, inr, true≢false}
-use Rattle.std.proofs.lemmas.Bool.{cases_Bool}
 use Rattle.std.proofs.lemmas.Option.{same_Some, none-some}
 use Rattle.machine_runs.specs.Run.{Run}
 use Rattle.campaign_machine.specs.declared.commands.Issue.{Issue}
@@ -12,13 +11,12 @@ use Rattle.campaign_machine.specs.declared.entries.LedgerEntry.{LedgerEntry}
 use Rattle.campaign_machine.specs.declared.entries.PendingEntry.{PendingEntry}
 use Rattle.campaign_machine.specs.declared.lines.LedgerLine.{LedgerLine}
 use Rattle.campaign_machine.specs.declared.lines.LedgerLine.TheVariants as line
-use Rattle.campaign_machine.specs.declared.lines.LedgerRefusal.{LedgerRefusal}
 use Rattle.campaign_machine.specs.declared.lines.LedgerRefusal.TheVariants as refusal
-use Rattle.campaign_machine.specs.Entries.{same_slot, entry_for, last_issued, entry_counter, with_change, Advances}
+use Rattle.campaign_machine.specs.Entries.{same_slot, last_issued, entry_counter, with_change, Advances}
 use Rattle.campaign_machine.specs.Campaign.{Campaign, changed_ledger, failed_change, SoundLedger}
 use Rattle.campaign_machine.specs.Steps.{MakesIssue, MakesConfirm, MakesEntry, PowersLedger, LedgerStep}
 use Rattle.campaign_machine.specs.Claims.{LedgerMoment, issued_for, failed_for, issued_before, failures_after, failed_since, FewAreSkipped}
-use Rattle.campaign_machine.proofs.Places.{same_slot_is, same_slot_self, found_of}
+use Rattle.campaign_machine.proofs.Places.{same_slot_self, found_of}
 use Rattle.campaign_machine.proofs.Changes.{entry_after}
 use Rattle.campaign_machine.proofs.SoundSteps.{advances_made, up_made, pending_advances, Sound-step}
 use Rattle.campaign_machine.proofs.Rising.{issued_now}

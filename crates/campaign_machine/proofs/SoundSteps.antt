@@ -1,9 +1,8 @@
 -- A step keeps a ledger sound
-use Rattle.std.specs.Prelude.{◌≡◌, ◌≢◌, ◌⊎◌, ℕ, ◌+◌, ◌<◌, ◌≤◌, ◌&&◌, nat_le, Bool, true, false, Option, None, Some, IfSome, List, [], ◌∷◌}
+use Rattle.std.specs.Prelude.{◌≡◌, ℕ, ◌+◌, ◌≤◌, ◌&&◌, nat_le, Bool, true, false, Some, IfSome, List, [], ◌∷◌}
 use Rattle.std.proofs.Common.{refl, sym, ap, subst, ◌∙◌, arith, true≢false, inl, inr}
 use Rattle.std.proofs.lemmas.Bool.Decides.{nat_tests}
 use Rattle.std.proofs.lemmas.List.{length-set}
-use Rattle.std.proofs.lemmas.Option.{none-some}
 use Rattle.key_slots.specs.Authority.{pairs, is_pair}
 use Rattle.key_slots.specs.AuthorityLaws.{is_pair_listed, passes_at}
 use Rattle.machine_runs.specs.Run.{Run}
@@ -14,7 +13,7 @@ use Rattle.campaign_machine.specs.declared.commands.LedgerCommand.TheVariants as
 use Rattle.campaign_machine.specs.declared.entries.LedgerEntry.{LedgerEntry}
 use Rattle.campaign_machine.specs.declared.entries.PendingEntry.{PendingEntry}
 use Rattle.campaign_machine.specs.declared.lines.LedgerLine.{LedgerLine}
-use Rattle.campaign_machine.specs.Entries.{greatest_counter, IsUnit, IsEntry, place_for, entry_for, entry_counter, last_issued, TakesPlace, AreLedgerEntries, with_change, Advances}
+use Rattle.campaign_machine.specs.Entries.{IsEntry, place_for, entry_for, entry_counter, last_issued, AreLedgerEntries, with_change, Advances}
 use Rattle.campaign_machine.specs.Campaign.{Campaign, powered_ledger, changed_ledger, failed_change, stays_off, SoundLedger}
 use Rattle.campaign_machine.specs.Steps.{MakesIssue, MakesConfirm, MakesEntry, PowersLedger, LedgerStep}
 use Rattle.campaign_machine.specs.Claims.{LedgerMoment}

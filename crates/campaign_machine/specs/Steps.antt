@@ -4,7 +4,6 @@ use Rattle.std.specs.Prelude.{◌≡◌, ◌⊎◌, ℕ, ◌+◌, ◌<◌, Bool,
 use Rattle.key_slots.specs.Authority.{is_pair}
 use Rattle.key_slots.specs.declared.memory.Flags.{Flags}
 use Rattle.memory_update.specs.Messages.{Builds, Confirms}
-use Rattle.memory_update.specs.declared.messages.Reply.{Reply}
 use Rattle.memory_update.specs.declared.messages.Request.{Request}
 use Rattle.memory_update.specs.declared.messages.Update.{Update}
 use Rattle.campaign_machine.specs.declared.commands.Issue.{Issue}

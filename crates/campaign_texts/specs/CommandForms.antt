@@ -1,6 +1,6 @@
 -- What the words of a line mean as a command of a campaign (own; a UID, a slot, flags and keys are those of the SHE
 -- specification)
-use Rattle.std.specs.Prelude.{ℕ, List, Option, Result, Ok}
+use Rattle.std.specs.Prelude.{ℕ, List, Result, Ok}
 use Rattle.std.specs.Option.{ok_or}
 use Rattle.campaign_machine.specs.declared.commands.LedgerCommand.{LedgerCommand}
 use Rattle.campaign_machine.specs.declared.commands.LedgerCommand.TheVariants as command

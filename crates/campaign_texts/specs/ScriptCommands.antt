@@ -1,5 +1,5 @@
 -- Which commands a script can have (own)
-use Rattle.std.specs.Prelude.{ℕ, ◌≤◌}
+use Rattle.std.specs.Prelude.{◌≤◌}
 use Rattle.campaign_machine.specs.declared.commands.LedgerCommand.{LedgerCommand}
 use Rattle.campaign_machine.specs.declared.commands.LedgerCommand.TheVariants as command
 use Rattle.campaign_machine.specs.Entries.{IsUnit}

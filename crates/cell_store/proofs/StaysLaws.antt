@@ -1,14 +1,13 @@
 -- Calls all along which the bytes of a disk stay, and a cut before them.
-use Rattle.std.proofs.Common.{◌≡◌, ℕ, List, [], ◌∷◌, ◌++◌, Option, Some, None, refl, sym, ap, subst, ◌∙◌}
-use Rattle.std.specs.Prelude.{All}
+use Rattle.std.proofs.Common.{◌≡◌, ℕ, List, [], ◌∷◌, ◌++◌, Some, None, sym, ap, ◌∙◌}
 use Rattle.std.proofs.lemmas.List.{append-nil, append_assoc, append_cancel_left}
 use Rattle.std.proofs.lemmas.List.Elements.{All-nil, All-cons, All-append, All-same}
 use Rattle.std.proofs.lemmas.Option.{same_Some}
 use Rattle.cut_disk.specs.declared.Torn.{Torn}
 use Rattle.cut_disk.specs.declared.Mark.{Mark}
-use Rattle.cut_disk.specs.State.{DiskState, Told, Entry, Cut, past_entry}
+use Rattle.cut_disk.specs.State.{DiskState, Entry, Cut, past_entry}
 use Rattle.cut_disk.specs.Calls.{Call, Runs}
-use Rattle.cell_store.specs.Reading.{StaysTold, EntriesOfCut, CutStays}
+use Rattle.cell_store.specs.Reading.{StaysTold, CutStays}
 
 -- no call
 pub stays_none : (s : DiskState) → StaysTold s s

@@ -1,12 +1,11 @@
 -- What the calls of a disk in memory make of the range that was written since the last sync.
-use Rattle.std.proofs.Common.{◌≡◌, ℕ, ◌+◌, ◌-◌, ◌<◌, ◌≤◌, ◌⊎◌, inl, inr, ⊎_elim, Bool, false, List, length, get_or, replicate, refl, sym, ap, ◌∙◌, arith, rules}
-use Rattle.std.specs.Prelude.{if◌then◌else◌}
+use Rattle.std.proofs.Common.{◌≡◌, ℕ, ◌+◌, ◌-◌, ◌<◌, ◌≤◌, ◌⊎◌, inl, inr, ⊎_elim, Bool, false, List, length, get_or, replicate, refl, sym, ◌∙◌, arith, rules}
 use Rattle.std.specs.List.{slice_range}
 use Rattle.std.proofs.lemmas.Bool.{cases_lt}
-use Rattle.std.proofs.lemmas.List.{places, same_lists, length-replicate, get_or-replicate, get_or_default, ext_get_or}
+use Rattle.std.proofs.lemmas.List.{places, ext_get_or}
 use Rattle.cut_disk.specs.declared.Torn.{Torn}
 use Rattle.cut_disk.specs.Images.{splice}
-use Rattle.cut_disk.specs.Splices.{get_or-splice_before, get_or-splice_behind, length-splice, get_or-splice_in}
+use Rattle.cut_disk.specs.Splices.{get_or-splice_before, get_or-splice_behind}
 use Rattle.cut_disk.specs.Memory.{left_byte}
 use Rattle.cut_disk.specs.Ranges.{IsSameOutside, IsFirmOutside}
 

@@ -1,13 +1,13 @@
 -- What an entry does to a tape, and to the disk that it is of.
-use Rattle.std.proofs.Common.{◌≡◌, ℕ, ◌+◌, ◌<◌, Bool, true, false, List, [], ◌∷◌, ◌++◌, length, nat_lt, get_or, Option, Some, None, refl, sym, ap, ◌∙◌, arith, ⊎_elim}
+use Rattle.std.proofs.Common.{◌≡◌, ℕ, ◌+◌, Bool, true, false, List, [], ◌∷◌, ◌++◌, length, nat_lt, get_or, Option, Some, None, refl, sym, ap, ◌∙◌, arith, ⊎_elim}
 use Rattle.std.specs.Prelude.{if◌then◌else◌}
 use Rattle.std.proofs.lemmas.Bool.{cases_lt}
 use Rattle.std.proofs.Math.ListN.{get_or-append}
 use Rattle.std.proofs.Math.Seq.{get_or-append_seam}
 use Rattle.std.proofs.lemmas.List.{length-append}
 use Rattle.cut_disk.specs.declared.tape.PastEntry.{PastEntry}
-use Rattle.cut_disk.specs.State.{Mark, Entry, past_entry, DiskState}
-use Rattle.cut_disk.specs.Calls.{Call, AddsOne, newest}
+use Rattle.cut_disk.specs.State.{Mark, Entry, past_entry}
+use Rattle.cut_disk.specs.Calls.{Call, newest}
 use Rattle.cut_disk.specs.CallLaws.{newest-append}
 use Rattle.cut_disk.specs.Memory.{Contents, told_of, disk_of}
 use Rattle.cut_disk.specs.Tape.{TapeState, AllSized, with_entry}

@@ -2,7 +2,7 @@
 use Rattle.std.specs.Prelude.{◌≡◌, ℕ, ◌<◌, Bool, List, [], ◌∷◌, ◌++◌, length, take, map, slice_index_or, Option, Some}
 use Rattle.std.specs.Prelude.{None, if◌then◌else◌, nat_lt}
 use Rattle.cut_disk.specs.declared.tape.PastEntry.{PastEntry}
-use Rattle.cut_disk.specs.State.{Entry, Mark, past_entry}
+use Rattle.cut_disk.specs.State.{Entry, past_entry}
 
 -- the size of each state, the greatest number of entries, and the past, if it is told
 pub record TapeState : Type 0 where

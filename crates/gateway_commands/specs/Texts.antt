@@ -1,5 +1,5 @@
 -- What a gateway prints, in lower-case digits, each line with its line feed
-use Rattle.std.specs.Prelude.{ℕ, ◌+◌, List, [], ◌∷◌, ◌++◌, codes}
+use Rattle.std.specs.Prelude.{ℕ, List, [], ◌∷◌, ◌++◌, codes}
 use Rattle.std.specs.Fmt.{decimal}
 use Rattle.byte_lists.specs.Numbers.{bytes_of}
 use Rattle.hex.specs.Hex.{encode_lower}

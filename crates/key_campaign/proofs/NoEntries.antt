@@ -1,6 +1,6 @@
 -- A ledger without entries
-use Rattle.std.proofs.Common.{◌≡◌, ℕ, suc, zero, List, [], ◌∷◌, map, replicate, refl, sym, ap, ◌∙◌}
-use Rattle.std.specs.Prelude.{Option, None, Some}
+use Rattle.std.proofs.Common.{◌≡◌, ℕ, suc, zero, List, ◌∷◌, map, replicate, refl, sym, ap, ◌∙◌}
+use Rattle.std.specs.Prelude.{Option, None}
 use Rattle.std.proofs.lemmas.Option.{none-some}
 use Rattle.campaign_machine.specs.declared.entries.LedgerEntry.{LedgerEntry}
 use Rattle.campaign_machine.specs.Entries.{place_count, entry_at, no_entries}

@@ -1,5 +1,5 @@
 -- The two phases of a run, put together
-use Rattle.std.proofs.Common.{◌≡◌, ℕ, List, inl, inr, subst, sym, ap, arith}
+use Rattle.std.proofs.Common.{◌≡◌, List, inl, inr, subst, ap, arith}
 use Rattle.bus_port.specs.Source.{SourceState}
 use Rattle.answer_rows.specs.Rows.{Row}
 use Rattle.answer_rows.specs.Inputs.{IsUnread, CountsFault}

@@ -10,7 +10,7 @@ use Rattle.pdu_collection.specs.declared.pair_lines.Entry.{Entry}
 use Rattle.pdu_collection.specs.declared.pair_lines.PairLine.{PairLine}
 use Rattle.pdu_collection.specs.declared.pair_lines.PairLine.TheVariants as line
 use Rattle.pdu_collection.specs.Joined.{Given}
-use Rattle.pdu_collection.specs.Answering.{Said, said_text, arrival_of, said_accepts, counter_behind_lines, Says, SaysEach, none, more}
+use Rattle.pdu_collection.specs.Answering.{Said, said_text, arrival_of, said_accepts, counter_behind_lines, Says, none, more}
 use Rattle.pdu_collection.specs.Receiving.{Answers, Answered}
 
 flat_more : {X A : Type 0} (f : X → List A) (xs : List X) (x : X) → flat_map f (xs ++ x ∷ []) ≡ flat_map f xs ++ f x

@@ -1,14 +1,14 @@
 -- The two PDUs that are made of a payload and a freshness join, and are judged as one Secured I-PDU.
-use Rattle.std.proofs.Common.{◌≡◌, ℕ, ◌+◌, ◌-◌, ◌%◌, ◌<◌, ◌≤◌, List, [], ◌∷◌, ◌++◌, length, take, drop, refl, sym, ap, ◌∙◌, subst, arith, length-drop, length-append}
+use Rattle.std.proofs.Common.{◌≡◌, ℕ, ◌+◌, ◌-◌, List, [], ◌∷◌, ◌++◌, length, take, drop, refl, sym, ap, ◌∙◌, subst, arith, length-drop, length-append}
 use Rattle.std.specs.Prelude.{Option, None, Some}
 use Rattle.std.proofs.lemmas.List.{take_at, drop_at, length-take-le, length_push, take-append-drop}
-use Rattle.secured_pdu.specs.Frame.{Secured, Ahead}
+use Rattle.secured_pdu.specs.Frame.{Secured}
 use Rattle.secured_pdu.specs.FrameLaws.{length-secured_frame, payload_of_secured}
-use Rattle.secured_pdu.specs.Verdict.{Outcome, Accepted, payload_of, Verdict}
+use Rattle.secured_pdu.specs.Verdict.{Outcome, Accepted, Verdict}
 use Rattle.secured_pdu.specs.VerdictLaws.{same_from_Verdict, Verdict_of_secured}
 use Rattle.pdu_collection.specs.declared.pair_lines.Head.{Head}
-use Rattle.pdu_collection.specs.Collection.{Place, link_of, IsAuthentic, joined_pdu, IsPartOf}
-use Rattle.pdu_collection.specs.Joining.{Kind, authentic, cryptographic, other_kind, Arrival, link_in, link, arrival_at, partner_at, IsLatestOfKind, IsSingle, Joining}
+use Rattle.pdu_collection.specs.Collection.{Place, link_of, IsAuthentic, joined_pdu}
+use Rattle.pdu_collection.specs.Joining.{Kind, authentic, cryptographic, other_kind, Arrival, link_in, link, arrival_at, partner_at, IsLatestOfKind, IsSingle}
 use Rattle.pdu_collection.specs.Joined.{IsPduAt, NextJoins, joined_with}
 use Rattle.pdu_collection.specs.Answering.{HasLength, Said, bad_length, waits, judged, made, SaysOf, SaysMade}
 use Rattle.pdu_collection.specs.Made.{JudgedAsOne}

@@ -1,16 +1,15 @@
 -- What is said of arrivals, put together.
-use Rattle.std.proofs.Common.{◌≡◌, ℕ, ◌<◌, ◌≤◌, ◌+◌, Bool, true, false, List, [], ◌∷◌, ◌++◌, length, take, refl, sym, ap, ◌∙◌, subst, arith, append-nil, append_assoc}
+use Rattle.std.proofs.Common.{◌≡◌, ℕ, ◌+◌, List, [], ◌∷◌, ◌++◌, take, refl, sym, ap, ◌∙◌, subst, append-nil, append_assoc}
 use Rattle.std.specs.Prelude.{Option, None, Some, Result, Ok, Err, IfOk, IfErr}
-use Rattle.secured_pdu.specs.Verdict.{Outcome, Verdict}
+use Rattle.secured_pdu.specs.Verdict.{Verdict}
 use Rattle.counting_receiver.specs.Counting.{AddsVerdict}
 use Rattle.counting_receiver.specs.CountingLaws.{next_counter-verdict}
 use Rattle.pdu_collection.specs.declared.joiner.BadLength.{BadLength}
 use Rattle.pdu_collection.specs.declared.answering.Receiver.{Receiver}
 use Rattle.pdu_collection.specs.declared.pair_lines.Head.{Head}
-use Rattle.pdu_collection.specs.Collection.{Place}
-use Rattle.pdu_collection.specs.Joining.{Kind, authentic, cryptographic, Arrival}
+use Rattle.pdu_collection.specs.Joining.{Kind, Arrival}
 use Rattle.pdu_collection.specs.Joined.{JoinerState, NextJoins, Given, IsToldOf, Arrives, joined_with}
-use Rattle.pdu_collection.specs.Answering.{HasLength, Said, bad_length, waits, judged, said_text, SaysOf}
+use Rattle.pdu_collection.specs.Answering.{HasLength, bad_length, waits, judged, said_text}
 use Rattle.pdu_collection.specs.Receiving.{Arrived, AnswersArrival}
 
 -- what a joiner told of an arrival

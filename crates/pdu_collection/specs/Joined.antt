@@ -1,6 +1,6 @@
 -- What the next arrival joins, and what a joiner knows between two arrivals
-use Rattle.std.specs.Prelude.{◌≡◌, ℕ, ◌<◌, List, [], ◌∷◌, ◌++◌, length, take, drop, Option, None, Some, IfSome}
-use Rattle.pdu_collection.specs.Collection.{Place, IsPlace, IsAuthentic, IsCryptographic, joined_pdu}
+use Rattle.std.specs.Prelude.{◌≡◌, ℕ, List, [], ◌∷◌, ◌++◌, length, take, drop, Option, None, Some}
+use Rattle.pdu_collection.specs.Collection.{Place, joined_pdu}
 use Rattle.pdu_collection.specs.Joining.{Kind, authentic, cryptographic, Arrival, arrival_at, partner_at}
 use Rattle.pdu_collection.specs.Joining.{IsLatestOfKind, IsSingle, Joining}
 

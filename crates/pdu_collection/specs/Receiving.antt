@@ -1,8 +1,7 @@
 -- What the steps of the answers say to one another
-use Rattle.std.specs.Prelude.{◌≡◌, ◌⊎◌, ℕ, List, [], ◌∷◌, ◌++◌, map, length, drop, take}
-use Rattle.std.specs.Prelude.{Option, None, Some, Result, Ok, Err}
+use Rattle.std.specs.Prelude.{◌≡◌, ◌⊎◌, ℕ, List, [], ◌++◌, map}
+use Rattle.std.specs.Prelude.{Option, Result, Ok, Err}
 use Rattle.std.specs.List.{flat_map}
-use Rattle.secured_pdu.specs.Frame.{IsPayload}
 use Rattle.counting_receiver.specs.Counting.{next_counter}
 use Rattle.pdu_collection.specs.declared.joiner.BadLength.{BadLength}
 use Rattle.pdu_collection.specs.declared.answering.Receiver.{Receiver}
@@ -10,7 +9,6 @@ use Rattle.pdu_collection.specs.declared.pair_lines.Head.{Head}
 use Rattle.pdu_collection.specs.declared.pair_lines.Entry.{Entry}
 use Rattle.pdu_collection.specs.declared.pair_lines.PairLine.{PairLine}
 use Rattle.pdu_collection.specs.declared.pair_lines.PairLine.TheVariants as line
-use Rattle.pdu_collection.specs.Collection.{Place, IsAuthentic, IsCryptographic}
 use Rattle.pdu_collection.specs.Joining.{Kind, Arrival}
 use Rattle.pdu_collection.specs.Joined.{JoinerState, Given, Arrives}
 use Rattle.pdu_collection.specs.PairLines.{IsScript}

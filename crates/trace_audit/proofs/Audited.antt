@@ -1,21 +1,20 @@
 -- An audit goes on by one more line.
-use Rattle.std.proofs.Common.{◌≡◌, ℕ, suc, arith, get_or, ◌<◌, ◌≤◌, ◌+◌, Bool, true, false, List, [], ◌∷◌, ◌++◌, length, map, refl, sym, ap, ◌∙◌, subst}
-use Rattle.std.specs.Prelude.{filter, slice_index, take, drop, Some}
+use Rattle.std.proofs.Common.{◌≡◌, ℕ, suc, arith, get_or, ◌<◌, ◌+◌, true, false, List, [], ◌∷◌, ◌++◌, length, map, refl, sym, ap, ◌∙◌, subst}
+use Rattle.std.specs.Prelude.{slice_index, take, drop}
 use Rattle.std.proofs.Math.Seq.{take-append_seam}
-use Rattle.std.specs.List.{flat_map, slice_get}
-use Rattle.std.proofs.lemmas.List.{length-map, length_push, map-append, take_more, flat_map_more}
+use Rattle.std.proofs.lemmas.List.{length-map, map-append, take_more, flat_map_more}
 use Rattle.std.proofs.lemmas.Option.{slice_get_within}
 use Rattle.secured_pdu.specs.Verdict.{Accepted, FreshnessFailure, VerificationFailure, Verdict}
 use Rattle.text_lines.specs.declared.span.Cut.{Cut}
 use Rattle.text_lines.specs.declared.span.Span.{Span}
 use Rattle.text_lines.specs.Lines.{TextLine, lines_of}
-use Rattle.text_lines.specs.Places.{PlacedLine, texts_of, unplaced, placed_lines_of}
+use Rattle.text_lines.specs.Places.{texts_of, unplaced, placed_lines_of}
 use Rattle.text_lines.specs.Spans.{word_at, piece_at, line_at}
 use Rattle.trace_audit.specs.declared.map_lines.MapLine.{MapLine}
 use Rattle.trace_audit.specs.declared.auditing.Tally.{Tally}
 use Rattle.counting_receiver.specs.Counting.{next_counter, last_accepted}
 use Rattle.counting_receiver.specs.CountingLaws.{last_accepted-more}
-use Rattle.trace_audit.specs.Auditing.{Finding, other, too_short, verdict, finding_text, is_other, is_other_tally, tally_of, others_in, finding_accepts, first_counters, counter_of_place, Mapped, AuditsLine, AuditsEach, none, more}
+use Rattle.trace_audit.specs.Auditing.{Finding, other, too_short, verdict, finding_text, is_other, is_other_tally, tally_of, others_in, finding_accepts, first_counters, counter_of_place, AuditsLine, none, more}
 use Rattle.trace_audit.specs.Findings.{AddsFinding, Audited}
 
 -- the last finding is the last that a counter is taken from

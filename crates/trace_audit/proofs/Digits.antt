@@ -1,6 +1,6 @@
 -- Digits that are decoded into room for half as many bytes
-use Rattle.std.proofs.Common.{◌≡◌, ℕ, List, Bool, true, false, length, refl, arith}
-use Rattle.std.specs.Prelude.{◌/◌, ◌==◌}
+use Rattle.std.proofs.Common.{◌≡◌, ℕ, List, length, arith}
+use Rattle.std.specs.Prelude.{◌/◌}
 use Rattle.std.proofs.lemmas.Bool.Decides.{nat_tests}
 use Rattle.hex.specs.Hex.{decode_of, decode_sized}
 

@@ -1,10 +1,8 @@
 -- The audit of the example
 use Rattle.std.proofs.Common.{◌≡◌, ◌≤◌, [], ◌∷◌, length, refl, arith}
 use Rattle.std.specs.Prelude.{Some}
-use Rattle.bus_port.specs.Source.{SourceState}
 use Rattle.bus_port.specs.Sink.{SinkState}
 use Rattle.command_edge.specs.Input.{input_limit}
-use Rattle.answer_rows.specs.Inputs.{Reading, Offers}
 use Rattle.answer_rows.specs.InputLaws.{Lacks-unread, Offers-clean}
 use Rattle.answer_rows.specs.EndingLaws.{EndsInRow-memory}
 use Rattle.trace_audit.specs.Rows.{AuditInputs, ComesInAudit, no_memory}

@@ -1,6 +1,5 @@
 -- The sources that the two words of an audit name
 use Rattle.std.proofs.Common.{◌≡◌, ◌<◌, ◌≤◌, ℕ, List, [], ◌∷◌, length, get_or, map, refl, ap, subst, sym, ◌∙◌, arith}
-use Rattle.std.proofs.lemmas.List.{length-map}
 use Rattle.bus_port.specs.Source.{SourceState}
 use Rattle.named_sources.specs.NamedSources.{missing_source, IsNamed, AreBothDashes}
 use Rattle.trace_audit.specs.Rows.{AuditInputs}

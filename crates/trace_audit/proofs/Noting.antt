@@ -1,6 +1,6 @@
 -- What is noted of one line, put together.
-use Rattle.std.proofs.Common.{◌≡◌, ℕ, arith, ◌<◌, ◌≤◌, ◌+◌, ◌==◌, Bool, true, false, List, [], ◌∷◌, ◌++◌, length, refl, sym, ap, ◌∙◌, subst, inl, inr, append-nil, append_assoc, set, length-set, get_or-set_same, get_or-set_other}
-use Rattle.std.specs.Prelude.{slice_index, if◌then◌else◌, Option, None, Some, Result, Ok, Err, IfOk}
+use Rattle.std.proofs.Common.{◌≡◌, ℕ, arith, ◌<◌, ◌==◌, Bool, true, false, List, ◌++◌, length, refl, sym, ap, ◌∙◌, subst, inl, inr, append-nil, append_assoc, set, length-set, get_or-set_same, get_or-set_other}
+use Rattle.std.specs.Prelude.{slice_index, if◌then◌else◌, None, Some, Result, Ok, Err, IfOk}
 use Rattle.std.specs.List.{slice_get}
 use Rattle.std.proofs.lemmas.Bool.Decides.{nat_tests}
 use Rattle.secured_pdu.specs.Verdict.{Outcome, Accepted, FreshnessFailure, VerificationFailure}
@@ -13,7 +13,7 @@ use Rattle.trace_audit.specs.declared.auditing.Tally.{Tally}
 use Rattle.trace_audit.specs.declared.auditing.Tally.TheVariants as tally
 use Rattle.trace_audit.specs.MapLines.{place_of_frame}
 use Rattle.trace_audit.specs.Frames.{log_frame_of}
-use Rattle.trace_audit.specs.Auditing.{Finding, other, too_short, verdict, front_text, finding_text, channel_of, Mapped, IsMapped, IsUnmapped, AuditsLine}
+use Rattle.trace_audit.specs.Auditing.{other, too_short, verdict, front_text, channel_of, Mapped, IsUnmapped}
 use Rattle.trace_audit.specs.Findings.{AddsDataVerdict, AddsFinding}
 
 put_counter : (counters : List ℕ) (place p v : ℕ) (b : Bool) → (place == p) ≡ b → place < length counters

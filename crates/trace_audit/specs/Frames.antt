@@ -1,6 +1,6 @@
 -- The frames of a log, as `candump` of can-utils writes them.
 use Rattle.std.specs.Prelude.{ℕ, ◌+◌, ◌==◌, ◌&&◌, nat_le, Bool, if◌then◌else◌, List, length, take, drop}
-use Rattle.std.specs.Prelude.{slice_index, position, Option, None, Some, option_map, option_and_then}
+use Rattle.std.specs.Prelude.{slice_index, position, Option, None, option_map, option_and_then}
 use Rattle.std.specs.Char.{is_ascii_hexdigit}
 use Rattle.text_lines.specs.Lines.{last_byte}
 use Rattle.text_lines.specs.Forms.{hex_bytes_form}

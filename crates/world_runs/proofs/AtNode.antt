@@ -1,5 +1,5 @@
 -- The bus seen at one of its nodes: each turn of the bus is a turn of its disk
-use Rattle.std.specs.Prelude.{◌≡◌, ◌≢◌, ◌⊎◌, ℕ, ◌+◌, ◌<◌, ◌≤◌, ◌&&◌, ◌==◌, Bool, true, false, cond, Option, None, Some, List, [], ◌∷◌, length, get_or, set}
+use Rattle.std.specs.Prelude.{◌≡◌, ◌⊎◌, ℕ, ◌+◌, ◌<◌, ◌&&◌, ◌==◌, Bool, true, false, cond, None, List, [], ◌∷◌, length, get_or, set}
 use Rattle.std.specs.Option.{option_to_list}
 use Rattle.std.proofs.Common.{refl, sym, ap, ◌∙◌, subst, arith, inl, inr}
 use Rattle.std.proofs.lemmas.Bool.Decides.{eqb_tells}
@@ -7,7 +7,7 @@ use Rattle.std.proofs.lemmas.List.{get_or-map, get_or-set_same, get_or-set_other
 use Rattle.std.proofs.lemmas.Option.{get_or_from_slice_get, slice_get-get_or}
 use Rattle.machine_runs.specs.Run.{Moment, Run}
 use Rattle.machine_runs.specs.MemberLaws.{MemberSteps-length}
-use Rattle.cut_disk.specs.State.{DiskState, Told}
+use Rattle.cut_disk.specs.State.{DiskState}
 use Rattle.cut_disk.specs.Calls.{Runs, Later}
 use Rattle.cut_disk.specs.CallLaws.{runs_none, later_of_runs, later_join}
 use Rattle.cell_store.specs.declared.kinds.Layout.{Layout}

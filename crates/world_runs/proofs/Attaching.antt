@@ -1,5 +1,5 @@
 -- A bus that goes on where its disks stand begins at a first world, and told bytes fit its nodes
-use Rattle.std.specs.Prelude.{◌≡◌, ℕ, ◌<◌, true, Some, List, length, get_or}
+use Rattle.std.specs.Prelude.{◌≡◌, ℕ, ◌<◌, List, length, get_or}
 use Rattle.std.proofs.Common.{sym, ap, ◌∙◌, subst, arith}
 use Rattle.std.proofs.lemmas.List.{length-map, get_or-map}
 use Rattle.std.proofs.lemmas.Option.{get_or_from_slice_get, slice_get_within}
@@ -9,7 +9,7 @@ use Rattle.freshness_routes.specs.declared.routes.Direction.TheVariants.{Sends}
 use Rattle.freshness_routes.specs.Config.{Config}
 use Rattle.bus_machine.specs.Node.{Node, HasRoute, first_node}
 use Rattle.bus_machine.specs.Sound.{Sound}
-use Rattle.bus_machine.specs.Bus.{World, no_config, config_at, node_at}
+use Rattle.bus_machine.specs.Bus.{no_config, config_at, node_at}
 use Rattle.bus_nodes.specs.declared.nodes.NodeLine.{NodeLine}
 use Rattle.bus_nodes.specs.Buses.{NamedBus, IsNamedBus, configs_of}
 use Rattle.bus_nodes.specs.Laws.{NamedBusesAreBuses}
@@ -19,7 +19,6 @@ use Rattle.store_runs.specs.KeepingLaws.{told_before}
 use Rattle.bus_world.specs.declared.start.Start.TheVariants.{Attach}
 use Rattle.bus_world.specs.Worlds.{BusState, world_of, EachFits}
 use Rattle.bus_world.specs.Starts.{Started, Opened, NodeGoesOn, StartsOver}
-use Rattle.world_runs.specs.WorldRuns.{IsFirstOf}
 use Rattle.world_runs.specs.Turns.{TellFirm, GoesOnFirst}
 use Rattle.world_runs.proofs.AtNode.{node_there}
 use Rattle.world_runs.proofs.DisksBack.{no_node}

@@ -2,13 +2,13 @@
 use Rattle.std.specs.Prelude.{◌≡◌, ℕ, ◌<◌, ◌≤◌, false, Some, List, [], ◌∷◌, ◌++◌, length, drop, get_or}
 use Rattle.std.proofs.Common.{refl, sym, ap, ◌∙◌, subst, arith}
 use Rattle.std.proofs.lemmas.List.{length-map, length-append, length-drop, get_or-map, get_or_append_left}
-use Rattle.machine_runs.specs.Run.{Moment, Run}
+use Rattle.machine_runs.specs.Run.{Moment}
 use Rattle.cut_disk.specs.State.{DiskState, Entry}
 use Rattle.cut_disk.specs.Calls.{Later}
 use Rattle.cut_disk.specs.CallLaws.{later_of_runs, later_join}
 use Rattle.cell_store.specs.declared.kinds.Layout.{Layout}
 use Rattle.any_cells.specs.Either.{layout}
-use Rattle.store_runs.specs.DiskTurns.{OpenedDisk, TellsBytes, TracedSince, FailuresTold}
+use Rattle.store_runs.specs.DiskTurns.{TellsBytes, TracedSince, FailuresTold}
 use Rattle.store_runs.specs.DiskTurnLaws.{failures_told, traced_since}
 use Rattle.bus_machine.specs.declared.events.Event.{Event}
 use Rattle.bus_machine.specs.declared.lines.Line.{Line}
@@ -18,7 +18,7 @@ use Rattle.bus_nodes.specs.Buses.{NamedBus}
 use Rattle.bus_world.specs.Turns.{NodeState}
 use Rattle.bus_world.specs.Worlds.{BusState, world_of, BusTurn, EachFits, TurnsAreRuns}
 use Rattle.bus_world.specs.Starts.{disks_of}
-use Rattle.world_runs.specs.NodeDisks.{mark_at, most_at, fails_at, fits_at, DiskStays, DisksStay, DisksFollow}
+use Rattle.world_runs.specs.NodeDisks.{mark_at, most_at, fails_at, fits_at, DisksStay, DisksFollow}
 use Rattle.world_runs.specs.Turns.{seen, SetUp, TakesTurns}
 use Rattle.world_runs.specs.TurnLaws.{as_many_nodes}
 use Rattle.world_runs.proofs.AtNode.{disk_at, inside_after, turn_of_disk, later_run, HoldsAt, holds_after, holds_run, tells_at}

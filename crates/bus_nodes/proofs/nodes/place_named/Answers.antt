@@ -1,8 +1,6 @@
-use Rattle.std.proofs.Common.{◌≡◌, Bool, sym, ◌∙◌, rules, tests}
-use Rattle.std.specs.Prelude.{bytes_eq}
+use Rattle.std.proofs.Common.{◌≡◌, sym, ◌∙◌, rules, tests}
 use Rattle.std.proofs.lemmas.Iterator.{YieldsList-from_slice}
 use Rattle.std.proofs.lemmas.Iterator.Search.{position_from_yields_List}
-use Rattle.bus_nodes.specs.declared.nodes.NodeLine.{NodeLine}
 use Rattle.bus_nodes.specs.Buses.{place_named}
 use Rattle.bus_nodes.proofs.Again.{none_when}
 use Rattle.bus_nodes.proofs.Named.{has_name, nowhere}

@@ -1,4 +1,4 @@
-use Rattle.std.proofs.Common.{◌≡◌, ◌∙◌, length, map, ap, refl}
+use Rattle.std.proofs.Common.{◌∙◌, length, map, ap, refl}
 use Rattle.std.proofs.lemmas.List.{length-map}
 use Rattle.std.specs.Prelude.{string_bytes, Some, Vec}
 use Rattle.std.specs.declared.alloc.Global.{Global}

@@ -5,8 +5,6 @@ use Rattle.any_cells.specs.Either.{any_state}
 use Rattle.any_cells.specs.Opening.{StoreOpened, NoStoreOpened}
 use Rattle.cut_disk.specs.State.{DiskState}
 use Rattle.cell_store.specs.Cells.{CellsState}
-use Rattle.campaign_machine.specs.Entries.{no_entries}
-use Rattle.key_campaign.specs.Cell.{ledger_cells}
 use Rattle.campaign_commands.specs.Opening.{ledger_layout, FindsBadEntry}
 use Rattle.campaign_commands.proofs.Opened.{count, opens_ledger, finds_bad}
 use Rattle.campaign_commands.proofs.opening.open_ledger.Goals as goal

@@ -1,5 +1,3 @@
-use Rattle.std.proofs.Common.{◌≤◌, length, arith}
-use Rattle.std.specs.Vec.{vec_capacity}
 use Rattle.chart_commands.proofs.Drawing.{kept_whole, never_short}
 use Rattle.chart_commands.proofs.keeping.lines_of_run.Goals as goal
 

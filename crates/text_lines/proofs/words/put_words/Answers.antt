@@ -1,6 +1,6 @@
-use Rattle.std.proofs.Common.{◌≡◌, ◌-◌, ℕ, List, length, take, drop, map, sym, ap, ◌∙◌, arith, take_all}
+use Rattle.std.proofs.Common.{◌≡◌, ◌-◌, ℕ, List, take, drop, sym, ap, ◌∙◌, arith, take_all}
 use Rattle.text_lines.specs.Lines.{words_of}
-use Rattle.text_lines.specs.Places.{Piece, texts_of}
+use Rattle.text_lines.specs.Places.{texts_of}
 use Rattle.text_lines.proofs.Unplaced.{texts_of_pieces_at, texts_of-placed_words_of}
 use Rattle.text_lines.proofs.words.put_words.Goals as goal
 

@@ -1,4 +1,4 @@
-use Rattle.std.proofs.Common.{◌≡◌, ℕ, ◌+◌, ◌<◌, List, [], ◌∷◌, ◌++◌, length, take, drop, map, get_or, sym, ap, ◌∙◌, subst, arith, take_all}
+use Rattle.std.proofs.Common.{◌≡◌, ℕ, ◌+◌, List, [], ◌∷◌, ◌++◌, length, take, drop, map, sym, ap, ◌∙◌, subst, arith, take_all}
 use Rattle.std.specs.List.{flat_map}
 use Rattle.text_lines.specs.declared.span.Cut.{Cut}
 use Rattle.text_lines.specs.Lines.{TextLine, lines_of}

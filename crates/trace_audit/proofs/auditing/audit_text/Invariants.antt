@@ -1,7 +1,5 @@
 -- the lines so far were audited
-use Rattle.std.proofs.Common.{◌≡◌, ◌≤◌, take, map}
-use Rattle.text_lines.specs.Places.{placed_lines_of}
-use Rattle.text_lines.specs.Spans.{line_at}
+use Rattle.std.proofs.Common.{◌≤◌, take, map}
 use Rattle.trace_audit.specs.Findings.{Audited}
 use Rattle.trace_audit.proofs.Audited.{line_of}
 use Rattle.trace_audit.proofs.auditing.audit_text.Given as goal

@@ -1,4 +1,4 @@
-use Rattle.std.proofs.Common.{refl, sym, ap, ◌∙◌, arith}
+use Rattle.std.proofs.Common.{refl, ap, ◌∙◌, arith}
 use Rattle.pdu_collection.specs.Collection.{joined_pdu}
 use Rattle.pdu_collection.specs.Joining.{authentic}
 use Rattle.pdu_collection.specs.Joined.{JoinerState}

@@ -1,4 +1,4 @@
-use Rattle.std.proofs.Common.{◌≡◌, ℕ, List, ◌-◌, length, take, drop, sym, ap, ◌∙◌, arith, length-drop, take_all}
+use Rattle.std.proofs.Common.{◌≡◌, ◌-◌, length, take, drop, sym, ap, ◌∙◌, arith, length-drop, take_all}
 use Rattle.std.proofs.lemmas.Slice.Eq.{bytes_eq-Decides}
 use Rattle.pdu_collection.specs.Collection.{link_of}
 use Rattle.pdu_collection.specs.Joined.{JoinerState}

@@ -1,4 +1,4 @@
-use Rattle.std.proofs.Common.{◌≡◌, ◌+◌, ◌-◌, ◌≤◌, length, take, drop, arith, length-drop, List, ℕ}
+use Rattle.std.proofs.Common.{◌≡◌, ◌-◌, length, take, drop, arith, length-drop, List, ℕ}
 use Rattle.std.proofs.lemmas.List.{length-take-le}
 use Rattle.pdu_collection.proofs.linker.Linker.part.Goals as goal
 
