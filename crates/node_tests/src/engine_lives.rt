@@ -17,8 +17,8 @@ pub(crate) enum Act {
     Hears(receptions::Row),
     /// Keys are loaded and used.
     Serves,
-    /// The first slot is put and read.
-    PutsFirst,
+    /// The first slot and the last are put and read.
+    PutsEnds,
 }
 
 /// What is done over a store with this bound.
@@ -37,7 +37,7 @@ fn with_engine<C: CutCells>(rt: &impl Abort, store: &mut C, act: &Act) -> Result
         Act::Sends(row) => sends::sends(rt, &engine, store, row),
         Act::Hears(row) => receptions::hears(rt, &engine, store, row),
         Act::Serves => engines::serves(rt, &mut engine, store),
-        Act::PutsFirst => slots::puts_first(rt, store),
+        Act::PutsEnds => slots::puts_ends(rt, store),
     }
 }
 

@@ -1,4 +1,5 @@
-// Cells as they are written down in the formats, and the first slot, which no update names, over a store in memory.
+// Cells as they are written down in the formats, and the first slot, which no update names, and the last over a store in
+// memory.
 ghost use Rattle.std.specs.Prelude.{◌≡◌, length, false};
 
 use crate::comparing::holds;
@@ -39,28 +40,32 @@ fn a_slot_has_the_cell_of_the_formats(rt: HostRuntime) -> Result<(), Fail> {
     Ok(())
 }
 
-/// Puts the first slot, and reads it and an empty one.
-pub(crate) fn puts_first<C: Cells>(rt: &impl Abort, store: &mut C) -> Result<(), Fail>
+/// Puts the first slot and the last, and reads both and an empty one.
+pub(crate) fn puts_ends<C: Cells>(rt: &impl Abort, store: &mut C) -> Result<(), Fail>
     requires whole { (C.state store.old).broken ≡ false }
     requires count { length (C.state store.old).cells ≡ 15 }
 {
     let first = slot(0)?;
     let empty = slot(7)?;
-    let key = filled(KEY, 7, 2)?;
-    put_slot(store, first, &key)?;
+    let last = slot(13)?;
+    let first_key = filled(KEY, 7, 2)?;
+    let last_key = filled(KEY, 8, 16)?;
+    put_slot(store, first, &first_key)?;
+    put_slot(store, last, &last_key)?;
     let slots = read_slots(store)?;
-    holds(rt, "the first slot", *slots.get(first) == key);
+    holds(rt, "the first slot", *slots.get(first) == first_key);
+    holds(rt, "the last slot", *slots.get(last) == last_key);
     holds(rt, "an empty slot", *slots.get(empty) == Slot::Empty);
     Ok(())
 }
 
-const PUTS_FIRST: &[Life] = &[Life {
+const PUTS_ENDS: &[Life] = &[Life {
     direction: Direction::Sends,
     bound: 0,
-    act: Act::PutsFirst,
+    act: Act::PutsEnds,
 }];
 
 #[test]
-fn the_first_slot_is_put_and_read(rt: HostRuntime) -> Result<(), Fail> {
-    live(&rt, rt.alloc(), PUTS_FIRST)
+fn the_first_and_the_last_slot_are_put_and_read(rt: HostRuntime) -> Result<(), Fail> {
+    live(&rt, rt.alloc(), PUTS_ENDS)
 }
