@@ -1,0 +1,52 @@
+//! Laws over all lives: the contract of each function is the law, and its body is empty.
+ghost use Rattle.std.specs.Prelude.{◌≡◌, ◌⊎◌, ℕ, ◌+◌, ◌<◌, ◌≤◌, List, [], ◌∷◌, Option};
+ghost use Rattle.flash_places.specs.declared.FlashLine.{FlashLine};
+ghost use Rattle.flash_places.specs.Places.{Flash, LooksAll};
+ghost use Rattle.flash_places.specs.declared.FlashLine.TheVariants.{Entry};
+ghost use Rattle.flash_laws.specs.Logs.{CellList, copy_lines, after_lines};
+ghost use Rattle.flash_laws.specs.Lives.{FlashLayout, FlashMachine, FlashDeed, FlashLives, FlashFormatted, IsReadyFlash, IsOff, ScanFinds, PlaceIsBlank, Possible, wear_of, power_losses, next_bank, erases, heads, cuts_erase, cuts_put};
+
+/// A put is there whole or not at all, whenever the power goes, in any number of lives: where a store of a formatted
+/// flash is ready, its cells are what the puts that were done made of those that were formatted, each put that the
+/// power cut into being there or not; and so it is from each time that it is ready to each later one.
+pub fn a_put_is_whole_or_absent_over_all_lives()
+    ensures formatted { (l : FlashLayout) (deeds : List FlashDeed) (cells now : CellList) (a b : FlashMachine)
+        → FlashFormatted l cells a → FlashLives l deeds a b → IsReadyFlash b now → Possible deeds cells now }
+    ensures later { (l : FlashLayout) (earlier deeds : List FlashDeed) (first cells now : CellList)
+        (start a b : FlashMachine) → FlashFormatted l first start → FlashLives l earlier start a → IsReadyFlash a cells
+        → FlashLives l deeds a b → IsReadyFlash b now → Possible deeds cells now }
+{}
+
+/// Each power-up finds the store, whatever the places that aren't firm are read as.
+pub fn a_power_up_finds_the_store()
+    ensures { (l : FlashLayout) (deeds : List FlashDeed) (cells : CellList) (a b : FlashMachine)
+        (read : ℕ → ℕ → Option FlashLine) (after : Flash) → FlashFormatted l cells a → FlashLives l deeds a b → IsOff b
+        → LooksAll b.flash read after → ScanFinds l read }
+{}
+
+/// A place that is to be programmed is blank for sure.
+pub fn a_place_is_programmed_once()
+    ensures { (l : FlashLayout) (deeds : List FlashDeed) (cells : CellList) (a b : FlashMachine)
+        → FlashFormatted l cells a → FlashLives l deeds a b → PlaceIsBlank l b }
+{}
+
+/// Each bank is erased as often as every other, but for one, and but for one more each time that the power goes: a life
+/// whose start is cut short erases the same bank anew.
+pub fn wear_is_spread_evenly()
+    ensures { (l : FlashLayout) (deeds : List FlashDeed) (cells : CellList) (a b : FlashMachine) (one other : ℕ)
+        → FlashFormatted l cells a → FlashLives l deeds a b → one < l.banks → other < l.banks
+        → wear_of one deeds ≤ wear_of other deeds + 1 + power_losses deeds }
+{}
+
+/// The definitions on small cases: a copy's lines, what a put makes of cells, how banks go round, and what is counted.
+pub fn small_cases()
+    ensures copy { copy_lines 0 ((1 ∷ []) ∷ (2 ∷ []) ∷ []) ≡ Entry 0 (1 ∷ []) ∷ Entry 1 (2 ∷ []) ∷ [] }
+    ensures put { after_lines (Entry 1 (7 ∷ []) ∷ []) ((1 ∷ []) ∷ (2 ∷ []) ∷ []) ≡ (1 ∷ []) ∷ (7 ∷ []) ∷ [] }
+    ensures no_cell { after_lines (Entry 2 (7 ∷ []) ∷ []) ((1 ∷ []) ∷ (2 ∷ []) ∷ []) ≡ (1 ∷ []) ∷ (2 ∷ []) ∷ [] }
+    ensures two_banks { (next_bank 2 0 ≡ 1) × (next_bank 2 1 ≡ 0) }
+    ensures sixteen_banks { (next_bank 16 14 ≡ 15) × (next_bank 16 15 ≡ 0) }
+    ensures worn { wear_of 1 (erases 1 ∷ cuts_erase 1 ∷ erases 2 ∷ heads ∷ []) ≡ 2 }
+    ensures losses { power_losses (erases 1 ∷ cuts_erase 1 ∷ cuts_put 0 [] ∷ []) ≡ 2 }
+    ensures cut_put { (now : CellList) → Possible (cuts_put 0 (7 ∷ []) ∷ []) ((1 ∷ []) ∷ []) now
+        → (now ≡ (1 ∷ []) ∷ []) ⊎ (now ≡ (7 ∷ []) ∷ []) }
+{}

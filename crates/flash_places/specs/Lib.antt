@@ -1,0 +1,5 @@
+pub mod Places
+pub mod State
+pub mod Memory
+pub mod MemoryLaws
+pub mod MemFlash
