@@ -263,13 +263,19 @@ pub(crate) struct WornFile {
 }
 
 impl ByteFile for WornFile {
-    ghost use Rattle.std.specs.Prelude.{true, None};
+    ghost use Rattle.std.specs.Prelude.{true, None, vec_len};
 
     ghost is_open = { λ _. true };
 
     ghost calls = { λ _. None };
 
     ghost told = { λ _. None };
+
+    ghost length_at_first = { λ file. vec_len file.bytes };
+
+    fn size(&self) -> u64 {
+        self.bytes.len() as u64
+    }
 
     fn read_at(&mut self, at: u64, out: &mut [u8]) -> Result<(), FileFailed> {
         for (place, byte) in out.iter_mut().enumerate() {
@@ -387,9 +393,7 @@ fn what_is_read_again_otherwise_is_told(rt: HostRuntime) -> Result<(), Fail> {
 fn held(alloc: Global, at: usize, byte: u8) -> Result<FileDisk<HeldFile<WornFile>>, AllocError> {
     let room = room_to_hold(alloc)?;
     let bytes = vec![in alloc; 0; 65_536]?;
-    let file = HeldFile::over(WornFile { bytes, at, byte }, 65_536, room);
-    let size = file.size();
-    Ok(FileDisk::over(file, size))
+    Ok(FileDisk::held(WornFile { bytes, at, byte }, room))
 }
 
 pub(crate) fn held_disks(

@@ -6,7 +6,7 @@ use Rattle.std.proofs.lemmas.List.{length-replicate}
 use Rattle.cut_disk.specs.Splices.{length-splice}
 use Rattle.file_disk.specs.FileBytes.{IsInside, PutsAny}
 use Rattle.file_disk.specs.FileCalls.{FileCall}
-use Rattle.file_disk.specs.HeldFile.{HeldContents, HoldsFirst, HoldsSystem}
+use Rattle.file_disk.specs.HeldFile.{HeldContents, HoldsFirst}
 use Rattle.file_disk.proofs.Marks.{same_bytes}
 
 -- a range of the held bytes lies in what the file below tells
@@ -24,14 +24,11 @@ inside_put at (Some b) some puts fits inside bytes is =
     let kept = ap length (sym (same_bytes p.now is) ∙ p.patched.is) ∙ length-splice at p.patched.left b (omega (arith, sized, few, fits)) in
     omega (arith, sized, kept)
 
--- what is held of a file of the system
+-- what is held of a file
 most_first : (is_open : Bool) (n size : ℕ) → (is_open ≡ true → n ≡ min size 131072) → (is_open ≡ false → n ≡ 65536) → n ≤ 131072
 most_first true n size opened none = let is = opened refl in omega (arith, is)
 most_first false n size opened none = let is = none refl in omega (arith, is)
 
-pub holds_system : (size : ℕ) (calls : Option (List FileCall)) (told : Option (List ℕ)) (held : HeldContents) → HoldsFirst size calls told held → HoldsSystem held
-holds_system size calls told held first = record {
-  most = most_first held.is_open (length held.bytes) size first.sized (λ closed. ap length (first.none closed) ∙ length-replicate {A = ℕ} 65536 0);
-  none = first.none;
-  as_written = first.as_written;
-}
+pub holds_few : {size : ℕ} {calls : Option (List FileCall)} {told : Option (List ℕ)} (held : HeldContents) → HoldsFirst size calls told held → length held.bytes ≤ 131072
+holds_few {size} held first =
+    most_first held.is_open (length held.bytes) size first.sized (λ closed. ap length (first.none closed) ∙ length-replicate {A = ℕ} 65536 0)

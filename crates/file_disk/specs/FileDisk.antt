@@ -76,8 +76,8 @@ file_contents {F} {g} disk =
       told = with_marks (g.told disk.file) (loose_since disk.size disk.written.numbers);
     }
 
--- A disk over a file of the system that was opened just now. It tells its bytes, as many as it has, and none of them is
--- loose; nothing is armed on it, and no call has failed. Where there is no file its bytes are 65,536 zeros.
+-- A disk over a file whose bytes are held, that was opened just now. It tells its bytes, as many as it has, and none of
+-- them is loose; nothing is armed on it, and no call has failed. Where there is no file its bytes are 65,536 zeros.
 pub record IsJustOpened (c : FileContents) : Type 0 where
   pub bytes : List ℕ
   pub sized : length bytes ≡ c.size

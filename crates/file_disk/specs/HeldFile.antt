@@ -1,5 +1,5 @@
 -- A file whose bytes are held in memory: what it means, and what a call of it does.
-use Rattle.std.specs.Prelude.{◌≡◌, ℕ, ◌+◌, ◌≤◌, min, Bool, true, false, not, ◌&&◌, if◌then◌else◌, List, length}
+use Rattle.std.specs.Prelude.{◌≡◌, ℕ, ◌+◌, min, Bool, true, false, not, ◌&&◌, if◌then◌else◌, List, length}
 use Rattle.std.specs.Prelude.{replicate, slice_range, Option}
 use Rattle.cut_disk.specs.Images.{splice}
 use Rattle.file_disk.specs.declared.byte_file.ByteFile.{Ghosts}
@@ -70,9 +70,3 @@ pub record SyncsHeld (ok : Bool) (old new : HeldContents) : Type 0 where
   pub unasked : is_asked old ≡ false → ok ≡ false
   pub untouched : is_asked old ≡ false → new.calls ≡ old.calls
   pub passed : is_asked old ≡ true → Notes (SyncAll ok) old.calls new.calls
-
--- what is held of a file of the system when it is opened: at most 131,072 bytes; where there is none 65,536 zeros
-pub record HoldsSystem (held : HeldContents) : Type 0 where
-  pub most : length held.bytes ≤ 131072
-  pub none : held.is_open ≡ false → held.bytes ≡ replicate 65536 0
-  pub as_written : held.differs ≡ false

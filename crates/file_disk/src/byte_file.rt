@@ -20,6 +20,13 @@ pub trait ByteFile {
     /// Its bytes, as a read gives them, if the file tells them.
     ghost told: { Self → Option (List ℕ) };
 
+    /// Its length in bytes when it was opened.
+    ghost length_at_first: { Self → ℕ };
+
+    /// The same.
+    fn size(&self) -> u64
+        ensures { result ≡ length_at_first self.now };
+
     /// Fills `out` with the bytes from the offset `at` on. A file that ends before the range does fails.
     fn read_at(&mut self, at: u64, out: &mut [u8]) -> Result<(), FileFailed>
         requires inside { IsInside at (length out.old) (told self.old) }

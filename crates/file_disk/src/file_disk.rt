@@ -1,5 +1,5 @@
 //! The disk over a file.
-ghost use Rattle.std.specs.Prelude.{◌≡◌, ◌+◌, ◌^◌, ◌<◌, ◌≤◌, length, Some, None, false, not, is_ok, if◌then◌else◌, IfOk, OnOk, OnErr};
+ghost use Rattle.std.specs.Prelude.{◌≡◌, ◌+◌, ◌^◌, ◌<◌, ◌≤◌, length, Some, None, false, not, is_ok, if◌then◌else◌, OnOk, OnErr};
 ghost use Rattle.fault_count.specs.FaultCount.{last_count, counted};
 ghost use Rattle.cut_disk.specs.State.{Cut, Stop, Fail};
 ghost use Rattle.cut_disk.specs.Arming.{fails, after_cut, with_stop, with_fail};
@@ -9,13 +9,12 @@ ghost use Rattle.file_disk.specs.FileBytes.{TellsSize, loose_since};
 ghost use Rattle.file_disk.specs.FileCalls.{ReadAt, WriteAt, SyncAll};
 
 use crate::byte_file::{ByteFile, FileFailed};
-use crate::held_file::HeldFile;
+use crate::held_file::{HeldFile, MOST_HELD};
 use crate::system_file::SystemFile;
 use crate::writes::with_write;
 use boxcar::tag::Tag;
 use cut_disk::{Arms, CutDisk, Disk, DiskFailed, Torn, count_call};
 use fault_count::count_fault;
-use std::alloc::{AllocError, Global};
 
 /// A disk over one file. It tells the bytes that its file tells, if that tells any, and no past, and is never quiet:
 /// any call of the file may fail. A byte is loose that was written since the last sync that was Ok, or the last power
@@ -36,24 +35,22 @@ pub struct FileDisk<F: ByteFile = HeldFile<SystemFile>> {
     ghost marked: { length (loose_since size written.numbers) ≡ size },
 }
 
-impl FileDisk<HeldFile<SystemFile>> {
+impl<F: ByteFile> FileDisk<HeldFile<F>> {
     ghost use Rattle.file_disk.specs.FileDisk.{file_contents, IsJustOpened};
+    ghost use Rattle.file_disk.specs.HeldFile.{held_contents, HoldsFirst};
 
-    /// A disk over the file at this path, which is made with 65,536 zero bytes where it isn't there. It tells its
-    /// bytes: those that the file reads as now, of a longer file the first 131,072, which alone are the disk. They are
-    /// held in memory. A file that can be neither opened nor made, or not read, is a disk of 65,536 zero bytes, each of
-    /// whose reads, writes and syncs fails. Where there is no memory nothing is opened or made. Which file is opened,
-    /// and what is read of it, no clause says.
-    pub fn on(
-        alloc: Global,
-        rt: &HostRuntime,
-        path: &str,
-    ) -> Result<FileDisk<HeldFile<SystemFile>>, AllocError>
-        ensures { IfOk result (λ disk. IsJustOpened (file_contents disk)) }
+    /// A disk over the first bytes of this file, at most 131,072, which are read at once and held in memory. It tells
+    /// them. Where that read fails it is a disk of 65,536 zero bytes, each of whose reads, writes and syncs fails.
+    pub fn held(file: F, room: Vec<u8>) -> FileDisk<HeldFile<F>>
+        requires sized { TellsSize (F.length_at_first file) (F.told file) }
+        requires room { length room.items ≡ MOST_HELD }
+        ensures holds { HoldsFirst (F.length_at_first file) (F.calls file) (F.told file)
+            (held_contents result.file) }
+        ensures opened { IsJustOpened (file_contents result) }
     {
-        let file = HeldFile::on(alloc, rt, path)?;
+        let file = HeldFile::over(file, room);
         let size = file.size();
-        Ok(FileDisk::over(file, size))
+        FileDisk::over(file, size)
     }
 }
 
@@ -63,7 +60,9 @@ impl<F: ByteFile> FileDisk<F> {
     /// A disk over the first so many bytes of this file, which are all that it tells, if it tells any.
     pub fn over(file: F, size: u64) -> FileDisk<F>
         requires { TellsSize size (F.told file) }
-        ensures { file_contents result ≡ fresh_file_disk size (F.is_open file) (F.calls file) (F.told file) }
+        ensures contents { file_contents result
+            ≡ fresh_file_disk size (F.is_open file) (F.calls file) (F.told file) }
+        ensures over { result.file ≡ file }
     {
         FileDisk {
             file,
@@ -161,6 +160,9 @@ impl<F: ByteFile> CutDisk for FileDisk<F> {
             (file_disk_of (file_contents self.new)) }
         ensures contents { LosesPower (file_contents self.old) (file_contents self.new) }
         ensures left { CutsTo (file_contents self.old).told (file_contents self.new).told }
+
+        // No byte of the file changes, and none of them is loose.
+        ensures stays { Syncs (file_contents self.old).told (file_contents self.new).told }
     {
         self.arms.cut();
         let _ = self.file.sync_all();

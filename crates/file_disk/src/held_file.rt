@@ -28,26 +28,6 @@ pub struct HeldFile<F: ByteFile = SystemFile> {
     ghost inside_below: { is_open ≡ true → IsInside 0 (length bytes.items) (F.told file) },
 }
 
-impl HeldFile<SystemFile> {
-    ghost use Rattle.file_disk.specs.HeldFile.{held_contents, HoldsSystem};
-
-    /// The file of the system at this path, as [`SystemFile::on`] opens or makes it. Its first bytes are read at once,
-    /// at most 131,072; where that fails there is no file. Room is asked for before anything is opened or made. Which
-    /// file is opened, and what is read of it, no clause says.
-    pub fn on(
-        alloc: Global,
-        rt: &HostRuntime,
-        path: &str,
-    ) -> Result<HeldFile<SystemFile>, AllocError>
-        ensures { IfOk result (λ file. HoldsSystem (held_contents file)) }
-    {
-        let room = room_to_hold(alloc)?;
-        let file = SystemFile::on(rt, path);
-        let size = file.size();
-        Ok(HeldFile::over(file, size, room))
-    }
-}
-
 /// Room for the bytes of a file that is to be held.
 pub fn room_to_hold(alloc: Global) -> Result<Vec<u8>, AllocError>
     ensures { IfOk result (λ room. length room.items ≡ MOST_HELD) }
@@ -58,16 +38,15 @@ pub fn room_to_hold(alloc: Global) -> Result<Vec<u8>, AllocError>
 impl<F: ByteFile> HeldFile<F> {
     ghost use Rattle.file_disk.specs.HeldFile.{held_contents, is_asked, HoldsFirst};
 
-    /// Holds the first bytes of this file of so many, which are all that it tells, if it tells any. They are read at
-    /// once; where that fails there is no file.
-    pub fn over(file: F, size: u64, room: Vec<u8>) -> HeldFile<F>
-        requires sized { TellsSize size (F.told file) }
+    /// Holds the first bytes of this file, at most 131,072. They are read at once; where that fails there is no file.
+    pub fn over(file: F, room: Vec<u8>) -> HeldFile<F>
+        requires sized { TellsSize (F.length_at_first file) (F.told file) }
         requires room { length room.items ≡ MOST_HELD }
-        ensures { HoldsFirst size (F.calls file) (F.told file) (held_contents result) }
+        ensures { HoldsFirst (F.length_at_first file) (F.calls file) (F.told file) (held_contents result) }
     {
         let mut file = file;
         let mut room = room;
-        let count = size.min(MOST_HELD as u64) as usize;
+        let count = file.size().min(MOST_HELD as u64) as usize;
         let is_open = reads_first(&mut file, &mut room, count);
         let bytes = first_held(room, count, is_open);
         HeldFile {
@@ -76,13 +55,6 @@ impl<F: ByteFile> HeldFile<F> {
             is_open,
             differs: false,
         }
-    }
-
-    /// The number of its bytes.
-    pub fn size(&self) -> u64
-        ensures { result ≡ length (held_contents self.now).bytes }
-    {
-        self.bytes.len() as u64
     }
 
     /// Ok where a call is to be passed on to the file below.
@@ -151,6 +123,14 @@ impl<F: ByteFile> ByteFile for HeldFile<F> {
     ghost calls = { λ _. None };
 
     ghost told = { λ file. Some file.bytes.items };
+
+    ghost length_at_first = { λ file. length file.bytes.items };
+
+    fn size(&self) -> u64
+        ensures { result ≡ length (held_contents self.now).bytes }
+    {
+        self.bytes.len() as u64
+    }
 
     fn read_at(&mut self, at: u64, out: &mut [u8]) -> Result<(), FileFailed>
         requires inside { at + length out.old ≤ length (held_contents self.old).bytes }

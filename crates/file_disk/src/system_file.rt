@@ -4,11 +4,14 @@ ghost use Rattle.file_disk.specs.FileCalls.{ReadAt, WriteAt, SyncAll, Notes};
 ghost use Rattle.file_disk.specs.SystemFile.{is_there, length_of, has_failed};
 
 use crate::byte_file::{ByteFile, FileFailed};
+use crate::file_disk::FileDisk;
+use crate::held_file::{HeldFile, room_to_hold};
+use std::alloc::{AllocError, Global};
 use std::fs::{File, OpenOptions};
 use std::io::ErrorKind;
 use std::os::unix::fs::{FileExt, OpenOptionsExt};
 use std::path::Path;
-use std::{fs, io};
+use std::{fs, io, process};
 
 /// The bytes of a file that is made, and of a disk over one that can't be opened.
 pub const FIRST_SIZE: u64 = 65536;
@@ -16,8 +19,9 @@ pub const FIRST_SIZE: u64 = 65536;
 /// A file of the system, or none, where it could be neither opened nor made. It tells no calls and no bytes (a
 /// [`HeldFile`](crate::HeldFile) over it does). Each call of no file fails.
 ///
-/// It is open in one place at a time, and stands durably on its device before it is read. Once a write or a
-/// sync of it has failed each further call fails: the system may have dropped what it couldn't write, and
+/// It is open in one place at a time. It is synced before it is read, and its folder is: what is read then stands on its
+/// device, unless a sync of it failed in an earlier process. Where the path is a link, the link's folder is synced. Once
+/// a write or a sync of it has failed each further call fails: the system may have dropped what it couldn't write, and
 /// the next sync would be Ok.
 #[derive(Drop)]
 pub struct SystemFile {
@@ -36,8 +40,8 @@ impl From<io::Error> for FileFailed {
 
 impl SystemFile {
     /// Opens the file at this path, or makes it with 65,536 zero bytes where none is there. A file that nobody may
-    /// write, or this process may not, is opened for reading alone; a directory is no file, and neither is one that is
-    /// locked elsewhere, or of which the system doesn't say that it stands on its device.
+    /// write, or this process may not, is opened for reading alone. A directory, a pipe, a device or a socket is no
+    /// file, and neither is one that is locked elsewhere, or whose sync fails.
     pub fn on(rt: &HostRuntime, path: &str) -> SystemFile
         ensures missing { is_there result ≡ false → length_of result ≡ FIRST_SIZE }
         ensures fresh { has_failed result ≡ false }
@@ -50,13 +54,6 @@ impl SystemFile {
                 failed: false,
             },
         }
-    }
-
-    /// The length of the file in bytes when it was opened, or 65,536 where there is none.
-    pub fn size(&self) -> u64
-        ensures { result ≡ length_of self.now }
-    {
-        self.size
     }
 
     /// The file, of which no write and no sync has failed.
@@ -103,6 +100,15 @@ impl ByteFile for SystemFile {
     ghost calls = { λ _. None };
 
     ghost told = { λ _. None };
+
+    ghost length_at_first = { λ file. length_of file };
+
+    /// The length of the file in bytes when it was opened, or 65,536 where there is none.
+    fn size(&self) -> u64
+        ensures { result ≡ length_of self.now }
+    {
+        self.size
+    }
 
     fn read_at(&mut self, at: u64, out: &mut [u8]) -> Result<(), FileFailed>
         ensures open { is_there self.new ≡ is_there self.old }
@@ -174,11 +180,12 @@ fn sync_folder(rt: &HostRuntime, path: &str) -> io::Result<()> {
     folder.sync_all()
 }
 
-/// Opens a file that is there: for writing too, unless it is write-protected.
+/// Opens a file that is there: for writing too, unless it is write-protected. What is no file isn't opened at all: a
+/// pipe would wait for another program.
 fn there(rt: &HostRuntime, path: &str) -> io::Result<File> {
     let metadata = fs::metadata(rt, path)?;
-    if metadata.is_dir() {
-        return Err(ErrorKind::IsADirectory.into());
+    if !metadata.is_file() {
+        return Err(ErrorKind::InvalidInput.into());
     }
     if metadata.permissions().readonly() {
         return File::open(rt, path);
@@ -197,20 +204,76 @@ fn is_protection(kind: ErrorKind) -> bool {
     )
 }
 
-/// Makes a file of zero bytes, or leaves none. Its owner alone may read it, since keys will stand in it.
+/// Makes a file of zero bytes at this path. It is made under another name, and has this one only once it is whole and
+/// on its device: no other start, at the same moment or after a kill, finds a part of it. Where another start has made
+/// the file meanwhile, that one is opened. Where the folder's file system has no second names, it is made in place.
 fn made(rt: &HostRuntime, path: &str) -> io::Result<File> {
-    let file = OpenOptions::new()
-        .read(true)
-        .write(true)
-        .create_new(true)
-        .mode(0o600)
-        .open(rt, path)?;
-    let file = locked(file)?;
-    match file.set_len(FIRST_SIZE) {
+    let Ok(name) = format!(in rt.alloc(); "{path}.{}", process::id(rt.process())) else {
+        return made_in_place(rt, path);
+    };
+    let Ok(file) = new_file(rt, &name) else {
+        return made_in_place(rt, path);
+    };
+    let outcome = given_name(rt, &file, &name, path);
+    fs::remove_file(rt, &name)?;
+    match outcome {
+        Ok(()) => Ok(file),
+        Err(error) if error.kind() == ErrorKind::AlreadyExists => locked(there(rt, path)?),
+        Err(_) => made_in_place(rt, path),
+    }
+}
+
+/// Fills a new file, and gives it this path as a second name.
+fn given_name(rt: &HostRuntime, file: &File, name: &str, path: &str) -> io::Result<()> {
+    fill(file)?;
+    fs::hard_link(rt, name, path)
+}
+
+/// Makes a file of zero bytes at this path, or leaves none.
+fn made_in_place(rt: &HostRuntime, path: &str) -> io::Result<File> {
+    let file = new_file(rt, path)?;
+    match fill(&file) {
         Ok(()) => Ok(file),
         Err(error) => {
             fs::remove_file(rt, path)?;
             Err(error)
         }
+    }
+}
+
+/// Makes an empty file. Its owner alone may read it, since keys will stand in it.
+fn new_file(rt: &HostRuntime, path: &str) -> io::Result<File> {
+    OpenOptions::new()
+        .read(true)
+        .write(true)
+        .create_new(true)
+        .mode(0o600)
+        .open(rt, path)
+}
+
+/// Locks a new file, and makes it zero bytes that stand on its device.
+fn fill(file: &File) -> io::Result<()> {
+    file.try_lock()?;
+    file.set_len(FIRST_SIZE)?;
+    file.sync_all()
+}
+
+impl FileDisk<HeldFile<SystemFile>> {
+    ghost use Rattle.file_disk.specs.FileDisk.{file_contents, IsJustOpened};
+
+    /// A disk over the file at this path, which is made with 65,536 zero bytes where it isn't there. It tells its
+    /// bytes: those that the file reads as now, of a longer file the first 131,072, which alone are the disk. They are
+    /// held in memory. A file that can be neither opened nor made, or not read, is a disk of 65,536 zero bytes, each of
+    /// whose reads, writes and syncs fails. Where there is no memory nothing is opened or made. Which file is opened no
+    /// clause says.
+    pub fn on(
+        alloc: Global,
+        rt: &HostRuntime,
+        path: &str,
+    ) -> Result<FileDisk<HeldFile<SystemFile>>, AllocError>
+        ensures { IfOk result (λ disk. IsJustOpened (file_contents disk)) }
+    {
+        let room = room_to_hold(alloc)?;
+        Ok(FileDisk::held(SystemFile::on(rt, path), room))
     }
 }

@@ -1,10 +1,10 @@
-//! The disks that the words of a command line name, whoever opens them.
+//! The disks that the arguments of a command line name, whoever opens them.
 //!
-//! No clause of the library says which file a path opens, and so a contract over files alone can't say that a disk is
-//! over the file of one word and not over that of another. A call that takes any [`DiskOpener`] is proved for every one
-//! of them: its contract names the word that its disk was opened by, and says that the disk tells its bytes.
-//! [`DiskPaths`] is the opener of a program; that it passes the word on to
-//! [`FileDisk::on`](file_disk::FileDisk::on), and this to the system, is tested over the built programs alone.
+//! No clause says which file a path opens. So a call takes any [`DiskOpener`]: its contract names the word
+//! that its disk was opened by. The disk tells its bytes, as many as it has, none of them loose. `open_disk`
+//! gives the one disk of a word, or is out of memory; that nothing is opened then no clause says.
+//! [`DiskPaths`] is a program's opener: nothing is armed on its disk, and no call of it failed. That it hands
+//! the word to the system is tested.
 #![tactic(auto)]
 
 mod opener;

@@ -7,7 +7,7 @@ ghost use Rattle.cell_store.specs.Store.{store_size};
 use crate::comparing::same;
 use cell_store::{Kind, StoreFault, TwinCells, Version, log_size, twin_size};
 use cut_disk::{CutDisk, Disk, DiskFailed, MemDisk, Torn};
-use file_disk::{ByteFile, FileDisk, FileFailed, HeldFile, MOST_HELD, room_to_hold};
+use file_disk::{ByteFile, FileDisk, FileFailed, MOST_HELD, room_to_hold};
 use std::alloc::Global;
 use std::test::Fail;
 
@@ -18,7 +18,7 @@ struct DiskFile {
 }
 
 impl ByteFile for DiskFile {
-    ghost use Rattle.std.specs.Prelude.{true, Some, None};
+    ghost use Rattle.std.specs.Prelude.{true, length, Some, None};
     ghost use Rattle.cut_disk.specs.MemDisk.{contents};
 
     ghost is_open = { λ _. true };
@@ -26,6 +26,12 @@ impl ByteFile for DiskFile {
     ghost calls = { λ _. None };
 
     ghost told = { λ file. Some (contents file.disk).bytes };
+
+    ghost length_at_first = { λ file. length (contents file.disk).bytes };
+
+    fn size(&self) -> u64 {
+        self.disk.size()
+    }
 
     fn read_at(&mut self, at: u64, out: &mut [u8]) -> Result<(), FileFailed> {
         match self.disk.read(at, out) {
@@ -162,12 +168,9 @@ fn held_bytes(alloc: Global, stops: u64) -> Result<(u64, Result<[u8; 4], DiskFai
 {
     let mut below = MemDisk::new(alloc, 4)?;
     below.stop_at(stops);
-    let size = below.size();
     let room = room_to_hold(alloc)?;
-    let file = HeldFile::over(DiskFile { disk: below }, size, room);
-    let size = file.size();
-    let mut disk = FileDisk::over(file, size);
-    Ok((size, written_and_read(&mut disk)))
+    let mut disk = FileDisk::held(DiskFile { disk: below }, room);
+    Ok((disk.size(), written_and_read(&mut disk)))
 }
 
 /// Two bytes are written and synced, and all are read.

@@ -13,7 +13,7 @@ sized_first : (count size : ℕ) (room : List ℕ) → count ≡ min size 131072
 sized_first count size room is sized = omega (arith, length-take count room, is, sized)
 
 pub reads_first-is_open-requires-clause-inside : goal.reads_first-is_open-requires-clause-inside
-reads_first-is_open-requires-clause-inside g c = inside_first _ c.requires.sized (omega (arith, c.min-count.ensures))
+reads_first-is_open-requires-clause-inside g c = inside_first _ c.requires.sized (omega (arith, c.min-count.ensures, c.size.ensures))
 
 pub returns : goal.returns
 returns g c =
@@ -27,7 +27,7 @@ returns g c =
       out = take count room;
       read = c.reads_first-is_open.ensures.notes;
       opened = first;
-      sized = λ there. ap length (first there) ∙ sized_first count c.args.size room c.min-count.ensures sized;
+      sized = λ there. ap length (first there) ∙ sized_first count (g.F.ByteFile.length_at_first c.args.file) room (c.min-count.ensures ∙ ap (λ n. min n 131072) c.size.ensures) sized;
       as_told = λ there. subst (λ (bytes : List ℕ). GivesBytes 0 bytes (g.F.ByteFile.told c.args.file)) (sym (first there)) (c.reads_first-is_open.ensures.bytes there);
       none = c.first_held-bytes.ensures.none;
       as_written = refl;
