@@ -1,7 +1,8 @@
 -- What the writes of a plan leave of a disk.
-use Rattle.std.specs.Prelude.{◌≡◌, ℕ, ◌<◌, Bool, Option, Some, List, length}
+use Rattle.std.specs.Prelude.{◌≡◌, ℕ, ◌<◌, Bool, Option, Some, List, [], length}
 use Rattle.cut_disk.specs.State.{DiskState, Told}
 use Rattle.cut_disk.specs.Images.{Tears, firm, EachImage}
+use Rattle.cut_disk.specs.Calls.{Rose, Runs}
 use Rattle.cut_disk.specs.Lasting.{Lasts}
 use Rattle.cell_store.specs.declared.kinds.Version.TheVariants.{One}
 use Rattle.cell_store.specs.Layout.{twin_layout}
@@ -40,3 +41,31 @@ DoesPlan plan old new = (x : List ℕ) → old ≡ Some (firm x) → new ≡ Som
 -- where no byte was loose, every image is what the power leaves that goes within the plan
 abbrev pub LeavesPlanCut : Plan → Option Told → Option Told → Type 0
 LeavesPlanCut plan old new = (x : List ℕ) → old ≡ Some (firm x) → EachImage new (CutWithin plan x)
+
+-- one write was done, and is durable
+pub record WritesOne (w : Write) (old new : DiskState) : Type 0 where
+  pub runs : Runs [] 2 old new
+  pub faults : new.faults ≡ old.faults
+  pub done : WriteDone w old.told new.told
+
+-- one write failed
+pub record FailsOne (w : Write) (old new : DiskState) : Type 0 where
+  pub runs : Runs [] 2 old new
+  pub failed : Rose old.faults new.faults
+  pub torn : WriteTorn w old.told new.told
+
+-- the writes of a plan were done one after the other
+pub record DoesEach (plan : Plan) (old new : DiskState) : Type 0 where
+  pub behind_first : DiskState
+  pub behind_second : DiskState
+  pub first : WritesOne plan.first old behind_first
+  pub second : WritesOne plan.second behind_first behind_second
+  pub third : WritesOne plan.third behind_second new
+
+-- they were done one after the other up to one that failed, and none behind that one was begun
+pub data StopsAtFailure (plan : Plan) (old new : DiskState) : Type 0 where
+  at_first : FailsOne plan.first old new → StopsAtFailure plan old new
+  at_second : (first : DiskState) → WritesOne plan.first old first → FailsOne plan.second first new
+      → StopsAtFailure plan old new
+  at_third : (first second : DiskState) → WritesOne plan.first old first → WritesOne plan.second first second
+      → FailsOne plan.third second new → StopsAtFailure plan old new

@@ -1,11 +1,12 @@
-//! A put of a twin store of version 1, planned without a disk: the caller keeps the bytes of the store in memory, the
-//! image, asks for a plan of at most three writes, does them on its own device, each durable before the next, and then
-//! says that they are done.
+//! A put of a twin store of version 1, planned without a disk, for a caller that keeps the store's bytes: the
+//! image.
 //!
-//! [`perform`] is that loop over any disk: of a plan for the bytes of this disk, what it leaves is what a store's own
-//! put leaves, at every exit. A program in another language copies its three lines.
-//!
-//! No call takes memory.
+//! [`plan_put`] plans at most three writes, exactly if the image has the cell with a copy that counts. The
+//! caller does them, each durable before the next, and [`done`] makes of the image the finished put.
+//! [`perform`] is that loop over any disk, with the contract of a store's put; Ok over bytes of which none is
+//! loose says that the writes are made. A plan is determined to the byte. If power goes within it and a write
+//! that is cut changes its own bytes alone (`CutWithin`), the bytes stand for the old list or the new, every
+//! other cell as it was. [`make`] gives a fresh store's image. [`check`] is exact. No call takes memory.
 #![tactic(auto)]
 
 mod images;

@@ -4,6 +4,7 @@ ghost use Rattle.cut_disk.specs.Calls.{Rose, Runs};
 ghost use Rattle.cell_store.specs.Cells.{Puts, FailsPut};
 ghost use Rattle.store_plan.specs.Plans.{WriteFits, PlanFits};
 ghost use Rattle.store_plan.specs.Performing.{WriteDone, WriteTorn, MakesFirm, DoesPlan, LeavesPlanCut, Serves, store_on};
+ghost use Rattle.store_plan.specs.Performing.{DoesEach, StopsAtFailure};
 
 use crate::planning::{Plan, Write};
 use cut_disk::{Disk, DiskFailed, write_and_sync};
@@ -37,6 +38,8 @@ pub fn perform<D: Disk>(disk: &mut D, plan: &Plan) -> Result<(), DiskFailed>
     ensures runs { Runs [] 6 (D.state disk.old) (D.state disk.new) }
     ensures faults { OnOk result ((D.state disk.new).faults ≡ (D.state disk.old).faults) }
     ensures failed { OnErr result (Rose (D.state disk.old).faults (D.state disk.new).faults) }
+    ensures each { OnOk result (DoesEach plan.now (D.state disk.old) (D.state disk.new)) }
+    ensures stops { OnErr result (StopsAtFailure plan.now (D.state disk.old) (D.state disk.new)) }
     ensures whole { OnOk result (DoesPlan plan.now (D.state disk.old).told (D.state disk.new).told) }
     ensures cut { LeavesPlanCut plan.now (D.state disk.old).told (D.state disk.new).told }
     ensures puts { OnOk result ((cells : List (List ℕ)) (cell : ℕ) (bytes : List ℕ) → cell < length cells

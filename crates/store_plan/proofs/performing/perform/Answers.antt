@@ -1,13 +1,13 @@
 use Rattle.std.proofs.Common.{◌∙◌, arith, ◌<◌, ◌≤◌, ◌+◌, length}
 use Rattle.cut_disk.specs.CallLaws.{runs_join, runs_more, rose_after}
-use Rattle.cell_store.proofs.Results.{OnErr-from}
+use Rattle.cell_store.proofs.CallerLemmas.{OnErr-from, either-outside}
 use Rattle.store_plan.proofs.LeavesLaws.{on_ok_both, on_err_both, first-torn, second-torn, third-torn, all-done, fails-put, puts}
 use Rattle.std.proofs.lemmas.Result.{on_ok_weaker, on_err_weaker}
 use Rattle.cut_disk.specs.Images.{firm, EachImage}
 use Rattle.cell_store.specs.Layout.{SameOutside}
-use Rattle.cell_store.proofs.GateLaws.{either-outside}
 use Rattle.store_plan.specs.Plans.{in_first, in_second, in_third, applied_write}
 use Rattle.store_plan.proofs.CutLaws.{torn-cut, done-cut}
+use Rattle.store_plan.specs.Performing.{at_first, at_second, at_third}
 use Rattle.store_plan.proofs.performing.perform.Goals as goal
 
 pub returns-in_err-do_write-clause-runs : goal.returns-in_err-do_write-clause-runs
@@ -90,3 +90,42 @@ returns-clause-whole g c =
     on_ok_weaker c.do_write-3.result
     (λ third x was. third _ (c.in_ok-do_write-2.ensures.whole _ (c.in_ok-do_write.ensures.whole x was)))
     c.do_write-3.ensures.whole
+
+pub returns-in_err-do_write-clause-stops : goal.returns-in_err-do_write-clause-stops
+returns-in_err-do_write-clause-stops g c =
+    OnErr-from c.from_residual.result (at_first (record {
+      runs = c.do_write.ensures.runs;
+      failed = c.in_err-do_write.ensures.failed;
+      torn = c.in_err-do_write.ensures.torn;
+    }))
+
+pub returns-in_err-do_write-2-clause-stops : goal.returns-in_err-do_write-2-clause-stops
+returns-in_err-do_write-2-clause-stops g c =
+    OnErr-from c.from_residual-in_err-do_write-2.result (at_second _ (record {
+      runs = c.do_write.ensures.runs;
+      faults = c.in_ok-do_write.ensures.faults;
+      done = c.in_ok-do_write.ensures.done;
+    }) (record {
+      runs = c.do_write-2.ensures.runs;
+      failed = c.in_err-do_write-2.ensures.failed;
+      torn = c.in_err-do_write-2.ensures.torn;
+    }))
+
+pub returns-clause-each : goal.returns-clause-each
+returns-clause-each g c =
+    on_ok_both c.do_write-3.result (λ done faults. record {
+      behind_first = g.D.Disk.state c.do_write.new.disk;
+      behind_second = g.D.Disk.state c.do_write-2.new.disk;
+      first = record { runs = c.do_write.ensures.runs; faults = c.in_ok-do_write.ensures.faults; done = c.in_ok-do_write.ensures.done };
+      second = record { runs = c.do_write-2.ensures.runs; faults = c.in_ok-do_write-2.ensures.faults; done = c.in_ok-do_write-2.ensures.done };
+      third = record { runs = c.do_write-3.ensures.runs; faults = faults; done = done };
+    })
+    c.do_write-3.ensures.done c.do_write-3.ensures.faults
+
+pub returns-clause-stops : goal.returns-clause-stops
+returns-clause-stops g c =
+    on_err_both c.do_write-3.result (λ torn failed. at_third (g.D.Disk.state c.do_write.new.disk) (g.D.Disk.state c.do_write-2.new.disk)
+    (record { runs = c.do_write.ensures.runs; faults = c.in_ok-do_write.ensures.faults; done = c.in_ok-do_write.ensures.done })
+    (record { runs = c.do_write-2.ensures.runs; faults = c.in_ok-do_write-2.ensures.faults; done = c.in_ok-do_write-2.ensures.done })
+    (record { runs = c.do_write-3.ensures.runs; failed = failed; torn = torn }))
+    c.do_write-3.ensures.torn c.do_write-3.ensures.failed
