@@ -1,0 +1,336 @@
+"""Secured I-PDUs on a bus of python-can, and in its logs. It needs python-can: `pip install rathonsi[can]`."""
+
+import threading
+from collections.abc import Callable, Iterable, Iterator
+from dataclasses import dataclass
+from os import PathLike
+from typing import Any, Final, Optional, SupportsIndex
+
+from can.bus import BusABC, BusState
+from can.io.generic import MessageReader
+from can.io.player import LogReader
+from can.message import Message
+from can.typechecking import CanFilters
+
+from ._arguments import PAYLOAD_MOST, TRAILER, data_id_number, freshness_number, key_bytes, number, truth
+from ._errors import BadLength, Refused
+from ._pdus import Accepted, verify
+from ._routes import RECEIVES, SENDS, Direction, direction_of
+from ._store import Store
+
+FD_LENGTHS: Final = (12, 16, 20, 24, 32, 48, 64)
+
+OnRefused = Callable[[Message, Refused], object]
+
+
+def _identifier(arbitration_id: SupportsIndex, is_extended_id: bool) -> int:
+    most = 0x1FFF_FFFF if truth("is_extended_id", is_extended_id) else 0x7FF
+    return number("arbitration_id", arbitration_id, 0, most)
+
+
+@dataclass(frozen=True, slots=True)
+class Frame:
+    """A frame of a `SecuredBus` that carries the PDUs of a route.
+
+    arbitration_id: 11 bits, or 29 if `is_extended_id` is true
+    data_id: 16 bits, that of a route of the store in this direction
+    direction: SENDS or RECEIVES
+    payload_length: 1 to 60 bytes. On the bus the data has 4 more; over 8 it is of CAN FD and padded with zeros
+
+    TypeError, ValueError: a field is of another type, or outside its range.
+    """
+
+    arbitration_id: int
+    data_id: int
+    direction: Direction
+    payload_length: int
+    is_extended_id: bool = False
+
+    def __post_init__(self) -> None:
+        object.__setattr__(self, "arbitration_id", _identifier(self.arbitration_id, self.is_extended_id))
+        object.__setattr__(self, "data_id", data_id_number(self.data_id))
+        object.__setattr__(self, "direction", direction_of(self.direction))
+        object.__setattr__(self, "payload_length", number("payload_length", self.payload_length, 1, PAYLOAD_MOST))
+
+
+def _carries_data(message: Message) -> bool:
+    return not message.is_remote_frame and not message.is_error_frame
+
+
+def _pdu_in(message: Message, payload_length: int) -> bytes:
+    """The first bytes of a frame, which are its PDU; the others are padding. BadLength: it has fewer bytes."""
+    size = payload_length + TRAILER
+    if len(message.data) < size:
+        raise BadLength(f"the frame has {len(message.data)} bytes, and its PDU {size}")
+    return bytes(message.data[:size])
+
+
+def _with_data(message: Message, data: bytes) -> Message:
+    """The same frame with other data; of CAN FD if that is longer than 8 bytes."""
+    return Message(
+        timestamp=message.timestamp,
+        arbitration_id=message.arbitration_id,
+        is_extended_id=message.is_extended_id,
+        channel=message.channel,
+        data=data,
+        is_fd=message.is_fd or len(data) > 8,
+        is_rx=message.is_rx,
+        bitrate_switch=message.bitrate_switch,
+        error_state_indicator=message.error_state_indicator,
+    )
+
+
+def _padded(pdu: bytes) -> bytes:
+    """The PDU, and zeros up to a length that a frame can have."""
+    if len(pdu) <= 8:
+        return pdu
+    return pdu.ljust(next(length for length in FD_LENGTHS if length >= len(pdu)), b"\0")
+
+
+class SecuredBus(BusABC):
+    """A bus that secures what is sent on another one, and verifies what is received from it.
+
+    `send` secures the data frames that `frames` maps to routes that send; `recv` gives those of routes that receive
+    with their payload as data, once they are verified. All other frames go through as they are, remote and error
+    frames with mapped identifiers, too. Filters, periodic sending, `can.Notifier` and `with` work as on any bus;
+    `shutdown` shuts the other bus down, and leaves the store open.
+
+    A received frame that is refused raises its `Refused` in `recv`. With `on_refused` it is handed to that, with its
+    reason, and `recv` goes on to the next one: take that with a `can.Notifier`, whose thread ends at an exception.
+
+    ValueError: a frame names a route that the store hasn't, or two frames of one direction have one identifier.
+    """
+
+    def __init__(
+        self, bus: BusABC, store: Store, frames: Iterable[Frame], on_refused: OnRefused | None = None
+    ) -> None:
+        if not isinstance(bus, BusABC) or not isinstance(store, Store):
+            raise TypeError("a bus of python-can and a Store are wanted")
+        if on_refused is not None and not callable(on_refused):
+            raise TypeError(f"on_refused: a function is wanted, not {type(on_refused).__name__}")
+        self._store = store
+        self._frames: dict[tuple[int, bool, Direction], Frame] = {}
+        for frame in frames:
+            self._add(frame)
+        self._on_refused = on_refused
+        self._sending = threading.Lock()
+        self._bus = bus
+        super().__init__(channel=None, can_filters=bus.filters)
+        self.channel_info = f"secured {bus.channel_info}"
+
+    def _add(self, frame: Frame) -> None:
+        if not isinstance(frame, Frame):
+            raise TypeError(f"frames: a Frame is wanted, not {type(frame).__name__}")
+        self._store.counter(frame.data_id, frame.direction)
+        place = (frame.arbitration_id, frame.is_extended_id, frame.direction)
+        if place in self._frames:
+            raise ValueError(f"frames: two have the identifier {frame.arbitration_id:x}")
+        self._frames[place] = frame
+
+    def _frame_of(self, message: Message, direction: Direction) -> Frame | None:
+        if not _carries_data(message):
+            return None
+        return self._frames.get((message.arbitration_id, message.is_extended_id, direction))
+
+    def send(self, msg: Message, timeout: Optional[float] = None) -> None:
+        """Sends a frame; a mapped data frame with its Secured I-PDU, a new freshness each time.
+
+        ValueError: the data of a mapped frame isn't its payload long. What `Store.send` and the other bus raise.
+        """
+        if not isinstance(msg, Message):
+            raise TypeError(f"msg: a Message is wanted, not {type(msg).__name__}")
+        frame = self._frame_of(msg, SENDS)
+        if frame is None:
+            self._bus.send(msg, timeout)
+            return
+        if len(msg.data) != frame.payload_length:
+            raise ValueError(f"the frame has {len(msg.data)} bytes, and its payload {frame.payload_length}")
+        # in one piece: of two threads none overtakes the other between its freshness and the bus
+        with self._sending:
+            pdu = self._store.send(frame.data_id, msg.data)
+            self._bus.send(_with_data(msg, _padded(pdu)), timeout)
+
+    def _recv_internal(self, timeout: Optional[float]) -> tuple[Optional[Message], bool]:
+        message = self._bus.recv(timeout)
+        frame = None if message is None else self._frame_of(message, RECEIVES)
+        if message is None or frame is None:
+            return message, True
+        try:
+            payload = self._store.receive(frame.data_id, _pdu_in(message, frame.payload_length)).payload
+        except Refused as refused:
+            if self._on_refused is None:
+                refused.add_note(f"the frame: {message}")
+                raise
+            self._on_refused(message, refused)
+            return None, True
+        return _with_data(message, payload), True
+
+    def _apply_filters(self, filters: Optional[CanFilters]) -> None:
+        self._bus.set_filters(filters)
+
+    def fileno(self) -> int:
+        """The file descriptor of the other bus."""
+        return self._bus.fileno()
+
+    def flush_tx_buffer(self) -> None:
+        """Discards what the other bus has queued; the freshness of it is spent."""
+        self._bus.flush_tx_buffer()
+
+    def shutdown(self) -> None:
+        """Stops periodic sending, and shuts the other bus down."""
+        super().shutdown()
+        self._bus.shutdown()
+
+    @property
+    def state(self) -> BusState:
+        """The state of the other bus."""
+        return self._bus.state
+
+    @state.setter
+    def state(self, new_state: BusState) -> None:
+        self._bus.state = new_state
+
+
+@dataclass(frozen=True, slots=True)
+class MapLine:
+    """A line of the map of a log: what carries the PDUs of a Data ID, and the counter of the receiver before it.
+
+    arbitration_id, is_extended_id, data_id, payload_length: as of `Frame`
+    key: 16 bytes; `repr` doesn't show it
+    freshness: the freshness that was accepted last before the log, 64 bits
+    window: 1 to 256
+    channel: the channel of the frames, as `str` gives it; None is any
+    """
+
+    arbitration_id: int
+    is_extended_id: bool
+    data_id: int
+    key: bytes
+    freshness: int
+    payload_length: int
+    window: int = 256
+    channel: str | None = None
+
+    def __post_init__(self) -> None:
+        object.__setattr__(self, "arbitration_id", _identifier(self.arbitration_id, self.is_extended_id))
+        object.__setattr__(self, "data_id", data_id_number(self.data_id))
+        object.__setattr__(self, "key", key_bytes("key", self.key))
+        object.__setattr__(self, "freshness", freshness_number("freshness", self.freshness))
+        object.__setattr__(self, "payload_length", number("payload_length", self.payload_length, 1, PAYLOAD_MOST))
+        object.__setattr__(self, "window", number("window", self.window, 1, 256))
+        if self.channel is not None and not isinstance(self.channel, str):
+            raise TypeError(f"channel: a str is wanted, not {type(self.channel).__name__}")
+
+    def __repr__(self) -> str:
+        return f"MapLine({self.arbitration_id:#x}, is_extended_id={self.is_extended_id}, data_id={self.data_id:#06x})"
+
+
+@dataclass(frozen=True, slots=True)
+class FrameVerdict:
+    """What a receiver says of a frame of a log.
+
+    number: of the frame in the log, from 1, as python-can reads it
+    message: the frame
+    line: the line of the map that names it
+    accepted: its payload and freshness; None if it is refused
+    refused: why; None if it is accepted
+    """
+
+    number: int
+    message: Message
+    line: MapLine
+    accepted: Accepted | None
+    refused: Refused | None
+
+
+def read_map(path: str | PathLike[str]) -> list[MapLine]:
+    """The lines of a map file of `audit` or `watch`: CANID ID KEY FRESH LEN [WINDOW [CHANNEL]].
+
+    CANID has three or eight hexadecimal digits, ID 4, KEY 32, FRESH 16; LEN and WINDOW are decimal; `-` is any
+    channel. Lines that are empty or begin with `#` are skipped. ValueError: a line is malformed; it is named.
+    """
+    lines = []
+    with open(path, encoding="ascii") as text:
+        for count, line in enumerate(text, 1):
+            words = line.split()
+            if words and not words[0].startswith("#"):
+                try:
+                    lines.append(_map_line(*words))
+                except (ValueError, TypeError) as error:
+                    raise ValueError(f"{path}: line {count}: {error}") from None
+    return lines
+
+
+def _digits(word: str, *lengths: int) -> int:
+    if len(word) not in lengths or not all(digit in "0123456789abcdefABCDEF" for digit in word):
+        raise ValueError(f"{' or '.join(map(str, lengths))} hexadecimal digits are wanted")
+    return int(word, 16)
+
+
+def _decimal(word: str) -> int:
+    if not (word.isascii() and word.isdigit()) or (word != "0" and word.startswith("0")):
+        raise ValueError("a decimal number is wanted")
+    return int(word)
+
+
+def _map_line(*words: str) -> MapLine:
+    if not 5 <= len(words) <= 7:
+        raise ValueError(f"5 to 7 words are wanted, not {len(words)}")
+    canid, data_id, key, fresh, length, *others = words
+    return MapLine(
+        arbitration_id=_digits(canid, 3, 8),
+        is_extended_id=len(canid) == 8,
+        data_id=_digits(data_id, 4),
+        key=_digits(key, 32).to_bytes(16, "big"),
+        freshness=_digits(fresh, 16),
+        payload_length=_decimal(length),
+        window=_decimal(others[0]) if others else 256,
+        channel=others[1] if len(others) == 2 and others[1] != "-" else None,
+    )
+
+
+def verify_log(
+    path: str | PathLike[str], map: str | PathLike[str] | Iterable[MapLine], **reader: Any
+) -> Iterator[FrameVerdict]:
+    """The verdict on each mapped data frame of a log, in its order, as it is read.
+
+    `path` is a log that `LogReader` reads, by its suffix: candump (.log), ASC, BLF, TRC, CSV, SQLite (.db), also
+    with .gz. `map` is a file as of `read_map`, or lines of it; a frame belongs to the first line with its identifier
+    and channel. `reader` is passed on to `LogReader`. Each line counts for itself: its counter is `freshness`,
+    and then the freshness that was accepted last. ValueError, OSError: of the map or the log, at the call itself.
+    """
+    lines = read_map(map) if isinstance(map, (str, PathLike)) else list(map)
+    for line in lines:
+        if not isinstance(line, MapLine):
+            raise TypeError(f"map: a MapLine is wanted, not {type(line).__name__}")
+    return _verdicts(LogReader(path, **reader), lines)
+
+
+def _verdicts(log: MessageReader, lines: list[MapLine]) -> Iterator[FrameVerdict]:
+    counters = [line.freshness for line in lines]
+    with log:
+        for count, message in enumerate(log, 1):
+            which = _line_of(message, lines)
+            if which is not None:
+                verdict = _verdict(count, message, lines[which], counters[which])
+                if verdict.accepted is not None:
+                    counters[which] = verdict.accepted.freshness
+                yield verdict
+
+
+def _verdict(count: int, message: Message, line: MapLine, counter: int) -> FrameVerdict:
+    try:
+        accepted = verify(line.key, line.data_id, counter, _pdu_in(message, line.payload_length), line.window)
+    except Refused as refused:
+        return FrameVerdict(count, message, line, None, refused)
+    return FrameVerdict(count, message, line, accepted, None)
+
+
+def _line_of(message: Message, lines: list[MapLine]) -> int | None:
+    if not _carries_data(message):
+        return None
+    for which, line in enumerate(lines):
+        if (line.arbitration_id, line.is_extended_id) == (message.arbitration_id, message.is_extended_id):
+            if line.channel is None or line.channel == str(message.channel):
+                return which
+    return None
