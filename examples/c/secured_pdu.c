@@ -3,7 +3,6 @@
  * and once with a changed byte. The key, the payload and the freshness are those of NIST's second example for the CMAC over AES-128
  * (SP 800-38B, appendix D.1), read as Data ID 6bc1, payload and freshness.
  */
-#include <inttypes.h>
 #include <stdio.h>
 #include <string.h>
 
@@ -15,7 +14,8 @@ static const uint8_t payload[6] = {0xbe, 0xe2, 0x2e, 0x40, 0x9f, 0x96};
 static void show(RathonsiVerdict verdict) {
     switch (verdict.status) {
     case RATHONSI_OK:
-        printf("accepted: payload of %" PRIu32 " bytes, freshness %016" PRIx64 "\n", verdict.payload_length, verdict.freshness);
+        printf("accepted: payload of %lu bytes, freshness %08lx%08lx\n", (unsigned long)verdict.payload_length,
+               (unsigned long)(verdict.freshness >> 32), (unsigned long)(verdict.freshness & 0xffffffffu));
         break;
     case RATHONSI_FRESHNESS_FAILURE:
         puts("refused: no freshness within the window");
@@ -24,7 +24,7 @@ static void show(RathonsiVerdict verdict) {
         puts("refused: another authenticator");
         break;
     default:
-        printf("refused: status %" PRId32 "\n", verdict.status);
+        printf("refused: status %d\n", (int)verdict.status);
     }
 }
 

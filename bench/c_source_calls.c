@@ -1,0 +1,96 @@
+/*
+ * Of each call of the library what it costs where it runs: the bytes of stack, painted before the call; and its instructions, if the
+ * processor has a counter that qemu drives: -DSYSTICK on a Cortex-M, whose counter goes down once in 40 instructions with
+ * -icount shift=0 on mps2-an386. The key is expanded in each call. With -DMARKS a call of `mark` stands before and after each call.
+ */
+#include <stdio.h>
+#include <string.h>
+
+#include "rathonsi_store.h"
+
+enum { DEPTH = 16384, CALLS = 9, TIMES = 20 };
+
+static uint8_t image[RATHONSI_STORE_SIZE(2)], payload[8], pdu[64], uid[15], mac[16], text[64];
+static const uint8_t key[16] = {0x2b, 0x7e, 0x15, 0x16, 0x28, 0xae, 0xd2, 0xa6, 0xab, 0xf7, 0x15, 0x88, 0x09, 0xcf, 0x4f, 0x3c};
+static RathonsiPlan plan;
+static RathonsiRoute sender, receiver;
+static RathonsiUpdate update;
+static RathonsiRequest request;
+static RathonsiReply reply;
+
+static const char *const names[CALLS] = {"nothing", "aes128_encrypt, a block", "cmac, 16 bytes", "secoc_protect, 8 bytes", "route_send, 8 bytes",
+                                         "route_receive, 8 bytes", "store_check, 2 routes", "slot_load", "slot_confirm"};
+
+#ifdef SYSTICK
+static volatile uint32_t *const systick = (volatile uint32_t *)0xE000E010;
+static uint32_t ticks(void) { return 0xffffffu - systick[2]; }
+static void begin(void) { systick[1] = 0xffffffu; systick[2] = 0; systick[0] = 5; for (volatile int i = 0; i < 1000; i++) {} }
+#else
+static uint32_t ticks(void) { return 0; }
+static void begin(void) {}
+#endif
+
+static int32_t call(int which) {
+    switch (which) {
+    case 1: return rathonsi_aes128_encrypt(key, 16, text, 16);
+    case 2: return rathonsi_cmac(key, 16, text, 16, mac);
+    case 3: return rathonsi_secoc_protect(key, 16, 0x1234, 77, payload, 8, pdu, 64);
+    case 4: return rathonsi_route_send(&sender, image, sizeof image, payload, 8, pdu, 64);
+    case 5: receiver.counter = sender.counter - 1; return rathonsi_route_receive(&receiver, image, sizeof image, pdu, 12).status;
+    case 6: return rathonsi_store_check(image, sizeof image);
+    case 7: memset(&plan, 0, sizeof plan); return rathonsi_slot_load(uid, 0, &request, image, sizeof image, &plan);
+    case 8: return rathonsi_slot_confirm(uid, request.m1, image, sizeof image, &reply);
+    default: return 0;
+    }
+}
+
+/* The bytes below this frame that a call changes, less what a call of nothing does. */
+__attribute__((noinline)) static uint32_t stack_of(int which, int32_t *status) {
+    volatile uint8_t *top = (volatile uint8_t *)__builtin_frame_address(0) - 256, *low = top - DEPTH, *p = low;
+    for (volatile uint8_t *at = low; at < top; at++) *at = 0xc5;
+    *status = call(which);
+    while (p < top && *p == 0xc5) p++;
+    return (uint32_t)(top - p) + 256;
+}
+
+static void set_up(void) {
+    uint8_t empty[16];
+    memset(empty, 0xff, 16);
+    uid[14] = 1;
+    memcpy(update.uid, uid, 15);
+    update.id = update.auth = 4;
+    update.flags = RATHONSI_KEY_USAGE;
+    update.counter = 1;
+    memcpy(update.key, key, 16);
+    rathonsi_store_make(image, sizeof image);
+    RathonsiRoute route = {0, 0x1234, 14, 128, 256, 4, RATHONSI_SENDS, 0, {0}};
+    sender = receiver = route;
+    receiver.cell = 15;
+    receiver.direction = RATHONSI_RECEIVES;
+    rathonsi_route_make(&sender, 100000, image, sizeof image);
+    rathonsi_route_make(&receiver, 100000, image, sizeof image);
+    rathonsi_she_make_update(empty, 16, &update, &request);
+    rathonsi_slot_load(uid, 0, &request, image, sizeof image, &plan);
+    rathonsi_store_done(image, sizeof image, &plan);
+    update.counter = 2;
+    rathonsi_she_make_update(key, 16, &update, &request);
+    sender.counter = 10;
+}
+
+int main(int count, char **words) {
+    set_up();
+    if (count > 1) { /* a call alone, once or several times, for who counts from outside */
+        int which = words[1][0] - '0', times = count > 2 ? words[2][0] - '0' : 1;
+        for (int i = 0; i < times; i++) call(which);
+        return 0;
+    }
+    begin();
+    for (int which = 0; which < CALLS; which++) {
+        int32_t status = 0;
+        uint32_t from = ticks();
+        for (int i = 0; i < TIMES; i++) status = call(which);
+        uint32_t instructions = (ticks() - from) * 40 / TIMES, stack = stack_of(which, &status);
+        printf("%-24s status %d %7lu instructions %5lu bytes of stack\n", names[which], (int)status, (unsigned long)instructions, (unsigned long)stack);
+    }
+    return 0;
+}

@@ -1,0 +1,309 @@
+/*
+ * every_export [ROUNDS [SEED]]: calls every export of the library with drawn arguments, right and wrong, over damaged stores and plans, too,
+ * and prints a sum of all that comes out after each thousand rounds, and how often each status came. One seed gives the same lines on
+ * every processor, unless two builds of the library differ.
+ */
+#include <stdio.h>
+#include <stdlib.h>
+#include <string.h>
+
+#include "rathonsi_store.h"
+
+enum { ROUTES = 3, SIZE = RATHONSI_STORE_SIZE(ROUTES), MORE = 68, SLOTS = 14, STATUSES = 17 };
+
+static uint8_t image[SIZE + MORE], key[16], uid[15], text[320], pdu[80], payload[80], mac[16], iv[16], keys[SLOTS][16];
+static RathonsiRoute routes[ROUTES];
+static RathonsiPlan plan;
+static RathonsiUpdate update;
+static RathonsiRequest request;
+static RathonsiReply reply;
+static uint32_t state, loads;
+static unsigned long seen[STATUSES];
+static uint64_t sum = UINT64_C(0xcbf29ce484222325);
+
+static uint32_t below(uint32_t n) {
+    state ^= state << 13;
+    state ^= state >> 17;
+    state ^= state << 5;
+    return state % n;
+}
+
+static int one_in(uint32_t n) {
+    return below(n) == 0;
+}
+
+static void fill(uint8_t *at, size_t length) {
+    for (size_t i = 0; i < length; i++) at[i] = (uint8_t)below(256);
+}
+
+static void flip(void *at, uint32_t length) {
+    uint8_t *bytes = at;
+    uint32_t i = below(length), bit = below(8);
+    bytes[i] = (uint8_t)(bytes[i] ^ (1u << bit));
+}
+
+static void add(const void *at, size_t length) {
+    const uint8_t *bytes = at;
+    for (size_t i = 0; i < length; i++) sum = (sum ^ bytes[i]) * UINT64_C(0x100000001b3);
+}
+
+static void add_number(uint64_t number) {
+    uint8_t bytes[8];
+    for (int i = 0; i < 8; i++) bytes[i] = (uint8_t)(number >> (8 * i));
+    add(bytes, 8);
+}
+
+static int32_t status(int32_t it) {
+    if (it < 0 || it >= STATUSES) {
+        printf("status %ld\n", (long)it);
+        exit(1);
+    }
+    seen[it]++;
+    add_number((uint64_t)it);
+    return it;
+}
+
+static int32_t add_verdict(RathonsiVerdict it) {
+    add_number(it.payload_length);
+    add_number(it.freshness);
+    return status(it.status);
+}
+
+static void add_update(void) {
+    add(update.uid, 15);
+    add_number(update.id);
+    add_number(update.auth);
+    add_number(update.flags);
+    add_number(update.counter);
+    add(update.key, 16);
+}
+
+static void add_plan(void) {
+    for (int i = 0; i < 3; i++) {
+        add_number(plan.writes[i].offset);
+        add_number(plan.writes[i].length);
+        add(plan.writes[i].bytes, sizeof plan.writes[i].bytes);
+    }
+}
+
+static void add_route(const RathonsiRoute *it) {
+    const uint64_t numbers[8] = {it->counter, it->data_id, it->cell, it->reserve, it->window, it->slot, it->direction, it->booted};
+    for (int i = 0; i < 8; i++) add_number(numbers[i]);
+    add(it->unused, sizeof it->unused);
+}
+
+static size_t key_length(void) {
+    return one_in(12) ? below(17) : 16;
+}
+
+static uint64_t freshness(void) {
+    uint64_t high = below(3), low = below(256);
+    switch (below(4)) {
+    case 0: return below(600);
+    case 1: return UINT64_MAX - below(300);
+    case 2: return (uint64_t)below(UINT32_MAX) << 32 | low;
+    default: return (high << 32) - below(4);
+    }
+}
+
+static void call_cipher(void) {
+    size_t k = key_length(), n = one_in(5) ? below(300) : 16 * below(19);
+    fill(key, 16);
+    fill(text, n);
+    fill(iv, 16);
+    switch (below(5)) {
+    case 0: status(rathonsi_aes128_encrypt(key, k, text, n)); break;
+    case 1: status(rathonsi_aes128_decrypt(key, k, text, n)); break;
+    case 2: status(rathonsi_aes128_cbc_encrypt(key, k, iv, text, n)); break;
+    case 3: status(rathonsi_aes128_cbc_decrypt(key, k, iv, text, n)); break;
+    default: status(rathonsi_cmac(key, k, text, n, mac)); break;
+    }
+    add(mac, 16);
+    add(text, sizeof text);
+}
+
+static void call_pdu(void) {
+    size_t k = key_length(), n = below(66), more = below(3), room = one_in(4) ? below(76) : n + RATHONSI_TRAILER + more;
+    uint64_t counter = freshness();
+    uint16_t id = (uint16_t)below(65536);
+    fill(key, 16);
+    fill(payload, n);
+    fill(pdu, sizeof pdu);
+    if (one_in(2)) status(rathonsi_secoc_protect(key, k, id, counter, payload, n, pdu, room));
+    else status(rathonsi_secoc_protect_in_place(key, k, id, counter, pdu, room, n));
+    add(pdu, sizeof pdu);
+    if (one_in(6)) flip(pdu, sizeof pdu);
+    counter -= below(5);
+    uint16_t window = (uint16_t)(one_in(5) ? below(65536) : 1 + below(256));
+    size_t length = one_in(8) ? below(80) : n + RATHONSI_TRAILER;
+    add_verdict(rathonsi_secoc_verify(key, k, id, counter, window, pdu, length));
+}
+
+static void draw_update(void) {
+    fill(uid, 15);
+    if (!one_in(3)) {
+        memset(uid, 0, 15);
+        uid[14] = 1;
+    }
+    memcpy(update.uid, uid, 15);
+    if (one_in(4)) memset(update.uid, 0, 15);
+    update.id = (uint8_t)below(one_in(8) ? 40 : SLOTS);
+    update.auth = (uint8_t)(one_in(2) ? update.id : below(SLOTS));
+    update.flags = (uint8_t)(one_in(8) ? below(256) : below(32));
+    uint32_t shift = below(8);
+    update.counter = one_in(3) ? below(UINT32_MAX) >> shift : 1 + below(20);
+    fill(update.key, 16);
+}
+
+static void call_update(void) {
+    uint8_t derived[16] = {0};
+    size_t k = key_length();
+    fill(key, 16);
+    uint32_t which = 1 + below(3);
+    status(rathonsi_she_derive(key, k, which, derived));
+    add(derived, 16);
+    draw_update();
+    status(rathonsi_she_make_update(key, k, &update, &request));
+    add(&request, sizeof request);
+    if (one_in(4)) flip(&request, sizeof request);
+    k = key_length();
+    status(rathonsi_she_read_update(key, k, &request, &update));
+    add_update();
+    status(rathonsi_she_confirm(&update, uid, &reply));
+    add(&reply, sizeof reply);
+}
+
+static void make_store(void) {
+    status(rathonsi_store_make(image, SIZE + (one_in(4) ? MORE : 0)));
+    status(rathonsi_store_make(image, SIZE));
+    memset(&plan, 0, sizeof plan);
+    memset(keys, 0xff, sizeof keys);
+    loads = 0;
+    for (int i = 0; i < ROUTES; i++) {
+        RathonsiRoute *it = &routes[i];
+        it->counter = freshness();
+        it->data_id = (uint16_t)below(65536);
+        it->cell = (uint16_t)(RATHONSI_SLOT_CELLS + (unsigned)i);
+        it->reserve = (uint16_t)(1 + below(128));
+        it->window = (uint16_t)(1 + below(256));
+        it->slot = (uint8_t)(4 + below(3));
+        it->direction = (uint8_t)(1 + i % 2);
+        it->booted = (uint8_t)!one_in(4);
+        uint64_t bound = freshness();
+        status(rathonsi_route_make(it, bound, image, SIZE));
+    }
+}
+
+/* Says that the plan is done, now and then of a damaged plan, or over a part of the image; or leaves it as it is. */
+static void finish(void) {
+    add_plan();
+    if (one_in(30)) return;
+    if (one_in(40)) {
+        RathonsiWrite *it = &plan.writes[below(3)];
+        it->length = below(60);
+        it->offset = one_in(2) ? below(UINT32_MAX) : below(SIZE + 50);
+    }
+    if (status(rathonsi_store_done(image, one_in(40) ? below(SIZE) : SIZE, &plan)) != RATHONSI_OK) memset(&plan, 0, sizeof plan);
+}
+
+static void damage_route(RathonsiRoute *it) {
+    switch (below(7)) {
+    case 0: it->cell = (uint16_t)below(20); break;
+    case 1: it->reserve = (uint16_t)below(300); break;
+    case 2: it->window = (uint16_t)below(300); break;
+    case 3: it->slot = (uint8_t)below(16); break;
+    case 4: it->direction = (uint8_t)below(4); break;
+    case 5: it->booted = (uint8_t)below(3); break;
+    default: it->counter = freshness(); break;
+    }
+}
+
+static void reserve(const RathonsiRoute *it, uint64_t bound, size_t size) {
+    status(rathonsi_route_reserve(it, bound, image, size, &plan));
+    finish();
+}
+
+static void send(RathonsiRoute *it, size_t n, size_t size) {
+    fill(payload, n);
+    int32_t said = status(rathonsi_route_send(it, image, size, payload, n, pdu, one_in(10) ? below(80) : n + RATHONSI_TRAILER));
+    add(pdu, sizeof pdu);
+    if (said == RATHONSI_RESERVE) reserve(it, it->counter + 1, SIZE);
+}
+
+static void receive(RathonsiRoute *it, size_t n, size_t size) {
+    if (!one_in(3)) {
+        const uint8_t *of = keys[it->slot < SLOTS ? it->slot : 4];
+        uint64_t next = it->counter + 1 + below(3);
+        fill(payload, n);
+        status(rathonsi_secoc_protect(of, 16, it->data_id, next, payload, n, pdu, sizeof pdu));
+    }
+    size_t length = one_in(10) ? below(80) : n + RATHONSI_TRAILER;
+    RathonsiVerdict said = rathonsi_route_receive(it, image, size, pdu, length);
+    if (add_verdict(said) == RATHONSI_RESERVE) {
+        reserve(it, said.freshness, SIZE);
+        add_verdict(rathonsi_route_receive(it, image, SIZE, pdu, length));
+    }
+}
+
+static void load(size_t size) {
+    draw_update();
+    if (!one_in(4)) {
+        update.id = update.auth = (uint8_t)(4 + below(3));
+        update.flags = RATHONSI_KEY_USAGE;
+        if (one_in(6)) update.flags = (uint8_t)(update.flags | RATHONSI_BOOT_PROTECTION);
+        if (one_in(200)) update.flags = (uint8_t)(update.flags | RATHONSI_WRITE_PROTECTION);
+        update.counter = ++loads;
+        memset(uid, 0, 15);
+        uid[14] = 1;
+        memcpy(update.uid, uid, 15);
+    }
+    status(rathonsi_she_make_update(keys[update.auth < SLOTS ? update.auth : 0], 16, &update, &request));
+    if (one_in(10)) flip(&request, sizeof request);
+    if (status(rathonsi_slot_load(uid, (uint8_t)below(one_in(9) ? 4 : 2), &request, image, size, &plan)) == RATHONSI_OK) {
+        finish();
+        if (update.id < SLOTS) memcpy(keys[update.id], update.key, 16);
+    }
+    memset(&reply, 7, sizeof reply);
+    status(rathonsi_slot_confirm(uid, request.m1, image, size, &reply));
+    add(&reply, sizeof reply);
+}
+
+static void call_store(void) {
+    RathonsiRoute *it = &routes[below(ROUTES)];
+    size_t n = one_in(12) ? below(70) : 1 + below(60), size = one_in(60) ? below(SIZE + MORE + 1) : SIZE;
+    if (one_in(60)) damage_route(it);
+    if (plan.writes[1].length != 0 && one_in(2)) finish();
+    switch (below(8)) {
+    case 0: status(rathonsi_route_open(it, image, size)); break;
+    case 1: reserve(it, one_in(3) ? freshness() : it->counter + 1, size); break;
+    case 2: case 3: send(it, n, size); break;
+    case 4: case 5: receive(it, n, size); break;
+    case 6: load(size); break;
+    default:
+        status(rathonsi_store_check(image, size));
+        if (one_in(90)) flip(image, SIZE);
+        if (one_in(60)) make_store();
+        break;
+    }
+    add_route(it);
+    add(image, sizeof image);
+}
+
+int main(int count, char **words) {
+    long rounds = count > 1 ? atol(words[1]) : 20000;
+    state = count > 2 ? (uint32_t)atol(words[2]) : 88172645u;
+    make_store();
+    for (long i = 1; i <= rounds; i++) {
+        switch (below(8)) {
+        case 0: call_cipher(); break;
+        case 1: call_pdu(); break;
+        case 2: call_update(); break;
+        default: call_store(); break;
+        }
+        if (i % 1000 == 0 || i == rounds) printf("%ld %08lx%08lx\n", i, (unsigned long)(sum >> 32), (unsigned long)(sum & 0xffffffffu));
+    }
+    printf("statuses");
+    for (int i = 0; i < STATUSES; i++) printf(" %d:%lu", i, seen[i]);
+    printf("\n");
+    return 0;
+}
