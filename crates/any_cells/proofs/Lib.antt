@@ -1,3 +1,4 @@
 pub mod MigratingLaws
 pub mod LookingLaws
 pub mod OpeningLaws
+pub mod CallerLemmas

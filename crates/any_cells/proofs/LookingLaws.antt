@@ -15,12 +15,11 @@ use Rattle.cell_store.specs.declared.kinds.Probe.{Probe}
 use Rattle.cell_store.specs.declared.kinds.Probe.TheVariants as probe
 use Rattle.cell_store.specs.Layout.{layout, header, part, base, from_base}
 use Rattle.cell_store.specs.Reading.{ReadOnly, ReadFailed}
-use Rattle.cell_store.proofs.StaysLaws.{stays_none, stays_join}
+use Rattle.cell_store.proofs.CallerLemmas.{stays_none, stays_join, length-header, header-number, header-kind, header-not_blank}
 use Rattle.cell_store.specs.Store.{FewCells, Probes, HasHeader}
 use Rattle.any_cells.specs.declared.looking.Found.{Found}
 use Rattle.any_cells.specs.declared.looking.Found.TheVariants as found
 use Rattle.any_cells.specs.Looking.{IsBlank, FoundWhere, IsFound}
-use Rattle.cell_store.proofs.StoreLaws.{length-header, header-number, header-kind, header-not_blank}
 
 -- a probe finds a store exactly where its header stands
 pub stands-probe : (version : Version) (kind : Kind) (n : ℕ) (head : List ℕ) (p : Probe) → FewCells n → Probes version head p

@@ -24,10 +24,8 @@ use Rattle.cell_store.specs.Cells.{CellsState}
 use Rattle.cell_store.specs.Attaching.{Attached, NotAttached, Probed, NotProbed, NotFormed}
 use Rattle.cell_store.specs.Formats.{Formats, FreshOn, Unformed, LeavesUnformed}
 use Rattle.cell_store.specs.Reading.{ReadOnly}
-use Rattle.cell_store.proofs.LayoutLaws.{SameOutside-refl, SameOutside-splice}
-use Rattle.cell_store.proofs.StoreLaws.{length-header, stands_once, stands-whole}
-use Rattle.cell_store.proofs.FreshLaws.{Sized, length-fresh_cells}
-use Rattle.cell_store.proofs.FreshStands.{length-fresh_log}
+use Rattle.cell_store.proofs.CallerLemmas.{SameOutside-refl, SameOutside-splice, length-header, stands_once, stands-whole, Sized, length-fresh_cells}
+use Rattle.cell_store.proofs.CallerLemmas.{length-fresh_log}
 use Rattle.any_cells.proofs.LookingLaws.{blank-probe, probe-blank}
 use Rattle.any_cells.specs.Either.{format_calls}
 use Rattle.any_cells.specs.Looking.{IsBlank}

@@ -1,7 +1,7 @@
 //! `audit`: which frames of a recorded bus verify (AUTOSAR SecOC, profile 1).
 //!
-//! [`trace_audit::audit_words`] is the program; its clauses say what each status means and what is printed. Here it is
-//! handed the words, the files, standard input and standard output.
+//! [`trace_audit::audit_words`] is the program, with the record `Audits`. Here it is handed the arguments,
+//! the files, standard input and standard output.
 #![tactic(auto)]
 
 ghost use Rattle.std.specs.Prelude.{◌≡◌, ◌<◌, ◌≤◌, drop, length, map, string_bytes};

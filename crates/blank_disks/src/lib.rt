@@ -1,6 +1,8 @@
-//! Blank disks in memory, for the programs that run a bus over disks of their own. specs/BlankLaws.antt has what holds
-//! of a start over them: where there is one for each node, and each is as large as the greatest store, room is found,
-//! and no disk fails.
+//! Blank disks in memory, for programs that run a bus over disks of their own.
+//!
+//! [`blank_disks`] gives so many disks of so many zero bytes: none of them loose, nothing armed. Over no
+//! fewer such disks than nodes, of 54,564 bytes or more, every bus that a bus file can have finds room, and
+//! no disk fails as the stores are made (specs/BlankLaws.antt).
 #![tactic(auto)]
 
 ghost use Rattle.std.specs.Prelude.{◌≤◌, ◌^◌, IfOk};

@@ -20,3 +20,4 @@ pub mod Headlines
 pub mod OneRun
 pub mod Doing
 pub mod Summed
+pub mod CallerLemmas

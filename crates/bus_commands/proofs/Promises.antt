@@ -41,7 +41,7 @@ use Rattle.bus_commands.proofs.RowFacts.{row_tells, row_asks, row_refuses, OfTas
 use Rattle.bus_world.specs.StartAnswerLaws.{start_without_room, start_complete}
 use Rattle.bus_commands.proofs.Refusing.{start_in_room}
 use Rattle.bus_commands.proofs.Failing.{ends_failed}
-use Rattle.world_runs.proofs.DisksBack.{no_node}
+use Rattle.world_runs.proofs.CallerLemmas.{no_node}
 use Rattle.bus_world.specs.StartRowLaws.{no_disk, no_line}
 use Rattle.bus_world.specs.Worlds.{BusState}
 use Rattle.cut_disk.specs.State.{DiskState}

@@ -8,7 +8,8 @@ use Rattle.bus_machine.specs.declared.events.Event.{Event}
 use Rattle.bus_machine.specs.declared.lines.Line.{Line}
 use Rattle.bus_world.specs.Worlds.{BusState, BusTurn}
 use Rattle.bus_commands.specs.declared.summary.Summary.{Summary}
-use Rattle.bus_commands.specs.Summaries.{tells_sent, tells_accepted, tells_failed_verdict, tells_keyed, tells_up, tells_refused, summary_of}
+use Rattle.bus_commands.specs.Summaries.{summary_of}
+use Rattle.bus_machine.specs.Tells.{tells_sent, tells_accepted, tells_failed_verdict, tells_keyed, tells_up, tells_refused}
 use Rattle.bus_commands.specs.SummarySteps.{no_lines, summary_with, one_if}
 use Rattle.bus_commands.specs.TrialRuns.{SummedTurns}
 

@@ -2,8 +2,8 @@
 use Rattle.std.specs.Prelude.{◌≡◌, ℕ, ◌+◌, ◌≤◌, Bool, cond}
 use Rattle.bus_machine.specs.declared.lines.Line.{Line}
 use Rattle.bus_commands.specs.declared.summary.Summary.{Summary}
-use Rattle.bus_commands.specs.Summaries.{tells_sent, tells_accepted, tells_failed_verdict, tells_keyed, tells_up}
-use Rattle.bus_commands.specs.Summaries.{tells_refused}
+use Rattle.bus_machine.specs.Tells.{tells_sent, tells_accepted, tells_failed_verdict, tells_keyed, tells_up}
+use Rattle.bus_machine.specs.Tells.{tells_refused}
 
 abbrev pub no_lines : Summary
 no_lines = record { events = 0; sent = 0; accepted = 0; failures = 0; keyed = 0; cuts = 0; refused = 0 }

@@ -1,9 +1,11 @@
-//! The commands of a bus: Secured I-PDUs and verdicts (AUTOSAR SecOC, profile 1) from lines of text, and scripts and
-//! trials of a bus over disks.
+//! The commands of `bus_replay`: Secured I-PDUs and verdicts (AUTOSAR SecOC, profile 1), scripts and trials
+//! of a bus.
 //!
-//! [`run::run`] is all of it; its clauses say what each status means and what is printed. [`words::command_of`] tells
-//! which command the words ask for, and [`words::config_word`] and [`words::script_word`] which of them name its
-//! sources, and [`words::disk_word`] the file of its disk; [`start::bus_words`] opens the sources.
+//! [`run::run`] is all of it. The record `RunsCommand` says what each status means and what is printed, and
+//! `RunsMachine` is the headline: over disks that tell their bytes (of `node` without a loose one) what a
+//! replay, `node` or a trial did is one run of the machine, with all of `HeadlineRun`. [`start::bus_words`]
+//! opens the sources that the arguments name, and promises both. [`words::command_of`] tells which command is
+//! asked for.
 #![tactic(auto)]
 
 mod events;

@@ -9,9 +9,9 @@ use crate::lines::{
     KeptSchedule, most_frame_bytes, most_judgement_bytes, push_frame, push_judgement,
 };
 use answer_rows::Refusal;
+use byte_lists::Block;
 use line_rows::line_refusal;
 use secoc_words::{FrameLine, JudgeLine, read_frames, read_judges};
-use she_aes::Block;
 use std::alloc::{AllocError, Global};
 use text_lines::ScriptFault;
 

@@ -8,11 +8,11 @@ use answer_rows::tell_refusal;
 use bus_machine::{Event, Line};
 use bus_nodes::BusConfig;
 use bus_port::{Memory, Sink};
-use bus_texts::write_line;
+use bus_texts::push_line;
 use bus_world::{Start, World, start_refusal};
 use cut_disk::CutDisk;
 use numbered_run::{LineText, print_run, status_of_run};
-use std::alloc::Global;
+use std::alloc::{AllocError, Global};
 use world_runs::{starts_are_set_up, turns_leave_disks};
 
 /// How the lines of a replay are written.
@@ -23,10 +23,10 @@ impl LineText<Line> for Texts {
 
     ghost text = { line_text };
 
-    fn append(alloc: Global, number: u32, line: &Line, out: &mut Vec<u8>) -> Result<(), Memory> {
-        match write_line(alloc, number, line, out) {
+    fn append(_alloc: Global, number: u32, line: &Line, out: &mut Vec<u8>) -> Result<(), Memory> {
+        match push_line(out, number, line) {
             Ok(()) => Ok(()),
-            Err(_) => Err(Memory),
+            Err(AllocError) => Err(Memory),
         }
     }
 }

@@ -22,60 +22,26 @@ use command_edge::{DONE, tell};
 use cut_disk::CutDisk;
 use std::alloc::{AllocError, Global};
 
-/// Runs the command that the words ask for, the program's name left out, and gives its status. `frame` and `judge`
-/// answer the lines of `script`; `check` prints its events in canonical form; `replay` does them over disks that it
-/// formats, one a node, and `node` over disks as they stand; `trial` does those that its seed gives, over formatted
-/// disks, and writes seven numbers.
+/// Runs the command that the arguments ask for, the program's name left out, and gives its status.
 ///
-/// **The headline.** Where each node's disk tells its bytes (those in memory do, and those that `main` opens over
-/// files), what was done is one run of the machine: from the first world of the bus, or of `node`, if no power cut can
-/// take these bytes away, from one that goes on where the disks stand. At 0 the run has all events, and the sink their
-/// lines, or a trial's numbers. At 6 and 7 a replay's run (`replay` or `node`) has the first, and the sink their lines,
-/// of the last one a front (6) or nothing (7); a trial's has all. Or the disks are *unstarted*: as before, or as an
-/// unfinished start may leave them. Then, and of a trial, a front of a row is written, or nothing.
+/// Over disks that tell their bytes, what `replay`, `node` or `trial` did is one run of the machine (clause
+/// `headline`). `HeadlineRun` says what holds of that run. A row of this table is a member of `RunsCommand`, or
+/// two: that the status comes only so, and that its cause brings it (clause `promises`). Other members say what is
+/// left of each disk. No other status comes. Rows of `checks/` show, and no clause, that all is read before anything
+/// is printed, and that a line is written as soon as its event is done. docs/guarantees.md tells all of it.
 ///
-/// It begins, before any event, with sound nodes, up and at their kept bounds, and one sender of each Data ID; each
-/// event is a step, with its line. Accepted freshness strictly rises per node and Data ID, sent freshness per Data ID,
-/// and both end within kept bounds and counters. A power-up skips at most a reserve of a sender's, and of a receiver's
-/// less, above its counter or a failed acceptance. What is accepted carries the CMAC of payload and freshness under the
-/// receiver's key; an event that its line names sent the same before. An acknowledged update of a key is undone by
-/// later ones alone, and no slot's counter falls. Disks tell what their nodes keep, whatever a power cut leaves; the
-/// start and this run alone add to a told past; what is known of disks of no node stays. Lines tell no more failures of
-/// a disk than its count rose by, unless it is full, and of a quiet disk none before it is armed. What is delivered to
-/// a node that is up, within the window above its counter and under the right key, is accepted as sent, or its disk
-/// failed. Over quiet disks, without cuts and faults, first world and events determine the lines.
-///
-/// **The table of answers**, over sources and disks of any kind (an input from a file tells nothing: what was read of
-/// it is some bytes, as many as it counts); no other status comes:
-///
-/// - 0: the inputs were read whole, all was done, and answers, lines or numbers are written.
-/// - 2: the words are of no form; nothing was read, and the usage line is printed.
-/// - 3: the bus file's first fault is printed; no line was read. 4: the lines' first fault is; the bus file, if one is
-///   read, is valid.
-/// - 5: a source's count of faults rose, or is full. 8: more than 1,048,576 bytes came, and it stood still. Both of the
-///   bus file, with no line read, or of the lines, with a valid bus file, if one is read. Each prints its text.
-/// - 6: the sink's count rose, or is full; of a row that comes, or a replay's next line, a front was written.
-/// - 7: called want of memory: as inputs are read, drawn or answered, at a start at which no disk failed, behind a
-///   trial, or for a replay's next line; nothing of it was written.
-/// - 9: all inputs are valid; the disks are fewer than the nodes, or the first that is too small is named.
-/// - 10: all inputs are valid, the disks large enough. A node is named whose disk failed, and wasn't quiet, or whose
-///   bytes are refused: told ones by `node` alone, which can't go on over them. Told ones before it are good.
-///
-/// The cause of 2 or 8 always brings it, and a count that rose 5 or 6; where the sources tell what they have, and don't
-/// fail, that of 3, 4 or 9 does, and for 10 told bytes over which `node` can't go on. What is valid then ends in 0, if
-/// the sink's count neither rises nor is full and, for a world, each node's disk is large enough, tells bytes that the
-/// node can start from, and is quiet, or its count neither rises nor is full. But a sink whose count rises makes any
-/// status 6 (a full one may), and 0, 3, 4, 9 and 10 may give way to 7, which nothing brings. Where a disk's count rose
-/// its row of 10 is told, or at 6 a front of it; or a replay did its first events, or a trial all: each, over any disk,
-/// a turn of its node, which is a step, but that a cut over bytes that aren't told to fit may leave the node up or
-/// down; the disk's count rises, or is full, where the line tells a failure, and rises nowhere else.
-///
-/// Only a command with a bus file reads one, and a trial reads no lines. Every disk is as before where no world is
-/// asked for, and at 2, 3, 4, 5, 8 and 9; unstarted at 10; at 6 and 7 unstarted, or, as at 0, as the done events left
-/// it.
-///
-/// Rows of `checks/`, and no clause, show that all is read before anything is printed, that a line is written as soon
-/// as its event is done, and that the word that names a disk isn't looked at.
+/// | Status | Comes |
+/// |---|---|
+/// | 0 | The inputs were read whole, all was done, and answers, lines or numbers are written. |
+/// | 2 | The arguments are malformed. Nothing was read, and the usage line is printed. |
+/// | 3 | The bus file's first fault is printed. No line was read. |
+/// | 4 | The lines' first fault is printed. The bus file, if one is read, is valid. |
+/// | 5 | A source's count of faults rose, or is full. |
+/// | 6 | The sink's count rose, or is full. A prefix of a row that comes, or of a replay's next line, was written. |
+/// | 7 | Out of memory. Nothing was written, or the lines before one. |
+/// | 8 | More than 1,048,576 bytes came from a source whose count of faults stood still. |
+/// | 9 | All inputs are valid. The disks are fewer than the nodes, or the first that is too small is named. |
+/// | 10 | All inputs are valid. A node is named whose disk failed, or whose bytes `node` can't go on over. |
 pub fn run<S: Source, T: Source, K: Sink, D: CutDisk>(
     alloc: Global,
     words: &[String],

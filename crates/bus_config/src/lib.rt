@@ -1,9 +1,10 @@
-//! The bus file: a TOML document that tells which nodes a bus has, what they send and receive, and which stores they
-//! keep.
+//! The bus file: a TOML document that tells which nodes a bus has, what they send and receive, and their
+//! stores.
 //!
-//! This is the one crate that knows TOML. [`read_config`] gives the bus that a file tells, or the first fault in the
-//! order in which they are looked for: the document, the root, each node and behind it its routes, and at last Data IDs
-//! that two routes send.
+//! This is the one crate that knows TOML. [`read_config`] gives the bus that a file tells, or the first
+//! fault, exactly as the definition says over what `toml` reads: the document, the root, each node and its
+//! routes, and at last Data IDs that two routes send. Only whether memory is out isn't determined. The text
+//! of each fault is exact; out of memory has none.
 #![tactic(auto)]
 
 mod fault;

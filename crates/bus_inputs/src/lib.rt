@@ -1,5 +1,7 @@
-//! What the programs that run over a bus share: the bus file and the rows for want of it, which are 3 and the text that
-//! names its first fault, beside those for want of any input.
+//! What the programs that run over a bus share: the bus file as an input.
+//!
+//! [`bus_from`] gives the bus of a source that was read whole. Or it gives the row of why there is none: that
+//! of the input, or 3 with the text of the first fault. It is exact, except out of memory.
 #![tactic(auto)]
 
 ghost use Rattle.bus_inputs.specs.BusFiles.{FindsBus, HasBus, IsConfigRow};

@@ -7,7 +7,7 @@ use Rattle.std.proofs.lemmas.List.Elements.{All-nil, All-cons, All-head, All-tai
 use Rattle.std.proofs.lemmas.Option.{get_or_from_slice_get}
 use Rattle.std.proofs.lemmas.Slice.Eq.{bytes_eq-Decides}
 use Rattle.byte_lists.specs.Numbers.{bytes_of, number_of}
-use Rattle.she_aes.specs.Cipher.{IsBlock, zero_block}
+use Rattle.byte_lists.specs.Blocks.{IsBlock, zero_block}
 use Rattle.she_aes.specs.Modes.{cbc}
 use Rattle.she_kdf.specs.Derivation.{kdf}
 use Rattle.she_kdf.specs.declared.Constant.TheVariants as constant
@@ -30,7 +30,7 @@ use Rattle.memory_update.specs.MessageLaws.{Carries-Builds, IsRequest-Carries}
 use Rattle.secure_boot.specs.Booting.{Boots, BootsBy, bootmac, is_good, is_decided}
 use Rattle.secured_pdu.specs.Frame.{secured_frame}
 use Rattle.secured_pdu.specs.Verdict as verdict
-use Rattle.secured_pdu.proofs.Deciding.{verdict_at}
+use Rattle.secured_pdu.proofs.CallerLemmas.{verdict_at}
 use Rattle.freshness_routes.specs.declared.routes.Direction.TheVariants.{Sends, Receives}
 use Rattle.freshness_routes.specs.Changes.{last_freshness}
 use Rattle.machine_runs.specs.Run.{Run, commands_in}

@@ -15,3 +15,4 @@ pub mod FirstWorld
 pub mod Determined
 pub mod OneLine
 pub mod Existence
+pub mod CallerLemmas

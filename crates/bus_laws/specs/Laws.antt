@@ -1,6 +1,6 @@
 -- The laws of all runs from a first world, as statements
 use Rattle.std.specs.Prelude.{◌≡◌, ◌≢◌, ℕ, ◌<◌, true, None, List, [], ◌∷◌, All, length, map, replicate}
-use Rattle.she_aes.specs.Cipher.{IsBlock}
+use Rattle.byte_lists.specs.Blocks.{IsBlock}
 use Rattle.key_slots.specs.declared.memory.Slot.TheVariants.{Empty}
 use Rattle.memory_update.specs.Messages.{IsUpdate, IsRequest}
 use Rattle.secure_boot.specs.declared.state.BootState.TheVariants.{Undecided}

@@ -9,3 +9,4 @@ pub mod KeysKept
 pub mod Skips
 pub mod Honest
 pub mod Past
+pub mod Tells

@@ -1,9 +1,9 @@
-//! The machine of a bus of AUTOSAR SecOC nodes over SHE key memory: what a node keeps and knows, the events of a
-//! bus, the lines that tell what came of them, and which line and which world an event may lead to.
+//! The machine of a bus of AUTOSAR SecOC nodes (profile 1) over SHE key memory: definitions, in `specs/`.
 //!
-//! The machine is a text of definitions, in `specs/`; its steps know no store, no disk and no cipher's rounds. Here
-//! stand the types of events and lines: scripts are read into the one, replays print from the other, and the
-//! definitions name both.
+//! They say what a node keeps and knows, the events of a bus, the lines that tell what came of them, and
+//! which line and world an event may lead to. They know no store, no disk and no cipher's rounds. Here stand
+//! the types of events and lines, which scripts are read into and replays print. bus_laws has the theorems,
+//! and bus_rows tries the definitions.
 #![tactic(auto)]
 
 mod events;

@@ -2,3 +2,4 @@ mod Sending
 mod Again
 mod Machine
 pub mod Named
+pub mod CallerLemmas

@@ -1,8 +1,13 @@
 //! Ports: where bytes come from and where they go.
 //!
-//! A [`Source`] hands out bytes and a [`Sink`] takes them up. Each has a count of faults that never
-//! falls, and answers [`PortFailed`] only where that count rose in the call, or stands at its last
-//! value. A port may tell its bytes, as the ones over memory do; a port over the outside doesn't.
+//! A [`Source`] hands out bytes and a [`Sink`] takes them up. A port may tell its bytes: those over memory
+//! do, exactly, and one over the outside doesn't. A port answers [`PortFailed`] only if its count of faults
+//! rose in the call, or is full, and any other answer only if it stayed. [`read_all`] takes all bytes up to
+//! its limit, and tells one byte more. [`write_all`] appends all, or a strict prefix. Nothing is appended
+//! where nothing is done, and what is appended adds up ([`laws`]).
+//!
+//! [`StdSource`] and [`StdSink`] meet the traits and count their own faults. That they invent none and hide
+//! none is tested.
 #![tactic(auto)]
 
 pub mod laws;

@@ -22,10 +22,7 @@ use Rattle.bus_commands.specs.Inputs.{BusInputs, SetsWorld}
 use Rattle.bus_commands.specs.StartRows.{CommandDisks}
 use Rattle.bus_commands.specs.Rows.{ComesInRun, without_disks, not_started, tried, tried_without_memory, RowOrReplay, in_row, replayed, DoneReplay, ReplaysScript}
 use Rattle.bus_commands.specs.Commands.{TellFirm, RunsCommand, RunsBus}
-use Rattle.bus_commands.proofs.Promises.{RunsCommand-ends}
-use Rattle.bus_commands.proofs.OneRun.{RunsMachine-command}
-use Rattle.bus_commands.proofs.Headlines.{written_run}
-use Rattle.bus_commands.proofs.Asking.{asks_one, same_start}
+use Rattle.bus_commands.proofs.CallerLemmas.{RunsCommand-ends, RunsMachine-command, written_run, asks_one, same_start}
 use Rattle.bus_replay.specs.Running.{HandedBack, NodeIsRun, RunsOpened}
 use Rattle.bus_replay.proofs.Given.{RunsOver}
 use Rattle.bus_replay.proofs.Wanting.{names_node}

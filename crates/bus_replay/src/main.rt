@@ -1,8 +1,11 @@
-//! `bus_replay`: Secured I-PDUs and verdicts (AUTOSAR SecOC, profile 1) from lines of text, and scripts of a bus.
+//! `bus_replay`: Secured I-PDUs and verdicts (AUTOSAR SecOC, profile 1) from lines of text, and scripts of a
+//! bus.
 //!
-//! `bus_words` of the crate `bus_commands` is the program; its clauses, and those of `run`, say what each status means
-//! and what is printed. Here it is handed the words, the files, standard input, standard output and the disks: those
-//! that are made in memory for a replay or a trial, and for `node` the one over the file that its last word names.
+//! `bus_words` of `bus_commands` is the program. `start` promises the same (`RunsNamed`), over eight blank
+//! disks in memory for a replay or a trial, and for `node` over the one disk that its last word opens. That
+//! disk tells its bytes, none of them loose, and is handed back. So 9 and 10 come of `node` alone. If there
+//! is no memory for the disks: 7, nothing was written, and nothing that was opened is handed back
+//! (`WantsDisks`).
 #![tactic(auto)]
 
 ghost use Rattle.std.specs.Prelude.{◌≡◌, ◌⊎◌, ℕ, List, [], drop, map, string_bytes, IfOk, IfErr, IsOk};

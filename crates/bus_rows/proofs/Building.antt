@@ -1,7 +1,7 @@
 -- Steps that are built: a world after an event, and updates by the request that a loading station makes
 use Rattle.std.specs.Prelude.{◌≡◌, ℕ, ◌+◌, ◌&&◌, nat_lt, not, None, Some, Bool, true, false, List, [], ◌∷◌, ◌++◌, set, replicate, slice_get}
 use Rattle.std.proofs.Common.{refl, sym, ◌∙◌, ap, subst}
-use Rattle.she_aes.specs.Cipher.{IsBlock}
+use Rattle.byte_lists.specs.Blocks.{IsBlock}
 use Rattle.she_aes.specs.Modes.{cbc}
 use Rattle.she_kdf.specs.Derivation.{kdf}
 use Rattle.she_kdf.specs.declared.Constant.TheVariants.{Enc}

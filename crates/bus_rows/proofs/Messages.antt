@@ -6,13 +6,14 @@ use Rattle.byte_lists.specs.Numbers.{bytes_of, number_of}
 use Rattle.byte_lists.specs.NumberLaws.{IsBytes-bytes_of}
 use Rattle.she_aes.specs.Field.{product, cancelled, remainder, mul}
 use Rattle.she_aes.specs.Cipher.{IsBlock, zero_block, xor_blocks, add_round_key, shift_rows, circulant, mix_columns, xor_words, rot_word, power_of_x, rcon, words_up_to, round_key, enc}
-use Rattle.she_aes.proofs.CipherByTable.{tabled_byte, tabled_word, tabled_added, tabled_next, tabled_words, tabled_bytes, tabled_rounds, tabled_cipher, enc_by_table, enc_by_table_is, cbc_by_table, cbc_by_table_is}
+use Rattle.she_aes.proofs.CallerLemmas.{tabled_byte, tabled_word, tabled_added, tabled_next, tabled_words, tabled_bytes, tabled_rounds, tabled_cipher}
+use Rattle.she_aes.proofs.CallerLemmas.{enc_by_table, enc_by_table_is, cbc_by_table, cbc_by_table_is}
 use Rattle.she_aes.specs.Modes.{cbc}
 use Rattle.she_kdf.specs.Derivation.{kdf}
-use Rattle.she_kdf.proofs.DerivationByTable.{tabled_out, kdf_by_table, kdf_by_table_is}
+use Rattle.she_kdf.proofs.CallerLemmas.{tabled_out, kdf_by_table, kdf_by_table_is}
 use Rattle.she_kdf.specs.declared.Constant.TheVariants.{Enc, Mac}
 use Rattle.she_cmac.specs.Cmac.{dbl, before_last, block_at, front_blocks, last_piece, cmac}
-use Rattle.she_cmac.proofs.CmacByTable.{tabled_zero, tabled_last, tabled_chain, cmac_by_table, cmac_by_table_is}
+use Rattle.she_cmac.proofs.CallerLemmas.{tabled_zero, tabled_last, tabled_chain, cmac_by_table, cmac_by_table_is}
 use Rattle.memory_update.specs.declared.messages.Update.{Update}
 use Rattle.memory_update.specs.Messages.{two_blocks, head_number, plain, request_mac, Builds, Confirms}
 use Rattle.bus_rows.specs.Buses.{numbered_uid, master_key, bus_key, clear_flags, update_of}

@@ -3,7 +3,7 @@ use Rattle.std.specs.Prelude.{◌≡◌, ℕ, ◌<◌, ◌^◌, Option, None, So
 use Rattle.std.proofs.Common.{refl, sym, ◌∙◌, ap, arith, inl, inr}
 use Rattle.byte_lists.specs.Numbers.{bytes_of}
 use Rattle.byte_lists.specs.NumberLaws.{IsBytes-bytes_of}
-use Rattle.she_aes.specs.Cipher.{IsBlock}
+use Rattle.byte_lists.specs.Blocks.{IsBlock}
 use Rattle.she_cmac.specs.CmacLaws.{IsBlock-cmac}
 use Rattle.cut_disk.specs.declared.Torn.TheVariants.{Keep, Old}
 use Rattle.key_slots.specs.declared.memory.Flags.{Flags}

@@ -8,9 +8,10 @@ use Rattle.key_slots.specs.Authority.{is_pair}
 use Rattle.key_slots.specs.Usage.{usable}
 use Rattle.she_aes.specs.Field.{product, cancelled, remainder, mul}
 use Rattle.she_aes.specs.Cipher.{xor_blocks, add_round_key, shift_rows, circulant, mix_columns, xor_words, rot_word, power_of_x, rcon, words_up_to, round_key, IsBlock}
-use Rattle.she_aes.proofs.CipherByTable.{tabled_byte, tabled_word, tabled_added, tabled_next, tabled_words, tabled_bytes, tabled_rounds, tabled_cipher, enc_by_table}
+use Rattle.she_aes.proofs.CallerLemmas.{tabled_byte, tabled_word, tabled_added, tabled_next, tabled_words, tabled_bytes, tabled_rounds, tabled_cipher}
+use Rattle.she_aes.proofs.CallerLemmas.{enc_by_table}
 use Rattle.she_cmac.specs.Cmac.{dbl, before_last, block_at, front_blocks, last_piece}
-use Rattle.she_cmac.proofs.CmacByTable.{tabled_zero, tabled_last, tabled_chain, cmac_by_table, cmac_by_table_is}
+use Rattle.she_cmac.proofs.CallerLemmas.{tabled_zero, tabled_last, tabled_chain, cmac_by_table, cmac_by_table_is}
 use Rattle.secure_boot.specs.Booting.{bootmac}
 use Rattle.memory_update.specs.declared.messages.Update.{Update}
 use Rattle.memory_update.specs.Loading.{slot_of}

@@ -1,5 +1,8 @@
-//! The machine of a bus, tried: worked runs, line by line, and what its theorems refuse. Each is the contract of a
-//! function without parameters.
+//! The machine of a bus, tried: worked runs, line by line, and written-out breaches that its theorems refuse.
+//!
+//! Frames, MACs and messages come from OpenSSL and from the SHE specification's example. Each row is the
+//! contract of a function without parameters. Nothing stands on this crate: it is evidence that the
+//! definitions say what is meant.
 #![tactic(auto)]
 
 mod breaches;

@@ -23,7 +23,7 @@ use Rattle.text_lines.specs.Forms.{is_number, number_form}
 use Rattle.secoc_words.specs.KeyForms.{uid_form, flag_form, flags_form}
 use Rattle.secoc_words.specs.Written.{flags_text}
 use Rattle.text_lines.specs.Written.{is_word_byte, is_plain_word}
-use Rattle.text_lines.proofs.WrittenDigits.{sized_encode, plain_word}
+use Rattle.text_lines.proofs.CallerLemmas.{sized_encode, plain_word}
 use Rattle.bus_script.specs.EventForms.{event_uid_form}
 use Rattle.bus_script.specs.Canon.{torn_word}
 use Rattle.bus_script.specs.ScriptEvents.{IsTorn}

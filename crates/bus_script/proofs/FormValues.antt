@@ -17,8 +17,7 @@ use Rattle.secoc_words.specs.DiskForms.{torn_form}
 use Rattle.secoc_words.specs.Forms.{key_form, both, two_form, data_id_form}
 use Rattle.text_lines.specs.Forms.{hex_bytes_form, bytes_form}
 use Rattle.secoc_words.specs.KeyForms.{uid_form}
-use Rattle.text_lines.proofs.Results.{ok_some, chosen_some}
-use Rattle.text_lines.proofs.Sizes.{hex_bytes_form-sizes}
+use Rattle.text_lines.proofs.CallerLemmas.{ok_some, chosen_some, hex_bytes_form-sizes}
 use Rattle.bus_script.specs.EventForms.{event_uid_form}
 use Rattle.bus_script.specs.ScriptEvents.{AreBytes, IsTorn}
 

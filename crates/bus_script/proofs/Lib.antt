@@ -5,3 +5,4 @@ pub mod EventsWritten
 pub mod FormValues
 pub mod NoWords
 pub mod Pieces
+pub mod CallerLemmas

@@ -1,9 +1,10 @@
 //! Scripts of a bus: the lines of its events, read and written.
 //!
-//! A script is read over a [`BusConfig`], whose nodes its events name. [`read_script`] gives the events of a text or
-//! its first fault, [`read_own_script`] those of one that has a node's own events alone, and [`write_event`] an event's
-//! canonical line: single spaces, lower-case digits, every identifier written out. [`laws`] says that what was read is
-//! read again from its canonical lines.
+//! [`read_script`] gives the events of a text over a [`BusConfig`], all nine kinds, or its first fault with
+//! line and cause, exactly. Each names a node of the bus and is within its bounds. [`read_own_script`] does
+//! so for a node's own events: `send` and `deliver` are none. [`write_event`] writes an event's canonical
+//! line: single spaces, lower-case digits, every identifier in full. What was read, and every event within
+//! the bounds, is read again from its canonical lines ([`laws`]).
 #![tactic(auto)]
 
 mod fields;

@@ -3,7 +3,7 @@ use Rattle.std.proofs.Common.{◌≡◌, ℕ, Bool, true, false, List, [], ◌�
 use Rattle.std.specs.Prelude.{◌==◌, ◌&&◌, not}
 use Rattle.std.specs.List.{list_all}
 use Rattle.std.proofs.lemmas.Bool.{and_parts}
-use Rattle.bus_texts.specs.Spaced.{spaced}
+use Rattle.text_lines.specs.Spaced.{spaced}
 
 -- a byte that may stand in a word
 abbrev pub is_plain : ℕ → Bool

@@ -9,8 +9,8 @@ use Rattle.numbered_run.specs.Printed.{texts}
 use Rattle.bus_machine.specs.declared.lines.Line.{Line}
 use Rattle.bus_texts.specs.LineTexts.{line_text, text_of, told_words}
 use Rattle.bus_texts.specs.LineKinds.{IsLine}
-use Rattle.bus_texts.specs.Spaced.{spaced}
-use Rattle.bus_texts.specs.SpacedLaws.{written-spaced}
+use Rattle.text_lines.specs.Spaced.{spaced}
+use Rattle.text_lines.specs.SpacedLaws.{written-spaced}
 use Rattle.bus_texts.proofs.Cutting.{cut_first, cut_words}
 use Rattle.bus_texts.proofs.PlainWords.{decimal_plain, told_plain}
 use Rattle.bus_texts.proofs.ReadBack.{same_told}

@@ -1,4 +1,2 @@
 pub mod LineTexts
 pub mod LineKinds
-pub mod Spaced
-pub mod SpacedLaws

@@ -1,20 +1,17 @@
 //! What came of events, written as lines.
 
-ghost use Rattle.std.specs.Prelude.{◌≡◌, [], ◌∷◌, ◌++◌, codes, IfOk, OnOk, OnErr};
-ghost use Rattle.std.specs.Fmt.{decimal};
+ghost use Rattle.std.specs.Prelude.{◌≡◌, [], ◌∷◌, ◌++◌, codes, OnOk, OnErr};
 ghost use Rattle.bus_machine.specs.declared.lines.Line.TheVariants.{Sent, Accepted, Loaded, Boot, Refused};
 ghost use Rattle.bus_texts.specs.LineTexts.{line_text, told_words, source_word};
-ghost use Rattle.bus_texts.specs.Spaced.{spaced};
+ghost use Rattle.text_lines.specs.Spaced.{spaced};
 
-use crate::words::{
-    begin_line, end_line, push_freshness, push_hex, push_id, push_numbered, push_refusal, push_word,
-};
+use crate::words::{push_freshness, push_id, push_refusal};
 use bus_machine::{Line, Refusal};
 use byte_lists::Pdu;
 use memory_update::Reply;
 use std::alloc::{AllocError, Global};
 use text_lines::Memory;
-use text_lines::pushing::push_digits;
+use text_lines::pushing::{begin_line, end_line, push_digits, push_hex, push_numbered, push_word};
 
 /// Appends the text of the line with this number, from 1: the number in decimal digits, the words of the line with a
 /// space before each, and a line feed.
@@ -25,10 +22,19 @@ pub fn write_line(alloc: Global, number: u32, line: &Line, out: &mut Vec<u8>) ->
     ensures appended { OnOk result (out.new.items ≡ out.old.items ++ line_text number line.now) }
     ensures as_before { OnErr result (out.new.items ≡ out.old.items) }
 {
-    let mut text = begin_line(alloc, number)?;
-    push_told(&mut text, line)?;
-    end_line(text, out)?;
+    let mut text = Vec::new(alloc);
+    push_line(&mut text, number, line)?;
+    out.extend_from_slice(text.as_slice())?;
     Ok(())
+}
+
+/// Appends the same text in the room of `text`. Without memory nothing is said of it.
+pub fn push_line(text: &mut Vec<u8>, number: u32, line: &Line) -> Result<(), AllocError>
+    ensures { OnOk result (text.new.items ≡ text.old.items ++ line_text number line.now) }
+{
+    begin_line(text, number)?;
+    push_told(text, line)?;
+    end_line(text)
 }
 
 /// Adds the words of a line, as they stand behind its number.

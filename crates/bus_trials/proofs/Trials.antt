@@ -4,7 +4,7 @@ use Rattle.text_lines.specs.Readings.{most_lines}
 use Rattle.bus_nodes.specs.Buses.{NamedBus, IsNamedBus}
 use Rattle.bus_trials.specs.Trials.{trial_events}
 use Rattle.bus_trials.specs.TrialLaws.{TrialsAreScripts}
-use Rattle.bus_script.proofs.EventsRead.{events_read}
+use Rattle.bus_script.proofs.CallerLemmas.{events_read}
 use Rattle.bus_trials.proofs.TrialValues.{trial_events-value, length-trial_events}
 
 pub trial_few : (bus : NamedBus) (count seed : ℕ) → IsNamedBus bus → count ≤ 60000 → length (trial_events bus.nodes count seed) ≤ most_lines

@@ -8,9 +8,8 @@ use crate::draws::{Draws, draw_bytes};
 use crate::trial::{Sender, Theme, Trial, key_for_slot};
 use bus_machine::Event;
 use bus_nodes::BusConfig;
-use byte_lists::Bytes;
+use byte_lists::{Block, Bytes};
 use cut_disk::Torn;
-use she_aes::Block;
 use std::alloc::{AllocError, Global};
 
 /// The event of this number, by the next draws.

@@ -10,10 +10,10 @@ use crate::drawn_events::draw_event;
 use crate::draws::Draws;
 use bus_machine::Event;
 use bus_nodes::BusConfig;
+use byte_lists::Block;
 use freshness_routes::{Direction, Route};
 use key_slots::{Counter28, Flags, SlotId};
 use memory_update::Update;
-use she_aes::Block;
 use std::alloc::{AllocError, Global};
 
 /// A route that sends.

@@ -14,8 +14,7 @@ use Rattle.cell_store.specs.Cells.{CellsState, Settled}
 use Rattle.cell_store.specs.Reading.{StaysTold}
 use Rattle.cell_store.specs.ReadOrder.{reads, reads_to}
 use Rattle.cell_store.specs.Attaching.{Attached, NotAttached}
-use Rattle.cell_store.proofs.StoreLaws.{stands_once, stands-whole}
-use Rattle.cell_store.proofs.StaysLaws.{stays_none}
+use Rattle.cell_store.proofs.CallerLemmas.{stands_once, stands-whole, stays_none}
 use Rattle.any_cells.specs.Either.{layout}
 use Rattle.slot_disk.specs.Cell.{FirstBadSlot}
 use Rattle.freshness_routes.specs.Config.{Config, IsConfig}
@@ -26,8 +25,7 @@ use Rattle.secoc_node.specs.declared.faults.AttachFault.TheVariants as cells
 use Rattle.secoc_node.specs.Cells.{CellsOf, IsKept, SlotsButNoBound}
 use Rattle.secoc_node.specs.Causes.{AttachCause}
 use Rattle.secoc_node.specs.State.{NodeState, FitsNow}
-use Rattle.secoc_node.proofs.CellsLaws.{length-CellsOf}
-use Rattle.secoc_node.proofs.KeptLaws.{kept_of_sound, no_bad_slot, no_bad_bound}
+use Rattle.secoc_node.proofs.CallerLemmas.{length-CellsOf, kept_of_sound, no_bad_slot, no_bad_bound}
 use Rattle.bus_world.specs.declared.opening.OpenFault.{OpenFault}
 use Rattle.bus_world.specs.declared.opening.OpenFault.TheVariants as open_fault
 use Rattle.bus_world.specs.TakingUp.{cells_in}

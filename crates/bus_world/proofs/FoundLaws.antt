@@ -6,14 +6,13 @@ use Rattle.cell_store.specs.declared.kinds.Version.{Version}
 use Rattle.cell_store.specs.declared.kinds.Version.TheVariants.{One, Two}
 use Rattle.cell_store.specs.Store.{Stands, HasHeader, FirstDamaged}
 use Rattle.cell_store.specs.Moving.{CountsAs, StandsAsCounted, DamagedAsCounted}
-use Rattle.cell_store.proofs.StoreLaws.{stands_once, stands-whole}
+use Rattle.cell_store.proofs.CallerLemmas.{stands_once, stands-whole}
 use Rattle.cell_store.specs.declared.faults.Reread.TheVariants as reread
 use Rattle.slot_disk.specs.Cell.{FirstBadSlot}
 use Rattle.freshness_routes.specs.Config.{Config, IsConfig}
 use Rattle.bus_machine.specs.Node.{Kept}
 use Rattle.secoc_node.specs.Cells.{CellsOf, SlotsButNoBound}
-use Rattle.secoc_node.proofs.CellsLaws.{length-CellsOf}
-use Rattle.secoc_node.proofs.KeptLaws.{no_bad_slot, no_bad_bound}
+use Rattle.secoc_node.proofs.CallerLemmas.{length-CellsOf, no_bad_slot, no_bad_bound}
 use Rattle.bus_world.specs.declared.opening.OpenFault.{OpenFault}
 use Rattle.bus_world.specs.declared.opening.OpenFault.TheVariants as open_fault
 use Rattle.bus_world.specs.declared.start.Start.TheVariants.{Attach}
@@ -22,7 +21,7 @@ use Rattle.any_cells.specs.declared.looking.Found.{Found}
 use Rattle.any_cells.specs.declared.looking.Found.TheVariants.{Blank, Standing, Older, Foreign}
 use Rattle.any_cells.specs.Either.{layout}
 use Rattle.any_cells.specs.Looking.{IsFound}
-use Rattle.any_cells.proofs.LookingLaws.{found-once}
+use Rattle.any_cells.proofs.CallerLemmas.{found-once}
 
 -- bytes are found to be one thing
 pub same_found : (kind : Kind) (version : Version) (n : ℕ) (x : List ℕ) (one other : Found) → IsFound kind version n x one → IsFound kind version n x other → one ≡ other

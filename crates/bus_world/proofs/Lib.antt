@@ -8,3 +8,4 @@ mod TakingLaws
 pub mod StepLaws
 mod StartLaws
 mod SoundLaws
+pub mod CallerLemmas

@@ -14,7 +14,7 @@ use Rattle.cell_store.specs.declared.faults.StoreFault.TheVariants as store
 use Rattle.cell_store.specs.Store.{HasHeader, Stands, store_size}
 use Rattle.cell_store.specs.ReadOrder.{reads}
 use Rattle.cell_store.specs.Moving.{AfterMove, StandsAsCounted, KeepsCounted, LeavesBelow, move_calls}
-use Rattle.cell_store.proofs.StoreLaws.{stands_once, stands-whole}
+use Rattle.cell_store.proofs.CallerLemmas.{stands_once, stands-whole}
 use Rattle.any_cells.specs.Either.{layout}
 use Rattle.any_cells.specs.Migrating.{Migrated, Migrates, NotMigrated}
 use Rattle.slot_disk.specs.Cell.{FirstBadSlot}

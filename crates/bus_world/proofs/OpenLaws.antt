@@ -17,17 +17,13 @@ use Rattle.cell_store.specs.declared.faults.StoreFault.TheVariants as store
 use Rattle.cell_store.specs.Store.{store_size}
 use Rattle.cell_store.specs.Formats.{Formats, FreshOn}
 use Rattle.cell_store.specs.Attaching.{Formatted, NotFormed}
-use Rattle.cell_store.proofs.StoreLaws.{stands_once}
-use Rattle.cell_store.proofs.CellsLaws.{fresh_images}
+use Rattle.cell_store.proofs.CallerLemmas.{stands_once, fresh_images}
 use Rattle.any_cells.specs.Either.{layout, format_calls}
 use Rattle.freshness_routes.specs.Config.{Config, IsConfig}
 use Rattle.bus_machine.specs.Node.{first_node}
 use Rattle.secoc_node.specs.Cells.{CellsOf}
 use Rattle.secoc_node.specs.State.{NodeState}
-use Rattle.secoc_node.proofs.CellsLaws.{length-CellsOf}
-use Rattle.secoc_node.proofs.FirstCells.{first_is_kept}
-use Rattle.secoc_node.proofs.FitsLaws.{told_before}
-use Rattle.secoc_node.proofs.KeptLaws.{kept_once}
+use Rattle.secoc_node.proofs.CallerLemmas.{length-CellsOf, first_is_kept, told_before, kept_once}
 use Rattle.bus_world.specs.declared.opening.OpenFault.{OpenFault}
 use Rattle.bus_world.specs.declared.opening.OpenFault.TheVariants as open_fault
 use Rattle.bus_world.specs.declared.start.Start.{Start}

@@ -11,7 +11,7 @@ use Rattle.cell_store.specs.declared.kinds.Kind.{Kind}
 use Rattle.cell_store.specs.declared.kinds.Version.{Version}
 use Rattle.cell_store.specs.declared.faults.Reread.TheVariants as reread
 use Rattle.cell_store.specs.Formats.{FreshOn}
-use Rattle.cell_store.proofs.CellsLaws.{fresh_images}
+use Rattle.cell_store.proofs.CallerLemmas.{fresh_images}
 use Rattle.any_cells.specs.Either.{layout}
 use Rattle.freshness_routes.specs.Config.{Config}
 use Rattle.bus_machine.specs.Node.{Kept, first_node}
@@ -19,7 +19,7 @@ use Rattle.bus_machine.specs.Bus.{no_config}
 use Rattle.bus_nodes.specs.declared.nodes.NodeLine.{NodeLine}
 use Rattle.bus_nodes.specs.Buses.{NamedBus}
 use Rattle.secoc_node.specs.State.{NodeState}
-use Rattle.secoc_node.proofs.FitsLaws.{told_before}
+use Rattle.secoc_node.proofs.CallerLemmas.{told_before}
 use Rattle.bus_world.specs.declared.opening.OpenFault.{OpenFault}
 use Rattle.bus_world.specs.declared.opening.OpenFault.TheVariants as open_fault
 use Rattle.bus_world.specs.declared.start.Start.{Start}

@@ -13,7 +13,7 @@ use Rattle.bus_machine.specs.Past.{mark_of}
 use Rattle.store_runs.specs.KeepingLaws.{fits_store}
 use Rattle.secoc_node.specs.Fits.{node_keeping}
 use Rattle.secoc_node.specs.State.{NodeState, FitsNow, TellsFitting}
-use Rattle.secoc_node.proofs.FitsLaws.{told_before}
+use Rattle.secoc_node.proofs.CallerLemmas.{told_before}
 use Rattle.bus_world.specs.Turns.{IsCertain, duty_of, NodeTurn}
 use Rattle.bus_world.specs.Worlds.{BusState, world_of, BusTurn, EachFits}
 

@@ -15,19 +15,17 @@ use Rattle.cell_store.specs.Reading.{ReadOnly, ReadFailed}
 use Rattle.cell_store.specs.Store.{HasHeader}
 use Rattle.cell_store.specs.Formats.{FreshOn, Unformed, LeavesUnformed}
 use Rattle.cell_store.specs.Moving.{CountsAs, AfterMove, KeepsCounted, LeavesBelow, move_calls}
-use Rattle.cell_store.proofs.CellsLaws.{fresh_images}
-use Rattle.cell_store.proofs.MovingLaws.{kept-same, below-same}
+use Rattle.cell_store.proofs.CallerLemmas.{fresh_images, kept-same, below-same, stays_join}
 use Rattle.any_cells.specs.declared.looking.Found.{Found}
 use Rattle.any_cells.specs.declared.looking.Found.TheVariants.{Blank, Standing, Older, Foreign}
 use Rattle.any_cells.specs.Either.{layout, format_calls}
 use Rattle.any_cells.specs.Looking.{IsFound}
 use Rattle.any_cells.specs.Migrating.{Migrated, StandsInTwo}
-use Rattle.any_cells.proofs.MigratingLaws.{in-two}
-use Rattle.any_cells.proofs.OpeningLaws.{unformed-same, only-image}
+use Rattle.any_cells.proofs.CallerLemmas.{in-two, unformed-same, only-image}
 use Rattle.freshness_routes.specs.Config.{Config, IsConfig}
 use Rattle.secoc_node.specs.Cells.{CellsOf}
 use Rattle.secoc_node.specs.State.{NodeState}
-use Rattle.secoc_node.proofs.CellsLaws.{length-CellsOf}
+use Rattle.secoc_node.proofs.CallerLemmas.{length-CellsOf}
 use Rattle.bus_world.specs.declared.opening.OpenFault.{OpenFault}
 use Rattle.bus_world.specs.declared.opening.OpenFault.TheVariants as open_fault
 use Rattle.bus_world.specs.declared.start.Start.TheVariants.{Format, Attach}
@@ -35,7 +33,6 @@ use Rattle.bus_world.specs.TakingUp.{cells_in, new_cells, start_calls, TakenOver
 use Rattle.bus_world.specs.Opening.{AttachedTo, NotAttachedTo, MovedTo, NotMovedTo}
 use Rattle.bus_world.specs.Starts.{Opened, NotOpened}
 use Rattle.bus_world.proofs.AttachLaws.{kept_powered}
-use Rattle.cell_store.proofs.StaysLaws.{stays_join}
 use Rattle.bus_world.proofs.OpenLaws.{none_some}
 use Rattle.bus_world.proofs.FoundLaws.{same_found, standing_not_blank, standing_not_older, older_not_blank, older_not_foreign, blank_not_foreign, older_one, standing_header, standing_counts, standing_damaged, no_node}
 

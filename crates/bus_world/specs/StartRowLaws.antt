@@ -9,7 +9,7 @@ use Rattle.fault_count.specs.FaultCount.{last_count}
 use Rattle.cell_store.specs.declared.kinds.Kind.{Kind}
 use Rattle.cell_store.specs.declared.kinds.Version.{Version}
 use Rattle.cell_store.specs.declared.faults.Reread.TheVariants as reread
-use Rattle.cell_store.proofs.StaysLaws.{stays_none}
+use Rattle.cell_store.proofs.CallerLemmas.{stays_none}
 use Rattle.freshness_routes.specs.Config.{Config}
 use Rattle.bus_machine.specs.Bus.{no_config}
 use Rattle.bus_nodes.specs.declared.nodes.NodeLine.{NodeLine}

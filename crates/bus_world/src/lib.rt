@@ -1,6 +1,12 @@
-//! The world of a bus: its nodes over their disks, and what was sent on it so far. Its parts stand alone, too: the
-//! nodes of a bus ([`open_nodes`], [`close_nodes`]), the turn of a node ([`own_turn`]), and the row of a start that is
-//! refused ([`start_refusal`]).
+//! The world of a bus (AUTOSAR SecOC, SHE): its nodes over their disks, and what was sent on it so far.
+//!
+//! [`World::step`] is a turn of the event's node over its disk (`NodeTurn`): a step of the machine (a cut's,
+//! if the disk tells fitting bytes), with its mark and few calls in a told past. The other nodes and disks
+//! stay. A line names the earliest event that sent what it accepts. An honest PDU is accepted, or the disk
+//! failed. A fitting disk stays so. Turns over fitting disks are a run (`turns_are_runs`). [`World::start`]
+//! and [`open_nodes`] format each disk, or go on where it stands (`KeptOn`). A refused one names the first
+//! cause, and leaves what specs/TakingUp.antt says. [`start_refusal`] is its row. [`own_turn`] is the turn of
+//! one node by itself.
 #![tactic(auto)]
 
 mod laws;

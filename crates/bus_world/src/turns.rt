@@ -14,13 +14,12 @@ ghost use Rattle.bus_world.specs.Turns.{NodeTurn, duty, duty_of, CanBeDone, Name
 ghost use Rattle.bus_world.specs.Turns.{HearsBrought};
 
 use bus_machine::{Event, Line, Refusal};
-use byte_lists::Pdu;
+use byte_lists::{Block, Pdu};
 use cell_store::{Cells, CutCells, Reread};
 use cut_disk::Torn;
 use memory_update::{Request, Update, build};
 use secoc_node::{CutFault, Node, NodeFault, Reception};
 use sent_lines::{Frame, History};
-use she_aes::Block;
 
 /// The place of the event's node in the bus.
 pub(crate) fn node_of(event: &Event) -> u8

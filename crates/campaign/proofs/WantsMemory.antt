@@ -10,7 +10,7 @@ use Rattle.answer_rows.specs.Endings.{Ending}
 use Rattle.answer_rows.specs.EndingLaws.{EndsInRow-memory}
 use Rattle.campaign_commands.specs.Rows.{CampaignInputs, CampaignDisks, AreTwo, ComesBefore, no_commands, EndsCampaign, in_row}
 use Rattle.campaign_commands.specs.Examples.{Campaigns}
-use Rattle.campaign_commands.proofs.Promises.{RunsCampaign-ends}
+use Rattle.campaign_commands.proofs.CallerLemmas.{RunsCampaign-ends}
 
 wants_memory : (i : CampaignInputs) (d : CampaignDisks) (sink : SinkState) → AreTwo i.words → IsUnread i.script → d.after ≡ d.before
     → Campaigns i d (record { before = sink; after = sink; status = 7 })

@@ -1,9 +1,10 @@
-//! `campaign`: issues key updates (SHE specification, memory update) for many units and records which were confirmed,
-//! in a ledger that survives power cuts.
+//! `campaign`: issues key updates (SHE specification, memory update) for many units, with a ledger that
+//! survives cuts.
 //!
-//! [`run_campaign`] is the program; its clauses say what each status means and what is printed. This file makes the
-//! objects that it works on: standard output, standard input or the script's file, and the disk over the file that the
-//! second word names. Without words behind its name the program runs an example over memory.
+//! [`run_campaign`] is the program. `start` promises its clauses: of two words over the script that the first
+//! names and the one disk that the second opens, both handed back (`named`); without words over the example
+//! (`example`); of other words over no disk and a missing script (`other`). If there is no memory for the
+//! disk: 7, and nothing that was opened is handed back.
 #![tactic(auto)]
 
 ghost use Rattle.std.specs.Prelude.{◌≡◌, ◌≢◌, ◌⊎◌, [], length, map, string_bytes};

@@ -8,3 +8,4 @@ pub mod Ending
 pub mod WholeExample
 pub mod Looked
 pub mod Known
+pub mod CallerLemmas

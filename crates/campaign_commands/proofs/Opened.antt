@@ -18,7 +18,7 @@ use Rattle.cell_store.specs.declared.faults.StoreFault.TheVariants as store
 use Rattle.cell_store.specs.Layout.{part, from_base}
 use Rattle.cell_store.specs.Store.{HasHeader, Stands, FirstDamaged, store_size}
 use Rattle.cell_store.specs.Cells.{CellsState, Settled}
-use Rattle.cell_store.proofs.StoreLaws.{header-not_blank, stands_once, stands-whole}
+use Rattle.cell_store.proofs.CallerLemmas.{header-not_blank, stands_once, stands-whole}
 use Rattle.any_cells.specs.Opening.{open_calls, StoreOpened, NoStoreOpened}
 use Rattle.store_runs.specs.KeepingLaws.{tells_kept}
 use Rattle.store_runs.specs.DiskTurns.{OpenedDisk}
@@ -27,9 +27,7 @@ use Rattle.campaign_machine.specs.Entries.{place_count, no_entries, AreLedgerEnt
 use Rattle.campaign_machine.specs.Campaign.{powered_ledger, SoundLedger}
 use Rattle.key_campaign.specs.Cell.{place_cell, ledger_cells, HoldEntries, FirstBadEntry}
 use Rattle.key_campaign.specs.State.{LedgerState, keeping_of, FitsLedger}
-use Rattle.key_campaign.proofs.CellLaws.{one_ledger}
-use Rattle.key_campaign.proofs.CutLaws.{none_bad}
-use Rattle.key_campaign.proofs.NoEntries.{no_entries-held}
+use Rattle.key_campaign.proofs.CallerLemmas.{one_ledger, none_bad, no_entries-held}
 use Rattle.campaign_commands.specs.declared.opening.NoLedgerCause.{NoLedgerCause}
 use Rattle.campaign_commands.specs.declared.opening.NoLedgerCause.TheVariants.{Store, BadEntry}
 use Rattle.campaign_commands.specs.Opening.{ledger_layout, ledger_size, calls_to_open, HasNoHeader, StandsForEntries, StartsFrom, TellsFirm, LedgerOpened, IsNoLedger, FindsBadEntry, LacksLedger, StandsForNone, LeavesRead, LeavesNone, HasEntries}

@@ -2,11 +2,13 @@
 use Rattle.std.specs.Prelude.{◌≡◌, ◌≢◌, ℕ, ◌+◌, Bool, Option, option_map, Result, Ok, Err, IfErr, OnOk, OnErr, List, [], ◌∷◌}
 use Rattle.std.proofs.Common.{refl, ap}
 use Rattle.cut_disk.specs.declared.Torn.{Torn}
-use Rattle.cut_disk.specs.State.{Cut, Stop, Fail}
+use Rattle.cut_disk.specs.State.{Cut}
+use Rattle.cut_disk.specs.Armed.{ArmsStop, ArmsFail}
 use Rattle.cut_disk.specs.Calls.{Rose, Runs}
 use Rattle.cut_disk.specs.CallLaws.{runs_none}
 use Rattle.cut_disk.specs.Images.{CutsTo}
 use Rattle.cell_store.specs.declared.faults.Reread.TheVariants as reread
+use Rattle.cell_store.specs.Reading.{CutStays}
 use Rattle.cell_store.specs.Cells.{CellsState, StandsNow}
 use Rattle.memory_update.specs.declared.messages.Request.{Request}
 use Rattle.campaign_machine.specs.declared.commands.Confirm.{Confirm}
@@ -14,7 +16,7 @@ use Rattle.campaign_machine.specs.declared.commands.Issue.{Issue}
 use Rattle.campaign_machine.specs.declared.commands.LedgerCommand.TheVariants as command
 use Rattle.campaign_machine.specs.declared.lines.LedgerLine.TheVariants as line
 use Rattle.campaign_machine.specs.Entries.{place_count, entry_for}
-use Rattle.campaign_machine.specs.Campaign.{powered_ledger, stays_off}
+use Rattle.campaign_machine.specs.Campaign.{powered_ledger, stays_off, SoundLedger}
 use Rattle.campaign_machine.specs.Steps.{told_entry, LedgerStep}
 use Rattle.key_campaign.specs.declared.faults.LedgerCut.{LedgerCut}
 use Rattle.key_campaign.specs.declared.faults.LedgerCut.TheVariants as cut
@@ -23,9 +25,9 @@ use Rattle.key_campaign.specs.declared.faults.LedgerFault.TheVariants as fault
 use Rattle.key_campaign.specs.Causes.{LedgerCutCause}
 use Rattle.key_campaign.specs.Cell.{HoldEntries}
 use Rattle.key_campaign.specs.Lines.{ledger_refusal, issued_line, confirmed_line, ledger_cut_line}
-use Rattle.key_campaign.specs.State.{LedgerState, FitsLedger, TellsLedger}
+use Rattle.key_campaign.specs.State.{LedgerState, FitsLedger, TellsLedger, ServedLedger}
 use Rattle.store_runs.specs.DiskTurns.{CountsFailure}
-use Rattle.campaign_commands.specs.Turns.{tells_disk_failure, LedgerTurn}
+use Rattle.campaign_commands.specs.Turns.{tells_disk_failure, LeavesRefused, LedgerTurn}
 
 -- ---- an issue and a confirmation
 
@@ -41,38 +43,61 @@ counts_fault fault.Unknown old new same rose = ap (λ (s : LedgerState). s.store
 counts_fault fault.AlreadyConfirmed old new same rose = ap (λ (s : LedgerState). s.store.disk.faults) (same (λ e. cc))
 counts_fault fault.NotConfirmed old new same rose = ap (λ (s : LedgerState). s.store.disk.faults) (same (λ e. cc))
 
-module _ {A : Type 0} (old new : LedgerState) where
-  -- what an issue and a confirmation ensure alike
-  pub record Called (r : Result A LedgerFault) : Type 0 where
-    pub untouched : IfErr r (λ why. why ≢ fault.Faulted → new ≡ old)
-    pub faulted : r ≡ Err fault.Faulted → Rose old.store.disk.faults new.store.disk.faults
-    pub faults : OnOk r (new.store.disk.faults ≡ old.store.disk.faults)
-    pub layout : new.store.layout ≡ old.store.layout
-    pub runs : Runs [] 6 old.store.disk new.store.disk
-    pub fits : FitsLedger old → FitsLedger new
+-- what it leaves, unless the disk failed
+leaves_refused : (why : LedgerFault) (old new : LedgerState) → (why ≢ fault.Faulted → new ≡ old) → LeavesRefused (line.Refused (ledger_refusal why)) old new
+leaves_refused fault.Down old new same = same (λ e. cc)
+leaves_refused fault.BadPair old new same = same (λ e. cc)
+leaves_refused fault.Full old new same = same (λ e. cc)
+leaves_refused fault.Spent old new same = same (λ e. cc)
+leaves_refused fault.Faulted old new same = tt
+leaves_refused fault.Unknown old new same = same (λ e. cc)
+leaves_refused fault.AlreadyConfirmed old new same = same (λ e. cc)
+leaves_refused fault.NotConfirmed old new same = same (λ e. cc)
 
 pub turn_of_issue : (i : Issue) (old new : LedgerState) (r : Result (ℕ × Request) LedgerFault) → LedgerStep old.campaign (command.Issue i) (issued_line r) new.campaign
-    → Called old new r → LedgerTurn old (command.Issue i) (issued_line r) new
-turn_of_issue i old new (Ok (counter, request)) step called =
-    record { step = λ known. step; of_cut = tt; disk = record { runs = called.runs; counts = called.faults }; layout = called.layout; fits = called.fits }
-turn_of_issue i old new (Err why) step called = record {
+    → IfErr r (λ why. why ≢ fault.Faulted → new ≡ old) → ServedLedger old new r → LedgerTurn old (command.Issue i) (issued_line r) new
+turn_of_issue i old new (Ok (counter, request)) step untouched served = record {
   step = λ known. step;
   of_cut = tt;
-  disk = record { runs = called.runs; counts = counts_fault why old new called.untouched (λ is. called.faulted (ap Err is)) };
-  layout = called.layout;
-  fits = called.fits;
+  disk = record { runs = served.runs; counts = served.faults };
+  layout = served.layout;
+  fits = served.fits;
+  untouched = tt;
+  sound = λ _. served.sound;
+  stays = tt;
+}
+turn_of_issue i old new (Err why) step untouched served = record {
+  step = λ known. step;
+  of_cut = tt;
+  disk = record { runs = served.runs; counts = counts_fault why old new untouched (λ is. served.faulted (ap Err is)) };
+  layout = served.layout;
+  fits = served.fits;
+  untouched = leaves_refused why old new untouched;
+  sound = λ _. served.sound;
+  stays = tt;
 }
 
 pub turn_of_confirm : (k : Confirm) (old new : LedgerState) (r : Result ℕ LedgerFault) → LedgerStep old.campaign (command.Confirm k) (confirmed_line r) new.campaign
-    → Called old new r → LedgerTurn old (command.Confirm k) (confirmed_line r) new
-turn_of_confirm k old new (Ok counter) step called =
-    record { step = λ known. step; of_cut = tt; disk = record { runs = called.runs; counts = called.faults }; layout = called.layout; fits = called.fits }
-turn_of_confirm k old new (Err why) step called = record {
+    → IfErr r (λ why. why ≢ fault.Faulted → new ≡ old) → ServedLedger old new r → LedgerTurn old (command.Confirm k) (confirmed_line r) new
+turn_of_confirm k old new (Ok counter) step untouched served = record {
   step = λ known. step;
   of_cut = tt;
-  disk = record { runs = called.runs; counts = counts_fault why old new called.untouched (λ is. called.faulted (ap Err is)) };
-  layout = called.layout;
-  fits = called.fits;
+  disk = record { runs = served.runs; counts = served.faults };
+  layout = served.layout;
+  fits = served.fits;
+  untouched = tt;
+  sound = λ _. served.sound;
+  stays = tt;
+}
+turn_of_confirm k old new (Err why) step untouched served = record {
+  step = λ known. step;
+  of_cut = tt;
+  disk = record { runs = served.runs; counts = counts_fault why old new untouched (λ is. served.faulted (ap Err is)) };
+  layout = served.layout;
+  fits = served.fits;
+  untouched = leaves_refused why old new untouched;
+  sound = λ _. served.sound;
+  stays = tt;
 }
 
 -- ---- the other calls
@@ -85,6 +110,9 @@ turn_of_show uid id s told is = record {
   disk = record { runs = runs_none s.store.disk; counts = refl };
   layout = refl;
   fits = λ fits. fits;
+  untouched = refl;
+  sound = λ sound. sound;
+  stays = tt;
 }
 
 counts_cut : (why : LedgerCut) (old new : CellsState) → LedgerCutCause old new why
@@ -105,23 +133,43 @@ pub turn_of_cut : (torn : Torn) (old new : LedgerState) (r : Result (Unit {0}) L
     → OnErr r (new.campaign ≡ stays_off old.campaign) → IfErr r (LedgerCutCause old.store new.store) → CutsTo old.store.disk.told new.store.disk.told
     → OnOk r (new.store.disk.faults ≡ old.store.disk.faults) → new.store.layout ≡ old.store.layout
     → Runs (Cut torn ∷ []) (68 + place_count) old.store.disk new.store.disk → (FitsLedger old → FitsLedger new)
+    → SoundLedger new.campaign → CutStays torn old.store.disk new.store.disk
     → LedgerTurn old (command.Cut torn) (ledger_cut_line r) new
-turn_of_cut torn old new r step up held stands down cause image faults layout runs fits = record {
+turn_of_cut torn old new r step up held stands down cause image faults layout runs fits sound stays = record {
   step = step;
   of_cut = record { result = r; line_is = refl; up = up; held = held; stands = stands; down = down; cause = cause; image = image };
   disk = record { runs = runs; counts = counts_after_cut r old.store new.store faults cause };
   layout = layout;
   fits = fits;
+  untouched = tt;
+  sound = λ _. sound;
+  stays = stays;
 }
 
 pub turn_of_stop : (calls : ℕ) (old new : LedgerState) → LedgerStep old.campaign (command.Stop calls) line.Armed new.campaign
-    → new.store.disk.faults ≡ old.store.disk.faults → new.store.layout ≡ old.store.layout → Runs (Stop calls ∷ []) 1 old.store.disk new.store.disk
-    → (FitsLedger old → FitsLedger new) → LedgerTurn old (command.Stop calls) line.Armed new
-turn_of_stop calls old new step faults layout runs fits =
-    record { step = λ known. step; of_cut = tt; disk = record { runs = runs; counts = faults }; layout = layout; fits = fits }
+    → new ≡ record old { store = record old.store { disk = new.store.disk } } → ArmsStop calls old.store.disk new.store.disk
+    → (FitsLedger old → FitsLedger new) → SoundLedger new.campaign → LedgerTurn old (command.Stop calls) line.Armed new
+turn_of_stop calls old new step rest arms fits sound = record {
+  step = λ known. step;
+  of_cut = tt;
+  disk = record { runs = arms.runs; counts = arms.faults };
+  layout = ap (λ (s : LedgerState). s.store.layout) rest;
+  fits = fits;
+  untouched = tt;
+  sound = λ _. sound;
+  stays = tt;
+}
 
 pub turn_of_fail : (calls : ℕ) (old new : LedgerState) → LedgerStep old.campaign (command.Fail calls) line.Armed new.campaign
-    → new.store.disk.faults ≡ old.store.disk.faults → new.store.layout ≡ old.store.layout → Runs (Fail calls ∷ []) 1 old.store.disk new.store.disk
-    → (FitsLedger old → FitsLedger new) → LedgerTurn old (command.Fail calls) line.Armed new
-turn_of_fail calls old new step faults layout runs fits =
-    record { step = λ known. step; of_cut = tt; disk = record { runs = runs; counts = faults }; layout = layout; fits = fits }
+    → new ≡ record old { store = record old.store { disk = new.store.disk } } → ArmsFail calls old.store.disk new.store.disk
+    → (FitsLedger old → FitsLedger new) → SoundLedger new.campaign → LedgerTurn old (command.Fail calls) line.Armed new
+turn_of_fail calls old new step rest arms fits sound = record {
+  step = λ known. step;
+  of_cut = tt;
+  disk = record { runs = arms.runs; counts = arms.faults };
+  layout = ap (λ (s : LedgerState). s.store.layout) rest;
+  fits = fits;
+  untouched = tt;
+  sound = λ _. sound;
+  stays = tt;
+}

@@ -13,7 +13,7 @@ use Rattle.campaign_machine.specs.declared.entries.LedgerEntry.{LedgerEntry}
 use Rattle.campaign_machine.specs.Entries.{AreLedgerEntries}
 use Rattle.campaign_machine.specs.Campaign.{Campaign, powered_ledger}
 use Rattle.campaign_machine.specs.Steps.{LedgerStep}
-use Rattle.campaign_machine.specs.Claims.{LedgerMoment, CountersRise, BuildsItsUpdate, IsAllowedIn, KeepsEntries}
+use Rattle.campaign_machine.specs.Claims.{LedgerMoment, CountersRise, BuildsItsUpdate, IsAllowedIn, NoneGoes}
 use Rattle.campaign_machine.specs.Claims.{ConfirmedByReply, FewAreSkipped}
 use Rattle.key_campaign.specs.State.{LedgerState, keeping_of}
 use Rattle.campaign_texts.specs.LedgerTexts.{ledger_line_text}
@@ -63,7 +63,7 @@ pub record Campaigned (before after : DiskState) (commands : List LedgerCommand)
   pub builds : All (λ m. BuildsItsUpdate m.command m.line) moments
   pub taken : (slots : List Slot) (good : Bool) → All (λ m. IsAllowedIn slots good m.command m.line) moments
   pub confirmed_by_a_reply : ConfirmedByReply (powered_ledger entries) moments last
-  pub none_goes : KeepsEntries (powered_ledger entries) last
+  pub none_goes : NoneGoes (powered_ledger entries) moments last
   pub few_are_skipped : FewAreSkipped (powered_ledger entries) moments
 
 -- what was done of a campaign over such a disk has all of this

@@ -1,8 +1,9 @@
 -- What each command does to a ledger and its disk, whether the disk tells its bytes or not (own)
 use Rattle.std.specs.Prelude.{◌≡◌, ℕ, ◌+◌, Bool, true, false, Option, None, Some, Result, OnOk, OnErr, IfErr}
 use Rattle.cut_disk.specs.declared.Mark.{Mark}
-use Rattle.cut_disk.specs.State.{Cut, Stop, Fail}
+use Rattle.cut_disk.specs.State.{Cut, Stop, Fail, DiskState}
 use Rattle.cut_disk.specs.Images.{CutsTo}
+use Rattle.cell_store.specs.Reading.{CutStays}
 use Rattle.cell_store.specs.Cells.{StandsNow}
 use Rattle.store_runs.specs.DiskTurns.{DiskTurn}
 use Rattle.campaign_machine.specs.declared.commands.LedgerCommand.{LedgerCommand}
@@ -11,7 +12,7 @@ use Rattle.campaign_machine.specs.declared.lines.LedgerLine.{LedgerLine}
 use Rattle.campaign_machine.specs.declared.lines.LedgerLine.TheVariants as line
 use Rattle.campaign_machine.specs.declared.lines.LedgerRefusal.TheVariants as refusal
 use Rattle.campaign_machine.specs.Entries.{place_count}
-use Rattle.campaign_machine.specs.Campaign.{powered_ledger, stays_off}
+use Rattle.campaign_machine.specs.Campaign.{powered_ledger, stays_off, SoundLedger}
 use Rattle.campaign_machine.specs.Steps.{LedgerStep}
 use Rattle.key_campaign.specs.declared.faults.LedgerCut.{LedgerCut}
 use Rattle.key_campaign.specs.Causes.{LedgerCutCause}
@@ -65,6 +66,24 @@ abbrev pub AnswersIfCut : LedgerCommand → LedgerState → LedgerLine → Ledge
 AnswersIfCut (command.Cut torn) old told new = AnswersLedgerCut old told new
 AnswersIfCut cmd old told new = Unit {0}
 
+-- after a power cut nothing is written: each entry that a told past got has what the cut left
+abbrev pub StaysIfCut : LedgerCommand → DiskState → DiskState → Type 0
+StaysIfCut (command.Cut torn) old new = CutStays torn old new
+StaysIfCut cmd old new = Unit {0}
+
+-- what a refused issue or confirmation leaves: all, unless the disk failed
+abbrev pub LeavesRefused : LedgerLine → LedgerState → LedgerState → Type 0
+LeavesRefused (line.Refused refusal.MemoryFailure) old new = Unit {0}
+LeavesRefused (line.Refused why) old new = new ≡ old
+LeavesRefused told old new = Unit {0}
+
+-- a command of which nothing came leaves the ledger, its store and its disk as they were; a show always does
+abbrev pub LeavesLedgerAlone : LedgerCommand → LedgerLine → LedgerState → LedgerState → Type 0
+LeavesLedgerAlone (command.Issue i) told old new = LeavesRefused told old new
+LeavesLedgerAlone (command.Confirm k) told old new = LeavesRefused told old new
+LeavesLedgerAlone (command.Show uid id) told old new = new ≡ old
+LeavesLedgerAlone cmd told old new = Unit {0}
+
 -- A command and its line are a turn of the disk, and a step of the machine, whether the disk tells its bytes or not; of
 -- a cut the step is known where these fit the ledger, and its answer with its cause always; a disk that fits stays so.
 pub record LedgerTurn (old : LedgerState) (cmd : LedgerCommand) (told : LedgerLine) (new : LedgerState) : Type 0 where
@@ -73,3 +92,6 @@ pub record LedgerTurn (old : LedgerState) (cmd : LedgerCommand) (told : LedgerLi
   pub disk : DiskTurn (ledger_mark cmd) (ledger_calls cmd) (tells_disk_failure told) old.store.disk new.store.disk
   pub layout : new.store.layout ≡ old.store.layout
   pub fits : FitsLedger old → FitsLedger new
+  pub untouched : LeavesLedgerAlone cmd told old new
+  pub sound : SoundLedger old.campaign → SoundLedger new.campaign
+  pub stays : StaysIfCut cmd old.store.disk new.store.disk

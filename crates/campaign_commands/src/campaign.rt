@@ -15,12 +15,12 @@ use answer_rows::{Refusal, tell_refusal};
 use any_cells::{AnyCells, put_first, store_size};
 use bus_port::{Memory, Sink};
 use campaign_machine::{LedgerCommand, LedgerLine};
-use campaign_texts::write_ledger_line;
+use campaign_texts::push_ledger_line;
 use cell_store::{Cells, Kind, Version};
 use cut_disk::CutDisk;
 use key_campaign::Ledger;
 use numbered_run::{LineText, print_run, status_of_run};
-use std::alloc::Global;
+use std::alloc::{AllocError, Global};
 
 /// How the lines of a campaign are written.
 struct Texts;
@@ -31,14 +31,14 @@ impl LineText<LedgerLine> for Texts {
     ghost text = { ledger_line_text };
 
     fn append(
-        alloc: Global,
+        _alloc: Global,
         number: u32,
         line: &LedgerLine,
         out: &mut Vec<u8>,
     ) -> Result<(), Memory> {
-        match write_ledger_line(alloc, number, line, out) {
+        match push_ledger_line(out, number, line) {
             Ok(()) => Ok(()),
-            Err(_) => Err(Memory),
+            Err(AllocError) => Err(Memory),
         }
     }
 }

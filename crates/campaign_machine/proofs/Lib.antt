@@ -6,3 +6,4 @@ pub mod Rising
 pub mod Requests
 pub mod Skipping
 pub mod Replies
+pub mod CallerLemmas

@@ -6,7 +6,7 @@ use Rattle.key_slots.specs.declared.memory.Slot.{Slot}
 use Rattle.key_slots.specs.Slots.{slot_at}
 use Rattle.key_slots.specs.SlotsLaws.{IsSlot-slot_at}
 use Rattle.memory_update.specs.LoadingLaws.{Allows-Builds, IsBlock-key_in}
-use Rattle.she_aes.specs.Cipher.{IsBlock}
+use Rattle.byte_lists.specs.Blocks.{IsBlock}
 use Rattle.std.proofs.Common.{subst}
 use Rattle.machine_runs.specs.Run.{Run}
 use Rattle.campaign_machine.specs.declared.commands.LedgerCommand.{LedgerCommand}

@@ -15,7 +15,7 @@ use Rattle.campaign_machine.specs.declared.lines.LedgerLine.TheVariants as line
 use Rattle.campaign_machine.specs.Entries.{same_slot, entry_for, last_issued, entry_counter, with_change, Advances}
 use Rattle.campaign_machine.specs.Campaign.{Campaign, SoundLedger}
 use Rattle.campaign_machine.specs.Steps.{MakesIssue, LedgerStep}
-use Rattle.campaign_machine.specs.Claims.{LedgerMoment, issued_for, CountersRise, KeepsEntries}
+use Rattle.campaign_machine.specs.Claims.{LedgerMoment, issued_for, CountersRise, KeepsEntries, NoneGoes}
 use Rattle.campaign_machine.proofs.Places.{same_slot_is}
 use Rattle.campaign_machine.proofs.Changes.{entry_after, own_entry, last_issued_change}
 use Rattle.campaign_machine.proofs.Effects.{effect_of, stays, made, failed, powers, off}
@@ -139,9 +139,19 @@ kept_step c cmd told after uid id e sound step at =
       | off is ↦ same_entries (ap (λ (s : Campaign). s.entries) is)
     ]
 
-pub KeepsEntries-run : (start : Campaign) (ms : List LedgerMoment) (last : Campaign) → SoundLedger start → Run LedgerStep start ms last → KeepsEntries start last
+KeepsEntries-run : (start : Campaign) (ms : List LedgerMoment) (last : Campaign) → SoundLedger start → Run LedgerStep start ms last → KeepsEntries start last
 KeepsEntries-run start [] last sound run uid id e at = record { now = e; there = ap (λ (s : Campaign). entry_for uid id s.entries) run ∙ at; no_lower = omega arith }
 KeepsEntries-run start (m ∷ ms) last sound run uid id e at =
     let next = kept_step start m.command m.line m.after uid id e sound run.0 at in
     let rest = KeepsEntries-run m.after ms last (Sound-step start m.command m.line m.after sound run.0) run.1 uid id next.0 next.1 in
     record { now = rest.now; there = rest.there; no_lower = omega (arith, next.2, rest.no_lower) }
+
+all_keep : (start : Campaign) (ms : List LedgerMoment) (last : Campaign) → SoundLedger start → Run LedgerStep start ms last → All (λ m. KeepsEntries m.after last) ms
+all_keep start [] last sound run = All-nil _
+all_keep start (m ∷ ms) last sound run =
+    let P : LedgerMoment → Type 0 = λ n. KeepsEntries n.after last in
+    let next = Sound-step start m.command m.line m.after sound run.0 in
+    All-cons P m ms (KeepsEntries-run m.after ms last next run.1) (all_keep m.after ms last next run.1)
+
+pub NoneGoes-run : (start : Campaign) (ms : List LedgerMoment) (last : Campaign) → SoundLedger start → Run LedgerStep start ms last → NoneGoes start ms last
+NoneGoes-run start ms last sound run = (KeepsEntries-run start ms last sound run, all_keep start ms last sound run)

@@ -81,6 +81,11 @@ abbrev pub KeepsEntries : Campaign → Campaign → Type 0
 KeepsEntries start last = (uid : List ℕ) (id : ℕ) (e : LedgerEntry)
     → entry_for uid id start.entries ≡ Some e → StillKept uid id e last
 
+-- each entry that was there at the start of a run, or after one of its moments, is there at its end, with no lower
+-- counter
+abbrev pub NoneGoes : Campaign → List LedgerMoment → Campaign → Type 0
+NoneGoes start ms last = KeepsEntries start last × All (λ m. KeepsEntries m.after last) ms
+
 -- the command confirms this unit and slot, with a reply that confirms an update with this counter
 abbrev pub CarriesReply : List ℕ → ℕ → ℕ → LedgerCommand → Type 0
 CarriesReply uid id counter (command.Confirm k) = (k.uid ≡ uid) × (k.id ≡ id) × ConfirmsWith k counter
@@ -128,7 +133,7 @@ RunsAreAllowed = EachLedgerRun (λ start ms last. (slots : List Slot) (good : Bo
     → All (λ m. IsAllowedIn slots good m.command m.line) ms)
 
 abbrev pub RunsKeepEntries : Type 0
-RunsKeepEntries = EachLedgerRun (λ start ms last. KeepsEntries start last)
+RunsKeepEntries = EachLedgerRun NoneGoes
 
 abbrev pub RunsConfirmByReply : Type 0
 RunsConfirmByReply = EachLedgerRun ConfirmedByReply

@@ -1,9 +1,9 @@
 //! What a ledger is told to do.
 
+use byte_lists::Block;
 use cut_disk::Torn;
 use key_slots::{Flags, SlotId};
 use memory_update::{Reply, Uid};
-use she_aes::Block;
 
 /// A request is asked for, that puts a new key into a slot of a unit.
 #[derive(Clone, Copy)]

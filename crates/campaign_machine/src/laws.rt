@@ -28,7 +28,7 @@ pub fn issued_requests_are_allowed()
     ensures { RunsAreAllowed }
 {}
 
-/// No entry goes away, and no counter falls.
+/// No entry that was there at the start of a run, or after one of its moments, goes away, and no counter of it falls.
 pub fn no_entry_goes_away()
     ensures { RunsKeepEntries }
 {}

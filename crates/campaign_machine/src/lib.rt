@@ -1,10 +1,11 @@
-//! The machine of a key campaign's ledger: what it keeps through a power cut, the commands of a campaign, the lines
-//! that tell what came of them, and which line and which ledger a command may lead to; and what holds of all its runs.
+//! The machine of a key campaign's ledger (updates after the SHE specification), and what holds of all its
+//! runs.
 //!
-//! A ledger keeps 256 places, each empty or the entry of one key slot of one unit: the counter of the update that was
-//! issued last for it, and whether the unit's engine confirmed it. It keeps no keys. The machine is a text of
-//! definitions, in `specs/`; it knows no store and no disk. Each law is the contract of a function without parameters
-//! and with an empty body.
+//! A ledger keeps 256 places, each empty or the entry of one key slot of one unit: the counter that was
+//! issued last, and whether the unit confirmed it. It keeps no keys, and the machine knows no store and no
+//! disk. Of every run from a sound ledger with nothing pending: counters rise, requests build their updates
+//! and are taken, confirmations have a reply, no entry that was ever there goes away, and few counters are
+//! skipped. Each law is the contract of a function with an empty body.
 #![tactic(auto)]
 
 mod commands;

@@ -15,10 +15,7 @@ use Rattle.text_lines.specs.Readings.{most_lines, nth_word, field, Gives}
 use Rattle.secoc_words.specs.DiskForms.{torn_form, calls_form}
 use Rattle.secoc_words.specs.KeyForms.{uid_form, unless_zero, engine_uid_form, slot_form, flags_form}
 use Rattle.text_lines.specs.Lines.{lines_of}
-use Rattle.text_lines.proofs.Numbers.{number_in_range}
-use Rattle.text_lines.proofs.Results.{bind_ok, ok_some, field_ok, counted_ok}
-use Rattle.text_lines.proofs.Sizes.{All-read_from}
-use Rattle.text_lines.proofs.Values.{values_given}
+use Rattle.text_lines.proofs.CallerLemmas.{number_in_range, bind_ok, ok_some, field_ok, counted_ok, All-read_from, values_given}
 use Rattle.hex.specs.Hex as hex
 use Rattle.hex.specs.Hex.{decode_sized}
 use Rattle.hex.proofs.HexLemmas.{decode_of-ok, decode_sized-ok, decode_sized-twice}

@@ -1,16 +1,9 @@
-//! Scripts of a key campaign: the lines of its commands, read, and the printed lines of what came of them, written.
+//! Scripts of a key campaign: the lines of its commands, read, and the lines of its ledger, written.
 //!
-//! | Line | Command |
-//! |---|---|
-//! | `issue UID SLOT SLOT FLAGS KEY KEY` | issues a request: the unit, the slot, the authorising slot, the flags, the new key, the authorising key |
-//! | `confirm UID SLOT SLOT KEY M4 M5` | records a reply: the unit, the slot, the authorising slot, the new key, the reply |
-//! | `show UID SLOT` | shows an entry |
-//! | `cut TORN` | cuts the power |
-//! | `stop CALLS` | from the call of this number on each call of the disk fails |
-//! | `fail CALLS` | the call of this number fails |
-//!
-//! UID is 30 hexadecimal digits, not all 0; the other words are those of scripts of a bus. Lines are cut, skipped and
-//! counted as there.
+//! `read_campaign` gives the commands that a script means, or its first fault with line and cause, exactly.
+//! Each is one that a ledger may be given: `issue`, `confirm`, `show`, `cut`, `stop`, `fail`
+//! (docs/formats.md). Lines are cut, skipped and counted as those of a bus's scripts. `push_ledger_line`
+//! adds the text of a ledger's line.
 #![tactic(auto)]
 
 mod kinds;
@@ -20,4 +13,4 @@ mod writing;
 
 pub use kinds::CommandKind;
 pub use reader::read_campaign;
-pub use writing::write_ledger_line;
+pub use writing::push_ledger_line;

@@ -1,34 +1,31 @@
 //! Lines that are written.
 
-ghost use Rattle.std.specs.Prelude.{◌≡◌, [], ◌∷◌, ◌++◌, Option, Some, None, OnOk, OnErr};
+ghost use Rattle.std.specs.Prelude.{◌≡◌, [], ◌∷◌, ◌++◌, Option, Some, None, OnOk};
 ghost use Rattle.campaign_machine.specs.declared.lines.LedgerLine.TheVariants.{Issued, Shown, Refused};
-ghost use Rattle.bus_texts.specs.Spaced.{spaced};
+ghost use Rattle.text_lines.specs.Spaced.{spaced};
 ghost use Rattle.campaign_texts.specs.LedgerTexts.{ledger_line_text, ledger_words};
 
-use bus_texts::words::{begin_line, end_line, push_hex, push_number, push_numbered, push_word};
 use campaign_machine::{LedgerLine, LedgerRefusal};
 use key_slots::Counter28;
 use memory_update::Request;
-use std::alloc::{AllocError, Global};
-use text_lines::Memory;
-use text_lines::pushing::push_digits;
+use std::alloc::AllocError;
+use text_lines::pushing::{
+    begin_line, end_line, push_digits, push_hex, push_number, push_numbered, push_word,
+};
 
 /// Appends the text of the line with this number, from 1: the number in decimal digits, the words of the line with a
-/// space before each, and a line feed. M1, M2 and M3 have two digits a byte, in lower case. Without memory `out` is as
-/// before.
-pub fn write_ledger_line(
-    alloc: Global,
+/// space before each, and a line feed. M1, M2 and M3 have two digits a byte, in lower case. Without memory nothing is
+/// said of `text`.
+pub fn push_ledger_line(
+    text: &mut Vec<u8>,
     number: u32,
     line: &LedgerLine,
-    out: &mut Vec<u8>,
-) -> Result<(), Memory>
-    ensures appended { OnOk result (out.new.items ≡ out.old.items ++ ledger_line_text number line.now) }
-    ensures as_before { OnErr result (out.new.items ≡ out.old.items) }
+) -> Result<(), AllocError>
+    ensures { OnOk result (text.new.items ≡ text.old.items ++ ledger_line_text number line.now) }
 {
-    let mut text = begin_line(alloc, number)?;
-    push_ledger_words(&mut text, line)?;
-    end_line(text, out)?;
-    Ok(())
+    begin_line(text, number)?;
+    push_ledger_words(text, line)?;
+    end_line(text)
 }
 
 // Adds the words of a line behind its number.

@@ -26,3 +26,4 @@ pub mod LogSteps
 pub mod CellsLaws
 pub mod Vectors
 pub mod MovingLaws
+pub mod CallerLemmas

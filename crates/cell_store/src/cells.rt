@@ -1,11 +1,11 @@
 // Stores of cells, as the layers above see them.
 ghost use Rattle.std.specs.Prelude.{◌≡◌, ◌+◌, ◌<◌, ◌≤◌, ℕ, List, [], ◌∷◌, length, slice_index_or, slice_set, true, false, Some, OnOk, OnErr, IfErr, IsErrOf};
-ghost use Rattle.cut_disk.specs.State.{Told, Cut, Stop, Fail};
-ghost use Rattle.cut_disk.specs.Arming.{with_stop, with_fail};
-ghost use Rattle.cut_disk.specs.Images.{EachImage, CutsTo};
-ghost use Rattle.cut_disk.specs.Calls.{Rose, Runs, Grows};
+ghost use Rattle.cut_disk.specs.State.{Told, Cut};
+ghost use Rattle.cut_disk.specs.Armed.{ArmsStop, ArmsFail};
+ghost use Rattle.cut_disk.specs.Images.{CutsTo};
+ghost use Rattle.cut_disk.specs.Calls.{Runs, Grows};
 ghost use Rattle.cell_store.specs.Reading.{NoStop, CutStays};
-ghost use Rattle.cell_store.specs.Cells.{CellsState, Settled, TellsCells, PutDone, LeavesBesides, StandsForEither, RereadCause, calls_to_reread, StandsNow, EachImageStands};
+ghost use Rattle.cell_store.specs.Cells.{CellsState, Puts, FailsPut, Settled, RereadCause, calls_to_reread, StandsNow, EachImageStands};
 
 use crate::faults::{PutFailed, Reread};
 use cut_disk::{Disk, Torn};
@@ -27,28 +27,13 @@ pub trait Cells {
         requires { cell < length (state self.now).cells }
         ensures { out.new ≡ slice_index_or (state self.now).cells cell [] };
 
-    /// Replaces a cell. Where that fails, the store is broken until its power is cut, and the cell
-    /// on the disk is the old one or the new one, whatever a power cut leaves. The bytes before and
-    /// behind the store stay as they are.
+    /// Replaces a cell. If that fails, the store is broken until its power is cut, and the cell on the disk is the old
+    /// one or the new one, whatever a power cut leaves. The bytes before and after the store stay as they are.
     fn put(&mut self, cell: u16, bytes: &[u8; 32]) -> Result<(), PutFailed>
         requires cell { cell < length (state self.old).cells }
         requires whole { (state self.old).broken ≡ false }
-        ensures layout { (state self.new).layout ≡ (state self.old).layout }
-        ensures runs { Runs [] 6 (state self.old).disk (state self.new).disk }
-        ensures besides { LeavesBesides (state self.old) (state self.new).disk.told }
-        ensures faults { OnOk result ((state self.new).disk.faults ≡ (state self.old).disk.faults) }
-        ensures cells { OnOk result ((state self.new).cells ≡ slice_set
-            (state self.old).cells cell bytes.now) }
-        ensures whole { OnOk result ((state self.new).broken ≡ false) }
-        ensures settled { OnOk result (TellsCells (state self.old) → Settled (state self.new)) }
-        ensures done { OnOk result (TellsCells (state self.old) → PutDone cell bytes.now
-            (state self.old) (state self.new)) }
-        ensures failed { OnErr result (Rose (state self.old).disk.faults
-            (state self.new).disk.faults) }
-        ensures kept { OnErr result ((state self.new).cells ≡ (state self.old).cells) }
-        ensures broken { OnErr result ((state self.new).broken ≡ true) }
-        ensures images { OnErr result (Settled (state self.old)
-            → EachImage (state self.new).disk.told (StandsForEither (state self.old) cell bytes.now)) };
+        ensures put { OnOk result (Puts cell bytes.now (state self.old) (state self.new)) }
+        ensures failed { OnErr result (FailsPut cell bytes.now (state self.old) (state self.new)) };
 
     /// Gives the disk back. Nothing is written.
     fn release(self) -> Self::Medium
@@ -90,28 +75,12 @@ pub trait CutCells: Cells {
     /// the power is cut.
     fn stop_at(&mut self, calls: u64)
         requires { 1 ≤ calls }
-        ensures layout { (Self.state self.new).layout ≡ (Self.state self.old).layout }
-        ensures cells { (Self.state self.new).cells ≡ (Self.state self.old).cells }
-        ensures broken { (Self.state self.new).broken ≡ (Self.state self.old).broken }
-        ensures runs { Runs (Stop calls ∷ []) 1 (Self.state self.old).disk
-            (Self.state self.new).disk }
-        ensures told { (Self.state self.new).disk.told ≡ (Self.state self.old).disk.told }
-        ensures faults { (Self.state self.new).disk.faults ≡ (Self.state self.old).disk.faults }
-        ensures arms { (Self.state self.new).disk.arms ≡ with_stop calls
-            (Self.state self.old).disk.arms }
-        ensures loud { (Self.state self.new).disk.quiet ≡ false };
+        ensures rest { Self.state self.new ≡ record (Self.state self.old) { disk = (Self.state self.new).disk } }
+        ensures arms { ArmsStop calls (Self.state self.old).disk (Self.state self.new).disk };
 
     /// Passes on to the disk: the call of this number fails.
     fn fail_at(&mut self, calls: u64)
         requires { 1 ≤ calls }
-        ensures layout { (Self.state self.new).layout ≡ (Self.state self.old).layout }
-        ensures cells { (Self.state self.new).cells ≡ (Self.state self.old).cells }
-        ensures broken { (Self.state self.new).broken ≡ (Self.state self.old).broken }
-        ensures runs { Runs (Fail calls ∷ []) 1 (Self.state self.old).disk
-            (Self.state self.new).disk }
-        ensures told { (Self.state self.new).disk.told ≡ (Self.state self.old).disk.told }
-        ensures faults { (Self.state self.new).disk.faults ≡ (Self.state self.old).disk.faults }
-        ensures arms { (Self.state self.new).disk.arms ≡ with_fail calls
-            (Self.state self.old).disk.arms }
-        ensures loud { (Self.state self.new).disk.quiet ≡ false };
+        ensures rest { Self.state self.new ≡ record (Self.state self.old) { disk = (Self.state self.new).disk } }
+        ensures arms { ArmsFail calls (Self.state self.old).disk (Self.state self.new).disk };
 }

@@ -1,7 +1,8 @@
 //! `chart`: the sequence chart of a replay, as an SVG that a browser shows.
 //!
-//! [`chart_commands::chart_words`] is the program; its clauses say what each status means and what is printed. Here
-//! it is handed the words, the files, standard input, standard output, and disks in memory.
+//! [`chart_commands::chart_words`] is the program. `start` promises its record over eight blank disks of
+//! 65,536 bytes in memory if there are two arguments or none. So 9 and 10 don't come. If there is no memory
+//! for these: 7, nothing was written, and no source that was opened is handed back (`WantsEightDisks`).
 #![tactic(auto)]
 
 ghost use Rattle.std.specs.Prelude.{◌≡◌, ◌≢◌, ◌⊎◌, [], drop, map, string_bytes, IfOk, IfErr, IsOk};

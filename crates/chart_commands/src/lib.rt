@@ -1,7 +1,9 @@
 //! The command of the program `chart`: the chart of a replay, as an SVG.
 //!
-//! [`run_chart`] is all of it; its clauses say what each status means and what is printed. [`chart_words`] opens the
-//! sources that the words of the command line name, and draws the worked example where there are none.
+//! [`run_chart`] is all of it: the record `RunsChart` says what each status means and what is printed. What
+//! was done over disks that tell their bytes is one run of the machine, with all of `WorldRun`, and the lines
+//! drawn are its lines (law `charts_are_runs`). [`chart_words`] opens the sources that the arguments name,
+//! and draws the example if there are none.
 #![tactic(auto)]
 
 mod charting;

@@ -10,7 +10,7 @@ use Rattle.bus_nodes.specs.declared.nodes.NodeLine.{NodeLine}
 use Rattle.bus_nodes.specs.Buses.{NamedBus, IsNodeLine, IsNamedBus}
 use Rattle.bus_texts.specs.LineKinds.{IsLine}
 use Rattle.bus_script.specs.ScriptEvents.{IsScriptEvent}
-use Rattle.bus_commands.specs.Summaries.{tells_sent, tells_accepted, tells_failed_verdict, tells_keyed, tells_up, tells_refused}
+use Rattle.bus_machine.specs.Tells.{tells_sent, tells_accepted, tells_failed_verdict, tells_keyed, tells_up, tells_refused}
 use Rattle.chart_marks.specs.declared.lifelines.Stretch.{Stretch}
 use Rattle.chart_marks.specs.Places.{lifeline_x, head_count, head_top, chart_width, chart_height}
 use Rattle.chart_marks.specs.Marks.{row_marks}

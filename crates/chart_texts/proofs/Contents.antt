@@ -12,7 +12,7 @@ use Rattle.byte_lists.specs.Numbers.{bytes_of}
 use Rattle.byte_lists.specs.NumberLaws.{IsBytes-bytes_of}
 use Rattle.hex.specs.Hex.{encode_with, encode_lower, lower_digits}
 use Rattle.bus_nodes.specs.Names.{is_letter, is_name_byte, is_name}
-use Rattle.bus_texts.specs.Spaced.{spaced}
+use Rattle.text_lines.specs.Spaced.{spaced}
 use Rattle.chart_texts.specs.Grammar.{is_content, is_content_text}
 
 -- ---- texts

@@ -9,7 +9,7 @@ use Rattle.bus_machine.specs.declared.lines.Line.{Line}
 use Rattle.bus_nodes.specs.declared.nodes.NodeLine.{NodeLine}
 use Rattle.bus_texts.specs.LineTexts.{told_words}
 use Rattle.bus_texts.specs.LineKinds.{IsLine}
-use Rattle.bus_texts.specs.Spaced.{spaced}
+use Rattle.text_lines.specs.Spaced.{spaced}
 use Rattle.bus_script.specs.ScriptEvents.{HasFields, IsScriptEvent}
 use Rattle.chart_marks.specs.declared.marks.Origin.TheVariants.{EventRow, Outside}
 use Rattle.chart_marks.specs.declared.marks.MarkKind.{MarkKind}

@@ -18,7 +18,7 @@ use Rattle.bus_machine.specs.declared.lines.Refusal.{Refusal}
 use Rattle.bus_machine.specs.declared.lines.Refusal.TheVariants.{Down, NoRoute, BadLength, Key, Exhausted, MemoryFailure, NotFormatted, Damaged, BadSlot, BadBound}
 use Rattle.bus_texts.specs.LineTexts.{told_words, refusal_words, source_word, boot_word}
 use Rattle.bus_texts.specs.LineKinds.{IsLine}
-use Rattle.bus_texts.specs.Spaced.{spaced}
+use Rattle.text_lines.specs.Spaced.{spaced}
 use Rattle.bus_script.specs.Canon.{torn_word}
 use Rattle.bus_script.specs.ScriptEvents.{HasFields, IsTorn}
 use Rattle.chart_texts.specs.Grammar.{is_content_text}

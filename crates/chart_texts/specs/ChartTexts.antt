@@ -8,9 +8,9 @@ use Rattle.bus_machine.specs.declared.lines.Line.{Line}
 use Rattle.bus_nodes.specs.declared.nodes.NodeLine.{NodeLine}
 use Rattle.bus_nodes.specs.Buses.{NamedBus}
 use Rattle.bus_texts.specs.LineTexts.{told_words}
-use Rattle.bus_texts.specs.Spaced.{spaced}
-use Rattle.bus_commands.specs.Summaries.{tells_sent, tells_accepted, tells_failed_verdict, tells_keyed, tells_up}
-use Rattle.bus_commands.specs.Summaries.{tells_refused}
+use Rattle.text_lines.specs.Spaced.{spaced}
+use Rattle.bus_machine.specs.Tells.{tells_sent, tells_accepted, tells_failed_verdict, tells_keyed, tells_up}
+use Rattle.bus_machine.specs.Tells.{tells_refused}
 use Rattle.chart_marks.specs.declared.marks.Origin.TheVariants.{EventRow, Outside}
 use Rattle.chart_marks.specs.declared.marks.MarkKind.{MarkKind}
 use Rattle.chart_marks.specs.declared.marks.MarkKind.TheVariants.{Sent, Done, Cut, Armed, Nothing, Refused, Arrow}

@@ -1,8 +1,8 @@
 -- What a line is counted for
 use Rattle.std.specs.Prelude.{Bool}
 use Rattle.bus_machine.specs.declared.lines.Line.{Line}
-use Rattle.bus_commands.specs.Summaries.{tells_sent, tells_accepted, tells_failed_verdict, tells_keyed, tells_up}
-use Rattle.bus_commands.specs.Summaries.{tells_refused}
+use Rattle.bus_machine.specs.Tells.{tells_sent, tells_accepted, tells_failed_verdict, tells_keyed, tells_up}
+use Rattle.bus_machine.specs.Tells.{tells_refused}
 use Rattle.chart_texts.specs.declared.counting.CountedKind.{CountedKind}
 use Rattle.chart_texts.specs.declared.counting.CountedKind.TheVariants.{Sent, Accepted, Failures, Keyed, Cuts, Refused}
 

@@ -9,7 +9,7 @@ use Rattle.bus_machine.specs.declared.lines.Line.{Line}
 use Rattle.bus_machine.specs.declared.lines.Line.TheVariants.{Sent, Accepted, FreshnessFailure, VerificationFailure}
 use Rattle.bus_machine.specs.declared.lines.Line.TheVariants.{Keyed, Loaded, Boot, Up, Armed, NoFrame, Refused}
 use Rattle.bus_texts.specs.LineTexts.{source_word, boot_word, refusal_words}
-use Rattle.bus_texts.specs.Spaced.{spaced}
+use Rattle.text_lines.specs.Spaced.{spaced}
 use Rattle.bus_script.specs.Canon.{torn_word}
 
 -- a Data ID has four digits, and of a freshness its last four are shown

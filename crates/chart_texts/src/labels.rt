@@ -7,10 +7,10 @@ ghost use Rattle.bus_script.specs.Canon.{torn_word};
 ghost use Rattle.chart_texts.specs.Labels.{label_text, sent_label, accepted_label, delivered_label, up_label, armed_label};
 
 use bus_machine::{Event, Line};
-use bus_texts::words::{push_id, push_number, push_refusal};
+use bus_texts::words::{push_id, push_refusal};
 use cut_disk::Torn;
 use std::alloc::AllocError;
-use text_lines::pushing::push_digits;
+use text_lines::pushing::{push_digits, push_number};
 
 /// Adds the label of an event and its line: letters, digits, spaces, `.`, `,` and `_`.
 pub(crate) fn push_label(text: &mut Vec<u8>, event: &Event, line: &Line) -> Result<(), AllocError>

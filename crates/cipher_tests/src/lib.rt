@@ -1,5 +1,5 @@
-//! Tests of ciphers, key slots, key updates, Secured I-PDUs and routes. There is nothing else here: a crate of tests
-//! over several libraries has none of them proved a second time.
+//! Tests of ciphers, key slots, key updates, Secured I-PDUs and routes. There is nothing else here: a crate
+//! of tests over several libraries has none of them proved a second time.
 #![tactic(auto)]
 
 #[cfg(test)]

@@ -1,12 +1,12 @@
 //! Whether a ledger is down, and how many cells it hands back, which no program asks.
 use crate::comparing::same;
+use byte_lists::Block;
 use campaign_commands::open_ledger;
 use cell_store::Cells;
 use cut_disk::{MemDisk, Torn};
 use key_campaign::LedgerFault;
 use key_slots::{Flags, SlotId};
 use memory_update::Uid;
-use she_aes::Block;
 use std::test::Fail;
 
 #[test]

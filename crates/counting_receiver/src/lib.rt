@@ -1,7 +1,8 @@
-//! Receivers that keep their counters, for programs of plain lines.
+//! Receivers that keep their counters (AUTOSAR SecOC, verification), for programs of plain lines.
 //!
-//! [`push_verdict`] judges a Secured I-PDU by the counter of its receiver and adds the text of the verdict; where the
-//! PDU is accepted, the counter is then its freshness. So the freshness that a receiver accepts rises
+//! [`push_verdict`] judges a Secured I-PDU by its receiver's counter and window, and adds the text of the
+//! verdict, as it does with room for 158 bytes. If it was added, the counter is the freshness of a PDU that
+//! was accepted, and as before for any other. So accepted freshness rises
 //! ([`laws::accepted_freshness_rises`]).
 #![tactic(auto)]
 

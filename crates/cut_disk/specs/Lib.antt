@@ -13,3 +13,4 @@ pub mod MemDisk
 pub mod Tape
 pub mod TapeDisk
 pub mod TapeLaws
+pub mod Armed

@@ -1,46 +1,13 @@
 //! Disks that a power cut may leave half written.
 //!
-//! # What a disk means
-//!
-//! A [`Disk`] has a fixed number of bytes, below 2^64, with addresses from 0. To a proof it means (`DiskState`):
-//!
-//! - **its bytes**, as a read gives them, and for each byte whether it is **loose**: whether a power cut may change it.
-//!   A disk tells both or neither, and no call changes which. The disks in memory tell them, and so does a disk over a
-//!   file whose bytes are held in memory (`file_disk`).
-//! - **its arms**: which of the calls to come are to fail, because [`CutDisk::stop_at`] or [`CutDisk::fail_at`] said
-//!   so.
-//! - **its count of faults**, which rises at each read, write and sync that fails, and at no other call.
-//! - whether it is **quiet**: no call of it fails until one is armed. A disk that isn't quiet may fail at any call.
-//! - **its past**, if it tells that: its first state, and one entry for each call so far, with the bytes and the loose
-//!   marks that the call left, and the mark of the call where it was a cut, a stop or a failure that was armed.
-//!
-//! # What a power cut may leave
-//!
-//! A power cut may leave a list of bytes exactly where it has the disk's size and agrees with the bytes as read at
-//! every byte that isn't loose. Such a list is an **image** of the disk. A loose byte may become any byte, each by
-//! itself: nothing is assumed of the order in which writes reach the disk, of sectors, or of a byte being either the
-//! old one or the new. So the bytes as read are always one of the images, and they are the only one where no byte is
-//! loose.
-//!
-//! Power can go at any moment, and every call of a disk may be the last that came through. So what is said of a cut is
-//! said of *every* image, and at *each* exit of every call: after a call that failed as after one that didn't.
-//!
-//! # What the calls do
-//!
-//! | Call | Ok | `DiskFailed` |
-//! |---|---|---|
-//! | `read` | `out` is the bytes of the range; no byte and no mark changes | `out` is anything; no byte and no mark changes |
-//! | `write` | the range reads as the bytes that were given, and is loose; all else is as before | the range reads as anything, and is loose; all else is as before |
-//! | `sync` | no byte is loose; every byte reads as before | no byte and no mark changes |
-//! | `power_cut` | the bytes as read are one image that was allowed just before, and no byte is loose | it can't fail |
-//!
-//! A read, a write or a sync that answers Ok leaves the count of faults as it was, and one that fails raised it (or
-//! found it at its last value): no failure is hidden, and none is invented. An arm counts every read, write and sync,
-//! whatever makes that call fail. A stop makes each call fail from its call on, until the power is cut; a failure that
-//! is armed comes once, and outlasts a cut.
-//!
-//! What the calls of a stretch leave together is said by the relations `Runs` (count, quiet, size and past), `Lasts`
-//! and `LastsTorn` (the bytes); [`laws`] has what follows from the definitions alone.
+//! A [`Disk`] means its bytes, for each byte whether it is *loose*, its arms, its count of faults, whether it
+//! is quiet, and its past. A written byte is loose until a sync. A power cut may leave any *image*: a list of
+//! bytes of the disk's size that agrees at every byte that isn't loose. Nothing is assumed of sectors or of
+//! the order of writes. docs/definitions.md has this in full, with what each call leaves. What is said of a
+//! cut is said of every image, at each exit of each call, failed or not. No failure is hidden, and none is
+//! invented. `Runs` says what any stretch of calls adds, `Lasts` and `LastsTorn` what it leaves ([`laws`]).
+//! [`MemDisk`] is exact: arms, stops, four kinds of cut. [`TapeDisk`] tells its past, exactly while it has
+//! room.
 #![tactic(auto)]
 
 ghost use Rattle.std.specs.Prelude.{◌≡◌, ◌+◌, ◌≤◌, false, length, Some, None, IsErr, IsTrue, OnOk, OnErr};

@@ -1,8 +1,9 @@
-//! Counts of faults.
+//! Counts of faults, of sources, sinks and disks.
 //!
-//! Each source, sink and disk has a count of its faults, of 64 bits. It rises at each call that fails (that of the
-//! ports and disks of this repository by one), never falls, and stands still at its last value. So a caller that hands
-//! such an object on sees afterwards whether a fault came in between: the count then rose, or stands at its last value.
+//! A count has 64 bits. It rises when a call fails, never falls, and stands still at its last value. One
+//! fault more is counted exactly. A count that rose has risen ever after: it is greater, or at its last
+//! value. Below its last value a count that is the same didn't rise. So a caller that hands an object on sees
+//! afterwards whether a fault came in between.
 #![tactic(auto)]
 
 ghost use Rattle.std.specs.Prelude.{◌≡◌, ◌⊎◌, ℕ, ◌<◌, ◌≤◌, ◌↔◌};

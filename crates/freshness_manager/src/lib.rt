@@ -1,13 +1,13 @@
-//! The freshness of the routes of a node: a counter for each, and a bound ahead of it that a store
+//! The freshness of a node's routes (AUTOSAR SecOC): a counter for each, and a bound ahead that a store
 //! keeps.
 //!
-//! A sender puts a bound before it uses a freshness above the old one, a receiver before it accepts
-//! one, and each begins again at its bound: at least at each freshness that was used or accepted.
-//! That none is used twice under one Data ID, where no Data ID is sent by two nodes, nor accepted twice by one node
-//! under one, are laws of the machine of a bus. A reserve of 1 to 128 says how far a bound moves ahead, so that not
-//! every PDU is a put.
-//!
-//! No call takes memory.
+//! [`Tx`] gives the freshness above its counter. If its bound doesn't cover that, it first puts one a reserve
+//! (1 to 128) ahead. `Exhausted` comes exactly at 2^64 - 1, `PutFailed` only if the disk's count rose;
+//! counter and bound are then as before. [`Rx`] gives the one candidate of a low byte, if there is one; if it
+//! isn't covered, `commit` first puts a bound a reserve less one above it. Bounds end at 2^64 - 1. The
+//! store's cells always have the bound, which is at least the counter. On a settled store each image keeps
+//! the old or the new one. That no freshness is used twice is a law of the machine, of which a node's calls
+//! are steps. No call takes memory.
 #![tactic(auto)]
 
 mod changing;

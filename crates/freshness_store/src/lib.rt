@@ -1,12 +1,11 @@
-//! Bounds of freshness in the cells of a store. A sender's bound is to be at least each freshness that
-//! it used, a receiver's at least each that it accepted: then a counter that begins again at its bound
-//! never falls back.
+//! Bounds of freshness (AUTOSAR SecOC) in the cells of a store.
 //!
-//! A bound's cell has 32 bytes: the byte 2, a byte for the direction (1 sends, 2 receives), the Data
-//! ID (2 bytes, big-endian), the bound (8 bytes, big-endian), and twenty zero bytes. Every other
-//! content is no bound.
-//!
-//! No call takes memory.
+//! A bound's cell has 32 bytes: the byte 2, a byte for the direction (1 sends, 2 receives), the Data ID (2
+//! bytes, big-endian), the bound (8 bytes, big-endian), and twenty zero bytes. Every other content is no
+//! bound. A cell is at most one bound, and never a slot's too. `read_bound` gives the bound of a Data ID and
+//! a direction, or names the cell exactly if it holds none. `put_bound` is the put of its cell: on a settled
+//! store whole or absent in every image, with at most six entries in the past and no mark. No call takes
+//! memory.
 #![tactic(auto)]
 
 mod bounds;

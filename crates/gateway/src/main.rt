@@ -1,8 +1,9 @@
-//! `gateway`: a re-authenticating gateway (AUTOSAR SecOC, profile 1): PDUs that arrive under one Data ID are verified,
-//! and their payloads depart anew under another, through stops and power cuts.
+//! `gateway`: PDUs that arrive under one Data ID are verified and depart anew under another (AUTOSAR SecOC,
+//! profile 1).
 //!
-//! [`gateway_commands::gateway_words`] is the program; its clauses say what each status means and what is printed. Here
-//! it is handed the words, the files, standard input, standard output, and a disk in memory.
+//! [`gateway_commands::gateway_words`] is the program. `start` promises its record over one blank disk of
+//! 65,536 bytes in memory, and hands the sources back. So 9 and 10 don't come. If there is no memory for the
+//! disk: 7, nothing was written, and no source that was opened is handed back.
 #![tactic(auto)]
 
 ghost use Rattle.std.specs.Prelude.{◌≡◌, ◌≢◌, ◌⊎◌, [], drop, map, string_bytes, IfOk, IfErr, IsOk};

@@ -24,7 +24,7 @@ use Rattle.bus_nodes.specs.Laws.{NamedBusesAreBuses}
 use Rattle.bus_script.specs.EventForms.{node_line_at}
 use Rattle.secoc_node.specs.Fits.{FitsNode}
 use Rattle.secoc_node.specs.State.{NodeState, TellsFitting}
-use Rattle.secoc_node.proofs.FitsLaws.{told_before}
+use Rattle.secoc_node.proofs.CallerLemmas.{told_before}
 use Rattle.bus_world.specs.declared.start.Start.TheVariants.{Format}
 use Rattle.bus_world.specs.Turns.{most_calls}
 use Rattle.bus_world.specs.Starts.{start_calls, Opened}
@@ -34,7 +34,7 @@ use Rattle.gateway_machine.specs.Laws.{RunsForwardWhatArrived, ArrivalsRise, Dep
 use Rattle.secoc_gateway.specs.State.{GatewayState, over}
 use Rattle.secoc_gateway.specs.Turns.{calls_under, most_gateway_calls, tells_gateway_failure, GatewayTurn}
 use Rattle.secoc_gateway.specs.Laws.{GatewayTurnsKeep}
-use Rattle.secoc_gateway.proofs.TurnLaws.{certain_by_mark}
+use Rattle.secoc_gateway.proofs.CallerLemmas.{certain_by_mark}
 use Rattle.gateway_commands.specs.Texts.{gateway_text}
 use Rattle.gateway_commands.specs.Inputs.{gate_config, gate_node}
 use Rattle.gateway_commands.specs.Runs.{RanGateway}

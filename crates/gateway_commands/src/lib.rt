@@ -1,8 +1,10 @@
-//! The command of a re-authenticating gateway: a script over the one node of a bus, whose PDUs under the first Data ID
-//! of a pair depart anew under the second (AUTOSAR SecOC, profile 1).
+//! The command of a re-authenticating gateway: a script over the one node of a bus (AUTOSAR SecOC, profile
+//! 1).
 //!
-//! [`run_gateway`] is all of it; its clauses say what each status means and what is printed. [`gateway_words`] opens
-//! the sources that the words name, and runs the worked example where there are none.
+//! [`run_gateway`] is all of it: the record `RunsGateway` says what each status means and what is printed.
+//! What was done over a disk that tells its bytes is one run of the gateway's machine, with all of
+//! `OneGatewayRun` (law `gateways_are_runs`). [`gateway_words`] opens the sources that the arguments name,
+//! and runs the example if there are none. `is_asked` tells which arguments ask for a gateway.
 #![tactic(auto)]
 
 mod example;

@@ -2,20 +2,19 @@
 ghost use Rattle.std.specs.Prelude.{◌≡◌, [], ◌∷◌, ◌++◌, OnOk};
 ghost use Rattle.byte_lists.specs.Numbers.{bytes_of};
 ghost use Rattle.hex.specs.Hex.{encode_lower};
-ghost use Rattle.bus_texts.specs.Spaced.{spaced};
+ghost use Rattle.text_lines.specs.Spaced.{spaced};
 ghost use Rattle.gateway_machine.specs.declared.lines.GatewayLine.TheVariants.{Dropped};
 ghost use Rattle.gateway_commands.specs.Texts.{gateway_words, gateway_text};
 
 use bus_machine::Refusal;
 use bus_port::Memory;
 use bus_texts::push_told;
-use bus_texts::words::{
-    begin_line, end_line, push_freshness, push_hex, push_id, push_refusal, push_word,
-};
+use bus_texts::words::{push_freshness, push_id, push_refusal};
 use byte_lists::Pdu;
 use gateway_machine::GatewayLine;
 use numbered_run::LineText;
 use std::alloc::{AllocError, Global};
+use text_lines::pushing::{begin_line, end_line, push_hex, push_word};
 
 /// The texts of the lines of a gateway.
 pub struct GatewayTexts;
@@ -26,12 +25,12 @@ impl LineText<GatewayLine> for GatewayTexts {
     ghost text = { gateway_text };
 
     fn append(
-        alloc: Global,
+        _alloc: Global,
         number: u32,
         line: &GatewayLine,
         out: &mut Vec<u8>,
     ) -> Result<(), Memory> {
-        match append_line(alloc, number, line, out) {
+        match append_line(number, line, out) {
             Ok(()) => Ok(()),
             Err(AllocError) => Err(Memory),
         }
@@ -39,17 +38,12 @@ impl LineText<GatewayLine> for GatewayTexts {
 }
 
 // Appends the text of the line with this number.
-fn append_line(
-    alloc: Global,
-    number: u32,
-    line: &GatewayLine,
-    out: &mut Vec<u8>,
-) -> Result<(), AllocError>
+fn append_line(number: u32, line: &GatewayLine, out: &mut Vec<u8>) -> Result<(), AllocError>
     ensures { OnOk result (out.new.items ≡ out.old.items ++ gateway_text number line.now) }
 {
-    let mut text = begin_line(alloc, number)?;
-    push_line(&mut text, line)?;
-    end_line(text, out)
+    begin_line(out, number)?;
+    push_line(out, line)?;
+    end_line(out)
 }
 
 // Adds the words of a line, as they stand behind its number.

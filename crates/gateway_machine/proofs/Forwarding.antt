@@ -10,8 +10,7 @@ use Rattle.bus_machine.specs.declared.lines.Line.TheVariants.{Sent, Accepted, Re
 use Rattle.bus_machine.specs.Node.{Node, place_of, place_in, route_key}
 use Rattle.bus_machine.specs.Steps.{sends, receives, key_refusal, NodeStep}
 use Rattle.bus_machine.specs.Bus.{node_of}
-use Rattle.bus_laws.proofs.Effects.{routed, send_routed}
-use Rattle.bus_laws.proofs.Growth.{slots_by_bound}
+use Rattle.bus_laws.proofs.CallerLemmas.{routed, send_routed, slots_by_bound}
 use Rattle.gateway_machine.specs.declared.lines.GatewayLine.{GatewayLine}
 use Rattle.gateway_machine.specs.Gateway.{second_of, TellsDeparture, Departs, StepUnder, departs_under, EventStep, GatewayMoments, GatewayRun}
 use Rattle.gateway_machine.specs.Claims.{Brought, Departed, ForwardsRight, AllForwardRight}

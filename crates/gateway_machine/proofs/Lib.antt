@@ -1,3 +1,4 @@
 pub mod Stepping
 pub mod Rising
 pub mod Forwarding
+pub mod CallerLemmas

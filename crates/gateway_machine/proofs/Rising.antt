@@ -6,9 +6,7 @@ use Rattle.freshness_routes.specs.declared.routes.Direction.{Direction}
 use Rattle.bus_machine.specs.declared.events.Event.{Event}
 use Rattle.bus_machine.specs.Node.{Node, place_of, place_in, counter_at}
 use Rattle.bus_machine.specs.Sound.{Sound}
-use Rattle.bus_laws.proofs.Growth.{Grows}
-use Rattle.bus_laws.proofs.Rising.{Above}
-use Rattle.bus_laws.proofs.Lists.{Each, Pairwise, AllPairs-Pairwise}
+use Rattle.bus_laws.proofs.CallerLemmas.{Grows, Above, Each, Pairwise, AllPairs-Pairwise}
 use Rattle.gateway_machine.specs.declared.lines.GatewayLine.{GatewayLine}
 use Rattle.gateway_machine.specs.Gateway.{GatewayMoments, GatewayRun}
 use Rattle.gateway_machine.specs.Claims.{TellsFreshness, FreshnessRises}

@@ -12,9 +12,7 @@ use Rattle.bus_machine.specs.Sound.{Sound}
 use Rattle.bus_machine.specs.Steps.{sends, NodeStep}
 use Rattle.bus_machine.specs.Bus.{node_of, act_of, silent_world}
 use Rattle.bus_machine.specs.Freshness.{Tells}
-use Rattle.bus_laws.proofs.SoundSteps.{Sound-step}
-use Rattle.bus_laws.proofs.Growth.{Grows, Grows-step, Grows-same, Grows-on}
-use Rattle.bus_laws.proofs.Rising.{Above, tells_reaches}
+use Rattle.bus_laws.proofs.CallerLemmas.{Sound-step, Grows, Grows-step, Grows-same, Grows-on, Above, tells_reaches}
 use Rattle.gateway_machine.specs.declared.lines.GatewayLine.{GatewayLine}
 use Rattle.gateway_machine.specs.declared.lines.GatewayLine.TheVariants.{OfNode}
 use Rattle.gateway_machine.specs.Gateway.{TellsDeparture, Departs, StepUnder, GatewayStep, departs_under, EventStep}

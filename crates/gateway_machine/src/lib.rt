@@ -1,8 +1,10 @@
-//! The machine of a re-authenticating gateway: a node that verifies each Secured I-PDU that arrives under the first
-//! Data ID of a pair, and sends its payload anew under the second, with that route's key and freshness.
+//! The machine of a re-authenticating gateway (AUTOSAR SecOC), over any machine of a node, and its laws.
 //!
-//! The machine is a text of definitions over any relation of a node's steps, in `specs/`; here stand the type of its
-//! lines, and the laws over all its runs, each as the contract of a function without parameters and with an empty body.
+//! A PDU that arrives under the first Data ID of a pair is verified, and its payload departs anew under the
+//! second, with that route's key and freshness. Of every run over a sound node of a bus: what is forwarded is
+//! the payload that this event's arrival had; arrivals and departures of one Data ID rise. A run is a run of
+//! the node, part by part: two parts just for an accepted arrival under a pair, the second of which sends its
+//! payload. Each law is the contract of a function with an empty body.
 #![tactic(auto)]
 
 mod laws;

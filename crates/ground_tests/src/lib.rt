@@ -1,5 +1,6 @@
-//! Tests of the ground: counts of faults, lists of bytes, ports, edges, disks in memory and over files, and the driver.
-//! There is nothing else here: a crate of tests over several libraries has none of them proved a second time.
+//! Tests of the ground: counts of faults, lists of bytes, ports, edges, disks in memory and over files, and
+//! the driver. There is nothing else here: a crate of tests over several libraries has none of them proved a
+//! second time.
 #![tactic(auto)]
 
 #[cfg(test)]

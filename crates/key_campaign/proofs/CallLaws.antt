@@ -15,7 +15,7 @@ use Rattle.campaign_machine.specs.declared.lines.LedgerRefusal.TheVariants as re
 use Rattle.campaign_machine.specs.Entries.{IsUnit, entry_counter, Advances}
 use Rattle.campaign_machine.specs.Campaign.{Campaign, changed_ledger, failed_change, SoundLedger}
 use Rattle.campaign_machine.specs.Steps.{update_for, update_told, issued_entry, MakesIssue, MakesConfirm, LedgerStep}
-use Rattle.campaign_machine.proofs.SoundSteps.{advances_made}
+use Rattle.campaign_machine.proofs.CallerLemmas.{advances_made}
 use Rattle.key_campaign.specs.declared.faults.LedgerFault.{LedgerFault}
 use Rattle.key_campaign.specs.declared.faults.LedgerFault.TheVariants as fault
 use Rattle.key_campaign.specs.Lines.{ledger_refusal}

@@ -18,9 +18,7 @@ use Rattle.campaign_machine.specs.declared.entries.PendingEntry.{PendingEntry}
 use Rattle.campaign_machine.specs.Entries.{place_count, place_for, entry_at, with_change}
 use Rattle.campaign_machine.specs.Campaign.{Campaign, powered_ledger, stays_off}
 use Rattle.campaign_machine.specs.Steps.{PowersLedger, LedgerStep}
-use Rattle.campaign_machine.proofs.Places.{at_place}
-use Rattle.campaign_machine.proofs.Changes.{AreLedgerEntries-change}
-use Rattle.campaign_machine.proofs.SoundSteps.{pending_advances, sound_off}
+use Rattle.campaign_machine.proofs.CallerLemmas.{at_place, AreLedgerEntries-change, pending_advances, sound_off}
 use Rattle.key_campaign.specs.Cell.{place_cell, HoldsPlace, ledger_cells, HoldEntries, FirstBadEntry}
 use Rattle.key_campaign.specs.State.{keeping_of, IsLedger}
 use Rattle.key_campaign.proofs.CellLaws.{one_place, place_at, one_ledger}

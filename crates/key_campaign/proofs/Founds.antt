@@ -6,7 +6,7 @@ use Rattle.std.proofs.lemmas.Bool.{cases_lt, lt-ltb}
 use Rattle.std.proofs.lemmas.Option.{none-some}
 use Rattle.campaign_machine.specs.declared.entries.LedgerEntry.{LedgerEntry}
 use Rattle.campaign_machine.specs.Entries.{is_of, place_for, empty_place}
-use Rattle.campaign_machine.proofs.Places.{is_of_same}
+use Rattle.campaign_machine.proofs.CallerLemmas.{is_of_same}
 use Rattle.key_campaign.specs.Places.{FoundEntry}
 
 module _ (uid : List ℕ) (id : ℕ) (places : List (Option LedgerEntry)) (place : ℕ) (before : (k : ℕ) → k < place → is_of uid id (get_or places k None) ≡ false) where

@@ -9,7 +9,7 @@ use Rattle.store_runs.specs.KeepingLaws.{fits_put, fits_failed_put}
 use Rattle.campaign_machine.specs.declared.entries.PendingEntry.{PendingEntry}
 use Rattle.campaign_machine.specs.Entries.{with_change, Advances}
 use Rattle.campaign_machine.specs.Campaign.{Campaign, changed_ledger, failed_change}
-use Rattle.campaign_machine.proofs.SoundSteps.{sound_made, sound_failed}
+use Rattle.campaign_machine.proofs.CallerLemmas.{sound_made, sound_failed}
 use Rattle.key_campaign.specs.Cell.{place_cell, ledger_cells}
 use Rattle.key_campaign.specs.State.{keeping_of, IsLedger}
 

@@ -7,3 +7,4 @@ pub mod CutLaws
 pub mod CallLaws
 pub mod Founds
 pub mod NoEntries
+pub mod CallerLemmas

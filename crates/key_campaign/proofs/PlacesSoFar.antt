@@ -10,7 +10,7 @@ use Rattle.std.proofs.lemmas.List.Folds.{position_or_len_push}
 use Rattle.std.proofs.lemmas.Option.{same_Some, none-some}
 use Rattle.campaign_machine.specs.declared.entries.LedgerEntry.{LedgerEntry}
 use Rattle.campaign_machine.specs.Entries.{IsEntry, place_count, is_of, place_for, entry_at, AreLedgerEntries, no_entries}
-use Rattle.campaign_machine.proofs.Places.{is_of_same, inside_of, place_for_most}
+use Rattle.campaign_machine.proofs.CallerLemmas.{is_of_same, inside_of, place_for_most}
 use Rattle.key_campaign.specs.Cell.{place_cell, HoldsPlace, ledger_cells, HoldEntries, FirstBadEntry}
 use Rattle.key_campaign.specs.Places.{ReadSoFar}
 

@@ -13,7 +13,7 @@ use Rattle.campaign_machine.specs.declared.lines.LedgerRefusal.TheVariants as re
 use Rattle.campaign_machine.specs.Entries.{entry_for, entry_counter, last_issued, TakesPlace}
 use Rattle.campaign_machine.specs.Campaign.{Campaign}
 use Rattle.campaign_machine.specs.Steps.{HasNoPlace, RefusesIssue, MakesIssue, ConfirmsWith, RefusesConfirm, MakesConfirm, LedgerStep}
-use Rattle.campaign_machine.proofs.Places.{unknown_of}
+use Rattle.campaign_machine.proofs.CallerLemmas.{unknown_of}
 use Rattle.key_campaign.specs.declared.faults.LedgerFault.{LedgerFault}
 use Rattle.key_campaign.specs.declared.faults.LedgerFault.TheVariants as fault
 use Rattle.key_campaign.specs.Lines.{ledger_refusal, issued_line, confirmed_line}

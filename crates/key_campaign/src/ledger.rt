@@ -1,7 +1,7 @@
 //! A ledger in all its lives.
 ghost use Rattle.std.specs.Prelude.{◌≡◌, ◌≢◌, ◌<◌, ◌≤◌, ◌+◌, ◌∷◌, ◌↔◌, ℕ, [], length, true, false, Some, None, option_map, not, IfOk, IfErr, OnOk, OnErr, IsErrOf};
-ghost use Rattle.cut_disk.specs.State.{Told, Cut, Stop, Fail};
-ghost use Rattle.cut_disk.specs.Arming.{with_stop, with_fail};
+ghost use Rattle.cut_disk.specs.State.{Told, Cut};
+ghost use Rattle.cut_disk.specs.Armed.{ArmsStop, ArmsFail};
 ghost use Rattle.cut_disk.specs.Calls.{Rose, Runs, Grows};
 ghost use Rattle.cut_disk.specs.Images.{CutsTo};
 ghost use Rattle.cell_store.specs.Reading.{NoStop, CutStays};
@@ -13,17 +13,17 @@ ghost use Rattle.campaign_machine.specs.Campaign.{powered_ledger, changed_ledger
 ghost use Rattle.campaign_machine.specs.Steps.{HasNoPlace, RefusesConfirm, told_entry, LedgerStep};
 ghost use Rattle.key_campaign.specs.Cell.{HoldEntries, FirstBadEntry};
 ghost use Rattle.key_campaign.specs.Causes.{LedgerCutCause};
-ghost use Rattle.key_campaign.specs.State.{FitsLedger, TellsLedger};
+ghost use Rattle.key_campaign.specs.State.{FitsLedger, TellsLedger, ServedLedger};
 ghost use Rattle.key_campaign.specs.Lines.{issued_line, confirmed_line, ledger_cut_line};
 
 use crate::faults::{BadEntry, LedgerCut, LedgerFault};
 use crate::places::{Places, put_entry, read_places};
+use byte_lists::Block;
 use campaign_machine::{LedgerCommand, LedgerEntry, LedgerLine, LedgerRefusal, PendingEntry};
 use cell_store::{Cells, CutCells, PutFailed, Reread};
 use cut_disk::Torn;
 use key_slots::{Counter28, Flags, SlotId, may_authorise};
 use memory_update::{Reply, Request, Uid, Update, build, is_confirmed};
-use she_aes::Block;
 use std::marker::Model;
 
 /// The ledger of a key campaign over a store of cells. Contracts see the machine's ledger and the state of the store.
@@ -89,6 +89,7 @@ impl<C: Cells> Ledger<C> {
         ensures layout { self.new.store.layout ≡ self.old.store.layout }
         ensures runs { Runs [] 6 self.old.store.disk self.new.store.disk }
         ensures fits { FitsLedger self.old → FitsLedger self.new }
+        ensures sound { SoundLedger self.new.campaign }
     {
         match put_entry(&mut self.cells, place, &entry) {
             Ok(()) => {
@@ -131,12 +132,7 @@ impl<C: Cells> Ledger<C> {
         ensures spent { IsErrOf result LedgerFault.Spent
             ↔ ((self.old.campaign.up ≡ true) × (is_pair id auth ≡ true)
             × (last_issued uid id self.old.campaign.entries ≡ greatest_counter)) }
-        ensures faulted { IsErrOf result LedgerFault.Faulted
-            → Rose self.old.store.disk.faults self.new.store.disk.faults }
-        ensures faults { OnOk result (self.new.store.disk.faults ≡ self.old.store.disk.faults) }
-        ensures layout { self.new.store.layout ≡ self.old.store.layout }
-        ensures runs { Runs [] 6 self.old.store.disk self.new.store.disk }
-        ensures fits { FitsLedger self.old → FitsLedger self.new }
+        ensures serves { ServedLedger self.old self.new result }
     {
         if !self.up {
             return Err(LedgerFault::Down);
@@ -197,12 +193,7 @@ impl<C: Cells> Ledger<C> {
             ↔ RefusesConfirm self.old.campaign
             (record { uid = uid; id = id; auth = auth; key = key.now; reply = reply.now })
             LedgerRefusal.NotConfirmed }
-        ensures faulted { IsErrOf result LedgerFault.Faulted
-            → Rose self.old.store.disk.faults self.new.store.disk.faults }
-        ensures faults { OnOk result (self.new.store.disk.faults ≡ self.old.store.disk.faults) }
-        ensures layout { self.new.store.layout ≡ self.old.store.layout }
-        ensures runs { Runs [] 6 self.old.store.disk self.new.store.disk }
-        ensures fits { FitsLedger self.old → FitsLedger self.new }
+        ensures serves { ServedLedger self.old self.new result }
     {
         if !self.up {
             return Err(LedgerFault::Down);
@@ -283,6 +274,7 @@ impl<C: CutCells> Ledger<C> {
         ensures runs { Runs (Cut torn ∷ []) (68 + place_count) self.old.store.disk self.new.store.disk }
         ensures grows { OnOk result (Grows self.old.store.disk self.new.store.disk) }
         ensures fits { FitsLedger self.old → FitsLedger self.new }
+        ensures sound { SoundLedger self.new.campaign }
     {
         self.up = false;
         if let Err(fault) = self.cells.power_cut(torn) {
@@ -304,15 +296,10 @@ impl<C: CutCells> Ledger<C> {
     pub fn stop_at(&mut self, calls: u64)
         requires { 1 ≤ calls }
         ensures step { LedgerStep self.old.campaign (LedgerCommand.Stop calls) LedgerLine.Armed self.new.campaign }
-        ensures cells { self.new.store.cells ≡ self.old.store.cells }
-        ensures broken { self.new.store.broken ≡ self.old.store.broken }
-        ensures told { self.new.store.disk.told ≡ self.old.store.disk.told }
-        ensures faults { self.new.store.disk.faults ≡ self.old.store.disk.faults }
-        ensures arms { self.new.store.disk.arms ≡ with_stop calls self.old.store.disk.arms }
-        ensures loud { self.new.store.disk.quiet ≡ false }
-        ensures layout { self.new.store.layout ≡ self.old.store.layout }
-        ensures runs { Runs (Stop calls ∷ []) 1 self.old.store.disk self.new.store.disk }
+        ensures rest { self.new ≡ record self.old { store = record self.old.store { disk = self.new.store.disk } } }
+        ensures arms { ArmsStop calls self.old.store.disk self.new.store.disk }
         ensures fits { FitsLedger self.old → FitsLedger self.new }
+        ensures sound { SoundLedger self.new.campaign }
     {
         self.cells.stop_at(calls);
     }
@@ -321,15 +308,10 @@ impl<C: CutCells> Ledger<C> {
     pub fn fail_at(&mut self, calls: u64)
         requires { 1 ≤ calls }
         ensures step { LedgerStep self.old.campaign (LedgerCommand.Fail calls) LedgerLine.Armed self.new.campaign }
-        ensures cells { self.new.store.cells ≡ self.old.store.cells }
-        ensures broken { self.new.store.broken ≡ self.old.store.broken }
-        ensures told { self.new.store.disk.told ≡ self.old.store.disk.told }
-        ensures faults { self.new.store.disk.faults ≡ self.old.store.disk.faults }
-        ensures arms { self.new.store.disk.arms ≡ with_fail calls self.old.store.disk.arms }
-        ensures loud { self.new.store.disk.quiet ≡ false }
-        ensures layout { self.new.store.layout ≡ self.old.store.layout }
-        ensures runs { Runs (Fail calls ∷ []) 1 self.old.store.disk self.new.store.disk }
+        ensures rest { self.new ≡ record self.old { store = record self.old.store { disk = self.new.store.disk } } }
+        ensures arms { ArmsFail calls self.old.store.disk self.new.store.disk }
         ensures fits { FitsLedger self.old → FitsLedger self.new }
+        ensures sound { SoundLedger self.new.campaign }
     {
         self.cells.fail_at(calls);
     }

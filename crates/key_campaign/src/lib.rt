@@ -1,26 +1,12 @@
-//! The ledger of a key campaign, which survives power cuts. A loading station issues key updates of the Secure Hardware
-//! Extensions (SHE) for many units, and records which of them were confirmed. The ledger keeps no keys.
+//! The ledger of a key campaign (updates after the SHE specification), over a store of 256 cells.
 //!
-//! It lies in a store of 256 cells, each empty (32 zero bytes) or an entry:
-//!
-//! | Bytes | What stands there |
-//! |---|---|
-//! | 0 | 3 |
-//! | 1 to 15 | the unit's UID, not all zero |
-//! | 16 | the slot, 1 to 13 |
-//! | 17 to 20 | the counter that was issued last, big-endian, 1 to 2^28 - 1 |
-//! | 21 | 0 where it was issued, 1 where it was confirmed |
-//! | 22 to 31 | zero |
-//!
-//! Each call's contract is a step of the machine of [`campaign_machine`] (a cut's where the disk tells bytes that fit
-//! the ledger): what the call answers stands for one line, and the ledger is then the machine's ledger after that line.
-//! An entry is put before its request is answered, so no counter is issued again after a power cut.
-//!
-//! Where the disk fails in a call, the ledger is down, and issues and confirms nothing until its power was cut and it
-//! came up. It remembers the one change that the call was to make: after the power-up that change is there whole or not
-//! at all.
-//!
-//! No call takes memory.
+//! It is attached exactly if each cell is empty or an entry and no two are of one unit and slot; else the
+//! lowest wrong cell is named. Cells tell entries one-to-one. Each call is a step of `campaign_machine` (a
+//! cut's if the disk tells fitting bytes). Refusals of an issue or a confirmation come exactly by their cause
+//! and leave all as before, except `Faulted`. `Faulted` comes only if the count rose, and Ok only if it
+//! didn't. After `Faulted` the ledger is down, with one change pending, until a power-up: it is then there
+//! whole or not at all. An entry is put before its request is answered. An issue or a confirmation makes at
+//! most six disk calls, a cut at most 68 and 256. A fitting disk stays so. No call takes memory.
 #![tactic(auto)]
 
 mod cell;

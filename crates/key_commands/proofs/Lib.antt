@@ -8,3 +8,4 @@ pub mod Rows
 pub mod Values
 pub mod Phases
 pub mod Promises
+pub mod CallerLemmas

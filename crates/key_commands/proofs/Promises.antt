@@ -13,7 +13,7 @@ use Rattle.answer_rows.specs.Endings.{CountsWriteFault, Ending, EndsIn, EndsInRo
 use Rattle.answer_rows.specs.EndingLaws.{EndsInRow-at, EndsInRow-more}
 use Rattle.key_loading.specs.Loads.{ComesInLoad, EndsLoad, IsRequestFault, LoadInputs, in_lines, in_row, no_requests_read, without_requests}
 use Rattle.key_loading.specs.Promises.{AnswersNone, EndsAtOne, OffersEngine, OffersRequests, RefusesStore, RunsLoad, StopsAtOne}
-use Rattle.key_loading.proofs.LoadPromises.{runs_load}
+use Rattle.key_loading.proofs.CallerLemmas.{runs_load}
 use Rattle.key_commands.specs.declared.subcommands.Subcommand.{Subcommand}
 use Rattle.key_commands.specs.declared.subcommands.Subcommand.TheVariants as subcommand
 use Rattle.key_commands.specs.declared.tasks.Task.{Task}

@@ -10,10 +10,10 @@ ghost use Rattle.key_commands.specs.declared.subcommands.Subcommand.TheVariants 
 use crate::image::Image;
 use crate::parsing::value_of;
 use crate::subcommands::Subcommand;
+use byte_lists::Block;
 use clap::ArgMatches;
 use key_slots::Flags;
 use memory_update::{Reply, Request, Uid, Update};
-use she_aes::Block;
 use std::alloc::Global;
 use text_lines::Memory;
 

@@ -6,10 +6,10 @@ ghost use Rattle.key_commands.specs.Texts.{mac_text as mac_line, request_text as
 ghost use Rattle.key_commands.specs.Texts.{update_text as update_lines, target_rows, content_rows};
 ghost use Rattle.key_commands.specs.Texts.{value_text as value_line};
 
+use byte_lists::Block;
 use hex::encode;
 use memory_update::{Request, Update};
 use secoc_words::texts::flags_text;
-use she_aes::Block;
 use std::alloc::{AllocError, Global};
 
 /// The line that names a value that isn't of its form.

@@ -9,12 +9,11 @@ use Rattle.cell_store.specs.declared.kinds.Probe.{Probe}
 use Rattle.cell_store.specs.declared.kinds.Probe.TheVariants as probe
 use Rattle.cell_store.specs.Layout.{layout, header, part, from_base}
 use Rattle.cell_store.specs.Store.{Probes}
-use Rattle.cell_store.proofs.StoreLaws.{header-number, header-kind, header-not_blank, length-header}
+use Rattle.cell_store.proofs.CallerLemmas.{header-number, header-kind, header-not_blank, length-header, failed_more}
 use Rattle.cut_disk.specs.State.{DiskState}
 use Rattle.cell_store.specs.declared.faults.StoreFault.{StoreFault}
 use Rattle.cell_store.specs.declared.faults.StoreFault.TheVariants as fault
 use Rattle.cell_store.specs.Attaching.{NotProbed}
-use Rattle.cell_store.proofs.ReadingLaws.{failed_more}
 use Rattle.key_loading.specs.Finding.{NotLooked, no_header, not_read}
 use Rattle.key_loading.specs.Counting.{HasStore, StoreThatCounts, counting_store, moved_up, not_moved, only_second, no_store}
 

@@ -11,7 +11,7 @@ use Rattle.cell_store.specs.declared.kinds.Version.{Version}
 use Rattle.cell_store.specs.declared.kinds.Version.TheVariants.{One, Two}
 use Rattle.cell_store.specs.Layout.{layout, part, base, from_base}
 use Rattle.cell_store.specs.Store.{HasHeader, Stands, store_size, FirstDamaged}
-use Rattle.cell_store.proofs.StoreLaws.{header-number, header-kind, length-header, stands_once, stands-whole}
+use Rattle.cell_store.proofs.CallerLemmas.{header-number, header-kind, length-header, stands_once, stands-whole}
 use Rattle.slot_disk.specs.Cell.{slot_cell, FirstBadSlot, HoldsSlot, HoldSlots}
 use Rattle.answer_rows.specs.Rows.{Row}
 use Rattle.key_loading.specs.declared.finding.CountingStore.{CountingStore}

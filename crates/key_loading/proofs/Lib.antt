@@ -7,3 +7,4 @@ pub mod SourceLaws
 pub mod EngineLaws
 pub mod AnsweredLaws
 pub mod LoadPromises
+pub mod CallerLemmas

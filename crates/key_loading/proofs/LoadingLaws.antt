@@ -15,7 +15,7 @@ use Rattle.cell_store.specs.declared.kinds.Layout.{Layout}
 use Rattle.cell_store.specs.Layout.{base}
 use Rattle.cell_store.specs.Store.{SameBesides, Stands, size_from_base}
 use Rattle.cell_store.specs.Cells.{CellsState, LeavesBesides, Settled, TellsCells}
-use Rattle.cell_store.proofs.LayoutLaws.{SameOutside-after, SameOutside-refl}
+use Rattle.cell_store.proofs.CallerLemmas.{SameOutside-after, SameOutside-refl}
 use Rattle.slot_disk.specs.Cell.{slot_cell}
 use Rattle.machine_runs.specs.Run.{Moment, Run, commands_in, lines_in}
 use Rattle.machine_runs.specs.RunLaws.{Run-split}

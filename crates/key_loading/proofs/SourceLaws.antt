@@ -10,7 +10,7 @@ use Rattle.text_lines.specs.declared.fault.Cause.{Cause}
 use Rattle.secoc_words.specs.Frames.{load_of, loads_of}
 use Rattle.text_lines.specs.Readings.{most_lines, at_line, limited, read_from}
 use Rattle.text_lines.specs.Lines.{TextLine, lines_of}
-use Rattle.text_lines.proofs.Results.{bind_ok, at_line_ok, limited_ok}
+use Rattle.text_lines.proofs.CallerLemmas.{bind_ok, at_line_ok, limited_ok}
 use Rattle.answer_rows.specs.Rows.{Row}
 use Rattle.answer_rows.specs.Inputs.{Reading, ReadsWhole}
 use Rattle.answer_rows.specs.InputLaws.{Lacks-whole}

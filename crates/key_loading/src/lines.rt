@@ -6,11 +6,11 @@ ghost use Rattle.key_loading.specs.declared.lines.LoadLine.TheVariants.{Loaded};
 ghost use Rattle.key_loading.specs.LoadTexts.{load_text, is_failed};
 
 use bus_port::Memory;
+use byte_lists::Block;
 use hex::encode;
 use key_slots::Erc;
 use memory_update::Reply;
 use numbered_run::{EndingText, LineText};
-use she_aes::Block;
 use std::alloc::{AllocError, Global};
 
 /// What came of a request.

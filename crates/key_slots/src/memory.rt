@@ -6,7 +6,7 @@ ghost use Rattle.key_slots.specs.Names.{shown_slot};
 ghost use Rattle.key_slots.specs.Slots.{IsSlot, IsSlots};
 
 use crate::numbers::{Counter28, SlotId};
-use she_aes::Block;
+use byte_lists::Block;
 use std::fmt;
 use std::marker::Model;
 

@@ -5,7 +5,7 @@ use Rattle.key_commands.specs.declared.subcommands.Subcommand.TheVariants.{Load}
 use Rattle.key_commands.specs.Subcommands.{NamesSubcommand}
 use Rattle.key_commands.specs.Rows.{KeyInputs}
 use Rattle.key_commands.specs.Keys.{Keys}
-use Rattle.key_commands.proofs.Engines.{load_named}
+use Rattle.key_commands.proofs.CallerLemmas.{load_named}
 
 pub load_alone : {S D : Type 0} (i : KeyInputs S D) (e : Ending) → Keys i e → (e.status ≡ 4) ⊎ (e.status ≡ 5) ⊎ (8 ≤ e.status)
     → NamesSubcommand i.words Load

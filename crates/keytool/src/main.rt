@@ -1,10 +1,8 @@
-//! `keytool`: makes the messages of a key update (SHE specification, memory update protocol), reads them, and checks
-//! the engine's answer; loads them into the engine of a store on a file; and makes the boot MAC of an image (SHE
-//! specification, secure booting).
-//!
-//! [`run_key`] is the program; its clauses say what each status means and what is printed. This file makes the objects
-//! that it works on: standard output, standard input, and for `load` a disk over the file that the word behind it
-//! names. Without words behind its name the program runs an example.
+//! `keytool`: makes, reads, checks and loads key updates, and makes boot MACs (SHE specification, memory
+//! update protocol, secure booting). [`run_key`] is the program. `run_words` promises its record of the
+//! arguments (`words`), or of the example if there are none (`example`), over the source of requests and the
+//! one disk that the word after `load` opens, which is handed back. Other words open none. If there is no
+//! memory for the disk: 7, and nothing was read or written (`WantsFile`).
 #![tactic(auto)]
 
 ghost use Rattle.std.specs.Prelude.{◌≡◌, ◌⊎◌, ◌<◌, ◌≤◌, [], drop, length, map as each, string_bytes, codes};

@@ -16,15 +16,15 @@ use Rattle.any_cells.specs.declared.looking.Found.{Found}
 use Rattle.any_cells.specs.declared.looking.Found.TheVariants.{Blank, Standing, Older, Foreign}
 use Rattle.any_cells.specs.Looking.{IsFound}
 use Rattle.any_cells.specs.Migrating.{StandsInTwo, Migrated}
-use Rattle.any_cells.proofs.LookingLaws.{found-once}
+use Rattle.any_cells.proofs.CallerLemmas.{found-once}
 use Rattle.freshness_routes.specs.Config.{Config}
 use Rattle.bus_machine.specs.Node.{Node, Kept, powered}
 use Rattle.bus_machine.specs.Steps.{PowersUp}
 use Rattle.bus_machine.specs.Bus.{node_at}
 use Rattle.bus_nodes.specs.declared.nodes.NodeLine.{NodeLine}
 use Rattle.bus_nodes.specs.Buses.{NamedBus}
-use Rattle.secoc_node.proofs.FitsLaws.{FoundCells, told_before}
-use Rattle.bus_world.proofs.FoundLaws.{counted_once}
+use Rattle.secoc_node.proofs.CallerLemmas.{FoundCells, told_before}
+use Rattle.bus_world.proofs.CallerLemmas.{counted_once}
 use Rattle.bus_world.specs.declared.start.Start.TheVariants.{Attach}
 use Rattle.bus_world.specs.declared.start.StartFault.{StartFault}
 use Rattle.bus_world.specs.declared.start.StartFault.TheVariants as start_fault

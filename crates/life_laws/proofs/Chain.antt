@@ -4,7 +4,7 @@ use Rattle.std.proofs.Common.{refl, ◌∙◌, ap, subst, arith}
 use Rattle.machine_runs.specs.Run.{Run}
 use Rattle.bus_machine.specs.Bus.{World, node_of, Instant, Moments, Step}
 use Rattle.bus_machine.specs.Freshness.{AcceptedRises, Rising, SentRises, Single}
-use Rattle.bus_laws.proofs.Lists.{AllPairs-Pairwise}
+use Rattle.bus_laws.proofs.CallerLemmas.{AllPairs-Pairwise}
 use Rattle.bus_nodes.specs.declared.nodes.NodeLine.{NodeLine}
 use Rattle.bus_nodes.specs.Buses.{NamedBus}
 use Rattle.bus_world.specs.declared.start.Start.TheVariants.{Attach}

@@ -12,13 +12,9 @@ use Rattle.bus_machine.specs.Sound.{Sound}
 use Rattle.bus_machine.specs.Steps.{Act, loads, keys, PowersUp, NodeStep}
 use Rattle.bus_machine.specs.Bus.{World, node_of, Instant, act_of, Step, node_at, SoundBus}
 use Rattle.bus_machine.specs.KeysKept.{slot_in, IsTaken, Acknowledges, FailsUpdate, GoesOn, StaysOrRenews}
-use Rattle.bus_laws.proofs.SoundSteps.{pending_forward}
-use Rattle.bus_laws.proofs.Effects.{Effect, effect_of, stays, sent, accepted, took, decided, faulted, powers, refused, routed, send_routed}
-use Rattle.bus_laws.proofs.Growth.{Renews}
-use Rattle.bus_laws.proofs.BusSteps.{step_at, other_at}
-use Rattle.bus_laws.proofs.Pending.{None≢Some, pending_step}
-use Rattle.bus_laws.proofs.Keys.{KeysKept-run, SettledSlotsStay-run}
-use Rattle.bus_laws.proofs.Lists.{Pairwise, Each-map, AllPairs-Pairwise}
+use Rattle.bus_laws.proofs.CallerLemmas.{pending_forward, Effect, effect_of, stays, sent, accepted, took, decided, faulted, powers, refused, routed}
+use Rattle.bus_laws.proofs.CallerLemmas.{send_routed, Renews, step_at, other_at, None≢Some, pending_step, KeysKept-run, SettledSlotsStay-run}
+use Rattle.bus_laws.proofs.CallerLemmas.{Pairwise, Each-map, AllPairs-Pairwise}
 use Rattle.life_laws.specs.Lives.{Stage, life_begins, moment_passes, world_at, world_behind, AtSomeStage, SlotsOutlast, RenewsSlot, HoldsLatest, UpdatesOutlast}
 use Rattle.life_laws.proofs.Stages.{StagesFrom, stage_sound, stage_grows, GrowsInto, each_grown, ChainFrom, Chained, chain_rest, chain_front, chain_behind}
 

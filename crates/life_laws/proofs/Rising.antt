@@ -10,10 +10,8 @@ use Rattle.bus_machine.specs.Node.{Node, place_of, place_in, HasRoute, counter_a
 use Rattle.bus_machine.specs.Bus.{World, node_of, Instant, Moments, Step, node_at, SoundBus}
 use Rattle.bus_machine.specs.Freshness.{Tells, AcceptedRises, Rising, SentRises, Single, Covered}
 use Rattle.bus_laws.specs.Laws.{OneSender}
-use Rattle.bus_laws.proofs.Growth.{Grows}
-use Rattle.bus_laws.proofs.BusSteps.{step_at}
-use Rattle.bus_laws.proofs.Lists.{Each, Pairwise, Each-map, Pairwise-map, AllPairs-Pairwise}
-use Rattle.bus_laws.proofs.Rising.{Above, AboveAt, After, SenderIn, all_above, AllCovered-run}
+use Rattle.bus_laws.proofs.CallerLemmas.{Grows, step_at, Each, Pairwise, Each-map, Pairwise-map, AllPairs-Pairwise, Above, AboveAt, After, SenderIn}
+use Rattle.bus_laws.proofs.CallerLemmas.{all_above, AllCovered-run}
 use Rattle.life_laws.specs.Lives.{Stage, life_begins, moment_passes}
 use Rattle.life_laws.proofs.Stages.{StagesFrom, GrowsInto, stage_sound, stage_grows}
 

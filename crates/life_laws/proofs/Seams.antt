@@ -12,11 +12,11 @@ use Rattle.cell_store.specs.declared.kinds.Version.TheVariants.{One, Two}
 use Rattle.cell_store.specs.Layout.{layout}
 use Rattle.cell_store.specs.Store.{HasHeader, Stands}
 use Rattle.cell_store.specs.Moving.{CountsAs, StandsAsCounted}
-use Rattle.cell_store.proofs.StoreLaws.{header-not_blank}
+use Rattle.cell_store.proofs.CallerLemmas.{header-not_blank}
 use Rattle.any_cells.specs.declared.looking.Found.{Found}
 use Rattle.any_cells.specs.declared.looking.Found.TheVariants.{Blank, Standing, Older, Foreign}
 use Rattle.any_cells.specs.Looking.{IsBlank, IsFound}
-use Rattle.any_cells.proofs.LookingLaws.{found-once}
+use Rattle.any_cells.proofs.CallerLemmas.{found-once}
 use Rattle.store_runs.specs.Keeping.{MayKeep}
 use Rattle.freshness_routes.specs.Config.{Config}
 use Rattle.bus_machine.specs.Node.{Node, Kept, Change, changed, powered}
@@ -25,15 +25,12 @@ use Rattle.bus_machine.specs.Steps.{PowersUp}
 use Rattle.bus_machine.specs.Bus.{World, First, node_at, no_config, SoundBus}
 use Rattle.bus_nodes.specs.declared.nodes.NodeLine.{NodeLine}
 use Rattle.bus_nodes.specs.Buses.{NamedBus, configs_of}
-use Rattle.bus_laws.proofs.SoundSteps.{pending_forward}
-use Rattle.bus_laws.proofs.BusSteps.{first_at, Grows-run, Sound-run, as_many_run}
+use Rattle.bus_laws.proofs.CallerLemmas.{pending_forward, first_at, Grows-run, Sound-run, as_many_run}
 use Rattle.secoc_node.specs.Cells.{CellsOf}
 use Rattle.secoc_node.specs.Fits.{node_keeping, FitsNode}
-use Rattle.secoc_node.proofs.CellsLaws.{length-CellsOf}
-use Rattle.secoc_node.proofs.KeptLaws.{kept_of_sound, kept_changed, kept_once}
-use Rattle.secoc_node.proofs.FitsLaws.{FoundCells}
-use Rattle.bus_world.proofs.FoundLaws.{standing_not_blank, standing_not_older, standing_not_foreign}
-use Rattle.bus_world.proofs.FoundLaws.{older_not_blank, older_not_foreign, blank_not_foreign, older_one, counted_once}
+use Rattle.secoc_node.proofs.CallerLemmas.{length-CellsOf, kept_of_sound, kept_changed, kept_once, FoundCells}
+use Rattle.bus_world.proofs.CallerLemmas.{standing_not_blank, standing_not_older, standing_not_foreign, older_not_blank, older_not_foreign}
+use Rattle.bus_world.proofs.CallerLemmas.{blank_not_foreign, older_one, counted_once}
 use Rattle.bus_world.specs.declared.start.Start.TheVariants.{Attach}
 use Rattle.bus_world.specs.TakingUp.{cells_in, HasNodeStore, KeptOn, FailedOver, LeavesDisk}
 use Rattle.bus_world.specs.Starts.{StartsOver}

@@ -4,10 +4,7 @@ use Rattle.std.proofs.Common.{◌∙◌, arith}
 use Rattle.bus_machine.specs.declared.lines.Line.TheVariants.{Up}
 use Rattle.bus_machine.specs.Steps.{cuts, PowersUp}
 use Rattle.bus_machine.specs.Bus.{World, Step, SoundBus, node_at}
-use Rattle.bus_laws.proofs.SoundSteps.{Sound-step}
-use Rattle.bus_laws.proofs.Growth.{Grows, Grows-step, Grows-on}
-use Rattle.bus_laws.proofs.BusSteps.{Sound-bus, Grows-bus, as_many}
-use Rattle.bus_laws.proofs.Lists.{Each, Each-map}
+use Rattle.bus_laws.proofs.CallerLemmas.{Sound-step, Grows, Grows-step, Grows-on, Sound-bus, Grows-bus, as_many, Each, Each-map}
 use Rattle.life_laws.specs.Lives.{Stage, life_begins, moment_passes, world_at, world_behind}
 
 -- every node powers up, and a life begins

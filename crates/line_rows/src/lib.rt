@@ -1,4 +1,5 @@
-//! The rows of lines that are refused: 4, and the text that names the line and the cause.
+//! The rows of lines that are refused: 4, and the text that names the line and the cause of its fault,
+//! exactly.
 #![tactic(auto)]
 
 ghost use Rattle.line_rows.specs.LineRows.{IsRowOf};

@@ -13,7 +13,7 @@ use Rattle.trace_audit.specs.declared.auditing.Tally.{Tally}
 use Rattle.trace_audit.specs.declared.auditing.Tally.TheVariants as tally
 use Rattle.trace_audit.specs.Auditing.{Finding, other, finding_text, tally_of, is_other, is_other_tally, finding_accepts, first_counters, counter_of_place}
 use Rattle.trace_audit.specs.Findings.{AddsFinding}
-use Rattle.trace_audit.proofs.Audited.{AuditsLine-same, other_as}
+use Rattle.trace_audit.proofs.CallerLemmas.{AuditsLine-same, other_as}
 use Rattle.log_watch.specs.Watching.{line_limit, in_64_bits, log_lines, WatchesLine, WatchesEach, none, more, FindsAll, found_text, count_line, numbers_text, is_accepted_tally, is_failed_tally, accepted_in, failed_in}
 use Rattle.log_watch.specs.States.{WatchState, Watched, FindsMore, JudgesLine, tally_found, counts_as, counts_text}
 use Rattle.log_watch.proofs.Cutting.{HasNoFeed, one_line, cut_more, take_twice, kept_whole, kept_long, one_more_line}

@@ -8,14 +8,11 @@ use Rattle.secured_pdu.specs.Frame.{IsWindow}
 use Rattle.text_lines.specs.Forms.{number_form}
 use Rattle.text_lines.specs.Lines.{lines_of, words_of, is_skipped}
 use Rattle.text_lines.specs.Readings.{nth_word}
-use Rattle.text_lines.proofs.Numbers.{number_in_range}
-use Rattle.text_lines.proofs.Results.{counted_ok}
-use Rattle.text_lines.proofs.Sizes.{All-read_from}
+use Rattle.text_lines.proofs.CallerLemmas.{number_in_range, counted_ok, All-read_from}
 use Rattle.trace_audit.specs.declared.map_lines.MapLine.{MapLine}
 use Rattle.trace_audit.specs.MapLines.{line_with, most_map_lines}
 use Rattle.trace_audit.specs.Auditing.{Finding, counter_of_place}
-use Rattle.trace_audit.proofs.Windows.{HaveWindows, line_with-window}
-use Rattle.trace_audit.proofs.OneFinding.{same_finding}
+use Rattle.trace_audit.proofs.CallerLemmas.{HaveWindows, line_with-window, same_finding}
 use Rattle.log_watch.specs.WatchMaps.{own_channel, own_window, reached_can_form, watch_line_of, watch_map_of}
 use Rattle.log_watch.specs.Watching.{in_64_bits, WatchesLine, WatchesEach, none, more}
 

@@ -6,7 +6,7 @@ use Rattle.counting_receiver.specs.Counting as counting
 use Rattle.counting_receiver.specs.CountingLaws.{KeepsCounters-rise}
 use Rattle.trace_audit.specs.declared.map_lines.MapLine.{MapLine}
 use Rattle.trace_audit.specs.Auditing.{Finding, other, finding_accepts, first_counters, counter_of_place}
-use Rattle.trace_audit.proofs.Rising.{Keeps, keeps_one, above}
+use Rattle.trace_audit.proofs.CallerLemmas.{Keeps, keeps_one, above}
 use Rattle.log_watch.specs.Watching.{in_64_bits, WatchesLine, WatchesEach, none, more}
 
 -- what is found of one more line

@@ -1,10 +1,11 @@
-//! Whether a bus is authentic and live, from a log of any length (AUTOSAR SecOC, profile 1). A log as `candump` of
-//! can-utils writes it is read piece by piece together with a map, and each complete line is answered before the log is
-//! read again.
+//! Whether a bus is authentic and live, from a log of any length (AUTOSAR SecOC, profile 1).
 //!
-//! [`Watch`] is the state between two pieces, which takes no memory once it is made; [`run_watch`] watches the source
-//! of a log, and [`watch_words`] the one that the words of a command line name. Their clauses say what each status
-//! means and what is printed.
+//! [`Watch`] is the state between two pieces of a log, of at most 4,096 bytes. It speaks of the bytes that
+//! came and not of the pieces. `take` is never out of memory, and `finish` takes the last line and gives the
+//! numbers and the status. At most one list of findings is found of a log (law `one_watch_holds`; each map
+//! has the windows that it asks for: `watched_lines_have_windows`). [`run_watch`] answers each complete line
+//! before it reads on, with the record `Watches`; [`watch_words`] does so over the sources that the arguments
+//! name.
 #![tactic(auto)]
 
 pub mod laws;

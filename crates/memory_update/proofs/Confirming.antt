@@ -5,7 +5,7 @@ use Rattle.byte_lists.specs.Numbers.{number_of, bytes_of}
 use Rattle.byte_lists.specs.NumberLaws.{IsBytes-bytes_of, same_number}
 use Rattle.she_aes.specs.Cipher.{IsBlock, enc, dec}
 use Rattle.she_aes.specs.CipherFacts.{IsBlock-enc}
-use Rattle.she_aes.proofs.Undoing.{dec-enc}
+use Rattle.she_aes.proofs.CallerLemmas.{dec-enc}
 use Rattle.she_kdf.specs.Derivation.{kdf}
 use Rattle.she_kdf.specs.DerivationLaws.{IsBlock-kdf}
 use Rattle.she_kdf.specs.declared.Constant.TheVariants.{Enc, Mac}

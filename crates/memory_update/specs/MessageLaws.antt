@@ -11,11 +11,11 @@ use Rattle.byte_lists.specs.NumberLaws.{number_of-append, bytes_of-append}
 use Rattle.key_slots.specs.declared.memory.Flags.{Flags}
 use Rattle.key_slots.specs.Flags.{flags_number, flags_from}
 use Rattle.key_slots.specs.FlagsLaws.{flags_number-lt, flags_from-number, flags_number-from}
-use Rattle.she_aes.specs.Cipher.{IsBlock, zero_block}
+use Rattle.byte_lists.specs.Blocks.{IsBlock, zero_block}
 use Rattle.she_aes.specs.CipherFacts.{IsBlock-zero_block}
 use Rattle.she_aes.specs.Modes.{cbc, cbc_inverse}
 use Rattle.she_aes.specs.ModeLaws.{length-cbc, All-cbc, length-cbc_inverse, All-cbc_inverse}
-use Rattle.she_aes.proofs.ModesUndone.{cbc_inverse-cbc, cbc-cbc_inverse}
+use Rattle.she_aes.proofs.CallerLemmas.{cbc_inverse-cbc, cbc-cbc_inverse}
 use Rattle.she_kdf.specs.Derivation.{kdf}
 use Rattle.she_kdf.specs.DerivationLaws.{IsBlock-kdf}
 use Rattle.she_kdf.specs.declared.Constant.TheVariants.{Enc, Mac}

@@ -1,6 +1,6 @@
 //! Laws of the messages and of loading: each function has an empty body, and its contract is the law.
 ghost use Rattle.std.specs.Prelude.{◌≡◌, ◌≢◌, ◌<◌, ℕ, Bool, List, replicate, Result, Ok, None};
-ghost use Rattle.she_aes.specs.Cipher.{IsBlock};
+ghost use Rattle.byte_lists.specs.Blocks.{IsBlock};
 ghost use Rattle.key_slots.specs.declared.memory.Slot.{Slot};
 ghost use Rattle.key_slots.specs.declared.refusals.Erc.{Erc};
 ghost use Rattle.key_slots.specs.Slots.{slot_at, counter_of, IsSlots};

@@ -1,6 +1,6 @@
 //! The request M1, M2, M3: made, and read again.
 ghost use Rattle.std.specs.Prelude.{◌≡◌, ◌≢◌, ◌↔◌, Some, Ok, Err, IsSome, IfSome, IfOk, All, length};
-ghost use Rattle.she_aes.specs.Cipher.{IsBlock};
+ghost use Rattle.byte_lists.specs.Blocks.{IsBlock};
 ghost use Rattle.memory_update.specs.Messages.{request_mac, update_in, Builds, Carries, HasSlots, HeadOf};
 ghost use Rattle.memory_update.specs.declared.messages.Head.{Head};
 ghost use Rattle.memory_update.specs.declared.messages.Update.{Update};

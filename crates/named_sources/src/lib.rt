@@ -1,8 +1,10 @@
-//! The sources that the words of a command line name, whoever opens them.
+//! The sources that the arguments of a command line name, whoever opens them.
 //!
-//! What a file of the outside holds is known to no proof, and so a contract over files alone can't say that the
-//! source of one word isn't that of another. A call that takes any [`Opener`] is proved for every one of them: its
-//! contract names, for each source, the word that it was opened by. [`Paths`] is the opener of a program.
+//! No proof knows what a file holds. So a call takes any [`Opener`]: its contract names, for each source, the
+//! word that it was opened by. `-` names the input as it was handed in, and any other word what the opener
+//! opens for it. Of two dashes the second is a missing source: it tells nothing, nothing came from it, it
+//! counted no fault, and each read fails. [`Paths`] is a program's opener: nothing came yet from what it
+//! opens. Which file that is, is tested.
 #![tactic(auto)]
 
 mod missing;

@@ -5,6 +5,7 @@ ghost use Rattle.any_cells.specs.Either.{any_state};
 
 use crate::comparing::{holds, same};
 use any_cells::AnyCells;
+use byte_lists::Block;
 use cell_store::{Cells, CutCells, Kind, Version};
 use cut_disk::{MemDisk, Torn};
 use freshness_manager::{Direction, NodeConfig, Route};
@@ -12,7 +13,6 @@ use key_slots::{Counter28, Flags, SlotId};
 use memory_update::{Request, Uid, Update, build};
 use secoc_node::{Node, NodeFault, first_cells};
 use secoc_receiver::Reception;
-use she_aes::Block;
 use std::alloc::Global;
 use std::process::Abort;
 use std::test::Fail;

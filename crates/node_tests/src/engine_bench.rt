@@ -4,12 +4,12 @@ ghost use Rattle.cell_store.specs.Store.{FewCells};
 ghost use Rattle.any_cells.specs.Either.{any_state};
 
 use any_cells::AnyCells;
+use byte_lists::Block;
 use cell_store::{Kind, Version};
 use cut_disk::MemDisk;
 use freshness_routes::Direction;
 use freshness_store::bound_bytes;
 use key_slots::{Counter28, Flags, Slot, SlotId};
-use she_aes::Block;
 use slot_disk::slot_bytes;
 use std::alloc::Global;
 use std::test::Fail;

@@ -1,6 +1,7 @@
-//! Tests of slots in cells, of counters, of the engine, of one send and one verdict (over `engine_bench`), and of
-//! nodes, each a table of what is done to a node and of what it answers, played over each store (over `bench`). There
-//! is nothing else here: a crate of tests over several libraries has none of them proved a second time.
+//! Tests of slots in cells, of counters, of the engine, of one send and one verdict (over `engine_bench`),
+//! and of nodes: each a table of what is done to a node and what it answers, played over each store (over
+//! `bench`). There is nothing else here: a crate of tests over several libraries has none of them proved a
+//! second time.
 #![tactic(auto)]
 
 #[cfg(test)]

@@ -1,16 +1,12 @@
 //! One driver for numbered runs.
 //!
-//! A [`Machine`] is given a list of commands, does them one after another, and tells a line for each,
-//! whose number is the command's, from 1. [`drive`] hands each line to a [`Consumer`] before the next
-//! command is done, and ends at the first line that is refused. Three consumers stand here:
-//!
-//! - [`print_run`] writes the text of each line to a sink as it is told;
-//! - [`print_run_until_last`] does so too, and ends at a line that is the last by itself;
-//! - [`count_run`] counts the lines into a value, and refuses none.
-//!
-//! So whatever fails in the middle, what was done is a run of the machine over the first of the
-//! commands, and the sink has the texts of its lines, the last maybe in part. [`status_of_run`] is the
-//! status of a program whose lines [`print_run`] wrote.
+//! [`drive`] gives a [`Machine`] its commands one by one. It hands each line, numbered from 1, to a
+//! [`Consumer`] before the next command is done, and ends at the first line that is refused. Whatever the
+//! sink or the memory does, what was done is a run of the machine over the first commands, one line a
+//! command. [`print_run`] writes the texts to a sink: all of them, or of the last a prefix if the sink's
+//! count rose, or nothing if memory was out. [`print_run_until_last`] also ends at a line that is the last by
+//! itself. [`count_run`] refuses none, and counts all. [`status_of_run`] gives 0 if all was written, 6 if the
+//! sink failed, 7 if memory was out.
 #![tactic(auto)]
 
 mod counting;

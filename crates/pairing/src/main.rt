@@ -1,8 +1,8 @@
-//! `pairing`: Secured PDU collections (AUTOSAR SecOC, profile 1): authentic and cryptographic PDUs that arrive apart
-//! are joined and judged, and made from payloads.
+//! `pairing`: Secured PDU collections (AUTOSAR SecOC, profile 1), joined, judged, and made from payloads.
 //!
-//! [`pdu_collection::pair_words`] is the program; its clauses say what each status means and what is printed. Here it
-//! is handed the words, the files, standard input and standard output.
+//! [`pdu_collection::pair_words`] is the program, with the record `RunsPairs`. `start` promises it of the
+//! arguments (`words`), and hands the source back as the run left it; without arguments of the example
+//! (`example`).
 #![tactic(auto)]
 
 ghost use Rattle.std.specs.Prelude.{◌≡◌, ◌<◌, ◌≤◌, drop, length, map, string_bytes};

@@ -6,8 +6,7 @@ ghost use Rattle.pdu_collection.specs.PairLines.{secured_of, pair_entry_of, pair
 ghost use Rattle.pdu_collection.specs.Receiving.{IsPairScript};
 
 use crate::linker::Linker;
-use byte_lists::Bytes;
-use she_aes::Block;
+use byte_lists::{Block, Bytes};
 use std::alloc::Global;
 use text_lines::reader::{LineReader, MOST_LINES, expect_count, read_lines, value_at};
 use text_lines::words::Words;

@@ -8,8 +8,7 @@ use Rattle.cell_store.specs.declared.kinds.Version.TheVariants.{One}
 use Rattle.cell_store.specs.Layout.{part, header, twin_layout}
 use Rattle.cell_store.specs.Twin.{twin_size, first_at, second_at, cell_of, cell_at}
 use Rattle.cell_store.specs.Store.{Stands}
-use Rattle.cell_store.proofs.BankLaws.{part-part}
-use Rattle.cell_store.proofs.KeptLaws.{stands-held, held-stands}
+use Rattle.cell_store.proofs.CallerLemmas.{part-part, stands-held, held-stands}
 use Rattle.rathonsi_c.specs.Stores.{IsWhole}
 
 -- a part of the front of a list

@@ -6,11 +6,11 @@ use Rattle.key_slots.specs.declared.memory.Slot.{Slot}
 use Rattle.key_slots.specs.Slots.{slot_at}
 use Rattle.key_slots.specs.SlotsLaws.{IsSlot-slot_at}
 use Rattle.slot_disk.specs.Cell.{HoldsSlot, slot_cell}
-use Rattle.slot_disk.proofs.CellLaws.{one_slot}
+use Rattle.slot_disk.proofs.CallerLemmas.{one_slot}
 use Rattle.freshness_routes.specs.declared.routes.Direction.{Direction}
 use Rattle.freshness_routes.specs.declared.routes.Direction.TheVariants.{Sends, Receives}
 use Rattle.freshness_store.specs.Bound.{direction_number, bound_cell, HoldsBound}
-use Rattle.freshness_store.proofs.CellLaws.{one_bound}
+use Rattle.freshness_store.proofs.CallerLemmas.{one_bound}
 use Rattle.rathonsi_c.specs.declared.route.RathonsiRoute.{RathonsiRoute}
 use Rattle.rathonsi_c.specs.Images.{ImageBound, ImageSlot, ImageSlots}
 use Rattle.rathonsi_c.specs.Routes.{InRanges}

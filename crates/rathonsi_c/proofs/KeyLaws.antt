@@ -12,8 +12,7 @@ use Rattle.memory_update.specs.declared.messages.Update.{Update}
 use Rattle.freshness_store.specs.Bound.{bound_cell}
 use Rattle.store_plan.specs.declared.planning.Plan.{Plan}
 use Rattle.store_plan.specs.Plans.{PlansPut, CutWithin, IsEmptyPlan, applied}
-use Rattle.store_plan.proofs.GatedLaws.{applied-cell, applied-others, applied-length}
-use Rattle.store_plan.proofs.CutLaws.{cut-cell, cut-others, cut-length, cut-none, applied-none}
+use Rattle.store_plan.proofs.CallerLemmas.{applied-cell, applied-others, applied-length, cut-cell, cut-others, cut-length, cut-none, applied-none}
 use Rattle.rathonsi_c.specs.Images.{ImageSlot}
 use Rattle.rathonsi_c.specs.Routes.{wanted}
 use Rattle.rathonsi_c.specs.Slots.{ConfirmsSlot}

@@ -5,8 +5,7 @@ use Rattle.freshness_routes.specs.declared.routes.Direction.{Direction}
 use Rattle.freshness_store.specs.Bound.{bound_cell}
 use Rattle.store_plan.specs.declared.planning.Plan.{Plan}
 use Rattle.store_plan.specs.Plans.{PlansPut, CutWithin, IsEmptyPlan, applied}
-use Rattle.store_plan.proofs.GatedLaws.{applied-cell, applied-others, applied-length}
-use Rattle.store_plan.proofs.CutLaws.{cut-cell, cut-others, cut-length, cut-none, applied-none}
+use Rattle.store_plan.proofs.CallerLemmas.{applied-cell, applied-others, applied-length, cut-cell, cut-others, cut-length, cut-none, applied-none}
 use Rattle.rathonsi_c.specs.declared.route.RathonsiRoute.{RathonsiRoute}
 use Rattle.rathonsi_c.specs.Images.{ImageBound}
 use Rattle.rathonsi_c.specs.Routes.{InRanges, at_counter, wanted, Opens, RouteAdvances, Reserves}

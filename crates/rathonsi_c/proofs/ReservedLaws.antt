@@ -15,7 +15,7 @@ use Rattle.secured_pdu.specs.Verdict.{Outcome, Verdict, Accepted, FreshnessFailu
 use Rattle.secured_pdu.specs.VerdictLaws.{same_from_Verdict}
 use Rattle.store_plan.specs.declared.planning.Plan.{Plan}
 use Rattle.store_plan.specs.Plans.{PlansPut, applied}
-use Rattle.store_plan.proofs.GatedLaws.{applied-cell, applied-others, applied-length}
+use Rattle.store_plan.proofs.CallerLemmas.{applied-cell, applied-others, applied-length}
 use Rattle.rathonsi_c.specs.declared.TheConstants.{OK, FRESHNESS_FAILURE, VERIFICATION_FAILURE, RESERVE}
 use Rattle.rathonsi_c.specs.declared.secoc.RathonsiVerdict.{RathonsiVerdict}
 use Rattle.rathonsi_c.specs.declared.route.RathonsiRoute.{RathonsiRoute}

@@ -8,8 +8,8 @@ use Rattle.slot_disk.specs.Cell.{slot_cell}
 use Rattle.freshness_store.specs.Bound.{bound_cell}
 use Rattle.store_plan.specs.declared.planning.Plan.{Plan}
 use Rattle.store_plan.specs.Plans.{PlansPut, CutWithin, IsEmptyPlan, applied}
-use Rattle.store_plan.proofs.GatedLaws.{applied-cell, applied-others, applied-length, applied-head}
-use Rattle.store_plan.proofs.CutLaws.{cut-cell, cut-others, cut-length, cut-head, cut-none, applied-none}
+use Rattle.store_plan.proofs.CallerLemmas.{applied-cell, applied-others, applied-length, applied-head, cut-cell, cut-others, cut-length, cut-head}
+use Rattle.store_plan.proofs.CallerLemmas.{cut-none, applied-none}
 use Rattle.rathonsi_c.specs.Routes.{wanted}
 use Rattle.rathonsi_c.specs.Stores.{IsWhole}
 use Rattle.rathonsi_c.specs.Lives.{Memory, Deed, sends, accepts, opens, sets, reserves, loads, drops, finishes, powers_up, Lives, DoesDeed}

@@ -1,10 +1,10 @@
-//! The Secured I-PDU of AUTOSAR SecOC profile 1, AES-128, its CMAC and the key update of SHE, for programs in C;
-//! and the counters and key slots of a store over the caller's own device.
-//!
-//! Each export is a thin call of a proved library, and says its clauses again. Every one answers a status: [`OK`], or
-//! why it did nothing; it then has written nothing. A slice is a pointer and a length in bytes, an array of a fixed
-//! size a pointer alone. `include/rathonsi.h` and `include/rathonsi_store.h` declare them. Nothing here takes memory,
-//! keeps a state or calls back.
+//! The library for C: AES-128, its CMAC, the Secured I-PDU (AUTOSAR SecOC, profile 1), key updates (SHE), and
+//! counters and slots of a store over the caller's own device. Each export is a thin call of a proved
+//! library. It answers a status: [`OK`], or why it did nothing, and then nothing was written. A slice is a
+//! pointer and a length in bytes, and an array of a fixed size a pointer alone. `include/rathonsi.h` and
+//! `include/rathonsi_store.h` declare them, with what a caller owes. Nothing here takes memory, keeps a state
+//! or calls back. docs/guarantees.md has the promises: each status by its cause, and [`laws`] of all lives of
+//! a caller.
 #![tactic(auto)]
 
 mod aes;

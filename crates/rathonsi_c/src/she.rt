@@ -8,9 +8,9 @@ ghost use Rattle.rathonsi_c.specs.Updates.{IsSendable, IsConstant, as_update, as
 
 use crate::keys::key_of;
 use crate::{BAD_ID, BAD_LENGTH, BAD_MAC, BAD_VALUE, OK};
+use byte_lists::Block;
 use key_slots::{Counter28, Flags, SlotId};
 use memory_update::{Reply, Request, Uid, Unseal, Update, build, confirm_for, unseal};
-use she_aes::Block;
 use she_kdf::{Constant, derive};
 
 /// A key update: what is to be put into slot `id`, authorised by the key of slot `auth`.

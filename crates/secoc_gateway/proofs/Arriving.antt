@@ -14,13 +14,12 @@ use Rattle.bus_machine.specs.Node.{Node, no_route, HasRoute, place_of, place_in,
 use Rattle.bus_machine.specs.Steps.{sends, receives, when, first_of, has_length, has_route, key_refusal, send_refusal, NodeStep}
 use Rattle.bus_machine.specs.Bus.{SentLine}
 use Rattle.bus_machine.specs.Honest.{IsInTime, IsHeard}
-use Rattle.bus_laws.proofs.Effects.{routed}
-use Rattle.bus_laws.proofs.SoundSteps.{place_is, Receives≢Sends}
+use Rattle.bus_laws.proofs.CallerLemmas.{routed, place_is, Receives≢Sends}
 use Rattle.secoc_node.specs.declared.faults.NodeFault.{NodeFault}
 use Rattle.secoc_node.specs.declared.faults.NodeFault.TheVariants as fault
 use Rattle.secoc_node.specs.Lines.{refusal_of_fault}
 use Rattle.secoc_node.specs.State.{NodeState}
-use Rattle.gateway_machine.proofs.Forwarding.{SameKeys, accepted_keys, same_key}
+use Rattle.gateway_machine.proofs.CallerLemmas.{SameKeys, accepted_keys, same_key}
 use Rattle.secoc_gateway.specs.Arrivals.{IsReason, CanForward}
 
 -- ---- quiet disks

@@ -12,7 +12,7 @@ use Rattle.std.proofs.lemmas.Map.Steps.{length-le_from_distinct_below}
 use Rattle.freshness_routes.specs.declared.routes.Direction.TheVariants.{Receives}
 use Rattle.freshness_routes.specs.declared.routes.Route.{Route}
 use Rattle.bus_machine.specs.Node.{no_route, place_in}
-use Rattle.bus_laws.proofs.SoundSteps.{place_is}
+use Rattle.bus_laws.proofs.CallerLemmas.{place_is}
 use Rattle.secoc_gateway.specs.Pairs.{pair_in, IsGoodAt}
 
 -- the place of the route under which what a pair's first names arrives

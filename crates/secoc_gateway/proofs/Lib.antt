@@ -3,3 +3,4 @@ pub mod Arriving
 pub mod Paired
 pub mod Turning
 pub mod TurnLaws
+pub mod CallerLemmas

@@ -7,7 +7,7 @@ use Rattle.bus_machine.specs.declared.events.Event.TheVariants.{Inject}
 use Rattle.freshness_routes.specs.Config.{Config}
 use Rattle.bus_machine.specs.Node.{Node, HasRoute}
 use Rattle.bus_machine.specs.Bus.{act_of, silent_world}
-use Rattle.bus_laws.proofs.SoundSteps.{same_some, eq_of_test}
+use Rattle.bus_laws.proofs.CallerLemmas.{same_some, eq_of_test}
 use Rattle.secoc_node.specs.declared.faults.NodeFault.{NodeFault}
 use Rattle.gateway_machine.specs.declared.lines.GatewayLine.{GatewayLine}
 use Rattle.gateway_machine.specs.Gateway.{NodeSteps, second_of, PassesOn, StepUnder, GatewayStep, EventStep}
@@ -15,7 +15,7 @@ use Rattle.gateway_machine.specs.StepLaws.{PassesOn-keeps}
 use Rattle.secoc_gateway.specs.declared.arrival.Arrival.{Arrival}
 use Rattle.secoc_gateway.specs.Arrivals.{arrival_line}
 use Rattle.secoc_gateway.specs.Pairs.{pair_in, AreGood}
-use Rattle.bus_world.proofs.Turning.{step_config}
+use Rattle.bus_world.proofs.CallerLemmas.{step_config}
 
 -- ---- good pairs
 

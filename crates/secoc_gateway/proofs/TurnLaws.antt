@@ -18,14 +18,14 @@ use Rattle.bus_machine.specs.Past.{mark_of, cell_count}
 use Rattle.bus_machine.specs.Sound.{Sound}
 use Rattle.bus_machine.specs.Bus.{node_of, silent_world}
 use Rattle.bus_world.specs.Turns.{IsCertain, TellsFaults, LeavesAlone, LeavesCut, StaysBehind, most_calls}
-use Rattle.bus_world.proofs.StepLaws.{turn_fits}
+use Rattle.bus_world.proofs.CallerLemmas.{turn_fits}
 use Rattle.secoc_node.specs.State.{NodeState, FitsNow, TellsFitting}
 use Rattle.gateway_machine.specs.declared.lines.GatewayLine.{GatewayLine}
 use Rattle.gateway_machine.specs.declared.lines.GatewayLine.TheVariants.{Forwarded, Dropped, OfNode}
 use Rattle.gateway_machine.specs.Gateway.{departs_under, TellsDeparture, Departs, PassesOn, OneStep, StepUnder, GatewayStep, EventStep}
 use Rattle.gateway_machine.specs.StepLaws.{GatewayStep-keeps}
 use Rattle.gateway_machine.specs.PartLaws.{GatewayRun-parts}
-use Rattle.gateway_machine.proofs.Forwarding.{arriving}
+use Rattle.gateway_machine.proofs.CallerLemmas.{arriving}
 use Rattle.secoc_gateway.specs.State.{GatewayState, over}
 use Rattle.secoc_gateway.specs.Turns.{EventTurn, GatewayTurn, tells_gateway_failure, calls_under}
 use Rattle.secoc_gateway.specs.Laws.{TurnKeeps, GatewayTurnsAreOfTheNode}

@@ -1,8 +1,8 @@
 //! A gateway over a node.
 ghost use Rattle.std.specs.Prelude.{◌≡◌, ◌≢◌, ◌<◌, ◌≤◌, ◌+◌, ◌^◌, ◌∷◌, ◌↔◌, ℕ, [], List, length, drop, not, true};
 ghost use Rattle.std.specs.Prelude.{false, Some, None, Option, IsSome, IfOk, IfErr, OnOk, OnErr, IsErrOf, MatchOption};
-ghost use Rattle.cut_disk.specs.State.{Told, Cut, Stop, Fail};
-ghost use Rattle.cut_disk.specs.Arming.{with_stop, with_fail};
+ghost use Rattle.cut_disk.specs.State.{Told, Cut};
+ghost use Rattle.cut_disk.specs.Armed.{ArmsStop, ArmsFail};
 ghost use Rattle.cut_disk.specs.Calls.{Rose, Runs, Grows};
 ghost use Rattle.cut_disk.specs.Images.{CutsTo};
 ghost use Rattle.cell_store.specs.Reading.{NoStop, CutStays};
@@ -18,7 +18,7 @@ ghost use Rattle.bus_machine.specs.Steps.{receives, loads, keys, boots, cuts, No
 ghost use Rattle.bus_machine.specs.Bus.{SentLine};
 ghost use Rattle.bus_machine.specs.Honest.{IsInTime, IsHeard};
 ghost use Rattle.secoc_node.specs.Cells.{CellsOf};
-ghost use Rattle.secoc_node.specs.State.{FitsNow, TellsFitting, IsCovered};
+ghost use Rattle.secoc_node.specs.State.{FitsNow, TellsFitting, IsCovered, Served};
 ghost use Rattle.secoc_node.specs.Causes.{CutCause};
 ghost use Rattle.secoc_node.specs.Lines.{received_line, loaded_line, keyed_line, boot_line, cut_line};
 ghost use Rattle.secoc_node.specs.Lines.{IfAcceptedWith, IfLeftAlone};
@@ -197,16 +197,9 @@ impl<C: CutCells> Gateway<C> {
             → IsInTime self.old.node sent (place_of self.old.node id Receives) → sent.freshness < 2 ^ 64
             → IsHeard sent (received_line id pdu.now source result) }
         ensures untouched { IfLeftAlone result (self.new ≡ self.old) }
-        ensures down { IsErrOf result NodeFault.Down ↔ self.old.node.up ≡ false }
         ensures no_route { IsErrOf result NodeFault.NoRoute
             ↔ ((self.old.node.up ≡ true) × (¬ HasRoute self.old.node id Receives)) }
-        ensures faulted { IsErrOf result NodeFault.Faulted
-            → Rose self.old.store.disk.faults self.new.store.disk.faults }
-        ensures faults { OnOk result (self.new.store.disk.faults ≡ self.old.store.disk.faults) }
-        ensures layout { self.new.store.layout ≡ self.old.store.layout }
-        ensures runs { Runs [] 6 self.old.store.disk self.new.store.disk }
-        ensures fits { FitsNow (over self.old) → FitsNow (over self.new) }
-        ensures sound { Sound self.new.node }
+        ensures serves { Served (over self.old) (over self.new) result }
         ensures pairs { self.new.pairs ≡ self.old.pairs }
     {
         self.node.receive(id, pdu)
@@ -221,14 +214,7 @@ impl<C: CutCells> Gateway<C> {
         ensures keyed { (update : Update) (authkey : List ℕ) → Builds request.now authkey update
             → NodeStep self.old.node (keys update authkey) (keyed_line update.id result) self.new.node }
         ensures untouched { IfErr result (λ fault. fault ≢ NodeFault.Faulted → self.new ≡ self.old) }
-        ensures down { IsErrOf result NodeFault.Down ↔ self.old.node.up ≡ false }
-        ensures faulted { IsErrOf result NodeFault.Faulted
-            → Rose self.old.store.disk.faults self.new.store.disk.faults }
-        ensures faults { OnOk result (self.new.store.disk.faults ≡ self.old.store.disk.faults) }
-        ensures layout { self.new.store.layout ≡ self.old.store.layout }
-        ensures runs { Runs [] 6 self.old.store.disk self.new.store.disk }
-        ensures fits { FitsNow (over self.old) → FitsNow (over self.new) }
-        ensures sound { Sound self.new.node }
+        ensures serves { Served (over self.old) (over self.new) result }
         ensures pairs { self.new.pairs ≡ self.old.pairs }
     {
         self.node.load(request)
@@ -302,18 +288,10 @@ impl<C: CutCells> Gateway<C> {
     /// power is cut.
     pub fn stop_at(&mut self, calls: u64)
         requires { 1 ≤ calls }
-        ensures node { self.new.node ≡ self.old.node }
-        ensures cells { self.new.store.cells ≡ self.old.store.cells }
-        ensures broken { self.new.store.broken ≡ self.old.store.broken }
-        ensures told { self.new.store.disk.told ≡ self.old.store.disk.told }
-        ensures faults { self.new.store.disk.faults ≡ self.old.store.disk.faults }
-        ensures arms { self.new.store.disk.arms ≡ with_stop calls self.old.store.disk.arms }
-        ensures loud { self.new.store.disk.quiet ≡ false }
-        ensures layout { self.new.store.layout ≡ self.old.store.layout }
-        ensures runs { Runs (Stop calls ∷ []) 1 self.old.store.disk self.new.store.disk }
+        ensures rest { self.new ≡ record self.old { store = record self.old.store { disk = self.new.store.disk } } }
+        ensures arms { ArmsStop calls self.old.store.disk self.new.store.disk }
         ensures fits { FitsNow (over self.old) → FitsNow (over self.new) }
         ensures sound { Sound self.new.node }
-        ensures pairs { self.new.pairs ≡ self.old.pairs }
     {
         self.node.stop_at(calls);
     }
@@ -321,18 +299,10 @@ impl<C: CutCells> Gateway<C> {
     /// Passes on to the disk: the call of this number, 1 for the next, fails.
     pub fn fail_at(&mut self, calls: u64)
         requires { 1 ≤ calls }
-        ensures node { self.new.node ≡ self.old.node }
-        ensures cells { self.new.store.cells ≡ self.old.store.cells }
-        ensures broken { self.new.store.broken ≡ self.old.store.broken }
-        ensures told { self.new.store.disk.told ≡ self.old.store.disk.told }
-        ensures faults { self.new.store.disk.faults ≡ self.old.store.disk.faults }
-        ensures arms { self.new.store.disk.arms ≡ with_fail calls self.old.store.disk.arms }
-        ensures loud { self.new.store.disk.quiet ≡ false }
-        ensures layout { self.new.store.layout ≡ self.old.store.layout }
-        ensures runs { Runs (Fail calls ∷ []) 1 self.old.store.disk self.new.store.disk }
+        ensures rest { self.new ≡ record self.old { store = record self.old.store { disk = self.new.store.disk } } }
+        ensures arms { ArmsFail calls self.old.store.disk self.new.store.disk }
         ensures fits { FitsNow (over self.old) → FitsNow (over self.new) }
         ensures sound { Sound self.new.node }
-        ensures pairs { self.new.pairs ≡ self.old.pairs }
     {
         self.node.fail_at(calls);
     }

@@ -1,12 +1,11 @@
-//! A re-authenticating gateway over a node: it verifies each Secured I-PDU that arrives under the first Data ID of a
-//! pair, and sends its payload anew under the second, with that route's key and freshness (AUTOSAR SecOC, profile 1).
-//!
-//! The freshness of an arrival is in the store before its payload departs. That whatever a power cut leaves no
-//! freshness of one Data ID is forwarded twice, and what else holds over all its runs, are the laws of
-//! `gateway_machine`: [`Gateway::arrive`] is a step of that machine, [`Gateway::turn`] does an event of a script as
-//! one, over the turns of the node, and the other calls are the node's.
-//!
-//! No call takes memory.
+//! A re-authenticating gateway over a node (AUTOSAR SecOC, profile 1). It is made exactly if its pairs are
+//! good; else the lowest bad pair is named. [`Gateway::arrive`] is a step of `gateway_machine`: received, and
+//! if accepted sent on under the second Data ID, or dropped for `Key`, `Exhausted` or `Faulted` alone. Over a
+//! quiet disk, with usable keys and freshness left, an accepted payload is forwarded. What was accepted,
+//! forwarded or not, has its freshness covered by the bound in its cell, and so has what departed. If nothing
+//! was accepted and no disk call failed, all is as before. `Down` exactly while the node is down, `NoRoute`
+//! never, a fault exactly if the count rose. At most twelve disk calls. [`Gateway::turn`] does an event as
+//! turns of the node ([`laws`]). No call takes memory.
 #![tactic(auto)]
 
 mod arrival;

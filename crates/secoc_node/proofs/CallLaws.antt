@@ -19,14 +19,14 @@ use Rattle.bus_machine.specs.declared.lines.Line.TheVariants.{Loaded, Refused}
 use Rattle.bus_machine.specs.declared.lines.Refusal.TheVariants.{Key, MemoryFailure}
 use Rattle.bus_machine.specs.Node.{Node, slot_to}
 use Rattle.bus_machine.specs.Steps.{Act, loads, keys, TakesUpdate, NodeStep}
-use Rattle.bus_laws.proofs.SoundSteps.{Sound-step, takes_forward}
+use Rattle.bus_laws.proofs.CallerLemmas.{Sound-step, takes_forward}
 use Rattle.secoc_node.specs.declared.faults.NodeFault.{NodeFault}
 use Rattle.secoc_node.specs.declared.faults.NodeFault.TheVariants as fault
 use Rattle.secoc_node.specs.declared.known.Known.{Known}
 use Rattle.secoc_node.specs.Lines.{loaded_line, keyed_line}
 use Rattle.secoc_node.specs.State.{NodeState, FitsNow}
 use Rattle.secoc_node.specs.Keeping.{node_in, state_in, kept_in, IsNode, KeepsNode}
-use Rattle.secoc_node.proofs.Serving.{Served}
+use Rattle.secoc_node.proofs.Serving.{LeavesStore}
 use Rattle.secoc_node.proofs.CellsLaws.{CellsOf-slot, hold_slots}
 use Rattle.secoc_node.proofs.KeptLaws.{kept_of_sound}
 use Rattle.secoc_node.proofs.FitsLaws.{fits_put, fits_failed_put}
@@ -35,7 +35,7 @@ use Rattle.secoc_node.proofs.FitsLaws.{fits_put, fits_failed_put}
 pub record Done (known : Known) (store : CellsState) (act : Act) (line : Line) (after : Known) (left : CellsState) : Type 0 where
   pub node : IsNode after left
   pub step : NodeStep (node_in known) act line (node_in after)
-  pub served : Served (state_in known store) (state_in after left)
+  pub served : LeavesStore (state_in known store) (state_in after left)
 
 -- the answer isn't that the node is down, or has no such route
 abbrev pub PastRoute : {T : Type 0} → Result T NodeFault → Type 0
@@ -65,8 +65,8 @@ module _ {known : Known} {store : CellsState} {act : Act} {line : Line} {after :
   pub step_from : NodeStep old.node act line (node_in after)
   step_from = subst (λ (s : NodeState). NodeStep s.node act line (node_in after)) view done.step
 
-  pub served_from : Served old (state_in after left)
-  served_from = subst (λ (s : NodeState). Served s (state_in after left)) view done.served
+  pub served_from : LeavesStore old (state_in after left)
+  served_from = subst (λ (s : NodeState). LeavesStore s (state_in after left)) view done.served
 
 -- the disk tells what it told
 pub fits_told : (old new : NodeState) → new.node ≡ old.node → new.store.layout ≡ old.store.layout → new.store.disk.told ≡ old.store.disk.told → FitsNow old → FitsNow new

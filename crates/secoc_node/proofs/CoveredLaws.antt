@@ -10,7 +10,7 @@ use Rattle.freshness_store.specs.Bound.{bound_cell, HoldsBound}
 use Rattle.freshness_manager.specs.Counters.{KeepsBound}
 use Rattle.freshness_manager.specs.Changing.{MakesChange}
 use Rattle.bus_machine.specs.Node.{HasRoute, place_in, place_of}
-use Rattle.bus_laws.proofs.SoundSteps.{place_is, Receives≢Sends}
+use Rattle.bus_laws.proofs.CallerLemmas.{place_is, Receives≢Sends}
 use Rattle.secoc_node.specs.declared.counters.RouteCounter.{RouteCounter}
 use Rattle.secoc_node.specs.declared.known.Known.{Known}
 use Rattle.secoc_node.specs.Cells.{cell_in, route_in}

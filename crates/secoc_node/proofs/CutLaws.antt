@@ -10,7 +10,7 @@ use Rattle.bus_machine.specs.declared.lines.Line.TheVariants.{Refused}
 use Rattle.bus_machine.specs.declared.lines.Refusal.TheVariants.{MemoryFailure}
 use Rattle.bus_machine.specs.Node.{Node, Kept, Change, changed, powered, refused_up}
 use Rattle.bus_machine.specs.Steps.{cuts, NodeStep}
-use Rattle.bus_laws.proofs.SoundSteps.{Sound-step, pending_forward}
+use Rattle.bus_laws.proofs.CallerLemmas.{Sound-step, pending_forward}
 use Rattle.secoc_node.specs.declared.faults.CutFault.{CutFault}
 use Rattle.secoc_node.specs.declared.faults.CutFault.TheVariants as cut
 use Rattle.secoc_node.specs.declared.known.Known.{Known}

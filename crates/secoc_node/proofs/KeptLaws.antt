@@ -4,13 +4,13 @@ use Rattle.std.proofs.lemmas.List.{length-set, length-drop, take-append-drop, ge
 use Rattle.std.proofs.lemmas.List.Elements.{All-set}
 use Rattle.key_slots.specs.declared.memory.Slot.TheVariants.{Empty}
 use Rattle.slot_disk.specs.Cell.{slot_cell, HoldSlots, FirstBadSlot}
-use Rattle.slot_disk.proofs.CellLaws.{one_list}
+use Rattle.slot_disk.proofs.CallerLemmas.{one_list}
 use Rattle.freshness_routes.specs.Config.{Config, IsConfig}
 use Rattle.freshness_store.specs.Bound.{HoldsBound}
-use Rattle.freshness_store.proofs.CellLaws.{one_bound}
+use Rattle.freshness_store.proofs.CallerLemmas.{one_bound}
 use Rattle.bus_machine.specs.Node.{Node, Kept, Change, slot_to, bound_to, changed, no_route}
 use Rattle.bus_machine.specs.Sound.{Sound, MovesForward}
-use Rattle.bus_laws.proofs.SoundSteps.{IsSlots-set}
+use Rattle.bus_laws.proofs.CallerLemmas.{IsSlots-set}
 use Rattle.secoc_node.specs.Cells.{bound_cells, CellsOf, IsKept, cell_in, route_in, SlotsButNoBound}
 use Rattle.secoc_node.proofs.CellsLaws.{cell_of_route, length-bound_cells, get_or-bound_cells, hold_slots, cell_of_kept_slot, cell_of_kept_bound}
 

@@ -11,3 +11,4 @@ pub mod RouteLaws
 pub mod CoveredLaws
 pub mod SendLaws
 pub mod ReceiveLaws
+pub mod CallerLemmas

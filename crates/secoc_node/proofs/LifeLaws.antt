@@ -9,7 +9,7 @@ use Rattle.cell_store.specs.Cells.{CellsState}
 use Rattle.bus_machine.specs.Node.{Node, Kept, changed, powered}
 use Rattle.bus_machine.specs.Sound.{Sound}
 use Rattle.bus_machine.specs.Steps.{PowersUp}
-use Rattle.bus_laws.proofs.SoundSteps.{Sound-powered, pending_forward}
+use Rattle.bus_laws.proofs.CallerLemmas.{Sound-powered, pending_forward}
 use Rattle.secoc_node.specs.declared.counters.RouteCounter.{RouteCounter}
 use Rattle.secoc_node.specs.declared.known.Known.{Known}
 use Rattle.slot_disk.specs.Cell.{FirstBadSlot}

@@ -17,18 +17,18 @@ use Rattle.secoc_node.specs.Cells.{CellsOf, IsKept, route_in}
 use Rattle.secoc_node.specs.Counters.{freshness_in, bound_in, no_counter, counter_in, CountsRoute, CountRoutes}
 use Rattle.secoc_node.specs.State.{NodeState, FitsNow}
 use Rattle.secoc_node.specs.Keeping.{kept_in, KeepsNode}
-use Rattle.secoc_node.proofs.Serving.{Served}
+use Rattle.secoc_node.proofs.Serving.{LeavesStore}
 use Rattle.secoc_node.proofs.CellsLaws.{CellsOf-bound}
 use Rattle.secoc_node.proofs.FitsLaws.{fits_put, fits_failed_put}
 
-pub same_store : (old new : NodeState) → new.store ≡ old.store → (FitsNow old → FitsNow new) → Served old new
+pub same_store : (old new : NodeState) → new.store ≡ old.store → (FitsNow old → FitsNow new) → LeavesStore old new
 same_store old new same fits = record {
   layout = ap (λ (s : CellsState). s.layout) same;
   runs = subst (λ (s : CellsState). Runs [] 6 old.store.disk s.disk) (sym same) (runs_more 6 (omega arith) (runs_none old.store.disk));
   fits = fits;
 }
 
-pub served_same : (old new : NodeState) → new ≡ old → Served old new
+pub served_same : (old new : NodeState) → new ≡ old → LeavesStore old new
 served_same old new same = same_store old new (ap (λ (s : NodeState). s.store) same) (λ fits. subst FitsNow (sym same) fits)
 
 -- ---- the counter
@@ -84,7 +84,7 @@ module _ (old : NodeState) (k id : ℕ) (direction : Direction) (up : old.node.u
   }
 
   pub served_moved : (change : Option ℕ) (store : CellsState) (v : ℕ) → MakesChange (14 + k) id direction change old.store store
-      → Served old (record { node = with_counter (option_map (bound_to k) change) k v old.node; store = store })
+      → LeavesStore old (record { node = with_counter (option_map (bound_to k) change) k v old.node; store = store })
   served_moved None store v same =
       same_store old _ same (λ fitting. subst (λ s. FitsNow (record { node = with_counter None k v old.node; store = s })) (sym same)
       (λ told at. let f = fitting told at in record { images = f.images; firm_up = f.firm_up }))
@@ -97,7 +97,7 @@ module _ (old : NodeState) (k id : ℕ) (direction : Direction) (up : old.node.u
   }
 
   pub served_failed : (bound : ℕ) (store : CellsState) → FailsChange (14 + k) id direction (Some bound) old.store store
-      → Served old (record { node = failed (bound_to k bound) old.node; store = store })
+      → LeavesStore old (record { node = failed (bound_to k bound) old.node; store = store })
   served_failed bound store fails = record {
     layout = fails.layout;
     runs = fails.runs;

@@ -26,7 +26,7 @@ use Rattle.secoc_node.specs.Keeping.{node_in, state_in, IsNode, FindsRoute}
 use Rattle.bus_machine.specs.Sound.{Sound}
 use Rattle.bus_machine.specs.Bus.{SentLine}
 use Rattle.bus_machine.specs.Honest.{IsInTime, IsHeard}
-use Rattle.bus_laws.proofs.Hearing.{facts, heard_line}
+use Rattle.bus_laws.proofs.CallerLemmas.{facts, heard_line}
 use Rattle.secoc_node.proofs.CallLaws.{Done}
 use Rattle.secoc_node.proofs.RouteLaws.{with_counter_at, place_at, route_id, got_here, made_of, keeps_its_bound, counter_is, bound_is, moved_done, same_state, same_done, failed_done}
 

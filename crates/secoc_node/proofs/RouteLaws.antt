@@ -14,7 +14,7 @@ use Rattle.bus_machine.specs.declared.lines.Line.{Line}
 use Rattle.bus_machine.specs.Node.{Node, Change, bound_to, place_of, bound_at, counter_at, HasRoute, with_counter, failed}
 use Rattle.bus_machine.specs.Sound.{Sound}
 use Rattle.bus_machine.specs.Steps.{Act, NodeStep}
-use Rattle.bus_laws.proofs.SoundSteps.{Sound-step, place_is}
+use Rattle.bus_laws.proofs.CallerLemmas.{Sound-step, place_is}
 use Rattle.secoc_node.specs.declared.counters.RouteCounter.{RouteCounter}
 use Rattle.secoc_node.specs.declared.known.Known.{Known}
 use Rattle.secoc_node.specs.declared.known.PendingBound.{PendingBound}
@@ -24,7 +24,7 @@ use Rattle.secoc_node.specs.State.{NodeState}
 use Rattle.secoc_node.specs.declared.faults.NodeFault.{NodeFault}
 use Rattle.secoc_node.specs.declared.faults.NodeFault.TheVariants as fault
 use Rattle.secoc_node.specs.Keeping.{node_in, state_in, kept_in, pending_in, IsNode, KeepsNode, FindsRoute}
-use Rattle.secoc_node.proofs.Serving.{Served}
+use Rattle.secoc_node.proofs.Serving.{LeavesStore}
 use Rattle.secoc_node.proofs.KeptLaws.{kept_of_sound, holds_kept}
 use Rattle.secoc_node.proofs.CallLaws.{PastRoute, Done}
 use Rattle.secoc_node.proofs.MovedLaws.{freshness_at, bound_at_counter, kept_moved, counters_moved, counts_moved, keeps_moved, served_same, served_moved, served_failed}
@@ -158,7 +158,7 @@ module _ (known : Known) (store : CellsState) (is : IsNode known store) (up : kn
             keeps = λ _. subst (λ n. KeepsNode n left) (sym moved_is) moved_keeps;
           };
           step = there;
-          served = subst (λ n. Served (state_in known store) (record { node = n; store = left })) (sym moved_is)
+          served = subst (λ n. LeavesStore (state_in known store) (record { node = n; store = left })) (sym moved_is)
               (served_moved (state_in known store) place id direction up (is.sound.settled up) kept_is (is.keeps up) finds.inside route_for route_towards change left v made);
         }
 
@@ -187,7 +187,7 @@ module _ (known : Known) (store : CellsState) (is : IsNode known store) (up : kn
           keeps = λ _. subst (λ m. KeepsNode m left) n (subst (KeepsNode node) (sym same) (is.keeps up));
         };
         step = subst (NodeStep node act line) n step;
-        served = subst (λ m. Served (state_in known store) (record { node = m; store = left })) n
+        served = subst (λ m. LeavesStore (state_in known store) (record { node = m; store = left })) n
             (served_same (state_in known store) (record { node = node; store = left }) (ap (λ (s : CellsState). record { node = node; store = s }) same));
       }
 
@@ -221,6 +221,6 @@ module _ (known : Known) (store : CellsState) (is : IsNode known store) (up : kn
             keeps = λ e. absurd (true≢false (sym e ∙ ap (λ (k : Known). k.up) down));
           };
           step = there;
-          served = subst (λ n. Served (state_in known store) (record { node = n; store = left })) (sym failed_is)
+          served = subst (λ n. LeavesStore (state_in known store) (record { node = n; store = left })) (sym failed_is)
               (served_failed (state_in known store) place id direction up (is.sound.settled up) kept_is (is.keeps up) finds.inside route_for route_towards bound left fails);
         }

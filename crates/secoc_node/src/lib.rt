@@ -1,15 +1,11 @@
-//! A node of AUTOSAR SecOC over SHE key memory, in all its lives: it sends, receives, loads keys and boots, loses power
-//! within any call of its disk, and comes up again.
-//!
-//! Cells 0 to 13 of its store are its key slots, and cell `14 + k` is the bound of its route `k`, counted from 0. Each
-//! call's contract is a step of the machine of a bus (a cut's where the disk tells bytes that fit the node): what the
-//! call answers stands for one line, and the node is then the machine's node after that line.
-//!
-//! Where the disk fails in a call, the node is down, and serves nothing until its power was cut and it came up. It
-//! remembers the one change that the call was to make: after the power-up that change is there whole or not at all. No
-//! call hands it out.
-//!
-//! No call takes memory but `attach`.
+//! A node of AUTOSAR SecOC (profile 1) over SHE key memory, in all its lives. Cells 0 to 13 of its store are
+//! its slots, and cell `14 + k` is the bound of route `k`. Each call is a step of the machine of a bus: what
+//! it answers stands for one line. A cut is one over a disk that tells fitting bytes, and then only the disk
+//! can fail. A PDU is sent or accepted only with a bound in the cells that covers it. An honest one in time
+//! is accepted, or the disk failed. A failed call leaves the node down, with one change pending, until a
+//! power-up: the change is there whole or not at all. `attach` gives the up node of its cells, or names the
+//! lowest bad cell; it alone takes memory. Every call but `release` keeps a fitting disk fitting, and each
+//! keeps the node sound. [`laws`]: cells tell what is kept.
 #![tactic(auto)]
 
 mod cells;

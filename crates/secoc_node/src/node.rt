@@ -1,8 +1,8 @@
 //! A node in all its lives.
 ghost use Rattle.std.specs.Prelude.{◌≡◌, ◌≢◌, ◌<◌, ◌≤◌, ◌+◌, ◌^◌, ◌∷◌, ◌↔◌, ℕ, [], List, length, drop, not, true, false, Some, None, Option, IfOk, IfErr, OnOk, OnErr, IsErrOf, MatchOption, MatchResult};
-ghost use Rattle.cut_disk.specs.State.{Told, Cut, Stop, Fail};
-ghost use Rattle.cut_disk.specs.Arming.{with_stop, with_fail};
-ghost use Rattle.cut_disk.specs.Calls.{Rose, Runs, Grows};
+ghost use Rattle.cut_disk.specs.State.{Told, Cut};
+ghost use Rattle.cut_disk.specs.Armed.{ArmsStop, ArmsFail};
+ghost use Rattle.cut_disk.specs.Calls.{Runs, Grows};
 ghost use Rattle.cut_disk.specs.Images.{CutsTo};
 ghost use Rattle.cell_store.specs.Reading.{NoStop, CutStays};
 ghost use Rattle.cell_store.specs.Cells.{Settled, StandsNow};
@@ -17,7 +17,7 @@ ghost use Rattle.bus_machine.specs.Steps.{sends, receives, loads, keys, boots, c
 ghost use Rattle.bus_machine.specs.Bus.{SentLine};
 ghost use Rattle.bus_machine.specs.Honest.{IsInTime, IsHeard};
 ghost use Rattle.secoc_node.specs.Cells.{CellsOf, IsKept};
-ghost use Rattle.secoc_node.specs.State.{FitsNow, TellsFitting, IsCovered};
+ghost use Rattle.secoc_node.specs.State.{FitsNow, TellsFitting, IsCovered, Served};
 ghost use Rattle.secoc_node.specs.Causes.{AttachCause, CutCause};
 ghost use Rattle.secoc_node.specs.Lines.{sent_line, received_line, loaded_line, keyed_line, boot_line, cut_line, IfAcceptedWith, IfLeftAlone};
 
@@ -93,16 +93,9 @@ impl<C: Cells> Node<C> {
             → IsCovered self.new other Receives freshness }
         ensures untouched { IfErr result (λ fault. fault ≢ NodeFault.Faulted → self.new ≡ self.old) }
         ensures unwritten { OnErr result (out.new ≡ out.old) }
-        ensures down { IsErrOf result NodeFault.Down ↔ self.old.node.up ≡ false }
         ensures no_route { IsErrOf result NodeFault.NoRoute
             ↔ ((self.old.node.up ≡ true) × (¬ HasRoute self.old.node id Sends)) }
-        ensures faulted { IsErrOf result NodeFault.Faulted
-            → Rose self.old.store.disk.faults self.new.store.disk.faults }
-        ensures faults { OnOk result (self.new.store.disk.faults ≡ self.old.store.disk.faults) }
-        ensures layout { self.new.store.layout ≡ self.old.store.layout }
-        ensures runs { Runs [] 6 self.old.store.disk self.new.store.disk }
-        ensures fits { FitsNow self.old → FitsNow self.new }
-        ensures sound { Sound self.new.node }
+        ensures serves { Served self.old self.new result }
     {
         if !self.known.up {
             return Err(NodeFault::Down);
@@ -141,16 +134,9 @@ impl<C: Cells> Node<C> {
             → IsInTime self.old.node sent (place_of self.old.node id Receives) → sent.freshness < 2 ^ 64
             → IsHeard sent (received_line id pdu.now source result) }
         ensures untouched { IfLeftAlone result (self.new ≡ self.old) }
-        ensures down { IsErrOf result NodeFault.Down ↔ self.old.node.up ≡ false }
         ensures no_route { IsErrOf result NodeFault.NoRoute
             ↔ ((self.old.node.up ≡ true) × (¬ HasRoute self.old.node id Receives)) }
-        ensures faulted { IsErrOf result NodeFault.Faulted
-            → Rose self.old.store.disk.faults self.new.store.disk.faults }
-        ensures faults { OnOk result (self.new.store.disk.faults ≡ self.old.store.disk.faults) }
-        ensures layout { self.new.store.layout ≡ self.old.store.layout }
-        ensures runs { Runs [] 6 self.old.store.disk self.new.store.disk }
-        ensures fits { FitsNow self.old → FitsNow self.new }
-        ensures sound { Sound self.new.node }
+        ensures serves { Served self.old self.new result }
     {
         if !self.known.up {
             return Err(NodeFault::Down);
@@ -171,21 +157,15 @@ impl<C: Cells> Node<C> {
 
     /// Loads the key of a request into its slot, and confirms it (SHE specification, memory update protocol). Errors:
     /// `Down`, then `Key` with the first refusal that applies, then `Faulted`. After the first two all is as before,
-    /// and no call of the disk was made.
+    /// and no call of the disk was made. If the request was built of an update, the load is the machine's step for that
+    /// update, too.
     pub fn load(&mut self, request: &Request) -> Result<Reply, NodeFault>
         ensures step { NodeStep self.old.node (loads request.now) (loaded_line result) self.new.node }
         // of the request that was built of an update: what the machine answers to that update
         ensures keyed { (update : Update) (authkey : List ℕ) → Builds request.now authkey update
             → NodeStep self.old.node (keys update authkey) (keyed_line update.id result) self.new.node }
         ensures untouched { IfErr result (λ fault. fault ≢ NodeFault.Faulted → self.new ≡ self.old) }
-        ensures down { IsErrOf result NodeFault.Down ↔ self.old.node.up ≡ false }
-        ensures faulted { IsErrOf result NodeFault.Faulted
-            → Rose self.old.store.disk.faults self.new.store.disk.faults }
-        ensures faults { OnOk result (self.new.store.disk.faults ≡ self.old.store.disk.faults) }
-        ensures layout { self.new.store.layout ≡ self.old.store.layout }
-        ensures runs { Runs [] 6 self.old.store.disk self.new.store.disk }
-        ensures fits { FitsNow self.old → FitsNow self.new }
-        ensures sound { Sound self.new.node }
+        ensures serves { Served self.old self.new result }
     {
         if !self.known.up {
             return Err(NodeFault::Down);
@@ -259,7 +239,8 @@ impl<C: CutCells> Node<C> {
     /// Cuts the power and powers up again, from a node that is up as from one that is down: the cells are read anew, so
     /// that the bytes of the disk stand for them, each counter is its bound, and no boot was made. Errors: `Store`
     /// where the store isn't read, then `BadSlot`, then `BadBound`. The node is then down, and what it knows is as
-    /// before. Over a disk that tells its bytes, and fits the node, only the disk itself can fail.
+    /// before. Over a disk that tells its bytes, and fits the node, only the disk itself can fail. It adds at most
+    /// 68 entries and one a cell to a past, with the cut's mark alone.
     pub fn power_cut(&mut self, torn: Torn) -> Result<(), CutFault>
         ensures step { TellsFitting self.old → NodeStep self.old.node cuts (cut_line result) self.new.node }
         ensures up { OnOk result (self.new.node ≡ powered self.old.node.config self.new.node.kept) }
@@ -291,15 +272,8 @@ impl<C: CutCells> Node<C> {
     /// power is cut.
     pub fn stop_at(&mut self, calls: u64)
         requires { 1 ≤ calls }
-        ensures node { self.new.node ≡ self.old.node }
-        ensures cells { self.new.store.cells ≡ self.old.store.cells }
-        ensures broken { self.new.store.broken ≡ self.old.store.broken }
-        ensures told { self.new.store.disk.told ≡ self.old.store.disk.told }
-        ensures faults { self.new.store.disk.faults ≡ self.old.store.disk.faults }
-        ensures arms { self.new.store.disk.arms ≡ with_stop calls self.old.store.disk.arms }
-        ensures loud { self.new.store.disk.quiet ≡ false }
-        ensures layout { self.new.store.layout ≡ self.old.store.layout }
-        ensures runs { Runs (Stop calls ∷ []) 1 self.old.store.disk self.new.store.disk }
+        ensures rest { self.new ≡ record self.old { store = record self.old.store { disk = self.new.store.disk } } }
+        ensures arms { ArmsStop calls self.old.store.disk self.new.store.disk }
         ensures fits { FitsNow self.old → FitsNow self.new }
         ensures sound { Sound self.new.node }
     {
@@ -309,15 +283,8 @@ impl<C: CutCells> Node<C> {
     /// Passes on to the disk: the call of this number, 1 for the next, fails.
     pub fn fail_at(&mut self, calls: u64)
         requires { 1 ≤ calls }
-        ensures node { self.new.node ≡ self.old.node }
-        ensures cells { self.new.store.cells ≡ self.old.store.cells }
-        ensures broken { self.new.store.broken ≡ self.old.store.broken }
-        ensures told { self.new.store.disk.told ≡ self.old.store.disk.told }
-        ensures faults { self.new.store.disk.faults ≡ self.old.store.disk.faults }
-        ensures arms { self.new.store.disk.arms ≡ with_fail calls self.old.store.disk.arms }
-        ensures loud { self.new.store.disk.quiet ≡ false }
-        ensures layout { self.new.store.layout ≡ self.old.store.layout }
-        ensures runs { Runs (Fail calls ∷ []) 1 self.old.store.disk self.new.store.disk }
+        ensures rest { self.new ≡ record self.old { store = record self.old.store { disk = self.new.store.disk } } }
+        ensures arms { ArmsFail calls self.old.store.disk self.new.store.disk }
         ensures fits { FitsNow self.old → FitsNow self.new }
         ensures sound { Sound self.new.node }
     {

@@ -23,7 +23,7 @@ use cell_store::{Cells, PutFailed};
 use freshness_manager::Rx;
 use freshness_routes::{Route, receiver_change};
 use key_slots::Erc;
-use secured_pdu::{Judgement, Parts, input_bytes, split};
+use secured_pdu::{Judgement, split};
 use she_engine::Engine;
 
 /// What a receiver says of a PDU of 5 to 64 bytes.
@@ -107,32 +107,14 @@ pub fn receive<C: Cells>(
     let Some(parts) = split(pdu) else {
         return Err(ReceiveFault::BadLength);
     };
-    if let Err(refusal) = engine.usable_for_mac(route.slot) {
-        return Err(ReceiveFault::Key(refusal));
-    }
-    match judged(engine, rx, route, &parts) {
+    let key = match engine.mac_key(route.slot) {
+        Ok(key) => key,
+        Err(refusal) => return Err(ReceiveFault::Key(refusal)),
+    };
+    match key.judge(route.id, rx.counter(), rx.window(), &parts) {
         Judgement::Accepted(freshness) => accept(rx, cells, freshness, parts.payload.len() as u8),
         Judgement::FreshnessFailure => Ok(Reception::FreshnessFailure),
         Judgement::VerificationFailure => Ok(Reception::VerificationFailure),
-    }
-}
-
-// The verdict on a PDU that was taken apart, under the route's key, which serves MACs.
-fn judged(engine: &Engine, rx: &Rx, route: &Route, parts: &Parts<'_>) -> Judgement
-    requires usable { usable engine.now.slots route.now.slot (is_good engine.now.boot) Mac ≡ None }
-    requires payload { IsPayload parts.now.payload.now }
-    ensures verdict { let frame = parts.now.payload.now ++ parts.now.low ∷ parts.now.tag
-        in Verdict (key_in (slot_at engine.now.slots route.now.slot)) route.now.id rx.now.counter rx.now.window frame
-        (outcome_of parts.now.payload.now result) }
-    ensures window { IsWindow rx.now.window }
-{
-    let Some(freshness) = rx.candidate(parts.low) else {
-        return Judgement::FreshnessFailure;
-    };
-    if is_authentic(engine, route, parts, freshness) {
-        Judgement::Accepted(freshness)
-    } else {
-        Judgement::VerificationFailure
     }
 }
 
@@ -167,18 +149,4 @@ fn accept<C: Cells>(
             bound: change.unwrap(),
         }),
     }
-}
-
-// Whether the tag is that of the payload with this freshness, under the route's key, which serves MACs.
-fn is_authentic(engine: &Engine, route: &Route, parts: &Parts<'_>, freshness: u64) -> bool
-    requires usable { usable engine.now.slots route.now.slot (is_good engine.now.boot) Mac ≡ None }
-    requires payload { IsPayload parts.now.payload.now }
-    ensures { IsTrue result ↔ (parts.now.tag ≡ take 3 (cmac (key_in (slot_at engine.now.slots route.now.slot))
-        (authenticated_input route.now.id parts.now.payload.now freshness))) }
-{
-    let mut input = [0; 70];
-    let length = input_bytes(route.id, parts.payload, freshness, &mut input);
-    engine
-        .verify_mac(route.slot, &input[..length], &parts.tag)
-        .unwrap()
 }

@@ -20,7 +20,6 @@ use cell_store::Cells;
 use freshness_manager::{Tx, TxFault};
 use freshness_routes::{Route, sender_change};
 use key_slots::Erc;
-use secured_pdu::{assemble, input_bytes};
 use she_engine::Engine;
 
 /// A payload that was sent.
@@ -99,13 +98,14 @@ pub fn send<C: Cells>(
     if payload.is_empty() || payload.len() > 60 {
         return Err(SendFault::BadLength);
     }
-    if let Err(refusal) = engine.usable_for_mac(route.slot) {
-        return Err(SendFault::Key(refusal));
-    }
+    let key = match engine.mac_key(route.slot) {
+        Ok(key) => key,
+        Err(refusal) => return Err(SendFault::Key(refusal)),
+    };
     let change = sender_change(tx.counter(), tx.bound(), tx.reserve());
     match tx.next(cells) {
         Ok(freshness) => {
-            let len = secure(engine, route, payload, freshness, out);
+            let len = key.build(route.id, payload, freshness, out).unwrap() as u8;
             Ok(Sent { freshness, len })
         }
         Err(TxFault::Exhausted) => Err(SendFault::Exhausted),
@@ -113,19 +113,4 @@ pub fn send<C: Cells>(
             bound: change.unwrap(),
         }),
     }
-}
-
-// Writes the Secured I-PDU under the route's key, which serves MACs, and gives its length.
-fn secure(engine: &Engine, route: &Route, payload: &[u8], freshness: u64, out: &mut [u8; 64]) -> u8
-    requires usable { usable engine.now.slots route.now.slot (is_good engine.now.boot) Mac ≡ None }
-    requires payload { IsPayload payload.now }
-    ensures length { result ≡ length payload.now + 4 }
-    ensures secured { Secured (key_in (slot_at engine.now.slots route.now.slot)) route.now.id payload.now freshness
-        (take result out.new) }
-    ensures rest { drop result out.new ≡ drop result out.old }
-{
-    let mut input = [0; 70];
-    let length = input_bytes(route.id, payload, freshness, &mut input);
-    let mac = engine.generate_mac(route.slot, &input[..length]).unwrap();
-    assemble(payload, freshness, &mac, out) as u8
 }

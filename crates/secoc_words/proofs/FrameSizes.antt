@@ -10,8 +10,7 @@ use Rattle.text_lines.specs.Forms.{hex_bytes_form}
 use Rattle.secoc_words.specs.Frames.{frame_of, frames_of}
 use Rattle.text_lines.specs.Readings.{most_lines, nth_word, field, Gives}
 use Rattle.text_lines.specs.Lines.{lines_of}
-use Rattle.text_lines.proofs.Results.{bind_ok, field_ok, counted_ok}
-use Rattle.text_lines.proofs.Sizes.{hex_bytes_form-sizes, All-read_from}
+use Rattle.text_lines.proofs.CallerLemmas.{bind_ok, field_ok, counted_ok, hex_bytes_form-sizes, All-read_from}
 
 -- 1 to 60 bytes
 abbrev pub IsSized : FrameLine → Type 0

@@ -3,3 +3,4 @@ pub mod Digits
 pub mod FrameSizes
 pub mod Identifiers
 pub mod WrittenKinds
+pub mod CallerLemmas

@@ -5,9 +5,8 @@ ghost use Rattle.secoc_words.specs.Forms.{key_form, two_form, data_id_form, fres
 ghost use Rattle.text_lines.specs.Forms.{hex_bytes_form, bytes_form};
 
 use crate::received_bytes::ReceivedBytes;
-use byte_lists::Pdu;
+use byte_lists::{Block, Pdu};
 use hex::{FromHex, decode_to_slice};
-use she_aes::Block;
 use std::alloc::Global;
 use text_lines::Memory;
 use text_lines::forms::bytes;

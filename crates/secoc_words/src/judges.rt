@@ -6,7 +6,7 @@ ghost use Rattle.text_lines.specs.Readings.{Gives};
 
 use crate::forms;
 use crate::received_bytes::ReceivedBytes;
-use she_aes::Block;
+use byte_lists::Block;
 use std::alloc::Global;
 use text_lines::reader::{LineReader, MOST_LINES, expect_count, read_lines, value_at};
 use text_lines::words::Words;

@@ -1,8 +1,10 @@
-//! The words of SecOC and SHE in lines of text: keys, Data IDs, freshness, flags, slots and torn kinds by their forms,
-//! the lines of `frame`, `judge` and `load`, and the texts of verdicts and flags.
+//! The words of SecOC and SHE: keys, Data IDs, freshness, PDUs, slots, counters, flags, torn kinds, disk
+//! calls.
 //!
-//! Each form takes one word, and answers none exactly where it isn't of the form. Hexadecimal digits are of either
-//! case.
+//! Each form takes one word, and answers none exactly if it isn't of the form. Hexadecimal digits are of
+//! either case. `read_frames`, `read_judges` and `read_loads` give the lines of a text, or its first fault
+//! with line and cause, exactly. At most 65,536 lines of one kind that are written in lower-case digits with
+//! single spaces are read as they were ([`laws`]). Here are the printed texts of verdicts and flags, too.
 #![tactic(auto)]
 
 mod disk_forms;

@@ -1,6 +1,6 @@
 //! The boot MAC and the decision (SHE specification, secure booting).
 ghost use Rattle.std.specs.Prelude.{◌≡◌, ◌≤◌, length};
-ghost use Rattle.she_aes.specs.Cipher.{IsBlock};
+ghost use Rattle.byte_lists.specs.Blocks.{IsBlock};
 ghost use Rattle.secure_boot.specs.Booting.{bootmac, Boots, IsImage};
 
 use key_slots::{Erc, Slot, SlotId, Slots};

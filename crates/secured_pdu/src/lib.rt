@@ -1,6 +1,11 @@
 //! The Secured I-PDU of AUTOSAR SecOC profile 1 (24Bit-CMAC-8Bit-FV), and a receiver's verdict on one.
-//! A payload has 1 to 60 bytes, so a PDU has 5 to 64. A receiver accepts freshness up to its window, 1 to 256, above
-//! its counter. Nothing here takes memory.
+//!
+//! [`build`] gives the one frame that is `Secured`, and nothing exactly if the payload hasn't 1 to 60 bytes.
+//! [`split`] refuses exactly by length, 5 to 64. [`candidate_of`] gives the one freshness with this low byte
+//! that is 1 to the window (1 to 256) above the counter, if there is one. [`judge`] is the verdict. The
+//! authenticated input is one-to-one, and one verdict holds of each frame. A Secured PDU whose freshness is
+//! ahead, by the window at most, is accepted with it. What a window accepts each larger one does, with the
+//! same freshness ([`laws`]). Nothing takes memory.
 #![tactic(auto)]
 
 mod frame;

@@ -1,5 +1,8 @@
-//! What was sent on a bus: how many events there were, the lines that were sent, and how one of them is found, by the
-//! number of its event or by what it carries.
+//! What was sent on a bus: how many events there were, and the lines that were sent.
+//!
+//! `History` finds what an event sent, by its number, and the earliest event that sent a payload with a
+//! freshness under a Data ID. Both are functions of the lines that were sent. That they are found in few
+//! steps is measured alone.
 #![tactic(auto)]
 
 mod history;

@@ -1,12 +1,11 @@
 -- Vectors of 16 bytes: what is computed lane by lane, as a block.
-use Rattle.std.proofs.Common.{◌≡◌, ℕ, ◌<◌, List, map, length, get_or, sym, ◌∙◌, arith, w8, Fits, slice_index}
-use Rattle.std.specs.Int.Bits.{bit_xor}
-use Rattle.std.specs.Simd.Lanes.{zip2, Each1}
+use Rattle.std.proofs.Common.{◌≡◌, ℕ, ◌<◌, List, map, length, get_or, ◌∙◌, arith, w8, Fits, slice_index}
+use Rattle.std.specs.Simd.Lanes.{Each1}
 use Rattle.std.proofs.lemmas.List.{get_or-map, length-map}
 use Rattle.std.proofs.lemmas.List.FromFn.{fill_by_all}
 use Rattle.std.proofs.lemmas.List.Elements.{All-from_get_or}
-use Rattle.std.proofs.lemmas.Simd.{Each1-get_or, length-zip2, get_or-zip2}
-use Rattle.she_aes.specs.Cipher.{IsBlock, block_of, xor_blocks}
+use Rattle.std.proofs.lemmas.Simd.{Each1-get_or}
+use Rattle.she_aes.specs.Cipher.{IsBlock, block_of}
 
 -- 16 bytes, as a proof knows a vector
 abbrev pub IsVector : List ℕ → Type 0
@@ -23,9 +22,3 @@ vector_is_block v is =
 pub map_is_block : (f g : ℕ → ℕ) (v : List ℕ) → IsVector v → ((b : ℕ) → b < 256 → f b ≡ g b) → map f v ≡ block_of (λ i. g (slice_index v i))
 map_is_block f g v is same =
     fill_by_all (λ i. g (slice_index v i)) (map f v) 16 0 (length-map v f ∙ is.0) (λ k h. get_or-map f v k 0 0 (omega (arith, is.0)) ∙ same (get_or v k 0) (byte_of_vector v is k h))
-
--- the sum of two vectors
-pub xor_is : (a b : List ℕ) → length a ≡ 16 → length b ≡ 16 → zip2 bit_xor a b ≡ xor_blocks a b
-unfolding xor_blocks
-xor_is a b la lb =
-    fill_by_all (λ i. bit_xor (slice_index a i) (slice_index b i)) (zip2 bit_xor a b) 16 0 (length-zip2 bit_xor a b (la ∙ sym lb) ∙ la) (λ k h. get_or-zip2 bit_xor a b k 0 0 0 (omega (arith, la)) (omega (arith, lb)))

@@ -18,3 +18,4 @@ pub mod Inverses
 pub mod RoundTables
 pub mod ByteTable
 pub mod CipherByTable
+pub mod CallerLemmas

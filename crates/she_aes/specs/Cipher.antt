@@ -1,32 +1,17 @@
 -- AES-128 (FIPS 197, section 5). A block is a list of 16 bytes. It fills the state column by column: byte i
 -- stands in row i mod 4 and column i div 4.
 use Rattle.std.specs.Prelude.{ℕ, zero, suc, ◌+◌, ◌-◌, ◌*◌, ◌/◌, ◌%◌, ◌==◌, if◌then◌else◌, List, [], ◌∷◌, ◌++◌, length}
-use Rattle.std.specs.Prelude.{map, replicate, slice_index, slice_index_or, bit_xor}
+use Rattle.std.specs.Prelude.{map, slice_index, slice_index_or, bit_xor}
 use Rattle.std.specs.List.{range_with_len}
-use Rattle.byte_lists.specs.Bytes.{IsBytes}
+pub use Rattle.byte_lists.specs.Blocks.{block_of, IsBlock, zero_block}
+unfoldable pub use Rattle.byte_lists.specs.Blocks.{xor_blocks}
 use Rattle.she_aes.specs.Field.{mul, sub_byte, inv_sub_byte}
-
--- the block with the bytes f 0 to f 15
-abbrev pub block_of : (ℕ → ℕ) → List ℕ
-block_of f = map f (range_with_len 0 16)
 
 -- the word with the bytes f 0 to f 3
 abbrev pub word_of : (ℕ → ℕ) → List ℕ
 word_of f = map f (range_with_len 0 4)
 
--- 16 bytes
-abbrev pub IsBlock : List ℕ → Type 0
-IsBlock s = IsBytes 16 s
-
--- the block of zero bytes
-abbrev pub zero_block : List ℕ
-zero_block = replicate 16 0
-
 -- ---- the maps of a round (section 5.1)
-
--- byte by byte
-unfoldable pub xor_blocks : List ℕ → List ℕ → List ℕ
-xor_blocks a b = block_of (λ i. bit_xor (slice_index a i) (slice_index b i))
 
 unfoldable pub add_round_key : List ℕ → List ℕ → List ℕ
 add_round_key key s = xor_blocks s key

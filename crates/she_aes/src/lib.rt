@@ -1,13 +1,12 @@
-//! AES-128, the block cipher of FIPS 197, with keys of 16 bytes.
+//! AES-128 (FIPS 197, 5), and CBC and ECB (SP 800-38A, 6.1, 6.2) of any number of blocks.
 //!
-//! [`expand`] makes the round keys of a key. [`encrypt`] takes a block of 16 bytes to the block that the
-//! standard gives for it, and [`decrypt`] takes it back. The modes CBC and ECB (SP 800-38A) do the same
-//! with any number of blocks. [`laws`] says of the definitions that each direction undoes the other.
-//! No call refuses, and none takes memory.
+//! [`expand`], [`encrypt`], [`decrypt`] and the modes equal the cipher over the field of 256 elements. Each
+//! direction undoes the other, for every key and block, in each mode ([`laws`]). No call refuses, and none
+//! takes memory.
 //!
-//! All of them work on the 16 bytes of a block at once. Where the processor shuffles bytes, none but
-//! [`encrypt_by_tables`], which stands beside for those that don't, reads a table at a place that depends on a key or a
-//! text (as seen in the code that was built; no clause speaks of it).
+//! Where the processor shuffles bytes, only [`encrypt_by_tables`] reads tables at places that depend on a key
+//! or a text. This was seen in the code that was built, and no clause speaks of it. `encrypt_by_tables` meets
+//! the contract of `encrypt`, and each of its 1,024 words is what the field says.
 #![tactic(auto)]
 
 mod by_tables;
@@ -18,86 +17,14 @@ mod modes;
 mod rounds;
 mod substitution;
 
-ghost use Rattle.std.specs.Prelude.{◌≡◌, Some, codes};
-ghost use Rattle.she_aes.specs.Cipher.{IsBlock, zero_block, xor_blocks, enc, dec};
+ghost use Rattle.std.specs.Prelude.{◌≡◌};
+ghost use Rattle.she_aes.specs.Cipher.{IsBlock, enc, dec};
 
+pub use byte_lists::Block;
 pub use modes::{cbc_decrypt, cbc_encrypt, ecb_decrypt, ecb_encrypt};
 use rounds::State;
-use std::fmt;
 use std::marker::Model;
 use std::simd::prelude::*;
-
-/// A block of 16 bytes: a key, a text, or a value that is made of them. Printed for debugging it shows no byte, since
-/// it may be a key.
-#[derive(Clone, Copy, PartialEq, Eq)]
-pub struct Block {
-    bytes: [u8; 16],
-}
-
-impl Model for Block {
-    ghost use Rattle.std.specs.Prelude.{List, ℕ};
-    ghost use Rattle.she_aes.specs.Cipher.{IsBlock};
-
-    ghost Value = { List ℕ };
-
-    ghost view = { λ b. b.bytes };
-
-    ghost invariant = { λ b. IsBlock b.bytes };
-
-    ghost inverse = { λ bytes. record { bytes = bytes } };
-}
-
-impl Block {
-    /// The block with these 16 bytes.
-    pub fn of(bytes: [u8; 16]) -> Block
-        ensures value { result ≡ bytes }
-        ensures is_block { IsBlock result }
-    {
-        Block { bytes }
-    }
-
-    /// The block of zero bytes.
-    pub fn zero() -> Block
-        ensures value { result ≡ zero_block }
-        ensures is_block { IsBlock result }
-    {
-        Block::of([0; 16])
-    }
-
-    /// The 16 bytes, in the standard's order.
-    pub fn bytes(&self) -> &[u8; 16]
-        ensures value { result.now ≡ self.now }
-        ensures is_block { IsBlock self.now }
-    {
-        &self.bytes
-    }
-
-    /// The 16 bytes as a slice.
-    pub fn as_slice(&self) -> &[u8]
-        ensures value { result.now ≡ self.now }
-        ensures is_block { IsBlock self.now }
-    {
-        &self.bytes
-    }
-
-    /// The exclusive or of the two blocks, byte by byte.
-    pub fn xor(&self, other: &Block) -> Block
-        ensures value { result ≡ xor_blocks self.now other.now }
-        ensures is_block { IsBlock result }
-        ensures of_blocks { IsBlock self.now × IsBlock other.now }
-    {
-        Block::of(rounds::xor(&self.bytes, &other.bytes))
-    }
-}
-
-// The name of the type, and no byte.
-impl fmt::Debug for Block {
-    ghost debug_output = { λ _. Some (codes "Block") };
-
-    fn fmt<W: fmt::Write>(&self, f: &mut fmt::Formatter<W>) -> fmt::Result {
-        f.write_str("Block")
-    }
-}
 
 /// The round keys of a key (FIPS 197, section 5.2). A contract sees the key itself.
 #[derive(Clone, Copy)]
@@ -127,9 +54,10 @@ pub fn expand(key: &Block) -> Schedule
     ensures value { result ≡ key.now }
     ensures is_block { IsBlock result }
 {
+    let bytes = key.bytes();
     Schedule {
-        key: key.bytes,
-        added: expansion::added_keys(&key.bytes),
+        key: *bytes,
+        added: expansion::added_keys(bytes),
     }
 }
 
@@ -140,7 +68,7 @@ pub fn encrypt(schedule: &Schedule, block: &Block) -> Block
     ensures of_blocks { IsBlock schedule.now × IsBlock block.now }
 {
     let added = &schedule.added;
-    let s0 = rounds::begin(&schedule.key, &block.bytes);
+    let s0 = rounds::begin(&schedule.key, block.bytes());
     let s1 = rounds::round(&added[0], s0);
     let s2 = rounds::round(&added[1], s1);
     let s3 = rounds::round(&added[2], s2);
@@ -161,7 +89,7 @@ pub fn encrypt_by_tables(schedule: &Schedule, block: &Block) -> Block
     ensures of_blocks { IsBlock schedule.now × IsBlock block.now }
 {
     let added = &schedule.added;
-    let mut state = rounds::xor(&block.bytes, &schedule.key);
+    let mut state = rounds::xor(block.bytes(), &schedule.key);
     for done in 0..9 {
         state = by_tables::round(&by_tables::key_of(&added[done]), &state);
     }
@@ -177,7 +105,7 @@ pub fn decrypt(schedule: &Schedule, block: &Block) -> Block
 {
     let added = &schedule.added;
     let k10 = rounds::last_key_of(&added[9]);
-    let s9 = inverse::undo_last_round(&k10, u8x16::from_array(block.bytes));
+    let s9 = inverse::undo_last_round(&k10, u8x16::from_array(*block.bytes()));
     let s8 = inverse::undo_round(&rounds::key_of(&added[8]), s9);
     let s7 = inverse::undo_round(&rounds::key_of(&added[7]), s8);
     let s6 = inverse::undo_round(&rounds::key_of(&added[6]), s7);

@@ -1,3 +1,4 @@
 pub mod LastPiece
 pub mod Doubling
 pub mod CmacByTable
+pub mod CallerLemmas

@@ -1,4 +1,7 @@
-//! CMAC over AES-128 (NIST SP 800-38B), in one call or in pieces. Nothing here takes memory or fails.
+//! CMAC over AES-128 (NIST SP 800-38B, 6.1 and 6.2).
+//!
+//! `cmac`, `cmac_of_parts`, and `Mac` over any pieces equal the CMAC of the whole message, which is a block.
+//! Nothing here takes memory or fails.
 #![tactic(auto)]
 
 pub mod laws;

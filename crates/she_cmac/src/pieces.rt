@@ -1,7 +1,7 @@
 //! The CMAC of a message (SP 800-38B, section 6.2), whole or in pieces.
 ghost use Rattle.std.specs.Prelude.{◌≡◌, ◌≤◌, map};
 ghost use Rattle.std.specs.List.{concat};
-ghost use Rattle.she_aes.specs.Cipher.{IsBlock};
+ghost use Rattle.byte_lists.specs.Blocks.{IsBlock};
 ghost use Rattle.she_cmac.specs.Cmac.{cmac};
 
 use crate::subkeys::{first_subkey, second_subkey};
@@ -19,7 +19,7 @@ pub struct Mac<'a> {
 
 impl<'a> Mac<'a> {
     ghost use Rattle.std.specs.Prelude.{◌≡◌, ◌-◌, ◌<◌, ◌≤◌, ℕ, List, [], ◌∷◌, ◌++◌, length, min, take};
-    ghost use Rattle.she_aes.specs.Cipher.{IsBlock};
+    ghost use Rattle.byte_lists.specs.Blocks.{IsBlock};
     ghost use Rattle.she_cmac.specs.Cmac.{cmac, last_block};
     ghost use Rattle.she_cmac.specs.Took.{Holds, Took};
 

@@ -10,6 +10,7 @@ ghost use Rattle.she_engine.specs.Boots.{boot_after};
 ghost use Rattle.she_engine.specs.Loads.{Loaded, NotLoaded};
 
 use crate::loading::{allowed, slot_at, slot_of};
+use crate::mac_key::MacKey;
 use crate::memory::KeyMemory;
 use cell_store::Cells;
 use key_slots::{Erc, Purpose, Slot, SlotId, usable};
@@ -133,6 +134,15 @@ impl Engine {
         ensures { result_err result ≡ use_refusal self.now.slots slot (is_good self.now.boot) Purpose.Mac }
     {
         self.usable_for(slot, Purpose::Mac)
+    }
+
+    /// Lends the slot's key to make and judge Secured I-PDUs, with the refusals of [`Engine::usable_for_mac`].
+    pub fn mac_key(&self, slot: SlotId) -> Result<MacKey<'_>, Erc>
+        ensures refusal { result_err result ≡ use_refusal self.now.slots slot (is_good self.now.boot) Purpose.Mac }
+        ensures key { IfOk result (λ key. key ≡ key_in (slot_at self.now.slots slot)) }
+    {
+        let schedule = self.key_for(slot, Purpose::Mac)?;
+        Ok(MacKey::of(schedule))
     }
 
     /// Decides the secure boot of this life with an image of 1 to 65,536 bytes: whether slot 3, BOOT_MAC, holds its

@@ -6,9 +6,9 @@ ghost use Rattle.key_slots.specs.Slots.{IsSlots, slot_at, counter_of, flags_of, 
 ghost use Rattle.key_slots.specs.Usage.{first_applying};
 ghost use Rattle.memory_update.specs.Loading.{Allows, head_refusals, is_meant, key_in, slot_of};
 
+use byte_lists::Block;
 use key_slots::{Erc, Flags, Slot, SlotId, Slots, may_authorise};
 use memory_update::{Request, Uid, Update, head, unseal};
-use she_aes::Block;
 
 // The refusals in their order, each behind the test for which it applies.
 macro_rules! refuse_first {

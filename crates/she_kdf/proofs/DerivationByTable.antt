@@ -2,7 +2,7 @@
 use Rattle.std.specs.Prelude.{◌≡◌, ℕ, List}
 use Rattle.std.proofs.Common.{ap, ◌∙◌}
 use Rattle.she_aes.specs.Cipher.{zero_block, xor_blocks}
-use Rattle.she_aes.proofs.CipherByTable.{enc_by_table, enc_by_table_is}
+use Rattle.she_aes.proofs.CallerLemmas.{enc_by_table, enc_by_table_is}
 use Rattle.she_kdf.specs.declared.Constant.{Constant}
 use Rattle.she_kdf.specs.Derivation.{next_out, miyaguchi_preneel, constant_block, kdf}
 

@@ -1,10 +1,11 @@
-//! Key derivation of the SHE specification: the compression of Miyaguchi and Preneel over AES-128.
+//! Key derivation (SHE specification, key derivation): the compression of Miyaguchi and Preneel over AES-128.
 //!
-//! No call refuses or takes memory.
+//! `compress`, of any number of blocks, and `derive` equal their definitions and give a block. No call
+//! refuses or takes memory.
 #![tactic(auto)]
 
 ghost use Rattle.std.specs.Prelude.{◌≡◌, All};
-ghost use Rattle.she_aes.specs.Cipher.{IsBlock};
+ghost use Rattle.byte_lists.specs.Blocks.{IsBlock};
 ghost use Rattle.she_kdf.specs.Derivation.{next_out, miyaguchi_preneel, constant_block, kdf};
 
 use she_aes::{Block, encrypt, expand};

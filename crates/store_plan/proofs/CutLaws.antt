@@ -12,10 +12,8 @@ use Rattle.cell_store.specs.Twin.{is_live, cell_at}
 use Rattle.cell_store.specs.Copies.{other, copy}
 use Rattle.cell_store.specs.Store.{Stands}
 use Rattle.cell_store.specs.Writing.{LeavesOutside, ClosesGate, LeavesUnfinished, Unfinished}
-use Rattle.cell_store.proofs.LayoutLaws.{part-same, SameOutside-refl, SameOutside-splice, SameOutside-widen}
-use Rattle.cell_store.proofs.CopiesLaws.{side_bounds, cell_at-kept, cell_at-others, cell_at-unfinished}
-use Rattle.cell_store.proofs.GateLaws.{closing, filling, opening}
-use Rattle.cell_store.proofs.WritingLaws.{torn-outside}
+use Rattle.cell_store.proofs.CallerLemmas.{part-same, SameOutside-refl, SameOutside-splice, SameOutside-widen, side_bounds, cell_at-kept}
+use Rattle.cell_store.proofs.CallerLemmas.{cell_at-others, cell_at-unfinished, closing, filling, opening, torn-outside}
 use Rattle.store_plan.specs.declared.planning.Write.{Write}
 use Rattle.store_plan.specs.declared.planning.Plan.{Plan}
 use Rattle.store_plan.specs.Plans.{WritesAt, PlansPut, CutWithin, in_first, in_second, in_third, IsEmptyPlan, applied, applied_write, bytes_written}

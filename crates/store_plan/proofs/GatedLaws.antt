@@ -12,11 +12,8 @@ use Rattle.cell_store.specs.Twin.{is_live, mark, payload, next, cell_at, live_co
 use Rattle.cell_store.specs.Copies.{other, side_at, copy, Keeps}
 use Rattle.cell_store.specs.Writing.{Unfinished}
 use Rattle.cell_store.specs.Store.{FewCells, Stands, PutsAs, Put}
-use Rattle.cell_store.proofs.LayoutLaws.{part-same, SameOutside-splice, SameOutside-refl}
-use Rattle.cell_store.proofs.CopiesLaws.{side_bounds, SameOutside-put, cell_at-put, cell_at-kept, cell_at-others, cell_at-unfinished}
-use Rattle.cell_store.proofs.KeptLaws.{held-stands, stands-held, twin_put-counts}
-use Rattle.cell_store.proofs.GateLaws.{splice-gate}
-use Rattle.cell_store.proofs.PutLaws.{put_stands}
+use Rattle.cell_store.proofs.CallerLemmas.{part-same, SameOutside-splice, SameOutside-refl, side_bounds, SameOutside-put, cell_at-put, cell_at-kept}
+use Rattle.cell_store.proofs.CallerLemmas.{cell_at-others, cell_at-unfinished, held-stands, stands-held, twin_put-counts, splice-gate, put_stands}
 use Rattle.store_plan.specs.declared.planning.Write.{Write}
 use Rattle.store_plan.specs.declared.planning.Plan.{Plan}
 use Rattle.store_plan.specs.Plans.{WritesAt, Gated, PlansPut, bytes_written, applied, no_write}

@@ -13,11 +13,8 @@ use Rattle.cell_store.specs.Copies.{other, copy}
 use Rattle.cell_store.specs.Writing.{ClosesGate, LeavesUnfinished}
 use Rattle.cell_store.specs.Store.{SameBesides}
 use Rattle.cell_store.specs.Cells.{Puts, FailsPut}
-use Rattle.cell_store.proofs.LayoutLaws.{SameOutside-widen}
-use Rattle.cell_store.proofs.CopiesLaws.{side_bounds}
-use Rattle.cell_store.proofs.WritingLaws.{torn-outside}
-use Rattle.cell_store.proofs.GateLaws.{closing, closed-write, closed-already, filling, opening, opened, lasts-outside}
-use Rattle.cell_store.proofs.PutLaws.{put_stands}
+use Rattle.cell_store.proofs.CallerLemmas.{SameOutside-widen, side_bounds, torn-outside, closing, closed-write, closed-already, filling, opening}
+use Rattle.cell_store.proofs.CallerLemmas.{opened, lasts-outside, put_stands}
 use Rattle.store_plan.specs.declared.planning.Write.{Write}
 use Rattle.store_plan.specs.declared.planning.Plan.{Plan}
 use Rattle.store_plan.specs.Plans.{WritesAt, Gated, PlansPut}

@@ -2,3 +2,4 @@ pub mod GatedLaws
 pub mod LeavesLaws
 pub mod CutLaws
 pub mod MakingLaws
+pub mod CallerLemmas

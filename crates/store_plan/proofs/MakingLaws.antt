@@ -9,11 +9,8 @@ use Rattle.cell_store.specs.declared.kinds.Version.TheVariants.{One}
 use Rattle.cell_store.specs.Layout.{SameOutside, part, header, twin_layout}
 use Rattle.cell_store.specs.Twin.{first_at, second_at, cell_of, cell_at, fresh_cell}
 use Rattle.cell_store.specs.Store.{fresh_cells, fresh_store}
-use Rattle.cell_store.proofs.LayoutLaws.{part-same, part-splice, SameOutside-splice}
-use Rattle.cell_store.proofs.StoreLaws.{length-header}
-use Rattle.cell_store.proofs.FreshLaws.{Sized, length-pairs, length-fresh_cell, cell_at-fresh}
-use Rattle.cell_store.proofs.FormatLaws.{splice_more}
-use Rattle.cell_store.proofs.Slices.{splice-none, splice-all}
+use Rattle.cell_store.proofs.CallerLemmas.{part-same, part-splice, SameOutside-splice, length-header, Sized, length-pairs, length-fresh_cell}
+use Rattle.cell_store.proofs.CallerLemmas.{cell_at-fresh, splice_more, splice-none, splice-all}
 
 -- two images that differ in one cell alone hold the same in every other
 pub cell_beside : (x y : List ℕ) (i j : ℕ) → SameOutside (first_at i) 68 x y → j ≢ i → cell_at y j ≡ cell_at x j

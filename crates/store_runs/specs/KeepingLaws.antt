@@ -8,8 +8,7 @@ use Rattle.cut_disk.specs.ImageLaws.{image_is_read, image_of_firm}
 use Rattle.cell_store.specs.declared.kinds.Layout.{Layout}
 use Rattle.cell_store.specs.Store.{Stands}
 use Rattle.cell_store.specs.Cells.{CellsState, Settled, Puts, FailsPut, StandsNow, EachImageStands}
-use Rattle.cell_store.proofs.StoreLaws.{stands_once}
-use Rattle.cell_store.proofs.CellsLaws.{settled_tells}
+use Rattle.cell_store.proofs.CallerLemmas.{stands_once, settled_tells}
 use Rattle.store_runs.specs.Keeping.{Keeping, MayKeep, StandsForKept, Fits, put_failed, stays_down, FitsStore}
 use Rattle.store_runs.specs.Keeping.{TellsKept, HoldsKept}
 

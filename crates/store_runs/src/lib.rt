@@ -1,10 +1,13 @@
-//! Runs over a store: what a store is to keep through power cuts, when a disk fits it, and what a run
-//! of any machine does to one disk that is seen in its state.
+//! Runs over a store: what a store is to keep through power cuts, when a disk fits it, and what a run does to
+//! it.
 //!
-//! Whoever keeps a list of cells in a store is its owner: a node of a bus, a gateway, a ledger. What
-//! it keeps is a `Keeping`, and `Fits` says when a state of a disk fits it. Here are definitions and
-//! laws alone: the body of each function is empty, its contract is the law, and its trait has what
-//! the law is about.
+//! Whoever keeps a list of cells in a store is its owner: a node, a gateway, a ledger. What it keeps is a
+//! `Keeping`. If a disk `Fits`, a put (of an owner that is up, with nothing pending) that was done or failed,
+//! and a cut that was read anew or refused, leave it fitting what is then to be kept. What is read anew is
+//! the kept list, or the one with the pending change. Of a machine whose steps are turns of one disk
+//! (`DiskTurn`): failed lines are at most one per fault, and a quiet disk gives none, and stays quiet, unless
+//! something arms it. What was added to a told past is traced, if the bytes fit. Here are definitions and
+//! laws alone.
 #![tactic(auto)]
 
 mod keeping;

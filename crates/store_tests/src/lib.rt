@@ -1,5 +1,5 @@
-//! Tests of the stores of cells, of plans of their puts, and of what crosses crates: a file that tells its bytes, and
-//! the disk over it. There is nothing else here: a crate of tests over several libraries has none of them proved a
+//! Tests of the stores of cells, of plans of their puts, and of a file that tells its bytes, with the disk
+//! over it. There is nothing else here: a crate of tests over several libraries has none of them proved a
 //! second time.
 #![tactic(auto)]
 

@@ -12,3 +12,4 @@ pub mod Unplaced
 pub mod Values
 pub mod WrittenDigits
 pub mod WrittenLines
+pub mod CallerLemmas

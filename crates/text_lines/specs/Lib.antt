@@ -6,3 +6,5 @@ pub mod Room
 pub mod Spans
 pub mod Texts
 pub mod Written
+pub mod Spaced
+pub mod SpacedLaws

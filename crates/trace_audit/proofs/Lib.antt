@@ -8,3 +8,4 @@ pub mod Naming
 pub mod Phases
 pub mod Promises
 pub mod Example
+pub mod CallerLemmas

@@ -10,8 +10,7 @@ use Rattle.secoc_words.specs.Forms.{key_form, data_id_form, fresh_form}
 use Rattle.text_lines.specs.Forms.{number_form}
 use Rattle.text_lines.specs.Lines.{lines_of}
 use Rattle.text_lines.specs.Readings.{nth_word, field}
-use Rattle.text_lines.proofs.Results.{bind_ok, field_ok, counted_ok}
-use Rattle.text_lines.proofs.Sizes.{All-read_from}
+use Rattle.text_lines.proofs.CallerLemmas.{bind_ok, field_ok, counted_ok, All-read_from}
 use Rattle.trace_audit.specs.declared.map_lines.MapLine.{MapLine}
 use Rattle.trace_audit.specs.MapLines.{new_can_form, line_with, map_line_of, most_map_lines, map_of}
 

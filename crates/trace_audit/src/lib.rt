@@ -1,8 +1,11 @@
-//! Which frames of a recorded bus verify (AUTOSAR SecOC, profile 1). A log as `candump` of can-utils writes it is read
-//! together with a map, which says what Data ID and key stand behind a CAN identifier.
+//! Which frames of a recorded bus verify (AUTOSAR SecOC, profile 1): a log of `candump` and a map of CAN
+//! identifiers.
 //!
-//! [`run_audit`] audits the sources of a map and of a log; [`audit_words`] those that the words of a command line name,
-//! or, without words, an example in memory. Their clauses say what each status means and what is printed.
+//! [`run_audit`] audits the sources of a map and of a log, with the record `Audits`; [`audit_words`] those
+//! that the arguments name, or without arguments an example. At most one list of findings is found of a log
+//! (law `one_audit_holds`; each map has the windows that it asks for: `audited_lines_have_windows`). Accepted
+//! freshness rises per line of the map (law `accepted_freshness_rises_per_map_line`). `open_inputs` and
+//! `read_map_by` serve `watch`, too.
 #![tactic(auto)]
 
 mod auditing;

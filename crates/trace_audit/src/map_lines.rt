@@ -6,9 +6,8 @@ ghost use Rattle.trace_audit.specs.MapLines.{is_can, can_form, new_can_form, lin
 ghost use Rattle.trace_audit.specs.MapLines.{hears_frame, place_of_frame};
 
 use arrayvec::ArrayVec;
-use byte_lists::Bytes;
+use byte_lists::{Block, Bytes};
 use counting_receiver::WIDEST_WINDOW;
-use she_aes::Block;
 use std::alloc::Global;
 use std::marker::Model;
 use text_lines::reader::{LineReader, expect_count, value_at};

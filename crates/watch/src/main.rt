@@ -1,7 +1,7 @@
 //! `watch`: whether a bus is authentic and live, from its log, while it runs (AUTOSAR SecOC, profile 1).
 //!
-//! [`log_watch::watch_words`] is the program; its clauses say what each status means and what is printed. Here it is
-//! handed the words, the files, standard input and standard output.
+//! [`log_watch::watch_words`] is the program, with the record `Watches`. Here it is handed the arguments, the
+//! files, standard input and standard output.
 #![tactic(auto)]
 
 ghost use Rattle.std.specs.Prelude.{◌≡◌, drop, map, string_bytes};

@@ -4,3 +4,4 @@ pub mod Starting
 pub mod Attaching
 pub mod Honesty
 pub mod WholeRun
+pub mod CallerLemmas

@@ -1,9 +1,11 @@
-//! Runs of a bus over disks, from any first world: one record of all that holds of such a run, and the laws that give
-//! it. A program that runs a bus promises the record, and proves of its own only where its run begins and what it
-//! prints.
+//! Runs of a bus over disks, from any first world: one record of all that holds, `WorldRun`, and the laws
+//! that give it.
 //!
-//! Here are definitions and laws alone: the body of each function has calls of the laws below, and its contract is the
-//! law.
+//! Turns of a bus that is set up, over disks that tell fitting bytes, from a first world in which each Data
+//! ID has one sender, are a run of the machine with all of `WorldRun`. Of disks of any kind the laws say what
+//! turns leave. A bus that was started is set up. Over formatted disks that tell their bytes it begins at its
+//! own first world. Over attached disks without a loose byte each node keeps what its disk stood for, or what
+//! a new one keeps if it was blank. Each law is the contract of a function.
 #![tactic(auto)]
 
 mod laws;

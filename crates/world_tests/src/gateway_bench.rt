@@ -4,6 +4,7 @@ ghost use Rattle.cell_store.specs.Store.{FewCells};
 
 use crate::comparing::holds;
 use any_cells::AnyCells;
+use byte_lists::Block;
 use cell_store::{Kind, Reread, Version};
 use cut_disk::{MemDisk, Torn};
 use freshness_manager::{Direction, NodeConfig, Route};
@@ -12,7 +13,6 @@ use memory_update::{Request, Uid, Update, build};
 use secoc_gateway::{Arrival, Gateway};
 use secoc_node::{CutFault, Node, NodeFault, first_cells};
 use secoc_receiver::Reception;
-use she_aes::Block;
 use std::alloc::Global;
 use std::process::Abort;
 use std::test::Fail;

@@ -1,7 +1,7 @@
-//! Tests of worlds over disks in memory and over disks that tell their past, with both stores in both versions, and of
-//! gateways: their calls, and pairs that aren't taken. There is nothing else here: a crate of tests over several
-//! libraries has none of them proved a second time. Further runs of gateways, and stops at any call of a disk within an
-//! arrival, are rows of checks/. The tags are those of OpenSSL's CMAC.
+//! Tests of worlds over disks in memory and over disks that tell their past, with both stores in both
+//! versions, and of gateways: their calls, and pairs that aren't taken. There is nothing else here: a crate
+//! of tests over several libraries has none of them proved a second time. Further runs of gateways, and stops
+//! at any disk call within an arrival, are rows of checks/. The tags are those of OpenSSL's CMAC.
 #![tactic(auto)]
 
 #[cfg(test)]

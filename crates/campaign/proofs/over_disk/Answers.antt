@@ -1,5 +1,5 @@
 use Rattle.std.proofs.Common.{map, ap}
-use Rattle.campaign_commands.proofs.Known.{campaigns_known}
+use Rattle.campaign_commands.proofs.CallerLemmas.{campaigns_known}
 use Rattle.campaign.proofs.over_disk.Goals as goal
 
 pub returns : goal.returns

@@ -20,8 +20,8 @@ returns-clause-value c =
     let k2 = middle_key key block c.schedule.inside.added are 1 (lit< tt) c.key_of-8.ensures ∙ sym (get_or-round_keys key 2 (lit< tt)) in
     let k1 = middle_key key block c.schedule.inside.added are 0 (lit< tt) c.key_of-9.ensures ∙ sym (get_or-round_keys key 1 (lit< tt)) in
     let k0 = c.schedule.view_is ∙ sym (round_keys-head key are.key_is_block.size) in
-    let last = (rw c.block.view_is at c.undo_last_round-s9.ensures) ∙ ap (λ k. inv_sub_bytes (inv_shift_rows (add_round_key k block))) k10 in
+    let last = (rw c.bytes.ensures.value at c.undo_last_round-s9.ensures) ∙ ap (λ k. inv_sub_bytes (inv_shift_rows (add_round_key k block))) k10 in
     c.of.ensures.value ∙ all_undone key block (round_keys key) refl last (c.undo_round-s8.ensures ∙ ap (λ k. inv_sub_bytes (inv_shift_rows (inv_mix_columns (add_round_key k c.undo_last_round-s9.result)))) k9) (c.undo_round-s7.ensures ∙ ap (λ k. inv_sub_bytes (inv_shift_rows (inv_mix_columns (add_round_key k c.undo_round-s8.result)))) k8) (c.undo_round-s6.ensures ∙ ap (λ k. inv_sub_bytes (inv_shift_rows (inv_mix_columns (add_round_key k c.undo_round-s7.result)))) k7) (c.undo_round-s5.ensures ∙ ap (λ k. inv_sub_bytes (inv_shift_rows (inv_mix_columns (add_round_key k c.undo_round-s6.result)))) k6) (c.undo_round-s4.ensures ∙ ap (λ k. inv_sub_bytes (inv_shift_rows (inv_mix_columns (add_round_key k c.undo_round-s5.result)))) k5) (c.undo_round-s3.ensures ∙ ap (λ k. inv_sub_bytes (inv_shift_rows (inv_mix_columns (add_round_key k c.undo_round-s4.result)))) k4) (c.undo_round-s2.ensures ∙ ap (λ k. inv_sub_bytes (inv_shift_rows (inv_mix_columns (add_round_key k c.undo_round-s3.result)))) k3) (c.undo_round-s1.ensures ∙ ap (λ k. inv_sub_bytes (inv_shift_rows (inv_mix_columns (add_round_key k c.undo_round-s2.result)))) k2) (c.undo_round-s0.ensures ∙ ap (λ k. inv_sub_bytes (inv_shift_rows (inv_mix_columns (add_round_key k c.undo_round-s1.result)))) k1) (c.add_round_key.ensures ∙ ap (λ k. add_round_key k c.undo_round-s0.result) k0)
 
 pub returns-clause-of_blocks : goal.returns-clause-of_blocks
-returns-clause-of_blocks c = (rw c.schedule.view_is at c.schedule.invariant.key_is_block, rw c.block.view_is at c.block.invariant)
+returns-clause-of_blocks c = (rw c.schedule.view_is at c.schedule.invariant.key_is_block, c.bytes.ensures.is_block)

@@ -12,7 +12,7 @@ made c = rw c.schedule.view_is at c.schedule.invariant
 pub loop-done-init : goal.loop-done-init
 unfolding add_round_key
 loop-done-init c =
-    (rw (c.schedule.view_is, c.block.view_is) at c.xor-state.ensures) ∙ first_state c.args.schedule.now c.args.block.now c.schedule.inside.added (made (goal.at.loop-done-init c).After-schedule)
+    (rw (c.schedule.view_is, c.bytes.ensures.value) at c.xor-state.ensures) ∙ first_state c.args.schedule.now c.args.block.now c.schedule.inside.added (made (goal.at.loop-done-init c).After-schedule)
 
 pub loop-done-preserved : goal.loop-done-preserved
 loop-done-preserved c =
@@ -28,4 +28,4 @@ returns-clause-value c =
     c.of.ensures.value ∙ round_last c.args.schedule.now c.args.block.now c.schedule.inside.added are c.loop-done.state c.last_key_of.result c.last_round.result key c.last_round.ensures (rw nine at c.loop-done.invariant)
 
 pub returns-clause-of_blocks : goal.returns-clause-of_blocks
-returns-clause-of_blocks c = (rw c.schedule.view_is at c.schedule.invariant.key_is_block, rw c.block.view_is at c.block.invariant)
+returns-clause-of_blocks c = (rw c.schedule.view_is at c.schedule.invariant.key_is_block, c.bytes.ensures.is_block)

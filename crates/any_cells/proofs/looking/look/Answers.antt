@@ -1,4 +1,4 @@
-use Rattle.cell_store.proofs.Results.{OnErr-from}
+use Rattle.cell_store.proofs.CallerLemmas.{OnErr-from}
 use Rattle.any_cells.proofs.LookingLaws.{read-both, failed-first, failed-second}
 use Rattle.any_cells.proofs.looking.look.Goals as goal
 

@@ -3,7 +3,7 @@ use Rattle.std.specs.Prelude.{codes}
 use Rattle.byte_lists.specs.Numbers.{bytes_of}
 use Rattle.hex.specs.Hex.{encode_lower}
 use Rattle.bus_texts.specs.LineTexts.{source_word}
-use Rattle.bus_texts.specs.Spaced.{spaced}
+use Rattle.text_lines.specs.Spaced.{spaced}
 use Rattle.bus_texts.proofs.Added.{five_added}
 use Rattle.bus_texts.proofs.writing.push_accepted.Goals as goal
 

@@ -13,31 +13,31 @@ pub returns-in-Ok-Accepted-clause-turn : goal.returns-in-Ok-Accepted-clause-turn
 returns-in-Ok-Accepted-clause-turn g c =
     calm_turn c.args.node.now c.receive.new.self (receives c.args.id c.args.pdu.now) _
     (rw c.front-payload.ensures (rw c.in-Ok-Accepted.field-0-is at (c.in-Ok-Accepted.ensures.step c.source_of.result)))
-    (receives_no_cut c.args.id c.args.pdu.now) c.receive.ensures.layout c.receive.ensures.runs c.receive.ensures.fits c.in-Ok-Accepted.ensures.faults tt c.receive.ensures.sound
+    (receives_no_cut c.args.id c.args.pdu.now) c.receive.ensures.serves.layout c.receive.ensures.serves.runs c.receive.ensures.serves.fits c.in-Ok-Accepted.ensures.serves.faults tt c.receive.ensures.serves.sound
 
 pub returns-in-Ok-FreshnessFailure-clause-turn : goal.returns-in-Ok-FreshnessFailure-clause-turn
 returns-in-Ok-FreshnessFailure-clause-turn g c =
     calm_turn c.args.node.now c.receive.new.self (receives c.args.id c.args.pdu.now) _
     (rw c.in-Ok-FreshnessFailure.field-0-is at (c.in-Ok-FreshnessFailure.ensures.step None))
-    (receives_no_cut c.args.id c.args.pdu.now) c.receive.ensures.layout c.receive.ensures.runs c.receive.ensures.fits c.in-Ok-FreshnessFailure.ensures.faults
-    (rw c.in-Ok-FreshnessFailure.field-0-is at c.in-Ok-FreshnessFailure.ensures.untouched) c.receive.ensures.sound
+    (receives_no_cut c.args.id c.args.pdu.now) c.receive.ensures.serves.layout c.receive.ensures.serves.runs c.receive.ensures.serves.fits c.in-Ok-FreshnessFailure.ensures.serves.faults
+    (rw c.in-Ok-FreshnessFailure.field-0-is at c.in-Ok-FreshnessFailure.ensures.untouched) c.receive.ensures.serves.sound
 
 pub returns-in-Ok-VerificationFailure-clause-turn : goal.returns-in-Ok-VerificationFailure-clause-turn
 returns-in-Ok-VerificationFailure-clause-turn g c =
     calm_turn c.args.node.now c.receive.new.self (receives c.args.id c.args.pdu.now) _
     (rw c.in-Ok-VerificationFailure.field-0-is at (c.in-Ok-VerificationFailure.ensures.step None))
-    (receives_no_cut c.args.id c.args.pdu.now) c.receive.ensures.layout c.receive.ensures.runs c.receive.ensures.fits c.in-Ok-VerificationFailure.ensures.faults
-    (rw c.in-Ok-VerificationFailure.field-0-is at c.in-Ok-VerificationFailure.ensures.untouched) c.receive.ensures.sound
+    (receives_no_cut c.args.id c.args.pdu.now) c.receive.ensures.serves.layout c.receive.ensures.serves.runs c.receive.ensures.serves.fits c.in-Ok-VerificationFailure.ensures.serves.faults
+    (rw c.in-Ok-VerificationFailure.field-0-is at c.in-Ok-VerificationFailure.ensures.untouched) c.receive.ensures.serves.sound
 
 pub returns-in-Err-clause-turn : goal.returns-in-Err-clause-turn
 returns-in-Err-clause-turn g c =
     rw c.refusal_of.ensures
     (calm_turn c.args.node.now c.receive.new.self (receives c.args.id c.args.pdu.now) _
     (c.in-Err.ensures.step None)
-    (receives_no_cut c.args.id c.args.pdu.now) c.receive.ensures.layout c.receive.ensures.runs c.receive.ensures.fits
-    (faults_told c.in-Err.fault c.args.node.now c.receive.new.self (λ e. c.in-Err.ensures.faulted (ap Err e)) (unmoved_by c.in-Err.fault _ c.in-Err.ensures.untouched))
+    (receives_no_cut c.args.id c.args.pdu.now) c.receive.ensures.serves.layout c.receive.ensures.serves.runs c.receive.ensures.serves.fits
+    (faults_told c.in-Err.fault c.args.node.now c.receive.new.self (λ e. c.in-Err.ensures.serves.faulted (ap Err e)) (unmoved_by c.in-Err.fault _ c.in-Err.ensures.untouched))
     (alone_told c.in-Err.fault c.args.node.now c.receive.new.self (unmoved_by c.in-Err.fault _ c.in-Err.ensures.untouched))
-    c.receive.ensures.sound)
+    c.receive.ensures.serves.sound)
 
 pub returns-in-Ok-Accepted-clause-honest : goal.returns-in-Ok-Accepted-clause-honest
 returns-in-Ok-Accepted-clause-honest g c s id_is pdu_is in_time fits =

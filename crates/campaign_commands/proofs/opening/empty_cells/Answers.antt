@@ -1,5 +1,5 @@
 use Rattle.std.proofs.Common.{sym}
-use Rattle.key_campaign.proofs.NoEntries.{no_entries-zeros}
+use Rattle.key_campaign.proofs.CallerLemmas.{no_entries-zeros}
 use Rattle.campaign_commands.proofs.opening.empty_cells.Goals as goal
 
 pub returns : goal.returns

@@ -2,8 +2,8 @@ use Rattle.std.proofs.Common.{◌++◌, ◌∷◌, [], ◌∙◌, sym, ap, appen
 use Rattle.std.specs.Prelude.{codes}
 use Rattle.std.specs.Fmt.{decimal}
 use Rattle.bus_texts.specs.LineTexts.{told_words}
-use Rattle.bus_texts.specs.Spaced.{spaced}
-use Rattle.bus_texts.specs.SpacedLaws.{written-spaced}
+use Rattle.text_lines.specs.Spaced.{spaced}
+use Rattle.text_lines.specs.SpacedLaws.{written-spaced}
 use Rattle.chart_texts.proofs.laws.titles_are_lines.Goals as goal
 
 pub returns : goal.returns

@@ -1,5 +1,5 @@
 use Rattle.std.proofs.lemmas.Result.{err_from_is_err_and}
-use Rattle.cell_store.proofs.ReadingLaws.{reads_join, failed_after}
+use Rattle.cell_store.proofs.CallerLemmas.{reads_join, failed_after}
 use Rattle.key_loading.proofs.CountingLaws.{not_probed}
 use Rattle.key_loading.specs.Finding.{not_read}
 use Rattle.key_loading.proofs.finding.find_store.Goals as goal

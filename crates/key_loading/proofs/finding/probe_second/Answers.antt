@@ -1,5 +1,5 @@
 use Rattle.std.proofs.Common.{arith}
-use Rattle.cell_store.proofs.ReadingLaws.{reads_none, reads_more}
+use Rattle.cell_store.proofs.CallerLemmas.{reads_none, reads_more}
 use Rattle.key_loading.proofs.CountingLaws.{short_second}
 use Rattle.key_loading.proofs.finding.probe_second.Goals as goal
 

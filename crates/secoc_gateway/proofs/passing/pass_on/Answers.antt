@@ -7,7 +7,7 @@ use Rattle.bus_machine.specs.Steps.{sends, receives}
 use Rattle.secoc_node.specs.declared.faults.NodeFault.{NodeFault}
 use Rattle.secoc_node.specs.Lines.{refusal_of_fault}
 use Rattle.secoc_gateway.proofs.Arriving.{reason_of, brought_line, in_time, forwards_right, drops_not, refuses_not}
-use Rattle.bus_world.proofs.Turning.{calm_turn, sends_no_cut, receives_no_cut, faults_told, alone_told, unmoved_by}
+use Rattle.bus_world.proofs.CallerLemmas.{calm_turn, sends_no_cut, receives_no_cut, faults_told, alone_told, unmoved_by}
 use Rattle.secoc_gateway.proofs.passing.pass_on.Goals as goal
 
 -- ---- what was accepted departed
@@ -30,14 +30,14 @@ returns-in-Ok-clause-turn g c place = record {
   between = c.receive.new.self;
   arrives = calm_turn c.args.node.now c.receive.new.self (receives c.args.id c.args.pdu.now) _
       (rw c.in-Ok-Accepted.field-0-is at (c.in-Ok-Accepted.ensures.step None))
-      (receives_no_cut c.args.id c.args.pdu.now) c.receive.ensures.layout c.receive.ensures.runs c.receive.ensures.fits c.in-Ok-Accepted.ensures.faults tt c.receive.ensures.sound;
+      (receives_no_cut c.args.id c.args.pdu.now) c.receive.ensures.serves.layout c.receive.ensures.serves.runs c.receive.ensures.serves.fits c.in-Ok-Accepted.ensures.serves.faults tt c.receive.ensures.serves.sound;
   departs = (
     Sent c.args.second c.in-Ok.sent.freshness (take c.in-Ok.sent.len c.send.new.out),
     calm_turn c.receive.new.self c.send.new.self (sends c.args.second (take c.in-Ok-Accepted.len c.args.pdu.now)) _
         (rw c.front-payload.ensures at c.in-Ok.ensures.step)
-        (sends_no_cut c.args.second (take c.in-Ok-Accepted.len c.args.pdu.now)) c.send.ensures.layout c.send.ensures.runs c.send.ensures.fits
-        c.in-Ok.ensures.faults
-        tt c.send.ensures.sound,
+        (sends_no_cut c.args.second (take c.in-Ok-Accepted.len c.args.pdu.now)) c.send.ensures.serves.layout c.send.ensures.serves.runs c.send.ensures.serves.fits
+        c.in-Ok.ensures.serves.faults
+        tt c.send.ensures.serves.sound,
     refl,
   );
 }
@@ -53,10 +53,10 @@ returns-in-Ok-clause-forwards g c payload v can =
     (in_time c.args.node.now c.args.id c.args.second c.args.pdu.now payload v c.requires.receives can) can.accepted.0.fits))
 
 pub returns-in-Ok-clause-runs : goal.returns-in-Ok-clause-runs
-returns-in-Ok-clause-runs g c = runs_join c.receive.ensures.runs c.send.ensures.runs
+returns-in-Ok-clause-runs g c = runs_join c.receive.ensures.serves.runs c.send.ensures.serves.runs
 
 pub returns-in-Ok-clause-fits : goal.returns-in-Ok-clause-fits
-returns-in-Ok-clause-fits g c = λ fits. c.send.ensures.fits (c.receive.ensures.fits fits)
+returns-in-Ok-clause-fits g c = λ fits. c.send.ensures.serves.fits (c.receive.ensures.serves.fits fits)
 
 pub returns-in-Ok-clause-arrival_covered : goal.returns-in-Ok-clause-arrival_covered
 returns-in-Ok-clause-arrival_covered g c =
@@ -82,14 +82,14 @@ returns-in-Err-send-clause-turn g c place = record {
   between = c.receive.new.self;
   arrives = calm_turn c.args.node.now c.receive.new.self (receives c.args.id c.args.pdu.now) _
       (rw c.in-Ok-Accepted.field-0-is at (c.in-Ok-Accepted.ensures.step None))
-      (receives_no_cut c.args.id c.args.pdu.now) c.receive.ensures.layout c.receive.ensures.runs c.receive.ensures.fits c.in-Ok-Accepted.ensures.faults tt c.receive.ensures.sound;
+      (receives_no_cut c.args.id c.args.pdu.now) c.receive.ensures.serves.layout c.receive.ensures.serves.runs c.receive.ensures.serves.fits c.in-Ok-Accepted.ensures.serves.faults tt c.receive.ensures.serves.sound;
   departs = (
     Refused (refusal_of_fault c.in-Err-send.fault),
     calm_turn c.receive.new.self c.send.new.self (sends c.args.second (take c.in-Ok-Accepted.len c.args.pdu.now)) _
         (rw c.front-payload.ensures at c.in-Err-send.ensures.step)
-        (sends_no_cut c.args.second (take c.in-Ok-Accepted.len c.args.pdu.now)) c.send.ensures.layout c.send.ensures.runs c.send.ensures.fits
-        (faults_told c.in-Err-send.fault c.receive.new.self c.send.new.self (λ e. c.in-Err-send.ensures.faulted (ap Err e)) c.in-Err-send.ensures.untouched)
-        (alone_told c.in-Err-send.fault c.receive.new.self c.send.new.self c.in-Err-send.ensures.untouched) c.send.ensures.sound,
+        (sends_no_cut c.args.second (take c.in-Ok-Accepted.len c.args.pdu.now)) c.send.ensures.serves.layout c.send.ensures.serves.runs c.send.ensures.serves.fits
+        (faults_told c.in-Err-send.fault c.receive.new.self c.send.new.self (λ e. c.in-Err-send.ensures.serves.faulted (ap Err e)) c.in-Err-send.ensures.untouched)
+        (alone_told c.in-Err-send.fault c.receive.new.self c.send.new.self c.in-Err-send.ensures.untouched) c.send.ensures.serves.sound,
     refl,
   );
 }
@@ -106,13 +106,13 @@ returns-in-Err-send-clause-forwards g c payload v can =
     c.in-Ok-Accepted.freshness v c.in-Err-send.fault None c.requires.sends
     (rw c.in-Ok-Accepted.field-0-is at (c.in-Ok-Accepted.ensures.step None))
     (rw c.front-payload.ensures at c.in-Err-send.ensures.step)
-    c.receive.ensures.runs c.send.ensures.runs (λ e. c.in-Err-send.ensures.faulted (ap Err e)) can
+    c.receive.ensures.serves.runs c.send.ensures.serves.runs (λ e. c.in-Err-send.ensures.serves.faulted (ap Err e)) can
 
 pub returns-in-Err-send-clause-runs : goal.returns-in-Err-send-clause-runs
-returns-in-Err-send-clause-runs g c = runs_join c.receive.ensures.runs c.send.ensures.runs
+returns-in-Err-send-clause-runs g c = runs_join c.receive.ensures.serves.runs c.send.ensures.serves.runs
 
 pub returns-in-Err-send-clause-fits : goal.returns-in-Err-send-clause-fits
-returns-in-Err-send-clause-fits g c = λ fits. c.send.ensures.fits (c.receive.ensures.fits fits)
+returns-in-Err-send-clause-fits g c = λ fits. c.send.ensures.serves.fits (c.receive.ensures.serves.fits fits)
 
 -- ---- nothing was accepted
 
@@ -130,8 +130,8 @@ returns-in-Ok-FreshnessFailure-clause-turn g c place = record {
   between = c.receive.new.self;
   arrives = calm_turn c.args.node.now c.receive.new.self (receives c.args.id c.args.pdu.now) _
       (rw c.in-Ok-FreshnessFailure.field-0-is at (c.in-Ok-FreshnessFailure.ensures.step None))
-      (receives_no_cut c.args.id c.args.pdu.now) c.receive.ensures.layout c.receive.ensures.runs c.receive.ensures.fits c.in-Ok-FreshnessFailure.ensures.faults
-      (rw c.in-Ok-FreshnessFailure.field-0-is at c.in-Ok-FreshnessFailure.ensures.untouched) c.receive.ensures.sound;
+      (receives_no_cut c.args.id c.args.pdu.now) c.receive.ensures.serves.layout c.receive.ensures.serves.runs c.receive.ensures.serves.fits c.in-Ok-FreshnessFailure.ensures.serves.faults
+      (rw c.in-Ok-FreshnessFailure.field-0-is at c.in-Ok-FreshnessFailure.ensures.untouched) c.receive.ensures.serves.sound;
   departs = (refl, refl);
 }
 
@@ -157,8 +157,8 @@ returns-in-Ok-VerificationFailure-clause-turn g c place = record {
   between = c.receive.new.self;
   arrives = calm_turn c.args.node.now c.receive.new.self (receives c.args.id c.args.pdu.now) _
       (rw c.in-Ok-VerificationFailure.field-0-is at (c.in-Ok-VerificationFailure.ensures.step None))
-      (receives_no_cut c.args.id c.args.pdu.now) c.receive.ensures.layout c.receive.ensures.runs c.receive.ensures.fits c.in-Ok-VerificationFailure.ensures.faults
-      (rw c.in-Ok-VerificationFailure.field-0-is at c.in-Ok-VerificationFailure.ensures.untouched) c.receive.ensures.sound;
+      (receives_no_cut c.args.id c.args.pdu.now) c.receive.ensures.serves.layout c.receive.ensures.serves.runs c.receive.ensures.serves.fits c.in-Ok-VerificationFailure.ensures.serves.faults
+      (rw c.in-Ok-VerificationFailure.field-0-is at c.in-Ok-VerificationFailure.ensures.untouched) c.receive.ensures.serves.sound;
   departs = (refl, refl);
 }
 
@@ -183,22 +183,22 @@ returns-in-Err-clause-turn g c place = record {
   between = c.receive.new.self;
   arrives = calm_turn c.args.node.now c.receive.new.self (receives c.args.id c.args.pdu.now) _
       (c.in-Err.ensures.step None)
-      (receives_no_cut c.args.id c.args.pdu.now) c.receive.ensures.layout c.receive.ensures.runs c.receive.ensures.fits
-      (faults_told c.in-Err.fault c.args.node.now c.receive.new.self (λ e. c.in-Err.ensures.faulted (ap Err e)) (unmoved_by c.in-Err.fault _ c.in-Err.ensures.untouched))
+      (receives_no_cut c.args.id c.args.pdu.now) c.receive.ensures.serves.layout c.receive.ensures.serves.runs c.receive.ensures.serves.fits
+      (faults_told c.in-Err.fault c.args.node.now c.receive.new.self (λ e. c.in-Err.ensures.serves.faulted (ap Err e)) (unmoved_by c.in-Err.fault _ c.in-Err.ensures.untouched))
       (alone_told c.in-Err.fault c.args.node.now c.receive.new.self (unmoved_by c.in-Err.fault _ c.in-Err.ensures.untouched))
-      c.receive.ensures.sound;
+      c.receive.ensures.serves.sound;
   departs = (refl, refl);
 }
 
 pub returns-in-Err-clause-forwards : goal.returns-in-Err-clause-forwards
 returns-in-Err-clause-forwards g c payload v can =
-    refuses_not c.args.node.now c.receive.new.self c.args.id c.args.second c.args.pdu.now payload v c.in-Err.fault c.receive.ensures.runs
-    (λ e. c.in-Err.ensures.faulted (ap Err e)) can
+    refuses_not c.args.node.now c.receive.new.self c.args.id c.args.second c.args.pdu.now payload v c.in-Err.fault c.receive.ensures.serves.runs
+    (λ e. c.in-Err.ensures.serves.faulted (ap Err e)) can
     (c.in-Err.ensures.honest (brought_line c.args.id c.args.pdu.now payload v) None refl refl
     (in_time c.args.node.now c.args.id c.args.second c.args.pdu.now payload v c.requires.receives can) can.accepted.0.fits)
 
 pub returns-in-Err-clause-runs : goal.returns-in-Err-clause-runs
-returns-in-Err-clause-runs g c = runs_more 12 (omega arith) c.receive.ensures.runs
+returns-in-Err-clause-runs g c = runs_more 12 (omega arith) c.receive.ensures.serves.runs
 
 pub returns-in-Err-clause-routed : goal.returns-in-Err-clause-routed
 returns-in-Err-clause-routed g c none =

@@ -15,17 +15,23 @@ pub returns-in-Accepted-clause-honest : goal.returns-in-Accepted-clause-honest
 returns-in-Accepted-clause-honest g c = λ payload v may secured ahead.
     let key = key_in (slot_at c.args.engine.now.slots c.args.route.now.slot) in
     let rx = c.args.rx.now in
-    let one = in_time key c.args.route.now.id rx.counter rx.window c.args.route.now.window c.args.pdu.now _ payload v _ c.judged.ensures.window c.requires.route.window c.in-Some.ensures.parts secured ahead c.in-Accepted.ensures.verdict in
+    let window = rw c.window.ensures.value at c.window.ensures.window in
+    let said = rw (c.in-Ok.ensures.key, c.counter.ensures.value, c.window.ensures.value) at c.in-Accepted.ensures.verdict in
+    let one = in_time key c.args.route.now.id rx.counter rx.window c.args.route.now.window c.args.pdu.now _ payload v _ window c.requires.route.window c.in-Some.ensures.parts secured ahead said in
     taken c.in-Some.parts.payload.now payload c.in-Accepted.freshness v _ rx c.accept.result _ _ c.accept.ensures.said c.accept.ensures.failed refl one
 
 pub returns-in-FreshnessFailure-clause-honest : goal.returns-in-FreshnessFailure-clause-honest
 returns-in-FreshnessFailure-clause-honest g c = λ payload v may secured ahead.
     let key = key_in (slot_at c.args.engine.now.slots c.args.route.now.slot) in
     let rx = c.args.rx.now in
-    not_stale payload v (in_time key c.args.route.now.id rx.counter rx.window c.args.route.now.window c.args.pdu.now _ payload v _ c.judged.ensures.window c.requires.route.window c.in-Some.ensures.parts secured ahead c.in-FreshnessFailure.ensures.verdict)
+    let window = rw c.window.ensures.value at c.window.ensures.window in
+    let said = rw (c.counter.ensures.value, c.window.ensures.value) at c.in-FreshnessFailure.ensures.verdict in
+    not_stale payload v (in_time key c.args.route.now.id rx.counter rx.window c.args.route.now.window c.args.pdu.now _ payload v _ window c.requires.route.window c.in-Some.ensures.parts secured ahead said)
 
 pub returns-in-VerificationFailure-clause-honest : goal.returns-in-VerificationFailure-clause-honest
 returns-in-VerificationFailure-clause-honest g c = λ payload v may secured ahead.
     let key = key_in (slot_at c.args.engine.now.slots c.args.route.now.slot) in
     let rx = c.args.rx.now in
-    not_forged payload v (in_time key c.args.route.now.id rx.counter rx.window c.args.route.now.window c.args.pdu.now _ payload v _ c.judged.ensures.window c.requires.route.window c.in-Some.ensures.parts secured ahead c.in-VerificationFailure.ensures.verdict)
+    let window = rw c.window.ensures.value at c.window.ensures.window in
+    let said = rw (c.in-Ok.ensures.key, c.counter.ensures.value, c.window.ensures.value) at c.in-VerificationFailure.ensures.verdict in
+    not_forged payload v (in_time key c.args.route.now.id rx.counter rx.window c.args.route.now.window c.args.pdu.now _ payload v _ window c.requires.route.window c.in-Some.ensures.parts secured ahead said)

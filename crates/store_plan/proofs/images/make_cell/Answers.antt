@@ -1,7 +1,7 @@
 use Rattle.std.proofs.Common.{◌≡◌, ℕ, List, length, ap, ◌∙◌, arith, rules}
 use Rattle.cut_disk.specs.Images.{splice}
 use Rattle.cell_store.specs.Twin.{first_at, fresh_cell, cell_at}
-use Rattle.cell_store.proofs.FreshLaws.{length-fresh_cell}
+use Rattle.cell_store.proofs.CallerLemmas.{length-fresh_cell}
 use Rattle.store_plan.proofs.GatedLaws.{put_mid-splice}
 use Rattle.store_plan.proofs.MakingLaws.{made_cell, made_others}
 use Rattle.store_plan.proofs.images.make_cell.Goals as goal

@@ -1,7 +1,7 @@
 use Rattle.std.proofs.Common.{length, sym, ap, ◌∙◌, length-take-le}
 use Rattle.cell_store.specs.declared.kinds.Version.TheVariants.{One}
 use Rattle.cell_store.specs.Layout.{header, twin_layout}
-use Rattle.cell_store.proofs.StoreLaws.{length-header}
+use Rattle.cell_store.proofs.CallerLemmas.{length-header}
 use Rattle.store_plan.proofs.MakingLaws.{head_made}
 use Rattle.store_plan.proofs.images.make_head.Goals as goal
 

@@ -1,12 +1,11 @@
 use Rattle.std.proofs.Common.{◌≡◌, ℕ, ◌+◌, ◌-◌, List, sym, ap, ◌∙◌, take, drop, arith, rules, refl}
 use Rattle.std.proofs.lemmas.Option.{none-some}
-use Rattle.cell_store.proofs.CopiesLaws.{cell_at-kept}
+use Rattle.cell_store.proofs.CallerLemmas.{cell_at-kept, kept-of, damaged-of, halves}
 use Rattle.cell_store.specs.declared.copies.Side.TheVariants.{First, Second}
 use Rattle.cell_store.specs.Layout.{part}
 use Rattle.cell_store.specs.Twin.{first_at}
 use Rattle.cell_store.specs.Copies.{copy}
 use Rattle.cell_store.specs.Held.{held_of}
-use Rattle.cell_store.proofs.ReadingLaws.{kept-of, damaged-of, halves}
 use Rattle.store_plan.proofs.planning.cell_held.Goals as goal
 
 -- what is held of the bytes that were taken is what is held of the copies

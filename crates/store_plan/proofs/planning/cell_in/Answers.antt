@@ -1,4 +1,4 @@
-use Rattle.cell_store.proofs.CopiesLaws.{cell_at-kept}
+use Rattle.cell_store.proofs.CallerLemmas.{cell_at-kept}
 use Rattle.store_plan.proofs.planning.cell_in.Goals as goal
 
 pub returns-in-Ok-clause-held : goal.returns-in-Ok-clause-held

@@ -1,6 +1,5 @@
-use Rattle.std.proofs.Common.{[], ◌∷◌, length, subst}
-use Rattle.cut_disk.specs.State.{Stop}
-use Rattle.cut_disk.specs.Calls.{Runs}
+use Rattle.std.proofs.Common.{length, ap, subst}
+use Rattle.cut_disk.specs.Armed.{ArmsStop}
 use Rattle.cut_disk.specs.CallLaws.{runs_of_call}
 use Rattle.cell_store.specs.Cells.{CellsState}
 use Rattle.cell_store.proofs.TwinSteps.{armed-store}
@@ -10,6 +9,12 @@ pub invariant_of-self : goal.invariant_of-self
 invariant_of-self g c =
     armed-store c.self.inside.version (g.D.Disk.state c.self.inside.disk) (g.D.Disk.state c.stop_at.new.self) c.self.inside.held.items (length c.self.inside.reread.items) c.self.inside.broken c.stop_at.ensures.call.size c.stop_at.ensures.same c.self.invariant
 
-pub returns-clause-runs : goal.returns-clause-runs
-returns-clause-runs g c =
-    subst (λ (x : CellsState). Runs (Stop c.args.calls ∷ []) 1 x.disk (g.D.Disk.state c.stop_at.new.self)) c.self.view_is (runs_of_call c.stop_at.ensures.call)
+pub returns-clause-rest : goal.returns-clause-rest
+returns-clause-rest g c =
+    ap (λ (x : CellsState). record x { disk = g.D.Disk.state c.stop_at.new.self }) c.self.view_is
+
+pub returns-clause-arms : goal.returns-clause-arms
+returns-clause-arms g c =
+    let e = c.stop_at.ensures in
+    subst (λ (x : CellsState). ArmsStop c.args.calls x.disk (g.D.Disk.state c.stop_at.new.self)) c.self.view_is
+    (record { runs = runs_of_call e.call; told = e.same; faults = e.count; arms = e.arms; loud = e.loud })

@@ -43,3 +43,6 @@ returns-in-Err-clause-fits g c =
     let advances = subst (λ (s : LedgerState). Advances s.campaign.entries change) (sym c.self.view_is) c.requires.advances in
     subst (λ (s : LedgerState). FitsLedger s → FitsLedger (record { campaign = record { entries = c.self.inside.entries; up = false; pending = Some change }; store = new })) c.self.view_is
     (fits_ledger_failed campaign (g.C.Cells.state c.self.inside.cells) c.self.invariant up change advances new c.in-Err.ensures.failed)
+
+pub returns-in-Ok-clause-sound : goal.returns-in-Ok-clause-sound
+returns-in-Ok-clause-sound g c = (invariant_of-self g c).sound

@@ -1,4 +1,4 @@
-use Rattle.text_lines.proofs.Sizes.{hex_bytes_form-sizes}
+use Rattle.text_lines.proofs.CallerLemmas.{hex_bytes_form-sizes}
 use Rattle.key_commands.proofs.image.Image.of_word.Goals as goal
 
 pub invariant_of-result : goal.invariant_of-result

@@ -7,7 +7,7 @@ use Rattle.trace_audit.specs.declared.map_lines.MapLine.{MapLine}
 use Rattle.trace_audit.specs.declared.auditing.Tally.{Tally}
 use Rattle.trace_audit.specs.declared.auditing.Tally.TheVariants as tally
 use Rattle.trace_audit.specs.Findings.{AddsFinding}
-use Rattle.trace_audit.proofs.Audited.{put_back}
+use Rattle.trace_audit.proofs.CallerLemmas.{put_back}
 use Rattle.log_watch.specs.States.{WatchState, JudgesLine}
 use Rattle.log_watch.specs.contracts.state.Watch.{the_view}
 use Rattle.log_watch.proofs.Going.{JudgesLine-long, JudgesLine-found}

@@ -1,7 +1,7 @@
 use Rattle.std.proofs.Common.{ℕ, subst, sym, ap, ◌∙◌}
 use Rattle.freshness_routes.specs.declared.routes.Direction.TheVariants.{Sends}
 use Rattle.bus_machine.specs.declared.events.Event.TheVariants.{Inject}
-use Rattle.bus_laws.proofs.SoundSteps.{same_some}
+use Rattle.bus_laws.proofs.CallerLemmas.{same_some}
 use Rattle.secoc_node.specs.State.{FitsNow, IsCovered}
 use Rattle.secoc_gateway.specs.State.{GatewayState, over}
 use Rattle.secoc_gateway.specs.Arrivals.{arrival_line, IfForwarded}

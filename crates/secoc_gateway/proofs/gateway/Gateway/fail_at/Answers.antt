@@ -1,7 +1,13 @@
-use Rattle.std.proofs.Common.{subst}
-use Rattle.secoc_node.specs.State.{FitsNow}
-use Rattle.secoc_gateway.specs.State.{over}
+use Rattle.std.proofs.Common.{◌≡◌, ap, subst}
+use Rattle.secoc_node.specs.State.{NodeState, FitsNow}
+use Rattle.secoc_gateway.specs.State.{GatewayState, over}
 use Rattle.secoc_gateway.proofs.gateway.Gateway.fail_at.Goals as goal
+
+pub returns-clause-rest : goal.returns-clause-rest
+returns-clause-rest g c =
+    let of_node : NodeState → GatewayState = λ n. record { node = n.node; store = n.store; pairs = c.self.inside.pairs.items } in
+    subst (λ (s : GatewayState). of_node c.fail_at.new.self ≡ record s { store = record s.store { disk = c.fail_at.new.self.store.disk } }) c.self.view_is
+    (ap of_node c.fail_at.ensures.rest)
 
 pub returns-clause-fits : goal.returns-clause-fits
 returns-clause-fits g c = subst (λ s. FitsNow (over s) → FitsNow c.fail_at.new.self) c.self.view_is c.fail_at.ensures.fits

@@ -30,26 +30,17 @@ returns-in-Ok-clause-step g c = step_from c.args.self.now c.self.view_is (loaded
 pub returns-in-Ok-clause-keyed : goal.returns-in-Ok-clause-keyed
 returns-in-Ok-clause-keyed g c update authkey builds = keys_of_loads c.args.self.now.node c.args.request.now (Ok c.in-Ok.reply) (node_in (with_engine c.self.inside.known c.load_key.new.self)) update authkey builds (step_from c.args.self.now c.self.view_is (loaded g c))
 
-pub returns-in-Ok-clause-down : goal.returns-in-Ok-clause-down
-returns-in-Ok-clause-down g c = not_down c.self.inside.known (g.C.Cells.state c.self.inside.cells) c.if-not-self.false c.args.self.now c.self.view_is Reply (Ok c.in-Ok.reply) tt
-
-pub returns-in-Ok-clause-layout : goal.returns-in-Ok-clause-layout
-returns-in-Ok-clause-layout g c = (served_from c.args.self.now c.self.view_is (loaded g c)).layout
-
-pub returns-in-Ok-clause-runs : goal.returns-in-Ok-clause-runs
-returns-in-Ok-clause-runs g c = (served_from c.args.self.now c.self.view_is (loaded g c)).runs
-
-pub returns-in-Ok-clause-fits : goal.returns-in-Ok-clause-fits
-returns-in-Ok-clause-fits g c = (served_from c.args.self.now c.self.view_is (loaded g c)).fits
-
-pub returns-in-Ok-clause-sound : goal.returns-in-Ok-clause-sound
-returns-in-Ok-clause-sound g c = (loaded g c).node.sound
-
-pub returns-in-Ok-clause-faulted : goal.returns-in-Ok-clause-faulted
-returns-in-Ok-clause-faulted g c = unless_faulted Reply _ (Ok c.in-Ok.reply) tt
-
-pub returns-in-Ok-clause-faults : goal.returns-in-Ok-clause-faults
-returns-in-Ok-clause-faults g c = c.in-Ok.ensures.loaded.store.faults ∙ ap (λ (s : NodeState). s.store.disk.faults) c.self.view_is
+pub returns-in-Ok-clause-serves : goal.returns-in-Ok-clause-serves
+returns-in-Ok-clause-serves g c =
+    record {
+      down = not_down c.self.inside.known (g.C.Cells.state c.self.inside.cells) c.if-not-self.false c.args.self.now c.self.view_is Reply (Ok c.in-Ok.reply) tt;
+      faulted = unless_faulted Reply _ (Ok c.in-Ok.reply) tt;
+      faults = c.in-Ok.ensures.loaded.store.faults ∙ ap (λ (s : NodeState). s.store.disk.faults) c.self.view_is;
+      layout = (served_from c.args.self.now c.self.view_is (loaded g c)).layout;
+      runs = (served_from c.args.self.now c.self.view_is (loaded g c)).runs;
+      fits = (served_from c.args.self.now c.self.view_is (loaded g c)).fits;
+      sound = (loaded g c).node.sound;
+    }
 
 -- ---- it refused
 
@@ -68,26 +59,20 @@ returns-in-Err-Refused-clause-step g c = step_from c.args.self.now c.self.view_i
 pub returns-in-Err-Refused-clause-keyed : goal.returns-in-Err-Refused-clause-keyed
 returns-in-Err-Refused-clause-keyed g c update authkey builds = keys_of_loads c.args.self.now.node c.args.request.now (Err (fault.Key c.in-Err-Refused.refusal)) (node_in (with_engine c.self.inside.known c.load_key.new.self)) update authkey builds (step_from c.args.self.now c.self.view_is (refused g c))
 
-pub returns-in-Err-Refused-clause-down : goal.returns-in-Err-Refused-clause-down
-returns-in-Err-Refused-clause-down g c = not_down c.self.inside.known (g.C.Cells.state c.self.inside.cells) c.if-not-self.false c.args.self.now c.self.view_is Reply (Err (fault.Key c.in-Err-Refused.refusal)) tt
-
-pub returns-in-Err-Refused-clause-layout : goal.returns-in-Err-Refused-clause-layout
-returns-in-Err-Refused-clause-layout g c = (served_from c.args.self.now c.self.view_is (refused g c)).layout
-
-pub returns-in-Err-Refused-clause-runs : goal.returns-in-Err-Refused-clause-runs
-returns-in-Err-Refused-clause-runs g c = (served_from c.args.self.now c.self.view_is (refused g c)).runs
-
-pub returns-in-Err-Refused-clause-fits : goal.returns-in-Err-Refused-clause-fits
-returns-in-Err-Refused-clause-fits g c = (served_from c.args.self.now c.self.view_is (refused g c)).fits
-
-pub returns-in-Err-Refused-clause-sound : goal.returns-in-Err-Refused-clause-sound
-returns-in-Err-Refused-clause-sound g c = (refused g c).node.sound
+pub returns-in-Err-Refused-clause-serves : goal.returns-in-Err-Refused-clause-serves
+returns-in-Err-Refused-clause-serves g c =
+    record {
+      down = not_down c.self.inside.known (g.C.Cells.state c.self.inside.cells) c.if-not-self.false c.args.self.now c.self.view_is Reply (Err (fault.Key c.in-Err-Refused.refusal)) tt;
+      faulted = unless_faulted Reply _ (Err (fault.Key c.in-Err-Refused.refusal)) tt;
+      faults = tt;
+      layout = (served_from c.args.self.now c.self.view_is (refused g c)).layout;
+      runs = (served_from c.args.self.now c.self.view_is (refused g c)).runs;
+      fits = (served_from c.args.self.now c.self.view_is (refused g c)).fits;
+      sound = (refused g c).node.sound;
+    }
 
 pub returns-in-Err-Refused-clause-untouched : goal.returns-in-Err-Refused-clause-untouched
 returns-in-Err-Refused-clause-untouched g c other = refused_load_state c.self.inside.known (g.C.Cells.state c.self.inside.cells) c.args.request.now c.in-Err-Refused.refusal c.load_key.new.self (g.C.Cells.state c.load_key.new.cells) c.self.invariant c.if-not-self.false (why g c) ∙ c.self.view_is
-
-pub returns-in-Err-Refused-clause-faulted : goal.returns-in-Err-Refused-clause-faulted
-returns-in-Err-Refused-clause-faulted g c = unless_faulted Reply _ (Err (fault.Key c.in-Err-Refused.refusal)) tt
 
 -- ---- the disk failed
 
@@ -109,23 +94,17 @@ returns-in-Err-Faulted-clause-step g c = rw c.fail.ensures.fault (step_from c.ar
 pub returns-in-Err-Faulted-clause-keyed : goal.returns-in-Err-Faulted-clause-keyed
 returns-in-Err-Faulted-clause-keyed g c update authkey builds = rw c.fail.ensures.fault (keys_of_loads c.args.self.now.node c.args.request.now (Err fault.Faulted) (node_in c.fail.new.self) update authkey builds (step_from c.args.self.now c.self.view_is (faulted g c)))
 
-pub returns-in-Err-Faulted-clause-down : goal.returns-in-Err-Faulted-clause-down
-returns-in-Err-Faulted-clause-down g c = not_down c.self.inside.known (g.C.Cells.state c.self.inside.cells) c.if-not-self.false c.args.self.now c.self.view_is Reply (Err c.fail.result) (past g c)
-
-pub returns-in-Err-Faulted-clause-layout : goal.returns-in-Err-Faulted-clause-layout
-returns-in-Err-Faulted-clause-layout g c = (served_from c.args.self.now c.self.view_is (faulted g c)).layout
-
-pub returns-in-Err-Faulted-clause-runs : goal.returns-in-Err-Faulted-clause-runs
-returns-in-Err-Faulted-clause-runs g c = (served_from c.args.self.now c.self.view_is (faulted g c)).runs
-
-pub returns-in-Err-Faulted-clause-fits : goal.returns-in-Err-Faulted-clause-fits
-returns-in-Err-Faulted-clause-fits g c = (served_from c.args.self.now c.self.view_is (faulted g c)).fits
-
-pub returns-in-Err-Faulted-clause-sound : goal.returns-in-Err-Faulted-clause-sound
-returns-in-Err-Faulted-clause-sound g c = (faulted g c).node.sound
+pub returns-in-Err-Faulted-clause-serves : goal.returns-in-Err-Faulted-clause-serves
+returns-in-Err-Faulted-clause-serves g c =
+    record {
+      down = not_down c.self.inside.known (g.C.Cells.state c.self.inside.cells) c.if-not-self.false c.args.self.now c.self.view_is Reply (Err c.fail.result) (past g c);
+      faulted = λ e. subst (λ (s : NodeState). Rose s.store.disk.faults (g.C.Cells.state c.load_key.new.cells).disk.faults) c.self.view_is (pending g c).store.failed;
+      faults = tt;
+      layout = (served_from c.args.self.now c.self.view_is (faulted g c)).layout;
+      runs = (served_from c.args.self.now c.self.view_is (faulted g c)).runs;
+      fits = (served_from c.args.self.now c.self.view_is (faulted g c)).fits;
+      sound = (faulted g c).node.sound;
+    }
 
 pub returns-in-Err-Faulted-clause-untouched : goal.returns-in-Err-Faulted-clause-untouched
 returns-in-Err-Faulted-clause-untouched g c apart = absurd (apart c.fail.ensures.fault)
-
-pub returns-in-Err-Faulted-clause-faulted : goal.returns-in-Err-Faulted-clause-faulted
-returns-in-Err-Faulted-clause-faulted g c e = subst (λ (s : NodeState). Rose s.store.disk.faults (g.C.Cells.state c.load_key.new.cells).disk.faults) c.self.view_is (pending g c).store.failed

@@ -50,23 +50,20 @@ invariant_of-self g c = (said g c None).node
 pub returns-in-Ok-clause-step : goal.returns-in-Ok-clause-step
 returns-in-Ok-clause-step g c source = step_from c.args.self.now c.self.view_is (said g c source)
 
-pub returns-in-Ok-clause-down : goal.returns-in-Ok-clause-down
-returns-in-Ok-clause-down g c = not_down c.self.inside.known (g.C.Cells.state c.self.inside.cells) c.if-not-self.false c.args.self.now c.self.view_is Reception (Ok c.in-Ok.said) tt
+pub returns-in-Ok-clause-serves : goal.returns-in-Ok-clause-serves
+returns-in-Ok-clause-serves g c =
+    record {
+      down = not_down c.self.inside.known (g.C.Cells.state c.self.inside.cells) c.if-not-self.false c.args.self.now c.self.view_is Reception (Ok c.in-Ok.said) tt;
+      faulted = unless_faulted Reception _ (Ok c.in-Ok.said) tt;
+      faults = c.in-Ok.ensures.faults ∙ ap (λ (s : NodeState). s.store.disk.faults) c.self.view_is;
+      layout = (served_from c.args.self.now c.self.view_is (said g c None)).layout;
+      runs = (served_from c.args.self.now c.self.view_is (said g c None)).runs;
+      fits = (served_from c.args.self.now c.self.view_is (said g c None)).fits;
+      sound = (said g c None).node.sound;
+    }
 
 pub returns-in-Ok-clause-no_route : goal.returns-in-Ok-clause-no_route
 returns-in-Ok-clause-no_route g c = not_unrouted c.self.inside.known (g.C.Cells.state c.self.inside.cells) c.self.invariant c.if-not-self.false c.args.id Receives c.in-Some.place c.in-Some.route c.in-Some.ensures c.args.self.now c.self.view_is Reception (Ok c.in-Ok.said) tt
-
-pub returns-in-Ok-clause-layout : goal.returns-in-Ok-clause-layout
-returns-in-Ok-clause-layout g c = (served_from c.args.self.now c.self.view_is (said g c None)).layout
-
-pub returns-in-Ok-clause-runs : goal.returns-in-Ok-clause-runs
-returns-in-Ok-clause-runs g c = (served_from c.args.self.now c.self.view_is (said g c None)).runs
-
-pub returns-in-Ok-clause-fits : goal.returns-in-Ok-clause-fits
-returns-in-Ok-clause-fits g c = (served_from c.args.self.now c.self.view_is (said g c None)).fits
-
-pub returns-in-Ok-clause-sound : goal.returns-in-Ok-clause-sound
-returns-in-Ok-clause-sound g c = (said g c None).node.sound
 
 pub returns-in-Ok-clause-length : goal.returns-in-Ok-clause-length
 returns-in-Ok-clause-length g c = said_length c.in-Ok.said (length c.args.pdu.now) c.in-Ok.ensures.length
@@ -88,12 +85,6 @@ returns-in-Ok-clause-untouched g c =
     c.index_mut.result.now c.index_mut.ensures.value c.in-Receives.rx c.in-Receives.is
     c.args.self.now c.in-Ok.said c.receive.new.rx (g.C.Cells.state c.receive.new.cells) c.self.view_is c.in-Ok.ensures.as_before c.in-Ok.ensures.untouched
 
-pub returns-in-Ok-clause-faulted : goal.returns-in-Ok-clause-faulted
-returns-in-Ok-clause-faulted g c = unless_faulted Reception _ (Ok c.in-Ok.said) tt
-
-pub returns-in-Ok-clause-faults : goal.returns-in-Ok-clause-faults
-returns-in-Ok-clause-faults g c = c.in-Ok.ensures.faults ∙ ap (λ (s : NodeState). s.store.disk.faults) c.self.view_is
-
 -- ---- it was refused
 
 bad_length : (g : Over) (c : goal.In-Err-BadLength g)
@@ -114,23 +105,20 @@ invariant_of-self-in-Err-BadLength g c = (bad_length g c).node
 pub returns-in-Err-BadLength-clause-step : goal.returns-in-Err-BadLength-clause-step
 returns-in-Err-BadLength-clause-step g c source = step_from c.args.self.now c.self.view_is (bad_length g c)
 
-pub returns-in-Err-BadLength-clause-down : goal.returns-in-Err-BadLength-clause-down
-returns-in-Err-BadLength-clause-down g c = not_down c.self.inside.known (g.C.Cells.state c.self.inside.cells) c.if-not-self.false c.args.self.now c.self.view_is Reception (Err fault.BadLength) tt
+pub returns-in-Err-BadLength-clause-serves : goal.returns-in-Err-BadLength-clause-serves
+returns-in-Err-BadLength-clause-serves g c =
+    record {
+      down = not_down c.self.inside.known (g.C.Cells.state c.self.inside.cells) c.if-not-self.false c.args.self.now c.self.view_is Reception (Err fault.BadLength) tt;
+      faulted = unless_faulted Reception _ (Err fault.BadLength) tt;
+      faults = tt;
+      layout = (served_from c.args.self.now c.self.view_is (bad_length g c)).layout;
+      runs = (served_from c.args.self.now c.self.view_is (bad_length g c)).runs;
+      fits = (served_from c.args.self.now c.self.view_is (bad_length g c)).fits;
+      sound = (bad_length g c).node.sound;
+    }
 
 pub returns-in-Err-BadLength-clause-no_route : goal.returns-in-Err-BadLength-clause-no_route
 returns-in-Err-BadLength-clause-no_route g c = not_unrouted c.self.inside.known (g.C.Cells.state c.self.inside.cells) c.self.invariant c.if-not-self.false c.args.id Receives c.in-Some.place c.in-Some.route c.in-Some.ensures c.args.self.now c.self.view_is Reception (Err fault.BadLength) tt
-
-pub returns-in-Err-BadLength-clause-layout : goal.returns-in-Err-BadLength-clause-layout
-returns-in-Err-BadLength-clause-layout g c = (served_from c.args.self.now c.self.view_is (bad_length g c)).layout
-
-pub returns-in-Err-BadLength-clause-runs : goal.returns-in-Err-BadLength-clause-runs
-returns-in-Err-BadLength-clause-runs g c = (served_from c.args.self.now c.self.view_is (bad_length g c)).runs
-
-pub returns-in-Err-BadLength-clause-fits : goal.returns-in-Err-BadLength-clause-fits
-returns-in-Err-BadLength-clause-fits g c = (served_from c.args.self.now c.self.view_is (bad_length g c)).fits
-
-pub returns-in-Err-BadLength-clause-sound : goal.returns-in-Err-BadLength-clause-sound
-returns-in-Err-BadLength-clause-sound g c = (bad_length g c).node.sound
 
 pub returns-in-Err-BadLength-clause-honest : goal.returns-in-Err-BadLength-clause-honest
 returns-in-Err-BadLength-clause-honest g c sent source id_is pdu_is in_time fits =
@@ -144,9 +132,6 @@ returns-in-Err-BadLength-clause-untouched g c =
     c.receive.new.rx (g.C.Cells.state c.receive.new.cells) c.in-Err-BadLength.ensures.as_before
     (subst (λ (f : ReceiveFault). IfUnmoved (Err f) (g.C.Cells.state c.receive.new.cells ≡ g.C.Cells.state c.self.inside.cells)) c.in-Err-BadLength.field-0-is c.in-Err-BadLength.ensures.untouched)
     ∙ c.self.view_is
-
-pub returns-in-Err-BadLength-clause-faulted : goal.returns-in-Err-BadLength-clause-faulted
-returns-in-Err-BadLength-clause-faulted g c = unless_faulted Reception _ (Err fault.BadLength) tt
 
 key : (g : Over) (c : goal.In-Err-Key g)
     → Done c.self.inside.known (g.C.Cells.state c.self.inside.cells) (receives c.args.id c.args.pdu.now) (Refused (Key c.in-Err-Key.refusal)) (with_counter_at c.self.inside.known c.in-Some.place (of_route.Receives c.receive.new.rx)) (g.C.Cells.state c.receive.new.cells)
@@ -166,23 +151,20 @@ invariant_of-self-in-Err-Key g c = (key g c).node
 pub returns-in-Err-Key-clause-step : goal.returns-in-Err-Key-clause-step
 returns-in-Err-Key-clause-step g c source = step_from c.args.self.now c.self.view_is (key g c)
 
-pub returns-in-Err-Key-clause-down : goal.returns-in-Err-Key-clause-down
-returns-in-Err-Key-clause-down g c = not_down c.self.inside.known (g.C.Cells.state c.self.inside.cells) c.if-not-self.false c.args.self.now c.self.view_is Reception (Err (fault.Key c.in-Err-Key.refusal)) tt
+pub returns-in-Err-Key-clause-serves : goal.returns-in-Err-Key-clause-serves
+returns-in-Err-Key-clause-serves g c =
+    record {
+      down = not_down c.self.inside.known (g.C.Cells.state c.self.inside.cells) c.if-not-self.false c.args.self.now c.self.view_is Reception (Err (fault.Key c.in-Err-Key.refusal)) tt;
+      faulted = unless_faulted Reception _ (Err (fault.Key c.in-Err-Key.refusal)) tt;
+      faults = tt;
+      layout = (served_from c.args.self.now c.self.view_is (key g c)).layout;
+      runs = (served_from c.args.self.now c.self.view_is (key g c)).runs;
+      fits = (served_from c.args.self.now c.self.view_is (key g c)).fits;
+      sound = (key g c).node.sound;
+    }
 
 pub returns-in-Err-Key-clause-no_route : goal.returns-in-Err-Key-clause-no_route
 returns-in-Err-Key-clause-no_route g c = not_unrouted c.self.inside.known (g.C.Cells.state c.self.inside.cells) c.self.invariant c.if-not-self.false c.args.id Receives c.in-Some.place c.in-Some.route c.in-Some.ensures c.args.self.now c.self.view_is Reception (Err (fault.Key c.in-Err-Key.refusal)) tt
-
-pub returns-in-Err-Key-clause-layout : goal.returns-in-Err-Key-clause-layout
-returns-in-Err-Key-clause-layout g c = (served_from c.args.self.now c.self.view_is (key g c)).layout
-
-pub returns-in-Err-Key-clause-runs : goal.returns-in-Err-Key-clause-runs
-returns-in-Err-Key-clause-runs g c = (served_from c.args.self.now c.self.view_is (key g c)).runs
-
-pub returns-in-Err-Key-clause-fits : goal.returns-in-Err-Key-clause-fits
-returns-in-Err-Key-clause-fits g c = (served_from c.args.self.now c.self.view_is (key g c)).fits
-
-pub returns-in-Err-Key-clause-sound : goal.returns-in-Err-Key-clause-sound
-returns-in-Err-Key-clause-sound g c = (key g c).node.sound
 
 pub returns-in-Err-Key-clause-honest : goal.returns-in-Err-Key-clause-honest
 returns-in-Err-Key-clause-honest g c sent source id_is pdu_is in_time fits =
@@ -196,9 +178,6 @@ returns-in-Err-Key-clause-untouched g c =
     c.receive.new.rx (g.C.Cells.state c.receive.new.cells) c.in-Err-Key.ensures.as_before
     (subst (λ (f : ReceiveFault). IfUnmoved (Err f) (g.C.Cells.state c.receive.new.cells ≡ g.C.Cells.state c.self.inside.cells)) c.in-Err-Key.field-0-is c.in-Err-Key.ensures.untouched)
     ∙ c.self.view_is
-
-pub returns-in-Err-Key-clause-faulted : goal.returns-in-Err-Key-clause-faulted
-returns-in-Err-Key-clause-faulted g c = unless_faulted Reception _ (Err (fault.Key c.in-Err-Key.refusal)) tt
 
 -- ---- the disk failed
 
@@ -224,23 +203,20 @@ invariant_of-self-in-Err-Faulted g c = (faulted g c).node
 pub returns-in-Err-Faulted-clause-step : goal.returns-in-Err-Faulted-clause-step
 returns-in-Err-Faulted-clause-step g c source = rw c.fail_at.ensures.fault (step_from c.args.self.now c.self.view_is (faulted g c))
 
-pub returns-in-Err-Faulted-clause-down : goal.returns-in-Err-Faulted-clause-down
-returns-in-Err-Faulted-clause-down g c = not_down c.self.inside.known (g.C.Cells.state c.self.inside.cells) c.if-not-self.false c.args.self.now c.self.view_is Reception (Err c.fail_at.result) (past g c)
+pub returns-in-Err-Faulted-clause-serves : goal.returns-in-Err-Faulted-clause-serves
+returns-in-Err-Faulted-clause-serves g c =
+    record {
+      down = not_down c.self.inside.known (g.C.Cells.state c.self.inside.cells) c.if-not-self.false c.args.self.now c.self.view_is Reception (Err c.fail_at.result) (past g c);
+      faulted = λ e. subst (λ (s : NodeState). Rose s.store.disk.faults (g.C.Cells.state c.receive.new.cells).disk.faults) c.self.view_is (c.in-Err-Faulted.ensures.rose c.in-Err-Faulted.bound (ap (λ (f : ReceiveFault). Err f) c.in-Err-Faulted.field-0-is));
+      faults = tt;
+      layout = (served_from c.args.self.now c.self.view_is (faulted g c)).layout;
+      runs = (served_from c.args.self.now c.self.view_is (faulted g c)).runs;
+      fits = (served_from c.args.self.now c.self.view_is (faulted g c)).fits;
+      sound = (faulted g c).node.sound;
+    }
 
 pub returns-in-Err-Faulted-clause-no_route : goal.returns-in-Err-Faulted-clause-no_route
 returns-in-Err-Faulted-clause-no_route g c = not_unrouted c.self.inside.known (g.C.Cells.state c.self.inside.cells) c.self.invariant c.if-not-self.false c.args.id Receives c.in-Some.place c.in-Some.route c.in-Some.ensures c.args.self.now c.self.view_is Reception (Err c.fail_at.result) (past g c)
-
-pub returns-in-Err-Faulted-clause-layout : goal.returns-in-Err-Faulted-clause-layout
-returns-in-Err-Faulted-clause-layout g c = (served_from c.args.self.now c.self.view_is (faulted g c)).layout
-
-pub returns-in-Err-Faulted-clause-runs : goal.returns-in-Err-Faulted-clause-runs
-returns-in-Err-Faulted-clause-runs g c = (served_from c.args.self.now c.self.view_is (faulted g c)).runs
-
-pub returns-in-Err-Faulted-clause-fits : goal.returns-in-Err-Faulted-clause-fits
-returns-in-Err-Faulted-clause-fits g c = (served_from c.args.self.now c.self.view_is (faulted g c)).fits
-
-pub returns-in-Err-Faulted-clause-sound : goal.returns-in-Err-Faulted-clause-sound
-returns-in-Err-Faulted-clause-sound g c = (faulted g c).node.sound
 
 pub returns-in-Err-Faulted-clause-honest : goal.returns-in-Err-Faulted-clause-honest
 returns-in-Err-Faulted-clause-honest g c sent source id_is pdu_is in_time fits = subst (λ (f : NodeFault). IsHeard sent (received_line c.args.id c.args.pdu.now source (Err f))) (sym c.fail_at.ensures.fault) tt
@@ -248,6 +224,3 @@ returns-in-Err-Faulted-clause-honest g c sent source id_is pdu_is in_time fits =
 pub returns-in-Err-Faulted-clause-untouched : goal.returns-in-Err-Faulted-clause-untouched
 returns-in-Err-Faulted-clause-untouched g c =
     subst (λ (f : NodeFault). IfLeftAlone (Err f) (state_in c.fail_at.new.self (g.C.Cells.state c.receive.new.cells) ≡ c.args.self.now)) (sym c.fail_at.ensures.fault) tt
-
-pub returns-in-Err-Faulted-clause-faulted : goal.returns-in-Err-Faulted-clause-faulted
-returns-in-Err-Faulted-clause-faulted g c e = subst (λ (s : NodeState). Rose s.store.disk.faults (g.C.Cells.state c.receive.new.cells).disk.faults) c.self.view_is (c.in-Err-Faulted.ensures.rose c.in-Err-Faulted.bound (ap (λ (f : ReceiveFault). Err f) c.in-Err-Faulted.field-0-is))

@@ -48,23 +48,20 @@ invariant_of-self g c = (sent g c).node
 pub returns-in-Ok-clause-step : goal.returns-in-Ok-clause-step
 returns-in-Ok-clause-step g c = step_from c.args.self.now c.self.view_is (sent g c)
 
-pub returns-in-Ok-clause-down : goal.returns-in-Ok-clause-down
-returns-in-Ok-clause-down g c = not_down c.self.inside.known (g.C.Cells.state c.self.inside.cells) c.if-not-self.false c.args.self.now c.self.view_is Sending (Ok c.in-Ok.sent) tt
+pub returns-in-Ok-clause-serves : goal.returns-in-Ok-clause-serves
+returns-in-Ok-clause-serves g c =
+    record {
+      down = not_down c.self.inside.known (g.C.Cells.state c.self.inside.cells) c.if-not-self.false c.args.self.now c.self.view_is Sending (Ok c.in-Ok.sent) tt;
+      faulted = unless_faulted Sending _ (Ok c.in-Ok.sent) tt;
+      faults = c.in-Ok.ensures.faults ∙ ap (λ (s : NodeState). s.store.disk.faults) c.self.view_is;
+      layout = (served_from c.args.self.now c.self.view_is (sent g c)).layout;
+      runs = (served_from c.args.self.now c.self.view_is (sent g c)).runs;
+      fits = (served_from c.args.self.now c.self.view_is (sent g c)).fits;
+      sound = (sent g c).node.sound;
+    }
 
 pub returns-in-Ok-clause-no_route : goal.returns-in-Ok-clause-no_route
 returns-in-Ok-clause-no_route g c = not_unrouted c.self.inside.known (g.C.Cells.state c.self.inside.cells) c.self.invariant c.if-not-self.false c.args.id Sends c.in-Some.place c.in-Some.route c.in-Some.ensures c.args.self.now c.self.view_is Sending (Ok c.in-Ok.sent) tt
-
-pub returns-in-Ok-clause-layout : goal.returns-in-Ok-clause-layout
-returns-in-Ok-clause-layout g c = (served_from c.args.self.now c.self.view_is (sent g c)).layout
-
-pub returns-in-Ok-clause-runs : goal.returns-in-Ok-clause-runs
-returns-in-Ok-clause-runs g c = (served_from c.args.self.now c.self.view_is (sent g c)).runs
-
-pub returns-in-Ok-clause-fits : goal.returns-in-Ok-clause-fits
-returns-in-Ok-clause-fits g c = (served_from c.args.self.now c.self.view_is (sent g c)).fits
-
-pub returns-in-Ok-clause-sound : goal.returns-in-Ok-clause-sound
-returns-in-Ok-clause-sound g c = (sent g c).node.sound
 
 pub returns-in-Ok-clause-length : goal.returns-in-Ok-clause-length
 returns-in-Ok-clause-length g c = c.in-Ok.ensures.length
@@ -87,12 +84,6 @@ returns-in-Ok-clause-others g c other v =
     (sent_others c.self.inside.known (g.C.Cells.state c.self.inside.cells) c.self.invariant c.if-not-self.false c.args.id c.in-Some.place c.in-Some.route c.in-Some.ensures
     c.index_mut.result.now c.index_mut.ensures.value c.in-Sends.tx c.in-Sends.is
     c.send.new.tx (g.C.Cells.state c.send.new.cells) c.in-Ok.ensures.made other v)
-
-pub returns-in-Ok-clause-faulted : goal.returns-in-Ok-clause-faulted
-returns-in-Ok-clause-faulted g c = unless_faulted Sending _ (Ok c.in-Ok.sent) tt
-
-pub returns-in-Ok-clause-faults : goal.returns-in-Ok-clause-faults
-returns-in-Ok-clause-faults g c = c.in-Ok.ensures.faults ∙ ap (λ (s : NodeState). s.store.disk.faults) c.self.view_is
 
 -- ---- it was refused
 
@@ -122,23 +113,20 @@ invariant_of-self-in-Err-BadLength g c = (bad_length g c).node
 pub returns-in-Err-BadLength-clause-step : goal.returns-in-Err-BadLength-clause-step
 returns-in-Err-BadLength-clause-step g c = step_from c.args.self.now c.self.view_is (bad_length g c)
 
-pub returns-in-Err-BadLength-clause-down : goal.returns-in-Err-BadLength-clause-down
-returns-in-Err-BadLength-clause-down g c = not_down c.self.inside.known (g.C.Cells.state c.self.inside.cells) c.if-not-self.false c.args.self.now c.self.view_is Sending (Err fault.BadLength) tt
+pub returns-in-Err-BadLength-clause-serves : goal.returns-in-Err-BadLength-clause-serves
+returns-in-Err-BadLength-clause-serves g c =
+    record {
+      down = not_down c.self.inside.known (g.C.Cells.state c.self.inside.cells) c.if-not-self.false c.args.self.now c.self.view_is Sending (Err fault.BadLength) tt;
+      faulted = unless_faulted Sending _ (Err fault.BadLength) tt;
+      faults = tt;
+      layout = (served_from c.args.self.now c.self.view_is (bad_length g c)).layout;
+      runs = (served_from c.args.self.now c.self.view_is (bad_length g c)).runs;
+      fits = (served_from c.args.self.now c.self.view_is (bad_length g c)).fits;
+      sound = (bad_length g c).node.sound;
+    }
 
 pub returns-in-Err-BadLength-clause-no_route : goal.returns-in-Err-BadLength-clause-no_route
 returns-in-Err-BadLength-clause-no_route g c = not_unrouted c.self.inside.known (g.C.Cells.state c.self.inside.cells) c.self.invariant c.if-not-self.false c.args.id Sends c.in-Some.place c.in-Some.route c.in-Some.ensures c.args.self.now c.self.view_is Sending (Err fault.BadLength) tt
-
-pub returns-in-Err-BadLength-clause-layout : goal.returns-in-Err-BadLength-clause-layout
-returns-in-Err-BadLength-clause-layout g c = (served_from c.args.self.now c.self.view_is (bad_length g c)).layout
-
-pub returns-in-Err-BadLength-clause-runs : goal.returns-in-Err-BadLength-clause-runs
-returns-in-Err-BadLength-clause-runs g c = (served_from c.args.self.now c.self.view_is (bad_length g c)).runs
-
-pub returns-in-Err-BadLength-clause-fits : goal.returns-in-Err-BadLength-clause-fits
-returns-in-Err-BadLength-clause-fits g c = (served_from c.args.self.now c.self.view_is (bad_length g c)).fits
-
-pub returns-in-Err-BadLength-clause-sound : goal.returns-in-Err-BadLength-clause-sound
-returns-in-Err-BadLength-clause-sound g c = (bad_length g c).node.sound
 
 pub returns-in-Err-BadLength-clause-others : goal.returns-in-Err-BadLength-clause-others
 returns-in-Err-BadLength-clause-others g c other v covered = subst (λ (s : NodeState). IsCovered s other Receives v) (sym (bad_length_same g c)) covered
@@ -148,9 +136,6 @@ returns-in-Err-BadLength-clause-untouched g c other = bad_length_same g c
 
 pub returns-in-Err-BadLength-clause-unwritten : goal.returns-in-Err-BadLength-clause-unwritten
 returns-in-Err-BadLength-clause-unwritten g c = c.in-Err-BadLength.ensures.unwritten
-
-pub returns-in-Err-BadLength-clause-faulted : goal.returns-in-Err-BadLength-clause-faulted
-returns-in-Err-BadLength-clause-faulted g c = unless_faulted Sending _ (Err fault.BadLength) tt
 
 key : (g : Over) (c : goal.In-Err-Key g)
     → Done c.self.inside.known (g.C.Cells.state c.self.inside.cells) (sends c.args.id c.args.payload.now) (Refused (Key c.in-Err-Key.refusal)) (with_counter_at c.self.inside.known c.in-Some.place (of_route.Sends c.send.new.tx)) (g.C.Cells.state c.send.new.cells)
@@ -178,23 +163,20 @@ invariant_of-self-in-Err-Key g c = (key g c).node
 pub returns-in-Err-Key-clause-step : goal.returns-in-Err-Key-clause-step
 returns-in-Err-Key-clause-step g c = step_from c.args.self.now c.self.view_is (key g c)
 
-pub returns-in-Err-Key-clause-down : goal.returns-in-Err-Key-clause-down
-returns-in-Err-Key-clause-down g c = not_down c.self.inside.known (g.C.Cells.state c.self.inside.cells) c.if-not-self.false c.args.self.now c.self.view_is Sending (Err (fault.Key c.in-Err-Key.refusal)) tt
+pub returns-in-Err-Key-clause-serves : goal.returns-in-Err-Key-clause-serves
+returns-in-Err-Key-clause-serves g c =
+    record {
+      down = not_down c.self.inside.known (g.C.Cells.state c.self.inside.cells) c.if-not-self.false c.args.self.now c.self.view_is Sending (Err (fault.Key c.in-Err-Key.refusal)) tt;
+      faulted = unless_faulted Sending _ (Err (fault.Key c.in-Err-Key.refusal)) tt;
+      faults = tt;
+      layout = (served_from c.args.self.now c.self.view_is (key g c)).layout;
+      runs = (served_from c.args.self.now c.self.view_is (key g c)).runs;
+      fits = (served_from c.args.self.now c.self.view_is (key g c)).fits;
+      sound = (key g c).node.sound;
+    }
 
 pub returns-in-Err-Key-clause-no_route : goal.returns-in-Err-Key-clause-no_route
 returns-in-Err-Key-clause-no_route g c = not_unrouted c.self.inside.known (g.C.Cells.state c.self.inside.cells) c.self.invariant c.if-not-self.false c.args.id Sends c.in-Some.place c.in-Some.route c.in-Some.ensures c.args.self.now c.self.view_is Sending (Err (fault.Key c.in-Err-Key.refusal)) tt
-
-pub returns-in-Err-Key-clause-layout : goal.returns-in-Err-Key-clause-layout
-returns-in-Err-Key-clause-layout g c = (served_from c.args.self.now c.self.view_is (key g c)).layout
-
-pub returns-in-Err-Key-clause-runs : goal.returns-in-Err-Key-clause-runs
-returns-in-Err-Key-clause-runs g c = (served_from c.args.self.now c.self.view_is (key g c)).runs
-
-pub returns-in-Err-Key-clause-fits : goal.returns-in-Err-Key-clause-fits
-returns-in-Err-Key-clause-fits g c = (served_from c.args.self.now c.self.view_is (key g c)).fits
-
-pub returns-in-Err-Key-clause-sound : goal.returns-in-Err-Key-clause-sound
-returns-in-Err-Key-clause-sound g c = (key g c).node.sound
 
 pub returns-in-Err-Key-clause-others : goal.returns-in-Err-Key-clause-others
 returns-in-Err-Key-clause-others g c other v covered = subst (λ (s : NodeState). IsCovered s other Receives v) (sym (key_same g c)) covered
@@ -204,9 +186,6 @@ returns-in-Err-Key-clause-untouched g c other = key_same g c
 
 pub returns-in-Err-Key-clause-unwritten : goal.returns-in-Err-Key-clause-unwritten
 returns-in-Err-Key-clause-unwritten g c = c.in-Err-Key.ensures.unwritten
-
-pub returns-in-Err-Key-clause-faulted : goal.returns-in-Err-Key-clause-faulted
-returns-in-Err-Key-clause-faulted g c = unless_faulted Sending _ (Err (fault.Key c.in-Err-Key.refusal)) tt
 
 exhausted : (g : Over) (c : goal.In-Err-Exhausted g)
     → Done c.self.inside.known (g.C.Cells.state c.self.inside.cells) (sends c.args.id c.args.payload.now) (Refused Exhausted) (with_counter_at c.self.inside.known c.in-Some.place (of_route.Sends c.send.new.tx)) (g.C.Cells.state c.send.new.cells)
@@ -234,23 +213,20 @@ invariant_of-self-in-Err-Exhausted g c = (exhausted g c).node
 pub returns-in-Err-Exhausted-clause-step : goal.returns-in-Err-Exhausted-clause-step
 returns-in-Err-Exhausted-clause-step g c = step_from c.args.self.now c.self.view_is (exhausted g c)
 
-pub returns-in-Err-Exhausted-clause-down : goal.returns-in-Err-Exhausted-clause-down
-returns-in-Err-Exhausted-clause-down g c = not_down c.self.inside.known (g.C.Cells.state c.self.inside.cells) c.if-not-self.false c.args.self.now c.self.view_is Sending (Err fault.Exhausted) tt
+pub returns-in-Err-Exhausted-clause-serves : goal.returns-in-Err-Exhausted-clause-serves
+returns-in-Err-Exhausted-clause-serves g c =
+    record {
+      down = not_down c.self.inside.known (g.C.Cells.state c.self.inside.cells) c.if-not-self.false c.args.self.now c.self.view_is Sending (Err fault.Exhausted) tt;
+      faulted = unless_faulted Sending _ (Err fault.Exhausted) tt;
+      faults = tt;
+      layout = (served_from c.args.self.now c.self.view_is (exhausted g c)).layout;
+      runs = (served_from c.args.self.now c.self.view_is (exhausted g c)).runs;
+      fits = (served_from c.args.self.now c.self.view_is (exhausted g c)).fits;
+      sound = (exhausted g c).node.sound;
+    }
 
 pub returns-in-Err-Exhausted-clause-no_route : goal.returns-in-Err-Exhausted-clause-no_route
 returns-in-Err-Exhausted-clause-no_route g c = not_unrouted c.self.inside.known (g.C.Cells.state c.self.inside.cells) c.self.invariant c.if-not-self.false c.args.id Sends c.in-Some.place c.in-Some.route c.in-Some.ensures c.args.self.now c.self.view_is Sending (Err fault.Exhausted) tt
-
-pub returns-in-Err-Exhausted-clause-layout : goal.returns-in-Err-Exhausted-clause-layout
-returns-in-Err-Exhausted-clause-layout g c = (served_from c.args.self.now c.self.view_is (exhausted g c)).layout
-
-pub returns-in-Err-Exhausted-clause-runs : goal.returns-in-Err-Exhausted-clause-runs
-returns-in-Err-Exhausted-clause-runs g c = (served_from c.args.self.now c.self.view_is (exhausted g c)).runs
-
-pub returns-in-Err-Exhausted-clause-fits : goal.returns-in-Err-Exhausted-clause-fits
-returns-in-Err-Exhausted-clause-fits g c = (served_from c.args.self.now c.self.view_is (exhausted g c)).fits
-
-pub returns-in-Err-Exhausted-clause-sound : goal.returns-in-Err-Exhausted-clause-sound
-returns-in-Err-Exhausted-clause-sound g c = (exhausted g c).node.sound
 
 pub returns-in-Err-Exhausted-clause-others : goal.returns-in-Err-Exhausted-clause-others
 returns-in-Err-Exhausted-clause-others g c other v covered = subst (λ (s : NodeState). IsCovered s other Receives v) (sym (exhausted_same g c)) covered
@@ -260,9 +236,6 @@ returns-in-Err-Exhausted-clause-untouched g c other = exhausted_same g c
 
 pub returns-in-Err-Exhausted-clause-unwritten : goal.returns-in-Err-Exhausted-clause-unwritten
 returns-in-Err-Exhausted-clause-unwritten g c = c.in-Err-Exhausted.ensures.unwritten
-
-pub returns-in-Err-Exhausted-clause-faulted : goal.returns-in-Err-Exhausted-clause-faulted
-returns-in-Err-Exhausted-clause-faulted g c = unless_faulted Sending _ (Err fault.Exhausted) tt
 
 -- ---- the disk failed
 
@@ -288,23 +261,20 @@ invariant_of-self-in-Err-Faulted g c = (faulted g c).node
 pub returns-in-Err-Faulted-clause-step : goal.returns-in-Err-Faulted-clause-step
 returns-in-Err-Faulted-clause-step g c = rw c.fail_at.ensures.fault (step_from c.args.self.now c.self.view_is (faulted g c))
 
-pub returns-in-Err-Faulted-clause-down : goal.returns-in-Err-Faulted-clause-down
-returns-in-Err-Faulted-clause-down g c = not_down c.self.inside.known (g.C.Cells.state c.self.inside.cells) c.if-not-self.false c.args.self.now c.self.view_is Sending (Err c.fail_at.result) (past g c)
+pub returns-in-Err-Faulted-clause-serves : goal.returns-in-Err-Faulted-clause-serves
+returns-in-Err-Faulted-clause-serves g c =
+    record {
+      down = not_down c.self.inside.known (g.C.Cells.state c.self.inside.cells) c.if-not-self.false c.args.self.now c.self.view_is Sending (Err c.fail_at.result) (past g c);
+      faulted = λ e. subst (λ (s : NodeState). Rose s.store.disk.faults (g.C.Cells.state c.send.new.cells).disk.faults) c.self.view_is (c.in-Err-Faulted.ensures.rose c.in-Err-Faulted.bound (ap (λ (f : SendFault). Err f) c.in-Err-Faulted.field-0-is));
+      faults = tt;
+      layout = (served_from c.args.self.now c.self.view_is (faulted g c)).layout;
+      runs = (served_from c.args.self.now c.self.view_is (faulted g c)).runs;
+      fits = (served_from c.args.self.now c.self.view_is (faulted g c)).fits;
+      sound = (faulted g c).node.sound;
+    }
 
 pub returns-in-Err-Faulted-clause-no_route : goal.returns-in-Err-Faulted-clause-no_route
 returns-in-Err-Faulted-clause-no_route g c = not_unrouted c.self.inside.known (g.C.Cells.state c.self.inside.cells) c.self.invariant c.if-not-self.false c.args.id Sends c.in-Some.place c.in-Some.route c.in-Some.ensures c.args.self.now c.self.view_is Sending (Err c.fail_at.result) (past g c)
-
-pub returns-in-Err-Faulted-clause-layout : goal.returns-in-Err-Faulted-clause-layout
-returns-in-Err-Faulted-clause-layout g c = (served_from c.args.self.now c.self.view_is (faulted g c)).layout
-
-pub returns-in-Err-Faulted-clause-runs : goal.returns-in-Err-Faulted-clause-runs
-returns-in-Err-Faulted-clause-runs g c = (served_from c.args.self.now c.self.view_is (faulted g c)).runs
-
-pub returns-in-Err-Faulted-clause-fits : goal.returns-in-Err-Faulted-clause-fits
-returns-in-Err-Faulted-clause-fits g c = (served_from c.args.self.now c.self.view_is (faulted g c)).fits
-
-pub returns-in-Err-Faulted-clause-sound : goal.returns-in-Err-Faulted-clause-sound
-returns-in-Err-Faulted-clause-sound g c = (faulted g c).node.sound
 
 pub returns-in-Err-Faulted-clause-others : goal.returns-in-Err-Faulted-clause-others
 returns-in-Err-Faulted-clause-others g c other v =
@@ -319,6 +289,3 @@ returns-in-Err-Faulted-clause-untouched g c apart = absurd (apart c.fail_at.ensu
 
 pub returns-in-Err-Faulted-clause-unwritten : goal.returns-in-Err-Faulted-clause-unwritten
 returns-in-Err-Faulted-clause-unwritten g c = c.in-Err-Faulted.ensures.unwritten
-
-pub returns-in-Err-Faulted-clause-faulted : goal.returns-in-Err-Faulted-clause-faulted
-returns-in-Err-Faulted-clause-faulted g c e = subst (λ (s : NodeState). Rose s.store.disk.faults (g.C.Cells.state c.send.new.cells).disk.faults) c.self.view_is (c.in-Err-Faulted.ensures.rose c.in-Err-Faulted.bound (ap (λ (f : SendFault). Err f) c.in-Err-Faulted.field-0-is))

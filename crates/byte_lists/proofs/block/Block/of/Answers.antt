@@ -1,8 +1,8 @@
 use Rattle.std.proofs.Common.{w8, ◌<◌}
 use Rattle.std.proofs.lemmas.List.Elements.{All-from_get_or}
 use borrow.Author.Rules.{elem_Fits}
-use Rattle.she_aes.specs.Cipher.{IsBlock}
-use Rattle.she_aes.proofs.Block.of.Goals as goal
+use Rattle.byte_lists.specs.Blocks.{IsBlock}
+use Rattle.byte_lists.proofs.block.Block.of.Goals as goal
 
 -- an array of 16 numbers of eight bits
 is_block : (c : goal.Start) → IsBlock c.args.bytes

@@ -3,7 +3,7 @@ use Rattle.std.specs.Prelude.{◌≡◌, ℕ, List, [], ◌∷◌, ◌++◌}
 use Rattle.std.specs.List.{join_with_byte}
 use Rattle.std.proofs.Common.{sym, ◌∙◌, ap, append_assoc, append-nil}
 use Rattle.text_lines.specs.Written.{written}
-use Rattle.bus_texts.specs.Spaced.{spaced}
+use Rattle.text_lines.specs.Spaced.{spaced}
 
 join-spaced : (word : List ℕ) (words : List (List ℕ)) → join_with_byte 32 (word ∷ words) ≡ word ++ spaced words
 join-spaced word [] = sym (append-nil word)

@@ -1,0 +1,2 @@
+-- The lemmas that crates above cite.
+pub use Rattle.secoc_gateway.proofs.TurnLaws.{certain_by_mark}

@@ -1,0 +1,2 @@
+-- The lemmas that crates above cite.
+pub use Rattle.secured_pdu.proofs.Deciding.{verdict_at}

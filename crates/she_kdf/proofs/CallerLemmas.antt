@@ -1,0 +1,3 @@
+-- The lemmas that crates above cite.
+pub use Rattle.she_kdf.proofs.DerivationByTable.{kdf_by_table_is}
+unfoldable pub use Rattle.she_kdf.proofs.DerivationByTable.{kdf_by_table, tabled_out}

@@ -1,0 +1,5 @@
+-- The lemmas that crates above cite.
+pub use Rattle.trace_audit.proofs.Audited.{AuditsLine-same, other_as, put_back}
+pub use Rattle.trace_audit.proofs.OneFinding.{same_finding}
+pub use Rattle.trace_audit.proofs.Rising.{Keeps, above, keeps_one}
+pub use Rattle.trace_audit.proofs.Windows.{HaveWindows, line_with-window}

@@ -1,0 +1,2 @@
+-- The lemmas that crates above cite.
+pub use Rattle.world_runs.proofs.DisksBack.{no_node}
