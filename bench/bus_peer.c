@@ -1,5 +1,5 @@
 /* The work of `bus_replay replay BUS -` in C, for comparison: `bus_peer BUS` reads a bus file and, from standard input, a script of that bus, and
-   prints the line of each event as soon as it is done, or, with the word at_once behind BUS, all lines in one piece.
+   prints the line of each event as soon as it is done, or, with the word at_once after BUS, all lines in one piece.
    It knows the events key, send and deliver. Counters stand in variables, and a bound that moves is written once, as its cell of 32 bytes, into an array:
    there is no store, nothing is synced, and no cut is survived. A key is taken as it stands: no update M1 to M5 is made or read. Bus file and
    script are taken to be right; of TOML only tables and lines of a name and a value are read. peer.h says how it is built. */

@@ -3,7 +3,7 @@
    input is taken to be right. peer.h says how it is built. */
 #include "peer.h"
 
-/* The schedule of the key at the front of a line; it is kept while the key is the same. */
+/* The schedule of the key at the beginning of a line; it is kept while the key is the same. */
 static const schedule *schedule_of(const char *line)
 {
     static uint8_t kept[16];

@@ -2,7 +2,7 @@
    calls (BearSSL has no CMAC). Build with -DRATHONSI, -DOPENSSL, -DMBEDTLS, -DBEARSSL, any of them.
 
    Two rows a peer. "a key a call": each call is given its key, as rathonsi_cmac is; the MAC is the key of the next call. "key kept": the key was
-   set before, as those libraries can do it and rathonsi_cmac can't; the MAC is the front of the next message.
+   set before, as those libraries can do it and rathonsi_cmac can't; the MAC is the beginning of the next message.
 
    Without words: of each length and each row the best of ROUNDS rounds, the rows by turns, as nanoseconds a call, and the first bytes of the
    last MAC, which are the same in all rows of one kind. With ROW LENGTH COUNT: that row alone, so many calls, for a counter of instructions.

@@ -54,8 +54,8 @@ static void cmac(const schedule *s, const uint8_t *message, size_t len, uint8_t 
     encrypt(s, mac);
 }
 
-/* A message is a Data ID (2 bytes), a payload and a whole freshness (8 bytes): the authenticated input. A PDU that is judged stands behind the
-   Data ID, and its freshness is then written behind the payload, over its last four bytes. */
+/* A message is a Data ID (2 bytes), a payload and a whole freshness (8 bytes): the authenticated input. A PDU that is judged stands after the
+   Data ID, and its freshness is then written after the payload, over its last four bytes. */
 enum { MOST_PDU = 64, MOST_MESSAGE = 2 + MOST_PDU + 4 };
 
 static void put_number(uint8_t *bytes, uint64_t number)
@@ -70,7 +70,7 @@ static uint64_t number_of(const uint8_t *bytes)
     return number;
 }
 
-/* What stands behind the payload in the PDU of a message: the low byte of the freshness, and three bytes of the CMAC. */
+/* What stands after the payload in the PDU of a message: the low byte of the freshness, and three bytes of the CMAC. */
 static inline void secure(const schedule *s, const uint8_t *message, size_t payload, uint8_t *end)
 {
     uint8_t mac[16];
@@ -81,7 +81,7 @@ static inline void secure(const schedule *s, const uint8_t *message, size_t payl
 
 typedef enum { ACCEPTED, BAD_LENGTH, FRESHNESS_FAILURE, VERIFICATION_FAILURE } verdict;
 
-/* The verdict on a PDU of so many bytes. Where it is accepted, its freshness stands behind the payload and is the counter. */
+/* The verdict on a PDU of so many bytes. Where it is accepted, its freshness stands after the payload and is the counter. */
 static verdict judge(const schedule *s, uint8_t *message, size_t pdu, unsigned window, uint64_t *counter)
 {
     if (pdu < 5 || pdu > MOST_PDU) return BAD_LENGTH;
