@@ -21,7 +21,7 @@ use Rattle.any_cells.specs.declared.looking.Found.{Found}
 use Rattle.any_cells.specs.declared.looking.Found.TheVariants as found
 use Rattle.any_cells.specs.Looking.{IsBlank, FoundWhere, IsFound}
 
--- a probe finds a store exactly where its header stands
+-- a probe finds a store exactly if its header stands
 pub stands-probe : (version : Version) (kind : Kind) (n : ℕ) (head : List ℕ) (p : Probe) → FewCells n → Probes version head p
     → head ≡ header (layout kind version) n → p ≡ probe.Store kind n
 stands-probe version kind n head probe.Blank few found is = absurd (header-not_blank (layout kind version) n (sym is ∙ found))
@@ -36,7 +36,7 @@ pub probe-stands : (version : Version) (kind : Kind) (n : ℕ) (head : List ℕ)
     → head ≡ header (layout kind version) n
 probe-stands version kind n head p found is = (subst (Probes version head) is found).1
 
--- and none exactly where all bytes are zero
+-- and none exactly if all bytes are zero
 pub blank-probe : (version : Version) (head : List ℕ) (p : Probe) → Probes version head p → head ≡ replicate 32 0 → p ≡ probe.Blank
 blank-probe version head probe.Blank found is = refl
 blank-probe version head probe.Foreign found is = absurd (found.0 is)
@@ -45,7 +45,7 @@ blank-probe version head (probe.Store kind n) found is = absurd (header-not_blan
 pub probe-blank : (version : Version) (head : List ℕ) (p : Probe) → Probes version head p → p ≡ probe.Blank → head ≡ replicate 32 0
 probe-blank version head p found is = subst (Probes version head) is found
 
--- no header, where no store was found; and bytes that aren't all zero
+-- no header, if no store was found; and bytes that aren't all zero
 pub no-header : (version : Version) (kind : Kind) (n : ℕ) (head : List ℕ) (p : Probe) → FewCells n → Probes version head p
     → (p ≡ probe.Store kind n → ⊥) → head ≡ header (layout kind version) n → ⊥
 no-header version kind n head p few found other is = other (stands-probe version kind n head p few found is)
@@ -53,7 +53,7 @@ no-header version kind n head p few found other is = other (stands-probe version
 pub not-blank : (version : Version) (head : List ℕ) (p : Probe) → Probes version head p → (p ≡ probe.Blank → ⊥) → head ≡ replicate 32 0 → ⊥
 not-blank version head p found other is = other (blank-probe version head p found is)
 
--- where a list ends within the 32 bytes behind the base, no header stands there, and no 32 zeros
+-- if a list ends within the 32 bytes after the base, no header stands there, and no 32 zeros
 pub ends-within : (version : Version) (x : List ℕ) → length x < base version + 32 → length (part 0 32 (from_base version x)) < 32
 ends-within version x short =
     omega (arith, length-take 32 (drop (base version) x), length-drop (base version) x, short)

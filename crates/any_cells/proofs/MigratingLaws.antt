@@ -49,7 +49,7 @@ not-migrated kind n before after (reread.Damaged i) room runs u = record { room 
 pub only-disk : (kind : Kind) (n : ℕ) (old : Option Told) (fault : Reread) → OnlyDisk kind n old fault → OnlyRoomOrDisk kind n old (store_fault fault)
 only-disk kind n old fault only b cells is m stands = inr (inr (ap store_fault (only b cells is m stands)))
 
--- where nothing is read, nothing has changed
+-- if nothing is read, nothing has changed
 pub kept-none : (kind : Kind) (n : ℕ) (old : Option Told) → KeepsCounted kind n old old
 kept-none kind n old b cells is count stands t told x image =
     let e : t ≡ firm b = same_Some _ _ (sym told ∙ is) in

@@ -40,7 +40,7 @@ fresh-length Twin version cells sized =
 fresh-length Log version cells sized =
     omega (arith, length-append (header (layout Log version) (length cells)) (fresh_cells Log cells), length-header (layout Log version) (length cells), length-fresh_log cells sized)
 
--- a store's header has room where the store has
+-- a store's header has room if the store has
 header-room : (kind : Kind) (version : Version) (n size : ℕ) → store_size (layout kind version) n ≤ size → size < base version + 32 → ⊥
 header-room Twin version n size room small = absurd (let no : ⊥ = omega (arith, room, small) in no)
 header-room Log version n size room small = absurd (let no : ⊥ = omega (arith, room, small) in no)

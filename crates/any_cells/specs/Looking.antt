@@ -12,8 +12,7 @@ use Rattle.any_cells.specs.declared.looking.Found.TheVariants.{Blank, Standing, 
 abbrev pub IsBlank : Version → List ℕ → Type 0
 IsBlank version x = part 0 32 (from_base version x) ≡ replicate 32 0
 
--- a row of a table of which the first row that applies says what is found: where this holds it is this, else the rest
--- says it
+-- a row of a table; the first row that applies says what is found: if this holds it is this, else the rest says it
 abbrev pub FoundWhere : Type 0 → Found → (Found → Type 0) → Found → Type 0
 FoundWhere applies this rest found = (applies × (found ≡ this)) ⊎ ((applies → ⊥) × rest found)
 

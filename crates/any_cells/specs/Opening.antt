@@ -1,4 +1,4 @@
--- What opening a store answers and leaves: one that stands on the disk, or a new one where the disk is blank
+-- What opening a store answers and leaves: one that stands on the disk, or a new one if the disk is blank
 use Rattle.std.specs.Prelude.{◌≡◌, ◌≢◌, ℕ, ◌+◌, ◌<◌, ◌≤◌, false, Some, List, [], length}
 use Rattle.cut_disk.specs.State.{DiskState, Told}
 use Rattle.cut_disk.specs.Images.{firm}
@@ -26,7 +26,7 @@ MadeWhereBlank version cells before s =
     (t : Told) → before.told ≡ Some t → IsBlank version t.bytes
     → (s.cells ≡ cells) × FreshOn s.layout cells t s.disk.told × Settled s
 
--- told bytes had another: nothing was written, they stand for the store's cells, and where none was loose it is settled
+-- told bytes had another: nothing was written, they stand for the store's cells, and if none was loose it is settled
 abbrev pub FoundWhereNot : Version → DiskState → CellsState → Type 0
 FoundWhereNot version before s =
     (t : Told) → before.told ≡ Some t → (IsBlank version t.bytes → ⊥)
@@ -44,9 +44,9 @@ pub record StoreOpened (kind : Kind) (version : Version) (cells : List (List ℕ
   pub made : MadeWhereBlank version cells before s
   pub found : FoundWhereNot version before s
 
--- Why no store is open. The disk is too small, and as it was. Or no call of it failed: there was no memory, and where
--- told bytes were blank the store was made; or told bytes aren't blank and have another header, or the store's own and
--- are damaged. Or a call of the disk failed.
+-- Why no store is open. The disk is too small, and as it was. Or no call of it failed: there was no memory, and if told
+-- bytes were blank the store was made; or told bytes aren't blank and have another header, or the store's own and are
+-- damaged. Or a call of the disk failed.
 abbrev pub NoStoreCause : Layout → List (List ℕ) → DiskState → DiskState → StoreFault → Type 0
 NoStoreCause layout cells before after store.TooSmall =
     (before.size < store_size layout (length cells)) × (after ≡ before)
@@ -63,7 +63,7 @@ NoStoreCause layout cells before after (store.Damaged i) =
     × ((t : Told) → before.told ≡ Some t
     → HasHeader layout (length cells) t.bytes × FirstDamaged layout t.bytes (length cells) i)
 
--- no store is open: there was room but for `TooSmall`, told bytes that weren't blank are as they were, and of blank
+-- no store is open: there was room except for `TooSmall`, told bytes that weren't blank are as they were, and of blank
 -- ones a format was begun at most
 pub record NoStoreOpened (layout : Layout) (cells : List (List ℕ)) (before after : DiskState)
     (fault : StoreFault) : Type 0 where

@@ -1,4 +1,4 @@
-// How a store's faults are told.
+// The texts of a store's faults.
 ghost use Rattle.std.specs.Prelude.{◌≡◌, string_bytes, IfOk};
 ghost use Rattle.any_cells.specs.FaultTexts.{store_fault_text};
 
@@ -20,7 +20,7 @@ macro_rules! fixed_fault_text {
     };
 }
 
-/// The text of a store's fault, as programs print it behind `store: `.
+/// The text of a store's fault, as programs print it after `store: `.
 pub fn store_fault_text(alloc: Global, fault: StoreFault) -> Result<String, AllocError>
     ensures { IfOk result (λ text. string_bytes text ≡ store_fault_text fault) }
 {

@@ -1,12 +1,12 @@
 //! A store of either kind, in either version: each call goes to the store that it is, with its contract.
 //!
-//! `migrate` moves the store that counts, of 1 to 441 cells, to version 2. If it stands and no byte is loose,
-//! each image at each exit stands for the same list in the version that counts there, and only room, memory
-//! or the disk refuses the move. Then no bytes but those of the store of version 2 change, and after Ok every
-//! image counts as version 2. Other refusals are exact by told bytes. `look` says what a disk has for a
-//! store: blank, standing, older, or else; exactly, in at most two reads. `open_store` makes one on a blank
-//! disk and attaches one that stands; a refusal leaves a disk that isn't blank as it was. `store_size` is
-//! where a store ends, `store_fault_text` its fault's text. `put_first` can't fail.
+//! `migrate` moves the store that counts, of 1 to 441 cells, to version 2. If it stands and no byte is loose, each
+//! image at each exit stands for the same list in the version that counts there. Only room, memory or the disk refuses
+//! the move. Then no bytes but those of the store of version 2 change, and after Ok every image counts as version 2.
+//! Other refusals are exact by told bytes. `look` says what a disk has for a store: blank, standing, older, or else;
+//! exactly, in at most two reads. `open_store` makes one on a blank disk and attaches one that stands; a refusal leaves
+//! a disk that isn't blank as it was. `store_size` is where a store ends, `store_fault_text` its fault's text.
+//! `put_first` can't fail.
 #![tactic(auto)]
 
 mod faults;
@@ -84,8 +84,8 @@ impl<D: Disk> AnyCells<D> {
         }
     }
 
-    /// Attaches the store of this kind and version of so many cells, 1 to 1024, that stands on the
-    /// disk, as `attach_as` of that kind's store does, with its errors.
+    /// Attaches the store of this kind and version of so many cells, 1 to 1024, that stands on the disk. It does so by
+    /// `attach_as` of that kind's store, with its errors.
     pub fn attach_as(
         alloc: Global,
         disk: D,

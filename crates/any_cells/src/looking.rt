@@ -29,9 +29,9 @@ pub enum Found {
     Foreign,
 }
 
-/// Looks what the disk has for this store, of 1 to 1024 cells, for which it has room. It reads 32 bytes
-/// at 32768, where the disk has them, and 32 at 0, and writes nothing. An older store is found for
-/// version 2 alone, also where the disk doesn't tell its bytes.
+/// Looks what the disk has for this store, of 1 to 1024 cells, for which it has room. It reads 32 bytes at 32768, if
+/// the disk has them, and 32 at 0, and writes nothing. An older store is found for version 2 alone, also if the disk
+/// doesn't tell its bytes.
 pub fn look<D: Disk>(
     disk: &mut D,
     kind: Kind,
@@ -51,7 +51,7 @@ pub fn look<D: Disk>(
     Ok(found_as(kind, version, cells, high, low))
 }
 
-/// What the 32 bytes at the base of this version are, where the disk has them; else no header.
+/// What the 32 bytes at the base of this version are, if the disk has them; else no header.
 fn header_at<D: Disk>(disk: &mut D, version: Version) -> Result<Probe, DiskFailed>
     ensures found { IfOk result (λ probe. (t : Told) → (D.state disk.old).told ≡ Some t
         → Probes version (part 0 32 (from_base version t.bytes)) probe) }

@@ -11,9 +11,9 @@ use cell_store::{Kind, Refused, StoreFault, Version, probe_as};
 use cut_disk::Disk;
 use std::alloc::Global;
 
-/// Opens the store of this kind and version and of as many cells, 1 to 1024: where the 32 bytes at the
-/// version's base are zero it formats the disk with these cells, and then it attaches the store.
-/// Anything else that stands there is only read.
+/// Opens the store of this kind and version and of as many cells, 1 to 1024: if the 32 bytes at the version's base are
+/// zero it formats the disk with these cells, and then it attaches the store. Anything else that stands there is only
+/// read.
 ///
 /// Errors, in this order: `TooSmall` before any call of the disk, `DiskFailed` of the look and of the
 /// format, and those of attaching.

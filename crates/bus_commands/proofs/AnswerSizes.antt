@@ -1,8 +1,8 @@
 -- How many bytes an answer has at most, and the answers of lines together.
 use Rattle.std.proofs.Common.{◌≡◌, ◌<◌, ◌≤◌, ◌+◌, ◌-◌, ◌*◌, ℕ, List, [], ◌∷◌, ◌++◌, length, take, get_or, codes, refl, ap, subst, sym, ◌∙◌, inl, inr, arith, append_assoc, append-nil}
 use Rattle.std.proofs.lemmas.List.{length-append, length-take, take_more}
-use Rattle.byte_lists.specs.Numbers.{bytes_of}
-use Rattle.byte_lists.specs.NumberLaws.{length-bytes_of}
+use Rattle.basics.specs.Numbers.{bytes_of}
+use Rattle.basics.specs.NumberLaws.{length-bytes_of}
 use Rattle.hex.specs.Hex.{encode_lower, lower_digits}
 use Rattle.hex.proofs.HexLemmas.{length-encode_with}
 use Rattle.secured_pdu.specs.Frame.{IsFrame}
@@ -44,7 +44,7 @@ accepted_text_size payload freshness =
       length-append digits blank,
     )
 
--- the verdict on a frame is told in no more bytes than its acceptance
+-- the verdict on a frame has no more bytes than its acceptance
 outcome_text_fits : (key : List ℕ) (id counter : ℕ) (frame : List ℕ) (outcome : Outcome) → IsFrame frame → Verdict key id counter 256 frame outcome
     → length (outcome_text outcome) ≤ 38 + 2 * (length frame - 4)
 outcome_text_fits key id counter frame (Accepted payload freshness) size verdict =

@@ -2,11 +2,11 @@
 use Rattle.std.specs.Prelude.{◌≡◌, ℕ, List, Ok}
 use Rattle.std.proofs.Common.{sym, subst}
 use Rattle.std.specs.List.{flat_map}
-use Rattle.command_edge.specs.declared.input.InputFault.TheVariants as input
-use Rattle.answer_rows.specs.Rows.{Row}
-use Rattle.answer_rows.specs.Endings.{Ending, EndsInRow}
-use Rattle.answer_rows.specs.EndingLaws.{EndsInRow-more}
-use Rattle.answer_rows.specs.InputLaws.{Lacks-whole}
+use Rattle.program_edge.specs.declared.input.InputFault.TheVariants as input
+use Rattle.program_edge.specs.Rows.{Row}
+use Rattle.program_edge.specs.Endings.{Ending, EndsInRow}
+use Rattle.program_edge.specs.EndingLaws.{EndsInRow-more}
+use Rattle.program_edge.specs.InputLaws.{Lacks-whole}
 use Rattle.bus_nodes.specs.Buses.{NamedBus, IsNamedBus}
 use Rattle.bus_machine.specs.declared.events.Event.{Event}
 use Rattle.bus_script.specs.Canon.{canon}
@@ -78,7 +78,7 @@ module _ {V : Type 0} where
       → RowOrReplay i d e
   ends_world i d e job prepared does = ends_asked i d e job.command job.bus job.events.items prepared.0.0 prepared.1 does
 
--- where a replay is asked for
+-- if a replay is asked for
 pub does_replay : (same : Type 0) (job : WorldJob) (start : Start) (d : DiskStates) (e : Ending) → job.command ≡ Replay start → AnswersReplay same start job.bus job.events.items d e
     → AnswersWorld same job.command job.bus job.events.items d e
 does_replay same job start d e is does = subst (λ (c : WorldCommand). AnswersWorld same c job.bus job.events.items d e) (sym is) does

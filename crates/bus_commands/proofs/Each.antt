@@ -1,4 +1,4 @@
--- The answers of lines, one behind the other, go on by the answer of one more line.
+-- The answers of lines, one after the other, go on by the answer of one more line.
 use Rattle.std.proofs.Common.{◌≡◌, ℕ, List, [], ◌∷◌, ◌++◌, refl, ap, sym, ◌∙◌, append_assoc, append-nil, ◌<◌, ◌+◌, length, get_or, take, subst}
 use Rattle.std.proofs.lemmas.List.{take_more}
 use Rattle.bus_commands.specs.Texts.{TellsEach}

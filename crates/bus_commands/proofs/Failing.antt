@@ -1,9 +1,9 @@
--- A disk that failed at the start of a bus is told
+-- A disk that failed at the start of a bus has its row
 use Rattle.std.specs.Prelude.{◌≡◌, ◌⊎◌, ℕ}
 use Rattle.std.proofs.Common.{inl, inr}
-use Rattle.command_edge.specs.Told.{EndingTold}
-use Rattle.answer_rows.specs.Rows.{Row}
-use Rattle.answer_rows.specs.Endings.{Ending, EndsInRow}
+use Rattle.program_edge.specs.Told.{EndingTold}
+use Rattle.program_edge.specs.Rows.{Row}
+use Rattle.program_edge.specs.Endings.{Ending, EndsInRow}
 use Rattle.bus_world.specs.StartAnswers.{CountsDiskFault, failed_row}
 use Rattle.bus_world.specs.StartAnswerLaws.{none_counted, failure_told}
 use Rattle.bus_commands.specs.Inputs.{BusInputs, start_of}

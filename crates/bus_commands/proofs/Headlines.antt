@@ -1,12 +1,12 @@
 -- The headline's record and that of a run of a bus give each other
 use Rattle.std.specs.Prelude.{List, Result}
-use Rattle.answer_rows.specs.Endings.{Ending}
-use Rattle.numbered_run.specs.declared.printing.Unwritten.{Unwritten}
+use Rattle.program_edge.specs.Endings.{Ending}
+use Rattle.run_driver.specs.declared.printing.Unwritten.{Unwritten}
 use Rattle.bus_machine.specs.declared.events.Event.{Event}
 use Rattle.bus_machine.specs.Bus.{World, Moments}
 use Rattle.bus_nodes.specs.Buses.{NamedBus}
 use Rattle.bus_world.specs.StartAnswers.{DiskStates}
-use Rattle.world_runs.specs.WorldRuns.{WorldRun}
+use Rattle.bus_world.specs.WorldRuns.{WorldRun}
 use Rattle.bus_commands.specs.declared.summary.Summary.{Summary}
 use Rattle.bus_commands.specs.Headline.{Replayed}
 use Rattle.bus_commands.specs.TrialRuns.{Tried}

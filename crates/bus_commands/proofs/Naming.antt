@@ -1,20 +1,8 @@
--- Words name one bus file, and one file of lines
-use Rattle.std.specs.Prelude.{◌≡◌, ℕ, List, [], ◌∷◌}
-use Rattle.std.proofs.Common.{sym, ◌∙◌}
-use Rattle.bus_commands.specs.Words.{NamesConfig, NamesScript}
+-- The arguments that name the sources of a command
+use Rattle.std.specs.Prelude.{ℕ, List, Option, Some, None, option_map, IfSome, IfNone}
+use Rattle.bus_commands.specs.Named.{IsTheWord}
 
-pub config_once : (words : List (List ℕ)) (one other : List ℕ) → NamesConfig words one → NamesConfig words other → one ≡ other
-config_once [] one other is also = absurd is
-config_once (word ∷ []) one other is also = absurd is
-config_once (word ∷ file ∷ []) one other is also = absurd is
-config_once (word ∷ bus ∷ file ∷ []) one other is also = is.1 ∙ sym also.1
-config_once (word ∷ bus ∷ count ∷ seed ∷ []) one other is also = is.1 ∙ sym also.1
-config_once (word ∷ bus ∷ count ∷ seed ∷ more ∷ words) one other is also = absurd is
-
-pub script_once : (words : List (List ℕ)) (one other : List ℕ) → NamesScript words one → NamesScript words other → one ≡ other
-script_once [] one other is also = is ∙ sym also
-script_once (word ∷ []) one other is also = absurd is
-script_once (word ∷ file ∷ []) one other is also = is.1 ∙ sym also.1
-script_once (word ∷ bus ∷ file ∷ []) one other is also = is.1 ∙ sym also.1
-script_once (word ∷ bus ∷ file ∷ disk ∷ []) one other is also = is.1 ∙ sym also.1
-script_once (word ∷ bus ∷ file ∷ disk ∷ more ∷ words) one other is also = absurd is
+pub the_word : {A : Type 0} (text : A → List ℕ) (names : List ℕ → Type 0) (found : Option A) → IfSome found (λ w. names (text w))
+    → IfNone found ((name : List ℕ) → ¬ names name) → IsTheWord names (option_map text found)
+the_word text names None some none = none
+the_word text names (Some w) some none = some

@@ -1,10 +1,10 @@
 -- What every replay and every trial is, from all that a command promises
 use Rattle.std.specs.Prelude.{◌≡◌, ◌⊎◌, ℕ, List, [], Result, Ok, Err}
 use Rattle.std.proofs.Common.{subst, inl, inr}
-use Rattle.answer_rows.specs.Rows.{Row, memory_row}
-use Rattle.answer_rows.specs.Endings.{Ending, PrintsWhole, PrintsFront}
-use Rattle.numbered_run.specs.declared.printing.Unwritten.{Unwritten}
-use Rattle.numbered_run.specs.declared.printing.Unwritten.TheVariants as unwritten
+use Rattle.program_edge.specs.Rows.{Row, memory_row}
+use Rattle.program_edge.specs.Endings.{Ending, PrintsWhole, PrintsFront}
+use Rattle.run_driver.specs.declared.printing.Unwritten.{Unwritten}
+use Rattle.run_driver.specs.declared.printing.Unwritten.TheVariants as unwritten
 use Rattle.bus_world.specs.declared.start.Start.{Start}
 use Rattle.bus_world.specs.declared.start.Start.TheVariants.{Format, Attach}
 use Rattle.bus_machine.specs.declared.events.Event.{Event}
@@ -61,7 +61,7 @@ replay_done : {V : Type 0} (i : BusInputs) (d : CommandDisks V) (e : Ending) (st
     → ReplayIsRun start i d.states e (Ok tt)
 replay_done i d e start asks does = replay_is_run i d.states e start (Ok tt) asks (done_of i d.states e (command.World (Replay start)) asks does)
 
--- where a row comes of a replay, the disks are as before or as an unfinished start leaves them
+-- if a row comes of a replay, the disks are as before or as an unfinished start leaves them
 replay_row : {V : Type 0} (i : BusInputs) (d : CommandDisks V) (row : Row) (start : Start) → Asks i.words (command.World (Replay start)) → ComesInRun i d row → LeavesUnstarted i d
 replay_row i d row start asks (without_disks _ comes same) = inl same
 replay_row i d row start asks (not_started _ (c, bus, events, set, comes) nine) = inr (c, bus, events, set, Comes-leaves (start_of c) bus d.states row comes.1)
@@ -93,7 +93,7 @@ trial_done i d e trial asks does =
     let (summary, over, well) = done_of i d.states e (command.World (Trial trial)) asks does in
     (summary, trial_is_run i d.states summary over, well)
 
--- where a row comes of a trial, the disks are so, or all events were done
+-- if a row comes of a trial, the disks are so, or all events were done
 trial_row : {V : Type 0} (i : BusInputs) (d : CommandDisks V) (row : Row) → ComesInRun i d row → LeavesUnstarted i d ⊎ ((summary : Summary) × TrialIsRun i d.states summary)
 trial_row i d row (without_disks _ comes same) = inl (inl same)
 trial_row i d row (not_started _ (c, bus, events, set, comes) nine) = inl (inr (c, bus, events, set, Comes-leaves (start_of c) bus d.states row comes.1))

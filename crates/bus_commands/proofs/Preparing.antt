@@ -3,11 +3,11 @@ use Rattle.std.proofs.Common.{◌≡◌, ◌∙◌, ℕ, List, refl, ap, sym, su
 use Rattle.std.specs.Prelude.{Result, Ok, Err, Vec}
 use Rattle.std.specs.Result.{result_err}
 use Rattle.std.specs.declared.alloc.Global.{Global}
-use Rattle.command_edge.specs.declared.input.InputFault.TheVariants as input
+use Rattle.program_edge.specs.declared.input.InputFault.TheVariants as input
 use Rattle.text_lines.specs.Readings.{Fault}
-use Rattle.answer_rows.specs.Rows.{Row}
-use Rattle.answer_rows.specs.Inputs.{Reading, IsUnread, ReadsWhole}
-use Rattle.answer_rows.specs.InputLaws.{Lacks-whole}
+use Rattle.program_edge.specs.Rows.{Row}
+use Rattle.program_edge.specs.Inputs.{Reading, IsUnread, ReadsWhole}
+use Rattle.program_edge.specs.InputLaws.{Lacks-whole}
 use Rattle.bus_nodes.specs.Buses.{NamedBus, IsNamedBus}
 use Rattle.secoc_words.specs.declared.frames.FrameLine.{FrameLine}
 use Rattle.secoc_words.specs.declared.judges.JudgeLine.{JudgeLine}
@@ -23,12 +23,12 @@ use Rattle.bus_commands.specs.declared.job.LineJob.TheVariants.{Frames, Judgemen
 use Rattle.bus_commands.specs.Words.{Asks}
 use Rattle.bus_commands.specs.Tasks.{Task, frame, judge, check, replay}
 use Rattle.bus_commands.specs.Texts.{fault_of}
-use Rattle.bus_inputs.specs.BusFileLaws.{LacksLines-read}
-use Rattle.bus_inputs.specs.BusFiles.{ReadsBus}
+use Rattle.bus_programs.specs.BusFileLaws.{LacksLines-read}
+use Rattle.bus_programs.specs.BusFiles.{ReadsBus}
 use Rattle.bus_commands.specs.Inputs.{BusInputs, AsksOverBus, SetsTask}
 use Rattle.bus_commands.specs.Rows.{ComesOfInputs, no_config, config_refused, no_script, script_refused}
-use Rattle.bus_inputs.specs.BusFiles.{LacksBus, no_file, file_refused}
-use Rattle.bus_inputs.specs.Scripts.{LacksLines, no_lines, lines_refused}
+use Rattle.bus_programs.specs.BusFiles.{LacksBus, no_file, file_refused}
+use Rattle.bus_programs.specs.Scripts.{LacksLines, no_lines, lines_refused}
 use Rattle.bus_commands.specs.Steps.{ReadsLines, FindsLines, HasScript, FindsScript, FindsEvents, HasPayload, IsAny, PreparesLines, PreparesWorld}
 
 -- ---- the bus file

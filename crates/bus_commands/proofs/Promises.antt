@@ -2,15 +2,15 @@
 use Rattle.std.specs.Prelude.{◌≡◌, ◌≢◌, ◌⊎◌, ℕ, ◌<◌, List, [], length, get_or, None, Some, Option, Result, Ok, Err, codes}
 use Rattle.std.specs.Result.{result_err}
 use Rattle.std.proofs.Common.{refl, sym, ap, subst, arith, inl, inr}
-use Rattle.command_edge.specs.declared.input.InputFault.TheVariants as input
+use Rattle.program_edge.specs.declared.input.InputFault.TheVariants as input
 use Rattle.text_lines.specs.Readings.{Fault}
 use Rattle.text_lines.specs.Texts.{fault_text_of}
-use Rattle.answer_rows.specs.Rows.{Row, memory_row}
-use Rattle.answer_rows.specs.Inputs.{IsUnread, CountsFault, CountsTooMuch, Offers}
-use Rattle.answer_rows.specs.Endings.{Ending, EndsInRow, PrintsWhole, SinkFailed, CountsWriteFault}
-use Rattle.answer_rows.specs.EndingLaws.{EndsInRow-at, EndsInRow-front, EndsInRow-rose, EndsInRow-only, EndsInRow-may, EndsInRow-done}
-use Rattle.numbered_run.specs.declared.printing.Unwritten.{Unwritten}
-use Rattle.numbered_run.specs.declared.printing.Unwritten.TheVariants as unwritten
+use Rattle.program_edge.specs.Rows.{Row, memory_row}
+use Rattle.program_edge.specs.Inputs.{IsUnread, CountsFault, CountsTooMuch, Offers}
+use Rattle.program_edge.specs.Endings.{Ending, EndsInRow, PrintsWhole, SinkFailed, CountsWriteFault}
+use Rattle.program_edge.specs.EndingLaws.{EndsInRow-at, EndsInRow-front, EndsInRow-rose, EndsInRow-only, EndsInRow-may, EndsInRow-done}
+use Rattle.run_driver.specs.declared.printing.Unwritten.{Unwritten}
+use Rattle.run_driver.specs.declared.printing.Unwritten.TheVariants as unwritten
 use Rattle.bus_config.specs.declared.fault.ConfigFault.{ConfigFault}
 use Rattle.bus_config.specs.FaultTexts.{config_fault_text}
 use Rattle.cell_store.specs.declared.kinds.Kind.TheVariants.{Twin}
@@ -20,15 +20,15 @@ use Rattle.bus_world.specs.declared.start.Start.{Start}
 use Rattle.bus_world.specs.declared.start.Start.TheVariants.{Format, Attach}
 use Rattle.bus_world.specs.Starts.{HasRoom, FindsRoom, Started}
 use Rattle.bus_world.specs.declared.start.StartFault.{StartFault}
-use Rattle.bus_inputs.specs.BusFileLaws.{told_fault, told_too_much, bus_or_fault}
+use Rattle.bus_programs.specs.BusFileLaws.{told_fault, told_too_much, bus_or_fault}
 use Rattle.bus_commands.specs.declared.words.Command.TheVariants.{World}
 use Rattle.bus_commands.specs.declared.words.WorldCommand.TheVariants.{Replay, Trial}
 use Rattle.bus_commands.specs.Words.{AsksNothing}
 use Rattle.bus_commands.specs.Tasks.{Task, frame, judge, check, replay}
 use Rattle.bus_commands.specs.Texts.{usage, IsOutput, fault_of}
-use Rattle.bus_inputs.specs.BusFiles.{IsConfigFault}
+use Rattle.bus_programs.specs.BusFiles.{IsConfigFault}
 use Rattle.bus_commands.specs.Inputs.{BusInputs, AsksOverBus, AsksWorld, NoConfig, NoScript, OverLines, OverWorld, OffersTask, OffersTrial, start_of}
-use Rattle.numbered_run.specs.Statuses.{unwritten_status}
+use Rattle.run_driver.specs.Statuses.{unwritten_status}
 use Rattle.bus_world.specs.StartRows.{start_row, StoreCause, LeavesEach}
 use Rattle.bus_world.specs.StartAnswers.{ComesOfStart, disks_refused, store_refused, start_without_memory, BusHasDisks}
 use Rattle.bus_commands.specs.StartRows.{CommandDisks, HoldsNoNode}
@@ -41,7 +41,7 @@ use Rattle.bus_commands.proofs.RowFacts.{row_tells, row_asks, row_refuses, OfTas
 use Rattle.bus_world.specs.StartAnswerLaws.{start_without_room, start_complete}
 use Rattle.bus_commands.proofs.Refusing.{start_in_room}
 use Rattle.bus_commands.proofs.Failing.{ends_failed}
-use Rattle.world_runs.proofs.CallerLemmas.{no_node}
+use Rattle.bus_world.proofs.CallerLemmas.{no_node}
 use Rattle.bus_world.specs.StartRowLaws.{no_disk, no_line}
 use Rattle.bus_world.specs.Worlds.{BusState}
 use Rattle.cut_disk.specs.State.{DiskState}
@@ -70,7 +70,7 @@ abbrev start_in_task : Task → Start
 start_in_task (replay start bus) = start
 start_in_task task = Format
 
--- ---- where it ended in a row
+-- ---- if it ended in a row
 
 abbrev LowStatus : ℕ → Type 0
 LowStatus n = (n ≡ 2) ⊎ ((n ≡ 3) ⊎ ((n ≡ 4) ⊎ ((n ≡ 5) ⊎ ((n ≡ 8) ⊎ (n ≡ 9)))))
@@ -352,7 +352,7 @@ trial_without_room_of i d e row bus lacks (inl seven) = inr seven
 trial_without_room_of i d e row bus lacks (inr (inl comes)) = start_without_room Format bus d.states row comes lacks
 trial_without_room_of i d e row bus lacks (inr (inr (zero, room))) = absurd (lacks room)
 
--- ---- where it did the first events of a replay
+-- ---- if it did the first events of a replay
 
 done_status : {V : Type 0} (i : BusInputs) (d : CommandDisks V) (e : Ending) → (result : Result (Unit {0}) Unwritten) → e.status ≡ unwritten_status result → (e.status ≡ 0) ⊎ ((e.status ≡ 6) ⊎ (e.status ≡ 7))
 done_status i d e (Ok _) is = inl is

@@ -1,7 +1,7 @@
 -- A start that is refused: which row comes, and what that says of the disks
 use Rattle.std.specs.Prelude.{◌≡◌, ◌⊎◌}
 use Rattle.std.proofs.Common.{refl, inl, inr}
-use Rattle.answer_rows.specs.Rows.{Row}
+use Rattle.program_edge.specs.Rows.{Row}
 use Rattle.bus_nodes.specs.Buses.{NamedBus}
 use Rattle.bus_world.specs.declared.start.Start.{Start}
 use Rattle.bus_world.specs.Starts.{HasRoom}

@@ -1,12 +1,12 @@
--- What each row of the table says of the sources and of the words
+-- What each row of the table says of the sources and of the arguments
 use Rattle.std.specs.Prelude.{◌≡◌, ◌⊎◌, ℕ, List, None, Some, Result, Err}
 use Rattle.std.specs.Result.{result_err}
 use Rattle.std.proofs.Common.{refl, sym, ap, subst, inl, inr}
-use Rattle.command_edge.specs.Input.{input_fault_text}
+use Rattle.program_edge.specs.Input.{input_fault_text}
 use Rattle.text_lines.specs.Readings.{Fault}
-use Rattle.answer_rows.specs.Rows.{Row}
-use Rattle.answer_rows.specs.Inputs.{Reading, Offers}
-use Rattle.answer_rows.specs.InputLaws.{Offers-whole}
+use Rattle.program_edge.specs.Rows.{Row}
+use Rattle.program_edge.specs.Inputs.{Reading, Offers}
+use Rattle.program_edge.specs.InputLaws.{Offers-whole}
 use Rattle.bus_config.specs.declared.fault.ConfigFault.{ConfigFault}
 use Rattle.bus_config.specs.BusFile.{bus_of}
 use Rattle.bus_nodes.specs.Buses.{NamedBus}
@@ -14,7 +14,7 @@ use Rattle.bus_machine.specs.declared.events.Event.{Event}
 use Rattle.bus_world.specs.Starts.{HasRoom}
 use Rattle.bus_world.specs.declared.start.Start.{Start}
 use Rattle.bus_world.specs.declared.start.Start.TheVariants.{Format}
-use Rattle.bus_inputs.specs.BusFileLaws.{ReadsCalmly, calm_unread, calm_whole, RowTells, told_first, told_second, bus_or_fault, offered_no_fault, memory_status, same_bus}
+use Rattle.bus_programs.specs.BusFileLaws.{ReadsCalmly, calm_unread, calm_whole, RowTells, told_first, told_second, bus_or_fault, offered_no_fault, memory_status, same_bus}
 use Rattle.bus_commands.specs.declared.words.Command.TheVariants.{Lines, World}
 use Rattle.bus_commands.specs.declared.words.LineCommand.TheVariants as lines
 use Rattle.bus_commands.specs.declared.words.WorldCommand.{WorldCommand}
@@ -22,7 +22,7 @@ use Rattle.bus_commands.specs.declared.words.WorldCommand.TheVariants.{Replay, T
 use Rattle.bus_commands.specs.Words.{AsksNothing}
 use Rattle.bus_commands.specs.Tasks.{Task, frame, judge, check, replay}
 use Rattle.bus_commands.specs.Texts.{IsOutput, fault_of}
-use Rattle.bus_inputs.specs.BusFiles.{OffersBus}
+use Rattle.bus_programs.specs.BusFiles.{OffersBus}
 use Rattle.bus_commands.specs.Inputs.{BusInputs, AsksOverBus, SetsTask, OffersTask, OverLines, HasEvents, SetsWorld, start_of, OffersTrial}
 use Rattle.bus_world.specs.StartAnswers.{DiskStates, ComesOfStart}
 use Rattle.bus_commands.specs.StartRows.{CommandDisks}
@@ -70,7 +70,7 @@ inputs_ask i row (script_refused fault (task, set, over)) nothing = absurd (noth
 inputs_ask i row (done text (task, set, over)) nothing = absurd (nothing (command_for task) (set_asks i task set))
 
 module _ {V : Type 0} where
-  -- words of no form are told
+  -- malformed arguments have their row
   pub row_asks : (i : BusInputs) (d : CommandDisks V) (row : Row) → ComesInRun i d row → AsksNothing i.words → row.status ≡ 2
   row_asks i d row (without_disks _ comes as_before) nothing = inputs_ask i row comes nothing
   row_asks i d row (not_started _ (c, bus, events, set, comes) nine) nothing = absurd (nothing (World c) set.asks)
@@ -95,7 +95,7 @@ inputs_refuse i row file fault (script_refused other (task, set, rest)) over off
 inputs_refuse i row file fault (done text (task, set, rest)) over offers err = absurd (set_has_bus i task file fault set over offers err)
 
 module _ {V : Type 0} where
-  -- its first fault is told, or want of memory
+  -- its first fault is printed, or out of memory
   pub row_refuses : (i : BusInputs) (d : CommandDisks V) (row : Row) (file : List ℕ) (fault : ConfigFault) → ComesInRun i d row → AsksOverBus i.words → Offers i.config file
       → bus_of file ≡ Err fault → (row.status ≡ 3) ⊎ (row.status ≡ 7)
   row_refuses i d row file fault (without_disks _ comes as_before) over offers err = inputs_refuse i row file fault comes over offers err
@@ -118,8 +118,8 @@ of_offered i P task input offers lines (set_task, set, (read, whole, holds)) =
     subst (λ (t : Task). P t input) (same_task i set_task task set offers)
     (subst (λ (text : List ℕ). P set_task text) (Offers-whole i.script input read lines whole) holds)
 
--- the rows that come then: want of memory, the first fault of the lines, what is printed of them, or those of a bus
--- that doesn't start
+-- the rows that come then: out of memory, the first fault of the lines, what is printed of them, or those of a bus that
+-- doesn't start
 abbrev pub OfTask : DiskStates → Row → Task → List ℕ → Type 0
 OfTask d row task input =
     (row.status ≡ 7)
@@ -167,7 +167,7 @@ module _ {V : Type 0} where
 
 -- ---- a trial that is offered
 
--- the rows that come then: want of memory, those of a bus that doesn't start, or the summary
+-- the rows that come then: out of memory, those of a bus that doesn't start, or the summary
 abbrev pub OfTrial : DiskStates → Row → NamedBus → Type 0
 OfTrial d row bus = (row.status ≡ 7) ⊎ (ComesOfStart Format bus d row ⊎ ((row.status ≡ 0) × HasRoom bus d.before))
 

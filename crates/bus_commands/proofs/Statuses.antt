@@ -1,10 +1,10 @@
 -- Which status a command ends with, and what it leaves of the disks then
 use Rattle.std.specs.Prelude.{◌≡◌, ◌⊎◌, ℕ, ◌≤◌, List}
 use Rattle.std.proofs.Common.{refl, sym, ◌∙◌, subst, inl, inr, arith}
-use Rattle.command_edge.specs.declared.input.InputFault.TheVariants as input
-use Rattle.command_edge.specs.Told.{EndingTold}
-use Rattle.answer_rows.specs.Rows.{Row}
-use Rattle.answer_rows.specs.Endings.{Ending, EndsInRow}
+use Rattle.program_edge.specs.declared.input.InputFault.TheVariants as input
+use Rattle.program_edge.specs.Told.{EndingTold}
+use Rattle.program_edge.specs.Rows.{Row}
+use Rattle.program_edge.specs.Endings.{Ending, EndsInRow}
 use Rattle.bus_nodes.specs.Buses.{NamedBus}
 use Rattle.bus_machine.specs.declared.events.Event.{Event}
 use Rattle.bus_world.specs.StartAnswers.{ComesOfStart}

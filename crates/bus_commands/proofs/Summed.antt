@@ -1,12 +1,12 @@
 -- How a trial whose events were all done ends
 use Rattle.std.specs.Prelude.{◌≡◌, ℕ, List}
 use Rattle.std.proofs.Common.{subst, sym}
-use Rattle.answer_rows.specs.Rows.{Row, row_of}
-use Rattle.answer_rows.specs.Endings.{Ending, EndsInRow}
-use Rattle.answer_rows.specs.EndingLaws.{EndsInRow-more}
+use Rattle.program_edge.specs.Rows.{Row, row_of}
+use Rattle.program_edge.specs.Endings.{Ending, EndsInRow}
+use Rattle.program_edge.specs.EndingLaws.{EndsInRow-more}
 use Rattle.bus_machine.specs.declared.events.Event.{Event}
 use Rattle.bus_nodes.specs.Buses.{NamedBus}
-use Rattle.world_runs.specs.Turns.{TurnsLeaveDisks, StartsSetUp}
+use Rattle.bus_world.specs.WorldTurns.{TurnsLeaveDisks, StartsSetUp}
 use Rattle.bus_commands.specs.declared.summary.Summary.{Summary}
 use Rattle.bus_commands.specs.Summaries.{summary_text}
 use Rattle.bus_commands.specs.TrialRuns.{TrialTurns, TrialsAreRuns}

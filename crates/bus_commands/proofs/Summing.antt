@@ -2,7 +2,7 @@
 use Rattle.std.proofs.Common.{◌≡◌, ℕ, ◌+◌, List, [], ◌∷◌, length, sym, ap, ◌∙◌, arith, add-zero, zero-add, add_assoc}
 use Rattle.std.specs.Prelude.{Bool, cond, fold, count_by}
 use Rattle.machine_runs.specs.Run.{lines_in}
-use Rattle.numbered_run.specs.Counted.{Counted}
+use Rattle.run_driver.specs.Counted.{Counted}
 use Rattle.std.proofs.lemmas.List.Sums.{sum_by-cons}
 use Rattle.bus_machine.specs.declared.events.Event.{Event}
 use Rattle.bus_machine.specs.declared.lines.Line.{Line}

@@ -1,9 +1,9 @@
--- What a command leaves unread, and what it did at 0, by the words that ask for it
+-- What a command leaves unread, and what it did at 0, by the arguments that ask for it
 use Rattle.std.specs.Prelude.{ℕ, List}
 use Rattle.std.proofs.Common.{subst}
-use Rattle.answer_rows.specs.Rows.{Row}
-use Rattle.answer_rows.specs.Inputs.{IsUnread, ReadsWhole}
-use Rattle.answer_rows.specs.Endings.{Ending, PrintsWhole}
+use Rattle.program_edge.specs.Rows.{Row}
+use Rattle.program_edge.specs.Inputs.{IsUnread, ReadsWhole}
+use Rattle.program_edge.specs.Endings.{Ending, PrintsWhole}
 use Rattle.bus_world.specs.StartAnswers.{DiskStates}
 use Rattle.bus_commands.specs.declared.trial_words.TrialWords.{TrialWords}
 use Rattle.bus_commands.specs.declared.words.Command.{Command}

@@ -4,20 +4,20 @@ use Rattle.std.proofs.Common.{refl, sym, ap, ◌∙◌, subst}
 use Rattle.bus_port.specs.Sink.{SinkState}
 use Rattle.cut_disk.specs.State.{DiskState}
 use Rattle.machine_runs.specs.Run.{Moment}
-use Rattle.numbered_run.specs.declared.printing.Unwritten.{Unwritten}
-use Rattle.numbered_run.specs.Printed.{Written}
+use Rattle.run_driver.specs.declared.printing.Unwritten.{Unwritten}
+use Rattle.run_driver.specs.Printed.{Written}
 use Rattle.bus_machine.specs.declared.events.Event.{Event}
 use Rattle.bus_machine.specs.declared.lines.Line.{Line}
 use Rattle.bus_machine.specs.Bus.{World, First, Moments}
 use Rattle.bus_nodes.specs.Buses.{NamedBus, configs_of}
-use Rattle.bus_texts.specs.LineTexts.{line_text}
+use Rattle.bus_script.specs.LineTexts.{line_text}
 use Rattle.bus_world.specs.declared.start.Start.{Start}
 use Rattle.bus_world.specs.declared.start.Start.TheVariants.{Format, Attach}
 use Rattle.bus_world.specs.Worlds.{BusState, world_of, EachFits}
-use Rattle.world_runs.specs.NodeDisks.{DisksStay}
-use Rattle.world_runs.specs.WorldRuns.{IsFirstOf}
-use Rattle.world_runs.specs.Turns.{seen, TakesTurns, TurnsLeaveDisks, TurnsAreWorldRuns, StartsSetUp, StartsBeginAtFirst, StartsGoOnFirst}
-use Rattle.world_runs.specs.TurnLaws.{same_lines, same_length}
+use Rattle.bus_world.specs.NodeDisks.{DisksStay}
+use Rattle.bus_world.specs.WorldRuns.{IsFirstOf}
+use Rattle.bus_world.specs.WorldTurns.{seen, TakesTurns, TurnsLeaveDisks, TurnsAreWorldRuns, StartsSetUp, StartsBeginAtFirst, StartsGoOnFirst}
+use Rattle.bus_world.specs.TurnLaws.{same_lines, same_length}
 use Rattle.bus_commands.specs.Replays.{ReplayTurns}
 use Rattle.bus_commands.specs.Headline.{Replayed, ReplaysAreRuns}
 

@@ -10,10 +10,10 @@ use Rattle.bus_machine.specs.Bus.{World}
 use Rattle.bus_nodes.specs.Buses.{NamedBus}
 use Rattle.bus_world.specs.declared.start.Start.TheVariants.{Format}
 use Rattle.bus_world.specs.Worlds.{BusState, world_of}
-use Rattle.world_runs.specs.NodeDisks.{DisksStay}
-use Rattle.world_runs.specs.WorldRuns.{IsFirstOf, WorldRun}
-use Rattle.world_runs.specs.Turns.{seen, TakesTurns, TurnsLeaveDisks, TurnsAreWorldRuns, StartsSetUp, StartsBeginAtFirst}
-use Rattle.world_runs.specs.TurnLaws.{same_commands, same_lines}
+use Rattle.bus_world.specs.NodeDisks.{DisksStay}
+use Rattle.bus_world.specs.WorldRuns.{IsFirstOf, WorldRun}
+use Rattle.bus_world.specs.WorldTurns.{seen, TakesTurns, TurnsLeaveDisks, TurnsAreWorldRuns, StartsSetUp, StartsBeginAtFirst}
+use Rattle.bus_world.specs.TurnLaws.{same_commands, same_lines}
 use Rattle.bus_commands.specs.declared.summary.Summary.{Summary}
 use Rattle.bus_commands.specs.Summaries.{summary_of}
 use Rattle.bus_commands.specs.TrialRuns.{TrialTurns, TrialsAreRuns}

@@ -1,29 +1,29 @@
 -- What `run` promises: the headline, and the table of answers.
 --
 -- The comment of `run` says all of it in words. Here each promise is a member of a record: read the records, which
--- begin behind the list of names from below, and look up in it what most of these mean, above their `use`. All is said
+-- begin after the list of names from below, and look up in it what most of these mean, above their `use`. All is said
 -- of one call: `i` is what went in, `d` the disks or what was known of them, `e` how it ended. That freshness rises
--- from one call of `node` to the next over the same disks, too, is a law of the crate life_laws.
+-- from one call of `node` to the next over the same disks, too, is a law of the crate bus_lives.
 --
--- A source or a disk *tells* its bytes where they are known. Those in memory do, and so does the disk that `main` opens
+-- A source or a disk *tells* its bytes if they are known. Those in memory do, and so does the disk that `main` opens
 -- over a file: it holds them in memory, and a read that gives others fails. An input from a file or a stream tells
 -- nothing. What was *read whole* of a source is all that came up to its end: of one that tells nothing some bytes, as
 -- many as it counts, and what is said of its lines is said of these. *Valid* is what was read whole and has no fault.
 --
 -- A count of faults never falls, and is full at its last value. A row is a status with its text. A cut is a power cut,
 -- which may leave anything of bytes that aren't synced. An event may arm a disk, so that calls of it fail; a quiet disk
--- has nothing armed, and no call of it fails by itself. The past of a disk has each state that a call left, where the
--- disk tells it: one over a file tells none. A slot holds a key, with the counter of its last update. A route is a Data
--- ID that a node sends or receives, with a reserve and, where it receives, a window of freshness that it accepts; its
--- kept bound, less than a reserve ahead of its counter, is what the counter begins again at after a cut.
+-- has nothing armed, and no call of it fails by itself. The past of a disk has each state that a call left, if the disk
+-- tells it: one over a file tells none. A slot holds a key, with the counter of its last update. A route is a Data ID
+-- that a node sends or receives, with a reserve and, if it receives, a window of freshness that it accepts. After a cut
+-- the counter begins again at the kept bound, which is less than a reserve ahead of it.
 use Rattle.std.specs.Prelude.{◌≡◌, ◌⊎◌, ℕ, ◌<◌, ◌≤◌, List, [], length, take, get_or, All, codes, Some, None}
 use Rattle.std.specs.Prelude.{Result, Ok, Err}
 -- ---- what went in
--- `BusInputs`: the words, and the sources of the bus file (`config`) and of the lines (`script`), before and after.
+-- `BusInputs`: the arguments, and the sources of the bus file (`config`) and of the lines (`script`), before and after.
 use Rattle.bus_commands.specs.Inputs.{BusInputs}
 -- `Asks words c`: they ask for the command c, and for no other. It is of lines (`frame`, `judge`, `check`), or runs a
 -- world over disks: `Replay Format` is `replay`, `Replay Attach` is `node` (*a replay* is either), `Trial` is `trial`
--- with its number of events and its seed. `AsksNothing`: they are of no form. `AsksOverBus`: for a command with a bus
+-- with its number of events and its seed. `AsksNothing`: they are malformed. `AsksOverBus`: for a command with a bus
 -- file. `AsksWorld`: for one that runs a world.
 use Rattle.bus_commands.specs.Inputs.{AsksOverBus, AsksWorld}
 use Rattle.bus_commands.specs.Words.{Asks, AsksNothing}
@@ -33,10 +33,10 @@ use Rattle.bus_commands.specs.declared.words.WorldCommand.TheVariants.{Replay, T
 use Rattle.bus_commands.specs.declared.trial_words.TrialWords.{TrialWords}
 use Rattle.bus_world.specs.declared.start.Start.{Start}
 use Rattle.bus_world.specs.declared.start.Start.TheVariants.{Format, Attach}
--- `OverLines i P`: a command other than `trial` is asked for, what it reads was read whole, its bus file, if it has
--- one, is valid, and P holds of what it is to do (its `Task`) and of the lines. `OverReplayOf`, `OverTrial`,
--- `OverWorld`: such a world is asked for, all that it reads was read whole and is valid, and P holds of the bus and the
--- events. `IsNamedBus`: a bus as bus files have them.
+-- `OverLines i P`: a command other than `trial` is asked for, what it reads was read whole, and its bus file, if it has
+-- one, is valid. P holds of what it is to do (its `Task`) and of the lines. `OverReplayOf`, `OverTrial`, `OverWorld`:
+-- such a world is asked for, and all that it reads was read whole and is valid. P holds of the bus and the events.
+-- `IsNamedBus`: a bus as bus files have them.
 use Rattle.bus_commands.specs.Inputs.{OverLines, OverReplayOf, OverTrial, OverWorld}
 use Rattle.bus_commands.specs.Tasks.{Task, replay}
 use Rattle.bus_nodes.specs.Buses.{NamedBus, IsNamedBus, configs_of}
@@ -44,22 +44,22 @@ use Rattle.bus_machine.specs.declared.events.Event.{Event}
 -- `Offers`: the source tells these bytes, at most 1,048,576, and its count of faults neither rose nor is full.
 -- `OffersTask`, `OffersTrial`: it is asked for, and the source of its bus file, if it has one, so tells one with this
 -- bus.
-use Rattle.answer_rows.specs.Inputs.{Offers}
+use Rattle.program_edge.specs.Inputs.{Offers}
 use Rattle.bus_commands.specs.Inputs.{OffersTask, OffersTrial}
 -- `IsUnread`: nothing was asked of the source. `CountsFault`: its count of faults rose. `CountsTooMuch`: by its count
 -- of bytes more than 1,048,576 came.
-use Rattle.answer_rows.specs.Inputs.{IsUnread, CountsFault, CountsTooMuch}
+use Rattle.program_edge.specs.Inputs.{IsUnread, CountsFault, CountsTooMuch}
 -- `NoConfig`: a bus file was asked for and not had, and of the lines nothing was read. `NoScript`: the lines weren't
 -- had, and the bus file is valid, if one is read. Why: `ReadFault`, the source's count of faults rose or is full; or
 -- `TooLong`, it stood still, and one byte more than 1,048,576 came.
 use Rattle.bus_commands.specs.Inputs.{NoConfig, NoScript}
-use Rattle.command_edge.specs.declared.input.InputFault.TheVariants.{ReadFault, TooLong}
+use Rattle.program_edge.specs.declared.input.InputFault.TheVariants.{ReadFault, TooLong}
 -- `bus_of`: the bus of a bus file, or its first fault. `IsConfigFault`: it was read whole, and this is its first fault.
 -- `fault_of`: the first fault of lines, if they have one.
 use Rattle.bus_config.specs.declared.fault.ConfigFault.{ConfigFault}
 use Rattle.bus_config.specs.BusFile.{bus_of}
 use Rattle.bus_config.specs.FaultTexts.{config_fault_text}
-use Rattle.bus_inputs.specs.BusFiles.{IsConfigFault}
+use Rattle.bus_programs.specs.BusFiles.{IsConfigFault}
 use Rattle.bus_commands.specs.Texts.{fault_of}
 use Rattle.text_lines.specs.Readings.{Fault}
 use Rattle.text_lines.specs.Texts.{fault_text_of}
@@ -73,69 +73,69 @@ use Rattle.bus_commands.specs.StartRows.{CommandDisks, HoldsNoNode}
 use Rattle.bus_world.specs.StartAnswers.{DiskStates, BusHasDisks, CountsDiskFault, failed_row}
 -- `TellEach`: each node's disk tells its bytes; `TellFirm`: and a cut can take none of them away. `StartsOver`: a world
 -- in which each node goes on where its disk stands.
-use Rattle.world_runs.specs.NodeDisks.{TellEach}
-pub use Rattle.world_runs.specs.Turns.{TellFirm}
+use Rattle.bus_world.specs.NodeDisks.{TellEach}
+pub use Rattle.bus_world.specs.WorldTurns.{TellFirm}
 use Rattle.bus_world.specs.Starts.{StartsOver}
 -- `HasRoom`: each node has a disk that is large enough; `FindsRoom`: they are too few, or which is the first too small.
--- `StoreCause`: why a node wasn't started over its disk. `start_row`: how that is told. `LeavesEach`: what a start may
+-- `StoreCause`: why a node wasn't started over its disk. `start_row`: the row of that. `LeavesEach`: what a start may
 -- leave that isn't finished: each disk is as it was, or as that of an open node (formatted, or moved to version 2), or
--- its count of faults rose; those that no node has are as they were.
+-- its count of faults rose; those without a node are as they were.
 use Rattle.bus_world.specs.Starts.{HasRoom, FindsRoom}
 use Rattle.bus_world.specs.declared.start.StartFault.{StartFault}
 use Rattle.bus_world.specs.StartRows.{start_row, StoreCause, LeavesEach}
 -- ---- how it ended
 -- `Ending`: the sink before and after, and the status. `PrintsWhole e text`: exactly this was written, without a fault;
--- `PrintsFront rows e`: a proper front of a text of these rows. `EndsIn n e`: the status is n or 6; `MayEndIn n e`: n,
--- 6 or 7. `EndsInRow rows e`: one of these rows was told, at 6 a front of it. `CountsWriteFault`: the sink's count of
--- faults rose; `SinkFailed`: it rose, or is full.
-use Rattle.answer_rows.specs.Endings.{Ending, PrintsWhole, PrintsFront, EndsIn, MayEndIn, EndsInRow}
-use Rattle.answer_rows.specs.Endings.{CountsWriteFault, SinkFailed}
--- `IsOutput`: the text answers each line, and has nothing else: for `frame` the digits of its Secured I-PDU, for
--- `judge` the verdict of a receiver with the widest window, or the bad length, for `check` its canonical line.
--- `Summary`: how many events there were, and lines of sent, accepted, a failed verdict, keyed, up and refused.
+-- `PrintsFront rows e`: a proper prefix of a text of these rows. `EndsIn n e`: the status is n or 6; `MayEndIn n e`: n,
+-- 6 or 7. `EndsInRow rows e`: one of these rows was printed, at 6 a prefix of it. `CountsWriteFault`: the sink's count
+-- of faults rose; `SinkFailed`: it rose, or is full.
+use Rattle.program_edge.specs.Endings.{Ending, PrintsWhole, PrintsFront, EndsIn, MayEndIn, EndsInRow}
+use Rattle.program_edge.specs.Endings.{CountsWriteFault, SinkFailed}
+-- `IsOutput`: the text answers each line, and has nothing else. It has for `frame` the digits of its Secured I-PDU, and
+-- for `check` its canonical line. For `judge` it has the verdict of a receiver with the widest window, or the bad
+-- length. `Summary`: how many events there were, and lines of sent, accepted, a failed verdict, keyed, up and refused.
 use Rattle.bus_commands.specs.Texts.{usage, IsOutput}
 use Rattle.bus_commands.specs.declared.summary.Summary.{Summary}
 use Rattle.bus_commands.specs.Summaries.{summary_of, summary_text}
 -- `ReplaysScript`: a valid replay is asked for, and all that it reads was read whole. Over disks of any kind it was
 -- started, `replay` over disks that it formatted and `node` where its disks stand, and did its first events, `Written`
--- so. Each was a turn of its node alone: a step of the machine, but that a cut over a disk that doesn't tell bytes that
--- fit may leave the node up with whatever its store has, or down. The count of its disk rose (or is full) where the
--- line tells that it failed, and rose nowhere else. Nothing is undone: the disks are as the last turn left them, or the
+-- so. Each was a turn of its node alone, and a step of the machine. But a cut over a disk that doesn't tell bytes that
+-- fit may leave the node up with whatever its store has, or down. The count of its disk rose (or is full) if the line
+-- tells that it failed, and rose nowhere else. Nothing is undone: the disks are as the last turn left them, or the
 -- start, if no event was done. `TriesEvents`: a valid trial did all its events so, and their lines have this summary.
 use Rattle.bus_commands.specs.Rows.{ReplaysScript, TriesEvents}
 -- `Written .. result moments`: at `Ok` they are all events, and exactly the texts of their lines were written; at an
--- `Unwritten` those of all but the last, whose event was done, too: of its line a proper front was written
+-- `Unwritten` those of all but the last, whose event was done, too: of its line a proper prefix was written
 -- (`SinkFailed`), or nothing (`Memory`).
-use Rattle.numbered_run.specs.declared.printing.Unwritten.{Unwritten}
-use Rattle.numbered_run.specs.declared.printing.Unwritten.TheVariants as unwritten
-use Rattle.numbered_run.specs.Printed.{Written}
-use Rattle.bus_texts.specs.LineTexts.{line_text}
--- `ComesInRun`: the rows that come, those of the statuses below, each for the cause that is told there; `memory_row`: 7
--- without a text, which comes as inputs are read, drawn or answered, at a start at which no disk failed, or behind all
--- events of a trial. `RowOrReplay`: a row that comes was told, whole or at 6 by a front; or `ReplaysScript`.
+use Rattle.run_driver.specs.declared.printing.Unwritten.{Unwritten}
+use Rattle.run_driver.specs.declared.printing.Unwritten.TheVariants as unwritten
+use Rattle.run_driver.specs.Printed.{Written}
+use Rattle.bus_script.specs.LineTexts.{line_text}
+-- `ComesInRun`: the rows that come, those of the statuses below, each for the cause that stands there. `memory_row`: 7
+-- without a text. It comes as inputs are read, drawn or answered, at a start at which no disk failed, or after all
+-- events of a trial. `RowOrReplay`: a row that comes was printed, whole or at 6 by a prefix; or `ReplaysScript`.
 use Rattle.bus_commands.specs.Rows.{ComesInRun, RowOrReplay}
-use Rattle.answer_rows.specs.Rows.{memory_row}
+use Rattle.program_edge.specs.Rows.{memory_row}
 -- ---- the machine: what these say is told at the members of `HeadlineRun`. A `World` has the nodes, with what each
--- keeps and knows, and what was sent so far; a `Step` takes it and an event to a line and the world behind it, and
--- looks at no disk; `First` has the nodes as they are new. A node is *sound* where each counter is at most its kept
--- bound, and that less than a reserve ahead, and what it keeps is of its configuration.
+-- keeps and knows, and what was sent so far; a `Step` takes it and an event to a line and the world after it, and looks
+-- at no disk; `First` has the nodes as they are new. A node is *sound* if each counter is at most its kept bound, that
+-- is less than a reserve ahead, and what it keeps is of its configuration.
 use Rattle.machine_runs.specs.Run.{Run, commands_in, lines_in}
 use Rattle.bus_machine.specs.Bus.{World, First, Moments, Step}
 use Rattle.bus_machine.specs.Freshness.{Rising, Single, AllCovered}
 use Rattle.bus_machine.specs.Authentic.{Authentic}
 use Rattle.bus_machine.specs.KeysKept.{KeysKept}
-use Rattle.bus_texts.specs.LineKinds.{IsLine}
+use Rattle.bus_script.specs.LineKinds.{IsLine}
 use Rattle.cut_disk.specs.State.{DiskState}
-use Rattle.store_runs.specs.DiskTurns.{FailuresTold}
-use Rattle.world_runs.specs.NodeDisks.{mark_at, fails_at, DisksFollow}
-use Rattle.world_runs.specs.WorldRuns.{IsFirstOf, EachSkipsLittle, Honest}
+use Rattle.store_keeping.specs.DiskTurns.{FailuresTold}
+use Rattle.bus_world.specs.NodeDisks.{mark_at, fails_at, DisksFollow}
+use Rattle.bus_world.specs.WorldRuns.{IsFirstOf, EachSkipsLittle, Honest}
 
 -- ==== the headline
 
 -- One run of the machine from `first`, over the disks of the nodes. A moment is an event that was done, with its line
--- and the world behind it; `last` is the world behind them all. `WorldRun` of world_runs, which `chart` and the lives
--- of a bus share, has these members, and each record gives the other (a law in src/laws.rt): they stand here to be
--- read in one place.
+-- and the world after it; `last` is the world after them all. `WorldRun` of bus_world, which `chart` and the lives of a
+-- bus share, has these members, and each record gives the other (a law in src/laws.rt): they stand here to be read in
+-- one place.
 pub record HeadlineRun (first : World) (bus : NamedBus) (d : DiskStates) (events : List Event) (moments : Moments)
     (last : World) : Type 0 where
   -- Each node is sound, up and at the bounds that it keeps; no event of this call was done; a Data ID has one sender.
@@ -147,8 +147,8 @@ pub record HeadlineRun (first : World) (bus : NamedBus) (d : DiskStates) (events
   pub are_lines : All IsLine (lines_in moments)
   -- Of one node and one Data ID, accepted freshness strictly rises.
   pub rising : Rising moments
-  -- What is accepted carries the CMAC of its payload and freshness under the key of the receiver's slot. The event that
-  -- its line names, if it names one, is a `send` before it in this run, of the same payload with the same freshness.
+  -- What is accepted carries the CMAC of its payload and freshness under the key of the receiver's slot. If its line
+  -- names an event, that is a `send` before it in this run, of the same payload with the same freshness.
   pub authentic : Authentic first moments
   -- Of one Data ID, sent freshness strictly rises: none is sent twice.
   pub single : Single moments
@@ -166,12 +166,12 @@ pub record HeadlineRun (first : World) (bus : NamedBus) (d : DiskStates) (events
   -- before an event arms it.
   pub failures : (i : ℕ) (disk : DiskState) → i < length bus.nodes
       → FailuresTold (mark_at i) (fails_at i) moments (get_or d.before i disk) (get_or d.after i disk)
-  -- A PDU that is delivered in time (to a node that is up, within the window above its counter), under the right key,
-  -- is accepted as it was sent, or the node's disk failed. Over quiet disks, without cuts and faults, the first world
-  -- and the events alone determine the lines.
+  -- A PDU that is delivered in time, under the right key, is accepted as it was sent, or the node's disk failed. In
+  -- time: to a node that is up, within the window above its counter. Over quiet disks, without cuts and faults, the
+  -- first world and the events alone determine the lines.
   pub honest : Honest first bus d.before events moments
 
--- what a replay did: one run, of which the sink has the texts of the lines, as `Written` says it
+-- what a replay did: one run, with the texts of its lines in the sink, as `Written` says
 pub record WrittenRun (first : World) (bus : NamedBus) (d : DiskStates) (events : List Event) (e : Ending)
     (result : Result (Unit {0}) Unwritten) : Type 0 where
   pub moments : Moments
@@ -187,9 +187,9 @@ pub record SummedRun (bus : NamedBus) (d : DiskStates) (events : List Event) (su
   pub whole : commands_in moments ≡ events
   pub numbers : summary ≡ summary_of (lines_in moments)
 
--- A valid replay is asked for, and it is one run: of `replay` from the first world of the bus, if each disk tells its
--- bytes; of `node` from a world in which the bus goes on where its disks stand, if a cut can take none of these bytes
--- away.
+-- A valid replay is asked for, and it is one run. That of `replay` begins at the first world of the bus, if each disk
+-- tells its bytes. That of `node` begins at a world in which the bus goes on where its disks stand, if a cut can take
+-- none of these bytes away.
 abbrev pub ReplayIsRun : Start → BusInputs → DiskStates → Ending → Result (Unit {0}) Unwritten → Type 0
 ReplayIsRun Format i d e result = OverReplayOf Format i (λ bus events. (TellEach bus d.before
     → WrittenRun (First (configs_of bus)) bus d events e result))
@@ -215,8 +215,8 @@ pub record RunsMachine {V : Type 0} (i : BusInputs) (d : CommandDisks V) (e : En
   -- 0 of `node`: the same, from a world in which the bus goes on.
   pub attached_run : Asks i.words (command.World (Replay Attach)) → e.status ≡ 0
       → ReplayIsRun Attach i d.states e (Ok tt)
-  -- 6 of both: the disks are unstarted, and a front of a row was written; or the first events are one run, of whose
-  -- last line a front was written.
+  -- 6 of both: the disks are unstarted, and a prefix of a row was written; or the first events are one run, of whose
+  -- last line a prefix was written.
   pub early_ends : (start : Start) → Asks i.words (command.World (Replay start)) → e.status ≡ 6
       → (LeavesUnstarted i d × PrintsFront (ComesInRun i d) e)
       ⊎ ReplayIsRun start i d.states e (Err unwritten.SinkFailed)
@@ -261,54 +261,55 @@ abbrev pub DoesEvents : BusInputs → DiskStates → Ending → Type 0
 DoesEvents i d e = ((result : Result (Unit {0}) Unwritten) × ReplaysScript i d e result)
     ⊎ ((summary : Summary) × TriesEvents i d summary)
 
--- where a replay is to be done, its bus has disks that serve
+-- if a replay is to be done, its bus has disks that serve
 abbrev pub TaskHasDisks : Task → DiskStates → Type 0
 TaskHasDisks (replay start bus) d = BusHasDisks start bus d
 TaskHasDisks task d = Unit {0}
 
 -- THE TABLE OF ANSWERS: what a command promises, by status. "Both ways": the status has this cause, over files too, and
--- the cause brings the status: of 2, 5, 6 and 8 always, of 3, 4 and 9 where the sources tell what they have and didn't
+-- the cause brings the status: of 2, 5, 6 and 8 always, of 3, 4 and 9 if the sources tell what they have and didn't
 -- fail. A sink whose count of faults rises makes it 6 instead (one whose count is full may); and 0, 3, 4, 9 and 10 may
--- give way to 7, which is said to be want of memory: no clause says that it was, and none brings 7.
+-- give way to 7, out of memory: no clause says that memory was out, and none brings 7.
 pub record RunsCommand {V : Type 0} (i : BusInputs) (d : CommandDisks V) (e : Ending) : Type 0 where
-  -- A row that comes is told, or a replay did its first events or all: what that says of each status follows.
+  -- The program prints a row that comes, or a replay did its first events or all. What that says of each status
+  -- follows.
   pub ends : RowOrReplay i d e
   -- No status comes but 0 and 2 to 10.
   pub statuses : (e.status ≡ 0) ⊎ ((2 ≤ e.status) × (e.status ≤ 10))
   -- Only a command that has a bus file reads one, and a trial reads no lines.
   pub config_unread : ¬ AsksOverBus i.words → IsUnread i.config
   pub lines_unread : (trial : TrialWords) → Asks i.words (command.World (Trial trial)) → IsUnread i.script
-  -- Every disk is as before where no world is asked for, and at 2, 3, 4, 5, 8 and 9.
+  -- Every disk is as before if no world is asked for, and at 2, 3, 4, 5, 8 and 9.
   pub disks : ¬ AsksWorld i.words → d.new ≡ d.old
   pub disks_unused : (e.status ≡ 2) ⊎ (e.status ≡ 3) ⊎ (e.status ≡ 4) ⊎ (e.status ≡ 5) ⊎ (e.status ≡ 8)
       ⊎ (e.status ≡ 9) → d.new ≡ d.old
   pub leaves : LeavesDisks i d e
   -- 0: the command that is asked for read its inputs whole, and did all.
   pub done : e.status ≡ 0 → (asked : Command) × Asks i.words asked × DoesAll asked i d.states e
-  -- 2, both ways: the words are of no form; nothing was read; the usage line is printed.
+  -- 2, both ways: the arguments are malformed; nothing was read; the usage line is printed.
   pub usage_told : e.status ≡ 2 → AsksNothing i.words × IsUnread i.config × IsUnread i.script × PrintsWhole e usage
   pub usage_only : AsksNothing i.words → EndsIn 2 e
-  -- 3, both ways: the bus file was read whole, and has a fault, the first of which is printed; no lines were read.
+  -- 3, both ways: the bus file was read whole and has a fault, and its first fault is printed. No lines were read.
   pub config_refused : e.status ≡ 3 → AsksOverBus i.words × IsUnread i.script
       × ((fault : ConfigFault) × IsConfigFault i.config fault
       × (text : List ℕ) × (config_fault_text fault ≡ Some text) × PrintsWhole e text)
   pub config_refused_only : (file : List ℕ) (fault : ConfigFault) → AsksOverBus i.words
       → Offers i.config file → bus_of file ≡ Err fault → MayEndIn 3 e
-  -- 4, both ways: the inputs were read whole, and the lines have a fault, the first of which is printed.
+  -- 4, both ways: the inputs were read whole and the lines have a fault, and the first fault is printed.
   pub refused : e.status ≡ 4 → OverLines i (λ task input. (fault : Fault) × (fault_of task input ≡ Some fault)
       × PrintsWhole e (fault_text_of fault))
   pub refused_only : (task : Task) (input : List ℕ) (fault : Fault) → OffersTask i task
       → Offers i.script input → fault_of task input ≡ Some fault → MayEndIn 4 e
-  -- 5, both ways: the count of faults of a source that was read rose; 5 may come where it is full, too. It is the bus
+  -- 5, both ways: the count of faults of a source that was read rose; 5 may come if it is full, too. It is the bus
   -- file's, and no line was read; or the lines', and the bus file, if one is read, is valid.
   pub read_fault : e.status ≡ 5 → (NoConfig i ReadFault ⊎ NoScript i ReadFault) × PrintsWhole e (codes "read fault\n")
   pub read_fault_only : CountsFault i.config ⊎ CountsFault i.script → EndsIn 5 e
-  -- 6, both ways: the sink's count of faults rose; 6 may come where it is full, too. A front was written of a row that
-  -- comes; or of a replay the lines before one, and a front of this.
+  -- 6, both ways: the sink's count of faults rose; 6 may come if it is full, too. A prefix was written of a row that
+  -- comes; or of a replay the lines before one, and a prefix of this.
   pub write_fault : e.status ≡ 6 → SinkFailed e
       × (PrintsFront (ComesInRun i d) e ⊎ ReplaysScript i d.states e (Err unwritten.SinkFailed))
   pub write_fault_only : CountsWriteFault e → e.status ≡ 6
-  -- 7, one way: its row comes (of inputs, at a start at which no disk failed, or behind a trial's events), and nothing
+  -- 7, one way: its row comes (of inputs, at a start at which no disk failed, or after a trial's events), and nothing
   -- was written; or of a replay the lines before one, and nothing of this.
   pub no_memory : e.status ≡ 7 → (ComesInRun i d memory_row × PrintsWhole e [])
       ⊎ ReplaysScript i d.states e (Err unwritten.Memory)
@@ -316,8 +317,8 @@ pub record RunsCommand {V : Type 0} (i : BusInputs) (d : CommandDisks V) (e : En
   -- or of the lines, as at 5.
   pub too_long : e.status ≡ 8 → (NoConfig i TooLong ⊎ NoScript i TooLong) × PrintsWhole e (codes "input too long\n")
   pub too_long_only : CountsTooMuch i.config ⊎ CountsTooMuch i.script → EndsIn 8 e
-  -- 9, both ways: all that is read is valid, and there are fewer disks than nodes, or the disk of a node is too small,
-  -- of which the first is named.
+  -- 9, both ways: all that is read is valid. There are fewer disks than nodes, or the disk of a node is too small, and
+  -- the first such node is named.
   pub disks_refused : e.status ≡ 9 → OverWorld i (λ start bus events.
       IsNamedBus bus × (d.states.after ≡ d.states.before)
       × ((fault : StartFault) × FindsRoom bus d.states.before fault × PrintsWhole e (start_row fault).text))
@@ -325,25 +326,25 @@ pub record RunsCommand {V : Type 0} (i : BusInputs) (d : CommandDisks V) (e : En
       → Offers i.script input → fault_of (replay start bus) input ≡ None → ¬ HasRoom bus d.states.before → MayEndIn 9 e
   pub trial_disks_refused_only : (bus : NamedBus) → OffersTrial i bus → ¬ HasRoom bus d.states.before → MayEndIn 9 e
   -- 10: all that is read is valid, the disks are large enough, and the row of a node is printed: its disk failed, and
-  -- wasn't quiet; or it didn't fail, and its bytes are refused. Told bytes are refused of `node` alone, where it can't
-  -- go on over them; of others no cause is said. Told ones of the nodes before it are good. The disks are as an
-  -- unfinished start may leave them.
+  -- wasn't quiet; or it didn't fail, and its bytes are refused. Told bytes are refused of `node` alone, if it can't go
+  -- on over them; of others no cause is said. Told ones of the nodes before it are good. The disks are as an unfinished
+  -- start may leave them.
   pub store_refused : e.status ≡ 10 → OverWorld i (λ start bus events.
       HasRoom bus d.states.before × LeavesEach start bus d.states.before d.states.after
       × ((fault : StartFault) × StoreCause start bus d.states.before d.states.after fault
       × PrintsWhole e (start_row fault).text))
-  -- A valid `node`, which the sources tell without a fault, ends in 10, 6 or 7 where its disks are large enough, and
-  -- one tells bytes over which its node can't go on.
+  -- A valid `node`, which the sources tell without a fault, ends with 10, 6 or 7 on one condition. Its disks are large
+  -- enough, and one tells bytes over which its node can't go on.
   pub store_refused_only : (bus : NamedBus) (input : List ℕ) → OffersTask i (replay Attach bus)
       → Offers i.script input → fault_of (replay Attach bus) input ≡ None → HasRoom bus d.states.before
       → HoldsNoNode bus d.states.before → MayEndIn 10 e
-  -- Where the count of faults of a disk rose, the status is 10 with the row of its node, or 6 with a front of it; or a
-  -- replay did its first events, or a trial all. (Where a disk's past isn't told, a failed start may look like a first
+  -- If the count of faults of a disk rose, the status is 10 with the row of its node, or 6 with a prefix of it. Or a
+  -- replay did its first events, or a trial all. (If a disk's past isn't told, a failed start may look like a first
   -- event that failed.)
   pub failed_disk_told : (place : ℕ) → CountsDiskFault d.states place
       → EndsInRow (λ row. row ≡ failed_row place) e ⊎ DoesEvents i d.states e
-  -- What is valid ends in 0 or 7, where the sources tell it and didn't fail, the sink's count of faults neither rose
-  -- nor is full, and a world has disks that serve, which tell their bytes.
+  -- What is valid ends with 0 or 7 on three conditions. The sources tell it and didn't fail. The sink's count of faults
+  -- neither rose nor is full. A world has disks that serve and tell their bytes.
   pub complete : (task : Task) (input : List ℕ) → OffersTask i task → Offers i.script input → fault_of task input ≡ None
       → TaskHasDisks task d.states → ¬ SinkFailed e → (e.status ≡ 0) ⊎ (e.status ≡ 7)
   pub trial_complete : (bus : NamedBus) → OffersTrial i bus → BusHasDisks Format bus d.states → ¬ SinkFailed e

@@ -2,18 +2,18 @@
 use Rattle.cut_disk.specs.State.{DiskState}
 use Rattle.std.specs.Prelude.{◌≡◌, List, Result}
 use Rattle.bus_port.specs.Sink.{SinkState}
-use Rattle.numbered_run.specs.declared.printing.Unwritten.{Unwritten}
-use Rattle.numbered_run.specs.Printed.{Written}
+use Rattle.run_driver.specs.declared.printing.Unwritten.{Unwritten}
+use Rattle.run_driver.specs.Printed.{Written}
 use Rattle.bus_machine.specs.declared.events.Event.{Event}
 use Rattle.bus_machine.specs.Bus.{World, First, Moments}
 use Rattle.bus_nodes.specs.Buses.{NamedBus, configs_of}
-use Rattle.bus_texts.specs.LineTexts.{line_text}
+use Rattle.bus_script.specs.LineTexts.{line_text}
 use Rattle.bus_world.specs.declared.start.Start.{Start}
 use Rattle.bus_world.specs.declared.start.Start.TheVariants.{Format, Attach}
 use Rattle.bus_world.specs.Starts.{StartsOver}
-use Rattle.world_runs.specs.NodeDisks.{TellEach}
-use Rattle.world_runs.specs.WorldRuns.{WorldRun}
-use Rattle.world_runs.specs.Turns.{TellFirm}
+use Rattle.bus_world.specs.NodeDisks.{TellEach}
+use Rattle.bus_world.specs.WorldRuns.{WorldRun}
+use Rattle.bus_world.specs.WorldTurns.{TellFirm}
 use Rattle.bus_commands.specs.Replays.{ReplayTurns}
 
 -- a replay from this first world: a run, the texts of whose lines were written
@@ -24,7 +24,7 @@ pub record Replayed (first : World) (bus : NamedBus) (before after : List DiskSt
   pub run : WorldRun first bus before after events moments last
   pub written : Written line_text sink_before sink_after events result moments
 
--- the disk of each node tells its bytes; where they are attached, none of them is loose
+-- the disk of each node tells its bytes; if they are attached, none of them is loose
 abbrev pub TellFor : Start → NamedBus → List DiskState → Type 0
 TellFor Format bus disks = TellEach bus disks
 TellFor Attach bus disks = TellFirm bus disks

@@ -1,13 +1,13 @@
 -- What goes into a command, and what of it is read
 use Rattle.std.specs.Prelude.{◌≡◌, ℕ, List, Ok}
 use Rattle.bus_port.specs.Source.{SourceState}
-use Rattle.command_edge.specs.declared.input.InputFault.{InputFault}
-use Rattle.answer_rows.specs.Inputs.{Reading, IsUnread, ReadsWhole, Lacks}
+use Rattle.program_edge.specs.declared.input.InputFault.{InputFault}
+use Rattle.program_edge.specs.Inputs.{Reading, IsUnread, ReadsWhole, Lacks}
 use Rattle.bus_nodes.specs.Buses.{NamedBus}
 use Rattle.bus_machine.specs.declared.events.Event.{Event}
 use Rattle.bus_script.specs.EventForms.{events_of}
-use Rattle.bus_trials.specs.Trials.{trial_events}
-use Rattle.bus_inputs.specs.BusFiles.{ReadsBus, OffersBus}
+use Rattle.bus_script.specs.Trials.{trial_events}
+use Rattle.bus_programs.specs.BusFiles.{ReadsBus, OffersBus}
 use Rattle.bus_commands.specs.declared.trial_words.TrialWords.{TrialWords}
 use Rattle.bus_commands.specs.declared.words.Command.{Command}
 use Rattle.bus_commands.specs.declared.words.Command.TheVariants.{Lines, World}
@@ -19,13 +19,13 @@ use Rattle.bus_world.specs.declared.start.Start.TheVariants.{Format}
 use Rattle.bus_commands.specs.Words.{Asks}
 use Rattle.bus_commands.specs.Tasks.{Task, frame, judge, check, replay}
 
--- the words, and what was known of the sources of the bus file and of the lines, before and after
+-- the arguments, and what was known of the sources of the bus file and of the lines, before and after
 pub record BusInputs : Type 0 where
   pub words : List (List ℕ)
   pub config : Reading
   pub script : Reading
 
--- these words, and what was known of the bus file's source before and after, and of the lines'
+-- these arguments, and what was known of the bus file's source before and after, and of the lines'
 abbrev pub inputs_of : List (List ℕ) → SourceState → SourceState → SourceState → SourceState → BusInputs
 inputs_of words config_before config_after script_before script_after = record {
   words = words;
@@ -42,17 +42,17 @@ NeedsBus (Lines lines.Judge) = ⊥
 NeedsBus (Lines lines.Check) = Unit {0}
 NeedsBus (World command) = Unit {0}
 
--- the words ask for a command that reads one
+-- the arguments ask for a command that reads one
 abbrev pub AsksOverBus : List (List ℕ) → Type 0
 AsksOverBus words = (command : Command) × Asks words command × NeedsBus command
 
--- the words ask for a command that reads one, and there is none, for this cause; of the lines nothing was read
+-- the arguments ask for a command that reads one, and there is none, for this cause; of the lines nothing was read
 abbrev pub NoConfig : BusInputs → InputFault → Type 0
 NoConfig i fault = AsksOverBus i.words × Lacks i.config fault × IsUnread i.script
 
 -- ---- the lines
 
--- the words ask for what is done with the lines, whose bus is that of the bus file, which was read whole; where they
+-- the arguments ask for what is done with the lines, whose bus is that of the bus file, which was read whole; if they
 -- need none, it is unread
 abbrev pub SetsTask : BusInputs → Task → Type 0
 SetsTask i frame = Asks i.words (Lines lines.Frame) × IsUnread i.config
@@ -84,13 +84,14 @@ HasEvents (Replay start) bus script events =
     (text : List ℕ) × ReadsWhole script text × (events_of bus.nodes text ≡ Ok events)
 HasEvents (Trial trial) bus script events = IsUnread script × (events ≡ trial_events bus.nodes trial.count trial.seed)
 
--- the words ask for a run over disks; its bus is that of the bus file, which was read whole, and these are its events
+-- the arguments ask for a run over disks; its bus is that of the bus file, which was read whole, and these are its
+-- events
 pub record SetsWorld (i : BusInputs) (command : WorldCommand) (bus : NamedBus) (events : List Event) : Type 0 where
   pub asks : Asks i.words (World command)
   pub of_bus : ReadsBus i.config bus
   pub has : HasEvents command bus i.script events
 
--- the words ask for a run over disks
+-- the arguments ask for a run over disks
 abbrev pub AsksWorld : List (List ℕ) → Type 0
 AsksWorld words = (command : WorldCommand) × Asks words (World command)
 
@@ -121,6 +122,6 @@ OverWorld i P =
     (command : WorldCommand) × (bus : NamedBus) × (events : List Event) × SetsWorld i command bus events
     × P (start_of command) bus events
 
--- the words ask for a trial over the bus that the source of the bus file tells
+-- the arguments ask for a trial over the bus that the source of the bus file tells
 abbrev pub OffersTrial : BusInputs → NamedBus → Type 0
 OffersTrial i bus = (trial : TrialWords) × Asks i.words (World (Trial trial)) × OffersBus i.config bus

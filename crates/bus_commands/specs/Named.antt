@@ -1,16 +1,23 @@
--- What the words of a command name
-use Rattle.std.specs.Prelude.{◌≡◌, ℕ, List}
+-- What the arguments of a command name
+use Rattle.std.specs.Prelude.{◌≡◌, ℕ, List, Option, Some, None}
 use Rattle.bus_port.specs.Source.{SourceState}
-use Rattle.named_sources.specs.NamedSources.{missing_source, IsNamed}
+use Rattle.program_edge.specs.NamedSources.{Openings, behind, AreNamed}
 use Rattle.bus_commands.specs.Words.{NamesConfig, NamesScript}
 use Rattle.bus_commands.specs.Inputs.{BusInputs}
 
--- the sources of a command are those that its words name, that of the bus file and that of the lines. The input is
--- handed in once for each. A source that no word names is missing
-pub record InputsAreNamed (opens : List ℕ → SourceState → Type 0) (config_input script_input : SourceState)
+-- the argument for which this holds, or none, if there is no such one
+abbrev pub IsTheWord : (List ℕ → Type 0) → Option (List ℕ) → Type 0
+IsTheWord names None = (name : List ℕ) → ¬ names name
+IsTheWord names (Some name) = names name
+
+-- the sources of a command are those that its arguments name, that of the bus file and that of the lines. A source that
+-- no word names is missing. What is left to be opened is what these arguments leave
+pub record InputsAreNamed (opens : List ℕ → SourceState → Type 0) (before after : Openings)
     (words : List (List ℕ)) (i : BusInputs) : Type 0 where
   pub words_are : i.words ≡ words
-  pub config_named : (name : List ℕ) → NamesConfig words name → IsNamed opens config_input name i.config.before
-  pub config_missing : ((name : List ℕ) → ¬ NamesConfig words name) → i.config.before ≡ missing_source 0
-  pub script_named : (name : List ℕ) → NamesScript words name → IsNamed opens script_input name i.script.before
-  pub script_missing : ((name : List ℕ) → ¬ NamesScript words name) → i.script.before ≡ missing_source 0
+  pub config : Option (List ℕ)
+  pub script : Option (List ℕ)
+  pub names_config : IsTheWord (NamesConfig words) config
+  pub names_script : IsTheWord (NamesScript words) script
+  pub named : AreNamed opens before config script i.config.before i.script.before
+  pub left : after ≡ behind script (behind config before)

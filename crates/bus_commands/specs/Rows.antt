@@ -1,12 +1,12 @@
 -- The table of answers of the commands of a bus: its rows, and when each comes
 use Rattle.std.specs.Prelude.{◌≡◌, ℕ, List, Some, Result}
-use Rattle.command_edge.specs.declared.input.InputFault.{InputFault}
-use Rattle.answer_rows.specs.Rows.{Row, row_of, input_row, memory_row}
-use Rattle.answer_rows.specs.Inputs.{IsUnread}
-use Rattle.answer_rows.specs.Endings.{Ending, EndsInRow}
-use Rattle.line_rows.specs.LineRows.{line_row}
+use Rattle.program_edge.specs.declared.input.InputFault.{InputFault}
+use Rattle.program_edge.specs.Rows.{Row, row_of, input_row, memory_row}
+use Rattle.program_edge.specs.Inputs.{IsUnread}
+use Rattle.program_edge.specs.Endings.{Ending, EndsInRow}
+use Rattle.text_lines.specs.LineRows.{line_row}
 use Rattle.text_lines.specs.Readings.{Fault}
-use Rattle.numbered_run.specs.declared.printing.Unwritten.{Unwritten}
+use Rattle.run_driver.specs.declared.printing.Unwritten.{Unwritten}
 use Rattle.bus_config.specs.declared.fault.ConfigFault.{ConfigFault}
 use Rattle.bus_config.specs.FaultTexts.{config_fault_text}
 use Rattle.bus_nodes.specs.Buses.{NamedBus, IsNamedBus}
@@ -14,17 +14,17 @@ use Rattle.bus_machine.specs.declared.events.Event.{Event}
 use Rattle.bus_commands.specs.declared.summary.Summary.{Summary}
 use Rattle.bus_commands.specs.Words.{AsksNothing}
 use Rattle.bus_commands.specs.Texts.{usage, IsOutput, fault_of}
-use Rattle.bus_inputs.specs.BusFiles.{IsConfigFault}
+use Rattle.bus_programs.specs.BusFiles.{IsConfigFault}
 use Rattle.bus_commands.specs.Inputs.{BusInputs, AsksOverBus, NoConfig, NoScript, OverLines, OverReplay}
 use Rattle.bus_commands.specs.Inputs.{OverTrial, OverWorld}
 use Rattle.bus_world.specs.StartAnswers.{DiskStates, ComesOfStart}
 use Rattle.bus_commands.specs.StartRows.{CommandDisks}
 use Rattle.bus_commands.specs.Summaries.{summary_text}
 use Rattle.bus_world.specs.declared.start.Start.{Start}
-use Rattle.numbered_run.specs.Statuses.{unwritten_status}
+use Rattle.run_driver.specs.Statuses.{unwritten_status}
 use Rattle.bus_commands.specs.Replays.{ReplayTurns}
-use Rattle.world_runs.specs.NodeDisks.{TellEach, DisksStay}
-use Rattle.world_runs.specs.Turns.{seen}
+use Rattle.bus_world.specs.NodeDisks.{TellEach, DisksStay}
+use Rattle.bus_world.specs.WorldTurns.{seen}
 use Rattle.bus_commands.specs.Headline.{TellFor, ReplayedOver}
 use Rattle.bus_commands.specs.TrialRuns.{TrialTurns, Tried}
 
@@ -45,8 +45,8 @@ pub record DoneTrial (bus : NamedBus) (events : List Event) (d : DiskStates) (su
   pub stay : DisksStay bus d.before d.after (seen ran.turns.moments)
   pub one_run : TellEach bus d.before → Tried bus d.before d.after events summary
 
--- a replay did its first events, up to the first whose text wasn't written, and has the status that says so; over
--- disks that tell their bytes they are one run of the machine from where the replay begins
+-- a replay did its first events, up to the first whose text wasn't written, and has the status that says so. Over disks
+-- that tell their bytes they are one run of the machine from where the replay begins
 pub record DoneReplay (start : Start) (bus : NamedBus) (events : List Event) (d : DiskStates) (e : Ending)
     (result : Result (Unit {0}) Unwritten) : Type 0 where
   pub ran : ReplayTurns start bus d.before d.after events e.before e.after result
@@ -70,7 +70,7 @@ pub data ComesInRun {V : Type 0} (i : BusInputs) (d : CommandDisks V) : Row → 
   tried : (summary : Summary) → TriesEvents i d.states summary → ComesInRun i d (row_of 0 (summary_text summary))
   tried_without_memory : (summary : Summary) → TriesEvents i d.states summary → ComesInRun i d memory_row
 
--- how a command ends: a row of the table comes, and is told; or a replay did its first events
+-- how a command ends: in a row of the table, which is printed; or a replay did its first events
 pub data RowOrReplay {V : Type 0} (i : BusInputs) (d : CommandDisks V) (e : Ending) : Type 0 where
   in_row : EndsInRow (ComesInRun i d) e → RowOrReplay i d e
   replayed : (result : Result (Unit {0}) Unwritten) → ReplaysScript i d.states e result → RowOrReplay i d e

@@ -4,7 +4,7 @@ use Rattle.bus_machine.specs.declared.events.Event.{Event}
 use Rattle.bus_machine.specs.Bus.{World, Moments}
 use Rattle.bus_nodes.specs.Buses.{NamedBus}
 use Rattle.bus_world.specs.StartAnswers.{DiskStates}
-use Rattle.world_runs.specs.WorldRuns.{WorldRun}
+use Rattle.bus_world.specs.WorldRuns.{WorldRun}
 use Rattle.bus_commands.specs.Commands.{HeadlineRun}
 
 -- each gives the other: of a replay's or a trial's run holds what holds of a run of a bus

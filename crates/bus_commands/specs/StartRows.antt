@@ -14,7 +14,7 @@ pub record CommandDisks (V : Type 0) : Type 0 where
   pub new : V
   pub states : DiskStates
 
--- these disks before and after it, of which `state` says what is known
+-- these disks before and after it, as `state` has them
 abbrev pub disks_between : {D : Type 0} → (D → DiskState) → Vec D Global → Vec D Global → CommandDisks (Vec D Global)
 disks_between state old new =
     record { old = old; new = new; states = record { before = map state old.items; after = map state new.items } }

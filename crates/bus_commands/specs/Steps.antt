@@ -7,18 +7,18 @@ use Rattle.secoc_words.specs.declared.frames.FrameLine.{FrameLine}
 use Rattle.secoc_words.specs.declared.judges.JudgeLine.{JudgeLine}
 use Rattle.secoc_words.specs.Frames.{frames_of, judges_of}
 use Rattle.text_lines.specs.Readings.{most_lines, Fault}
-use Rattle.answer_rows.specs.Rows.{Row, row_of, memory_row}
-use Rattle.answer_rows.specs.Inputs.{Reading, IsUnread}
-use Rattle.answer_rows.specs.Endings.{Ending, EndsInRow}
-use Rattle.line_rows.specs.LineRows.{NoLines}
-use Rattle.numbered_run.specs.declared.printing.Unwritten.{Unwritten}
+use Rattle.program_edge.specs.Rows.{Row, row_of, memory_row}
+use Rattle.program_edge.specs.Inputs.{Reading, IsUnread}
+use Rattle.program_edge.specs.Endings.{Ending, EndsInRow}
+use Rattle.text_lines.specs.LineRows.{NoLines}
+use Rattle.run_driver.specs.declared.printing.Unwritten.{Unwritten}
 use Rattle.bus_nodes.specs.Buses.{NamedBus, IsNamedBus}
 use Rattle.bus_machine.specs.declared.events.Event.{Event}
 use Rattle.bus_script.specs.EventForms.{events_of}
-use Rattle.bus_trials.specs.Trials.{trial_events}
+use Rattle.bus_script.specs.Trials.{trial_events}
 use Rattle.bus_script.specs.ScriptEvents.{IsScriptEvent}
 use Rattle.bus_script.specs.Canon.{canon}
-use Rattle.bus_inputs.specs.Scripts.{LacksLines, ReadsLinesAs}
+use Rattle.bus_programs.specs.Scripts.{LacksLines, ReadsLinesAs}
 use Rattle.bus_commands.specs.declared.trial_words.TrialWords.{TrialWords}
 use Rattle.bus_commands.specs.declared.words.Command.TheVariants as command
 use Rattle.bus_commands.specs.declared.words.LineCommand.{LineCommand}
@@ -79,7 +79,7 @@ abbrev pub FindsScript : NamedBus → Reading → Result (Vec Event Global) Row 
 FindsScript bus script (Ok events) = ReadsLinesAs (events_of bus.nodes) script events.items × AreEvents bus events.items
 FindsScript bus script (Err row) = LacksLines (events_of bus.nodes) script row
 
--- the events that the seed of a trial gives, or want of memory
+-- the events that the seed of a trial gives, or out of memory
 abbrev pub DrawsEvents : NamedBus → TrialWords → Result (Vec Event Global) Row → Type 0
 DrawsEvents bus trial (Ok events) =
     (events.items ≡ trial_events bus.nodes trial.count trial.seed) × AreEvents bus events.items
@@ -109,7 +109,7 @@ Prepares i (Ok (Lines job)) = IsWholeLines job × OverLines i (λ task input. Is
 Prepares i (Ok (World job)) = IsWholeWorld job × SetsWorld i job.command job.bus job.events.items
 Prepares i (Err row) = ComesOfInputs i row
 
--- how it ends for a command of lines, whatever the words are that ask for it
+-- how it ends for a command of lines, whatever the arguments are that ask for it
 abbrev pub PreparesLines : LineCommand → Reading → Reading → Result LineJob Row → Type 0
 PreparesLines asked config script (Ok job) = (words : List (List ℕ)) → Asks words (command.Lines asked)
     → Prepares (record { words = words; config = config; script = script }) (Ok (Lines job))
@@ -123,7 +123,7 @@ PreparesWorld asked config script (Ok job) = (words : List (List ℕ)) → Asks 
 PreparesWorld asked config script (Err row) = (words : List (List ℕ)) → Asks words (command.World asked)
     → Prepares (record { words = words; config = config; script = script }) (Err row)
 
--- the number of events of a trial is one that its words may have
+-- the number of events of a trial is one that its arguments may have
 abbrev pub HasFewEvents : WorldCommand → Type 0
 HasFewEvents (Replay start) = Unit {0}
 HasFewEvents (Trial trial) = (1 ≤ trial.count) × (trial.count ≤ 60000)
@@ -141,12 +141,12 @@ TellsLines (Frames lines) text = TellsEach TellsFrame lines.items text
 TellsLines (Judgements lines) text = TellsEach TellsJudgement lines.items text
 TellsLines (Events bus events) text = text ≡ flat_map (canon bus.nodes) events.items
 
--- what the second phase over lines ends in: the whole text is told, or there was no memory for it
+-- what the second phase over lines ends in: the whole text is printed, or there was no memory for it
 pub data AnswersLines (job : LineJob) : Row → Type 0 where
   told : (text : List ℕ) → TellsLines job text → AnswersLines job (row_of 0 text)
   no_text : AnswersLines job memory_row
 
--- what a trial ends in: it isn't started, or all its events are done, and its seven lines are told, or there was no
+-- what a trial ends in: it isn't started, or all its events are done, and its seven lines are printed, or there was no
 -- memory for them; `same` is that every disk is as before
 pub data AnswersTrial (same : Type 0) (bus : NamedBus) (events : List Event) (d : DiskStates) : Row → Type 0 where
   refused_trial : (row : Row) → ComesUnstarted same Format bus d row → AnswersTrial same bus events d row
@@ -154,7 +154,7 @@ pub data AnswersTrial (same : Type 0) (bus : NamedBus) (events : List Event) (d 
       → AnswersTrial same bus events d (row_of 0 (summary_text summary))
   no_summary : (summary : Summary) → DoneTrial bus events d summary → AnswersTrial same bus events d memory_row
 
--- how the text of a summary is told, or want of memory for it
+-- the row of the text of a summary, or out of memory for it
 pub data TellsSummary (summary : Summary) : Row → Type 0 where
   seven_lines : TellsSummary summary (row_of 0 (summary_text summary))
   no_lines_told : TellsSummary summary memory_row

@@ -8,7 +8,7 @@ use Rattle.bus_machine.specs.Tells.{tells_refused}
 abbrev pub no_lines : Summary
 no_lines = record { events = 0; sent = 0; accepted = 0; failures = 0; keyed = 0; cuts = 0; refused = 0 }
 
--- one where the line tells this
+-- one if the line tells this
 abbrev pub one_if : Bool → ℕ
 one_if tells = cond tells 1 0
 
@@ -23,7 +23,7 @@ summary_with s l = record {
   refused = s.refused + one_if (tells_refused l);
 }
 
--- as many events as lines before the next one, whose number this is, and no more of any kind
+-- as many events as lines before the next one, which has this number, and not more of any kind
 pub record CountsFew (s : Summary) (number : ℕ) : Type 0 where
   pub events : s.events + 1 ≡ number
   pub sent : s.sent ≤ s.events

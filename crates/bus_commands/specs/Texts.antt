@@ -16,7 +16,7 @@ use Rattle.bus_script.specs.EventForms.{events_of}
 use Rattle.bus_script.specs.Canon.{canon}
 use Rattle.bus_commands.specs.Tasks.{Task, frame, judge, check, replay}
 
--- the line of words that is printed where the words are of no form
+-- the usage line that is printed if the arguments are malformed
 abbrev pub usage : List ℕ
 usage = line (codes "usage: frame F, judge F, check B F, replay B F, trial B N SEED, node B F DISK")
 
@@ -31,7 +31,7 @@ TellsJudgement l text =
     ⊎ (IsFrame l.pdu × (outcome : Outcome) × Verdict l.key l.id l.counter 256 l.pdu outcome ×
     (text ≡ outcome_text outcome))
 
--- the text has the answer of each line, one behind the other, and nothing else
+-- the text has the answer of each line, one after the other, and nothing else
 abbrev pub TellsEach : {A : Type 0} → (A → List ℕ → Type 0) → List A → List ℕ → Type 0
 TellsEach Tells [] text = text ≡ []
 TellsEach Tells (l ∷ lines) text =

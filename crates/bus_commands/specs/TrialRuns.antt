@@ -2,15 +2,15 @@
 use Rattle.std.specs.Prelude.{◌≡◌, List, ◌++◌, length, drop}
 use Rattle.cut_disk.specs.State.{DiskState}
 use Rattle.machine_runs.specs.Run.{commands_in, lines_in}
-use Rattle.numbered_run.specs.Driven.{FirstDone}
+use Rattle.run_driver.specs.Driven.{FirstDone}
 use Rattle.bus_machine.specs.declared.events.Event.{Event}
 use Rattle.bus_machine.specs.Bus.{World, First, Moments}
 use Rattle.bus_nodes.specs.Buses.{NamedBus, IsNamedBus, configs_of}
 use Rattle.bus_world.specs.declared.start.Start.TheVariants.{Format}
 use Rattle.bus_world.specs.Worlds.{BusState, BusTurn}
 use Rattle.bus_world.specs.Starts.{Started, disks_of}
-use Rattle.world_runs.specs.NodeDisks.{TellEach}
-use Rattle.world_runs.specs.WorldRuns.{WorldRun}
+use Rattle.bus_world.specs.NodeDisks.{TellEach}
+use Rattle.bus_world.specs.WorldRuns.{WorldRun}
 use Rattle.bus_commands.specs.declared.summary.Summary.{Summary}
 use Rattle.bus_commands.specs.Summaries.{summary_of}
 

@@ -1,10 +1,10 @@
--- The words `trial B N SEED`.
+-- The arguments `trial B N SEED`.
 use Rattle.std.specs.Prelude.{◌≡◌, ℕ, List, codes, Some}
 use Rattle.text_lines.specs.Forms.{number_form}
 use Rattle.bus_commands.specs.declared.trial_words.TrialWords.{TrialWords}
 
--- the first of four words, of which the second names a bus file, is `trial`, the third is a number from 1 to 60,000,
--- and the fourth one below 2^64
+-- of four arguments the first is `trial`, and the second names a bus file. The third is a number from 1 to 60,000, and
+-- the fourth one below 2^64
 pub record NamesTrial (word count seed : List ℕ) (trial : TrialWords) : Type 0 where
   pub is_named : word ≡ codes "trial"
   pub is_counted : number_form 1 60000 count ≡ Some trial.count

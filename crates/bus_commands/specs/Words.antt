@@ -1,4 +1,4 @@
--- The words of the command line, and what they ask for.
+-- The arguments of the command line, and what they ask for.
 use Rattle.std.specs.Prelude.{◌≡◌, ℕ, List, [], ◌∷◌, codes}
 use Rattle.bus_world.specs.declared.start.Start.TheVariants.{Format, Attach}
 use Rattle.bus_commands.specs.TrialWords.{NamesTrial}
@@ -7,14 +7,14 @@ use Rattle.bus_commands.specs.declared.words.Command.TheVariants.{Lines, World}
 use Rattle.bus_commands.specs.declared.words.LineCommand.TheVariants.{Frame, Judge, Check}
 use Rattle.bus_commands.specs.declared.words.WorldCommand.TheVariants.{Replay, Trial}
 
--- the first of two words, of which the second names a file of lines, asks for this command
+-- the first of two arguments asks for this command; the second names a file of lines
 abbrev pub NamesCommand : List ℕ → Command → Type 0
 NamesCommand word (Lines Frame) = word ≡ codes "frame"
 NamesCommand word (Lines Judge) = word ≡ codes "judge"
 NamesCommand word (Lines Check) = ⊥
 NamesCommand word (World command) = ⊥
 
--- the first of three words, of which the others name a bus file and a script, asks for this command
+-- the first of three arguments asks for this command; the others name a bus file and a script
 abbrev pub NamesBusCommand : List ℕ → Command → Type 0
 NamesBusCommand word (Lines Frame) = ⊥
 NamesBusCommand word (Lines Judge) = ⊥
@@ -23,22 +23,22 @@ NamesBusCommand word (World (Replay Format)) = word ≡ codes "replay"
 NamesBusCommand word (World (Replay Attach)) = ⊥
 NamesBusCommand word (World (Trial trial)) = ⊥
 
--- the first of four words, of which the second names a bus file, asks for this command: the third is a number of events
--- and the fourth a seed, or they name a script and the file of a disk
+-- the first of four arguments asks for this command; the second names a bus file. The third is a number of events and
+-- the fourth a seed, or they name a script and the file of a disk
 abbrev pub NamesCommandOfFour : List ℕ → List ℕ → List ℕ → Command → Type 0
 NamesCommandOfFour word third fourth (World (Trial trial)) = NamesTrial word third fourth trial
 NamesCommandOfFour word third fourth (World (Replay Attach)) = word ≡ codes "node"
 NamesCommandOfFour word third fourth (World (Replay Format)) = ⊥
 NamesCommandOfFour word third fourth (Lines command) = ⊥
 
--- with no words it is `frame` over standard input
+-- with no arguments it is `frame` over standard input
 abbrev pub IsDefault : Command → Type 0
 IsDefault (Lines Frame) = Unit {0}
 IsDefault (Lines Judge) = ⊥
 IsDefault (Lines Check) = ⊥
 IsDefault (World command) = ⊥
 
--- the words ask for this command; words of another form ask for none
+-- the arguments ask for this command; arguments of another form ask for none
 abbrev pub Asks : List (List ℕ) → Command → Type 0
 Asks [] command = IsDefault command
 Asks (word ∷ []) command = ⊥
@@ -47,11 +47,11 @@ Asks (word ∷ bus ∷ file ∷ []) command = NamesBusCommand word command
 Asks (word ∷ bus ∷ count ∷ seed ∷ []) command = NamesCommandOfFour word count seed command
 Asks (word ∷ bus ∷ count ∷ seed ∷ more ∷ words) command = ⊥
 
--- the words are of no form
+-- the arguments are malformed
 abbrev pub AsksNothing : List (List ℕ) → Type 0
 AsksNothing words = (command : Command) → ¬ Asks words command
 
--- the words are of a form
+-- the arguments are of a form
 abbrev pub AsksSomething : List (List ℕ) → Type 0
 AsksSomething words = (command : Command) × Asks words command
 
@@ -68,7 +68,7 @@ NamesConfig (word ∷ bus ∷ count ∷ seed ∷ more ∷ words) name = ⊥
 abbrev pub AreInput : List ℕ → List ℕ → Type 0
 AreInput bus file = (bus ≡ codes "-") × (file ≡ codes "-")
 
--- this word names the lines: `-`, standard input, with no words; a trial has none. Where the bus file is standard
+-- this word names the lines: `-`, standard input, with no arguments; a trial has none. If the bus file is standard
 -- input already, `-` names nothing
 abbrev pub NamesScript : List (List ℕ) → List ℕ → Type 0
 NamesScript [] name = name ≡ codes "-"

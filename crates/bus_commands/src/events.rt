@@ -8,7 +8,7 @@ use bus_nodes::BusConfig;
 use bus_script::{Event, Memory, write_event};
 use std::alloc::{AllocError, Global};
 
-/// The canonical lines of events of a bus, one behind the other.
+/// The canonical lines of events of a bus, one after the other.
 pub fn canonical(alloc: Global, bus: &BusConfig, events: &[Event]) -> Result<Vec<u8>, AllocError>
     requires { All (IsScriptEvent bus.now.nodes) events.now }
     ensures { IfOk result (λ text. text.items ≡ flat_map (canon bus.now.nodes) events.now) }

@@ -5,14 +5,12 @@ ghost use Rattle.bus_commands.specs.Steps.{DrawsEvents};
 
 use crate::questions::{Question, questions};
 use crate::trial_words::TrialWords;
-use answer_rows::Refusal;
 use bus_nodes::BusConfig;
 use bus_port::Source;
-use bus_script::{Event, read_script};
-use bus_trials::make_trial;
-use command_edge::read_input;
-use line_rows::line_refusal;
+use bus_script::{Event, make_trial, read_script};
+use program_edge::{Refusal, read_input};
 use std::alloc::{AllocError, Global};
+use text_lines::line_refusal;
 
 /// The questions of the lines that a source gives, or the refusal of the source or of a line.
 pub fn questions_from<Q: Question, S: Source>(
@@ -49,7 +47,7 @@ fn events_in(alloc: Global, bus: &BusConfig, text: &[u8]) -> Result<Vec<Event>, 
     }
 }
 
-/// The events that the seed of a trial gives, or want of memory.
+/// The events that the seed of a trial gives, or out of memory.
 pub fn drawn_events(
     alloc: Global,
     bus: &BusConfig,

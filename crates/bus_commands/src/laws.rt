@@ -3,14 +3,14 @@ ghost use Rattle.bus_commands.specs.SharedRuns.{HeadlineIsWorldRun};
 ghost use Rattle.bus_commands.specs.Headline.{ReplaysAreRuns};
 ghost use Rattle.bus_commands.specs.TrialRuns.{TrialsAreRuns};
 
-use world_runs::{
+use bus_world::{
     starts_are_set_up, starts_begin_at_the_first_world, starts_go_on_at_a_first_world,
     turns_are_world_runs,
 };
 
-/// What was done of a replay over disks that tell their bytes is one run of the machine, and all of `Replayed` holds of
-/// it: from the first world of the bus, or, where its disks were attached and none of their bytes was loose, from one
-/// in which the bus goes on where they stand.
+/// What was done of a replay over disks that tell their bytes is one run of the machine with all of `Replayed`. It
+/// begins at the first world of the bus. If its disks were attached and none of their bytes was loose, it begins at a
+/// world in which the bus goes on where they stand.
 pub fn replays_are_runs()
     ensures { ReplaysAreRuns }
 {
@@ -20,8 +20,8 @@ pub fn replays_are_runs()
     turns_are_world_runs();
 }
 
-/// What was done of a trial over disks that tell their bytes is one run of the machine from the first world of the bus,
-/// and all of `Tried` holds of it.
+/// What was done of a trial over disks that tell their bytes is one run of the machine, with all of `Tried`. It begins
+/// at the first world of the bus.
 pub fn trials_are_runs()
     ensures { TrialsAreRuns }
 {

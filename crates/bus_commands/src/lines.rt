@@ -3,9 +3,8 @@ ghost use Rattle.std.specs.Prelude.{◌≡◌, ◌≤◌, ℕ, List, length, OnO
 ghost use Rattle.bus_commands.specs.Texts.{TellsFrame, TellsJudgement};
 ghost use Rattle.bus_commands.specs.Steps.{HasPayload, Adds};
 
-use counting_receiver::WIDEST_WINDOW;
 use secoc_words::verdicts::{push_bad_length, push_outcome};
-use secoc_words::{FrameLine, JudgeLine};
+use secoc_words::{FrameLine, JudgeLine, WIDEST_WINDOW};
 use secured_pdu::{build, judge, split};
 use she_aes::{Block, Schedule, expand};
 use std::alloc::AllocError;
@@ -40,8 +39,8 @@ impl KeptSchedule {
         }
     }
 
-    /// The round keys of this key: those that are kept where they are of the same key, else new ones, which are kept
-    /// from then on.
+    /// The round keys of this key: those that are kept if they are of the same key, else new ones, which are kept from
+    /// then on.
     pub fn schedule(&mut self, key: &Block) -> &Schedule
         ensures { result.now ≡ key.now }
     {
@@ -79,7 +78,7 @@ pub fn push_frame(
 }
 
 /// The most bytes that the answer of a line of `frame` has: two digits for each byte of the payload and of the four
-/// behind it, and the line feed.
+/// after it, and the line feed.
 pub fn most_frame_bytes(line: &FrameLine) -> usize
     requires { HasPayload line.now }
     ensures { (text : List ℕ) → TellsFrame line.now text → length text ≤ result }

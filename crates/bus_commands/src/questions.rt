@@ -8,14 +8,13 @@ ghost use Rattle.bus_commands.specs.Steps.{HasPayload, IsAny, Adds, ReadsLines};
 use crate::lines::{
     KeptSchedule, most_frame_bytes, most_judgement_bytes, push_frame, push_judgement,
 };
-use answer_rows::Refusal;
-use byte_lists::Block;
-use line_rows::line_refusal;
+use basics::Block;
+use program_edge::Refusal;
 use secoc_words::{FrameLine, JudgeLine, read_frames, read_judges};
 use std::alloc::{AllocError, Global};
-use text_lines::ScriptFault;
+use text_lines::{ScriptFault, line_refusal};
 
-/// A kind of line that a command reads, each of which has an answer.
+/// A kind of line that a command reads; each line has an answer.
 pub trait Question: Sized + Drop {
     /// The lines of this kind that an input has, or its first fault.
     ghost questions_of: { List ℕ → Result (List Self) Fault };
@@ -94,8 +93,8 @@ pub fn questions<Q: Question>(alloc: Global, input: &[u8]) -> Result<Vec<Q>, Ref
     }
 }
 
-/// The most bytes that the answers of lines have together. Where they are more than any memory holds, there is none
-/// for them.
+/// The most bytes that the answers of lines have together. If they are more than any memory holds, there is none for
+/// them.
 fn most_bytes_of<Q: Question>(lines: &[Q]) -> Result<usize, AllocError>
     requires { All Q.is_whole lines.now }
     ensures { IfOk result (λ most. (text : List ℕ) → TellsEach Q.Answers lines.now text → length text ≤ most) }
@@ -110,7 +109,7 @@ fn most_bytes_of<Q: Question>(lines: &[Q]) -> Result<usize, AllocError>
     Ok(most)
 }
 
-/// The answers of lines, one behind the other. Room for all of them is asked for at once.
+/// The answers of lines, one after the other. Room for all of them is asked for at once.
 pub fn answers<Q: Question>(alloc: Global, lines: &[Q]) -> Result<Vec<u8>, AllocError>
     requires { All Q.is_whole lines.now }
     ensures { IfOk result (λ text. TellsEach Q.Answers lines.now text.items) }

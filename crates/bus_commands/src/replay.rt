@@ -4,22 +4,21 @@ ghost use Rattle.bus_nodes.specs.Buses.{IsNamedBus};
 ghost use Rattle.bus_commands.specs.Steps.{AreEvents, AnswersReplay};
 
 use crate::laws::replays_are_runs;
-use answer_rows::tell_refusal;
 use bus_machine::{Event, Line};
 use bus_nodes::BusConfig;
 use bus_port::{Memory, Sink};
-use bus_texts::push_line;
-use bus_world::{Start, World, start_refusal};
+use bus_script::push_line;
+use bus_world::{Start, World, start_refusal, starts_are_set_up, turns_leave_disks};
 use cut_disk::CutDisk;
-use numbered_run::{LineText, print_run, status_of_run};
+use program_edge::tell_refusal;
+use run_driver::{LineText, print_run, status_of_run};
 use std::alloc::{AllocError, Global};
-use world_runs::{starts_are_set_up, turns_leave_disks};
 
 /// How the lines of a replay are written.
 struct Texts;
 
 impl LineText<Line> for Texts {
-    ghost use Rattle.bus_texts.specs.LineTexts.{line_text};
+    ghost use Rattle.bus_script.specs.LineTexts.{line_text};
 
     ghost text = { line_text };
 

@@ -1,6 +1,6 @@
 //! The commands of the program.
 ghost use Rattle.std.specs.Prelude.{◌≡◌, ◌≤◌, map, string_bytes};
-ghost use Rattle.answer_rows.specs.Endings.{EndsInRow};
+ghost use Rattle.program_edge.specs.Endings.{EndsInRow};
 ghost use Rattle.bus_commands.specs.Commands.{RunsCommand, RunsMachine};
 ghost use Rattle.bus_commands.specs.Inputs.{inputs_of};
 ghost use Rattle.bus_commands.specs.StartRows.{disks_between};
@@ -13,22 +13,21 @@ use crate::job::{Job, LineJob, WorldJob};
 use crate::replay::replay;
 use crate::trial::trial;
 use crate::words::{Command, LineCommand, WorldCommand, command_of};
-use answer_rows::{Refusal, tell_refusal};
-use bus_inputs::bus_from;
 use bus_nodes::BusConfig;
 use bus_port::{Sink, Source};
+use bus_programs::bus_from;
 use bus_script::Event;
-use command_edge::{DONE, tell};
 use cut_disk::CutDisk;
+use program_edge::{DONE, Refusal, tell, tell_refusal};
 use std::alloc::{AllocError, Global};
 
 /// Runs the command that the arguments ask for, the program's name left out, and gives its status.
 ///
 /// Over disks that tell their bytes, what `replay`, `node` or `trial` did is one run of the machine (clause
-/// `headline`). `HeadlineRun` says what holds of that run. A row of this table is a member of `RunsCommand`, or
-/// two: that the status comes only so, and that its cause brings it (clause `promises`). Other members say what is
-/// left of each disk. No other status comes. Rows of `checks/` show, and no clause, that all is read before anything
-/// is printed, and that a line is written as soon as its event is done. docs/guarantees.md tells all of it.
+/// `headline`). `HeadlineRun` says what holds of that run. A row of this table is a member of `RunsCommand`, or two:
+/// that the status comes only so, and that its cause brings it (clause `promises`). Other members say what is left of
+/// each disk. No other status comes. Only rows of `checks/` show that all is read before anything is printed, and that
+/// a line is written as soon as its event is done. docs/guarantees.md has all of it.
 ///
 /// | Status | Comes |
 /// |---|---|
@@ -51,16 +50,16 @@ pub fn run<S: Source, T: Source, K: Sink, D: CutDisk>(
     disks: &mut Vec<D>,
 ) -> u8
     // The table of answers: a member of the record for each promise. Both records stand in specs/Commands.antt, which
-    // tells above its `use` what most names from below mean. `inputs_of`: the words, and both sources before and after.
-    // `disks_between`: the disks themselves, and what was known of them, before and after.
+    // tells above its `use` what most names from below mean. `inputs_of`: the arguments, and both sources before and
+    // after. `disks_between`: the disks themselves, and what was known of them, before and after.
     ensures promises { RunsCommand
         (inputs_of (map string_bytes words.now)
         (S.state config.old) (S.state config.new) (T.state script.old) (T.state script.new))
         (disks_between D.state disks.old disks.new)
         (record { before = K.state sink.old; after = K.state sink.new; status = result }) }
 
-    // The headline: over disks that tell their bytes what was done of `replay` is one run of the machine from the first
-    // world of the bus, and so it is of a trial; of `node` it is one from a world in which the bus goes on where its
+    // The headline speaks of disks that tell their bytes. What was done of `replay` or of a trial is one run of the
+    // machine from the first world of the bus. Of `node` it is one from a world in which the bus goes on where its
     // disks stand, if a power cut can take none of these bytes away. All disks of `main` are such, those over files
     // too. What holds of that run: `HeadlineRun`.
     ensures headline { RunsMachine
@@ -79,7 +78,7 @@ pub fn run<S: Source, T: Source, K: Sink, D: CutDisk>(
 const USAGE: &str =
     "usage: frame F, judge F, check B F, replay B F, trial B N SEED, node B F DISK\n";
 
-/// The first phase: the words and the inputs. It ends in a job, or in the first refusal that applies.
+/// The first phase: the arguments and the inputs. It ends in a job, or in the first refusal that applies.
 fn prepare<S: Source, T: Source>(
     alloc: Global,
     words: &[String],
@@ -172,7 +171,7 @@ fn events_for<T: Source>(
     }
 }
 
-/// The second phase where no disk is used: what the job prints is told.
+/// The second phase if no disk is used: it prints the answers of the job.
 fn do_lines<K: Sink>(alloc: Global, job: &LineJob, sink: &mut K) -> u8
     requires { IsWholeLines job.now }
     ensures { EndsInRow (AnswersLines job.now)

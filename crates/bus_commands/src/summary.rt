@@ -5,7 +5,7 @@ ghost use Rattle.bus_commands.specs.Summaries.{number_line};
 ghost use Rattle.bus_commands.specs.SummarySteps.{summary_with, CountsFew};
 
 use bus_machine::Line;
-use numbered_run::Tally;
+use run_driver::Tally;
 use std::alloc::{AllocError, Global};
 
 /// How many events a run had, and how many of their lines tell what.

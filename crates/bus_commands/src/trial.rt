@@ -1,21 +1,19 @@
 //! A trial: a run of the events that a seed gives, and its summary.
 ghost use Rattle.std.specs.Prelude.{◌≡◌, map};
-ghost use Rattle.answer_rows.specs.Endings.{EndsInRow};
+ghost use Rattle.program_edge.specs.Endings.{EndsInRow};
 ghost use Rattle.bus_nodes.specs.Buses.{IsNamedBus};
 ghost use Rattle.bus_commands.specs.Steps.{AreEvents, AnswersTrial, TellsSummary};
 
 use crate::laws::trials_are_runs;
 use crate::summary::Summary;
-use answer_rows::{Refusal, tell_refusal};
 use bus_machine::Event;
 use bus_nodes::BusConfig;
 use bus_port::Sink;
-use bus_world::{Start, World, start_refusal};
-use command_edge::{DONE, tell};
+use bus_world::{Start, World, start_refusal, starts_are_set_up, turns_leave_disks};
 use cut_disk::CutDisk;
-use numbered_run::count_run;
+use program_edge::{DONE, Refusal, tell, tell_refusal};
+use run_driver::count_run;
 use std::alloc::{AllocError, Global};
-use world_runs::{starts_are_set_up, turns_leave_disks};
 
 /// Starts the bus over formatted disks, steps through all events, hands the disks back, and tells the summary of the
 /// lines.

@@ -1,4 +1,4 @@
-//! The words `trial B N SEED`.
+//! The arguments `trial B N SEED`.
 ghost use Rattle.std.specs.Prelude.{IfSome, IfNone};
 ghost use Rattle.bus_commands.specs.declared.trial_words.TrialWords.{TrialWords};
 ghost use Rattle.bus_commands.specs.TrialWords.{NamesTrial};
@@ -14,8 +14,8 @@ pub struct TrialWords {
     pub seed: u64,
 }
 
-/// What the first, the third and the fourth of four words ask for, of which the second names a bus file: `trial`, the
-/// number of events from 1 to 60,000, and a seed below 2^64, both in decimal digits without sign, of which only 0
+/// What the first, third and fourth of four arguments ask for; the second names a bus file. They are `trial`, the
+/// number of events from 1 to 60,000, and a seed below 2^64. Both numbers are decimal digits without sign, and only 0
 /// begins with 0.
 pub fn trial_of(name: &str, count: &str, seed: &str) -> Option<TrialWords>
     ensures found { IfSome result (NamesTrial name.now count.now seed.now) }

@@ -1,4 +1,4 @@
-//! The words of the command line.
+//! The arguments of the command line.
 ghost use Rattle.std.specs.Prelude.{◌≡◌, ◌↔◌, ℕ, List, map, string_bytes, codes, IsTrue, IfSome, IfNone};
 ghost use Rattle.bus_commands.specs.Words.{Asks, NamesCommand, NamesBusCommand, NamesCommandOfFour, AsksNothing};
 ghost use Rattle.bus_commands.specs.Words.{NamesConfig, NamesScript, NamesDisk, AreInput};
@@ -7,7 +7,7 @@ ghost use Rattle.bus_commands.specs.declared.words.Command.{Command};
 use crate::trial_words::{TrialWords, trial_of};
 use bus_world::Start;
 
-/// What the words ask for.
+/// What the arguments ask for.
 #[derive(Clone, Copy, Debug, PartialEq, Eq)]
 pub enum Command {
     /// Lines are read, and what they come to is printed.
@@ -19,7 +19,7 @@ pub enum Command {
 /// A command that uses no disk.
 #[derive(Clone, Copy, Debug, PartialEq, Eq)]
 pub enum LineCommand {
-    /// `frame F`, or no words: one Secured I-PDU a line.
+    /// `frame F`, or no arguments: one Secured I-PDU a line.
     Frame,
     /// `judge F`: one verdict a line.
     Judge,
@@ -30,14 +30,14 @@ pub enum LineCommand {
 /// A command that runs a bus over disks.
 #[derive(Clone, Copy, Debug, PartialEq, Eq)]
 pub enum WorldCommand {
-    /// The lines of a script's events: with `replay B F` over disks that are formatted, and with `node B F DISK` where
-    /// the bus goes on over its disk.
+    /// The lines of a script's events: with `replay B F` over disks that are formatted, and with `node B F DISK` if the
+    /// bus goes on over its disk.
     Replay(Start),
     /// `trial B N SEED`: the summary of a run of the events that a seed gives.
     Trial(TrialWords),
 }
 
-/// The command that the words ask for, the program's name left out. `B` and `F` may be any text.
+/// The command that the arguments ask for, the program's name left out. `B` and `F` may be any text.
 pub fn command_of(words: &[String]) -> Option<Command>
     ensures found { IfSome result (Asks (map string_bytes words.now)) }
     ensures none { IfNone result (AsksNothing (map string_bytes words.now)) }
@@ -96,7 +96,7 @@ fn is_node(name: &str) -> bool
     name == "node"
 }
 
-/// The word that names the bus file. None where the command reads none, or the words are of no form.
+/// The word that names the bus file. None if the command reads none, or the arguments are malformed.
 pub fn config_word(words: &[String]) -> Option<&str>
     ensures some { IfSome result (λ word. NamesConfig (map string_bytes words.now) word.now) }
     ensures none { IfNone result ((word : List ℕ) → ¬ NamesConfig (map string_bytes words.now) word) }
@@ -111,8 +111,9 @@ pub fn config_word(words: &[String]) -> Option<&str>
     }
 }
 
-/// The word that names the lines: `-`, standard input, with no words. None for a trial, which has no lines, where the
-/// bus file is standard input already and the script is to be too, or the words are of no form.
+/// The argument that names the lines: `-`, standard input, if there are no arguments. It is none for a trial, which has
+/// no lines, and if the arguments are malformed. It is none, too, if the bus file is standard input and the script is
+/// to be it as well.
 pub fn script_word(words: &[String]) -> Option<&str>
     ensures some { IfSome result (λ word. NamesScript (map string_bytes words.now) word.now) }
     ensures none { IfNone result ((word : List ℕ) → ¬ NamesScript (map string_bytes words.now) word) }
@@ -130,7 +131,7 @@ pub fn script_word(words: &[String]) -> Option<&str>
 }
 
 /// The word that names the file of the disk on which a bus goes on: `-` is a file of that name, too. None for other
-/// words.
+/// arguments.
 pub fn disk_word(words: &[String]) -> Option<&str>
     ensures some { IfSome result (λ word. NamesDisk (map string_bytes words.now) word.now) }
     ensures none { IfNone result ((word : List ℕ) → ¬ NamesDisk (map string_bytes words.now) word) }

@@ -1,8 +1,8 @@
 -- The two bytes of a Data ID
 use Rattle.std.proofs.Common.{◌≡◌, ℕ}
 use Rattle.std.specs.Int.{to_be_bytes, w16}
-use Rattle.byte_lists.specs.Numbers.{bytes_of}
-use Rattle.byte_lists.specs.NumberLaws.{to_be_bytes-is}
+use Rattle.basics.specs.Numbers.{bytes_of}
+use Rattle.basics.specs.NumberLaws.{to_be_bytes-is}
 
 pub two_bytes : (id : ℕ) → to_be_bytes w16 id ≡ bytes_of 2 id
 two_bytes id = to_be_bytes-is w16 id

@@ -1,10 +1,10 @@
--- An answer is what the definition says; want of memory is free
+-- An answer is what the definition says; out of memory is free
 use Rattle.std.specs.Prelude.{◌≡◌, List, Result, Ok, Err, Vec}
 use Rattle.std.specs.declared.alloc.Global.{Global}
 use Rattle.bus_config.specs.declared.fault.ConfigFault.{ConfigFault}
 use Rattle.bus_config.specs.declared.fault.ConfigFault.TheVariants as fault
 
--- a fault that is the definition's, or want of memory
+-- a fault that is the definition's, or out of memory
 abbrev pub IsFaultOf : {A : Type 0} → Result A ConfigFault → ConfigFault → Type 0
 IsFaultOf meaning fault.Memory = Unit {0}
 IsFaultOf meaning told = meaning ≡ Err told

@@ -14,28 +14,28 @@ use Rattle.bus_config.specs.declared.fault.ConfigFault.{ConfigFault}
 use Rattle.bus_config.specs.declared.fault.ConfigFault.TheVariants as fault
 use Rattle.bus_config.specs.Rows.{next_route, next_head, root_in}
 
--- the routes of node `node`, behind those of it that were read; routes and nodes count from 1
+-- the routes of node `node`, after those of it that were read; routes and nodes count from 1
 unfoldable pub routes_from : ℕ → List Route → List Data → Result (List Route) ConfigFault
 routes_from node before [] = Ok before
 routes_from node before (row ∷ rows) = do
   route ← ok_or (next_route before row) (fault.Route node (length before + 1))
   routes_from node (before ++ route ∷ []) rows
 
--- a node behind those that were read
+-- a node after those that were read
 unfoldable pub next_node : Version → List NodeLine → Data → Result NodeLine ConfigFault
 next_node version before row = do
   head ← ok_or (next_head version before row) (fault.Node (length before + 1))
   routes ← routes_from (length before + 1) [] head.rows
   Ok (record { name = head.name; config = record { uid = head.uid; routes = routes } })
 
--- the nodes, behind those that were read
+-- the nodes, after those that were read
 unfoldable pub nodes_from : Version → List NodeLine → List Data → Result (List NodeLine) ConfigFault
 nodes_from version before [] = Ok before
 nodes_from version before (row ∷ rows) = do
   node ← next_node version before row
   nodes_from version (before ++ node ∷ []) rows
 
--- nodes no two of whose routes send one Data ID
+-- nodes, if no two of their routes send one Data ID
 abbrev pub refused_again : Option ℕ → List NodeLine → Result (List NodeLine) ConfigFault
 refused_again None nodes = Ok nodes
 refused_again (Some id) nodes = Err (fault.Sender id)

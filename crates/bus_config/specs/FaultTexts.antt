@@ -1,13 +1,13 @@
 -- The printed texts of the faults of a bus file, each with its line feed
 use Rattle.std.specs.Prelude.{ℕ, List, ◌++◌, codes, Option, Some, None}
 use Rattle.std.specs.Fmt.{decimal}
-use Rattle.byte_lists.specs.Numbers.{bytes_of}
+use Rattle.basics.specs.Numbers.{bytes_of}
 use Rattle.hex.specs.Hex.{encode_lower}
 use Rattle.text_lines.specs.Texts.{line}
 use Rattle.bus_config.specs.declared.fault.ConfigFault.{ConfigFault}
 use Rattle.bus_config.specs.declared.fault.ConfigFault.TheVariants as fault
 
--- a Data ID has four digits, in lower case; want of memory has no text
+-- a Data ID has four digits, in lower case; out of memory has no text
 abbrev pub config_fault_text : ConfigFault → Option (List ℕ)
 config_fault_text fault.Toml = Some (line (codes "config: toml"))
 config_fault_text fault.Root = Some (line (codes "config: root"))

@@ -16,7 +16,7 @@ head_view head = record { name = head.name; uid = head.uid; rows = map view head
 abbrev pub root_view : HeldRoot → Root
 root_view root = record { kind = root.kind; version = root.version; rows = map view root.rows.now }
 
--- a head behind nodes that were read
+-- a head after nodes that were read
 pub record IsNewHead (version : Version) (before : List NodeLine) (head : HeldHead) : Type 0 where
   pub named : IsTrue (is_name head.name)
   pub new : All (λ n. n.name ≢ head.name) before
@@ -24,7 +24,7 @@ pub record IsNewHead (version : Version) (before : List NodeLine) (head : HeldHe
   pub not_zero : head.uid ≢ replicate 15 0
   pub few : length head.rows.now ≤ most_routes version
 
--- a node behind nodes that were read
+-- a node after nodes that were read
 pub record IsNewNode (version : Version) (before : List NodeLine) (node : NodeLine) : Type 0 where
   pub is_node : IsNodeLine node
   pub new : All (λ n. n.name ≢ node.name) before

@@ -62,7 +62,7 @@ route_in_row row = if_only route_keys row (do
   start ← optional 0 start_in (codes "start") row
   Some (record { id = id; direction = direction; slot = slot; reserve = reserve; window = window; start = start }))
 
--- a route behind those of its node before it, none of which has its Data ID
+-- a route after those of its node before it, if none of these has its Data ID
 abbrev pub unless_taken : List Route → Route → Option Route
 unless_taken before route = if list_any (λ r. r.id == route.id) before then None else Some route
 

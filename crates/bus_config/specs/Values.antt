@@ -1,4 +1,4 @@
--- What a value of the bus file means by its key: what it stands for, or none where it isn't of its form (own; a TOML
+-- What a value of the bus file means by its key: what it stands for, or none if it isn't of its form (own; a TOML
 -- value)
 use Rattle.std.specs.Prelude.{ℕ, ℤ, Bool, pos, negsuc, ◌&&◌, ◌==◌, nat_le, if◌then◌else◌, bytes_eq, codes, Option, Some}
 use Rattle.std.specs.Prelude.{None, option_map, option_and_then, List, [], ◌∷◌, length}

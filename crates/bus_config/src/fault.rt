@@ -6,8 +6,8 @@ ghost use Rattle.std.specs.Prelude.{◌≡◌};
 use std::alloc::AllocFailed;
 use thiserror::Error;
 
-/// Why a bus file is refused. Nodes and routes count from 1. Where several causes stand together, the first is given:
-/// `Toml`, then `Root`, then for each node `Node` and behind it `Route` for each of its routes, and at last `Sender`.
+/// Why a bus file is refused. Nodes and routes count from 1. If several causes stand together, the first is given:
+/// `Toml`, then `Root`, then for each node `Node` and after it `Route` for each of its routes, and at last `Sender`.
 #[derive(Clone, Copy, Debug, PartialEq, Eq, Error)]
 pub enum ConfigFault {
     /// The bytes aren't UTF-8, or no TOML document.
@@ -16,12 +16,12 @@ pub enum ConfigFault {
     /// The root table has another key than `store`, `version` and `node`, or one of these isn't of its form.
     #[error("root")]
     Root,
-    /// The node with this number has another key than `name`, `uid` and `route`, or one of these isn't of its form, or
+    /// The node with this number has a key other than `name`, `uid` and `route`. Or one of these isn't of its form, or
     /// an earlier node has its name.
     #[error("node {0}")]
     Node(u8),
-    /// The route with the second number, of the node with the first, has another key than `id`, `direction`, `slot`,
-    /// `reserve`, `window` and `start`, or one of these isn't of its form, or it sends and has a `window`, or an
+    /// The route with the second number, of the node with the first, has a key other than `id`, `direction`, `slot`,
+    /// `reserve`, `window` and `start`. Or one of these isn't of its form, or it sends and has a `window`, or an
     /// earlier route of the node has its Data ID.
     #[error("route {0} {1}")]
     Route(u8, u16),

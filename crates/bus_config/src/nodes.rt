@@ -15,7 +15,7 @@ use freshness_routes::NodeConfig;
 use std::alloc::Global;
 use toml::Value;
 
-// The node of a row, behind those that were read.
+// The node of a row, after those that were read.
 #[tactic(auto, unfolding(crate::specs::BusFile::next_node))]
 fn next_node(
     alloc: Global,

@@ -16,9 +16,10 @@ use toml::Table;
 ///
 /// The file is a TOML 1.1 document. Its root has `store` (`"twin"` or `"log"`; without it `"twin"`), `version` (1 or 2;
 /// without it 1) and `node`, an array of 1 to 8 tables. A node has `name` (1 to 16 bytes), `uid` (30 hexadecimal
-/// digits, not all 0) and `route`, an array of at most 64 tables in version 1 and 256 in version 2. A route has `id`
-/// (four hexadecimal digits), `direction` (`"send"` or `"receive"`), `slot` (4 to 13), `reserve` (1 to 128; without it
-/// 1), where it receives `window` (1 to 256; without it 256), and `start` (16 hexadecimal digits; without it 0).
+/// digits, not all 0) and `route`. That is an array of at most 64 tables in version 1 and 256 in version 2. A route has
+/// `id` (four hexadecimal digits), `direction` (`"send"` or `"receive"`), `slot` (4 to 13), `reserve` (1 to 128;
+/// without it 1), and `start` (16 hexadecimal digits; without it 0). One that receives has `window` (1 to 256; without
+/// it 256).
 pub fn read_config(alloc: Global, text: &[u8]) -> Result<BusConfig, ConfigFault>
     ensures { AnswersAs (bus_of text.now) result }
 {

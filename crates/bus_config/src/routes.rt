@@ -16,7 +16,7 @@ use freshness_routes::{Direction, Route};
 use std::alloc::Global;
 use toml::{Table, Value};
 
-// The window of a route: 1 to 256, and where it sends 256, with no key for it.
+// The window of a route: 1 to 256, and if it sends 256, with no key for it.
 fn window(row: &Table, direction: Direction) -> Option<u16>
     ensures { result ≡ window_in direction (table_view row.now) }
 {

@@ -7,8 +7,8 @@ ghost use Rattle.bus_config.specs.FaultTexts.{config_fault_text as text_of_fault
 use crate::fault::ConfigFault;
 use std::alloc::{AllocError, Global};
 
-/// The text of a fault, `config: ` and the fault, with the line feed behind it; want of memory, also as the fault, has
-/// no text.
+/// The text of a fault, `config: ` and the fault, with the line feed after it; out of memory, also as the fault, has no
+/// text.
 #[tactic(auto, using(crate::proofs::TwoBytes::two_bytes))]
 pub fn config_fault_text(alloc: Global, fault: &ConfigFault) -> Result<String, AllocError>
     ensures { IfOk result (λ text. text_of_fault fault.now ≡ Some (string_bytes text)) }

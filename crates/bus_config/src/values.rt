@@ -1,4 +1,4 @@
-// The values of a bus file, each read by its form: none exactly where it isn't of the form.
+// The values of a bus file, each read by its form: none exactly if it isn't of the form.
 
 ghost use Rattle.std.specs.Prelude.{◌≡◌, ◌≢◌, ◌≤◌, IfSome, IsTrue, option_map, map, length, replicate};
 ghost use Rattle.memory_update.specs.Identifier.{IsUid};

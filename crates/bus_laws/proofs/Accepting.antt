@@ -75,7 +75,7 @@ found_number : (o : Option SentLine) (e : ℕ) → option_map (λ s. s.number) o
 found_number None e h = cc
 found_number (Some s) e h = (s, refl, same_some _ _ h)
 
--- what the node was told where it accepts
+-- the act of a node that accepts
 abbrev Received : Node → Act → ℕ → ℕ → List ℕ → Node → Type 0
 Received node act id v payload after = (pdu : List ℕ) × (act ≡ receives id pdu) × AcceptsFrame node id pdu payload v after
 

@@ -44,7 +44,7 @@ makes_one node hears_nothing c d s a b = absurd a
 fault_one : (node : Node) (act : Act) (x y : Node) → Sound node → Faults node act x → Faults node act y → x ≡ y
 fault_one node act x y s a b = a.2 ∙ ap (λ c. failed c node) (makes_one node act a.0 b.0 s a.1 b.1) ∙ sym b.2
 
--- a power-up leaves one node for each choice of what is kept, and there is one choice where nothing was pending
+-- a power-up leaves one node for each choice of what is kept, and there is one choice if nothing was pending
 powered_as : (node x : Node) → PowersUp node x → x ≡ powered node.config x.kept
 powered_as node x (inl e) = e ∙ ap (powered node.config) (sym (ap (λ n. n.kept) e))
 powered_as node x (inr c) = c.2 ∙ ap (powered node.config) (sym (ap (λ n. n.kept) c.2))

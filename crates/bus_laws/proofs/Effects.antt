@@ -1,4 +1,4 @@
--- What a step leaves of a node, whatever it was told: the rows by what they do
+-- What a step leaves of a node, whatever its act: the rows by what they do
 use Rattle.std.specs.Prelude.{◌≡◌, ◌≢◌, ℕ, ◌<◌, ◌≤◌, ◌==◌, min, Bool, true, false, not, nat_lt, Option, None, Some, List, [], ◌∷◌, length}
 use Rattle.std.proofs.Common.{refl, arith, ◌⊎◌}
 use Rattle.std.proofs.lemmas.Bool.Decides.{nat_tests}
@@ -47,7 +47,7 @@ effect_of node arms Armed after step = stays step
 effect_of node hears_nothing NoFrame after step = stays step
 effect_of node _ _ after step = absurd step
 
--- ---- where no refusal applies
+-- ---- if no refusal applies
 
 pub first_none : (x : Option Refusal) (xs : List (Option Refusal)) → first_of (x ∷ xs) ≡ None → (x ≡ None) × (first_of xs ≡ None)
 first_none None xs e = (refl, e)
@@ -76,7 +76,7 @@ pub record Routed (node : Node) (k : ℕ) : Type 0 where
   pub inside : k < length node.config.routes
   pub usable : key_refusal node k ≡ None
 
--- the rest of the refusals behind those of the route
+-- the rest of the refusals after those of the route
 routed_by : (node : Node) (k : ℕ) (good : Bool) (rest : List (Option Refusal))
     → first_of (when (not node.up) Down ∷ when (not (nat_lt k (length node.config.routes))) NoRoute ∷ when (not good) BadLength ∷ key_refusal node k ∷ rest) ≡ None
     → Routed node k × (first_of rest ≡ None)

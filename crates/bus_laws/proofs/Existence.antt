@@ -6,8 +6,8 @@ use Rattle.std.proofs.lemmas.Bool.Decides.{nat_tests}
 use Rattle.std.proofs.lemmas.List.Elements.{All-nil, All-cons, All-head, All-tail}
 use Rattle.std.proofs.lemmas.Option.{get_or_from_slice_get}
 use Rattle.std.proofs.lemmas.Slice.Eq.{bytes_eq-Decides}
-use Rattle.byte_lists.specs.Numbers.{bytes_of, number_of}
-use Rattle.byte_lists.specs.Blocks.{IsBlock, zero_block}
+use Rattle.basics.specs.Numbers.{bytes_of, number_of}
+use Rattle.basics.specs.Blocks.{IsBlock, zero_block}
 use Rattle.she_aes.specs.Modes.{cbc}
 use Rattle.she_kdf.specs.Derivation.{kdf}
 use Rattle.she_kdf.specs.declared.Constant.TheVariants as constant
@@ -119,7 +119,7 @@ within least most bytes e =
     let high = parts.1 in
     (grind (arith, nat_tests), grind (arith, nat_tests))
 
--- the length is right where nothing is refused
+-- the length is right if nothing is refused
 third_none : (a b c : Bool) (rest : List (Option Refusal)) → first_of (when a Down ∷ when b NoRoute ∷ when (not c) BadLength ∷ rest) ≡ None → c ≡ true
 third_none a b c rest e =
     let x = first_none (when a Down) (when b NoRoute ∷ when (not c) BadLength ∷ rest) e in
@@ -225,7 +225,7 @@ IsTypedAct (loads request) = IsRequest request
 IsTypedAct (keys update authkey) = IsUpdate update × IsBlock authkey
 IsTypedAct _ = Unit {0}
 
--- what a node is told while it is up, or while it is down
+-- an act of a node while it is up, or while it is down
 acts_on : (node : Node) (act : Act) (up : Bool) → Sound node → IsTypedAct act → node.up ≡ up → Goes node act
 acts_on node (sends id payload) up s typed is = sends_on node id payload _ refl
 acts_on node (receives id pdu) up s typed is = receives_on node id pdu s _ refl

@@ -1,4 +1,4 @@
--- What a slot holds after moments of which none acknowledges an update of it
+-- What a slot holds after moments that acknowledge no update of it
 use Rattle.std.specs.Prelude.{◌≡◌, ℕ, ◌<◌, ◌⊎◌, true, None, Some, List, [], ◌∷◌, ◌++◌, length, set}
 use Rattle.std.proofs.Common.{sym, ◌∙◌, ap, subst, arith, inl, inr, get_or-set_same, get_or-set_other}
 use Rattle.std.proofs.lemmas.Bool.Decides.{eqb_tells}
@@ -39,7 +39,7 @@ slot_put slots target t slot inside = elim (eqb_tells t target) [
   | inr other ↦ inr (get_or-set_other slots target t slot Empty other.1)
 ]
 
--- where a slot is put by this update, the change is that of the update
+-- if a slot is put by this update, the change is that of the update
 put_change : (target t : ℕ) (slot held : Slot) → t ≡ target → held ≡ slot → slot_to t held ≡ slot_to target slot
 put_change target t slot held e f = ap (λ i. slot_to i held) e ∙ ap (slot_to target) f
 
@@ -228,10 +228,9 @@ KeysKept-run start ms now s run = record {
   slots_go_on = SlotsGoOn-run start ms now s run;
 }
 
--- ---- from a world where nothing is pending
+-- ---- from a world in which nothing is pending
 
--- a slot is as it was, or holds an update of a moment that was acknowledged or failed, or one that was pending from the
--- start
+-- a slot is as it was, or holds an update that a moment acknowledged or failed, or one that was pending from the start
 abbrev pub Renewed : ℕ → ℕ → World → Moments → Slot → Type 0
 Renewed i t start ms final =
     (final ≡ slot_in start i t)

@@ -1,4 +1,4 @@
--- Without a failure and without a cut an act has one line, but for the source that is named
+-- Without a failure and without a cut an act has one line, except for the source that is named
 use Rattle.std.specs.Prelude.{◌≡◌, ◌≢◌, ℕ, ◌↔◌, IsTrue, Option, None, Some, Ok, Err, List, [], ◌∷◌, Bool, true, false, find, ◌==◌}
 use Rattle.std.proofs.Common.{refl, sym, ◌∙◌, ap, subst, inl, inr, true≢false}
 use Rattle.key_slots.specs.declared.memory.Slot.{Slot}
@@ -208,7 +208,7 @@ nothing_line : (node y : Node) (m : Line) → NodeStep node hears_nothing m y �
 nothing_line node y NoFrame b = refl
 nothing_line node y _ b = absurd b
 
--- two lines of one act, without failure and without a cut, are one, but for the source
+-- two lines of one act, without failure and without a cut, are one, except for the source
 pub line_one : (node : Node) (act : Act) (l m : Line) (x y : Node) → Sound node → act ≢ cuts → NoFailure l → NoFailure m → NodeStep node act l x → NodeStep node act m y → bare m ≡ bare l
 line_one node (sends id payload) (Sent told v pdu) m x y s calm f g a b = sent_line node id payload v pdu x m y a.1 g b ∙ ap (λ d. Sent d v pdu) (sym a.0)
 line_one node (sends id payload) (Refused MemoryFailure) m x y s calm f g a b = absurd f
@@ -261,7 +261,7 @@ not_cuts world (event.Cut node torn) calm h = calm
 not_cuts world (event.Stop node calls) calm h = cc
 not_cuts world (event.Fail node calls) calm h = cc
 
--- in a world an event that is no cut has one line, where the disk doesn't fail
+-- in a world an event that is no cut has one line, if the disk doesn't fail
 line_of_event : (world : World) (e : Event) (l m : Line) (v w : World) → SoundBus world → NoCut e → NoFailure l → NoFailure m → Step world e l v → Step world e m w → l ≡ m
 line_of_event world e l m v w s calm f g a b =
     let x = step_at world e l v a in

@@ -1,4 +1,4 @@
--- Where a change comes from that is pending, and the call that failed with it
+-- Where a pending change comes from, and the call that failed with it
 use Rattle.std.specs.Prelude.{◌≡◌, ◌≢◌, ℕ, ◌⊎◌, None, Some, Option, [], ◌∷◌}
 use Rattle.std.proofs.Common.{refl, sym, ◌∙◌, ap, subst, inl, inr}
 use Rattle.std.proofs.lemmas.Bool.Decides.{eqb_tells}
@@ -17,7 +17,7 @@ use Rattle.bus_laws.proofs.Lists.{Each, All-Each}
 pub None≢Some : {A : Type 0} (x : A) (o : Option A) → o ≡ None → o ≡ Some x → ⊥
 None≢Some x o e f = cc
 
--- where a change is pending after a step, the step's act failed, or it was pending before and there was no power-up
+-- if a change is pending after a step, the step's act failed, or it was pending before and there was no power-up
 pub pending_step : (node : Node) (act : Act) (line : Line) (after : Node) (c : Change) → NodeStep node act line after → after.pending ≡ Some c
     → ((line ≡ Refused MemoryFailure) × Makes node act c) ⊎ ((node.pending ≡ Some c) × (line ≢ Up))
 pending_step node (sends id payload) (Sent told v pdu) after c step e = inr (sym (ap (λ n. n.pending) step.1.after_is) ∙ e, λ h. cc)

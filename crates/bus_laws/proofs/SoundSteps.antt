@@ -25,7 +25,7 @@ route_is node k s inside = s.config.are_routes k no_route inside
 pub nothing_pending : (node : Node) → Sound node → node.up ≡ true → node.pending ≡ None
 nothing_pending node s up = s.settled up
 
--- where nothing is pending, nothing needs to move forward
+-- if nothing is pending, nothing needs to move forward
 forward_of_none : (node : Node) (c : Option Change) → c ≡ None → IfSome c (MovesForward node)
 forward_of_none node None e = tt
 forward_of_none node (Some c) e = cc

@@ -1,6 +1,6 @@
 -- The laws of all runs from a first world, as statements
 use Rattle.std.specs.Prelude.{◌≡◌, ◌≢◌, ℕ, ◌<◌, true, None, List, [], ◌∷◌, All, length, map, replicate}
-use Rattle.byte_lists.specs.Blocks.{IsBlock}
+use Rattle.basics.specs.Blocks.{IsBlock}
 use Rattle.key_slots.specs.declared.memory.Slot.TheVariants.{Empty}
 use Rattle.memory_update.specs.Messages.{IsUpdate, IsRequest}
 use Rattle.secure_boot.specs.declared.state.BootState.TheVariants.{Undecided}
@@ -108,7 +108,7 @@ abbrev pub NoFailure : Line → Type 0
 NoFailure (Refused MemoryFailure) = ⊥
 NoFailure _ = Unit {0}
 
--- where the event is a key update, its keys, numbers and messages are such as the code's types have
+-- if the event is a key update, its keys, numbers and messages are such as the code's types have
 abbrev pub IsTypedUpdate : Event → Type 0
 IsTypedUpdate (Load node request) = IsRequest request
 IsTypedUpdate (Key node update authkey) = IsUpdate update × IsBlock authkey

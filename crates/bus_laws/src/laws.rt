@@ -32,13 +32,13 @@ pub fn accepted_freshness_rises()
     ensures { RunsRise }
 {}
 
-/// Each accepted PDU is secured under the key that its route's slot held, usable, and where `from` names an event whose
-/// slot held that key, it is the PDU that was sent.
+/// Each accepted PDU is secured under the key that its route's slot held, usable. If `from` names an event whose slot
+/// held that key, it is the PDU that was sent.
 pub fn runs_are_authentic()
     ensures { RunsAreAuthentic }
 {}
 
-/// Freshness sent under one Data ID strictly rises, where no Data ID is sent by two nodes.
+/// Freshness sent under one Data ID strictly rises, if no Data ID is sent by two nodes.
 pub fn no_freshness_is_sent_twice()
     ensures { RunsAreSingle }
 {}
@@ -50,13 +50,13 @@ pub fn keys_are_kept()
 {}
 
 /// From a world in which no change of a node is pending, as after its power-up, its slots change only by updates of
-/// later events: one that failed before and was dropped by the power-up is gone for good.
+/// later events. An update that failed before and that the power-up dropped is gone for good.
 pub fn dropped_updates_are_gone()
     ensures { RunsSettleKeys }
 {}
 
-/// A cut lets a sender skip at most its reserve, and a receiver less than its reserve, counted from its counter or from
-/// the freshness of the PDU whose call failed.
+/// A cut lets a sender skip at most its reserve, and a receiver less than its reserve. This counts from its counter, or
+/// from the freshness of the PDU whose call failed.
 pub fn cuts_skip_little()
     ensures { CutsSkipLittle }
 {}
@@ -66,13 +66,13 @@ pub fn honest_pdus_are_accepted()
     ensures { HonestIsHeard }
 {}
 
-/// The key that the sender's slot held at the send secures the PDU: where the receiver's slot holds that key and is
+/// The key that the sender's slot held at the send secures the PDU: if the receiver's slot holds that key and is
 /// usable, a PDU that comes in time is accepted.
 pub fn same_key_is_honest()
     ensures { SameKeyIsHonest }
 {}
 
-/// No run is stuck: each event of a node of the bus has a line and a world after it, and one where no disk fails.
+/// No run is stuck: each event of a node of the bus has a line and a world after it, and one if no disk fails.
 pub fn runs_go_on()
     ensures { RunsGoOn }
 {}
@@ -87,7 +87,7 @@ pub fn lines_determine_worlds()
     ensures { LinesDetermineWorlds }
 {}
 
-/// Without cuts, and where no disk fails, the events determine every line and every world.
+/// Without cuts, and if no disk fails, the events determine every line and every world.
 pub fn events_determine_lines()
     ensures { EventsDetermineLines }
 {}

@@ -19,7 +19,7 @@ SentAs s key before m =
     × (s.number ≡ before.events + 1)
     × (key ≡ route_key node (place_of node s.id Sends))
 
--- the event of this number sent this payload with this freshness under this Data ID; where its slot held the receiver's
+-- the event of this number sent this payload with this freshness under this Data ID; if its slot held the receiver's
 -- key, the PDU that was received is the sent one, byte for byte
 pub record WasSent (start : World) (done : Moments) (number id v : ℕ) (payload receiver_key pdu : List ℕ) : Type 0 where
   pub sent : SentLine

@@ -83,7 +83,7 @@ abbrev pub NamesSource : World → Line → Type 0
 NamesSource world (Accepted id v payload source) = source ≡ source_of world id payload v
 NamesSource world _ = Unit {0}
 
--- the event's node does what it is told, the others are as before, and a sent line is put down with the event's number
+-- the event's node does its act, the others are as before, and a sent line is put down with the event's number
 pub record Step (world : World) (event : Event) (line : Line) (after : World) : Type 0 where
   pub one : MemberSteps NodeStep world.nodes (node_of event) (act_of world event) line after.nodes
   pub source : NamesSource world line
@@ -127,7 +127,7 @@ node_at world i = slice_index_or world.nodes i (first_node no_config)
 abbrev pub SoundBus : World → Type 0
 SoundBus world = (i : ℕ) → i < length world.nodes → Sound (node_at world i)
 
--- a bus: configurations as the code has them, of which no two send one Data ID
+-- a bus: configurations as the code has them, and no two of them send one Data ID
 pub record IsBus (bus : List Config) : Type 0 where
   pub configs : (i : ℕ) → i < length bus → IsConfig (config_at bus i)
   pub one_sender : (i j id : ℕ) → i < length bus → j < length bus

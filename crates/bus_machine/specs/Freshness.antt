@@ -7,7 +7,7 @@ use Rattle.bus_machine.specs.declared.lines.Line.TheVariants.{Sent, Accepted}
 use Rattle.bus_machine.specs.Node.{Node, HasRoute, place_of, bound_at, counter_at}
 use Rattle.bus_machine.specs.Bus.{World, Moments, node_of, node_at}
 
--- where both lines are accepted, and of one Data ID, the later has the greater freshness
+-- if both lines are accepted, and of one Data ID, the later has the greater freshness
 abbrev pub AcceptedRises : Line → Line → Type 0
 AcceptedRises (Accepted id v payload source) (Accepted id' v' payload' source') = id ≡ id' → v < v'
 AcceptedRises _ _ = Unit {0}
@@ -24,7 +24,7 @@ SentRises _ _ = Unit {0}
 abbrev pub Single : Moments → Type 0
 Single = AllPairs (λ m n. SentRises m.line n.line)
 
--- ---- the invariant behind both
+-- ---- the invariant after both
 
 -- the line says that this freshness was sent or accepted under this Data ID
 abbrev pub Tells : Direction → Line → ℕ → ℕ → Type 0

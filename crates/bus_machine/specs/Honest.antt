@@ -10,7 +10,7 @@ use Rattle.bus_machine.specs.Steps.{key_refusal}
 use Rattle.bus_machine.specs.Bus.{World, SentLine, Moments, AtSome}
 use Rattle.bus_machine.specs.Authentic.{SentAs}
 
--- the node is up and has a route for the sent line, whose key is usable and secures the line's PDU, and the line's
+-- the node is up and has a route for the sent line. The route's key is usable and secures the line's PDU. The line's
 -- freshness is 1 to the route's window above the counter
 pub record IsInTime (node : Node) (s : SentLine) (route : ℕ) : Type 0 where
   pub is_up : node.up ≡ true
@@ -25,8 +25,8 @@ pub record HonestDelivery (world : World) (node : Node) (number : ℕ) (s : Sent
   pub found : find (λ s. s.number == number) world.sent ≡ Some s
   pub in_time : IsInTime node s (place_of node s.id Receives)
 
--- the same, where the receiver's slot holds the key that the sender's slot held at the send: that the key secures the
--- PDU follows
+-- the same, if the receiver's slot holds the key that the sender's slot held at the send: that the key secures the PDU
+-- follows
 pub record SameKeyDelivery (start : World) (ms : Moments) (world : World) (node : Node) (number : ℕ)
     (s : SentLine) : Type 0 where
   pub found : find (λ s. s.number == number) world.sent ≡ Some s

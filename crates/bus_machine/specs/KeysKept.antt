@@ -63,8 +63,8 @@ pub record KeysKept (start : World) (ms : Moments) : Type 0 where
 
 -- ---- what a power-up settled
 
--- after the moments `since`, in which nothing was pending at first, slot t of node i holds what it held then, or an
--- update of one of these moments that was acknowledged, or one that failed
+-- nothing was pending at first. After the moments `since` slot t of node i holds what it held then, or an update of one
+-- of them that was acknowledged or failed
 abbrev pub StaysOrRenews : ℕ → ℕ → World → Moments → Type 0
 StaysOrRenews i t world since =
     let now = slot_in (state_after world since) i t in

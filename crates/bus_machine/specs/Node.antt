@@ -50,7 +50,7 @@ same_direction Sends Sends = true
 same_direction Receives Receives = true
 same_direction _ _ = false
 
--- the place of the route with this Data ID and direction; the number of routes where there is none
+-- the place of the route with this Data ID and direction; the number of routes if there is none
 abbrev pub place_in : List Route → ℕ → Direction → ℕ
 place_in [] id direction = 0
 place_in (route ∷ routes) id direction =

@@ -1,4 +1,4 @@
--- What a node may answer to what it is told to do, and what it then is
+-- What a node may answer to an act, and what it then is
 use Rattle.std.specs.Prelude.{◌≡◌, ℕ, ◌+◌, ◌⊎◌, Bool, true, false, not, ◌&&◌, nat_lt, nat_le, ◌==◌, Option, None, Some}
 use Rattle.std.specs.Prelude.{Ok, Err, List, [], ◌∷◌, length, option_map}
 use Rattle.key_slots.specs.declared.memory.Slot.{Slot}
@@ -25,7 +25,7 @@ use Rattle.bus_machine.specs.declared.lines.Refusal.TheVariants.{MemoryFailure}
 use Rattle.bus_machine.specs.Node.{Node, Change, slot_to, bound_to, changed, place_of, route_at, bound_at, counter_at}
 use Rattle.bus_machine.specs.Node.{route_key, powered, with_counter, with_slot, booted, failed, refused_up}
 
--- what a node is told to do
+-- an act of a node
 pub data Act : Type 0 where
   sends : (id : ℕ) (payload : List ℕ) → Act
   receives : (id : ℕ) (pdu : List ℕ) → Act
@@ -93,7 +93,7 @@ abbrev pub receive_change : Node → ℕ → ℕ → Option Change
 receive_change node k v =
     option_map (bound_to k) (receiver_change (bound_at node k) (route_at node k).reserve v)
 
--- ---- what an act comes to where nothing fails
+-- ---- what an act comes to if nothing fails
 
 -- the payload is sent with the freshness above the counter, as the one frame that is secured with it
 pub record SendsFrame (node : Node) (id : ℕ) (payload : List ℕ) (v : ℕ) (pdu : List ℕ) (after : Node) : Type 0 where
@@ -147,7 +147,7 @@ PowersUp node after =
     (after ≡ powered node.config node.kept)
     ⊎ ((change : Change) × (node.pending ≡ Some change) × (after ≡ powered node.config (changed change node.kept)))
 
--- ---- what an act comes to where the disk fails
+-- ---- what an act comes to if the disk fails
 
 -- the change of a slot that a request is to make
 abbrev pub MakesUpdate : Node → Request → Change → Type 0

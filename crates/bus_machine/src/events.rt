@@ -1,6 +1,6 @@
 //! What happens on a bus.
 
-use byte_lists::Bytes;
+use basics::Bytes;
 use cut_disk::Torn;
 use key_slots::Block;
 use memory_update::{Request, Update};

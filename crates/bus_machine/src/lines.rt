@@ -1,6 +1,6 @@
-//! What is told of an event.
+//! The line that answers an event.
 
-use byte_lists::Pdu;
+use basics::Pdu;
 use key_slots::{Erc, SlotId};
 use memory_update::Reply;
 
@@ -77,6 +77,6 @@ pub enum Refusal {
     Damaged(u16),
     /// After a cut, on such a disk: this slot's cell is no slot.
     BadSlot(SlotId),
-    /// After a cut, on such a disk: this cell is no bound of its route.
+    /// After a cut, on such a disk: this cell doesn't hold a bound of its route.
     BadBound(u16),
 }

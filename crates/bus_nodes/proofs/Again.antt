@@ -31,7 +31,7 @@ again_here before id ids found = ap (λ b. cond b (Some id) (again_after (before
 pub again_on : (before : List ℕ) (id : ℕ) (ids : List ℕ) → stands_in id before ≡ false → again_after before (id ∷ ids) ≡ again_after (before ++ id ∷ []) ids
 again_on before id ids new = ap (λ b. cond b (Some id) (again_after (before ++ id ∷ []) ids)) new
 
--- ---- a part, and what is behind it
+-- ---- a part, and what is after it
 
 pub again_in_part : (before xs ys : List ℕ) (id : ℕ) → again_after before xs ≡ Some id → again_after before (xs ++ ys) ≡ Some id
 again_in_part before [] ys id e = absurd (none_not_some id e)
@@ -91,7 +91,7 @@ none_from_differ before (id ∷ ids) differ =
     by_test true found more = absurd (parts_apart before (id ∷ ids) id differ found (list_any_at (λ one. one == id) (id ∷ ids) 0 id (omega arith) (eq-eqb id id refl)))
     by_test false new more = more
 
--- ---- a step over a route or a node, between what is before it and what is behind
+-- ---- a step over a route or a node, between what is before it and what is after
 
 abbrev pub id_or_none : Bool → ℕ → List ℕ
 id_or_none b id = cond b (id ∷ []) []

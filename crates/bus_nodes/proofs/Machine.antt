@@ -1,4 +1,4 @@
--- A bus that is told is a bus of the machine
+-- A named bus is a bus of the machine
 use Rattle.std.proofs.Common.{◌≡◌, ℕ, ◌+◌, ◌<◌, Bool, true, false, cond, List, [], ◌∷◌, length, suc, take, drop, refl, sym, ap, subst, ◌∙◌, arith, inl, inr}
 use Rattle.std.specs.Prelude.{◌==◌, ◌&&◌, ◌||◌, slice_index_or}
 use Rattle.std.specs.List.{list_any}
@@ -41,7 +41,7 @@ node_sends config id has = sym (any_sends config.routes id) ∙ place_sends conf
 config_of_node : (bus : NamedBus) (i : ℕ) → i < length bus.nodes → config_at (configs_of bus) i ≡ (node_of bus.nodes i).config
 config_of_node bus i inside = get_or-map (λ n. n.config) bus.nodes i nobody no_config inside
 
--- the Data IDs before node j, and of it and those behind
+-- the Data IDs before node j, and of it and those after
 abbrev sends_at : List NodeLine → ℕ → ℕ → Bool
 sends_at nodes i id = stands_in id (ids_sent_by (node_of nodes i).config.routes)
 

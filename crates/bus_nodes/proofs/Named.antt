@@ -37,7 +37,7 @@ found_first nodes name i d inside before here =
       | inr e ↦ e
     ]
 
--- where no node with a name is found, no node has it
+-- if no node with a name is found, no node has it
 none_past : (m n : ℕ) → cond (ltb m n) (Some m) None ≡ None → n ≤ m
 none_past m n e = elim (cases_Bool (ltb m n)) [
   | inl less ↦ absurd (some_not_none m (sym (ap (λ b. cond b (Some m) None) less) ∙ e))

@@ -18,7 +18,7 @@ is_sending route = same_direction route.direction Sends
 abbrev pub sends_id : ℕ → Route → Bool
 sends_id id route = is_sending route && (route.id == id)
 
--- what one route adds to the Data IDs of those behind it
+-- what one route adds to the Data IDs of those after it
 abbrev added : Bool → Route → List Route → List ℕ
 added b route rest = map (λ r. r.id) (cond b (route ∷ filter is_sending rest) (filter is_sending rest))
 

@@ -1,4 +1,4 @@
--- A bus as it is told: its nodes under their names, and the stores that they keep (own)
+-- A bus by its names: its nodes under their names, and the stores that they keep (own)
 use Rattle.std.specs.Prelude.{◌≢◌, ℕ, ◌≤◌, ◌==◌, bytes_eq, IsTrue, if◌then◌else◌, Option, None, Some, List, [], ◌∷◌}
 use Rattle.std.specs.Prelude.{◌++◌, length, map, filter, flat_map, position, All, AllPairs}
 use Rattle.std.specs.List.{list_any}

@@ -1,4 +1,4 @@
--- What holds of every bus that is told
+-- What holds of every named bus
 use Rattle.std.specs.Prelude.{◌≡◌, ℕ, ◌<◌, Some, List, length, slice_index_or}
 use Rattle.bus_machine.specs.Bus.{IsBus}
 use Rattle.bus_nodes.specs.declared.nodes.NodeLine.{NodeLine}

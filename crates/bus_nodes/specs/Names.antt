@@ -11,7 +11,7 @@ is_letter byte = nat_le 97 byte && nat_le byte 122
 abbrev pub is_name_byte : ℕ → Bool
 is_name_byte byte = is_letter byte || is_ascii_digit byte || (byte == 45) || (byte == 95)
 
--- at most 16 such bytes, of which the first is there and is a letter
+-- 1 to 16 such bytes, the first of them a letter
 abbrev pub is_name : List ℕ → Bool
 is_name word =
     nat_le 1 (length word) && nat_le (length word) 16 && is_letter (slice_index word 0) && list_all is_name_byte word

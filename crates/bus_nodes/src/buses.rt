@@ -9,8 +9,8 @@ use crate::nodes::{NodeLine, place_named, sent_again};
 use cell_store::{Kind, Version};
 use std::marker::Model;
 
-/// A bus: which stores its nodes keep, and its 1 to 8 nodes, whose names differ. A node has at most 64 routes where the
-/// stores are of version 1, and at most 256 where they are of version 2. No two routes of the bus send one Data ID.
+/// A bus: which stores its nodes keep, and its 1 to 8 nodes, whose names differ. A node has at most 64 routes if the
+/// stores are of version 1, and at most 256 if they are of version 2. No two routes of the bus send one Data ID.
 #[derive(Debug, Drop)]
 pub struct BusConfig {
     kind: Kind,
@@ -28,7 +28,7 @@ impl Model for BusConfig {
     ghost invariant = { λ b. IsNamedBus (record { kind = b.kind; version = b.version; nodes = b.nodes.items }) };
 }
 
-/// How many routes a node has at most where the stores are of this version: 64 in version 1, and 256 in version 2.
+/// How many routes a node has at most if the stores are of this version: 64 in version 1, and 256 in version 2.
 pub fn most_routes(version: Version) -> usize
     ensures { result ≡ routes_at_most version }
 {
@@ -69,8 +69,8 @@ impl BusConfig {
     ghost use Rattle.std.specs.Option.{SomeIff};
     ghost use Rattle.bus_nodes.specs.Buses.{IsNamedBus, place_named};
 
-    /// The bus of these nodes; `None` where it is none: there isn't one node to 8, or two have one name, or one has
-    /// more routes than the version allows, or two routes send one Data ID. It takes no memory.
+    /// The bus of these nodes; `None` if there aren't 1 to 8 nodes, or two have one name, or one has more routes than
+    /// the version allows, or two routes send one Data ID. It takes no memory.
     pub fn new(kind: Kind, version: Version, nodes: Vec<NodeLine>) -> Option<BusConfig>
         ensures { SomeIff result (IsNamedBus (record { kind = kind; version = version; nodes = nodes.items }))
             (record { kind = kind; version = version; nodes = nodes.items }) }
@@ -114,7 +114,7 @@ impl BusConfig {
         self.nodes.as_slice()
     }
 
-    /// The place of the node with this name, counted from 0; `None` where the bus has no such node.
+    /// The place of the node with this name, counted from 0; `None` if the bus has no such node.
     pub fn find(&self, name: &[u8]) -> Option<u8>
         ensures value { result ≡ place_named self.now.nodes name.now }
         ensures inside { IfSome result (λ i. i < length self.now.nodes) }

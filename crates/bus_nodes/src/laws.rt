@@ -1,4 +1,4 @@
-//! Laws of buses that are told: the contract of each function is the law, and its body is empty.
+//! Laws of named buses: the contract of each function is the law, and its body is empty.
 ghost use Rattle.bus_nodes.specs.Laws.{NamedBusesAreBuses, NamesTellNodes};
 
 /// The configurations of the nodes are a bus of the machine.

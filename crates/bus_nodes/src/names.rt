@@ -45,7 +45,7 @@ impl Name {
     ghost use Rattle.std.specs.Option.{SomeIff};
     ghost use Rattle.bus_nodes.specs.Names.{is_name as is_a_name};
 
-    /// The name with these bytes; `None` where they are no name.
+    /// The name with these bytes; `None` if they are no name.
     pub fn of(word: &[u8]) -> Option<Name>
         ensures { SomeIff result (IsTrue (is_a_name word.now)) word.now }
     {

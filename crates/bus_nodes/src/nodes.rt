@@ -9,14 +9,14 @@ ghost use Rattle.bus_nodes.specs.Buses.{ids_sent, ids_sent_by, again_after, plac
 use crate::names::Name;
 use freshness_routes::{Direction, NodeConfig, Route};
 
-/// A node of a bus: its name, and what it is told to be.
+/// A node of a bus: its name and its configuration.
 #[derive(Debug, Drop)]
 pub struct NodeLine {
     pub name: Name,
     pub config: NodeConfig,
 }
 
-/// The place of the first node with this name, counted from 0; `None` where there is none.
+/// The place of the first node with this name, counted from 0; `None` if there is none.
 pub fn place_named(nodes: &[NodeLine], name: &[u8]) -> Option<usize>
     ensures value { result ≡ place_of_name nodes.now name.now }
     ensures nowhere { IsNone result → All (λ node. node.name ≢ name.now) nodes.now }
@@ -66,7 +66,7 @@ fn again_in(before: &[NodeLine], routes: &[Route]) -> Option<u16>
 }
 
 /// The first Data ID, in the order of the nodes and of their routes, that is sent by a route and by an earlier one;
-/// `None` where each is sent by one route.
+/// `None` if each is sent by one route.
 pub fn sent_again(nodes: &[NodeLine]) -> Option<u16>
     ensures value { result ≡ first_sent_again nodes.now }
     ensures once { IsNone result → AllPairs (λ i j. i ≢ j) (ids_sent nodes.now) }

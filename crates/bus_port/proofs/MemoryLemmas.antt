@@ -4,7 +4,7 @@ use Rattle.std.proofs.lemmas.List.{take-append-drop, nil_from_length, length-tak
 use Rattle.std.proofs.lemmas.Option.{same_Some}
 use Rattle.bus_port.specs.Source.{SourceState, HandsOut}
 
--- a source that tells, and moved n of the bytes left to the front of the buffer
+-- a source that tells, and moved n of the bytes left to the beginning of the buffer
 pub HandsOut-from_left : (before after : SourceState) (old new left : List ℕ) (most n : ℕ) → before.told ≡ Some left → after.told ≡ Some (drop n left)
     → after.taken ≡ before.taken + n → after.faults ≡ before.faults → length new ≡ length old → (0 < length old → 1 ≤ most) → n ≡ min (min most (length old)) (length left)
     → take n new ≡ take n left → drop n new ≡ drop n old → HandsOut before after old new n

@@ -1,7 +1,7 @@
 -- What came piece by piece, and what was appended piece by piece.
 use Rattle.std.proofs.Common.{◌≡◌, ℕ, ◌+◌, ◌-◌, ◌<◌, ◌≤◌, List, ◌++◌, length, take, drop, ◌∙◌, subst, sym, ap, arith, append-nil, length-append}
 use Rattle.std.proofs.Math.Seq.{take-add}
-use Rattle.fault_count.specs.CountLaws.{rose_after}
+use Rattle.basics.specs.CountLaws.{rose_after}
 use Rattle.bus_port.specs.Source.{SourceState, Came}
 use Rattle.bus_port.specs.Sink.{SinkState, Appended, WriteFails}
 use Rattle.bus_port.specs.SourceLaws.{Came-more}
@@ -23,13 +23,13 @@ ReadsPart-more {some} after limit Memory fits no_fault so_far h =
     let bytes = h.1.0 in
     (h.0 ∙ no_fault, (some ++ bytes, omega (arith, length-append some bytes, h.1.1), Came-more so_far h.1.2))
 
--- a call that fails after a front was appended leaves that front
+-- a call that fails after a prefix was appended leaves that prefix
 pub AppendedPart-failed : {first before after : SinkState} (bytes : List ℕ) (n : ℕ) → n < length bytes
     → Appended first before (take n bytes) → WriteFails before after → AppendedPart first after bytes
 AppendedPart-failed {first} {before} {after} bytes n fits so_far failed =
     (n, fits, subst (Appended first after) (append-nil (take n bytes)) (Appended-more so_far failed.nothing))
 
--- a front was appended, and then a piece of the rest
+-- a prefix was appended, and then a piece of the rest
 pub Appended-front : {first before after : SinkState} (bytes : List ℕ) (done n : ℕ)
     → Appended first before (take done bytes) → PieceWritten before after bytes done n → Appended first after (take n bytes)
 Appended-front {first} {before} {after} bytes done n so_far piece =

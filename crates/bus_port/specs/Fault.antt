@@ -1,6 +1,6 @@
 -- Counts that stand still at their last value: of faults, and of the bytes that came.
 use Rattle.std.specs.Prelude.{◌≡◌, ℕ, ◌+◌, min}
-pub use Rattle.fault_count.specs.FaultCount.{last_count, counted, Rose}
+pub use Rattle.basics.specs.FaultCount.{last_count, counted, Rose}
 
 -- the count rose by n, up to its last value
 abbrev pub RoseBy : ℕ → ℕ → ℕ → Type 0

@@ -18,8 +18,8 @@ pub record MemSinkState : Type 0 where
 abbrev pub mem_sink : MemSinkState → SinkState
 mem_sink s = record { told = Some s.held; faults = s.faults }
 
--- a call of `write`: it fails exactly where its number is among those that fail or the room is full, and else
--- appends as many bytes as the piece, the text and the room left allow
+-- a call of `write`: it fails exactly if its number is among those that fail or the room is full. Else it appends as
+-- many bytes as the piece, the text and the room left allow
 pub record MemWrites {E : Type 0} (before after : MemSinkState) (bytes : List ℕ) (result : Result ℕ E) : Type 0 where
   pub fails : IsErr result ↔ (Contains before.failing (counted before.calls) ⊎ (before.room ≤ length before.held))
   pub moves : MatchResult result

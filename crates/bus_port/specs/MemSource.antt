@@ -17,8 +17,8 @@ pub record MemSourceState : Type 0 where
 abbrev pub mem_source : MemSourceState → SourceState
 mem_source s = record { told = Some s.left; taken = s.taken; faults = s.faults }
 
--- a call of `read` with this much room: it fails exactly where its number is among those that fail, and else
--- hands out as many bytes as the piece, the room and what is left allow
+-- a call of `read` with this much room: it fails exactly if its number is among those that fail. Else it hands out as
+-- many bytes as the piece, the room and what is left allow
 pub record MemReads {E : Type 0} (before after : MemSourceState) (room : ℕ) (result : Result ℕ E) : Type 0 where
   pub fails : IsErr result ↔ Contains before.failing (counted before.calls)
   pub moves : MatchResult result

@@ -2,7 +2,7 @@
 use Rattle.std.specs.Prelude.{◌≡◌, ℕ, ◌<◌, ◌≤◌, List, [], ◌++◌, length, take, Option, Some, Result, MatchResult}
 use Rattle.bus_port.specs.Fault.{Rose}
 
--- what is known of a sink: the bytes written, where it tells them; its count of faults
+-- what is known of a sink: the bytes written, if it tells them; its count of faults
 pub record SinkState : Type 0 where
   pub told : Option (List ℕ)
   pub faults : ℕ

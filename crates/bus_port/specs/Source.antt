@@ -3,8 +3,7 @@ use Rattle.std.specs.Prelude.{◌≡◌, ◌↔◌, ℕ, ◌<◌, ◌≤◌, Lis
 use Rattle.std.specs.Prelude.{MatchResult}
 use Rattle.bus_port.specs.Fault.{Rose, RoseBy}
 
--- what is known of a source: the bytes left, where it tells them; how many bytes came from it so far; its count of
--- faults
+-- what is known of a source: the bytes left, if it tells them; how many bytes came from it so far; its count of faults
 pub record SourceState : Type 0 where
   pub told : Option (List ℕ)
   pub taken : ℕ
@@ -17,8 +16,8 @@ pub record Came (before after : SourceState) (bytes : List ℕ) : Type 0 where
   pub counted : RoseBy before.taken after.taken (length bytes)
   pub later : before.faults ≤ after.faults
 
--- n bytes came, and stand at the front of the buffer, whose rest is as before, and no fault was counted;
--- for a buffer that isn't empty, n is 0 exactly at the end of the bytes
+-- n bytes came, and stand at the beginning of the buffer, whose rest is as before, and no fault was counted; for a
+-- buffer that isn't empty, n is 0 exactly at the end of the bytes
 pub record HandsOut (before after : SourceState) (old new : List ℕ) (n : ℕ) : Type 0 where
   pub fits : n ≤ length old
   pub came : Came before after (take n new)

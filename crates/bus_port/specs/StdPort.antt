@@ -21,14 +21,14 @@ pub record StdReads {R E : Type 0} (before after : StdSourceState R) (result : R
   pub counts : MatchResult result (λ _. after.faults ≡ before.faults) (λ _. after.faults ≡ counted before.faults)
   pub missing : before.reader ≡ None → IsErr result × (after.reader ≡ None)
 
--- what a read into a buffer does to the bytes that a reader tells, and to the buffer: n bytes came
+-- how a read into a buffer changes the bytes that a reader tells, and the buffer: n bytes came
 pub record MovesFront (told later : Option (List ℕ)) (old new : List ℕ) (n : ℕ) : Type 0 where
   pub fits : n ≤ length old
   pub consumed : Consumes told later (take n new)
   pub beyond : drop n new ≡ drop n old
   pub ended : n ≡ 0 → 0 < length old → IsAtEnd later
 
--- the same of a whole call, which leaves all as it was where it fails
+-- the same of a whole call, which leaves all as it was if it fails
 abbrev pub MovesOrKeeps : {E : Type 0} → Option (List ℕ) → Option (List ℕ) → List ℕ → List ℕ → Result ℕ E → Type 0
 MovesOrKeeps told later old new result =
     MatchResult result (λ n. MovesFront told later old new n) (λ _. Keeps told later × (new ≡ old))

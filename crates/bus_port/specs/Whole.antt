@@ -21,13 +21,13 @@ CameWithin before after limit = (bytes : List ℕ) × (length bytes ≤ limit) �
 abbrev pub CameBeyond : SourceState → SourceState → ℕ → Type 0
 CameBeyond before after limit = (bytes : List ℕ) × (length bytes ≡ limit + 1) × Came before after bytes
 
--- what came where not all was read, by the cause; a fault was counted only where that is the cause
+-- what came if not all was read, by the cause; a fault was counted only if that is the cause
 abbrev pub ReadsPart : SourceState → SourceState → ℕ → ReadAll → Type 0
 ReadsPart before after limit Failed = Rose before.faults after.faults × CameWithin before after limit
 ReadsPart before after limit TooLong = (after.faults ≡ before.faults) × CameBeyond before after limit
 ReadsPart before after limit Memory = (after.faults ≡ before.faults) × CameWithin before after limit
 
--- a proper front of these bytes was appended
+-- a proper prefix of these bytes was appended
 abbrev pub AppendedPart : SinkState → SinkState → List ℕ → Type 0
 AppendedPart before after bytes = (n : ℕ) × (n < length bytes) × Appended before after (take n bytes)
 
@@ -47,7 +47,7 @@ AddsPiece before after old new limit (Ok n) = PieceAdded before after old new li
 AddsPiece before after old new limit (Err cause) =
     ReadsPart before after (limit - length old) cause
 
--- of these bytes those behind the first `done` were appended, up to the first `n`; no fault was counted
+-- of these bytes those after the first `done` were appended, up to the first `n`; no fault was counted
 pub record PieceWritten (before after : SinkState) (bytes : List ℕ) (done n : ℕ) : Type 0 where
   pub more : done < n
   pub fits : n ≤ length bytes

@@ -7,7 +7,7 @@ ghost use Rattle.bus_port.specs.MemSource.{MemReads, mem_source, clean_source};
 ghost use Rattle.bus_port.specs.MemSink.{MemWrites, mem_sink};
 
 use crate::port::{Memory, PortFailed, Sink, Source};
-use fault_count::count_fault;
+use basics::count_fault;
 use std::alloc::Global;
 use std::marker::Model;
 
@@ -49,7 +49,7 @@ impl Plan {
     }
 }
 
-/// Copies the next bytes after `done` to the front of `out`, at most `most`, and returns how many.
+/// Copies the next bytes after `done` to the beginning of `out`, at most `most`, and returns how many.
 fn hand_out(bytes: &[u8], done: usize, most: usize, out: &mut [u8]) -> usize
     requires { done ≤ length bytes.now }
     ensures count { result ≡ min (min most (length out.old)) (length (drop done bytes.now)) }
@@ -198,8 +198,8 @@ impl Model for MemSink {
 }
 
 impl MemSink {
-    /// A sink with room for `room` bytes. A call appends at most `piece` bytes, and fails exactly where
-    /// its number, from 1, is in `failing`, or the room is full.
+    /// A sink with room for `room` bytes. A call appends at most `piece` bytes, and fails exactly if its number, from
+    /// 1, is in `failing`, or the room is full.
     pub fn new(
         alloc: Global,
         room: usize,

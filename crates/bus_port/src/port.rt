@@ -16,22 +16,21 @@ pub struct Memory;
 
 /// Where bytes come from.
 pub trait Source {
-    /// The bytes left, where the source tells them, the number of bytes that came from it so far,
-    /// and its count of faults. Both counts stand still at 2^64 - 1.
+    /// The bytes left, if the source tells them, the number of bytes that came from it so far, and its count of faults.
+    /// Both counts stand still at 2^64 - 1.
     ghost state: { Self → SourceState };
 
-    /// Moves the next bytes to the front of `out`, and returns how many they are.
+    /// Moves the next bytes to the beginning of `out`, and returns how many they are.
     ///
-    /// For an `out` with room the answer is 0 at the end of the bytes, and only there where the
-    /// source tells them. After `PortFailed` a later call may succeed.
+    /// For an `out` with room the answer is 0 at the end of the bytes, and only there if the source tells them. After
+    /// `PortFailed` a later call may succeed.
     fn read(&mut self, out: &mut [u8]) -> Result<usize, PortFailed>
         ensures { Reads (state self.old) (state self.new) out.old out.new result };
 }
 
 /// Where bytes go.
 pub trait Sink {
-    /// The bytes written, where the sink tells them, and its count of faults, which stands still at
-    /// 2^64 - 1.
+    /// The bytes written, if the sink tells them, and its count of faults, which stands still at 2^64 - 1.
     ghost state: { Self → SinkState };
 
     /// Appends the first of `bytes`, at least one of them, and returns how many it took.

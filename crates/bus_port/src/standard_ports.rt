@@ -1,14 +1,14 @@
 //! Ports over the standard readers and writers: the edge to files, terminals and pipes.
 //!
-//! What the outside gives and takes is not known to any proof; these ports keep the count of its
-//! faults, and tell what the reader or the writer tells, as one over memory does.
+//! No proof knows what the outside gives and takes. These ports count its faults. They tell what the reader or the
+//! writer tells, as one over memory does.
 ghost use Rattle.std.specs.Prelude.{◌≡◌, ◌<◌, ◌≤◌, length, Some, None, is_some, option_and_then};
 ghost use Rattle.bus_port.specs.Source.{Reads};
 ghost use Rattle.bus_port.specs.Sink.{Writes};
 ghost use Rattle.bus_port.specs.StdPort.{StdReads, StdWrites, MovesOrKeeps, std_source, std_sink};
 
 use crate::port::{PIECE, PortFailed, Sink, Source};
-use fault_count::count_fault;
+use basics::count_fault;
 use std::io::{Read, Write};
 use std::marker::Model;
 
@@ -52,8 +52,8 @@ impl<R: Read> StdSource<R> {
     }
 }
 
-/// Reads once, and moves what came to the front of `out`. The reader's own buffer is apart from `out`,
-/// since a reader may write past the bytes that it counts, and where it fails.
+/// Reads once, and moves what came to the beginning of `out`. The reader's own buffer is apart from `out`, since a
+/// reader may write past the bytes that it counts, and if it fails.
 fn read_once<R: Read>(reader: &mut Option<R>, out: &mut [u8]) -> Result<usize, PortFailed>
     ensures moves { MovesOrKeeps (option_and_then R.remaining reader.old)
         (option_and_then R.remaining reader.new) out.old out.new result }

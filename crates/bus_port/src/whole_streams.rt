@@ -56,7 +56,7 @@ fn add_piece<S: Source>(
     Ok(count)
 }
 
-/// All bytes of the source up to its end, of which there may be at most `limit`.
+/// All bytes of the source up to its end, at most `limit`.
 ///
 /// It asks for one byte more than `limit` at most. What came before a refusal is gone from the source.
 pub fn read_all<S: Source>(alloc: Global, source: &mut S, limit: usize) -> Result<Vec<u8>, ReadAll>
@@ -65,7 +65,7 @@ pub fn read_all<S: Source>(alloc: Global, source: &mut S, limit: usize) -> Resul
     ensures ok { IfOk result (λ bytes. ReadsAll (S.state source.old) (S.state source.new) limit bytes.items) }
     ensures refused { IfErr result (ReadsPart (S.state source.old) (S.state source.new) limit) }
 
-    // Exactly where one byte more than the limit came.
+    // Exactly if one byte more than the limit came.
     ensures too_long { (S.state source.old).taken + limit < last_count
         → (IsErrOf result ReadAll.TooLong ↔ ((S.state source.old).taken + limit < (S.state source.new).taken)) }
     ensures too_long_told { (left : List ℕ) → (S.state source.old).told ≡ Some left
@@ -77,7 +77,7 @@ pub fn read_all<S: Source>(alloc: Global, source: &mut S, limit: usize) -> Resul
     Ok(bytes)
 }
 
-/// Appends the next piece of `bytes`, of which the first `done` are written, and returns how many then are.
+/// Appends the next piece of `bytes` after the first `done`, which are written, and returns how many then are.
 fn write_piece<K: Sink>(sink: &mut K, bytes: &[u8], done: usize) -> Result<usize, PortFailed>
     requires { done < length bytes.now }
     ensures piece { IfOk result (PieceWritten (K.state sink.old) (K.state sink.new) bytes.now done) }
@@ -87,7 +87,7 @@ fn write_piece<K: Sink>(sink: &mut K, bytes: &[u8], done: usize) -> Result<usize
     Ok(done + count)
 }
 
-/// Appends all of `bytes` to the sink. Where it fails, what came before the failing call stays.
+/// Appends all of `bytes` to the sink. If it fails, what came before the failing call stays.
 pub fn write_all<K: Sink>(sink: &mut K, bytes: &[u8]) -> Result<(), PortFailed>
     ensures ok { OnOk result (Appended (K.state sink.old) (K.state sink.new) bytes.now) }
     ensures no_fault { OnOk result ((K.state sink.new).faults ≡ (K.state sink.old).faults) }

@@ -1,4 +1,4 @@
--- A replay or a trial over the disks that the program makes is started, or wants memory
+-- A replay or a trial over the disks that the program makes is started, or memory is out
 use Rattle.std.specs.Prelude.{◌≡◌, ℕ, List, [], ◌∷◌}
 use Rattle.std.proofs.Common.{refl, subst, arith}
 use Rattle.cut_disk.specs.declared.mem_disk.MemDisk.{MemDisk}
@@ -9,8 +9,8 @@ use Rattle.bus_world.specs.StartRows.{LeavesEach, StoreCause}
 use Rattle.bus_world.specs.declared.start.Start.{Start}
 use Rattle.bus_world.specs.declared.start.Start.TheVariants.{Format, Attach}
 use Rattle.bus_world.specs.declared.start.StartFault.{StartFault}
-use Rattle.blank_disks.specs.Blank.{disk_states}
-use Rattle.blank_disks.specs.BlankLaws.{blank_has_room, blank_no_cause}
+use Rattle.bus_programs.specs.Blank.{disk_states}
+use Rattle.bus_programs.specs.BlankLaws.{blank_has_room, blank_no_cause}
 use Rattle.bus_commands.specs.declared.words.Command.TheVariants.{World}
 use Rattle.bus_commands.specs.declared.words.WorldCommand.{WorldCommand}
 use Rattle.bus_commands.specs.declared.words.WorldCommand.TheVariants.{Replay, Trial}

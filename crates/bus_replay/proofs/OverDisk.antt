@@ -1,20 +1,20 @@
 -- `node`, over the disk that its last word opens
-use Rattle.std.specs.Prelude.{◌≡◌, ◌≤◌, ℕ, List, [], ◌∷◌, length, map, Result}
+use Rattle.std.specs.Prelude.{◌≡◌, ◌≤◌, ℕ, List, [], ◌∷◌, ◌++◌, length, map, Result}
 use Rattle.std.proofs.Common.{ap, sym, subst, arith}
 use Rattle.std.specs.Prelude.{Vec}
 use Rattle.std.specs.declared.alloc.Global.{Global}
 use Rattle.bus_port.specs.Source.{SourceState}
 use Rattle.cut_disk.specs.State.{DiskState}
-use Rattle.named_disks.specs.NamedDisks.{IsOpenedBy, TellsFirmBytes}
-use Rattle.numbered_run.specs.declared.printing.Unwritten.{Unwritten}
+use Rattle.file_disk.specs.NamedDisks.{IsOpenedBy, TellsFirmBytes, OpenedByWords}
+use Rattle.run_driver.specs.declared.printing.Unwritten.{Unwritten}
 use Rattle.bus_machine.specs.declared.events.Event.{Event}
 use Rattle.bus_nodes.specs.Buses.{NamedBus}
 use Rattle.bus_world.specs.declared.start.Start.{Start}
 use Rattle.bus_world.specs.declared.start.Start.TheVariants.{Format, Attach}
 use Rattle.bus_world.specs.StartAnswers.{DiskStates}
-use Rattle.answer_rows.specs.Rows.{Row}
-use Rattle.answer_rows.specs.Endings.{Ending}
-use Rattle.answer_rows.specs.EndingLaws.{EndsInRow-more}
+use Rattle.program_edge.specs.Rows.{Row}
+use Rattle.program_edge.specs.Endings.{Ending}
+use Rattle.program_edge.specs.EndingLaws.{EndsInRow-more}
 use Rattle.bus_commands.specs.declared.words.Command.TheVariants.{World as Runs}
 use Rattle.bus_commands.specs.declared.words.WorldCommand.TheVariants.{Replay}
 use Rattle.bus_commands.specs.Words.{Asks, NamesDisk}
@@ -50,7 +50,7 @@ module _ {V : Type 0} (i : BusInputs) (d : CommandDisks V) (e : Ending) (keep : 
 
 -- ---- over a disk that tells its bytes
 
--- one disk serves one node, whose bytes are told
+-- one disk that tells its bytes serves one node
 one_tells : (bus : NamedBus) (disk : DiskState) → TellsFirmBytes disk → length bus.nodes ≤ 1 → TellFirm bus (disk ∷ [])
 one_tells bus disk tells one i d few =
     let first : i ≡ 0 = omega (arith, one, few) in
@@ -83,11 +83,11 @@ module _ {D : Type 0} (state : D → DiskState) where
   abbrev pub back : SourceState → SourceState → Vec D Global → HandedBack
   back config script used = record { config = config; script = script; disks = map state used.items }
 
-  pub runs_opened : (opens : List ℕ → SourceState → Type 0) (opens_disk : List ℕ → DiskState → Type 0) (config_input script_input : SourceState) (words : List (List ℕ))
-      (config script : SourceState) (e : Ending) (name : List ℕ) (made used : Vec D Global) → NamesDisk words name → IsOpenedBy opens_disk name (map state made.items)
-      → RunsOver opens config_input script_input words (opened_disks made used) (back config script used) e
-      → RunsOpened opens opens_disk config_input script_input words (back config script used) e
-  runs_opened opens opens_disk config_input script_input words config script e name made used names opened (i, named, config_left, script_left, runs) = record {
+  pub runs_opened : (opens : List ℕ → SourceState → Type 0) (opens_disk : List ℕ → DiskState → Type 0) (o : OpenedByWords) (words : List (List ℕ))
+      (config script : SourceState) (e : Ending) (name : List ℕ) (made used : Vec D Global) → NamesDisk words name → IsOpenedBy opens_disk name (map state made.items) → o.disks_after ≡ o.disks_before ++ name ∷ []
+      → RunsOver opens o.before o.after words (opened_disks made used) (back config script used) e
+      → RunsOpened opens opens_disk o words (back config script used) e
+  runs_opened opens opens_disk o words config script e name made used names opened once (i, named, config_left, script_left, runs) = record {
     name = name;
     disk_named = names;
     inputs = i;
@@ -96,6 +96,7 @@ module _ {D : Type 0} (state : D → DiskState) where
     script_left = script_left;
     disks = map state made.items;
     opened = opened;
+    opened_once = once;
     runs = runs_known i (opened_disks made used) e (λ same. ap (λ (v : Vec D Global). map state v.items) same) runs;
     one_run = λ result. node_run i _ e result opened.disk opened.one opened.tells
         (subst (λ (w : List (List ℕ)). Asks w (Runs (Replay Attach))) (sym named.words_are) (names_node words name names));

@@ -1,7 +1,7 @@
 -- Steps that are built: a world after an event, and updates by the request that a loading station makes
 use Rattle.std.specs.Prelude.{◌≡◌, ℕ, ◌+◌, ◌&&◌, nat_lt, not, None, Some, Bool, true, false, List, [], ◌∷◌, ◌++◌, set, replicate, slice_get}
 use Rattle.std.proofs.Common.{refl, sym, ◌∙◌, ap, subst}
-use Rattle.byte_lists.specs.Blocks.{IsBlock}
+use Rattle.basics.specs.Blocks.{IsBlock}
 use Rattle.she_aes.specs.Modes.{cbc}
 use Rattle.she_kdf.specs.Derivation.{kdf}
 use Rattle.she_kdf.specs.declared.Constant.TheVariants.{Enc}
@@ -18,7 +18,7 @@ use Rattle.memory_update.specs.Messages.{two_blocks, head_number, plain, request
 use Rattle.memory_update.specs.MessageLaws.{HeadOf-Carries, id_of-head, auth_of-head, Carries-Builds, same_update, same_request}
 use Rattle.memory_update.specs.Loading.{slot_of, key_in, is_meant, is_fit, head_refusals, load_refusals, authorising_key}
 use Rattle.memory_update.specs.LoadingLaws.{is_fit-carried, is_fit-other_mac}
-use Rattle.byte_lists.specs.Numbers.{bytes_of}
+use Rattle.basics.specs.Numbers.{bytes_of}
 use Rattle.bus_machine.specs.declared.events.Event.{Event}
 use Rattle.bus_machine.specs.declared.lines.Line.{Line}
 use Rattle.bus_machine.specs.declared.lines.Line.TheVariants.{Keyed, Loaded, Refused}
@@ -30,7 +30,7 @@ use Rattle.secure_boot.specs.Booting.{is_good}
 
 -- ---- the bus
 
--- the world after an event, where its node became this one
+-- the world after an event, if its node became this one
 abbrev pub next : World → Event → Line → Node → World
 next w e l n = record { nodes = set w.nodes (node_of e) n; events = w.events + 1; sent = sent_after w e l }
 
@@ -64,7 +64,7 @@ refusals_of slots good uid u =
     head_refusals slots good u.id u.auth
     ++ (not (is_meant uid (slot_at slots u.id) u.uid && nat_lt (counter_of (slot_at slots u.id)) u.counter), KeyUpdateError) ∷ []
 
--- they are those of its request, where the authorising slot holds the key
+-- they are those of its request, if the authorising slot holds the key
 refusals_are : (slots : List Slot) (good : Bool) (uid : List ℕ) (u : Update) (a : List ℕ) → IsBlock a → IsUpdate u → key_in (slot_at slots u.auth) ≡ a
     → load_refusals slots good uid (request u a) ≡ refusals_of slots good uid u
 refusals_are slots good uid u a is_key is held =
@@ -110,7 +110,7 @@ not_keyed n u a refusal up g first =
     let r : Request = request u a in
     (r, builds u a g.is_update, (up, ap first_applying (refusals_are n.kept.slots (is_good n.boot) n.config.uid u a g.is_key g.is_update g.held) ∙ first), refl)
 
--- where one of the first four refusals applies, the given key doesn't matter
+-- if one of the first four refusals applies, the given key doesn't matter
 first_of_front : (first rest : List (Bool × Erc)) (refusal : Erc) → first_applying first ≡ Some refusal → first_applying (first ++ rest) ≡ Some refusal
 first_of_front [] rest refusal e = cc
 first_of_front ((true, other) ∷ first) rest refusal e = e
@@ -155,7 +155,7 @@ only_update n u a t slot g makes =
 
 -- ---- loads
 
--- where a request is built of an update, what the engine says of the update it says of the request
+-- if a request is built of an update, what the engine says of the update it says of the request
 pub built_is : (r : Request) (u : Update) (a : List ℕ) → Builds r a u → IsUpdate u → request u a ≡ r
 built_is r u a b is = same_request (request u a) r a u (builds u a is) b
 
@@ -171,7 +171,7 @@ not_loaded n r u a refusal up b g first =
     ap first_applying (refusals_are n.kept.slots (is_good n.boot) n.config.uid u a g.is_key g.is_update g.held) ∙ first in
     ((up, subst (λ x. first_applying (load_refusals n.kept.slots (is_good n.boot) n.config.uid x) ≡ Some refusal) (built_is r u a b g.is_update) clear), refl)
 
--- a refusal that applies behind those that don't
+-- a refusal that applies after those that don't
 first_behind : (front : List (Bool × Erc)) (refusal : Erc) → first_applying front ≡ None → first_applying (front ++ (true, refusal) ∷ []) ≡ Some refusal
 first_behind [] refusal e = refl
 first_behind ((true, other) ∷ front) refusal e = absurd (cc e)

@@ -1,7 +1,7 @@
 -- Frames of the worked runs, computed with the S-box read from a table
 use Rattle.std.specs.Prelude.{◌≡◌, ℕ, List, [], ◌∷◌, ◌++◌}
 use Rattle.std.proofs.Common.{ap}
-use Rattle.byte_lists.specs.Numbers.{bytes_of, number_of}
+use Rattle.basics.specs.Numbers.{bytes_of, number_of}
 use Rattle.she_aes.specs.Field.{product, cancelled, remainder, mul}
 use Rattle.she_aes.specs.Cipher.{xor_blocks, add_round_key, shift_rows, circulant, mix_columns, xor_words, rot_word, power_of_x, rcon, words_up_to, round_key}
 use Rattle.she_aes.proofs.CallerLemmas.{tabled_byte, tabled_word, tabled_added, tabled_next, tabled_words, tabled_bytes, tabled_rounds, tabled_cipher}

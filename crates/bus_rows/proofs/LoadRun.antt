@@ -1,6 +1,6 @@
 -- The run with the messages of the SHE specification's example
 use Rattle.std.proofs.Common.{refl, arith}
-use Rattle.byte_lists.specs.Numbers.{number_of}
+use Rattle.basics.specs.Numbers.{number_of}
 use Rattle.key_slots.specs.declared.refusals.Erc.TheVariants.{KeyInvalid, KeyEmpty, KeyUpdateError}
 use Rattle.key_slots.specs.Authority.{is_pair}
 use Rattle.memory_update.specs.declared.messages.Update.{Update}

@@ -63,7 +63,7 @@ Single-passed ms h =
     AllPairs-passed (λ (m n : Instant). sent_rise m.line n.line) (λ (m n : Instant). SentRises m.line n.line)
     (λ m n p. sent_rises m.line n.line p) ms h
 
--- ---- each line, after those in front
+-- ---- each line, after those before it
 
 abbrev pub EachRight : World → Moments → Moments → Type 0
 EachRight start front [] = Unit {0}
@@ -85,7 +85,7 @@ right_from start front (x ∷ ms) each (d ∷ done) m rest e =
 pub Authentic-each : (start : World) (ms : Moments) → EachRight start [] ms → Authentic start ms
 Authentic-each start ms each done m rest e = right_from start [] ms each done m rest e
 
--- ---- updates that were acknowledged, and what the slot holds after each front of the moments since
+-- ---- updates that were acknowledged, and what the slot holds after each prefix of the moments since
 
 abbrev pub KeptSince : ℕ → ℕ → Slot → World → Moments → Moments → Type 0
 KeptSince i t slot w front [] = HoldsUpdate i t slot w front

@@ -1,9 +1,9 @@
 -- The worked runs, built line by line
 use Rattle.std.specs.Prelude.{◌≡◌, ℕ, ◌<◌, ◌^◌, Option, None, Some, List, [], ◌∷◌, get_or}
 use Rattle.std.proofs.Common.{refl, sym, ◌∙◌, ap, arith, inl, inr}
-use Rattle.byte_lists.specs.Numbers.{bytes_of}
-use Rattle.byte_lists.specs.NumberLaws.{IsBytes-bytes_of}
-use Rattle.byte_lists.specs.Blocks.{IsBlock}
+use Rattle.basics.specs.Numbers.{bytes_of}
+use Rattle.basics.specs.NumberLaws.{IsBytes-bytes_of}
+use Rattle.basics.specs.Blocks.{IsBlock}
 use Rattle.she_cmac.specs.CmacLaws.{IsBlock-cmac}
 use Rattle.cut_disk.specs.declared.Torn.TheVariants.{Keep, Old}
 use Rattle.key_slots.specs.declared.memory.Flags.{Flags}

@@ -1,8 +1,8 @@
 -- A boot whose stored MAC is another one, computed
 use Rattle.std.specs.Prelude.{◌≡◌, ℕ, ◌*◌, false, List, [], ◌∷◌, ◌++◌, length, replicate, get_or}
 use Rattle.std.proofs.Common.{refl, sym, ◌∙◌, ap, arith}
-use Rattle.byte_lists.specs.Numbers.{bytes_of, number_of}
-use Rattle.byte_lists.specs.NumberLaws.{IsBytes-bytes_of}
+use Rattle.basics.specs.Numbers.{bytes_of, number_of}
+use Rattle.basics.specs.NumberLaws.{IsBytes-bytes_of}
 use Rattle.key_slots.specs.declared.refusals.Erc.TheVariants.{KeyNotAvailable}
 use Rattle.key_slots.specs.Authority.{is_pair}
 use Rattle.key_slots.specs.Usage.{usable}

@@ -29,7 +29,7 @@ receiving_from start = record {
 abbrev pub bus_a : List Config
 bus_a = sending_from 0xe93d7e1173931729 ∷ receiving_from 0xe93d7e1173931729 ∷ []
 
--- the same bus where one freshness is left to the sender
+-- the same bus with one freshness left to the sender
 abbrev pub last_bus : List Config
 last_bus = sending_from 0xfffffffffffffffe ∷ receiving_from 0xe93d7e1173931729 ∷ []
 

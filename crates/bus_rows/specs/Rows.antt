@@ -1,4 +1,4 @@
--- Worked runs: events, each with the line that is told for it
+-- Worked runs: events, each with the line that answers it
 use Rattle.std.specs.Prelude.{◌≡◌, ℕ, true, None, Some, List, [], ◌∷◌, map}
 use Rattle.key_slots.specs.declared.refusals.Erc.TheVariants.{KeyNotAvailable, KeyInvalid, KeyEmpty, NoSecureBoot}
 use Rattle.key_slots.specs.declared.refusals.Erc.TheVariants.{KeyWriteProtected, KeyUpdateError, SequenceError}

@@ -71,7 +71,7 @@ failed_send_old =
     ∷ (Cut 0 Old, Up)
     ∷ (Send 0 0x6bc1 bus_payload, Sent 0x6bc1 0xe93d7e117393172a first_frame) ∷ []
 
--- and the new one, of which nothing was used
+-- and the new one, not yet used
 abbrev pub failed_send_new : List (Event × Line)
 failed_send_new =
     (load_slot_4 0 1, Keyed 4)
@@ -99,7 +99,7 @@ failed_key_new =
     ∷ (Cut 0 Keep, Up)
     ∷ (Send 0 0x6bc1 bus_payload, Sent 0x6bc1 0xe93d7e117393172a first_frame) ∷ []
 
--- 9338c4e062a714ace2849c32772de6c7, the boot MAC of one zero byte but for its last bit
+-- 9338c4e062a714ace2849c32772de6c7, the boot MAC of one zero byte except for its last bit
 abbrev pub wrong_mac : List ℕ
 wrong_mac =
     0x93 ∷ 0x38 ∷ 0xc4 ∷ 0xe0 ∷ 0x62 ∷ 0xa7 ∷ 0x14 ∷ 0xac ∷ 0xe2 ∷ 0x84 ∷ 0x9c ∷ 0x32 ∷ 0x77 ∷ 0x2d ∷ 0xe6 ∷ 0xc7 ∷ []

@@ -101,7 +101,7 @@ pub fn a_failed_update_leaves_the_new_slot()
     ensures { HasRun bus_a failed_key_new }
 {}
 
-/// An image with another boot MAC: the boot is wrong, and a key that wants a boot stays shut.
+/// An image with another boot MAC: the boot is wrong, and a key that needs a good boot stays shut.
 pub fn a_wrong_boot_opens_nothing()
     ensures { HasRun bus_a booted_wrong }
 {}

@@ -4,9 +4,9 @@ use Rattle.std.specs.Prelude.{◌==◌, ◌&&◌, not, slice_index}
 use Rattle.std.specs.List.{list_all, flat_map}
 use Rattle.std.proofs.lemmas.Bool.{and_parts}
 use Rattle.std.proofs.lemmas.List.Elements.{All-nil, All-cons}
-use Rattle.byte_lists.specs.Bytes.{IsBytes}
-use Rattle.byte_lists.specs.Numbers.{bytes_of}
-use Rattle.byte_lists.specs.NumberLaws.{IsBytes-bytes_of}
+use Rattle.basics.specs.Bytes.{IsBytes}
+use Rattle.basics.specs.Numbers.{bytes_of}
+use Rattle.basics.specs.NumberLaws.{IsBytes-bytes_of}
 use Rattle.hex.specs.Hex.{encode_lower}
 use Rattle.cut_disk.specs.declared.Torn.{Torn}
 use Rattle.memory_update.specs.declared.messages.Request.{Request}

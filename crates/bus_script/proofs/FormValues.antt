@@ -1,12 +1,12 @@
--- What the value of a word is, where it is of its form.
+-- What the value of a word is, if it is of its form.
 use Rattle.std.proofs.Common.{◌≡◌, ℕ, suc, ◌<◌, ◌≤◌, ◌^◌, Bool, true, false, cond, List, [], ◌∷◌, length, take, drop, All, Option, Some, None, Ok, refl, sym, ◌∙◌, subst, arith}
 use Rattle.std.specs.Prelude.{◌==◌, slice_index, codes, option_map}
 use Rattle.std.specs.Result.{result_ok}
 use Rattle.std.specs.Str.{bytes_eq}
 use Rattle.std.proofs.lemmas.List.Elements.{All-nil, All-cons}
-use Rattle.byte_lists.specs.Bytes.{IsBytes}
-use Rattle.byte_lists.specs.Numbers.{number_of}
-use Rattle.byte_lists.specs.NumberLaws.{number_of-lt}
+use Rattle.basics.specs.Bytes.{IsBytes}
+use Rattle.basics.specs.Numbers.{number_of}
+use Rattle.basics.specs.NumberLaws.{number_of-lt}
 use Rattle.hex.specs.Hex as hex
 use Rattle.hex.specs.Hex.{decode_of, decode_sized}
 use Rattle.hex.proofs.HexLemmas.{decode_of-ok, decode_sized-ok, decode_sized-twice}
@@ -62,7 +62,7 @@ two_form-value word blocks h =
     both_blocks (key_form (take 32 word)) (key_form (drop 32 word)) blocks
     (λ b e. key_form-value (take 32 word) b e) (λ b e. key_form-value (drop 32 word) b e) chosen.1
 
--- the value behind a step on an option
+-- the value after a step on an option
 mapped : {A B : Type 0} (f : A → B) (o : Option A) (y : B) → option_map f o ≡ Some y → (x : A) × (o ≡ Some x) × (f x ≡ y)
 mapped f (Some x) y h = (x, refl, cc h)
 mapped f None y h = cc h
@@ -88,7 +88,7 @@ hex_bytes_form-value least most word bytes h =
     let sizes = hex_bytes_form-sizes least most word bytes h in
     (sizes.0, sizes.1, decoded word bytes (ok_some (decode_of word) bytes (chosen_some _ (result_ok (decode_of word)) bytes h).1))
 
--- what is left behind a value that is given under a test
+-- what is left after a value that is given under a test
 otherwise : {A : Type 0} (test : Bool) (x : A) (o : Option A) (y : A) (P : A → Type 0) → P x → (o ≡ Some y → P y) → cond test (Some x) o ≡ Some y → P y
 otherwise true x o y P p q h = let same : x ≡ y = cc h in subst P same p
 otherwise false x o y P p q h = q h

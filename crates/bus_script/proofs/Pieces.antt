@@ -1,4 +1,4 @@
--- Words that are added one behind the other.
+-- Words that are added one after the other.
 use Rattle.std.proofs.Common.{ℕ, List, [], ◌∷◌, ◌++◌, ◌∙◌, sym, ap, append_assoc, append-nil}
 use Rattle.bus_script.specs.WordsAdded.{AddsWord, AddsWords}
 

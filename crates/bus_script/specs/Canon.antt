@@ -1,7 +1,7 @@
 -- The canonical line of an event: single spaces, lower-case digits, every identifier written out, `-` for no bytes.
 use Rattle.std.specs.Prelude.{ℕ, List, [], ◌∷◌, codes}
 use Rattle.std.specs.Fmt.{decimal}
-use Rattle.byte_lists.specs.Numbers.{bytes_of}
+use Rattle.basics.specs.Numbers.{bytes_of}
 use Rattle.hex.specs.Hex.{encode_lower}
 use Rattle.cut_disk.specs.declared.Torn.{Torn}
 use Rattle.cut_disk.specs.declared.Torn.TheVariants.{Keep, Old, Half, Fill}
@@ -47,7 +47,7 @@ update_words update authkey =
     encode_lower update.uid ∷ decimal update.id ∷ decimal update.auth ∷ encode_lower authkey
     ∷ decimal update.counter ∷ flags_text update.flags ∷ encode_lower update.key ∷ []
 
--- the words of an event behind its node
+-- the words of an event after its node
 abbrev pub field_words : Event → List (List ℕ)
 field_words (event.Send node id payload) = encode_lower (bytes_of 2 id) ∷ bytes_word payload ∷ []
 field_words (event.Deliver node number) = decimal number ∷ []

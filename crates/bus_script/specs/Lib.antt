@@ -3,3 +3,9 @@ pub mod EventForms
 pub mod Canon
 pub mod ScriptEvents
 pub mod WordsAdded
+pub mod LineTexts
+pub mod LineKinds
+pub mod Draws
+pub mod Trials
+pub mod TrialLaws
+pub mod TrialSteps

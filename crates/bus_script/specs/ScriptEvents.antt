@@ -1,6 +1,6 @@
 -- Which events a script can have.
 use Rattle.std.specs.Prelude.{ℕ, ◌<◌, ◌≤◌, ◌^◌, List, length}
-use Rattle.byte_lists.specs.Bytes.{IsBytes}
+use Rattle.basics.specs.Bytes.{IsBytes}
 use Rattle.cut_disk.specs.declared.Torn.{Torn}
 use Rattle.cut_disk.specs.declared.Torn.TheVariants.{Keep, Old, Half, Fill}
 use Rattle.memory_update.specs.Messages.{IsUpdate}

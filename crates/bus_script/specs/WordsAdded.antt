@@ -2,11 +2,11 @@
 use Rattle.std.specs.Prelude.{◌≡◌, ℕ, List, ◌∷◌, ◌++◌}
 use Rattle.std.specs.List.{flat_map}
 
--- a word with a space, which is 32, in front
+-- a space, which is 32, and a word
 abbrev pub behind_space : List ℕ → List ℕ
 behind_space word = 32 ∷ word
 
--- these words were added, each with a space in front
+-- these words were added, each after a space
 abbrev pub AddsWords : List ℕ → List ℕ → List (List ℕ) → Type 0
 AddsWords old new words = new ≡ old ++ flat_map behind_space words
 

@@ -1,4 +1,4 @@
-//! Adding words to a line, each with a space in front.
+//! Adding words to a line, each after a space.
 
 ghost use Rattle.std.specs.Prelude.{◌++◌, OnOk};
 ghost use Rattle.std.specs.Fmt.{decimal};

@@ -1,7 +1,7 @@
 //! Writing events in canonical form.
 
 ghost use Rattle.std.specs.Prelude.{◌≡◌, ◌<◌, [], ◌∷◌, ◌++◌, length, IfOk, OnOk, OnErr};
-ghost use Rattle.byte_lists.specs.Numbers.{bytes_of};
+ghost use Rattle.basics.specs.Numbers.{bytes_of};
 ghost use Rattle.hex.specs.Hex.{encode_lower};
 ghost use Rattle.bus_machine.specs.Bus.{node_of};
 ghost use Rattle.secoc_words.specs.Written.{load_words};
@@ -11,9 +11,9 @@ ghost use Rattle.bus_script.specs.WordsAdded.{AddsWord, AddsWords};
 
 use crate::kinds::EventKind;
 use crate::pushing::{push_bytes, push_hex, push_number, push_word};
+use basics::Block;
 use bus_machine::Event;
 use bus_nodes::BusConfig;
-use byte_lists::Block;
 use cut_disk::Torn;
 use memory_update::{Request, Update};
 use secoc_words::texts::flags_text;
@@ -92,7 +92,7 @@ fn place(event: &Event) -> u8
     }
 }
 
-/// Adds the words of an event behind its node.
+/// Adds the words of an event after its node.
 fn push_fields(alloc: Global, line: &mut Vec<u8>, event: &Event) -> Result<(), AllocError>
     ensures { OnOk result (AddsWords line.old.items line.new.items (field_words event.now)) }
 {

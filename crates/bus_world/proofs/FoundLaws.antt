@@ -154,7 +154,7 @@ module _ (kind : Kind) (version : Version) (config : Config) (x : List ℕ) (kep
   size : length (CellsOf config kept) ≡ cells_in config
   size = length-CellsOf config kept k.is_kept
 
-  -- where they have a store, it stands for the cells of what is kept
+  -- if they have a store, it stands for the cells of what is kept
   stands_kept : HasNodeStore kind version (cells_in config) x → StandsAsCounted kind (CellsOf config kept) x
   stands_kept store = elim k.kept_as [
     | inl blank ↦ absurd (store_is kind version (cells_in config) x Blank store blank.0 standing_not_blank older_not_blank)

@@ -9,3 +9,9 @@ pub mod StepLaws
 mod StartLaws
 mod SoundLaws
 pub mod CallerLemmas
+pub mod AtNode
+pub mod DisksBack
+pub mod Starting
+pub mod Attaching
+pub mod Honesty
+pub mod WholeRun

@@ -26,7 +26,7 @@ use Rattle.bus_world.specs.declared.opening.OpenFault.TheVariants as open_fault
 use Rattle.bus_world.specs.TakingUp.{cells_in, CountsRefusal, StandsSo}
 use Rattle.bus_world.specs.Opening.{AttachedTo, AttachCauseOf, NotAttachedTo, MovedTo, MoveCauseOf, LeavesMoved, NotMovedTo, StandsAs, of_store}
 
--- bytes that are told behind a move stand in version 2 for the cells that were moved
+-- bytes that are told after a move stand in version 2 for the cells that were moved
 record NowStands (kind : Kind) (cells : List (List ℕ)) (new : Option Told) : Type 0 where
   pub now : Told
   pub told : new ≡ Some now
@@ -40,7 +40,7 @@ now_stands kind cells t new Two stands after = record { now = t; told = after; s
 moved_stands : (kind : Kind) (n : ℕ) (t : Told) (new : Option Told) → (m : Migrated kind n t new) → NowStands kind m.cells new
 moved_stands kind n t new m = now_stands kind m.cells t new m.moved.before.version m.moved.before.stands m.moved.after
 
--- where no byte was loose, none is behind a move
+-- if no byte was loose, none is after a move
 now_firm : (kind : Kind) (cells : List (List ℕ)) (b : List ℕ) (new : Option Told) (version : Version) → AfterMove kind cells (firm b) new version → (c : List ℕ) × (new ≡ Some (firm c))
 now_firm kind cells b new One after = (after.bytes, after.told)
 now_firm kind cells b new Two after = (b, after)
@@ -69,7 +69,7 @@ module _ (kind : Kind) (config : Config) (before mid : DiskState) (runs : Runs [
     faults = a.faults ∙ faults;
   }
 
-  -- the cells that stand behind the move are those that stood before it
+  -- the cells that stand after the move are those that stood before it
   so_before : (t : Told) (m : Migrated kind (cells_in config) t mid.told) (P : List (List ℕ) → Type 0)
       → ((u : Told) → mid.told ≡ Some u → StandsAs (layout kind Two) (cells_in config) u.bytes P) → StandsSo kind (cells_in config) t.bytes P
   so_before t m P such =

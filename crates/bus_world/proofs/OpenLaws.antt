@@ -36,7 +36,7 @@ use Rattle.bus_world.proofs.AttachLaws.{kept_powered, OnlyDiskOrMemory, of_kept_
 
 -- ---- one node over a disk that is formatted
 
--- want of memory before any call of the disk
+-- out of memory before any call of the disk
 pub not_opened_none : (start : Start) (kind : Kind) (version : Version) (config : Config) (before : DiskState) → NotOpened start kind version config before before open_fault.Memory
 not_opened_none start kind version config before = record {
   runs = runs_more (start_calls start kind config) (omega arith) (runs_none before);
@@ -109,7 +109,7 @@ untold : (o : Option Told) → ((t : Told) → o ≡ Some t → ⊥) → o ≡ N
 untold None never = refl
 untold (Some t) never = absurd (never t refl)
 
--- bytes that were told were formatted, and are refused for want of memory or by the disk alone
+-- bytes that were told were formatted, and are refused only if memory is out or the disk failed
 told_alone : (kind : Kind) (version : Version) (config : Config) (before mid after : DiskState) (fault : OpenFault) → IsConfig config → IsFormatted kind version config before mid
     → AttachCauseOf kind version config mid after fault → (t : Told) → before.told ≡ Some t → OnlyDiskOrMemory fault
 told_alone kind version config before mid after fault good f cause t told =
@@ -133,7 +133,7 @@ open_cause kind version config before mid after open_fault.Memory good f cause =
 pub none_some : (o : Option Told) (t : Told) → o ≡ None → o ≡ Some t → ⊥
 none_some o t none some = cc
 
--- bytes that are formatted are refused only where they aren't told
+-- bytes that are formatted are refused only if they aren't told
 untold_moved : (kind : Kind) (version : Version) (config : Config) (before after : DiskState) (f : OpenFault) → OpenCause Format kind version config before after f
     → MovedFirst kind version config before.told after.told f
 untold_moved kind version config before after (open_fault.Store cause) untold = tt

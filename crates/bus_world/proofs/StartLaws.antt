@@ -1,4 +1,4 @@
--- A start that is refused behind some nodes that are open
+-- A start that is refused after some nodes that are open
 use Rattle.std.specs.Prelude.{◌≡◌, ℕ, suc, ◌+◌, ◌-◌, ◌<◌, ◌≤◌, false, Some, List, [], ◌∷◌, ◌++◌, length, drop, get_or}
 use Rattle.std.proofs.Common.{refl, sym, ap, ◌∙◌, subst, arith, inl, inr, length-append}
 use Rattle.std.proofs.lemmas.Bool.{cases_lt}
@@ -73,7 +73,7 @@ same_stays start bus before after i l d same =
     subst (λ (s : DiskState). StaysFound start bus.kind bus.version (get_or bus.nodes i l).config (get_or before i d) s) (sym same)
     (untouched_stays start bus.kind bus.version (get_or bus.nodes i l).config (get_or before i d))
 
--- the node at a place is refused, the ones before it were taken and didn't fail, and those behind it weren't touched
+-- the node at a place is refused, the ones before it were taken and didn't fail, and those after it weren't touched
 module _ (start : Start) (bus : NamedBus) (before after : List DiskState) (place : ℕ) (inside : place < length bus.nodes)
     (earlier : (i : ℕ) (d : DiskState) → i < place → (get_or after i d).faults ≡ (get_or before i d).faults)
     (taken : (i : ℕ) (l : NodeLine) (d : DiskState) (t : Told) → i < place → (get_or before i d).told ≡ Some t
@@ -116,7 +116,7 @@ module _ (start : Start) (bus : NamedBus) (before after : List DiskState) (place
   start_cause open_fault.TooSmall h counts moved cells = tt
   start_cause open_fault.Memory h counts moved cells = tt
 
--- want of memory of a start is that of a node
+-- out of memory of a start is that of a node
 of_memory : (n : ℕ) (cause : OpenFault) → fault_of_node n cause ≡ start_fault.Memory → cause ≡ open_fault.Memory
 of_memory n (open_fault.Store fault) is = cc is
 of_memory n (open_fault.BadSlot slot) is = cc is
@@ -136,7 +136,7 @@ as_broken start bus before after n (open_fault.BadBound place) room b = b
 as_broken start bus before after n open_fault.TooSmall room b = absurd (room refl)
 as_broken start bus before after n open_fault.Memory room b = b
 
--- want of memory is told where the disk didn't fail
+-- out of memory is told only if the disk didn't fail
 memory_counts : (cause : OpenFault) → cause ≡ open_fault.Memory → (before after : DiskState) → CountsRefusal cause before.faults after.faults → after.faults ≡ before.faults
 memory_counts cause is before after counts = subst (λ f. CountsRefusal f before.faults after.faults) is counts
 
@@ -273,7 +273,7 @@ start_refused start bus before mid after nodes fault room o is =
     subst (NotStarted start bus before after) (sym o.fault_is)
     (as_broken start bus before after (o.place + 1) o.cause (has_room start bus before mid after nodes fault room o is) (broken start bus before mid after nodes fault room o is))
 
--- want of memory before any disk was touched
+-- out of memory before any disk was touched
 pub start_unopened : (start : Start) (bus : NamedBus) (before : List DiskState) → HasRoom bus before → NotStarted start bus before before start_fault.Memory
 start_unopened start bus before room = record {
   room = room;

@@ -10,7 +10,7 @@ use Rattle.bus_machine.specs.declared.events.Event.TheVariants as event
 use Rattle.bus_machine.specs.declared.lines.Line.{Line}
 use Rattle.bus_machine.specs.Bus.{World, node_of, Step}
 use Rattle.bus_machine.specs.Past.{mark_of}
-use Rattle.store_runs.specs.KeepingLaws.{fits_store}
+use Rattle.store_keeping.specs.KeepingLaws.{fits_store}
 use Rattle.secoc_node.specs.Fits.{node_keeping}
 use Rattle.secoc_node.specs.State.{NodeState, FitsNow, TellsFitting}
 use Rattle.secoc_node.proofs.CallerLemmas.{told_before}

@@ -87,7 +87,7 @@ same_or_rose before after (open_fault.BadBound place) counts = inl counts
 same_or_rose before after open_fault.TooSmall counts = inl counts
 same_or_rose before after open_fault.Memory counts = inl counts
 
--- where nothing has changed
+-- if nothing has changed
 unformed_same : (kind : Kind) (version : Version) (config : Config) (old new : Option Told) → new ≡ old → LeavesUnformed (layout kind version) (new_cells config) old new
 unformed_same kind version config old new same b is t told x image =
     only-image (Unformed (layout kind version) (new_cells config) b) b t x (same_Some _ _ (sym told ∙ (same ∙ is))) (unformed-same (layout kind version) (new_cells config) b) image
@@ -243,7 +243,7 @@ module _ (kind : Kind) (version : Version) (config : Config) (good : IsConfig co
     }
 
     module _ (after : DiskState) (t : Told) (told : before.told ≡ Some t) where
-      -- what is left of blank bytes, where the disk failed
+      -- what is left of blank bytes, if the disk failed
       blank_failed : Rose before.faults after.faults
           → FreshOn (layout kind version) (new_cells config) t after.told ⊎ LeavesUnformed (layout kind version) (new_cells config) before.told after.told
           → TakingFailed kind version config before after t

@@ -7,14 +7,13 @@ use Rattle.bus_machine.specs.declared.lines.Refusal.TheVariants.{MemoryFailure}
 use Rattle.cut_disk.specs.declared.Torn.{Torn}
 use Rattle.cut_disk.specs.declared.Mark.TheVariants as mark
 use Rattle.cut_disk.specs.Calls.{Rose, Runs}
-use Rattle.cut_disk.specs.Images.{CutsTo}
 use Rattle.cell_store.specs.declared.faults.Reread.TheVariants as reread
-use Rattle.cell_store.specs.Cells.{CellsState, StandsNow}
-use Rattle.cell_store.specs.Reading.{CutStays}
+use Rattle.cell_store.specs.Cells.{CellsState}
+use Rattle.cell_store.specs.Reading.{CutAndRead}
 use Rattle.cut_disk.specs.CallLaws.{runs_none, runs_more}
 use Rattle.secured_pdu.specs.FrameLaws.{payload_of_secured}
 use Rattle.secured_pdu.specs.Verdict.{payload_of}
-use Rattle.bus_machine.specs.Node.{Node, powered, refused_up}
+use Rattle.bus_machine.specs.Node.{Node}
 use Rattle.bus_machine.specs.Past.{cell_count}
 use Rattle.bus_machine.specs.Sound.{Sound}
 use Rattle.freshness_routes.specs.declared.routes.Route.{Route}
@@ -26,10 +25,10 @@ use Rattle.secoc_node.specs.declared.faults.NodeFault.TheVariants as fault
 use Rattle.secoc_node.specs.declared.faults.CutFault.{CutFault}
 use Rattle.secoc_node.specs.declared.faults.CutFault.TheVariants as cut_fault
 use Rattle.secoc_node.specs.Causes.{CutCause}
-use Rattle.secoc_node.specs.Cells.{CellsOf}
+use Rattle.secoc_node.specs.Powering.{ComesUp, StaysDown}
 use Rattle.secoc_node.specs.Lines.{refusal_of_fault, refusal_of_cut, cut_line, IfLeftAlone}
 use Rattle.secoc_node.specs.State.{NodeState, FitsNow, TellsFitting}
-use Rattle.sent_lines.specs.History.{HistoryState, with_line}
+use Rattle.sent_history.specs.History.{HistoryState, with_line}
 use Rattle.bus_world.specs.Turns.{duty, duty_of, TellsFaults, LeavesAlone, NodeTurn}
 use Rattle.bus_machine.specs.Steps.{Act, sends, receives, loads, keys, boots, cuts, arms, hears_nothing, Faults, PowersUp, NodeStep}
 
@@ -157,43 +156,39 @@ told_by_cut routes (cut_fault.BadSlot slot) old new cause = cause.0.faults
 told_by_cut routes (cut_fault.BadBound place) old new cause = cause.0.faults
 
 -- a cut that brings the node up
-pub up_turn : (before after : NodeState) (torn : Torn) → (TellsFitting before → NodeStep before.node cuts Up after.node)
-    → after.node ≡ powered before.node.config after.node.kept → after.store.cells ≡ CellsOf before.node.config after.node.kept → StandsNow after.store
-    → after.store.layout ≡ before.store.layout → Runs (mark.Cut torn ∷ []) (68 + cell_count before.node) before.store.disk after.store.disk → (FitsNow before → FitsNow after)
-    → after.store.disk.faults ≡ before.store.disk.faults → CutsTo before.store.disk.told after.store.disk.told → Sound after.node
-    → CutStays torn before.store.disk after.store.disk → NodeTurn before (duty cuts (Some (mark.Cut torn))) Up after
-up_turn before after torn step up kept stands layout runs fits faults image sound stays = record {
+pub up_turn : (before after : NodeState) (torn : Torn) → (TellsFitting before → NodeStep before.node cuts Up after.node) → ComesUp before after
+    → CutAndRead torn (68 + cell_count before.node) before.store.disk after.store.disk → after.store.layout ≡ before.store.layout → (FitsNow before → FitsNow after) → Sound after.node
+    → NodeTurn before (duty cuts (Some (mark.Cut torn))) Up after
+up_turn before after torn step up cut layout fits sound = record {
   step = step;
-  of_cut = λ _. record { result = Ok tt; line_is = refl; up = up; kept = kept; stands = stands; down = tt; cause = tt };
-  config = ap (λ (n : Node). n.config) up;
+  of_cut = λ _. record { result = Ok tt; line_is = refl; up = up.up; kept = up.kept; stands = up.stands; down = tt; cause = tt };
+  config = ap (λ (n : Node). n.config) up.up;
   layout = layout;
-  runs = runs;
+  runs = cut.runs;
   fits = fits;
-  faults = faults;
-  image = image;
+  faults = up.faults;
+  image = cut.image;
   untouched = tt;
   sound = λ _. sound;
-  stays = stays;
+  stays = cut.stays;
 }
 
 -- one that leaves it down
-pub down_turn : (before after : NodeState) (torn : Torn) (f : CutFault) → (TellsFitting before → NodeStep before.node cuts (Refused (refusal_of_cut f)) after.node)
-    → after.node ≡ refused_up before.node → CutCause before.node.config.routes before.store after.store f
-    → after.store.layout ≡ before.store.layout → Runs (mark.Cut torn ∷ []) (68 + cell_count before.node) before.store.disk after.store.disk → (FitsNow before → FitsNow after)
-    → CutsTo before.store.disk.told after.store.disk.told → Sound after.node → CutStays torn before.store.disk after.store.disk
+pub down_turn : (before after : NodeState) (torn : Torn) (f : CutFault) → (TellsFitting before → NodeStep before.node cuts (Refused (refusal_of_cut f)) after.node) → StaysDown before after f
+    → CutAndRead torn (68 + cell_count before.node) before.store.disk after.store.disk → after.store.layout ≡ before.store.layout → (FitsNow before → FitsNow after) → Sound after.node
     → NodeTurn before (duty cuts (Some (mark.Cut torn))) (Refused (refusal_of_cut f)) after
-down_turn before after torn f step down cause layout runs fits image sound stays = record {
+down_turn before after torn f step down cut layout fits sound = record {
   step = step;
-  of_cut = λ _. record { result = Err f; line_is = refl; up = tt; kept = tt; stands = tt; down = down; cause = cause };
-  config = ap (λ (n : Node). n.config) down;
+  of_cut = λ _. record { result = Err f; line_is = refl; up = tt; kept = tt; stands = tt; down = down.refused; cause = down.cause };
+  config = ap (λ (n : Node). n.config) down.refused;
   layout = layout;
-  runs = runs;
+  runs = cut.runs;
   fits = fits;
-  faults = told_by_cut before.node.config.routes f before.store after.store cause;
-  image = image;
+  faults = told_by_cut before.node.config.routes f before.store after.store down.cause;
+  image = cut.image;
   untouched = tt;
   sound = λ _. sound;
-  stays = stays;
+  stays = cut.stays;
 }
 
 -- ---- what is put down of a line

@@ -8,3 +8,7 @@ pub mod StartRowLaws
 pub mod StartAnswers
 pub mod StartAnswerLaws
 pub mod RoomLaws
+pub mod NodeDisks
+pub mod WorldRuns
+pub mod WorldTurns
+pub mod TurnLaws

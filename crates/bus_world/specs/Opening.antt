@@ -43,7 +43,7 @@ pub record AttachedTo (kind : Kind) (version : Version) (config : Config) (befor
   pub grows : Grows before n.store.disk
   pub faults : n.store.disk.faults ≡ before.faults
 
--- the bytes x stand in this layout for a list of n cells of which this holds
+-- the bytes x stand in this layout for a list of n cells with this property
 pub record StandsAs (laid : Layout) (n : ℕ) (x : List ℕ) (P : List (List ℕ) → Type 0) : Type 0 where
   pub cells : List (List ℕ)
   pub count : length cells ≡ n
@@ -92,8 +92,8 @@ pub record MovedTo (kind : Kind) (config : Config) (before : DiskState) (n : Nod
   pub grows : Grows before n.store.disk
   pub faults : n.store.disk.faults ≡ before.faults
 
--- the disk failed; or told bytes have no header of the store, or the store that counts is damaged, or its cells are no
--- node's
+-- the disk failed; or told bytes have no header of the store, or the store that counts is damaged, or its cells aren't
+-- a node's
 abbrev pub MoveCauseOf : Kind → Config → DiskState → DiskState → OpenFault → Type 0
 MoveCauseOf kind config before after (open_fault.Store reread.DiskFailed) = Rose before.faults after.faults
 MoveCauseOf kind config before after (open_fault.Store reread.NotFormatted) =
@@ -108,7 +108,7 @@ MoveCauseOf kind config before after (open_fault.BadBound place) =
 MoveCauseOf kind config before after open_fault.TooSmall = ⊥
 MoveCauseOf kind config before after open_fault.Memory = Unit {0}
 
--- where the disk didn't fail, told bytes are as they were, or moved; they were moved where its cells are no node's
+-- if the disk didn't fail, told bytes are as they were, or moved; they were moved if its cells are no node's
 abbrev pub LeavesMoved : Kind → ℕ → Option Told → Option Told → OpenFault → Type 0
 LeavesMoved kind n old new (open_fault.Store reread.DiskFailed) = Unit {0}
 LeavesMoved kind n old new (open_fault.BadSlot slot) = Migrates kind n old new

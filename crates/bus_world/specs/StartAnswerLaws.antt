@@ -3,7 +3,7 @@ use Rattle.std.specs.Prelude.{◌≡◌, ◌⊎◌, ℕ, ◌+◌, ◌-◌, ◌<�
 use Rattle.std.specs.declared.alloc.Global.{Global}
 use Rattle.std.proofs.Common.{refl, sym, ap, subst, ◌∙◌, inl, inr, arith}
 use Rattle.std.proofs.lemmas.Bool.{cases_lt}
-use Rattle.answer_rows.specs.Rows.{Row, row_of, memory_row}
+use Rattle.program_edge.specs.Rows.{Row, row_of, memory_row}
 use Rattle.cut_disk.specs.State.{DiskState}
 use Rattle.cell_store.specs.declared.faults.Reread.TheVariants as reread
 use Rattle.freshness_routes.specs.Config.{Config}
@@ -35,7 +35,7 @@ others_calm start bus before after number P of i disk = elim (cases_lt i (number
   ]
 ]
 
--- where a node is refused for its bytes, none did
+-- if a node is refused for its bytes, none did
 refused_calm : (start : Start) (bus : NamedBus) (before after : List DiskState) (number : ℕ) (f : OpenFault)
     → RefusedAt start bus before after number f → (i : ℕ) (disk : DiskState)
     → (get_or after i disk).faults ≡ (get_or before i disk).faults
@@ -46,7 +46,7 @@ refused_calm start bus before after number f of i disk = elim (others_calm start
   | inr calm ↦ calm
 ]
 
--- where the text of a bus is made, none did
+-- if the text of a bus is made, none did
 made_calm : (start : Start) (bus : NamedBus) (d : DiskStates) (fault : StartFault) → length bus.nodes ≤ 8
     → NotStarted start bus d.before d.after fault → HasMadeText fault → NoDiskFailed d
 made_calm start bus d TooFew few refused made = absurd made
@@ -64,7 +64,7 @@ made_calm start bus d (BadBound node cell) few refused made =
     refused_calm start bus d.before d.after node (open_fault.BadBound cell) refused.cause
 made_calm start bus d Memory few refused made = absurd made
 
--- where there was no memory, none did
+-- if there was no memory, none did
 none_failed : (start : Start) (bus : NamedBus) (d : DiskStates) (fault : StartFault) → MayWantMemory bus fault
     → NotStarted start bus d.before d.after fault → NoDiskFailed d
 none_failed start bus d fault (inl is) refused =
@@ -123,7 +123,7 @@ module _ {D : Type 0} (state : D → DiskState) where
   pub same_known : (old new : Vec D Global) → new ≡ old → map state new.items ≡ map state old.items
   same_known old new same = ap (λ (disks : Vec D Global). map state disks.items) same
 
--- ---- where a disk's count rose, the row tells that this disk failed
+-- ---- if a disk's count rose, the row tells that this disk failed
 
 failed_at : (start : Start) (bus : NamedBus) (before after : List DiskState) (number place : ℕ)
     (P : Config → DiskState → DiskState → Type 0) → OfNumber start bus before after number P
@@ -190,7 +190,7 @@ start_status start bus d row (disks_refused fault finds same) = inl refl
 start_status start bus d row (store_refused fault room cause left) = inr (inl refl)
 start_status start bus d row (start_without_memory fault may refused calm) = inr (inr refl)
 
--- 7 is that of want of memory
+-- a row with the status 7 is that of out of memory
 pub start_memory : (start : Start) (bus : NamedBus) (d : DiskStates) (row : Row) → ComesOfStart start bus d row
     → row.status ≡ 7 → row ≡ memory_row
 start_memory start bus d row (disks_refused fault finds same) is = absurd (let no : ⊥ = omega (arith, is) in no)

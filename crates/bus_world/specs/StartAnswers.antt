@@ -1,6 +1,6 @@
 -- Why a bus doesn't start: the rows that come then, whichever program runs it
 use Rattle.std.specs.Prelude.{◌≡◌, ◌⊎◌, ℕ, ◌+◌, ◌<◌, ◌≤◌, List, length, get_or}
-use Rattle.answer_rows.specs.Rows.{Row, row_of, memory_row}
+use Rattle.program_edge.specs.Rows.{Row, row_of, memory_row}
 use Rattle.cut_disk.specs.State.{DiskState}
 use Rattle.cell_store.specs.declared.faults.Reread.TheVariants as reread
 use Rattle.bus_nodes.specs.Buses.{NamedBus}
@@ -27,14 +27,13 @@ CountsDiskFault d place = (disk : DiskState) → (get_or d.before place disk).fa
 abbrev pub failed_row : ℕ → Row
 failed_row place = start_row (fault.Store (place + 1) reread.DiskFailed)
 
--- memory may be wanting for a start itself; and for the row of a start over a bus, of 8 nodes at most, whose text is
--- made
+-- memory may be out for a start itself; and for the row of a start over a bus, of 8 nodes at most, whose text is made
 abbrev pub MayWantMemory : NamedBus → StartFault → Type 0
 MayWantMemory bus cause = (cause ≡ fault.Memory) ⊎ ((length bus.nodes ≤ 8) × HasMadeText cause)
 
 -- the rows of a bus that doesn't start
 pub data ComesOfStart (start : Start) (bus : NamedBus) (d : DiskStates) : Row → Type 0 where
-  -- the disks are fewer than the nodes, or that of a node is too small, of which the first is named
+  -- the disks are fewer than the nodes, or that of a node is too small, and the first such node is named
   disks_refused : (fault : StartFault) → FindsRoom bus d.before fault → d.after ≡ d.before
       → ComesOfStart start bus d (row_of 9 (start_row fault).text)
   -- the disk of a node fails, or a node is refused for its bytes
@@ -44,11 +43,11 @@ pub data ComesOfStart (start : Start) (bus : NamedBus) (d : DiskStates) : Row �
   start_without_memory : (fault : StartFault) → MayWantMemory bus fault → NotStarted start bus d.before d.after fault
       → NoDiskFailed d → ComesOfStart start bus d memory_row
 
--- one of them comes; where it is that of 9 every disk is as before, and `same` says so of the disks themselves
+-- one of them comes; if it is that of 9 every disk is as before, and `same` says so of the disks themselves
 abbrev pub ComesUnstarted : Type 0 → Start → NamedBus → DiskStates → Row → Type 0
 ComesUnstarted same start bus d row = ComesOfStart start bus d row × (row.status ≡ 9 → same)
 
--- there are disks enough for the bus, of enough size, and each that it takes tells bytes such as a node is started
--- over, and was quiet, or its count didn't rise
+-- there are disks enough for the bus, of enough size. Each that it takes tells bytes over which a node is started, and
+-- was quiet, or its count didn't rise
 abbrev pub BusHasDisks : Start → NamedBus → DiskStates → Type 0
 BusHasDisks start bus d = HasRoom bus d.before × DisksDo start bus d.before d.after

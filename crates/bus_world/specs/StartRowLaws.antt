@@ -5,7 +5,7 @@ use Rattle.cut_disk.specs.State.{DiskState, Told}
 use Rattle.cut_disk.specs.Arming.{no_arms}
 use Rattle.cut_disk.specs.Calls.{Rose, Runs, IsQuiet}
 use Rattle.cut_disk.specs.CallLaws.{runs_none, runs_more}
-use Rattle.fault_count.specs.FaultCount.{last_count}
+use Rattle.basics.specs.FaultCount.{last_count}
 use Rattle.cell_store.specs.declared.kinds.Kind.{Kind}
 use Rattle.cell_store.specs.declared.kinds.Version.{Version}
 use Rattle.cell_store.specs.declared.faults.Reread.TheVariants as reread
@@ -51,7 +51,7 @@ loud_at start bus before after f number broken of = record {
   later = of.later;
 }
 
--- 10 comes where a store failed, or its disk doesn't tell its bytes
+-- 10 comes only if a store failed, or its disk doesn't tell its bytes
 pub refused_at_10 : (start : Start) (bus : NamedBus) (before after : List DiskState) (f : StartFault)
     → NotStarted start bus before after f → (start_row f).status ≡ 10 → StoreCause start bus before after f
 refused_at_10 start bus before after fault.TooFew refused is = absurd (let no : ⊥ = omega (arith, is) in no)
@@ -135,7 +135,7 @@ does_not_fail n old new runs rose (inr calm) = calm rose
 pub no_disk : DiskState
 no_disk = record { size = 0; told = None; arms = no_arms; faults = 0; quiet = true; past = None }
 
--- no disk of them is refused for what it has
+-- none of these disks is refused for what it has
 able_at : (start : Start) (kind : Kind) (version : Version) (config : Config) (told : Option Told) (f : OpenFault)
     (t : Told) → told ≡ Some t
     → CanStart start kind version config t.bytes → RefusedFor start kind version config told f → ⊥
@@ -170,7 +170,7 @@ no_store_cause start bus before after fault.TooFew able cause left = cause
 no_store_cause start bus before after (fault.TooSmall node) able cause left = cause
 no_store_cause start bus before after fault.Memory able cause left = cause
 
--- where there is room, no disk is missing or too small
+-- if there is room, no disk is missing or too small
 pub no_room_fault : (bus : NamedBus) (disks : List DiskState) (f : StartFault) → HasRoom bus disks
     → FindsRoom bus disks f → ⊥
 no_room_fault bus disks fault.TooFew room finds = omega (arith, finds, room.enough)
@@ -185,7 +185,7 @@ no_room_fault bus disks (fault.BadSlot node slot) room finds = finds
 no_room_fault bus disks (fault.BadBound node cell) room finds = finds
 no_room_fault bus disks fault.Memory room finds = finds
 
--- where there is room, a start isn't refused with 9
+-- if there is room, a start isn't refused with 9
 pub room_not_9 : (start : Start) (bus : NamedBus) (before after : List DiskState) (f : StartFault)
     → HasRoom bus before → NotStarted start bus before after f → (start_row f).status ≡ 9 → ⊥
 room_not_9 start bus before after fault.TooFew room refused is = no_room_fault bus before fault.TooFew room refused.0

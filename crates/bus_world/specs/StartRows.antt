@@ -7,7 +7,7 @@ use Rattle.cell_store.specs.declared.faults.Reread.{Reread}
 use Rattle.cell_store.specs.declared.faults.Reread.TheVariants as reread
 use Rattle.cell_store.specs.Faults.{store_fault}
 use Rattle.any_cells.specs.FaultTexts.{store_fault_text}
-use Rattle.answer_rows.specs.Rows.{Row, row_of, memory_row}
+use Rattle.program_edge.specs.Rows.{Row, row_of, memory_row}
 use Rattle.bus_nodes.specs.declared.nodes.NodeLine.{NodeLine}
 use Rattle.bus_nodes.specs.Buses.{NamedBus}
 use Rattle.bus_world.specs.declared.start.StartFault.{StartFault}
@@ -26,7 +26,7 @@ use Rattle.bus_world.specs.Starts.{start_calls, LeftOver, LeavesDisk, StaysFound
 abbrev pub reread_text : Reread → List ℕ
 reread_text cause = store_fault_text (store_fault cause) ++ codes "\n"
 
--- 9 where the disks aren't such as the bus needs, 10 where a store fails, and want of memory; a node is told by its
+-- 9 if the disks aren't such as the bus needs, 10 if a store fails, and out of memory; the text names a node by its
 -- number, from 1
 abbrev pub start_row : StartFault → Row
 start_row fault.TooFew = row_of 9 (codes "disks: too few\n")
@@ -43,7 +43,7 @@ start_row fault.Memory = memory_row
 abbrev pub IsOfNoBus : ℕ → Type 0
 IsOfNoBus number = (number < 1) ⊎ (8 < number)
 
--- The text of its row is made as it is told, and takes memory: it tells what is wrong in a node's cells, or names a
+-- The text of its row is made when it is printed, and takes memory: it says what is wrong in a node's cells, or names a
 -- node that no bus has. All others are fixed, those of a failing disk among them.
 abbrev pub HasMadeText : StartFault → Type 0
 HasMadeText fault.TooFew = ⊥
@@ -55,7 +55,7 @@ HasMadeText (fault.BadSlot node slot) = Unit {0}
 HasMadeText (fault.BadBound node cell) = Unit {0}
 HasMadeText fault.Memory = ⊥
 
--- that row; or want of memory, where its text is made
+-- that row; or out of memory, if its text is made
 abbrev pub IsStartRow : StartFault → Row → Type 0
 IsStartRow fault row = (row ≡ start_row fault) ⊎ (HasMadeText fault × (row ≡ memory_row))
 
@@ -72,8 +72,8 @@ StoreCause start bus before after (fault.BadBound number cell) =
     RefusedAt start bus before after number (open_fault.BadBound cell)
 StoreCause start bus before after fault = ⊥
 
--- only calls without a mark were made of the disk of each node, so it tells its bytes where it told them; it is left as
--- this start leaves a disk where it is refused; the others are as before
+-- only calls without a mark were made of the disk of each node, so it tells its bytes if it told them; it is left as
+-- this start leaves a disk if it is refused; the others are as before
 pub record LeavesEach (start : Start) (bus : NamedBus) (before after : List DiskState) : Type 0 where
   pub count : length after ≡ length before
   pub each : (i : ℕ) (l : NodeLine) (d : DiskState) → i < length bus.nodes
@@ -85,7 +85,7 @@ pub record LeavesEach (start : Start) (bus : NamedBus) (before after : List Disk
   pub stays : (i : ℕ) (l : NodeLine) (d : DiskState) → i < length bus.nodes
       → StaysFound start bus.kind bus.version (get_or bus.nodes i l).config (get_or before i d) (get_or after i d)
 
--- told bytes are such as a node is started over: any where they are formatted
+-- told bytes are such as a node is started over: any if they are formatted
 abbrev pub CanStart : Start → Kind → Version → Config → List ℕ → Type 0
 CanStart Format kind version config x = Unit {0}
 CanStart Attach kind version config x = (kept : Kept) × KeptOn Attach kind version config x kept

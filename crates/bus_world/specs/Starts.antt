@@ -27,13 +27,13 @@ use Rattle.bus_world.specs.Worlds.{BusState}
 
 -- ---- one node
 
--- told bytes fit the node: always where the disk was formatted, and where it was attached, if no told byte was loose
+-- told bytes fit the node: always if the disk was formatted, and if it was attached, if no told byte was loose
 abbrev pub FitsOpened : Start → DiskState → NodeState → Type 0
 FitsOpened Format before n = FitsNow n
 FitsOpened Attach before n = (b : List ℕ) → before.told ≡ Some (firm b) → FitsNow n
 
--- A node is open over a disk: it has just powered up and is sound, and where the disk told its bytes, what it keeps is
--- what a node keeps that is started over them. No mark was added to a past, and at least one entry was.
+-- A node is open over a disk: it has just powered up and is sound. If the disk told its bytes, the node keeps what a
+-- node keeps that is started over them. No mark was added to a past, and at least one entry was.
 pub record Opened (start : Start) (kind : Kind) (version : Version) (config : Config) (before : DiskState)
     (n : NodeState) : Type 0 where
   pub just_powered : n.node ≡ powered config n.node.kept
@@ -89,9 +89,9 @@ pub record Started (start : Start) (bus : NamedBus) (most : ℕ) (before : List 
   pub most_is : world.most ≡ most
   pub nothing_sent : world.sent ≡ []
 
--- The number, from 1, is that of the node of the bus whose start was refused, and this holds of its configuration and
--- of its disk before and after. Each node before it was taken: its disk didn't fail, and told bytes are such as a node
--- is started over. The disks behind it are as before.
+-- The number, from 1, is that of the node whose start was refused. This holds of its configuration and of its disk
+-- before and after. Each node before it was taken: its disk didn't fail, and told bytes are such as a node is started
+-- over. The disks after it are as before.
 pub record OfNumber (start : Start) (bus : NamedBus) (before after : List DiskState) (number : ℕ)
     (P : Config → DiskState → DiskState → Type 0) : Type 0 where
   pub least : 1 ≤ number
@@ -103,9 +103,9 @@ pub record OfNumber (start : Start) (bus : NamedBus) (before after : List DiskSt
       → (kept : Kept) × KeptOn start bus.kind bus.version (get_or bus.nodes i l).config t.bytes kept
   pub later : (i : ℕ) (d : DiskState) → number ≤ i → get_or after i d ≡ get_or before i d
 
--- The node of this number is refused for the bytes of its disk, whose count of faults is as it was; a store in version
--- 1 was moved before its cells were looked at. Over a disk that doesn't tell its bytes a cell that is named is one of a
--- slot or of a bound, and no more is said of it.
+-- The node of this number is refused for the bytes of its disk, whose count of faults is as it was. A store in version
+-- 1 was moved before its cells were looked at. Of a cell named over a disk that doesn't tell its bytes this says only
+-- that it is one of a slot or of a bound.
 abbrev pub RefusedAt : Start → NamedBus → List DiskState → List DiskState → ℕ → OpenFault → Type 0
 RefusedAt start bus before after number fault = OfNumber start bus before after number
     (λ config old new. RefusedFor start bus.kind bus.version config old.told fault × (new.faults ≡ old.faults)
@@ -167,7 +167,7 @@ fault_of_node number (open_fault.BadBound cell) = start_fault.BadBound number ce
 fault_of_node number open_fault.TooSmall = start_fault.TooSmall number
 fault_of_node number open_fault.Memory = start_fault.Memory
 
--- the node behind the first k isn't open: its disk stands first again
+-- the node after the first k isn't open: its disk stands first again
 pub record OpensTo (start : Start) (bus : NamedBus) (before after : List DiskState) (nodes : List NodeState)
     (fault : StartFault) : Type 0 where
   pub place : ℕ
@@ -182,8 +182,8 @@ pub record OpensTo (start : Start) (bus : NamedBus) (before after : List DiskSta
 
 -- ---- where a bus goes on
 
--- a node of the machine that is started over a disk: it has just powered up, and where the disk tells its bytes, what
--- it keeps is what a node keeps that is attached to them
+-- a node of the machine that is started over a disk: it has just powered up, and if the disk tells its bytes, what it
+-- keeps is what a node keeps that is attached to them
 pub record NodeGoesOn (kind : Kind) (version : Version) (config : Config) (disk : DiskState) (node : Node)
     : Type 0 where
   pub just_powered : node ≡ powered config node.kept

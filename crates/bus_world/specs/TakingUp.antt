@@ -42,8 +42,8 @@ start_calls Attach kind config = 2 + (move_calls kind (cells_in config) + reads 
 abbrev pub HasNodeStore : Kind → Version → ℕ → List ℕ → Type 0
 HasNodeStore kind version n x = IsFound kind version n x found.Standing ⊎ IsFound kind version n x found.Older
 
--- A formatted disk is a new node's. One that is attached is a new node's where its bytes are blank, and where they have
--- the node's store it is that of the node whose cells the store stands for.
+-- A formatted disk is a new node's. So is an attached one if its bytes are blank. If they have the node's store, it is
+-- that of the node whose cells the store stands for.
 abbrev pub KeptAs : Start → Kind → Version → Config → List ℕ → Kept → Type 0
 KeptAs Format kind version config x kept = kept ≡ (first_node config).kept
 KeptAs Attach kind version config x kept =
@@ -85,7 +85,7 @@ pub record MovedOver (kind : Kind) (version : Version) (n : ℕ) (t : Told) (new
   pub stood : StandsAsCounted kind cells t.bytes
   pub images : EachImage new (StandsInTwo kind cells)
 
--- the count of faults rose: bytes that stand as they should, or are foreign, are as they were, and those of a store in
+-- the count of faults rose. Bytes that stand as they should, or are foreign, are as they were. Those of a store in
 -- version 1 still stand for its cells in the version that counts
 pub record FailedOver (kind : Kind) (version : Version) (n : ℕ) (before after : DiskState) (t : Told) : Type 0 where
   pub rose : Rose before.faults after.faults
@@ -112,15 +112,15 @@ LeftOver Format kind version config before after =
 LeftOver Attach kind version config before after =
     SameOrRose before after × ((t : Told) → before.told ≡ Some t → LeftTaken kind version config before after t)
 
--- the disk failed while it was formatted: its count of faults rose within the calls of a format, and whatever a power
--- cut leaves of it is what one that failed may leave
+-- the disk failed while it was formatted: its count of faults rose within the calls of a format. Whatever a power cut
+-- leaves of it, a failed format may leave
 pub record FormatFailed (kind : Kind) (version : Version) (config : Config) (before after : DiskState) : Type 0 where
   pub rose : Rose before.faults after.faults
   pub runs : Runs [] (format_calls kind (cells_in config)) before after
   pub unformed : LeavesUnformed (layout kind version) (new_cells config) before.told after.told
 
--- the disk failed: blank bytes were formatted, or are what a format that failed may leave, and of the store in version
--- 1 all bytes but those of version 2 are as they were
+-- the disk failed: blank bytes were formatted, or are what a failed format may leave. Of a store in version 1 all bytes
+-- but those of version 2 are as they were
 pub record TakingFailed (kind : Kind) (version : Version) (config : Config) (before after : DiskState) (t : Told)
     : Type 0 where
   pub failed : FailedOver kind version (cells_in config) before after t
@@ -154,15 +154,15 @@ StaysFound Attach kind version config before after =
 
 -- ---- why a node isn't opened
 
--- the store that counts in the bytes x stands for a list of n cells of which this holds
+-- the store that counts in the bytes x stands for a list of n cells with this property
 pub record StandsSo (kind : Kind) (n : ℕ) (x : List ℕ) (P : List (List ℕ) → Type 0) : Type 0 where
   pub cells : List (List ℕ)
   pub count : length cells ≡ n
   pub stands : StandsAsCounted kind cells x
   pub such : P cells
 
--- why bytes are no node's: they are foreign; or the store that counts is damaged, first where this number says; or the
--- lowest of its cells that isn't a slot or a bound of the node is this one
+-- why bytes are no node's: they are foreign; or the store that counts is damaged, and this number says where first; or
+-- the lowest of its cells that isn't a slot or a bound of the node is this one
 abbrev pub NoNodes : Kind → Version → Config → List ℕ → OpenFault → Type 0
 NoNodes kind version config x (open_fault.Store reread.DiskFailed) = ⊥
 NoNodes kind version config x (open_fault.Store reread.NotFormatted) =
@@ -182,8 +182,8 @@ pub record NoNodeOn (kind : Kind) (version : Version) (config : Config) (x : Lis
   pub why : NoNodes kind version config x fault
   pub none : (kept : Kept) → KeptOn Attach kind version config x kept → ⊥
 
--- a disk that is formatted is refused for its bytes only where it doesn't tell them; one that is attached, where told
--- bytes are no node's
+-- a disk that is formatted is refused for its bytes only if it doesn't tell them; one that is attached, if told bytes
+-- are no node's
 abbrev pub RefusedFor : Start → Kind → Version → Config → Option Told → OpenFault → Type 0
 RefusedFor Format kind version config told fault = told ≡ None
 RefusedFor Attach kind version config told fault =
@@ -219,7 +219,7 @@ CellsAtFault config (open_fault.BadBound place) =
     SomeCells (cells_in config) (λ cells. SlotsButNoBound config.routes cells place)
 CellsAtFault config fault = Unit {0}
 
--- the count of faults rose where a refusal tells that the disk failed; else it is as it was
+-- the count of faults rose if a refusal tells that the disk failed; else it is as it was
 abbrev pub CountsRefusal : OpenFault → ℕ → ℕ → Type 0
 CountsRefusal (open_fault.Store reread.DiskFailed) before after = Rose before after
 CountsRefusal fault before after = after ≡ before

@@ -23,7 +23,7 @@ use Rattle.bus_machine.specs.Sound.{Sound}
 use Rattle.bus_machine.specs.Honest.{IsInTime, IsHeard}
 use Rattle.freshness_routes.specs.declared.routes.Direction.TheVariants.{Receives}
 use Rattle.secure_boot.specs.Booting.{IsImage}
-use Rattle.sent_lines.specs.History.{has_values}
+use Rattle.sent_history.specs.History.{has_values}
 use Rattle.secoc_node.specs.declared.faults.CutFault.{CutFault}
 use Rattle.secoc_node.specs.Causes.{CutCause}
 use Rattle.secoc_node.specs.Cells.{CellsOf}
@@ -53,8 +53,8 @@ abbrev pub IsCertain : Option Mark → NodeState → Type 0
 IsCertain (Some (mark.Cut torn)) s = TellsFitting s
 IsCertain _ s = Unit {0}
 
--- what a cut leads to over a disk of any kind: the node is up with what its store's cells keep, and bytes that are told
--- stand for these; or it is down, as the disk failed or for a cause that such bytes show
+-- what a cut leads to over a disk of any kind. The node is up with what its store's cells keep, and told bytes stand
+-- for these. Or it is down, as the disk failed or for a cause that told bytes show
 pub record AnswersCut (before : NodeState) (line : Line) (after : NodeState) : Type 0 where
   pub result : Result (Unit {0}) CutFault
   pub line_is : line ≡ cut_line result
@@ -64,7 +64,7 @@ pub record AnswersCut (before : NodeState) (line : Line) (after : NodeState) : T
   pub down : OnErr result (after.node ≡ refused_up before.node)
   pub cause : IfErr result (CutCause before.node.config.routes before.store after.store)
 
--- a count of faults rose where the line tells that the disk failed; else it is as it was
+-- a count of faults rose if the line tells that the disk failed; else it is as it was
 abbrev pub TellsFaults : Line → ℕ → ℕ → Type 0
 TellsFaults (Refused MemoryFailure) before after = Rose before after
 TellsFaults _ before after = after ≡ before
@@ -82,19 +82,19 @@ NamesSourceIn lines (Accepted id v payload source) =
     source ≡ option_map (λ s. s.number) (find (has_values id payload v) lines)
 NamesSourceIn lines _ = Unit {0}
 
--- a power cut leaves of bytes that are told one list that it was allowed to leave, and no write comes behind it
+-- a power cut leaves of told bytes one list that it was allowed to leave, and no write comes after it
 abbrev pub LeavesCut : Option Mark → DiskState → DiskState → Type 0
 LeavesCut (Some (mark.Cut torn)) before after = CutsTo before.told after.told
 LeavesCut _ before after = Unit {0}
 
--- and each entry that a told past got behind the cut's has what the cut left: nothing else is written first and taken
+-- and each entry that a told past got after the cut's has what the cut left: nothing else is written first and taken
 -- back
 abbrev pub StaysBehind : Option Mark → DiskState → DiskState → Type 0
 StaysBehind (Some (mark.Cut torn)) before after = CutStays torn before after
 StaysBehind _ before after = Unit {0}
 
--- a line that tells that nothing was done, though the disk didn't fail and no power was cut, leaves the node, its store
--- and its disk as they were
+-- if a line tells that nothing was done, the disk didn't fail and no power was cut, the node, its store and its disk
+-- are as they were
 abbrev pub LeavesAlone : Option Mark → Line → NodeState → NodeState → Type 0
 LeavesAlone (Some mark) line before after = Unit {0}
 LeavesAlone None FreshnessFailure before after = after ≡ before

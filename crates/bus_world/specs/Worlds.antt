@@ -4,7 +4,7 @@ use Rattle.machine_runs.specs.Members.{MemberSteps}
 use Rattle.machine_runs.specs.Run.{Moment, Run, seen_as}
 use Rattle.bus_machine.specs.declared.events.Event.{Event}
 use Rattle.bus_machine.specs.declared.lines.Line.{Line}
-use Rattle.bus_texts.specs.LineKinds.{IsLine}
+use Rattle.bus_script.specs.LineKinds.{IsLine}
 use Rattle.bus_machine.specs.Bus.{World, SentLine, node_of, NamesSource, sent_after, Step, SoundBus}
 use Rattle.bus_machine.specs.Past.{mark_of}
 use Rattle.bus_machine.specs.Node.{place_of}
@@ -73,8 +73,8 @@ NodeHears before event line =
 abbrev pub EachFits : BusState → Type 0
 EachFits s = (i : ℕ) (n : NodeState) → slice_get s.nodes i ≡ Some n → TellsFitting n
 
--- a turn is the machine's step: always where the event is no cut, and where it is one, over a disk that tells its bytes
--- and fits its node
+-- a turn is the machine's step: always if the event is no cut, and if it is one, over a disk that tells its bytes and
+-- fits its node
 abbrev pub TurnsAreSteps : Type 0
 TurnsAreSteps = (before : BusState) (event : Event) (line : Line) (after : BusState) → BusTurn before event line after
     → ((n : NodeState) → slice_get before.nodes (node_of event) ≡ Some n → IsCertain (mark_of event) n)
@@ -86,7 +86,7 @@ TurnsAreRuns = (start now : BusState) (moments : List (Moment Event Line BusStat
     → Run BusTurn start moments now
     → Run Step (world_of start) (seen_as (λ event. event) world_of moments) (world_of now) × EachFits now
 
--- a turn leaves each node sound, whatever its disk tells, where each was: so do all turns of a world
+-- a turn leaves each node sound, whatever its disk tells, if each was: so do all turns of a world
 abbrev pub TurnsKeepSound : Type 0
 TurnsKeepSound = (start now : BusState) (moments : List (Moment Event Line BusState)) → SoundBus (world_of start)
     → Run BusTurn start moments now → SoundBus (world_of now)

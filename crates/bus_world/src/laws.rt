@@ -1,8 +1,8 @@
 //! What holds of the turns of worlds: each function has an empty body, and its contract is the law.
 ghost use Rattle.bus_world.specs.Worlds.{TurnsAreSteps, TurnsAreRuns, TurnsKeepSound};
 
-/// A turn is the machine's step: always where the event is no cut, and where it is one, over a disk that tells its
-/// bytes and fits its node.
+/// A turn is the machine's step: always if the event is no cut, and if it is one, over a disk that tells its bytes and
+/// fits its node.
 pub fn turns_are_steps()
     ensures { TurnsAreSteps }
 {}

@@ -21,11 +21,11 @@ use std::alloc::Global;
 /// Why a node isn't opened over its disk.
 #[derive(Clone, Copy, Debug, PartialEq, Eq, Drop)]
 pub(crate) enum OpenFault {
-    /// The store isn't written or moved, or what stands on the disk isn't read, or is no store of this node.
+    /// The store isn't written or moved, or what stands on the disk isn't read, or isn't a store of this node.
     Store(Reread),
     /// What was read has no slot in this slot's cell.
     BadSlot(SlotId),
-    /// What was read has no bound of its route in this cell.
+    /// What was read doesn't have the bound of its route in this cell.
     BadBound(u16),
     /// The disk has fewer bytes than the store needs.
     TooSmall,
@@ -195,8 +195,8 @@ fn attach_fault(fault: &AttachFault) -> OpenFault
     }
 }
 
-/// Gives the disks of these nodes back at the front of the list, in their order. There is room for them, and it takes
-/// no memory.
+/// Gives the disks of these nodes back at the beginning of the list, in their order. There is room for them, and it
+/// takes no memory.
 pub fn close_nodes<D: CutDisk>(nodes: Vec<Node<AnyCells<D>>>, disks: &mut Vec<D>)
     requires { vec_len disks.old + vec_len nodes ≤ vec_capacity disks.old }
     ensures { map D.state disks.new.items ≡ disks_of nodes.items ++ map D.state disks.old.items }

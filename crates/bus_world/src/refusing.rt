@@ -1,20 +1,21 @@
 //! The rows of a program's answers for a start that is refused.
 ghost use Rattle.std.specs.Prelude.{◌≡◌, ◌⊎◌, ◌++◌, codes, IfSome, IfNone, IfOk, MatchResult, string_bytes};
 ghost use Rattle.std.specs.Fmt.{decimal};
-ghost use Rattle.answer_rows.specs.Rows.{row_of, memory_row};
+ghost use Rattle.program_edge.specs.Rows.{row_of, memory_row};
 ghost use Rattle.cell_store.specs.declared.faults.Reread.TheVariants.{DiskFailed, NotFormatted};
 ghost use Rattle.bus_world.specs.declared.start.StartFault.TheVariants.{TooSmall, Store, BadSlot, BadBound};
 ghost use Rattle.bus_world.specs.StartRows.{start_row, reread_text, IsOfNoBus, IsStartRow};
 
 use crate::start::StartFault;
-use answer_rows::Refusal;
 use any_cells::{fixed_fault_text, store_fault_text};
 use cell_store::{Reread, StoreFault};
+use program_edge::Refusal;
 use std::alloc::{AllocError, Global};
 
-/// The refusal of a start that is refused: 9 and its text where the disks aren't such as the bus needs, 10 and its text
-/// where a store fails; and want of memory, also for a text that is made. The texts of a disk that failed, has no store
-/// of its node or is too small are fixed for the nodes of a bus, 1 to 8, so that telling them takes no memory.
+/// The refusal of a start that is refused. It is 9 and its text if the disks aren't such as the bus needs, and 10 and
+/// its text if a store fails. It is 7 if the start was out of memory, or if memory is out for a text that is made. For
+/// the nodes of a bus, 1 to 8, the texts of a disk that failed, has no store of its node or is too small are fixed.
+/// Printing them takes no memory.
 pub fn start_refusal(alloc: Global, fault: &StartFault) -> Refusal
     ensures { IsStartRow fault.now result }
 {
@@ -28,7 +29,7 @@ pub fn start_refusal(alloc: Global, fault: &StartFault) -> Refusal
     }
 }
 
-/// The refusal with a text that is made, or want of memory.
+/// The refusal with a text that is made, or out of memory.
 fn made(status: u8, text: Result<String, AllocError>) -> Refusal
     ensures { MatchResult text (λ made. result ≡ row_of status (string_bytes made)) (λ _. result ≡ memory_row) }
 {
@@ -117,7 +118,7 @@ fn slot_text(alloc: Global, node: u8, slot: u8) -> Result<String, AllocError>
     format!(in alloc; "store: node {node}: BadSlot {slot}\n")
 }
 
-/// The text of a cell that has no bound of its route.
+/// The text of a cell that doesn't have the bound of its route.
 fn bound_text(alloc: Global, node: u8, cell: u16) -> Result<String, AllocError>
     ensures { IfOk result (λ text. string_bytes text
         ≡ codes "store: node " ++ (decimal node ++ (codes ": BadBound " ++ (decimal cell ++ codes "\n")))) }

@@ -18,7 +18,7 @@ use cut_disk::CutDisk;
 use freshness_routes::NodeConfig;
 use key_slots::SlotId;
 use secoc_node::Node;
-use sent_lines::History;
+use sent_history::History;
 use std::alloc::Global;
 
 /// What a world makes of its disks when it starts.
@@ -27,23 +27,23 @@ pub enum Start {
     /// Each disk is formatted with the first cells of its node.
     Format,
     /// Each node goes on where its disk stands. A disk that is blank is formatted. A store of the node is attached; one
-    /// in version 1 is first moved to version 2, where the bus has that. Anything else is refused, and isn't written.
+    /// in version 1 is first moved to version 2, if the bus has that. Anything else is refused, and isn't written.
     Attach,
 }
 
-/// Why a world doesn't start. A node is told by its number, counted from 1.
+/// Why a world doesn't start. A node has its number, counted from 1.
 #[derive(Clone, Copy, Debug, PartialEq, Eq, Drop)]
 pub enum StartFault {
     /// There are fewer disks than nodes.
     TooFew,
     /// The disk of this node has fewer bytes than its store needs.
     TooSmall(u8),
-    /// The store of this node isn't written or moved, or what stands on its disk isn't read, or is no store of the
+    /// The store of this node isn't written or moved, or what stands on its disk isn't read, or isn't a store of the
     /// node.
     Store(u8, Reread),
     /// What was read from this node's disk has no slot in this slot's cell.
     BadSlot(u8, SlotId),
-    /// What was read from this node's disk has no bound of its route in this cell.
+    /// What was read from this node's disk doesn't have the bound of its route in this cell.
     BadBound(u8, u16),
     /// There was no memory.
     Memory,
@@ -57,11 +57,11 @@ impl<D: CutDisk> World<D> {
     ghost use Rattle.bus_world.specs.StartRows.{start_row};
     ghost use Rattle.bus_world.specs.Worlds.{world_of};
 
-    /// The first world of a bus, over one disk a node from the front of `disks`, with room for the lines of so many
+    /// The first world of a bus, over one disk a node from the beginning of `disks`, with room for the lines of so many
     /// events.
     ///
     /// Numbers and sizes of the disks decide first: `TooFew`, and `TooSmall` with the first such node, come before any
-    /// call of a disk, also where there is no memory for these lines. Then node after node is opened, as the start says
+    /// call of a disk, also if there is no memory for these lines. Then node after node is opened, as the start says
     /// ([`open_nodes`]); a store that is moved is moved before its cells are looked at. After a refusal all disks are
     /// back in `disks`, in their order. After `Ok` there is room in `disks` for those that were taken.
     pub fn start(
@@ -89,7 +89,7 @@ impl<D: CutDisk> World<D> {
         }
     }
 
-    /// The disks are back at the front of `disks`, in their order. It takes no memory.
+    /// The disks are back at the beginning of `disks`, in their order. It takes no memory.
     pub fn finish(self, disks: &mut Vec<D>)
         requires { vec_len disks.old + length self.nodes ≤ vec_capacity disks.old }
         ensures { map D.state disks.new.items ≡ disks_of self.nodes ++ map D.state disks.old.items }
@@ -99,9 +99,9 @@ impl<D: CutDisk> World<D> {
     }
 }
 
-/// The nodes of a bus, each opened over a disk from the front of `disks` as the start says; a world has them with its
-/// records. `TooFew` and `TooSmall` come before any call of a disk. After a refusal all disks are back in `disks`, in
-/// their order. After `Ok` there is room in `disks` for those that were taken; [`close_nodes`] puts them back.
+/// The nodes of a bus, each opened over a disk from the beginning of `disks` as the start says. A world has them with
+/// its records. `TooFew` and `TooSmall` come before any call of a disk. After a refusal all disks are back in `disks`,
+/// in their order. After `Ok` there is room in `disks` for those that were taken; [`close_nodes`] puts them back.
 pub fn open_nodes<D: CutDisk>(
     alloc: Global,
     bus: &BusConfig,
@@ -122,7 +122,7 @@ pub fn open_nodes<D: CutDisk>(
     }
 }
 
-/// Why a world isn't started for whose lines there is no memory: missing and small disks are told before that.
+/// Why a world isn't started if there is no memory for its lines: missing and small disks are refused before that.
 fn without_records<D: CutDisk>(bus: &BusConfig, disks: &[D]) -> StartFault
     ensures { (start : Start) → NotStarted start bus.now (map D.state disks.now) (map D.state disks.now) result }
 {
@@ -132,7 +132,7 @@ fn without_records<D: CutDisk>(bus: &BusConfig, disks: &[D]) -> StartFault
     }
 }
 
-/// The same where there is room on the disks.
+/// The same if there is room on the disks.
 fn open_in_room<D: CutDisk>(
     alloc: Global,
     bus: &BusConfig,

@@ -9,17 +9,17 @@ ghost use Rattle.cut_disk.specs.State.{Cut, Stop, Fail};
 ghost use Rattle.secure_boot.specs.Booting.{IsImage};
 ghost use Rattle.bus_machine.specs.Steps.{sends, receives, loads, keys, boots, cuts, arms};
 ghost use Rattle.secoc_node.specs.Lines.{refusal_of_fault, refusal_of_cut};
-ghost use Rattle.sent_lines.specs.History.{has_values, frame_in};
+ghost use Rattle.sent_history.specs.History.{has_values, frame_in};
 ghost use Rattle.bus_world.specs.Turns.{NodeTurn, duty, duty_of, CanBeDone, NamesSourceIn, HearsPdu};
 ghost use Rattle.bus_world.specs.Turns.{HearsBrought};
 
+use basics::{Block, Pdu};
 use bus_machine::{Event, Line, Refusal};
-use byte_lists::{Block, Pdu};
 use cell_store::{Cells, CutCells, Reread};
 use cut_disk::Torn;
 use memory_update::{Request, Update, build};
 use secoc_node::{CutFault, Node, NodeFault, Reception};
-use sent_lines::{Frame, History};
+use sent_history::{Frame, History};
 
 /// The place of the event's node in the bus.
 pub(crate) fn node_of(event: &Event) -> u8
@@ -38,7 +38,7 @@ pub(crate) fn node_of(event: &Event) -> u8
     }
 }
 
-/// What an event is for a node alone, on a bus where nothing was sent: the node does what the event tells it, and an
+/// What an event is for a node alone, on a bus on which nothing was sent: the node does what the event tells it, and an
 /// accepted line is from none. It takes no memory.
 pub fn own_turn<C: CutCells>(node: &mut Node<C>, event: &Event) -> Line
     requires { CanBeDone event.now }

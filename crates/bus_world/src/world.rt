@@ -4,19 +4,19 @@ ghost use Rattle.std.specs.Prelude.{◌≡◌};
 use crate::turns::{node_of, take_turn};
 use any_cells::AnyCells;
 use bus_machine::{Event, Line};
-use bus_texts::every_line_is_one;
+use bus_script::every_line_is_one;
 use cut_disk::CutDisk;
-use numbered_run::Machine;
+use run_driver::Machine;
 use secoc_node::Node;
-use sent_lines::History;
+use sent_history::History;
 use std::marker::Model;
 
 /// The nodes of a bus over their disks, and the lines that were sent on it. Contracts see the states of the nodes and
 /// their disks, how many events there were and may be, and the lines that were sent. Each node is always sound, also
 /// over a disk that doesn't tell its bytes.
 ///
-/// A step takes no memory. It finds the line that a `deliver` names by halving, and the event that sent what is
-/// accepted along links, of which few are needed (measured, and no clause).
+/// A step takes no memory. It finds the line that a `deliver` names by halving. It finds the event that sent what is
+/// accepted along few links: that there are few is measured, and no clause says it.
 #[derive(Drop)]
 pub struct World<D: CutDisk> {
     pub(crate) nodes: Vec<Node<AnyCells<D>>>,

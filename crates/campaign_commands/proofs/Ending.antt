@@ -2,15 +2,15 @@
 use Rattle.std.proofs.Common.{◌≡◌, ◌≤◌, ℕ, List, ◌∷◌, get_or, refl, inl, inr, ap, sym, subst, ◌∙◌, arith}
 use Rattle.std.specs.Prelude.{◌⊎◌, drop, length, Some, Result, Ok, Err, Vec}
 use Rattle.std.specs.declared.alloc.Global.{Global}
-use Rattle.command_edge.specs.declared.input.InputFault.TheVariants as input
+use Rattle.program_edge.specs.declared.input.InputFault.TheVariants as input
 use Rattle.cell_store.specs.declared.faults.StoreFault.TheVariants as store
-use Rattle.answer_rows.specs.Rows.{Row, row_of, memory_row}
-use Rattle.answer_rows.specs.Inputs.{ReadsWhole}
-use Rattle.answer_rows.specs.InputLaws.{Lacks-whole}
-use Rattle.answer_rows.specs.Endings.{Ending}
-use Rattle.answer_rows.specs.EndingLaws.{EndsInRow-more}
+use Rattle.program_edge.specs.Rows.{Row, row_of, memory_row}
+use Rattle.program_edge.specs.Inputs.{ReadsWhole}
+use Rattle.program_edge.specs.InputLaws.{Lacks-whole}
+use Rattle.program_edge.specs.Endings.{Ending}
+use Rattle.program_edge.specs.EndingLaws.{EndsInRow-more}
 use Rattle.cut_disk.specs.State.{DiskState}
-use Rattle.campaign_machine.specs.declared.commands.LedgerCommand.{LedgerCommand}
+use Rattle.key_campaign.specs.declared.commands.LedgerCommand.{LedgerCommand}
 use Rattle.campaign_commands.specs.declared.opening.NoLedgerCause.{NoLedgerCause}
 use Rattle.campaign_commands.specs.declared.opening.NoLedgerCause.TheVariants.{Store, BadEntry}
 use Rattle.campaign_commands.specs.Opening.{LacksLedger, ledger_size}
@@ -77,7 +77,7 @@ room_of : (disks : List DiskState) (first : DiskState) (rest : List DiskState) �
 room_of disks first rest has is =
     subst (λ (s : DiskState). ledger_size ≤ s.size) (ap (λ (ds : List DiskState). get_or ds 0 first) (sym has.are ∙ is)) has.room
 
--- where a disk is wanting, the row is of the table
+-- if a disk is missing or too small, the row is of the table
 lacks_comes : (same : Type 0) (i : CampaignInputs) (d : CampaignDisks) (commands : List LedgerCommand) → HasCommands i commands → same → d.after ≡ d.before
     → (row : Row) → LacksDisk d.before row → ComesBefore same i d row
 lacks_comes same i d commands has as_before unchanged row (no_disk empty) = too_few commands has as_before empty

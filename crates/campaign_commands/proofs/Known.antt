@@ -1,8 +1,8 @@
 -- What is promised of the disks themselves holds of what is known of them
 use Rattle.std.specs.Prelude.{◌≡◌}
-use Rattle.answer_rows.specs.Rows.{Row}
-use Rattle.answer_rows.specs.Endings.{Ending}
-use Rattle.answer_rows.specs.EndingLaws.{EndsInRow-more}
+use Rattle.program_edge.specs.Rows.{Row}
+use Rattle.program_edge.specs.Endings.{Ending}
+use Rattle.program_edge.specs.EndingLaws.{EndsInRow-more}
 use Rattle.campaign_commands.specs.Rows.{CampaignInputs, CampaignDisks, ComesBefore, no_form, no_commands, bad_line, too_few, too_small, no_ledger, no_memory_to_open, EndsCampaign, in_row, campaigned}
 use Rattle.campaign_commands.specs.Campaigns.{RunsCampaign}
 use Rattle.campaign_commands.specs.Examples.{Campaigns}

@@ -1,3 +1,6 @@
+pub mod NoWords
+pub mod CommandValues
+pub mod Added
 pub mod Turning
 pub mod OneRun
 pub mod Opened
@@ -8,4 +11,4 @@ pub mod Ending
 pub mod WholeExample
 pub mod Looked
 pub mod Known
-pub mod CallerLemmas
+pub mod WantsMemory

@@ -1,7 +1,7 @@
 -- What a look at the first disk finds
 use Rattle.std.proofs.Common.{◌≡◌, ◌<◌, ◌≤◌, List, [], ◌∷◌, length, get_or, map, refl, sym, subst, arith}
 use Rattle.std.specs.Prelude.{Result, Ok, Err, MatchResult}
-use Rattle.answer_rows.specs.Rows.{Row, row_of}
+use Rattle.program_edge.specs.Rows.{Row, row_of}
 use Rattle.cut_disk.specs.State.{DiskState}
 use Rattle.campaign_commands.specs.Opening.{ledger_size}
 use Rattle.campaign_commands.specs.Rows.{too_few_text, too_small_text}

@@ -4,25 +4,27 @@ use Rattle.std.proofs.Common.{refl, sym, ap, ◌∙◌, subst}
 use Rattle.bus_port.specs.Sink.{SinkState}
 use Rattle.machine_runs.specs.Run.{Moment, Run, seen_as, commands_in, lines_in}
 use Rattle.machine_runs.specs.RunLaws.{Run-seen_as}
-use Rattle.numbered_run.specs.declared.printing.Unwritten.{Unwritten}
-use Rattle.numbered_run.specs.Printed.{Written}
+use Rattle.run_driver.specs.declared.printing.Unwritten.{Unwritten}
+use Rattle.run_driver.specs.Printed.{Written}
 use Rattle.cut_disk.specs.State.{DiskState}
+use Rattle.cut_disk.specs.Calls.{Later}
+use Rattle.cut_disk.specs.CallLaws.{later_of_runs, later_join, runs_none}
 use Rattle.cell_store.specs.declared.kinds.Layout.{Layout}
-use Rattle.store_runs.specs.Keeping.{Fits}
-use Rattle.store_runs.specs.KeepingLaws.{told_before, fits_store, tells_kept}
-use Rattle.store_runs.specs.DiskTurns.{DiskTurn, TellsBytes, TracedSince, FailuresTold}
-use Rattle.store_runs.specs.DiskTurnLaws.{failures_told, traced_since}
-use Rattle.campaign_machine.specs.declared.commands.LedgerCommand.{LedgerCommand}
-use Rattle.campaign_machine.specs.declared.commands.LedgerCommand.TheVariants as command
-use Rattle.campaign_machine.specs.declared.lines.LedgerLine.{LedgerLine}
-use Rattle.campaign_machine.specs.Campaign.{Campaign, powered_ledger, SoundLedger}
-use Rattle.campaign_machine.specs.Steps.{LedgerStep}
-use Rattle.campaign_machine.specs.Claims.{LedgerMoment, BeginsLedger, RunsCountersRise, RunsBuildUpdates, RunsAreAllowed, RunsConfirmByReply, RunsKeepEntries, RunsSkipFew}
+use Rattle.store_keeping.specs.Keeping.{Fits}
+use Rattle.store_keeping.specs.KeepingLaws.{told_before, fits_store, tells_kept}
+use Rattle.store_keeping.specs.DiskTurns.{DiskTurn, TellsBytes, TracedSince, FailuresTold}
+use Rattle.store_keeping.specs.DiskTurnLaws.{failures_told, traced_since}
+use Rattle.key_campaign.specs.declared.commands.LedgerCommand.{LedgerCommand}
+use Rattle.key_campaign.specs.declared.commands.LedgerCommand.TheVariants as command
+use Rattle.key_campaign.specs.declared.lines.LedgerLine.{LedgerLine}
+use Rattle.key_campaign.specs.Campaign.{Campaign, powered_ledger, SoundLedger}
+use Rattle.key_campaign.specs.Steps.{LedgerStep}
+use Rattle.key_campaign.specs.Claims.{LedgerMoment, BeginsLedger, RunsCountersRise, RunsBuildUpdates, RunsAreAllowed, RunsConfirmByReply, RunsKeepEntries, RunsSkipFew}
 use Rattle.key_campaign.specs.State.{LedgerState, keeping_of, TellsLedger}
-use Rattle.campaign_texts.specs.LedgerTexts.{ledger_line_text}
+use Rattle.campaign_commands.specs.LedgerTexts.{ledger_line_text}
 use Rattle.campaign_commands.specs.Turns.{ledger_mark, ledger_calls, tells_disk_failure, StepIsKnown, LedgerTurn}
 use Rattle.campaign_commands.specs.Opening.{ledger_layout, calls_to_open, TellsFirm}
-use Rattle.campaign_commands.specs.Headline.{RanCampaign, FitsCampaign, LedgerDisk, Campaigned}
+use Rattle.campaign_commands.specs.Headline.{RanCampaign, FitsCampaign, LedgerDisk, LedgerDiskStays, Campaigned, ledger_seen}
 
 -- the laws of the machine, as its public functions ensure them
 pub record Laws : Type 0 where
@@ -127,6 +129,26 @@ fitting s all = record {
 ends_telling : (start : LedgerState) (ms : List LedgerDone) (now : LedgerState) → TellsAll start → Run LedgerTurn start ms now → TellsAll now
 ends_telling start [] now all run = subst TellsAll (sym run) all
 ends_telling start (m ∷ ms) now all run = ends_telling m.after ms now (keeps_telling start m.command m.line m.after all run.0) run.1
+
+-- ---- the disk, whether it tells its bytes or not
+
+any_turns : (s : LedgerState) (cmd : LedgerCommand) (told : LedgerLine) (t : LedgerState) → Unit {0} → LedgerTurn s cmd told t
+    → DiskTurn (ledger_mark cmd) (calls_of (campaign_in t) cmd) (fails_with cmd told) (disk_in s) (disk_in t) × Unit {0}
+any_turns s cmd told t any turn = (turn.disk, tt)
+
+later_after : (s : LedgerState) (ms : List LedgerDone) (t : LedgerState) → Run LedgerTurn s ms t → Later (disk_in s) (disk_in t)
+later_after s [] t run = subst (λ (x : LedgerState). Later (disk_in s) (disk_in x)) (sym run) (later_of_runs (runs_none (disk_in s)))
+later_after s (m ∷ ms) t run = later_join (later_of_runs run.0.disk.runs) (later_after m.after ms t run.1)
+
+pub ledger_stays : (before after : DiskState) (commands : List LedgerCommand) (sink_before sink_after : SinkState) (result : Result (Unit {0}) Unwritten)
+    (ran : RanCampaign before after commands sink_before sink_after result) → LedgerDiskStays before after (ledger_seen ran.printed.moments)
+ledger_stays before after commands sink_before sink_after result ran =
+    let ms = ran.printed.moments in
+    subst (λ (d : DiskState). LedgerDiskStays before d (ledger_seen ms)) (sym ran.disk) (record {
+      later = later_join (later_of_runs ran.opened.opened.runs) (later_after ran.start ms ran.now ran.printed.run);
+      failures = failures_told LedgerTurn campaign_in disk_in ledger_mark calls_of fails_with (λ _. Unit {0}) any_turns calls_to_open before ran.start ms ran.now
+          ran.opened.opened tt ran.printed.run;
+    })
 
 -- ---- all of one run
 

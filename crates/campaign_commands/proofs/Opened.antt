@@ -20,11 +20,11 @@ use Rattle.cell_store.specs.Store.{HasHeader, Stands, FirstDamaged, store_size}
 use Rattle.cell_store.specs.Cells.{CellsState, Settled}
 use Rattle.cell_store.proofs.CallerLemmas.{header-not_blank, stands_once, stands-whole}
 use Rattle.any_cells.specs.Opening.{open_calls, StoreOpened, NoStoreOpened}
-use Rattle.store_runs.specs.KeepingLaws.{tells_kept}
-use Rattle.store_runs.specs.DiskTurns.{OpenedDisk}
-use Rattle.campaign_machine.specs.declared.entries.LedgerEntry.{LedgerEntry}
-use Rattle.campaign_machine.specs.Entries.{place_count, no_entries, AreLedgerEntries}
-use Rattle.campaign_machine.specs.Campaign.{powered_ledger, SoundLedger}
+use Rattle.store_keeping.specs.KeepingLaws.{tells_kept}
+use Rattle.store_keeping.specs.DiskTurns.{OpenedDisk}
+use Rattle.key_campaign.specs.declared.entries.LedgerEntry.{LedgerEntry}
+use Rattle.key_campaign.specs.Entries.{place_count, no_entries, AreLedgerEntries}
+use Rattle.key_campaign.specs.Campaign.{powered_ledger, SoundLedger}
 use Rattle.key_campaign.specs.Cell.{place_cell, ledger_cells, HoldEntries, FirstBadEntry}
 use Rattle.key_campaign.specs.State.{LedgerState, keeping_of, FitsLedger}
 use Rattle.key_campaign.proofs.CallerLemmas.{one_ledger, none_bad, no_entries-held}
@@ -151,7 +151,7 @@ module _ (before after : DiskState) where
   pub small_of_none : NoStoreOpened ledger_layout (ledger_cells no_entries) before after store.TooSmall → before.size < ledger_size
   small_of_none none = subst (λ (n : ℕ). before.size < store_size ledger_layout n) size_of_none none.cause.0
 
-  -- for want of memory a blank disk has a ledger without entries
+  -- if memory is out a blank disk has a ledger without entries
   pub unopened_leaves : NoStoreOpened ledger_layout (ledger_cells no_entries) before after store.Memory → LeavesNone before after
   unopened_leaves none = record {
     runs = calls store.Memory none;
@@ -272,7 +272,7 @@ module _ (before after : DiskState) where
   serves_or_lacks (BadEntry bad) text is serves lacks =
       has_or_lacks serves.0.now.bytes (BadEntry bad) serves.0.is (lacks.bytes serves.0.now serves.0.told).0 (lacks.bytes serves.0.now serves.0.told).1
 
-  -- where there is a text, there is room
+  -- if there is a text, there is room
   pub lacks_room : (cause : NoLedgerCause) (text : List ℕ) → no_ledger_text cause ≡ Some text → LacksLedger before after cause → ledger_size ≤ before.size
   lacks_room (Store store.TooSmall) text is lacks = no_text text is
   lacks_room (Store store.Memory) text is lacks = no_text text is

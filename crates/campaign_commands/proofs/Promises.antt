@@ -2,17 +2,17 @@
 use Rattle.std.specs.Prelude.{◌≡◌, ◌⊎◌, ℕ, ◌<◌, ◌≤◌, List, [], drop, length, Result, Ok, Err}
 use Rattle.std.proofs.Common.{refl, ◌∙◌, subst, arith, inl, inr}
 use Rattle.bus_port.specs.Sink.{SinkState}
-use Rattle.answer_rows.specs.Endings.{Ending, EndsInRow, PrintsWhole, PrintsFront, SinkFailed, CountsWriteFault}
-use Rattle.answer_rows.specs.EndingLaws.{EndsInRow-at, EndsInRow-front, EndsInRow-rose, EndsInRow-only, EndsInRow-may, EndsInRow-done}
-use Rattle.numbered_run.specs.declared.printing.Unwritten.{Unwritten}
-use Rattle.numbered_run.specs.declared.printing.Unwritten.TheVariants as unwritten
-use Rattle.numbered_run.specs.Printed.{Written}
-use Rattle.numbered_run.specs.Statuses.{unwritten_status}
+use Rattle.program_edge.specs.Endings.{Ending, EndsInRow, PrintsWhole, PrintsFront, SinkFailed, CountsWriteFault}
+use Rattle.program_edge.specs.EndingLaws.{EndsInRow-at, EndsInRow-front, EndsInRow-rose, EndsInRow-only, EndsInRow-may, EndsInRow-done}
+use Rattle.run_driver.specs.declared.printing.Unwritten.{Unwritten}
+use Rattle.run_driver.specs.declared.printing.Unwritten.TheVariants as unwritten
+use Rattle.run_driver.specs.Printed.{Written}
+use Rattle.run_driver.specs.Statuses.{unwritten_status}
 use Rattle.machine_runs.specs.Run.{Moment}
-use Rattle.campaign_machine.specs.declared.commands.LedgerCommand.{LedgerCommand}
-use Rattle.campaign_machine.specs.declared.lines.LedgerLine.{LedgerLine}
+use Rattle.key_campaign.specs.declared.commands.LedgerCommand.{LedgerCommand}
+use Rattle.key_campaign.specs.declared.lines.LedgerLine.{LedgerLine}
 use Rattle.key_campaign.specs.State.{LedgerState}
-use Rattle.campaign_texts.specs.LedgerTexts.{ledger_line_text}
+use Rattle.campaign_commands.specs.LedgerTexts.{ledger_line_text}
 use Rattle.campaign_commands.specs.declared.opening.NoLedgerCause.{NoLedgerCause}
 use Rattle.campaign_commands.specs.Opening.{ledger_size}
 use Rattle.campaign_commands.specs.Rows.{CampaignInputs, CampaignDisks, AreTwo, HasCommands, OverFirst, DoneCampaign, ComesBefore, EndsCampaign, in_row, campaigned}
@@ -21,7 +21,7 @@ use Rattle.campaign_commands.proofs.Opened.{opened_or_none}
 use Rattle.campaign_commands.proofs.Told.{bad_or_good, first_or_small, over_both}
 use Rattle.campaign_commands.proofs.RowFacts.{over_first, row_2, row_4, row_5, row_7, row_8, row_9, row_10, row_status, row_unused, row_leaves, row_two, calm_whole, row_rose, row_too_much, row_bad, row_no_room, row_no_ledger, row_serves}
 
--- ---- where it ended in a row
+-- ---- if it ended in a row
 
 module _ {same : Type 0} {i : CampaignInputs} {d : CampaignDisks} {e : Ending} where
   ended_unused : EndsInRow (ComesBefore same i d) e → (e.status ≡ 2) ⊎ (e.status ≡ 4) ⊎ (e.status ≡ 5) ⊎ (e.status ≡ 8) ⊎ (e.status ≡ 9) → same
@@ -61,9 +61,9 @@ module _ {same : Type 0} {i : CampaignInputs} {d : CampaignDisks} {e : Ending} w
     complete = λ commands offers serves well. EndsInRow-done ends well 0 (λ row comes. row_serves row commands comes offers serves);
   }
 
--- ---- where its first commands were done
+-- ---- if its first commands were done
 
--- where the sink failed, and where it didn't
+-- if the sink failed, and if it didn't
 written_rose : (moments : List (Moment LedgerCommand LedgerLine LedgerState)) (before after : SinkState) (commands : List LedgerCommand) (result : Result (Unit {0}) Unwritten)
     → Written ledger_line_text before after commands result moments → before.faults < after.faults → unwritten_status result ≡ 6
 written_rose moments before after commands (Ok done) written rose = absurd (let no : ⊥ = omega (arith, written.1.0, rose) in no)

@@ -1,18 +1,18 @@
 -- What each row of the table says
 use Rattle.std.specs.Prelude.{◌≡◌, ◌≢◌, ◌⊎◌, ℕ, ◌<◌, List, [], codes}
 use Rattle.std.proofs.Common.{refl, ap, arith, inl, inr}
-use Rattle.command_edge.specs.Input.{input_fault_status}
-use Rattle.command_edge.specs.declared.input.InputFault.TheVariants as input
+use Rattle.program_edge.specs.Input.{input_fault_status}
+use Rattle.program_edge.specs.declared.input.InputFault.TheVariants as input
 use Rattle.bus_port.specs.Source.{SourceState}
 use Rattle.text_lines.specs.Readings.{Fault}
 use Rattle.text_lines.specs.Texts.{fault_text_of}
-use Rattle.answer_rows.specs.Rows.{Row, memory_row}
-use Rattle.answer_rows.specs.Inputs.{Reading, IsUnread, ReadsWhole, CountsFault, CountsTooMuch}
-use Rattle.answer_rows.specs.InputLaws.{Offers-is, CountsFault-is, CountsTooMuch-is}
-use Rattle.answer_rows.specs.Endings.{Ending, PrintsWhole}
-use Rattle.numbered_run.specs.declared.printing.Unwritten.TheVariants as unwritten
+use Rattle.program_edge.specs.Rows.{Row, memory_row}
+use Rattle.program_edge.specs.Inputs.{Reading, IsUnread, ReadsWhole, CountsFault, CountsTooMuch}
+use Rattle.program_edge.specs.InputLaws.{Offers-is, CountsFault-is, CountsTooMuch-is}
+use Rattle.program_edge.specs.Endings.{Ending, PrintsWhole}
+use Rattle.run_driver.specs.declared.printing.Unwritten.TheVariants as unwritten
 use Rattle.cut_disk.specs.State.{DiskState}
-use Rattle.campaign_machine.specs.declared.commands.LedgerCommand.{LedgerCommand}
+use Rattle.key_campaign.specs.declared.commands.LedgerCommand.{LedgerCommand}
 use Rattle.campaign_commands.specs.declared.opening.NoLedgerCause.{NoLedgerCause}
 use Rattle.campaign_commands.specs.Opening.{ledger_size}
 use Rattle.campaign_commands.specs.Rows.{CampaignInputs, CampaignDisks, AreTwo, NoCommands, HasBadLine, HasCommands, OffersCommands, OffersBadLine, OverFirst, campaign_usage, too_few_text, too_small_text}
@@ -116,7 +116,7 @@ module _ {same : Type 0} {i : CampaignInputs} {d : CampaignDisks} where
   row_bad row fault (no_ledger commands cause text has told over) bad = absurd (bad_or_good i fault commands bad has)
   row_bad row fault (no_memory_to_open commands has over) bad = absurd (bad_or_good i fault commands bad has)
 
-  -- commands that are offered, where there is no disk, or a small one
+  -- commands that are offered, if there is no disk, or a small one
   pub row_no_room : (row : Row) (offered : List LedgerCommand) → ComesBefore same i d row → OffersCommands i offered
       → (d.before ≡ []) ⊎ OverFirst d (λ before after. before.size < ledger_size) → (row.status ≡ 9) ⊎ (row.status ≡ 7)
   row_no_room row offered (no_form none unread as_before) offers small = absurd (none offers.two)

@@ -2,10 +2,10 @@
 use Rattle.std.specs.Prelude.{◌≡◌, ◌⊎◌, ◌<◌, ◌≤◌, List, [], ◌∷◌, Result, Ok, Err}
 use Rattle.std.proofs.Common.{sym, ap, ◌∙◌, subst, arith, inl, inr}
 use Rattle.text_lines.specs.Readings.{Fault}
-use Rattle.answer_rows.specs.InputLaws.{Offers-whole}
+use Rattle.program_edge.specs.InputLaws.{Offers-whole}
 use Rattle.cut_disk.specs.State.{DiskState}
-use Rattle.campaign_machine.specs.declared.commands.LedgerCommand.{LedgerCommand}
-use Rattle.campaign_texts.specs.CommandForms.{campaign_of}
+use Rattle.key_campaign.specs.declared.commands.LedgerCommand.{LedgerCommand}
+use Rattle.campaign_commands.specs.CommandForms.{campaign_of}
 use Rattle.campaign_commands.specs.Opening.{ledger_size}
 use Rattle.campaign_commands.specs.Rows.{CampaignInputs, CampaignDisks, HasBadLine, HasCommands, OffersCommands, OffersBadLine, OverFirst}
 

@@ -1,32 +1,30 @@
 -- The calls of a ledger as turns
-use Rattle.std.specs.Prelude.{◌≡◌, ◌≢◌, ℕ, ◌+◌, Bool, Option, option_map, Result, Ok, Err, IfErr, OnOk, OnErr, List, [], ◌∷◌}
+use Rattle.std.specs.Prelude.{◌≡◌, ◌≢◌, ℕ, ◌+◌, Bool, Option, option_map, Result, Ok, Err, IfErr, OnOk, List}
 use Rattle.std.proofs.Common.{refl, ap}
 use Rattle.cut_disk.specs.declared.Torn.{Torn}
-use Rattle.cut_disk.specs.State.{Cut}
 use Rattle.cut_disk.specs.Armed.{ArmsStop, ArmsFail}
-use Rattle.cut_disk.specs.Calls.{Rose, Runs}
+use Rattle.cut_disk.specs.Calls.{Rose}
 use Rattle.cut_disk.specs.CallLaws.{runs_none}
-use Rattle.cut_disk.specs.Images.{CutsTo}
 use Rattle.cell_store.specs.declared.faults.Reread.TheVariants as reread
-use Rattle.cell_store.specs.Reading.{CutStays}
-use Rattle.cell_store.specs.Cells.{CellsState, StandsNow}
+use Rattle.cell_store.specs.Reading.{CutAndRead}
+use Rattle.cell_store.specs.Cells.{CellsState}
 use Rattle.memory_update.specs.declared.messages.Request.{Request}
-use Rattle.campaign_machine.specs.declared.commands.Confirm.{Confirm}
-use Rattle.campaign_machine.specs.declared.commands.Issue.{Issue}
-use Rattle.campaign_machine.specs.declared.commands.LedgerCommand.TheVariants as command
-use Rattle.campaign_machine.specs.declared.lines.LedgerLine.TheVariants as line
-use Rattle.campaign_machine.specs.Entries.{place_count, entry_for}
-use Rattle.campaign_machine.specs.Campaign.{powered_ledger, stays_off, SoundLedger}
-use Rattle.campaign_machine.specs.Steps.{told_entry, LedgerStep}
+use Rattle.key_campaign.specs.declared.commands.Confirm.{Confirm}
+use Rattle.key_campaign.specs.declared.commands.Issue.{Issue}
+use Rattle.key_campaign.specs.declared.commands.LedgerCommand.TheVariants as command
+use Rattle.key_campaign.specs.declared.lines.LedgerLine.TheVariants as line
+use Rattle.key_campaign.specs.Entries.{place_count, entry_for}
+use Rattle.key_campaign.specs.Campaign.{SoundLedger}
+use Rattle.key_campaign.specs.Steps.{told_entry, LedgerStep}
 use Rattle.key_campaign.specs.declared.faults.LedgerCut.{LedgerCut}
 use Rattle.key_campaign.specs.declared.faults.LedgerCut.TheVariants as cut
 use Rattle.key_campaign.specs.declared.faults.LedgerFault.{LedgerFault}
 use Rattle.key_campaign.specs.declared.faults.LedgerFault.TheVariants as fault
 use Rattle.key_campaign.specs.Causes.{LedgerCutCause}
-use Rattle.key_campaign.specs.Cell.{HoldEntries}
+use Rattle.key_campaign.specs.Powering.{LedgerComesUp, LedgerStaysDown}
 use Rattle.key_campaign.specs.Lines.{ledger_refusal, issued_line, confirmed_line, ledger_cut_line}
 use Rattle.key_campaign.specs.State.{LedgerState, FitsLedger, TellsLedger, ServedLedger}
-use Rattle.store_runs.specs.DiskTurns.{CountsFailure}
+use Rattle.store_keeping.specs.DiskTurns.{CountsFailure}
 use Rattle.campaign_commands.specs.Turns.{tells_disk_failure, LeavesRefused, LedgerTurn}
 
 -- ---- an issue and a confirmation
@@ -129,21 +127,28 @@ counts_after_cut (Err why) old new faults cause = counts_cut why old new cause
 
 pub turn_of_cut : (torn : Torn) (old new : LedgerState) (r : Result (Unit {0}) LedgerCut)
     → (TellsLedger old → LedgerStep old.campaign (command.Cut torn) (ledger_cut_line r) new.campaign)
-    → OnOk r (new.campaign ≡ powered_ledger new.campaign.entries) → OnOk r (HoldEntries new.store.cells new.campaign.entries) → OnOk r (StandsNow new.store)
-    → OnErr r (new.campaign ≡ stays_off old.campaign) → IfErr r (LedgerCutCause old.store new.store) → CutsTo old.store.disk.told new.store.disk.told
-    → OnOk r (new.store.disk.faults ≡ old.store.disk.faults) → new.store.layout ≡ old.store.layout
-    → Runs (Cut torn ∷ []) (68 + place_count) old.store.disk new.store.disk → (FitsLedger old → FitsLedger new)
-    → SoundLedger new.campaign → CutStays torn old.store.disk new.store.disk
+    → OnOk r (LedgerComesUp old new) → IfErr r (LedgerStaysDown old new) → CutAndRead torn (68 + place_count) old.store.disk new.store.disk
+    → new.store.layout ≡ old.store.layout → (FitsLedger old → FitsLedger new) → SoundLedger new.campaign
     → LedgerTurn old (command.Cut torn) (ledger_cut_line r) new
-turn_of_cut torn old new r step up held stands down cause image faults layout runs fits sound stays = record {
+turn_of_cut torn old new (Ok u) step up down cut layout fits sound = record {
   step = step;
-  of_cut = record { result = r; line_is = refl; up = up; held = held; stands = stands; down = down; cause = cause; image = image };
-  disk = record { runs = runs; counts = counts_after_cut r old.store new.store faults cause };
+  of_cut = record { result = Ok u; line_is = refl; up = up.up; held = up.held; stands = up.stands; down = tt; cause = tt; image = cut.image };
+  disk = record { runs = cut.runs; counts = counts_after_cut (Ok u) old.store new.store up.faults tt };
   layout = layout;
   fits = fits;
   untouched = tt;
   sound = λ _. sound;
-  stays = stays;
+  stays = cut.stays;
+}
+turn_of_cut torn old new (Err f) step up down cut layout fits sound = record {
+  step = step;
+  of_cut = record { result = Err f; line_is = refl; up = tt; held = tt; stands = tt; down = down.refused; cause = down.cause; image = cut.image };
+  disk = record { runs = cut.runs; counts = counts_after_cut (Err f) old.store new.store tt down.cause };
+  layout = layout;
+  fits = fits;
+  untouched = tt;
+  sound = λ _. sound;
+  stays = cut.stays;
 }
 
 pub turn_of_stop : (calls : ℕ) (old new : LedgerState) → LedgerStep old.campaign (command.Stop calls) line.Armed new.campaign

@@ -1,17 +1,17 @@
 -- What a campaign promises (own)
 use Rattle.std.specs.Prelude.{◌≡◌, ◌⊎◌, ℕ, ◌<◌, ◌≤◌, List, [], drop, length, Some, Result, Ok, Err, codes}
-use Rattle.command_edge.specs.declared.input.InputFault.TheVariants.{ReadFault, TooLong}
+use Rattle.program_edge.specs.declared.input.InputFault.TheVariants.{ReadFault, TooLong}
 use Rattle.cut_disk.specs.State.{DiskState, Told}
 use Rattle.cut_disk.specs.Calls.{Rose, IsQuiet}
 use Rattle.cell_store.specs.declared.faults.StoreFault.TheVariants as store
 use Rattle.text_lines.specs.Readings.{Fault}
 use Rattle.text_lines.specs.Texts.{fault_text_of}
-use Rattle.answer_rows.specs.Rows.{memory_row}
-use Rattle.answer_rows.specs.Inputs.{IsUnread, CountsFault, CountsTooMuch}
-use Rattle.answer_rows.specs.Endings.{Ending, EndsIn, MayEndIn, PrintsWhole, PrintsFront, SinkFailed, CountsWriteFault}
-use Rattle.numbered_run.specs.declared.printing.Unwritten.{Unwritten}
-use Rattle.numbered_run.specs.declared.printing.Unwritten.TheVariants as unwritten
-use Rattle.campaign_machine.specs.declared.commands.LedgerCommand.{LedgerCommand}
+use Rattle.program_edge.specs.Rows.{memory_row}
+use Rattle.program_edge.specs.Inputs.{IsUnread, CountsFault, CountsTooMuch}
+use Rattle.program_edge.specs.Endings.{Ending, EndsIn, MayEndIn, PrintsWhole, PrintsFront, SinkFailed, CountsWriteFault}
+use Rattle.run_driver.specs.declared.printing.Unwritten.{Unwritten}
+use Rattle.run_driver.specs.declared.printing.Unwritten.TheVariants as unwritten
+use Rattle.key_campaign.specs.declared.commands.LedgerCommand.{LedgerCommand}
 use Rattle.campaign_commands.specs.declared.opening.NoLedgerCause.{NoLedgerCause}
 use Rattle.campaign_commands.specs.declared.opening.NoLedgerCause.TheVariants.{Store}
 use Rattle.campaign_commands.specs.Opening.{ledger_size, IsNoLedger, LeavesRead, LeavesNone, HasLedger}
@@ -62,8 +62,8 @@ abbrev pub RanTo : CampaignInputs → CampaignDisks → Ending → Result (Unit 
 RanTo i d e result =
     (commands : List LedgerCommand) × HasCommands i commands × OverFirst d (DoneCampaign commands e result)
 
--- no command was done: every disk is as before, or the first one is but for reads, or it stands for no entries, or its
--- count rose
+-- no command was done: every disk is as before, or the first one is except for reads, or it stands for no entries, or
+-- its count rose
 abbrev pub DoneNone : Type 0 → CampaignDisks → Type 0
 DoneNone same d = same ⊎ OverFirst d LeavesNone
 
@@ -77,31 +77,31 @@ pub record RunsCampaign (same : Type 0) (i : CampaignInputs) (d : CampaignDisks)
   pub disks_unused : (e.status ≡ 2) ⊎ (e.status ≡ 4) ⊎ (e.status ≡ 5) ⊎ (e.status ≡ 8) ⊎ (e.status ≡ 9) → same
   -- 0: the script was read whole, its commands were done, and exactly their lines were printed.
   pub done : e.status ≡ 0 → RanTo i d e (Ok tt)
-  -- 2: exactly where the words aren't two; nothing was read.
+  -- 2: exactly if the arguments aren't two; nothing was read.
   pub usage_told : e.status ≡ 2 → (¬ AreTwo i.words) × IsUnread i.script × PrintsWhole e campaign_usage
   pub usage_only : ¬ AreTwo i.words → EndsIn 2 e
   -- 4: the script was read whole, and its first fault is printed.
   pub refused : e.status ≡ 4 → (fault : Fault) × HasBadLine i fault × PrintsWhole e (fault_text_of fault)
   pub refused_only : (fault : Fault) → OffersBadLine i fault → MayEndIn 4 e
-  -- 5: exactly where the count of faults of the script's source rose.
+  -- 5: exactly if the count of faults of the script's source rose.
   pub read_fault : e.status ≡ 5 → NoCommands i ReadFault × PrintsWhole e (codes "read fault\n")
   pub read_fault_only : CountsFault i.script → EndsIn 5 e
-  -- 6: exactly where the sink's count of faults rose. A front was written of a row that comes; or the texts of the
-  -- lines before one, and a front of this.
+  -- 6: exactly if the sink's count of faults rose. A prefix was written of a row that comes; or the texts of the lines
+  -- before one, and a prefix of this.
   pub write_fault : e.status ≡ 6 → SinkFailed e
       × (PrintsFront (ComesBefore same i d) e ⊎ RanTo i d e (Err unwritten.SinkFailed))
   pub write_fault_only : CountsWriteFault e → e.status ≡ 6
-  -- 7: want of memory comes, and nothing was written: never of a disk that failed as it was opened; or the texts of the
+  -- 7: out of memory comes, and nothing was written: never of a disk that failed as it was opened; or the texts of the
   -- lines before one.
   pub no_memory : e.status ≡ 7
       → (ComesBefore same i d memory_row × PrintsWhole e []) ⊎ RanTo i d e (Err unwritten.Memory)
-  -- 6 and 7: the record holds of some first commands; or none was done, and nothing was written, or a front of a row.
+  -- 6 and 7: the record holds of some first commands; or none was done, and nothing was written, or a prefix of a row.
   pub early_ends : (e.status ≡ 6) ⊎ (e.status ≡ 7) → ((cause : Unwritten) × RanTo i d e (Err cause))
       ⊎ ((PrintsFront (ComesBefore same i d) e ⊎ PrintsWhole e []) × DoneNone same d)
-  -- 8: exactly where one byte more than an input may have came from the source.
+  -- 8: exactly if one byte more than an input may have came from the source.
   pub too_long : e.status ≡ 8 → NoCommands i TooLong × PrintsWhole e (codes "input too long\n")
   pub too_long_only : CountsTooMuch i.script → EndsIn 8 e
-  -- 9: exactly where there is no disk, or fewer bytes than a ledger needs.
+  -- 9: exactly if there is no disk, or fewer bytes than a ledger needs.
   pub disks_refused : e.status ≡ 9 → (commands : List LedgerCommand) × HasCommands i commands
       × (((d.before ≡ []) × PrintsWhole e too_few_text)
       ⊎ (OverFirst d (λ before after. before.size < ledger_size) × PrintsWhole e too_small_text))
@@ -112,6 +112,6 @@ pub record RunsCampaign (same : Type 0) (i : CampaignInputs) (d : CampaignDisks)
       → (commands : List LedgerCommand) × HasCommands i commands × OverFirst d (RefusesDisk e)
   pub store_refused_only : (commands : List LedgerCommand) (cause : NoLedgerCause) → OffersCommands i commands
       → OverFirst d (TellsNoLedger cause) → MayEndIn 10 e
-  -- What is valid is done, where no port failed and there was memory.
+  -- What is valid is done, if no port failed and there was memory.
   pub complete : (commands : List LedgerCommand) → OffersCommands i commands → OverFirst d ServesLedger → ¬ SinkFailed e
       → (e.status ≡ 0) ⊎ (e.status ≡ 7)

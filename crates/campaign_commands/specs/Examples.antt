@@ -2,8 +2,8 @@
 use Rattle.std.specs.Prelude.{◌≡◌, ℕ, [], ◌∷◌, replicate}
 use Rattle.cut_disk.specs.State.{DiskState}
 use Rattle.cut_disk.specs.Memory.{fresh, disk_of}
-use Rattle.answer_rows.specs.Inputs.{Offers}
-use Rattle.answer_rows.specs.Endings.{Ending}
+use Rattle.program_edge.specs.Inputs.{Offers}
+use Rattle.program_edge.specs.Endings.{Ending}
 use Rattle.campaign_commands.specs.declared.example.TheConstants.{EXAMPLE}
 use Rattle.campaign_commands.specs.Rows.{CampaignInputs, CampaignDisks, AreTwo, EndsCampaign}
 use Rattle.campaign_commands.specs.Campaigns.{RunsCampaign}
@@ -16,7 +16,7 @@ Campaigns i d e = RunsCampaign (d.after ≡ d.before) i d e × EndsCampaign (d.a
 unfoldable pub zero_disk : ℕ → DiskState
 zero_disk size = disk_of (fresh (replicate size 0))
 
--- a campaign of the example: of two words, over a source that tells its script, and one disk of 65,536 zero bytes
+-- a campaign of the example: of two arguments, over a source that tells its script, and one disk of 65,536 zero bytes
 pub record IsExampleCampaign (i : CampaignInputs) (d : CampaignDisks) : Type 0 where
   pub two : AreTwo i.words
   pub script : Offers i.script EXAMPLE.now

@@ -2,21 +2,23 @@
 use Rattle.std.specs.Prelude.{◌≡◌, Bool, Option, Some, List, length, take, All, Result}
 use Rattle.bus_port.specs.Sink.{SinkState}
 use Rattle.cut_disk.specs.State.{DiskState, Told, Entry}
+use Rattle.cut_disk.specs.Calls.{Later}
 use Rattle.key_slots.specs.declared.memory.Slot.{Slot}
-use Rattle.machine_runs.specs.Run.{Run, commands_in}
-use Rattle.numbered_run.specs.declared.printing.Unwritten.{Unwritten}
-use Rattle.numbered_run.specs.Printed.{Printed, Written}
-use Rattle.store_runs.specs.Keeping.{Fits}
-use Rattle.store_runs.specs.DiskTurns.{TracedSince, FailuresTold}
-use Rattle.campaign_machine.specs.declared.commands.LedgerCommand.{LedgerCommand}
-use Rattle.campaign_machine.specs.declared.entries.LedgerEntry.{LedgerEntry}
-use Rattle.campaign_machine.specs.Entries.{AreLedgerEntries}
-use Rattle.campaign_machine.specs.Campaign.{Campaign, powered_ledger}
-use Rattle.campaign_machine.specs.Steps.{LedgerStep}
-use Rattle.campaign_machine.specs.Claims.{LedgerMoment, CountersRise, BuildsItsUpdate, IsAllowedIn, NoneGoes}
-use Rattle.campaign_machine.specs.Claims.{ConfirmedByReply, FewAreSkipped}
+use Rattle.machine_runs.specs.Run.{Moment, Run, commands_in, seen_as}
+use Rattle.run_driver.specs.declared.printing.Unwritten.{Unwritten}
+use Rattle.run_driver.specs.Printed.{Printed, Written}
+use Rattle.store_keeping.specs.Keeping.{Fits}
+use Rattle.store_keeping.specs.DiskTurns.{TracedSince, FailuresTold}
+use Rattle.key_campaign.specs.declared.commands.LedgerCommand.{LedgerCommand}
+use Rattle.key_campaign.specs.declared.lines.LedgerLine.{LedgerLine}
+use Rattle.key_campaign.specs.declared.entries.LedgerEntry.{LedgerEntry}
+use Rattle.key_campaign.specs.Entries.{AreLedgerEntries}
+use Rattle.key_campaign.specs.Campaign.{Campaign, powered_ledger}
+use Rattle.key_campaign.specs.Steps.{LedgerStep}
+use Rattle.key_campaign.specs.Claims.{LedgerMoment, CountersRise, BuildsItsUpdate, IsAllowedIn, NoneGoes}
+use Rattle.key_campaign.specs.Claims.{ConfirmedByReply, FewAreSkipped}
 use Rattle.key_campaign.specs.State.{LedgerState, keeping_of}
-use Rattle.campaign_texts.specs.LedgerTexts.{ledger_line_text}
+use Rattle.campaign_commands.specs.LedgerTexts.{ledger_line_text}
 use Rattle.campaign_commands.specs.Turns.{LedgerTurn, ledger_mark, ledger_calls, tells_disk_failure}
 use Rattle.campaign_commands.specs.Opening.{ledger_layout, StartsFrom, TellsFirm, LedgerOpened}
 
@@ -31,13 +33,23 @@ pub record RanCampaign (before after : DiskState) (commands : List LedgerCommand
   pub printed : Printed LedgerTurn ledger_line_text start now sink_before sink_after commands result
   pub disk : after ≡ now.store.disk
 
+-- what was done to a ledger over its store, as moments of the ledger's machine
+abbrev pub ledger_seen : List (Moment LedgerCommand LedgerLine LedgerState) → List LedgerMoment
+ledger_seen moments = seen_as (λ (c : LedgerCommand). c) (λ (s : LedgerState). s.campaign) moments
+
+-- the disk, whether it tells its bytes or not: its count isn't below, and what it told of its past it still tells; and
+-- its failures are told
+pub record LedgerDiskStays (before after : DiskState) (moments : List LedgerMoment) : Type 0 where
+  pub later : Later before after
+  pub failures : FailuresTold ledger_mark (λ _ told. tells_disk_failure told) moments before after
+
 -- ---- over a disk that tells its bytes, none of them loose
 
 -- a state of the disk fits a ledger: each image stands for its entries, or for those with the pending change
 abbrev pub FitsCampaign : Campaign → Told → Type 0
 FitsCampaign c told = Fits ledger_layout (keeping_of c) told
 
--- the disk handed back fits the last ledger; and where it tells its past, what was added is traced
+-- the disk handed back fits the last ledger; and if it tells its past, what was added is traced
 pub record LedgerDisk (before after : DiskState) (start : Campaign)
     (moments : List LedgerMoment) (last : Campaign) : Type 0 where
   pub now : Told

@@ -1,3 +1,7 @@
+pub mod CommandKinds
+pub mod CommandForms
+pub mod LedgerTexts
+pub mod ScriptCommands
 pub mod Turns
 pub mod Opening
 pub mod Headline
@@ -5,3 +9,4 @@ pub mod Rows
 pub mod Campaigns
 pub mod Steps
 pub mod Examples
+pub mod Files

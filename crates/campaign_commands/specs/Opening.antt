@@ -11,10 +11,10 @@ use Rattle.cell_store.specs.Layout.{layout}
 use Rattle.cell_store.specs.Store.{HasHeader, Stands, FirstDamaged, store_size}
 use Rattle.any_cells.specs.Looking.{IsBlank}
 use Rattle.any_cells.specs.Opening.{open_calls, NoStoreOpened}
-use Rattle.store_runs.specs.DiskTurns.{OpenedDisk}
-use Rattle.campaign_machine.specs.declared.entries.LedgerEntry.{LedgerEntry}
-use Rattle.campaign_machine.specs.Entries.{place_count, no_entries, AreLedgerEntries}
-use Rattle.campaign_machine.specs.Campaign.{powered_ledger, SoundLedger}
+use Rattle.store_keeping.specs.DiskTurns.{OpenedDisk}
+use Rattle.key_campaign.specs.declared.entries.LedgerEntry.{LedgerEntry}
+use Rattle.key_campaign.specs.Entries.{place_count, no_entries, AreLedgerEntries}
+use Rattle.key_campaign.specs.Campaign.{powered_ledger, SoundLedger}
 use Rattle.key_campaign.specs.Cell.{ledger_cells, FirstBadEntry}
 use Rattle.key_campaign.specs.State.{LedgerState, TellsLedger}
 use Rattle.campaign_commands.specs.declared.opening.NoLedgerCause.{NoLedgerCause}
@@ -40,7 +40,7 @@ HasNoHeader x = IsBlank One x
 abbrev pub StandsForEntries : List ℕ → List (Option LedgerEntry) → Type 0
 StandsForEntries x entries = Stands ledger_layout x (ledger_cells entries)
 
--- where the disk tells its bytes, these are the entries that they stand for, or none where the first 32 bytes are zero
+-- if the disk tells its bytes, these are the entries that they stand for, or none if the first 32 bytes are zero
 abbrev pub StartsFrom : DiskState → List (Option LedgerEntry) → Type 0
 StartsFrom before entries = (t : Told) → before.told ≡ Some t
     → (HasNoHeader t.bytes → entries ≡ no_entries) × ((HasNoHeader t.bytes → ⊥) → StandsForEntries t.bytes entries)
@@ -50,7 +50,7 @@ pub record TellsFirm (disk : DiskState) : Type 0 where
   pub bytes : List ℕ
   pub told : disk.told ≡ Some (firm bytes)
 
--- a ledger is up over the disk, with what it had, or with no entries where it was blank
+-- a ledger is up over the disk, with what it had, or with no entries if it was blank
 pub record LedgerOpened (before : DiskState) (l : LedgerState) : Type 0 where
   pub up : l.campaign ≡ powered_ledger l.campaign.entries
   pub sound : SoundLedger l.campaign
@@ -86,22 +86,22 @@ pub record StandsForNone (disk : DiskState) : Type 0 where
   pub told : disk.told ≡ Some now
   pub stands : StandsForEntries now.bytes no_entries
 
--- bytes that are told, and whose first 32 aren't all zero, and their loose marks are as they were
+-- told bytes whose first 32 aren't all zero, and their loose marks, are as they were
 abbrev pub KeepsBytes : DiskState → DiskState → Type 0
 KeepsBytes before after = (t : Told) → before.told ≡ Some t → (HasNoHeader t.bytes → ⊥) → after.told ≡ before.told
 
--- the disk is as before, but for reads; or its count of faults rose
+-- the disk is as before, except for reads; or its count of faults rose
 pub record LeavesRead (before after : DiskState) : Type 0 where
   pub left : AsBefore calls_to_open before after ⊎ Rose before.faults after.faults
   pub kept : KeepsBytes before after
 
--- the disk is as before, but for reads; or it stands for no entries; or its count of faults rose
+-- the disk is as before, except for reads; or it stands for no entries; or its count of faults rose
 pub record LeavesNone (before after : DiskState) : Type 0 where
   pub runs : Runs [] calls_to_open before after
   pub left : AsBefore calls_to_open before after ⊎ StandsForNone after ⊎ Rose before.faults after.faults
   pub kept : KeepsBytes before after
 
--- so it is where there was no memory to open a ledger, or for the text that tells why there is none; and then the disk
+-- so it is if there was no memory to open a ledger, or for the text that tells why there is none; and then the disk
 -- didn't fail
 abbrev pub LeftWithoutMemory : DiskState → DiskState → Type 0
 LeftWithoutMemory before after = LeavesNone before after × (after.faults ≡ before.faults)

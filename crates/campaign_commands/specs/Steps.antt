@@ -5,17 +5,17 @@ use Rattle.std.specs.declared.alloc.Global.{Global}
 use Rattle.text_lines.specs.Readings.{most_lines, Fault}
 use Rattle.text_lines.specs.Texts.{line}
 use Rattle.any_cells.specs.FaultTexts.{store_fault_text}
-use Rattle.command_edge.specs.declared.input.InputFault.{InputFault}
-use Rattle.answer_rows.specs.Rows.{Row, row_of, input_row, memory_row}
-use Rattle.answer_rows.specs.Inputs.{IsUnread}
-use Rattle.answer_rows.specs.Endings.{Ending, EndsInRow}
-use Rattle.line_rows.specs.LineRows.{line_row, NoLines}
-use Rattle.numbered_run.specs.declared.printing.Unwritten.{Unwritten}
+use Rattle.program_edge.specs.declared.input.InputFault.{InputFault}
+use Rattle.program_edge.specs.Rows.{Row, row_of, input_row, memory_row}
+use Rattle.program_edge.specs.Inputs.{IsUnread}
+use Rattle.program_edge.specs.Endings.{Ending, EndsInRow}
+use Rattle.text_lines.specs.LineRows.{line_row, NoLines}
+use Rattle.run_driver.specs.declared.printing.Unwritten.{Unwritten}
 use Rattle.cut_disk.specs.State.{DiskState}
 use Rattle.cell_store.specs.declared.faults.StoreFault.TheVariants as store
-use Rattle.campaign_machine.specs.declared.commands.LedgerCommand.{LedgerCommand}
-use Rattle.campaign_texts.specs.CommandForms.{campaign_of}
-use Rattle.campaign_texts.specs.ScriptCommands.{IsScriptCommand}
+use Rattle.key_campaign.specs.declared.commands.LedgerCommand.{LedgerCommand}
+use Rattle.campaign_commands.specs.CommandForms.{campaign_of}
+use Rattle.campaign_commands.specs.ScriptCommands.{IsScriptCommand}
 use Rattle.campaign_commands.specs.declared.opening.NoLedgerCause.{NoLedgerCause}
 use Rattle.campaign_commands.specs.declared.opening.NoLedgerCause.TheVariants.{Store}
 use Rattle.campaign_commands.specs.Opening.{ledger_size, LacksLedger, LeftWithoutMemory}
@@ -48,8 +48,8 @@ PreparesCampaign i (Err row) = ComesOfScript i row
 
 -- ---- the disk
 
--- the row of a disk without a ledger: want of room, the text of the cause, or want of memory for the store, or for a
--- text with a number; the others are fixed, so that telling them takes no memory
+-- the row of a disk without a ledger: too small, the text of the cause, or out of memory for the store, or for a text
+-- with a number; the others are fixed, so that printing them takes no memory
 abbrev pub IsNoLedgerRow : NoLedgerCause → Row → Type 0
 IsNoLedgerRow (Store store.TooSmall) row = row ≡ row_of 9 too_small_text
 IsNoLedgerRow (Store store.Memory) row = row ≡ memory_row
@@ -60,7 +60,7 @@ IsNoLedgerRow (Store store.NotFormatted) row =
 IsNoLedgerRow cause row =
     ((text : List ℕ) × (no_ledger_text cause ≡ Some text) × (row ≡ row_of 10 text)) ⊎ (row ≡ memory_row)
 
--- the rows that come where the ledger isn't opened, by what was known of the first disk
+-- the rows that come if the ledger isn't opened, by what was known of the first disk
 pub data ComesOfDisk (before after : DiskState) : Row → Type 0 where
   disk_too_small : before.size < ledger_size → after ≡ before → ComesOfDisk before after (row_of 9 too_small_text)
   disk_without : (cause : NoLedgerCause) (text : List ℕ) → no_ledger_text cause ≡ Some text
@@ -87,8 +87,8 @@ pub data LacksDisk (disks : List DiskState) : Row → Type 0 where
   small_disk : (first : DiskState) (rest : List DiskState) → disks ≡ first ∷ rest → first.size < ledger_size
       → LacksDisk disks (row_of 9 too_small_text)
 
--- how the second phase ends: a disk is wanting, and none was touched, or the campaign is over the first; `same` is that
--- every disk is as before
+-- how the second phase ends: a disk is missing or too small, and none was touched, or the campaign is over the first;
+-- `same` is that every disk is as before
 pub data DoesCampaign (same : Type 0) (commands : List LedgerCommand) (d : CampaignDisks) (e : Ending) : Type 0 where
   disk_wanting : same → d.after ≡ d.before → EndsInRow (LacksDisk d.before) e → DoesCampaign same commands d e
   on_first : HasDisk d.before → OverFirst d (λ before after. DoesOnDisk commands before after e)

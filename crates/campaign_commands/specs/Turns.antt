@@ -5,15 +5,15 @@ use Rattle.cut_disk.specs.State.{Cut, Stop, Fail, DiskState}
 use Rattle.cut_disk.specs.Images.{CutsTo}
 use Rattle.cell_store.specs.Reading.{CutStays}
 use Rattle.cell_store.specs.Cells.{StandsNow}
-use Rattle.store_runs.specs.DiskTurns.{DiskTurn}
-use Rattle.campaign_machine.specs.declared.commands.LedgerCommand.{LedgerCommand}
-use Rattle.campaign_machine.specs.declared.commands.LedgerCommand.TheVariants as command
-use Rattle.campaign_machine.specs.declared.lines.LedgerLine.{LedgerLine}
-use Rattle.campaign_machine.specs.declared.lines.LedgerLine.TheVariants as line
-use Rattle.campaign_machine.specs.declared.lines.LedgerRefusal.TheVariants as refusal
-use Rattle.campaign_machine.specs.Entries.{place_count}
-use Rattle.campaign_machine.specs.Campaign.{powered_ledger, stays_off, SoundLedger}
-use Rattle.campaign_machine.specs.Steps.{LedgerStep}
+use Rattle.store_keeping.specs.DiskTurns.{DiskTurn}
+use Rattle.key_campaign.specs.declared.commands.LedgerCommand.{LedgerCommand}
+use Rattle.key_campaign.specs.declared.commands.LedgerCommand.TheVariants as command
+use Rattle.key_campaign.specs.declared.lines.LedgerLine.{LedgerLine}
+use Rattle.key_campaign.specs.declared.lines.LedgerLine.TheVariants as line
+use Rattle.key_campaign.specs.declared.lines.LedgerRefusal.TheVariants as refusal
+use Rattle.key_campaign.specs.Entries.{place_count}
+use Rattle.key_campaign.specs.Campaign.{powered_ledger, stays_off, SoundLedger}
+use Rattle.key_campaign.specs.Steps.{LedgerStep}
 use Rattle.key_campaign.specs.declared.faults.LedgerCut.{LedgerCut}
 use Rattle.key_campaign.specs.Causes.{LedgerCutCause}
 use Rattle.key_campaign.specs.Cell.{HoldEntries}
@@ -42,15 +42,15 @@ abbrev pub tells_disk_failure : LedgerLine → Bool
 tells_disk_failure (line.Refused refusal.MemoryFailure) = true
 tells_disk_failure _ = false
 
--- where it is known that a command and its line are a step of the machine: a cut's only over a disk that tells its
--- bytes, which fit the ledger; anything else's always
+-- if it is known that a command and its line are a step of the machine: a cut's only over a disk that tells its bytes,
+-- which fit the ledger; anything else's always
 abbrev pub StepIsKnown : LedgerCommand → LedgerState → Type 0
 StepIsKnown (command.Cut torn) s = TellsLedger s
 StepIsKnown cmd s = Unit {0}
 
--- What a power cut leads to over a disk of any kind: the ledger is up with the entries that its store's cells hold, and
--- bytes that are told stand for these; or it is down with the entries and the pending change that it had, as the disk
--- failed or for a cause that such bytes show, and its line tells which.
+-- What a power cut leads to over a disk of any kind. The ledger is up with the entries that its store's cells hold, and
+-- told bytes stand for these. Or it is down with the entries and the pending change that it had. The disk failed, or
+-- told bytes show another cause, and its line tells which.
 pub record AnswersLedgerCut (old : LedgerState) (told : LedgerLine) (new : LedgerState) : Type 0 where
   pub result : Result (Unit {0}) LedgerCut
   pub line_is : told ≡ ledger_cut_line result
@@ -77,15 +77,15 @@ LeavesRefused (line.Refused refusal.MemoryFailure) old new = Unit {0}
 LeavesRefused (line.Refused why) old new = new ≡ old
 LeavesRefused told old new = Unit {0}
 
--- a command of which nothing came leaves the ledger, its store and its disk as they were; a show always does
+-- a command that did nothing leaves the ledger, its store and its disk as they were; a show always does
 abbrev pub LeavesLedgerAlone : LedgerCommand → LedgerLine → LedgerState → LedgerState → Type 0
 LeavesLedgerAlone (command.Issue i) told old new = LeavesRefused told old new
 LeavesLedgerAlone (command.Confirm k) told old new = LeavesRefused told old new
 LeavesLedgerAlone (command.Show uid id) told old new = new ≡ old
 LeavesLedgerAlone cmd told old new = Unit {0}
 
--- A command and its line are a turn of the disk, and a step of the machine, whether the disk tells its bytes or not; of
--- a cut the step is known where these fit the ledger, and its answer with its cause always; a disk that fits stays so.
+-- A command and its line are a turn of the disk, and a step of the machine, whether the disk tells its bytes or not. Of
+-- a cut the step is known if these fit the ledger, and its answer with its cause always. A disk that fits stays so.
 pub record LedgerTurn (old : LedgerState) (cmd : LedgerCommand) (told : LedgerLine) (new : LedgerState) : Type 0 where
   pub step : StepIsKnown cmd old → LedgerStep old.campaign cmd told new.campaign
   pub of_cut : AnswersIfCut cmd old told new

@@ -2,31 +2,30 @@
 ghost use Rattle.std.specs.Prelude.{◌≡◌, ◌<◌, ◌≤◌, ◌+◌, map, MatchResult};
 ghost use Rattle.std.specs.Vec.{vec_len};
 ghost use Rattle.cut_disk.specs.State.{DiskState};
-ghost use Rattle.answer_rows.specs.Rows.{row_of};
+ghost use Rattle.program_edge.specs.Rows.{row_of};
 ghost use Rattle.campaign_commands.specs.Opening.{LedgerOpened, ledger_size};
 ghost use Rattle.campaign_commands.specs.Rows.{OverFirst, too_small_text};
 ghost use Rattle.campaign_commands.specs.Steps.{AreScriptCommands, HasDisk, LacksDisk, DoesOnDisk, DoesCampaign};
 
 use crate::laws::campaigns_are_runs;
 use crate::opening::open_ledger;
+use crate::push_ledger_line;
 use crate::refusals::{no_disk_refusal, no_ledger_refusal, small_disk_refusal};
 use crate::station::Station;
-use answer_rows::{Refusal, tell_refusal};
 use any_cells::{AnyCells, put_first, store_size};
 use bus_port::{Memory, Sink};
-use campaign_machine::{LedgerCommand, LedgerLine};
-use campaign_texts::push_ledger_line;
 use cell_store::{Cells, Kind, Version};
 use cut_disk::CutDisk;
-use key_campaign::Ledger;
-use numbered_run::{LineText, print_run, status_of_run};
+use key_campaign::{Ledger, LedgerCommand, LedgerLine};
+use program_edge::{Refusal, tell_refusal};
+use run_driver::{LineText, print_run, status_of_run};
 use std::alloc::{AllocError, Global};
 
 /// How the lines of a campaign are written.
 struct Texts;
 
 impl LineText<LedgerLine> for Texts {
-    ghost use Rattle.campaign_texts.specs.LedgerTexts.{ledger_line_text};
+    ghost use Rattle.campaign_commands.specs.LedgerTexts.{ledger_line_text};
 
     ghost text = { ledger_line_text };
 
@@ -43,7 +42,7 @@ impl LineText<LedgerLine> for Texts {
     }
 }
 
-/// The campaign of these commands over the ledger on the first disk, which is then back in its place. Where there is no
+/// The campaign of these commands over the ledger on the first disk, which is then back in its place. If there is no
 /// disk, or the first is too small, no disk is touched. After a text that isn't written no further command is done.
 pub fn campaign<K: Sink, D: CutDisk>(
     alloc: Global,
@@ -62,7 +61,7 @@ pub fn campaign<K: Sink, D: CutDisk>(
     }
 }
 
-/// Whether there is a disk, and the first has the bytes that a ledger needs; or the refusal that says what is wanting.
+/// Whether there is a disk, and the first has the bytes that a ledger needs; or the refusal that says what is missing.
 fn find_disk<D: CutDisk>(disks: &[D]) -> Result<(), Refusal>
     ensures { MatchResult result (λ _. HasDisk (map D.state disks.now)) (LacksDisk (map D.state disks.now)) }
 {
@@ -73,7 +72,7 @@ fn find_disk<D: CutDisk>(disks: &[D]) -> Result<(), Refusal>
 }
 
 /// Whether a disk has the bytes that a ledger needs.
-#[tactic(auto, unfolding(campaign_machine::specs::Entries::place_count))]
+#[tactic(auto, unfolding(key_campaign::specs::Entries::place_count))]
 fn check_size<D: CutDisk>(disk: &D) -> Result<(), Refusal>
     ensures { MatchResult result (λ _. ledger_size ≤ (D.state disk.now).size)
         (λ row. ((D.state disk.now).size < ledger_size) × (row ≡ row_of 9 too_small_text)) }

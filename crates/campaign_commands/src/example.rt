@@ -7,8 +7,8 @@ ghost use Rattle.campaign_commands.specs.Examples.{Campaigns, IsExampleCampaign,
 
 use crate::run::run_campaign;
 use bus_port::{CleanSource, Sink};
-use command_edge::NO_MEMORY;
 use cut_disk::MemDisk;
+use program_edge::NO_MEMORY;
 use std::alloc::{AllocError, Global};
 
 /// The example of a memory update in the SHE specification: it is issued, confirmed, and confirmed again.
@@ -33,7 +33,7 @@ pub fn run_example<K: Sink>(alloc: Global, sink: &mut K) -> u8
     }
 }
 
-/// The two words of the example, its script and its disk.
+/// The two arguments of the example, its script and its disk.
 fn example(alloc: Global) -> Result<(Vec<String>, Vec<u8>, Vec<MemDisk>), AllocError>
     ensures words { IfOk result (λ made. length (made.0.items) ≡ 2) }
     ensures script { IfOk result (λ made. made.1.items ≡ EXAMPLE.now) }

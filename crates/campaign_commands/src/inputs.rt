@@ -2,16 +2,15 @@
 ghost use Rattle.std.specs.Prelude.{◌≡◌, ◌<◌, ◌^◌, length, map, string_bytes};
 ghost use Rattle.campaign_commands.specs.Steps.{HasScriptCommands, PreparesCampaign};
 
+use crate::read_campaign;
 use crate::refusals::usage_refusal;
-use answer_rows::Refusal;
 use bus_port::Source;
-use campaign_machine::LedgerCommand;
-use campaign_texts::read_campaign;
-use command_edge::read_input;
-use line_rows::line_refusal;
+use key_campaign::LedgerCommand;
+use program_edge::{Refusal, read_input};
 use std::alloc::Global;
+use text_lines::line_refusal;
 
-/// The first phase: the words, and the script. It ends in commands, or in the first refusal that applies.
+/// The first phase: the arguments, and the script. It ends in commands, or in the first refusal that applies.
 pub fn prepare<T: Source>(
     alloc: Global,
     words: &[String],

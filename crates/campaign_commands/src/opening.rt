@@ -1,6 +1,6 @@
 //! The ledger that stands on a disk, or a new one on a blank disk.
 ghost use Rattle.std.specs.Prelude.{◌≡◌, IfOk, IfErr};
-ghost use Rattle.campaign_machine.specs.Entries.{no_entries};
+ghost use Rattle.key_campaign.specs.Entries.{no_entries};
 ghost use Rattle.key_campaign.specs.Cell.{ledger_cells};
 ghost use Rattle.campaign_commands.specs.Opening.{LedgerOpened, LacksLedger};
 
@@ -35,9 +35,9 @@ fn empty_cells() -> [[u8; 32]; 256]
     [[0; 32]; 256]
 }
 
-/// The ledger on a disk of at least 17,440 bytes: where the first 32 bytes are zero, a new one without entries, for
-/// which the disk is formatted as a twin store of version 1 with 256 cells; else the one that stands there. Errors:
-/// those of `open_store`, in its order, then `BadEntry`.
+/// The ledger on a disk of at least 17,440 bytes. If the first 32 bytes are zero it is a new one without entries: the
+/// disk is formatted as a twin store of version 1 with 256 cells. Else it is the one that stands there. Errors: those
+/// of `open_store`, in its order, then `BadEntry`.
 pub fn open_ledger<D: CutDisk>(alloc: Global, disk: D) -> Result<Ledger<AnyCells<D>>, NoLedger<D>>
     ensures opened { IfOk result (LedgerOpened (D.state disk)) }
     ensures refused { IfErr result (λ r. LacksLedger (D.state disk) (D.state r.disk) r.cause) }

@@ -4,17 +4,17 @@ ghost use Rattle.text_lines.specs.Texts.{line};
 ghost use Rattle.any_cells.specs.FaultTexts.{store_fault_text as fault_text};
 ghost use Rattle.campaign_commands.specs.Steps.{IsNoLedgerRow};
 ghost use Rattle.campaign_commands.specs.Rows.{campaign_usage, too_few_text, too_small_text};
-ghost use Rattle.answer_rows.specs.Rows.{row_of};
+ghost use Rattle.program_edge.specs.Rows.{row_of};
 
 use crate::opening::NoLedgerCause;
-use answer_rows::Refusal;
 use any_cells::{fixed_fault_text, store_fault_text};
 use cell_store::StoreFault;
+use program_edge::Refusal;
 use std::alloc::{AllocError, Global};
 
 const USAGE: &str = "usage: campaign F DISK\n";
 
-/// The refusal of words that aren't two.
+/// The refusal of arguments that aren't two.
 pub fn usage_refusal() -> Refusal
     ensures { result ≡ row_of 2 campaign_usage }
 {
@@ -35,8 +35,8 @@ pub fn small_disk_refusal() -> Refusal
     Refusal::fixed(9, "disks: too small\n")
 }
 
-/// The refusal of a disk without a ledger, with the text that names its cause; or want of memory, also for a text with
-/// a number. Telling a disk that failed, or has no store, takes no memory.
+/// The refusal of a disk without a ledger, with the text that names its cause; or out of memory, also for a text with a
+/// number. Telling a disk that failed, or has no store, takes no memory.
 pub fn no_ledger_refusal(alloc: Global, cause: NoLedgerCause) -> Refusal
     ensures { IsNoLedgerRow cause result }
 {

@@ -1,18 +1,19 @@
 //! A station: the ledger of a campaign as a machine, which tells a line for each command.
 ghost use Rattle.std.specs.Prelude.{◌≡◌, All};
-ghost use Rattle.campaign_machine.specs.Entries.{IsUnit};
-ghost use Rattle.campaign_machine.specs.declared.commands.LedgerCommand.TheVariants as command;
+ghost use Rattle.key_campaign.specs.Entries.{IsUnit};
+ghost use Rattle.key_campaign.specs.declared.commands.LedgerCommand.TheVariants as command;
 ghost use Rattle.key_campaign.specs.Lines.{ledger_refusal, issued_line, confirmed_line, ledger_cut_line};
-ghost use Rattle.campaign_texts.specs.ScriptCommands.{IsScriptCommand};
+ghost use Rattle.campaign_commands.specs.ScriptCommands.{IsScriptCommand};
 ghost use Rattle.campaign_commands.specs.Turns.{LedgerTurn};
 
-use campaign_machine::{Confirm, Issue, LedgerCommand, LedgerLine, LedgerRefusal};
 use cell_store::{CutCells, Reread};
 use cut_disk::Torn;
-use key_campaign::{Ledger, LedgerCut, LedgerFault};
+use key_campaign::{
+    Confirm, Issue, Ledger, LedgerCommand, LedgerCut, LedgerFault, LedgerLine, LedgerRefusal,
+};
 use key_slots::Counter28;
 use memory_update::Request;
-use numbered_run::Machine;
+use run_driver::Machine;
 
 /// A ledger that is given commands. Contracts see it as the ledger.
 #[derive(Drop)]
@@ -22,7 +23,7 @@ pub struct Station<C: CutCells> {
 
 impl<C: CutCells> Station<C> {
     ghost use Rattle.std.specs.Prelude.{◌≡◌};
-    ghost use Rattle.campaign_texts.specs.ScriptCommands.{IsScriptCommand};
+    ghost use Rattle.campaign_commands.specs.ScriptCommands.{IsScriptCommand};
     ghost use Rattle.campaign_commands.specs.Turns.{LedgerTurn};
 
     /// A station over this ledger.
@@ -101,7 +102,7 @@ impl<C: CutCells> Station<C> {
 impl<C: CutCells> Machine for Station<C> {
     ghost use Rattle.std.specs.Prelude.{All};
     ghost use Rattle.key_campaign.specs.State.{LedgerState};
-    ghost use Rattle.campaign_texts.specs.ScriptCommands.{IsScriptCommand};
+    ghost use Rattle.campaign_commands.specs.ScriptCommands.{IsScriptCommand};
     ghost use Rattle.campaign_commands.specs.Turns.{LedgerTurn};
 
     type Command = LedgerCommand;
@@ -141,7 +142,7 @@ fn line_of_confirm(confirmed: Result<Counter28, LedgerFault>) -> LedgerLine
     }
 }
 
-/// How a fault of the ledger is told.
+/// The refusal that a fault of the ledger is printed as.
 fn refusal_of(fault: LedgerFault) -> LedgerRefusal
     ensures { result ≡ ledger_refusal fault }
 {

@@ -54,7 +54,7 @@ front_more cells i below =
     ∙ sym (flat_map-append fresh_cell (take i cells) (get_or cells i [] ∷ []))
     ∙ ap (flat_map fresh_cell) (sym (take_more cells i [] below))
 
--- one more cell is written behind them
+-- one more cell is written after them
 pub splice_more : (b : ℕ) (cells : List (List ℕ)) (i : ℕ) (x : List ℕ) → Sized cells → i < length cells → b + 68 * length cells ≤ length x
     → splice (b + 68 * i) (fresh_cell (get_or cells i [])) (splice b (flat_map fresh_cell (take i cells)) x) ≡ splice b (flat_map fresh_cell (take (i + 1) cells)) x
 splice_more b cells i x sized below room =
@@ -94,7 +94,7 @@ pairs_all version cells n start now all so_far = subst (λ front. Pairs version 
 pub pairs_synced : (version : Version) (cells : List (List ℕ)) (old mid new : Option Told) → Pairs version cells old mid → Syncs mid new → FirmPairs version cells old new
 pairs_synced version cells old mid new pairs synced t is = let was = pairs t is in synced (record { bytes = splice (base version + 32) (flat_map fresh_cell cells) t.bytes; loose = was.loose }) was.told
 
--- The stages of a format, whatever the store has behind its header: a blank header, the cells behind it, the header.
+-- The stages of a format, whatever the store has after its header: a blank header, the cells after it, the header.
 
 -- a header, a blank before it and the rest between them are written one over the other
 over_blank : (b : ℕ) (h z p x : List ℕ) → length h ≡ 32 → length z ≡ 32 → b + 32 + length p ≤ length x → splice b h (splice (b + 32) p (splice b z x)) ≡ splice b (h ++ p) x

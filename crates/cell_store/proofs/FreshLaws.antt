@@ -89,7 +89,7 @@ cell_at-fresh x i cell sized pair =
     let at : 66 + 68 * i ≡ 32 + 68 * i + 34 = omega arith in
     rw (two.0, at, two.1) (cell_of-fresh cell)
 
--- a part of what stands behind a header
+-- a part of what stands after a header
 pub behind_head : (h p r : List ℕ) (w k n : ℕ) → length h ≡ w → k + n ≤ length p → take n (drop (w + k) (h ++ p ++ r)) ≡ take n (drop k p)
 behind_head h p r w k n head within =
     let split : drop (w + k) (h ++ p ++ r) ≡ drop k p ++ r =
@@ -103,7 +103,7 @@ behind_head h p r w k n head within =
 pub at_head : (h p r : List ℕ) (w : ℕ) → length h ≡ w → take w (h ++ p ++ r) ≡ h
 at_head h p r w head = ap (take w) (append_assoc h p r) ∙ take_at h (p ++ r) w head
 
--- what stands behind the header has the rest of the store's size
+-- what stands after the header has the rest of the store's size
 pub length-fresh_cells : (cells : List (List ℕ)) → Sized cells → length (fresh_cells Twin cells) ≡ 68 * length cells
 unfolding fresh_cells
 length-fresh_cells cells sized = length-pairs cells sized

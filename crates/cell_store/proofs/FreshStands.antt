@@ -33,7 +33,7 @@ pub length-fresh_banks : (cells : List (List ℕ)) → Sized cells → length (f
 length-fresh_banks cells sized =
     length-append (live_bank 0 cells) (second_bank (length cells)) ∙ omega (arith, length-live_bank cells sized, length-second_bank (length cells))
 
--- the banks of a fresh log store, behind a header
+-- the banks of a fresh log store, after a header
 module _ (cells : List (List ℕ)) (h r : List ℕ) (sized : Sized cells) (head : length h ≡ 32) where
   store : List ℕ
   store = h ++ fresh_banks cells ++ r
@@ -82,7 +82,7 @@ by_kind Log version cells x y few room sized fresh = subst (λ (z : List ℕ). S
 pub fresh_stands : (layout : Layout) (cells : List (List ℕ)) (x y : List ℕ) → FewCells (length cells) → store_size layout (length cells) ≤ length x → Sized cells → Fresh layout cells x y → Stands layout y cells
 fresh_stands layout cells x y few room sized fresh = by_kind layout.kind layout.version cells x y few room sized fresh
 
--- what stands behind the header has the rest of the store's size
+-- what stands after the header has the rest of the store's size
 pub length-fresh_log : (cells : List (List ℕ)) → Sized cells → length (fresh_cells Log cells) ≡ 4484 + 64 * length cells
 unfolding fresh_cells
 length-fresh_log cells sized = length-fresh_banks cells sized

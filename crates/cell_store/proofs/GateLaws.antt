@@ -1,4 +1,4 @@
--- The stages of a put: a gate is closed, a copy is filled behind it, and its gate is opened. What each leaves.
+-- The stages of a put: a gate is closed, the copy behind it is filled, and the gate is opened. What each leaves.
 use Rattle.std.proofs.Common.{◌≡◌, ℕ, suc, ◌+◌, ◌-◌, ◌<◌, ◌≤◌, inl, inr, Bool, true, false, if◌then◌else◌, eqb, Option, Some, Result, Ok, Err, OnOk, OnErr, List, [], ◌∷◌, length, refl, sym, ap, subst, ◌∙◌, arith, get_or}
 use Rattle.std.proofs.lemmas.List.{ext_get_or}
 use Rattle.std.proofs.lemmas.Bool.{cases_lt, cases_eq, cases_Bool, eqb-true}
@@ -18,7 +18,7 @@ pub is_live-part : (n at : ℕ) (x : List ℕ) → is_live (part at (suc n) x) �
 unfolding is_live
 is_live-part n at x = ap (λ b. eqb b 167) (get_or-part at (suc n) x 0 (omega arith) ∙ (let e : at + 0 ≡ at = omega arith in ap (λ k. get_or x k 0) e))
 
--- where one byte may have changed and it is what it was, nothing has
+-- if one byte may have changed and it is what it was, nothing has
 pub same_byte : (at : ℕ) (x y : List ℕ) → SameOutside at 1 x y → get_or y at 0 ≡ get_or x at 0 → y ≡ x
 same_byte at x y s e = ext_get_or 0 y x s.lengths (λ k l. elim (cases_eq k at) [
   | inl is ↦ subst (λ m. get_or y m 0 ≡ get_or x m 0) (sym is) e

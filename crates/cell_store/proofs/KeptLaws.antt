@@ -1,4 +1,4 @@
--- What a put makes of the bytes of a twin store that keep the cells that are held in memory.
+-- What a put makes of the bytes of a twin store that keep the cells in memory.
 use Rattle.std.proofs.Common.{◌≡◌, ℕ, suc, ◌+◌, ◌<◌, ◌≤◌, ◌⊎◌, inl, inr, true, false, Some, List, [], length, drop, set, get_or, sym, ap, subst, ◌∙◌, arith, length-drop}
 use Rattle.std.proofs.lemmas.List.{length-set, length-map, get_or-set_same, get_or-set_other, get_or-map}
 use Rattle.std.proofs.lemmas.Bool.{cases_eq, cond-true, cond-false}

@@ -3,8 +3,8 @@ use Rattle.std.proofs.Common.{◌≡◌, ◌≢◌, ℕ, zero, suc, ◌+◌, ◌
 use Rattle.std.proofs.lemmas.List.{ext_get_or}
 use Rattle.std.proofs.lemmas.List.FromFn.{get_or-map-range_with_len, length-map-range_with_len}
 use Rattle.std.proofs.lemmas.Bool.{cases_order}
-use Rattle.byte_lists.specs.Numbers.{number_of, bytes_of}
-use Rattle.byte_lists.specs.NumberLaws.{number_of-bytes_of-lt}
+use Rattle.basics.specs.Numbers.{number_of, bytes_of}
+use Rattle.basics.specs.NumberLaws.{number_of-bytes_of-lt}
 use Rattle.cell_store.specs.declared.copies.Side.{Side}
 use Rattle.cell_store.specs.declared.copies.Side.TheVariants.{First, Second}
 use Rattle.cell_store.specs.Layout.{part, SameOutside}
@@ -23,7 +23,7 @@ head_apart n First Second p l = inr (omega arith)
 head_apart n Second First p l = inl (omega arith)
 head_apart n Second Second p l = inl (omega arith)
 
--- the list of a bank, where its cells and so many of its places are the same
+-- the list of a bank, if its cells and so many of its places are the same
 pub listed-same : (n : ℕ) (side : Side) (x y : List ℕ) (used : ℕ)
     → ((i : ℕ) → i < n → bank_cell n side y i ≡ bank_cell n side x i)
     → ((p : ℕ) → p < used → place n side y p ≡ place n side x p)

@@ -22,7 +22,7 @@ use Rattle.cell_store.specs.LogReading.{ToldLog, bank_of, BankRead, NoBank, Cell
 use Rattle.cell_store.specs.ReadOrder.{bank_reads_to, log_reads, log_reads_to}
 use Rattle.cell_store.proofs.ReadingLaws.{reads_none, reads_join, reads_more, failed_more, failed_after, read-part}
 
--- what was read behind the base
+-- what was read at a place that counts from the base
 pub told-part : (told : Option Told) (version : Version) (address at n : ℕ) (bytes : List ℕ) → ReadsAs told address bytes → address ≡ base version + at → length bytes ≡ n → ToldLog version told (λ x. bytes ≡ part at n x)
 told-part told version address at n bytes reads place sized t h = read-part told address (base version) at n bytes reads place sized t h
 

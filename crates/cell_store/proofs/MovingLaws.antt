@@ -101,7 +101,7 @@ pub behind-size : (kind : Kind) (n : ℕ) → size_from_base kind n ≡ 32 + beh
 behind-size Twin n = refl
 behind-size Log n = omega arith
 
--- a header before what was written behind it
+-- a header before what was written after it
 over_rest : (b : ℕ) (h p x : List ℕ) → length h ≡ 32 → b + 32 + length p ≤ length x → splice b h (splice (b + 32) p x) ≡ splice b (h ++ p) x
 over_rest b h p x head inside =
     sym (splice-apart b h (b + 32) p x (omega (arith, head)) inside)
@@ -163,9 +163,9 @@ module _ (kind : Kind) (version : Version) (cells : List (List ℕ)) (sized : Si
         within = inr (record { whole = splice (base version) (fresh_store (layout kind version) cells) bytes; fresh = refl; same = same-front b2 _ x fresh s });
       }
 
--- ---- what bytes stand for where others have changed
+-- ---- what bytes stand for if others have changed
 
--- what is at 32768 and behind it is nothing to a store of version 1 that ends before
+-- what is at 32768 and after it is nothing to a store of version 1 that ends before
 module _ (n size : ℕ) (x y : List ℕ) (s : SameOutside 32768 size x y) where
   part-low : (at k : ℕ) → at + k ≤ 32768 → part at k y ≡ part at k x
   part-low at k low = part-same at k 32768 size x y s (inl low)
@@ -217,7 +217,7 @@ same_or_not (x ∷ xs) (y ∷ ys) = elim (cases_eq x y) [
 
 -- ---- moving
 
--- where nothing has changed
+-- if nothing has changed
 pub kept-same : (kind : Kind) (n : ℕ) (old new : Option Told) → new ≡ old → KeepsCounted kind n old new
 kept-same kind n old new same b cells is count stands t told x image =
     let e : t ≡ firm b = same_Some _ _ (sym told ∙ (same ∙ is)) in
@@ -327,12 +327,6 @@ read-moves kind cells old new same stands t is = record {
   before = record { version = Two; counting = (stands t is).head; stands = stands t is };
   after = same ∙ is;
 }
-
--- what a read that failed leaves of what is told
-pub leaves-told : (all : ℕ) (up_to : ℕ → ℕ) (a b : DiskState) (fault : Reread) → Leaves all up_to a b fault → b.told ≡ a.told
-leaves-told all up_to a b reread.DiskFailed l = l.told
-leaves-told all up_to a b reread.NotFormatted l = l.told
-leaves-told all up_to a b (reread.Damaged i) l = l.told
 
 -- the header of version 2 stands, and that store is damaged
 pub damaged-unmoved : (kind : Kind) (n : ℕ) (a b : DiskState) (i : ℕ) (fault : Reread) → fault ≡ reread.Damaged i → Leaves (reads kind n) (reads_to kind n) a b fault → Finds (layout kind Two) n a.told fault → Unmoved kind n a b (reread.Damaged i)

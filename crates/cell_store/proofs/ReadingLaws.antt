@@ -102,13 +102,19 @@ failed_after {m} {n} {a} {b} {c} before f = record {
   stays = stays_join before.runs before.told before.stays f.runs f.stays;
 }
 
--- no stop comes where a store isn't read
+-- what a read that failed leaves of what is told
+pub leaves-told : (all : ℕ) (up_to : ℕ → ℕ) (a b : DiskState) (fault : Reread) → Leaves all up_to a b fault → b.told ≡ a.told
+leaves-told all up_to a b reread.DiskFailed l = l.told
+leaves-told all up_to a b reread.NotFormatted l = l.told
+leaves-told all up_to a b (reread.Damaged i) l = l.told
+
+-- no stop comes if a store isn't read
 pub leaves-stops : (all : ℕ) (up_to : ℕ → ℕ) (a b : DiskState) (fault : Reread) → Leaves all up_to a b fault → NoStop a → NoStop b
 leaves-stops all up_to a b reread.DiskFailed l = l.stops
 leaves-stops all up_to a b reread.NotFormatted l = l.stops
 leaves-stops all up_to a b (reread.Damaged i) l = l.stops
 
--- the bytes stay behind a cut where a store is read, and where it isn't
+-- the bytes stay after a cut if a store is read, and if it isn't
 pub cut-stays : {torn : Torn} {n : ℕ} {a b c : DiskState} → Call (Some (Cut torn)) a b → ReadOnly n b c → CutStays torn a c
 cut-stays call reads = cut_stays call reads.runs reads.told reads.stays
 
@@ -117,7 +123,7 @@ cut-leaves all up_to a b c reread.DiskFailed call l = cut_stays call l.runs l.to
 cut-leaves all up_to a b c reread.NotFormatted call l = cut_stays call l.runs l.told l.stays
 cut-leaves all up_to a b c (reread.Damaged i) call l = cut_stays call l.runs l.told l.stays
 
--- what was read behind a base is a part of the bytes from the base on
+-- what was read at a place that counts from a base is a part of the bytes from the base on
 pub read-part : (told : Option Told) (address b at n : ℕ) (bytes : List ℕ) → ReadsAs told address bytes → address ≡ b + at → length bytes ≡ n → (t : Told) → told ≡ Some t → bytes ≡ part at n (drop b t.bytes)
 read-part told address b at n bytes reads where-is size t h =
     reads t h

@@ -36,7 +36,7 @@ cells_more cells i below =
     ∙ sym (flat_map-append (λ c. c) (take i cells) (get_or cells i [] ∷ []))
     ∙ ap (flat_map (λ c. c)) (sym (take_more cells i [] below))
 
--- one more cell is written behind the first i
+-- one more cell is written after the first i
 pub fill-step : (x room : List ℕ) (cells : List (List ℕ)) (i k : ℕ) (one : List ℕ) → Sized cells → i < length cells → length room ≡ 2241 + 32 * length cells → x ≡ splice 1 (flat_map (λ c. c) (take i cells)) room → k ≡ 32 → one ≡ get_or cells i [] → put_mid (1 + 32 * i) k x one ≡ splice 1 (flat_map (λ c. c) (take (i + 1) cells)) room
 fill-step x room cells i k one sized below space so-far wide is =
     let w : length one ≡ 32 = ap length is ∙ sized i below in

@@ -1,6 +1,6 @@
 -- The definitions, tried on written-out disks of one cell: 100 bytes.
 use Rattle.std.proofs.Common.{◌≡◌, ℕ, Some, None, List, [], ◌∷◌, ◌++◌, set, replicate, refl, ap, get_or, arith}
-use Rattle.byte_lists.specs.Numbers.{bytes_of}
+use Rattle.basics.specs.Numbers.{bytes_of}
 use Rattle.cell_store.specs.declared.kinds.Version.TheVariants.{One, Two}
 use Rattle.cell_store.specs.Layout.{header, twin_layout}
 use Rattle.cut_disk.specs.Images.{splice}

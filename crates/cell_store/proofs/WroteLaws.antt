@@ -22,7 +22,7 @@ use Rattle.cell_store.proofs.Slices.{splice-none, cells_more}
 pub wrote-none : (at : ℕ) (a : Option Told) → Wrote at [] a a
 wrote-none at a t is = record { loose = t.loose; told = is ∙ ap (λ bytes. Some (record { bytes = bytes; loose = t.loose })) (sym (splice-none at t.bytes)) }
 
--- one write, and one behind another
+-- one write, and one after another
 pub wrote-call : (address at : ℕ) (bytes : List ℕ) (a b : Option Told) → address ≡ at → WritesLoose address bytes a b → Wrote at bytes a b
 wrote-call address at bytes a b place writes t is =
     let w : WritesLoose at bytes a b = rw (← place) writes in

@@ -16,7 +16,7 @@ use Rattle.cell_store.specs.Cells.{CellsState, Settled}
 use Rattle.cell_store.specs.Formats.{Formats, LeavesUnformed}
 use Rattle.cell_store.specs.Reading.{ReadOnly, ReadFailed, Leaves, Finds}
 
--- a store of n cells is attached: nothing was written, and bytes that are told stand for its list
+-- a store of n cells is attached: nothing was written, and told bytes stand for its list
 pub record Attached (layout : Layout) (reads n : ℕ) (disk : DiskState) (s : CellsState) : Type 0 where
   pub laid_out : s.layout ≡ layout
   pub whole : s.broken ≡ false
@@ -61,7 +61,7 @@ NotProbed version old new store.NotFormatted = ⊥
 NotProbed version old new (store.Damaged i) = ⊥
 NotProbed version old new store.Memory = ⊥
 
--- a fresh store of these cells was written in at most so many calls, none of which failed
+-- a fresh store of these cells was written in at most so many calls, and none failed
 pub record Formatted (layout : Layout) (most : ℕ) (cells : List (List ℕ)) (before after : DiskState) : Type 0 where
   pub room : store_size layout (length cells) ≤ before.size
   pub runs : Runs [] most before after

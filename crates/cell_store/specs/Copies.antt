@@ -19,7 +19,7 @@ side_at i Second = second_at i
 abbrev pub copy : List ℕ → ℕ → Side → List ℕ
 copy x i side = part (side_at i side) 34 x
 
--- the copy on this side counts, and it and its spare are as they are held
+-- the copy on this side counts, and it and its spare are as memory holds them
 pub record Keeps (x : List ℕ) (i : ℕ) (held : Held) : Type 0 where
   pub counting : counts (copy x i held.side) (copy x i (other held.side)) ≡ true
   pub bytes : payload (copy x i held.side) ≡ held.payload

@@ -20,30 +20,30 @@ pub record FreshOn (layout : Layout) (cells : List (List ℕ)) (t : Told) (new :
 abbrev pub Formats : Layout → List (List ℕ) → Option Told → Option Told → Type 0
 Formats layout cells old new = (t : Told) → old ≡ Some t → FreshOn layout cells t new
 
--- x is a fresh store of these cells over the bytes b, but for its header
+-- x is a fresh store of these cells over the bytes b, except for its header
 pub record FreshButHeader (layout : Layout) (cells : List (List ℕ)) (b x : List ℕ) : Type 0 where
   pub whole : List ℕ
   pub fresh : Fresh layout cells b whole
   pub same : SameOutside (base layout.version) 32 whole x
 
--- What a format that failed may leave of the bytes b: before and behind the store they are as they were. Within it
--- all but the header is as it was, or the header is zero, or all but the header is a fresh store.
+-- What a format that failed may leave of the bytes b: before and after the store they are as they were. Within it all
+-- but the header is as it was, or the header is zero, or all but the header is a fresh store.
 pub record Unformed (layout : Layout) (cells : List (List ℕ)) (b x : List ℕ) : Type 0 where
   pub besides : SameBesides layout (length cells) b x
   pub within : SameOutside (base layout.version) 32 b x
       ⊎ ((part 0 32 (from_base layout.version x) ≡ replicate 32 0) ⊎ FreshButHeader layout cells b x)
 
--- every image is so, where no byte was loose before
+-- every image is so, if no byte was loose before
 abbrev pub LeavesUnformed : Layout → List (List ℕ) → Option Told → Option Told → Type 0
 LeavesUnformed layout cells old new = (b : List ℕ) → old ≡ Some (firm b) → EachImage new (Unformed layout cells b)
 
--- what stands behind the header of a fresh store is written, and no byte is loose
+-- what stands after the header of a fresh store is written, and no byte is loose
 abbrev pub FirmCells : Layout → List (List ℕ) → Option Told → Option Told → Type 0
 FirmCells layout cells old new =
     (t : Told) → old ≡ Some t
     → new ≡ Some (firm (splice (base layout.version + 32) (fresh_cells layout.kind cells) t.bytes))
 
--- the copies of these cells stand behind the place of the header, and all else reads as before
+-- the copies of these cells stand after the place of the header, and all else reads as before
 abbrev pub Pairs : Version → List (List ℕ) → Option Told → Option Told → Type 0
 Pairs version cells old new =
     (t : Told) → old ≡ Some t → ReadsNow (splice (base version + 32) (flat_map fresh_cell cells) t.bytes) new

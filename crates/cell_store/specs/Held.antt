@@ -1,4 +1,4 @@
--- What is held in memory of two copies of a cell.
+-- What memory holds of two copies of a cell.
 use Rattle.std.specs.Prelude.{ℕ, Option, Some, None, List, if◌then◌else◌}
 use Rattle.cell_store.specs.declared.copies.Side.{Side}
 use Rattle.cell_store.specs.declared.copies.Side.TheVariants.{First, Second}
@@ -10,7 +10,7 @@ abbrev pub held_copy : List ℕ → Side → List ℕ → Held
 held_copy this side that =
     record { payload = payload this; mark = mark this; side = side; spare_is_live = is_live that }
 
--- the copy that counts; none where the cell is damaged
+-- the copy that counts; none if the cell is damaged
 abbrev pub held_of : List ℕ → List ℕ → Option Held
 held_of first second =
     if counts first second then Some (held_copy first First second) else

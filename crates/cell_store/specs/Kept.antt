@@ -1,4 +1,4 @@
--- All cells of a twin store, as bytes keep them and as they are held in memory.
+-- All cells of a twin store, as bytes keep them and as memory holds them.
 use Rattle.std.specs.Prelude.{◌≡◌, ℕ, ◌<◌, ◌≤◌, List, length, get_or, map}
 use Rattle.cell_store.specs.declared.kinds.Version.{Version}
 use Rattle.cell_store.specs.declared.copies.Held.{Held}

@@ -1,6 +1,6 @@
 -- Where a store has its bytes: the first of them, its header, and places in a list of bytes.
 use Rattle.std.specs.Prelude.{◌≡◌, ℕ, ◌+◌, ◌<◌, ◌≤◌, List, ◌∷◌, ◌++◌, length, take, drop, get_or, replicate, codes}
-use Rattle.byte_lists.specs.Numbers.{bytes_of}
+use Rattle.basics.specs.Numbers.{bytes_of}
 use Rattle.cell_store.specs.declared.kinds.Kind.{Kind}
 use Rattle.cell_store.specs.declared.kinds.Kind.TheVariants.{Twin, Log}
 use Rattle.cell_store.specs.declared.kinds.Version.{Version}
@@ -11,7 +11,7 @@ use Rattle.cell_store.specs.declared.kinds.Layout.{Layout}
 abbrev pub part : ℕ → ℕ → List ℕ → List ℕ
 part at n x = take n (drop at x)
 
--- x and y have one length, and are the same but for the n bytes from a place on
+-- x and y have one length, and are the same except for the n bytes from a place on
 pub record SameOutside (at n : ℕ) (x y : List ℕ) : Type 0 where
   pub lengths : length y ≡ length x
   pub below : (k : ℕ) → k < at → get_or y k 0 ≡ get_or x k 0

@@ -1,11 +1,11 @@
--- The log store: behind the header there are two banks, of which one counts. With n cells a bank is a gate, a
--- mark from 0 to 2, n cells of 32 bytes, and 64 record places of 35 bytes. A place is a gate, a cell number in
--- two bytes, and 32 bytes of payload. A bank or place is live where its gate is a7. All places count from the
--- first byte of the list.
+-- The log store: after the header there are two banks, and one of them counts. With n cells a bank is a gate, a mark
+-- from 0 to 2, n cells of 32 bytes, and 64 places of 35 bytes for records. A place is a gate, a cell number in two
+-- bytes, and 32 bytes of payload. A bank or place is live if its gate is a7. All places count from the first byte of
+-- the list.
 use Rattle.std.specs.Prelude.{◌≡◌, ℕ, zero, suc, ◌+◌, ◌*◌, ◌<◌, ◌≤◌, true, false, ◌⊎◌, List, ◌∷◌, ◌++◌, length, drop}
 use Rattle.std.specs.Prelude.{set, map, replicate}
 use Rattle.std.specs.List.{range_with_len, flat_map}
-use Rattle.byte_lists.specs.Numbers.{number_of, bytes_of}
+use Rattle.basics.specs.Numbers.{number_of, bytes_of}
 use Rattle.cell_store.specs.declared.copies.Side.{Side}
 use Rattle.cell_store.specs.declared.copies.Side.TheVariants.{First, Second}
 use Rattle.cell_store.specs.Layout.{part}
@@ -62,13 +62,13 @@ pub record Places (n : ℕ) (side : Side) (x : List ℕ) (used : ℕ) : Type 0 w
   pub below : (p : ℕ) → p < used → number (place n side x p) < n
   pub free : (p : ℕ) → used ≤ p → p < 64 → is_live (place n side x p) ≡ false
 
--- place p stands behind a place that isn't live
+-- place p stands after a place that isn't live
 pub record Behind (n : ℕ) (side : Side) (x : List ℕ) (p : ℕ) : Type 0 where
   pub place : ℕ
   pub before : place < p
   pub closed : is_live (part (place_at n side place) 35 x) ≡ false
 
--- place p is live, and holds no number below n or stands behind a place that isn't live
+-- place p is live, and holds no number below n or stands after a place that isn't live
 pub record PlaceDamaged (n : ℕ) (side : Side) (x : List ℕ) (p : ℕ) : Type 0 where
   pub live : is_live (place n side x p) ≡ true
   pub wrong : (n ≤ number (place n side x p)) ⊎ Behind n side x p
@@ -105,6 +105,6 @@ bank_rest m cells = m ∷ flat_map (λ c. c) cells ++ replicate 2240 0
 abbrev pub live_bank : ℕ → List (List ℕ) → List ℕ
 live_bank m cells = 0xa7 ∷ bank_rest m cells
 
--- both banks of a fresh store: the first is live with these cells, the second closed and zero but for its mark 2
+-- both banks of a fresh store: the first is live with these cells, the second closed and zero except for its mark 2
 abbrev pub fresh_banks : List (List ℕ) → List ℕ
 fresh_banks cells = live_bank 0 cells ++ 0 ∷ 2 ∷ replicate (2240 + 32 * length cells) 0

@@ -1,4 +1,4 @@
--- The cells of a log store, as bytes keep them and as they are held in memory, and what a put makes of them.
+-- The cells of a log store, as bytes keep them and as memory holds them, and what a put makes of them.
 use Rattle.std.specs.Prelude.{◌≡◌, ◌⊎◌, ℕ, ◌≤◌, Option, Some, List, length, set}
 use Rattle.cut_disk.specs.State.{Told}
 use Rattle.cut_disk.specs.Images.{firm, EachImage}
@@ -11,8 +11,8 @@ use Rattle.cell_store.specs.Copies.{other}
 use Rattle.cell_store.specs.Log.{log_size, bank_head, BankCounts, listed, Places}
 use Rattle.cell_store.specs.Store.{Stands, SameBesides, LogPut}
 
--- the bytes of a log store have the header of these n cells, and hold them in the bank on this side and its first
--- places, so many of them
+-- the bytes of a log store have the header of these n cells. They hold them in the bank on this side and its first so
+-- many places
 pub record HoldsInBank (version : Version) (n : ℕ) (store : List ℕ) (cells : List (List ℕ)) (side : Side)
     (used : ℕ) : Type 0 where
   pub count : length cells ≡ n
@@ -22,7 +22,7 @@ pub record HoldsInBank (version : Version) (n : ℕ) (store : List ℕ) (cells :
   pub places : Places n side store used
   pub list : listed n side store used ≡ cells
 
--- the bytes keep these n cells, as they are held of the bank that counts
+-- the bytes keep these n cells, as memory holds the bank that counts
 pub record KeepsLog (version : Version) (n : ℕ) (x : List ℕ) (cells : List (List ℕ)) (bank : Bank) : Type 0 where
   pub holds : HoldsInBank version n (from_base version x) cells bank.side bank.used
   pub marked : mark (bank_head n bank.side (from_base version x)) ≡ bank.mark
@@ -44,11 +44,11 @@ abbrev pub LogStandsForEither : Version → ℕ → List ℕ → List (List ℕ)
 LogStandsForEither version i c cells x =
     Stands (log_layout version) x cells ⊎ Stands (log_layout version) x (set cells i c)
 
--- where no byte was loose, every image stands for one of the two
+-- if no byte was loose, every image stands for one of the two
 abbrev pub LeavesEither : Version → ℕ → List ℕ → List (List ℕ) → Option Told → Option Told → Type 0
 LeavesEither version i c cells old new =
     (b : List ℕ) → old ≡ Some (firm b) → EachImage new (LogStandsForEither version i c cells)
 
--- and has the bytes before and behind the store as they were
+-- and has the bytes before and after the store as they were
 abbrev pub LogBesides : Version → ℕ → Option Told → Option Told → Type 0
 LogBesides version n old new = (b : List ℕ) → old ≡ Some (firm b) → EachImage new (SameBesides (log_layout version) n b)

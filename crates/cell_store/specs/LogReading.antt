@@ -24,13 +24,13 @@ ToldLog version told P = (t : Told) → told ≡ Some t → P (from_base version
 abbrev pub bank_beside : List ℕ → Side → List ℕ → Bank
 bank_beside this side that = record { side = side; mark = mark this; used = 0; spare_is_live = is_live that }
 
--- the bank that counts; none where none does
+-- the bank that counts; none if none does
 abbrev pub bank_of : List ℕ → List ℕ → Option Bank
 bank_of first second =
     if counts first second then Some (bank_beside first First second) else
     if counts second first then Some (bank_beside second Second first) else None
 
--- this bank counts, and it and its spare are as they are held
+-- this bank counts, and it and its spare are as memory holds them
 pub record BankRead (n : ℕ) (bank : Bank) (x : List ℕ) : Type 0 where
   pub counting : BankCounts n bank.side x
   pub marked : mark (bank_head n bank.side x) ≡ bank.mark

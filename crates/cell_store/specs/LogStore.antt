@@ -12,8 +12,8 @@ abbrev pub log_state : Version → DiskState → List (List ℕ) → Bool → Ce
 log_state version disk cells broken =
     record { layout = log_layout version; cells = cells; disk = disk; broken = broken }
 
--- The disk has room for the store, and there is room in memory to read as many cells anew and for a bank but its gate.
--- The bytes of a disk that tells them keep the cells, loose or not, unless the store is broken.
+-- The disk has room for the store. Memory has room to read as many cells anew, and for a bank without its gate. The
+-- bytes of a disk that tells them keep the cells, loose or not, unless the store is broken.
 pub record IsLogStore (version : Version) (disk : DiskState) (cells : List (List ℕ)) (reread space : ℕ) (bank : Bank)
     (broken : Bool) : Type 0 where
   pub few : FewCells (length cells)

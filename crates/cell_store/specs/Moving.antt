@@ -16,8 +16,8 @@ use Rattle.cell_store.specs.Store.{HasHeader, Stands, FirstDamaged, SameBesides}
 use Rattle.cell_store.specs.Formats.{FreshOn, FreshButHeader}
 use Rattle.cell_store.specs.Reading.{ReadOnly}
 
--- Of the stores of this kind and n cells in the bytes x the one of this version counts: that of version 2 where its
--- header stands, and that of version 1 otherwise.
+-- Of the stores of this kind and n cells in the bytes x the store of this version counts: that of version 2 if its
+-- header stands, else that of version 1.
 abbrev pub CountsAs : Kind → ℕ → List ℕ → Version → Type 0
 CountsAs kind n x Two = HasHeader (layout kind Two) n x
 CountsAs kind n x One = HasHeader (layout kind Two) n x → ⊥
@@ -28,7 +28,7 @@ pub record StandsAsCounted (kind : Kind) (cells : List (List ℕ)) (x : List ℕ
   pub counting : CountsAs kind (length cells) x version
   pub stands : Stands (layout kind version) x cells
 
--- how many bytes of a store of n cells stand behind its header
+-- how many bytes of a store of n cells stand after its header
 abbrev pub behind_header : Kind → ℕ → ℕ
 behind_header Twin n = 68 * n
 behind_header Log n = 4484 + 64 * n
@@ -38,14 +38,14 @@ abbrev pub calls_behind : Kind → ℕ → ℕ
 calls_behind Twin n = n + 1
 calls_behind Log n = 143 + 2 * n
 
--- What a fresh store whose header is written last may leave of the bytes b where that fails: before and behind the
--- store they are as they were, and so is the header, or all but the header is a fresh store.
+-- What a fresh store whose header is written last may leave of the bytes b if that fails: before and after the store
+-- they are as they were, and so is the header, or all but the header is a fresh store.
 pub record HeaderLast (laid : Layout) (cells : List (List ℕ)) (b x : List ℕ) : Type 0 where
   pub besides : SameBesides laid (length cells) b x
   pub within : SameOutside (base laid.version + 32) (behind_header laid.kind (length cells)) b x
       ⊎ FreshButHeader laid cells b x
 
--- every image is so, where no byte was loose before
+-- every image is so, if no byte was loose before
 abbrev pub LeavesHeaderLast : Layout → List (List ℕ) → Option Told → Option Told → Type 0
 LeavesHeaderLast laid cells old new = (b : List ℕ) → old ≡ Some (firm b) → EachImage new (HeaderLast laid cells b)
 
@@ -53,8 +53,8 @@ LeavesHeaderLast laid cells old new = (b : List ℕ) → old ≡ Some (firm b) �
 abbrev pub move_calls : Kind → ℕ → ℕ
 move_calls kind n = 1 + reads kind n + (calls_behind kind n + 2)
 
--- what is told after a move of a store that counted as this version: what was told before, or a fresh store of version
--- 2
+-- what a disk tells after a move of a store that counted as this version: what it told before, or a fresh store of
+-- version 2
 abbrev pub AfterMove : Kind → List (List ℕ) → Told → Option Told → Version → Type 0
 AfterMove kind cells t new Two = new ≡ Some t
 AfterMove kind cells t new One = FreshOn (layout kind Two) cells t new
@@ -67,32 +67,32 @@ pub record Moved (kind : Kind) (cells : List (List ℕ)) (t : Told) (new : Optio
 abbrev pub Moves : Kind → List (List ℕ) → Option Told → Option Told → Type 0
 Moves kind cells old new = (t : Told) → old ≡ Some t → Moved kind cells t new
 
--- where the bytes stood for a list of n cells in the version that counts, and none was loose, every image stands for it
--- in the version that counts for the image
+-- the bytes stood for a list of n cells in the version that counts, and none was loose: then every image stands for
+-- that list in the version that counts for it
 abbrev pub KeepsCounted : Kind → ℕ → Option Told → Option Told → Type 0
 KeepsCounted kind n old new =
     (b : List ℕ) (cells : List (List ℕ)) → old ≡ Some (firm b) → length cells ≡ n → StandsAsCounted kind cells b
     → EachImage new (StandsAsCounted kind cells)
 
--- where the bytes stood so, only the disk can have failed
+-- if the bytes stood so, only the disk can have failed
 abbrev pub OnlyDisk : Kind → ℕ → Option Told → Reread → Type 0
 OnlyDisk kind n old fault =
     (b : List ℕ) (cells : List (List ℕ)) → old ≡ Some (firm b) → length cells ≡ n → StandsAsCounted kind cells b
     → fault ≡ reread.DiskFailed
 
--- where no byte was loose, every image has all bytes but those of a store of version 2 as they were
+-- if no byte was loose, every image has all bytes but those of a store of version 2 as they were
 abbrev pub LeavesBelow : Kind → ℕ → Option Told → Option Told → Type 0
 LeavesBelow kind n old new = (b : List ℕ) → old ≡ Some (firm b) → EachImage new (SameBesides (layout kind Two) n b)
 
--- the version that counts is damaged, first where this number says
+-- the version that counts is damaged, and this number says where first
 pub record DamagedAsCounted (kind : Kind) (n i : ℕ) (x : List ℕ) : Type 0 where
   pub version : Version
   pub counting : CountsAs kind n x version
   pub head : HasHeader (layout kind version) n x
   pub damaged : FirstDamaged (layout kind version) x n i
 
--- Why a store of n cells isn't moved: the disk failed, or bytes that are told have no header of it in either version,
--- or the version that counts is damaged.
+-- Why a store of n cells isn't moved: the disk failed, or told bytes have no header of it in either version, or the
+-- version that counts is damaged.
 abbrev pub Unmoved : Kind → ℕ → DiskState → DiskState → Reread → Type 0
 Unmoved kind n old new reread.DiskFailed = Rose old.faults new.faults
 Unmoved kind n old new reread.NotFormatted =

@@ -3,6 +3,7 @@ use Rattle.std.specs.Prelude.{◌≡◌, ℕ, min, Option, Some, None, List, [],
 use Rattle.cut_disk.specs.declared.Torn.{Torn}
 use Rattle.cut_disk.specs.State.{DiskState, Told, Entry, Cut, past_entry}
 use Rattle.cut_disk.specs.Arming.{is_clear}
+use Rattle.cut_disk.specs.Images.{CutsTo}
 use Rattle.cut_disk.specs.Calls.{Rose, Runs}
 use Rattle.cell_store.specs.declared.copies.Held.{Held}
 use Rattle.cell_store.specs.declared.kinds.Version.{Version}
@@ -19,14 +20,14 @@ use Rattle.cell_store.specs.Cells.{RereadFinds}
 abbrev pub NoStop : DiskState → Type 0
 NoStop s = IsTrue (is_clear s.arms.stop)
 
--- calls all along which the bytes stayed: each entry that they added to a past has the bytes and loose marks that were
--- told before
+-- calls all along which the bytes stayed: each entry that they added to a past has the bytes and loose marks from
+-- before
 abbrev pub StaysTold : DiskState → DiskState → Type 0
 StaysTold old new = (t : Told) (earlier added : List Entry) → old.told ≡ Some t
     → old.past ≡ Some earlier → new.past ≡ Some (earlier ++ added)
     → All (λ entry. entry.state ≡ t) added
 
--- the first of these entries is a cut's, and each behind it has what the cut left, and so does the disk now
+-- the first of these entries is a cut's, and each after it has what the cut left, and so does the disk now
 pub record EntriesOfCut (torn : Torn) (told : Option Told) (added : List Entry) : Type 0 where
   pub left : Told
   pub behind : List Entry
@@ -34,12 +35,23 @@ pub record EntriesOfCut (torn : Torn) (told : Option Told) (added : List Entry) 
   pub same : All (λ entry. entry.state ≡ left) behind
   pub now : told ≡ Some left
 
--- a cut, and then calls all along which the bytes stayed as it left them: nothing comes behind a cut but looks
+-- a cut, and then calls all along which the bytes stayed as it left them: nothing comes after a cut but looks
 abbrev pub CutStays : Torn → DiskState → DiskState → Type 0
 CutStays torn old new = (earlier added : List Entry)
     → old.past ≡ Some earlier → new.past ≡ Some (earlier ++ added) → EntriesOfCut torn new.told added
 
--- a disk is as before, but for at most this many reads, and no stop has come
+-- what a power cut of a disk and the reads behind it leave, at most so many calls in all
+pub record CutAndRead (torn : Torn) (most : ℕ) (old new : DiskState) : Type 0 where
+  -- the cut is a call of this mark, and no other has one
+  pub runs : Runs (Cut torn ∷ []) most old new
+  -- the bytes are one image of those before, and none is loose
+  pub image : CutsTo old.told new.told
+  -- nothing is written after the cut
+  pub stays : CutStays torn old new
+  -- no stop has begun and none is armed
+  pub stops : NoStop new
+
+-- a disk is as before, except for at most this many reads, and no stop has come
 pub record ReadOnly (most : ℕ) (old new : DiskState) : Type 0 where
   pub runs : Runs [] most old new
   pub told : new.told ≡ old.told
@@ -55,14 +67,14 @@ pub record ReadFailed (most : ℕ) (old new : DiskState) : Type 0 where
   pub stops : NoStop old → NoStop new
   pub stays : StaysTold old new
 
--- What is left where a store isn't read, by the cause: of all its reads a failing disk allows any number, another
--- header the first, and what is damaged those up to it.
+-- What is left if a store isn't read, by the cause: of all its reads a failing disk allows any number, another header
+-- the first, and what is damaged those up to it.
 abbrev pub Leaves : ℕ → (ℕ → ℕ) → DiskState → DiskState → Reread → Type 0
 Leaves all up_to old new reread.DiskFailed = ReadFailed all old new
 Leaves all up_to old new reread.NotFormatted = ReadOnly (min all 1) old new
 Leaves all up_to old new (reread.Damaged i) = ReadOnly (min all (up_to i)) old new
 
--- what told bytes have, where a store isn't read
+-- what told bytes have, if a store isn't read
 abbrev pub Finds : Layout → ℕ → Option Told → Reread → Type 0
 Finds layout n told fault = (t : Told) → told ≡ Some t → RereadFinds layout n t.bytes fault
 

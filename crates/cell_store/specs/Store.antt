@@ -62,7 +62,7 @@ IsDamaged Log store n i = LogDamaged store n i
 abbrev pub FirstDamaged : Layout → List ℕ → ℕ → ℕ → Type 0
 FirstDamaged layout x n i = IsDamaged layout.kind (from_base layout.version x) n i
 
--- what stands behind the header of a fresh store
+-- what stands after the header of a fresh store
 unfoldable pub fresh_cells : Kind → List (List ℕ) → List ℕ
 fresh_cells Twin cells = flat_map fresh_cell cells
 fresh_cells Log cells = fresh_banks cells
@@ -75,11 +75,11 @@ fresh_store layout cells = header layout (length cells) ++ fresh_cells layout.ki
 unfoldable pub Fresh : Layout → List (List ℕ) → List ℕ → List ℕ → Type 0
 Fresh layout cells x y = y ≡ splice (base layout.version) (fresh_store layout cells) x
 
--- x and y are the same but for the range of a store of n cells
+-- x and y are the same except for the range of a store of n cells
 abbrev pub SameBesides : Layout → ℕ → List ℕ → List ℕ → Type 0
 SameBesides layout n x y = SameOutside (base layout.version) (size_from_base layout.kind n) x y
 
--- x, except that the copy of cell i that doesn't count holds the next mark and c; none where the cell is damaged
+-- x, except that the copy of cell i that doesn't count holds the next mark and c; none if the cell is damaged
 unfoldable pub twin_put : Version → List ℕ → ℕ → List ℕ → Option (List ℕ)
 twin_put version x i c =
     let first = part (first_at i) 34 (from_base version x) in
@@ -88,7 +88,7 @@ twin_put version x i c =
     if counts second first then Some (splice (base version + first_at i) (live_copy (next (mark second)) c) x) else None
 
 -- y comes from x, which is a log store, by a finished put of c at cell i: the first free place of the bank that counts
--- holds the record, or, where there is none, the other bank holds all cells
+-- holds the record, or, if there is none, the other bank holds all cells
 pub record LogPut (version : Version) (x : List ℕ) (i : ℕ) (c y : List ℕ) : Type 0 where
   pub count : ℕ
   pub few : FewCells count

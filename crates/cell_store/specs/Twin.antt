@@ -1,6 +1,6 @@
--- The twin store: behind the header each cell has two copies of 34 bytes, of which one counts.
--- A copy is a gate, a mark from 0 to 2, and 32 bytes of payload. It is live where its gate is a7.
--- All places count from the first byte of the list.
+-- The twin store: after the header each cell has two copies of 34 bytes, and one of them counts. A copy is a gate, a
+-- mark from 0 to 2, and 32 bytes of payload. It is live if its gate is a7. All places count from the first byte of the
+-- list.
 use Rattle.std.specs.Prelude.{ℕ, ◌+◌, ◌*◌, ◌%◌, Bool, not, ◌&&◌, ◌||◌, ◌==◌, nat_lt, if◌then◌else◌, Option, Some, None}
 use Rattle.std.specs.Prelude.{List, ◌∷◌, ◌++◌, drop, get_or}
 use Rattle.cell_store.specs.Layout.{part}
@@ -34,7 +34,7 @@ counts this that =
     is_live this && nat_lt (mark this) 3
     && (not (is_live that) || (nat_lt (mark that) 3 && (mark this == next (mark that))))
 
--- what two copies hold; none where they are damaged
+-- what two copies hold; none if they are damaged
 unfoldable pub cell_of : List ℕ → List ℕ → Option (List ℕ)
 cell_of first second =
     if counts first second then Some (payload first) else if counts second first then Some (payload second) else None

@@ -12,8 +12,8 @@ abbrev pub twin_state : Version → DiskState → List Held → Bool → CellsSt
 twin_state version disk held broken =
     record { layout = twin_layout version; cells = cells_of held; disk = disk; broken = broken }
 
--- the disk has room for the cells, there is room in memory to read as many anew, and the bytes of a disk that
--- tells them keep the cells, loose or not, unless the store is broken
+-- the disk has room for the cells, and memory has room to read as many anew. The bytes of a disk that tells them keep
+-- the cells, loose or not, unless the store is broken
 pub record IsTwinStore (version : Version) (disk : DiskState) (held : List Held) (room : ℕ)
     (broken : Bool) : Type 0 where
   pub few : FewCells (length held)

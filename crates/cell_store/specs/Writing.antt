@@ -5,12 +5,12 @@ use Rattle.cut_disk.specs.Images.{splice, firm, Image, EachImage}
 use Rattle.cell_store.specs.Layout.{part, SameOutside}
 use Rattle.cell_store.specs.Twin.{is_live}
 
--- where no byte was loose, every image is as the bytes were, but for n bytes from `at` on
+-- if no byte was loose, every image is as the bytes were, except for n bytes from `at` on
 abbrev pub LeavesOutside : ℕ → ℕ → Option Told → Option Told → Type 0
 LeavesOutside at n old new = (b : List ℕ) → old ≡ Some (firm b) → EachImage new (SameOutside at n b)
 
--- What is put behind a gate at `at` is the gate and n bytes behind it. Of x such a put may leave: nothing else is
--- changed, and what stands there is closed, or as it was, or the new bytes.
+-- A put behind a gate at `at` writes the gate and n bytes after it. Unfinished it changes nothing else of x, and what
+-- stands there is closed, or as it was, or the new bytes.
 pub record Unfinished (n at : ℕ) (new x y : List ℕ) : Type 0 where
   pub same : SameOutside at (suc n) x y
   pub spare : (is_live (part at (suc n) y) ≡ false)
@@ -27,17 +27,17 @@ pub record GateClosed (n at : ℕ) (t : Told) (new : Option Told) : Type 0 where
 abbrev pub ClosesGate : ℕ → ℕ → Option Told → Option Told → Type 0
 ClosesGate n at old new = (t : Told) → old ≡ Some t → GateClosed n at t new
 
--- where no byte was loose, every image is what an unfinished put of these bytes may leave
+-- if no byte was loose, every image is what an unfinished put of these bytes may leave
 abbrev pub LeavesUnfinished : ℕ → ℕ → List ℕ → Option Told → Option Told → Type 0
 LeavesUnfinished n at copy old new = (b : List ℕ) → old ≡ Some (firm b) → EachImage new (Unfinished n at copy b)
 
--- an image that was allowed before, but for n bytes from `at` on
+-- an image that was allowed before, except for n bytes from `at` on
 pub record OldOutside (at n : ℕ) (old : Told) (y : List ℕ) : Type 0 where
   pub before : List ℕ
   pub image : Image old before
   pub same : SameOutside at n before y
 
--- writes within n bytes from `at` on: every image is one that was allowed before, but for these
+-- writes within n bytes from `at` on: every image is one that was allowed before, except for these
 abbrev pub Loosens : ℕ → ℕ → Option Told → Option Told → Type 0
 Loosens at n old new = (t : Told) → old ≡ Some t → EachImage new (OldOutside at n t)
 

@@ -11,8 +11,8 @@ use crate::kinds::Version;
 use crate::writing::write_gated;
 use cut_disk::{Disk, DiskFailed};
 
-/// Writes the record that changes this cell into the first free place, in four calls. What stands
-/// there is behind a closed gate, whatever an earlier put, which wasn't finished, left of it.
+/// Writes the record that changes this cell into the first free place, in four calls. What stands there is behind a
+/// closed gate, whatever an earlier put, which wasn't finished, left of it.
 pub fn append<D: Disk>(
     disk: &mut D,
     version: Version,

@@ -1,6 +1,6 @@
 // The two banks of a log store, and its record places.
 ghost use Rattle.std.specs.Prelude.{◌≡◌, ◌+◌, ◌*◌, ◌<◌, ◌≤◌, ◌++◌};
-ghost use Rattle.byte_lists.specs.Numbers.{bytes_of};
+ghost use Rattle.basics.specs.Numbers.{bytes_of};
 ghost use Rattle.cell_store.specs.Log.{log_size, bank_at, place_at};
 
 use crate::copies::Side;
@@ -8,8 +8,8 @@ use crate::copies::Side;
 /// The record places of a bank.
 pub const PLACES: u8 = 64;
 
-/// The bank that counts: where it is, its mark, how many of its places are used, and whether the
-/// other bank, its spare, is live.
+/// The bank that counts: where it is, its mark, how many of its places are used, and whether the other bank, its spare,
+/// is live.
 #[derive(Clone, Copy, Drop)]
 pub struct Bank {
     pub side: Side,

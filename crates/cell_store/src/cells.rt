@@ -1,17 +1,14 @@
 // Stores of cells, as the layers above see them.
-ghost use Rattle.std.specs.Prelude.{◌≡◌, ◌+◌, ◌<◌, ◌≤◌, ℕ, List, [], ◌∷◌, length, slice_index_or, slice_set, true, false, Some, OnOk, OnErr, IfErr, IsErrOf};
-ghost use Rattle.cut_disk.specs.State.{Told, Cut};
+ghost use Rattle.std.specs.Prelude.{◌≡◌, ◌+◌, ◌<◌, ◌≤◌, [], length, slice_index_or, false, OnOk, OnErr, IfErr};
 ghost use Rattle.cut_disk.specs.Armed.{ArmsStop, ArmsFail};
-ghost use Rattle.cut_disk.specs.Images.{CutsTo};
-ghost use Rattle.cut_disk.specs.Calls.{Runs, Grows};
-ghost use Rattle.cell_store.specs.Reading.{NoStop, CutStays};
-ghost use Rattle.cell_store.specs.Cells.{CellsState, Puts, FailsPut, Settled, RereadCause, calls_to_reread, StandsNow, EachImageStands};
+ghost use Rattle.cell_store.specs.Reading.{CutAndRead};
+ghost use Rattle.cell_store.specs.Cells.{CellsState, Puts, FailsPut, Rereads, NotReread};
 
 use crate::faults::{PutFailed, Reread};
 use cut_disk::{Disk, Torn};
 
-/// A list of cells of 32 bytes on a disk. A store is settled where it isn't broken, and its disk
-/// tells bytes that stand for the list, none of them loose.
+/// A list of cells of 32 bytes on a disk. A store is settled if it isn't broken, and its disk tells bytes that stand
+/// for the list, none of them loose.
 pub trait Cells {
     type Medium: Disk;
 
@@ -27,8 +24,9 @@ pub trait Cells {
         requires { cell < length (state self.now).cells }
         ensures { out.new ≡ slice_index_or (state self.now).cells cell [] };
 
-    /// Replaces a cell. If that fails, the store is broken until its power is cut, and the cell on the disk is the old
-    /// one or the new one, whatever a power cut leaves. The bytes before and after the store stay as they are.
+    /// Replaces a cell. If that fails, the store is broken until its power is cut. Of a settled store the cell on the
+    /// disk is then the old one or the new one, whatever a power cut leaves. If no byte was loose, the bytes before and
+    /// after the store stay as they are.
     fn put(&mut self, cell: u16, bytes: &[u8; 32]) -> Result<(), PutFailed>
         requires cell { cell < length (state self.old).cells }
         requires whole { (state self.old).broken ≡ false }
@@ -42,34 +40,18 @@ pub trait Cells {
 
 /// A store on a disk whose power can be cut.
 pub trait CutCells: Cells {
-    /// Cuts the power of the disk, and reads everything anew from it, the header first, into room
-    /// that is there already. It ends a stop and what `stop_at` armed, whatever it answers. Where it
-    /// fails, the store is broken and its list is as before. Errors, in the order of reading:
-    /// `DiskFailed`, `NotFormatted`, and `Damaged` with the first damage; no read comes after the
-    /// one that found it. Nothing is written: each entry that a told past got behind the cut's has
-    /// the state that the cut left.
+    /// Cuts the power of the disk, and reads everything anew from it, the header first, into room that is there
+    /// already. It ends a stop and what `stop_at` armed, whatever it answers. If it fails, the store is broken and its
+    /// list is as before. Errors, in the order of reading: `DiskFailed`, `NotFormatted`, and `Damaged` with the first
+    /// damage; no read comes after the one that found it. Nothing is written: each entry that a told past got after the
+    /// cut's has the state that the cut left.
     fn power_cut(&mut self, torn: Torn) -> Result<(), Reread>
         ensures layout { (Self.state self.new).layout ≡ (Self.state self.old).layout }
         ensures count { length (Self.state self.new).cells ≡ length (Self.state self.old).cells }
-        ensures runs { Runs (Cut torn ∷ []) (68 + length (Self.state self.old).cells)
+        ensures disk { CutAndRead torn (68 + length (Self.state self.old).cells)
             (Self.state self.old).disk (Self.state self.new).disk }
-        ensures grows { OnOk result (Grows (Self.state self.old).disk (Self.state self.new).disk) }
-        ensures left { CutsTo (Self.state self.old).disk.told (Self.state self.new).disk.told }
-        ensures stays { CutStays torn (Self.state self.old).disk (Self.state self.new).disk }
-        ensures stops { NoStop (Self.state self.new).disk }
-        ensures faults { OnOk result ((Self.state self.new).disk.faults
-            ≡ (Self.state self.old).disk.faults) }
-        ensures whole { OnOk result ((Self.state self.new).broken ≡ false) }
-        ensures stands { OnOk result (StandsNow (Self.state self.new)) }
-        ensures settled { OnOk result ((t : Told) → (Self.state self.old).disk.told ≡ Some t
-            → Settled (Self.state self.new)) }
-        ensures kept { OnErr result ((Self.state self.new).cells ≡ (Self.state self.old).cells) }
-        ensures broken { OnErr result ((Self.state self.new).broken ≡ true) }
-        ensures cause { IfErr result (RereadCause (Self.state self.old) (Self.state self.new)) }
-        ensures first { IfErr result (λ fault. Runs (Cut torn ∷ [])
-            (calls_to_reread (Self.state self.old) fault) (Self.state self.old).disk (Self.state self.new).disk) }
-        ensures never { EachImageStands (Self.state self.old) → IfErr result
-            (λ fault. fault ≡ Reread.DiskFailed) };
+        ensures reread { OnOk result (Rereads (Self.state self.old) (Self.state self.new)) }
+        ensures refused { IfErr result (NotReread torn (Self.state self.old) (Self.state self.new)) };
 
     /// Passes on to the disk: from the call of this number on, each call of the disk fails until
     /// the power is cut.

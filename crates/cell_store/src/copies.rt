@@ -89,7 +89,7 @@ fn held_copy(this: &[u8], side: Side, that: &[u8]) -> Held
     }
 }
 
-/// What the 68 bytes of a cell hold. None where the cell is damaged: none of its copies counts.
+/// What the 68 bytes of a cell hold. None if the cell is damaged: none of its copies counts.
 pub fn held_in(bytes: &[u8; 68]) -> Option<Held>
     ensures { result ≡ held_of (take 34 bytes.now) (drop 34 bytes.now) }
 {

@@ -1,4 +1,4 @@
-// What a store answers where it can't do what is asked.
+// What a store answers if it can't do what is asked.
 ghost use Rattle.std.specs.Prelude.{◌≡◌};
 ghost use Rattle.cell_store.specs.Faults.{store_fault};
 

@@ -1,13 +1,13 @@
 //! Stores of cells of 32 bytes on a disk that may lose power within a write: twin or log, version 1 or 2.
 //!
-//! On a settled store a put is whole or absent in every image that a power cut may leave, at each exit, also
-//! if a disk call failed. It makes at most six disk calls. If no byte was loose, a put and a format leave the
-//! bytes before and after the store as they were. A failed put breaks the store until a power cut answers Ok:
-//! that reads the list for which the bytes stand. If every image stood for a list of as many cells, only a
-//! failing disk refuses it. `format` and `attach` are refused exactly by size and told bytes, else only by a
-//! disk whose count rose, or out of memory. `probe` answers exactly by size and told bytes, or the disk
-//! failed. Bytes stand for at most one list in a kind and version. After a cut nothing is written (`stays`).
-//! No Ok hides a fault. `move_up` is the move of `migrate` of `any_cells`. Layouts: docs/formats.md.
+//! On a settled store a put is whole or absent in every image that a power cut may leave. So it is at each exit, also
+//! after a failed disk call. It makes at most six disk calls. If no byte was loose, a put and a format leave the bytes
+//! before and after the store as they were. A failed put breaks the store until a power cut answers Ok: that reads the
+//! list for which the bytes stand. If every image stood for a list of as many cells, only a failing disk refuses it.
+//! `format` and `attach` are refused exactly by size and told bytes, else only by a disk whose count rose, or out of
+//! memory. `probe` answers exactly by size and told bytes, or the disk failed. Bytes stand for at most one list in a
+//! kind and version. After a cut nothing is written (`stays`). No Ok hides a fault. `move_up` is the move of `migrate`
+//! of `any_cells`. Layouts: docs/formats.md.
 #![tactic(auto)]
 
 mod appending;

@@ -14,7 +14,7 @@ use crate::kinds::{Kind, Layout, Version};
 use crate::layout::{HEADER, header};
 use cut_disk::{Disk, DiskFailed, write_and_sync};
 
-/// Writes the cells one behind the other, each in one call.
+/// Writes the cells one after the other, each in one call.
 fn write_list<D: Disk>(disk: &mut D, at: u64, cells: &[[u8; 32]]) -> Result<(), DiskFailed>
     requires few { length cells.now ≤ 1024 }
     requires room { at + 32 * length cells.now ≤ (D.state disk.old).size }
@@ -65,7 +65,7 @@ fn write_live_bank<D: Disk>(disk: &mut D, at: u64, cells: &[[u8; 32]]) -> Result
     write_zeros(disk, at + 2 + 32 * cells.len() as u64, 70)
 }
 
-/// Writes a closed bank of zeros but for its mark, which is 2, with room for so many cells.
+/// Writes a closed bank of zeros except for its mark, which is 2, with room for so many cells.
 fn write_closed_bank<D: Disk>(disk: &mut D, at: u64, cells: u16) -> Result<(), DiskFailed>
     requires few { cells ≤ 1024 }
     requires room { at + 2242 + 32 * cells ≤ (D.state disk.old).size }

@@ -1,4 +1,4 @@
-// The log store: two banks of cells, of which one counts, and changes behind it.
+// The log store: two banks, one of which counts. Each has the cells, and behind them the changes.
 ghost use Rattle.std.specs.Prelude.{◌≡◌, ◌+◌, ◌*◌, ◌<◌, ◌≤◌, [], length, Some, OnOk, OnErr, IfOk, IfErr};
 ghost use Rattle.cut_disk.specs.State.{Told};
 ghost use Rattle.cut_disk.specs.Calls.{Rose, Runs};
@@ -23,8 +23,8 @@ use std::alloc::{AllocError, Global};
 use std::marker::Model;
 use std::mem;
 
-/// A log store on a disk. It takes `log_size` bytes from the base of its version on; the bytes before
-/// and behind them stay as they are.
+/// A log store on a disk. It takes `log_size` bytes from the base of its version on; the bytes before and after them
+/// stay as they are.
 #[derive(Drop)]
 pub struct LogCells<D: Disk> {
     disk: D,
@@ -110,7 +110,7 @@ fn read_into<D: Disk>(
     }
 }
 
-/// Puts a cell behind the bank that counts, or fills the other bank where no place is free.
+/// Puts a cell into the first free place of the bank that counts, or fills the other bank if no place is free.
 fn put_cell<D: Disk>(
     disk: &mut D,
     version: Version,
@@ -155,10 +155,10 @@ impl<D: Disk> LogCells<D> {
         LogCells::format_as(disk, Version::One, cells)
     }
 
-    /// Formats the disk as a store of this version of these cells, 1 to 1024. The bytes before and
-    /// behind the store stay as they are. Errors: `TooSmall` and `DiskFailed`. After `DiskFailed`
-    /// the bytes of the store are as they were but for the header, or the header is zero, or all
-    /// but the header is as in a fresh store.
+    /// Formats the disk as a store of this version of these cells, 1 to 1024. Errors: `TooSmall` and `DiskFailed`. The
+    /// bytes before and after the store stay as they are, after `DiskFailed` if no byte was loose. `DiskFailed` then
+    /// leaves one of three: the store's bytes as they were except for the header, a header of zeros, or all but the
+    /// header of a fresh store.
     #[tactic(auto, using(crate::proofs::Formed::formed, crate::proofs::Formed::half_formed))]
     pub fn format_as(mut disk: D, version: Version, cells: &[[u8; 32]]) -> Result<D, Refused<D>>
         requires { FewCells (length cells.now) }
@@ -193,12 +193,11 @@ impl<D: Disk> LogCells<D> {
         LogCells::attach_as(alloc, disk, Version::One, cells)
     }
 
-    /// Attaches the store of this version of so many cells, 1 to 1024, that stands on the disk. It
-    /// reads the header, the gates and marks of both banks, and then the cells and the places of
-    /// the bank that counts, and writes nothing. It makes the room for the cells twice, and that of a
-    /// bank. Errors, in this order: `TooSmall`, `Memory`, and then in the order of reading
-    /// `DiskFailed`, `NotFormatted`, and `Damaged` with 0 where no bank counts, or with the number of
-    /// the first damaged place, from 1.
+    /// Attaches the store of this version of so many cells, 1 to 1024, that stands on the disk. It reads the header,
+    /// the gates and marks of both banks, then the cells and places of the bank that counts. It writes nothing. It
+    /// makes the room for the cells twice, and that of a bank. Errors, in this order: `TooSmall`, `Memory`; then in the
+    /// order of reading `DiskFailed`, `NotFormatted` and `Damaged`. `Damaged` has 0 if no bank counts, else the number
+    /// of the first damaged place, from 1.
     pub fn attach_as(
         alloc: Global,
         disk: D,

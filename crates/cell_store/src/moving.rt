@@ -20,8 +20,7 @@ use crate::log_reading::read_log;
 use crate::reading::{read_cell, read_header};
 use cut_disk::{Disk, DiskFailed, write_and_sync};
 
-/// Reads the cells of a twin store of as many as there is room for, in one call for the header and one
-/// for each cell.
+/// Reads as many cells of a twin store as there is room for. One call reads the header, and one reads each cell.
 fn read_twin<D: Disk>(disk: &mut D, version: Version, cells: &mut [[u8; 32]]) -> Result<(), Reread>
     requires few { FewCells (length cells.old) }
     requires room { store_size (twin_layout version) (length cells.old) ≤ (D.state disk.old).size }
@@ -75,7 +74,7 @@ fn read_cells<D: Disk>(
     }
 }
 
-/// Writes what stands behind the header of a fresh store, and then syncs once.
+/// Writes what stands after the header of a fresh store, and then syncs once.
 fn write_behind<D: Disk>(
     disk: &mut D,
     kind: Kind,
@@ -100,8 +99,8 @@ fn write_behind<D: Disk>(
     }
 }
 
-/// Writes a fresh store of these cells, its header last, when all behind it is synced. No byte of the
-/// header is written before that.
+/// Writes a fresh store of these cells, its header last, when all behind it is synced. No byte of the header is written
+/// before that.
 fn write_header_last<D: Disk>(
     disk: &mut D,
     kind: Kind,
@@ -126,12 +125,11 @@ fn write_header_last<D: Disk>(
     write_and_sync(disk, version.base(), &head)
 }
 
-/// Makes of the store of this kind that counts, with as many cells as there is room for, one of version
-/// 2: where the header of version 2 stands, that store is read and nothing is written; else the store
-/// of version 1 is read, and written as a fresh one of version 2, whose header comes last. The bytes
-/// before 32768 and those behind the store of version 2 stay as they are. Errors, in the order of
-/// reading: `DiskFailed`, `NotFormatted` where neither header stands, and `Damaged` with the first damage
-/// of the version that counts.
+/// Makes of the store of this kind that counts, with as many cells as there is room for, one of version 2. If the
+/// header of version 2 stands, that store is read and nothing is written. Else the store of version 1 is read, and
+/// written as a fresh one of version 2, whose header comes last. If no byte was loose, the bytes before 32768 and those
+/// after the store of version 2 stay as they are. Errors, in the order of reading: `DiskFailed`, `NotFormatted` if
+/// neither header stands, and `Damaged` with the first damage of the version that counts.
 pub fn move_up<D: Disk>(disk: &mut D, kind: Kind, cells: &mut [[u8; 32]]) -> Result<(), Reread>
     requires few { FewCells (length cells.old) }
     requires low { size_from_base kind (length cells.old) ≤ 32768 }

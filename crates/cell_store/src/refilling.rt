@@ -15,7 +15,7 @@ use crate::kinds::Version;
 use crate::writing::write_gated;
 use cut_disk::{Disk, DiskFailed};
 
-/// The cell at this index, where one of the cells is replaced.
+/// The cell at this index, if one of the cells is replaced.
 fn cell_with(cells: &[[u8; 32]], index: usize, cell: usize, payload: &[u8; 32]) -> [u8; 32]
     requires { index < length cells.now }
     ensures { result ≡ slice_index_or (slice_set cells.now cell payload.now) index [] }
@@ -27,7 +27,7 @@ fn cell_with(cells: &[[u8; 32]], index: usize, cell: usize, payload: &[u8; 32]) 
     }
 }
 
-/// Writes all cells, of which one is replaced, behind the first byte.
+/// Writes all cells, one of them replaced, behind the first byte.
 fn fill_cells(room: &mut [u8], cells: &[[u8; 32]], cell: usize, payload: &[u8; 32])
     requires { length room.old ≡ 2241 + 32 * length cells.now }
     ensures { room.new ≡ splice 1 (flat_map (λ c. c) (slice_set cells.now cell payload.now)) room.old }
@@ -38,7 +38,7 @@ fn fill_cells(room: &mut [u8], cells: &[[u8; 32]], cell: usize, payload: &[u8; 3
     }
 }
 
-/// Makes of this room a bank with this mark and these cells, of which one is replaced, but its gate.
+/// Makes of this room a bank without its gate, with this mark and these cells, one of them replaced.
 fn fill_bank(room: &mut [u8], mark: u8, cells: &[[u8; 32]], cell: usize, payload: &[u8; 32])
     requires { length room.old ≡ 2241 + 32 * length cells.now }
     ensures { room.new ≡ bank_rest mark (slice_set cells.now cell payload.now) }

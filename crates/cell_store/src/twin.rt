@@ -1,4 +1,4 @@
-// The twin store: two copies of each cell, of which one counts.
+// The twin store: two copies of each cell, one of which counts.
 ghost use Rattle.std.specs.Prelude.{◌≡◌, ◌+◌, ◌≤◌, length, IfOk, IfErr};
 ghost use Rattle.cell_store.specs.declared.kinds.Version.TheVariants.{One};
 ghost use Rattle.cell_store.specs.Layout.{twin_layout};
@@ -19,8 +19,8 @@ use std::alloc::{AllocError, Global};
 use std::marker::Model;
 use std::mem;
 
-/// A twin store on a disk. It takes `twin_size` bytes from the base of its version on; the bytes
-/// before and behind them stay as they are.
+/// A twin store on a disk. It takes `twin_size` bytes from the base of its version on; the bytes before and after them
+/// stay as they are.
 #[derive(Drop)]
 pub struct TwinCells<D: Disk> {
     disk: D,
@@ -67,10 +67,10 @@ impl<D: Disk> TwinCells<D> {
         TwinCells::format_as(disk, Version::One, cells)
     }
 
-    /// Formats the disk as a store of this version of these cells, 1 to 1024. The bytes before and
-    /// behind the store stay as they are. Errors: `TooSmall` and `DiskFailed`. After `DiskFailed`
-    /// the bytes of the store are as they were but for the header, or the header is zero, or all
-    /// but the header is as in a fresh store.
+    /// Formats the disk as a store of this version of these cells, 1 to 1024. Errors: `TooSmall` and `DiskFailed`. The
+    /// bytes before and after the store stay as they are, after `DiskFailed` if no byte was loose. `DiskFailed` then
+    /// leaves one of three: the store's bytes as they were except for the header, a header of zeros, or all but the
+    /// header of a fresh store.
     #[tactic(auto, using(crate::proofs::Formed::formed, crate::proofs::Formed::half_formed))]
     pub fn format_as(mut disk: D, version: Version, cells: &[[u8; 32]]) -> Result<D, Refused<D>>
         requires { FewCells (length cells.now) }
@@ -105,10 +105,10 @@ impl<D: Disk> TwinCells<D> {
         TwinCells::attach_as(alloc, disk, Version::One, cells)
     }
 
-    /// Attaches the store of this version of so many cells, 1 to 1024, that stands on the disk. It
-    /// reads the header and then each cell, and writes nothing. It makes the room for the cells
-    /// twice. Errors, in this order: `TooSmall`, `Memory`, and then in the order of reading
-    /// `DiskFailed`, `NotFormatted` and `Damaged` with the first cell of which no copy counts.
+    /// Attaches the store of this version of so many cells, 1 to 1024, that stands on the disk. It reads the header and
+    /// then each cell, and writes nothing. It makes the room for the cells twice. Errors, in this order: `TooSmall`,
+    /// `Memory`; then in the order of reading `DiskFailed`, `NotFormatted` and `Damaged`, with the first cell that has
+    /// no copy that counts.
     pub fn attach_as(
         alloc: Global,
         disk: D,

@@ -42,10 +42,9 @@ fn open_gate<D: Disk>(disk: &mut D, at: u64) -> Result<(), DiskFailed>
     write_and_sync(disk, at, &[LIVE])
 }
 
-/// Leaves a live gate at this address and these bytes behind it, in at most six calls, or in four
-/// where the gate is closed. All of them are behind a closed gate until they are synced. A gate that
-/// is closed already isn't written again: that write could leave it open over what an earlier put,
-/// which wasn't finished, left there.
+/// Leaves a live gate at this address and these bytes behind it, in at most six calls, or in four if the gate is
+/// closed. All of them are behind a closed gate until they are synced. A gate that is closed already isn't written
+/// again: that write could leave it open over what an earlier put, which wasn't finished, left there.
 pub fn write_gated<D: Disk>(
     disk: &mut D,
     at: u64,

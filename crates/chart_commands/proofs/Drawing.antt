@@ -5,19 +5,20 @@ use Rattle.std.specs.declared.alloc.AllocError.{AllocError}
 use Rattle.std.specs.declared.alloc.Global.{Global}
 use Rattle.std.proofs.Common.{refl, sym, ap, ◌∙◌, subst, arith, append_assoc, append-nil, length-append}
 use Rattle.std.proofs.lemmas.List.{length-map}
-use Rattle.answer_rows.specs.Rows.{Row, row_of}
-use Rattle.answer_rows.specs.Endings.{Ending, EndsInRow}
-use Rattle.answer_rows.specs.EndingLaws.{EndsInRow-more}
+use Rattle.program_edge.specs.Rows.{Row, row_of}
+use Rattle.program_edge.specs.Endings.{Ending, EndsInRow}
+use Rattle.program_edge.specs.EndingLaws.{EndsInRow-more}
 use Rattle.machine_runs.specs.Run.{Moment, lines_in}
-use Rattle.numbered_run.specs.Driven.{TakenUp, Driven}
-use Rattle.numbered_run.specs.DrivenLaws.{FirstDone-few}
+use Rattle.run_driver.specs.Driven.{TakenUp, Driven}
+use Rattle.run_driver.specs.DrivenLaws.{FirstDone-few}
 use Rattle.bus_machine.specs.declared.events.Event.{Event}
 use Rattle.bus_machine.specs.declared.lines.Line.{Line}
 use Rattle.bus_nodes.specs.Buses.{NamedBus}
 use Rattle.bus_world.specs.Worlds.{BusState, BusTurn}
-use Rattle.world_runs.specs.Turns.{TurnsLeaveDisks, StartsSetUp}
-use Rattle.chart_texts.specs.ChartTexts.{chart_text}
-use Rattle.chart_commands.specs.Inputs.{ChartInputs, SetsChart}
+use Rattle.bus_world.specs.WorldTurns.{TurnsLeaveDisks, StartsSetUp}
+use Rattle.chart_svg.specs.ChartTexts.{chart_text}
+use Rattle.bus_programs.specs.Inputs.{BusInputs}
+use Rattle.chart_commands.specs.Inputs.{SetsChart}
 use Rattle.bus_world.specs.StartAnswers.{DiskStates}
 use Rattle.chart_commands.specs.Runs.{KeepsLines, KeptTurns, ChartTurns, ChartsAreRuns}
 use Rattle.chart_commands.specs.Rows.{DoneChart, ChartRow, not_started, all_done, done_without_memory}
@@ -26,7 +27,7 @@ use Rattle.chart_commands.proofs.OneChart.{chart_stays}
 
 -- ---- the lines that are kept
 
--- lines that were taken up one after another are all there, behind those that there were
+-- lines that were taken up one after another are all there, after those that there were
 kept_all : (number : ℕ) (before after : Vec Line Global) (lines : List Line) → TakenUp KeepsLine number before lines after → after.items ≡ before.items ++ lines
 kept_all number before after [] same = ap (λ (v : Vec Line Global). v.items) same ∙ sym (append-nil before.items)
 kept_all number before after (line ∷ lines) (mid, here, rest) =
@@ -53,7 +54,7 @@ kept_whole start now before kept events none done = record {
   holds = (done.holds.0, kept_all 1 before kept (lines_in done.moments) done.holds.1 ∙ ap (λ (l : List Line). l ++ lines_in done.moments) none);
 }
 
--- where there is room for the lines of all events, none is refused
+-- if there is room for the lines of all events, none is refused
 pub never_short : (start now : BusState) (before kept : Vec Line Global) (events : List Event) (cause : AllocError) → vec_len before ≡ 0
     → length events ≤ vec_capacity before → Driven BusTurn KeepsLine start now before kept events (Err cause) → ⊥
 never_short start now before kept events cause none room done =
@@ -68,7 +69,7 @@ never_short start now before kept events cause none room done =
 pub kept_none : (start now : BusState) (events : List Event) → now ≡ start → KeptTurns start now events None
 kept_none start now events same = record { moments = []; run = same; first = refl; holds = refl }
 
--- where all lines were kept, there is one for each event
+-- if all lines were kept, there is one for each event
 pub of_events : {S : Type 0} (events : List Event) (kept : Option (List Line)) (ms : List (Moment Event Line S)) → KeepsLines events kept ms → AreOfEvents events kept
 of_events {S} events (Some lines) ms keeps = ap length keeps.1 ∙ length-map ms (λ (m : Moment Event Line S). m.line) ∙ keeps.0
 of_events events None ms keeps = tt
@@ -93,13 +94,13 @@ Answers-charted set_up leave laws same bus events d e kept ran ends =
 
 -- ---- the table
 
-of_lines : (same : Type 0) (i : ChartInputs) (d : DiskStates) (bus : NamedBus) (events : List Event) (kept : Option (List Line)) (row : Row) → SetsChart i bus events
+of_lines : (same : Type 0) (i : BusInputs) (d : DiskStates) (bus : NamedBus) (events : List Event) (kept : Option (List Line)) (row : Row) → SetsChart i bus events
     → DoneChart bus events d kept → ToldOfLines bus events kept row → ChartRow same i d row
 of_lines same i d bus events kept row set done (their_chart lines is) =
     all_done (chart_text bus events lines) (bus, events, set, (lines, subst (DoneChart bus events d) is done, refl))
 of_lines same i d bus events kept row set done no_chart = done_without_memory kept (bus, events, set, done)
 
-pub ChartRow-answers : (same : Type 0) (i : ChartInputs) (d : DiskStates) (bus : NamedBus) (events : List Event) (row : Row) → SetsChart i bus events
+pub ChartRow-answers : (same : Type 0) (i : BusInputs) (d : DiskStates) (bus : NamedBus) (events : List Event) (row : Row) → SetsChart i bus events
     → AnswersChart same bus events d row → ChartRow same i d row
 ChartRow-answers same i d bus events row set (refused_chart _ start) = not_started row (bus, events, set, start.0) start.1
 ChartRow-answers same i d bus events row set (charted kept _ done told) = of_lines same i d bus events kept row set done told

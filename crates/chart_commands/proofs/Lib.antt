@@ -3,5 +3,5 @@ pub mod Facts
 pub mod Promised
 pub mod Preparing
 pub mod Drawing
-pub mod Naming
 pub mod WorkedExample
+pub mod OfWords

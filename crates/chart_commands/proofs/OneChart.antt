@@ -9,10 +9,10 @@ use Rattle.bus_machine.specs.Bus.{World}
 use Rattle.bus_nodes.specs.Buses.{NamedBus}
 use Rattle.bus_world.specs.declared.start.Start.TheVariants.{Format}
 use Rattle.bus_world.specs.Worlds.{BusState, world_of}
-use Rattle.world_runs.specs.NodeDisks.{DisksStay}
-use Rattle.world_runs.specs.WorldRuns.{IsFirstOf, WorldRun}
-use Rattle.world_runs.specs.Turns.{seen, TakesTurns, TurnsLeaveDisks, TurnsAreWorldRuns, StartsSetUp, StartsBeginAtFirst}
-use Rattle.world_runs.specs.TurnLaws.{same_lines, same_length}
+use Rattle.bus_world.specs.NodeDisks.{DisksStay}
+use Rattle.bus_world.specs.WorldRuns.{IsFirstOf, WorldRun}
+use Rattle.bus_world.specs.WorldTurns.{seen, TakesTurns, TurnsLeaveDisks, TurnsAreWorldRuns, StartsSetUp, StartsBeginAtFirst}
+use Rattle.bus_world.specs.TurnLaws.{same_lines, same_length}
 use Rattle.chart_commands.specs.Runs.{KeepsLines, ChartTurns, ChartsAreRuns}
 
 -- the same moments, seen as the machine's

@@ -1,16 +1,16 @@
 -- How a chart ends gives all that it promises
 use Rattle.std.specs.Prelude.{◌≡◌, ◌≢◌, ◌⊎◌, ℕ, List, [], Option, Some, Result, Ok, Err, codes}
 use Rattle.std.proofs.Common.{refl, ◌∙◌, subst, arith, inl, inr}
-use Rattle.command_edge.specs.Told.{EndingTold}
-use Rattle.command_edge.specs.Input.{input_fault_status}
-use Rattle.command_edge.specs.declared.input.InputFault.{InputFault}
-use Rattle.command_edge.specs.declared.input.InputFault.TheVariants as input
+use Rattle.program_edge.specs.Told.{EndingTold}
+use Rattle.program_edge.specs.Input.{input_fault_status}
+use Rattle.program_edge.specs.declared.input.InputFault.{InputFault}
+use Rattle.program_edge.specs.declared.input.InputFault.TheVariants as input
 use Rattle.text_lines.specs.Readings.{Fault}
 use Rattle.text_lines.specs.Texts.{fault_text_of}
-use Rattle.answer_rows.specs.Rows.{Row, memory_row}
-use Rattle.answer_rows.specs.Inputs.{IsUnread}
-use Rattle.answer_rows.specs.Endings.{Ending, EndsInRow, PrintsWhole}
-use Rattle.answer_rows.specs.EndingLaws.{EndsInRow-at, EndsInRow-only, EndsInRow-may, EndsInRow-front, EndsInRow-rose, EndsInRow-done}
+use Rattle.program_edge.specs.Rows.{Row, memory_row}
+use Rattle.program_edge.specs.Inputs.{IsUnread}
+use Rattle.program_edge.specs.Endings.{Ending, EndsInRow, PrintsWhole}
+use Rattle.program_edge.specs.EndingLaws.{EndsInRow-at, EndsInRow-only, EndsInRow-may, EndsInRow-front, EndsInRow-rose, EndsInRow-done}
 use Rattle.bus_config.specs.declared.fault.ConfigFault.{ConfigFault}
 use Rattle.bus_config.specs.FaultTexts.{config_fault_text}
 use Rattle.bus_machine.specs.declared.events.Event.{Event}
@@ -25,10 +25,11 @@ use Rattle.bus_world.specs.StartRows.{start_row, StoreCause, LeavesEach}
 use Rattle.bus_world.specs.StartAnswers.{DiskStates, ComesOfStart, BusHasDisks, CountsDiskFault, failed_row}
 use Rattle.bus_world.specs.StartAnswers as answer
 use Rattle.bus_world.specs.StartAnswerLaws.{Comes-leaves, start_status, start_memory, start_without_room, start_complete, none_counted, failure_told}
-use Rattle.bus_inputs.specs.BusFiles.{IsConfigFault}
-use Rattle.bus_inputs.specs.BusFileLaws.{told_fault, told_too_much}
-use Rattle.chart_texts.specs.ChartTexts.{chart_text}
-use Rattle.chart_commands.specs.Inputs.{ChartInputs, AsksChart, chart_usage, NoChartConfig, NoChartScript, HasBadEvent, OverChart}
+use Rattle.bus_programs.specs.BusFiles.{IsConfigFault}
+use Rattle.bus_programs.specs.BusFileLaws.{told_fault, told_too_much}
+use Rattle.chart_svg.specs.ChartTexts.{chart_text}
+use Rattle.bus_programs.specs.Inputs.{BusInputs}
+use Rattle.chart_commands.specs.Inputs.{AsksChart, chart_usage, NoChartConfig, NoChartScript, HasBadEvent, OverChart}
 use Rattle.chart_commands.specs.Rows.{ChartInputRow, no_form, no_config, config_refused, no_script, script_refused, DoneChart, ChartRow, without_disks, not_started, all_done, done_without_memory, EndsChart}
 use Rattle.chart_commands.specs.Promises.{DrawsChart, LeavesChartDisks, as_before, by_unfinished_start, by_chart, RunsChart}
 use Rattle.chart_commands.proofs.Facts.{row_tells, row_asks, row_refuses, OfOffered, row_offered}
@@ -36,7 +37,7 @@ use Rattle.chart_commands.proofs.Facts.{row_tells, row_asks, row_refuses, OfOffe
 Ok_not_Err : (r : Result (List Event) Fault) (events : List Event) (fault : Fault) → r ≡ Ok events → r ≡ Err fault → ⊥
 Ok_not_Err r events fault ok err = cc
 
-module _ (same : Type 0) (i : ChartInputs) (d : DiskStates) (e : Ending) where
+module _ (same : Type 0) (i : BusInputs) (d : DiskStates) (e : Ending) where
   abbrev Comes : Row → Type 0
   Comes = ChartRow same i d
 

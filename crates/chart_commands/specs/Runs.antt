@@ -2,7 +2,7 @@
 use Rattle.std.specs.Prelude.{◌≡◌, Option, None, Some, List, [], ◌++◌, length, drop}
 use Rattle.cut_disk.specs.State.{DiskState}
 use Rattle.machine_runs.specs.Run.{Moment, lines_in}
-use Rattle.numbered_run.specs.Driven.{FirstDone}
+use Rattle.run_driver.specs.Driven.{FirstDone}
 use Rattle.bus_machine.specs.declared.events.Event.{Event}
 use Rattle.bus_machine.specs.declared.lines.Line.{Line}
 use Rattle.bus_machine.specs.Bus.{World, First, Moments}
@@ -10,8 +10,8 @@ use Rattle.bus_nodes.specs.Buses.{NamedBus, IsNamedBus, configs_of}
 use Rattle.bus_world.specs.declared.start.Start.TheVariants.{Format}
 use Rattle.bus_world.specs.Worlds.{BusState, BusTurn}
 use Rattle.bus_world.specs.Starts.{Started, disks_of}
-use Rattle.world_runs.specs.NodeDisks.{TellEach}
-use Rattle.world_runs.specs.WorldRuns.{WorldRun}
+use Rattle.bus_world.specs.NodeDisks.{TellEach}
+use Rattle.bus_world.specs.WorldRuns.{WorldRun}
 
 -- all events were done, and these are their lines; or there was no memory to keep them, and no event was done
 abbrev pub KeepsLines : {S : Type 0} → List Event → Option (List Line) → List (Moment Event Line S) → Type 0
@@ -36,8 +36,8 @@ pub record ChartTurns (bus : NamedBus) (before after : List DiskState) (events :
 
 -- ---- over disks that tell their bytes
 
--- a run of the events, or of none, from the first world of the bus, with all that holds of a replay's, and these are
--- the lines that were kept of it
+-- a run of the events, or of none, from the first world of the bus, with all that holds of a replay's. These are the
+-- lines that were kept of it
 pub record Charted (bus : NamedBus) (before after : List DiskState) (events : List Event)
     (kept : Option (List Line)) : Type 0 where
   pub moments : Moments

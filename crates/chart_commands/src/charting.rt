@@ -1,21 +1,20 @@
 //! A run over disks, and its chart.
 ghost use Rattle.std.specs.Prelude.{◌≡◌, map};
-ghost use Rattle.answer_rows.specs.Endings.{EndsInRow};
+ghost use Rattle.program_edge.specs.Endings.{EndsInRow};
 ghost use Rattle.bus_nodes.specs.Buses.{IsNamedBus};
-ghost use Rattle.chart_commands.specs.Steps.{AreChartEvents, AnswersChart, ToldOfLines, AreOfEvents, kept_lines};
+ghost use Rattle.bus_programs.specs.Scripts.{AreEvents};
+ghost use Rattle.chart_commands.specs.Steps.{AnswersChart, ToldOfLines, AreOfEvents, kept_lines};
 
 use crate::keeping::lines_of_run;
 use crate::laws::charts_are_runs;
-use answer_rows::{Refusal, tell_refusal};
 use bus_machine::{Event, Line};
 use bus_nodes::BusConfig;
 use bus_port::Sink;
-use bus_world::{Start, World, start_refusal};
-use chart_texts::chart_of;
-use command_edge::{DONE, tell};
+use bus_world::{Start, World, start_refusal, starts_are_set_up, turns_leave_disks};
+use chart_svg::chart_of;
 use cut_disk::CutDisk;
+use program_edge::{DONE, Refusal, tell, tell_refusal};
 use std::alloc::{AllocError, Global};
-use world_runs::{starts_are_set_up, turns_leave_disks};
 
 /// Starts the bus over formatted disks, steps through all events, hands the disks back, and tells the chart of the
 /// lines.
@@ -27,7 +26,7 @@ pub fn chart<K: Sink, D: CutDisk>(
     disks: &mut Vec<D>,
 ) -> u8
     requires is_bus { IsNamedBus bus.now }
-    requires are_events { AreChartEvents bus.now events.now }
+    requires are_events { AreEvents bus.now events.now }
     ensures { EndsInRow (AnswersChart (disks.new ≡ disks.old) bus.now events.now
         (record { before = map D.state disks.old.items; after = map D.state disks.new.items }))
         (record { before = K.state sink.old; after = K.state sink.new; status = result }) }
@@ -53,7 +52,7 @@ fn tell_chart<K: Sink>(
     kept: Result<Vec<Line>, AllocError>,
     sink: &mut K,
 ) -> u8
-    requires are_events { AreChartEvents bus.now events.now }
+    requires are_events { AreEvents bus.now events.now }
     requires as_many { AreOfEvents events.now (kept_lines kept) }
     ensures { EndsInRow (ToldOfLines bus.now events.now (kept_lines kept))
         (record { before = K.state sink.old; after = K.state sink.new; status = result }) }

@@ -1,13 +1,14 @@
 //! The worked example.
-ghost use Rattle.std.specs.Prelude.{◌≡◌, length, map, IfOk};
-ghost use Rattle.chart_commands.specs.Inputs.{ChartInputs};
-ghost use Rattle.chart_commands.specs.Named.{IsExampleChart};
-ghost use Rattle.chart_commands.specs.Promises.{RunsChart};
+ghost use Rattle.std.specs.Prelude.{◌≡◌, ◌⊎◌, length, map, string_bytes, Some, IfOk};
+ghost use Rattle.bus_port.specs.MemSource.{clean_source};
+ghost use Rattle.bus_programs.specs.Blank.{AreBlank};
+ghost use Rattle.chart_commands.specs.Named.{ChartsExample};
 
 use crate::run::run_chart;
 use bus_port::{CleanSource, Sink};
-use command_edge::NO_MEMORY;
-use cut_disk::CutDisk;
+use bus_programs::blank_disks;
+use cut_disk::MemDisk;
+use program_edge::NO_MEMORY;
 use std::alloc::{AllocError, Global};
 
 /// Its bus file: three nodes. The pedal sends its position to the brake and the cluster; the brake sends its state to
@@ -66,41 +67,40 @@ send pedal 6bc1 bee22e409f96
 deliver brake 10
 ";
 
-/// Draws the example as [`run_chart`] does, and gives the status that the program ends with.
-pub fn run_example<K: Sink, D: CutDisk>(alloc: Global, sink: &mut K, disks: &mut Vec<D>) -> u8
-    ensures { (i : ChartInputs) × IsExampleChart i × RunsChart (disks.new ≡ disks.old) i
-        (record { before = map D.state disks.old.items; after = map D.state disks.new.items })
-        (record { before = K.state sink.old; after = K.state sink.new; status = result }) }
+/// Draws the example as [`run_chart`] does, over eight blank disks, and gives the status that the program ends with.
+/// It is 7, with nothing written, if there is no memory for it.
+pub fn run_example<K: Sink>(alloc: Global, sink: &mut K) -> u8
+    ensures { ChartsExample (record { before = K.state sink.old; after = K.state sink.new; status = result })
+        ⊎ ((result ≡ 7) × (K.state sink.new ≡ K.state sink.old)) }
 {
-    match example(alloc) {
-        Ok((words, bus, events)) => {
-            let mut config = CleanSource::new(bus);
-            let mut script = CleanSource::new(events);
-            run_chart(
-                alloc,
-                words.as_slice(),
-                &mut config,
-                &mut script,
-                sink,
-                disks,
-            )
-        }
-        Err(AllocError) => NO_MEMORY,
-    }
+    let Ok(example) = example(alloc) else {
+        return NO_MEMORY;
+    };
+    let (words, mut config, mut script, mut disks) = example;
+    run_chart(
+        alloc,
+        words.as_slice(),
+        &mut config,
+        &mut script,
+        sink,
+        &mut disks,
+    )
 }
 
-/// Two words, the bus file and the script.
-fn example(alloc: Global) -> Result<(Vec<String>, Vec<u8>, Vec<u8>), AllocError>
+/// Two words, sources of the bus file and of the script, and the disks.
+fn example(
+    alloc: Global,
+) -> Result<(Vec<String>, CleanSource, CleanSource, Vec<MemDisk>), AllocError>
     ensures words { IfOk result (λ made. length (made.0.items) ≡ 2) }
-    ensures bus { IfOk result (λ made. made.1.items ≡ BUS.now) }
-    ensures script { IfOk result (λ made. made.2.items ≡ SCRIPT.now) }
+    ensures bus { IfOk result (λ made. (clean_source made.1).told ≡ Some BUS.now) }
+    ensures script { IfOk result (λ made. (clean_source made.2).told ≡ Some SCRIPT.now) }
+    ensures disks { IfOk result (λ made. AreBlank 8 65536 made.3.items) }
 {
     let mut words = Vec::new(alloc);
     words.push(String::from_str(alloc, "-")?)?;
     words.push(String::from_str(alloc, "-")?)?;
-    let mut bus = Vec::new(alloc);
-    bus.extend_from_slice(BUS)?;
-    let mut script = Vec::new(alloc);
-    script.extend_from_slice(SCRIPT)?;
-    Ok((words, bus, script))
+    let config = CleanSource::new(Vec::from_slice(alloc, BUS)?);
+    let script = CleanSource::new(Vec::from_slice(alloc, SCRIPT)?);
+    let disks = blank_disks(alloc, 8, 65_536)?;
+    Ok((words, config, script, disks))
 }

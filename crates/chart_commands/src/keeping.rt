@@ -7,7 +7,7 @@ ghost use Rattle.chart_commands.specs.Steps.{kept_lines};
 use bus_machine::{Event, Line};
 use bus_world::World;
 use cut_disk::CutDisk;
-use numbered_run::{Consumer, drive};
+use run_driver::{Consumer, drive};
 use std::alloc::{AllocError, Global};
 
 /// Lines in their order.

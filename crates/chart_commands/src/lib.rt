@@ -3,7 +3,8 @@
 //! [`run_chart`] is all of it: the record `RunsChart` says what each status means and what is printed. What
 //! was done over disks that tell their bytes is one run of the machine, with all of `WorldRun`, and the lines
 //! drawn are its lines (law `charts_are_runs`). [`chart_words`] opens the sources that the arguments name,
-//! and draws the example if there are none.
+//! and draws the example if there are none, over eight blank disks of 65,536 bytes in memory. So 9 and 10 don't come
+//! of it.
 #![tactic(auto)]
 
 mod charting;

@@ -1,85 +1,68 @@
-//! The words of the command line, the program's name left out: the run that they name is drawn, and without one the
+//! The arguments of the command line, the program's name left out: the run that they name is drawn, and without one the
 //! example.
-ghost use Rattle.std.specs.Prelude.{◌≡◌, ◌<◌, length, map, string_bytes};
-ghost use Rattle.bus_port.specs.Source.{SourceState};
-ghost use Rattle.named_sources.specs.NamedSources.{word_source};
-ghost use Rattle.chart_commands.specs.Inputs.{ChartInputs};
-ghost use Rattle.chart_commands.specs.Named.{ChartSourcesAreNamed, IsExampleChart};
-ghost use Rattle.chart_commands.specs.Promises.{RunsChart};
+ghost use Rattle.std.specs.Prelude.{◌≡◌, ◌≢◌, ◌⊎◌, [], map, string_bytes, option_map, IfOk, IfErr};
+ghost use Rattle.program_edge.specs.NamedSources.{word_source, openings};
+ghost use Rattle.bus_programs.specs.Blank.{AreBlank};
+ghost use Rattle.chart_commands.specs.Inputs.{AsksChart};
+ghost use Rattle.chart_commands.specs.Named.{ChartOfWords};
 
 use crate::example::run_example;
 use crate::run::run_chart;
 use bus_port::{Sink, Source};
-use cut_disk::CutDisk;
-use named_sources::{MissingSource, Opener, WordSource, open_second, open_word};
-use std::alloc::Global;
+use bus_programs::{blank_disks, unopened};
+use cut_disk::MemDisk;
+use program_edge::{NO_MEMORY, Opener, WordSource, open_two};
+use std::alloc::{AllocError, Global};
 
-/// The sources of the bus file and of the script that two words name, of which nothing was read here. `-` is the input,
-/// which is handed in once for each; where both are `-`, the bus file has it, and the script is missing. Of words of
-/// another number nothing is opened, and both sources are missing.
-fn open_chart<O: Opener, I: Source + Drop>(
-    opener: &O,
-    bus_input: I,
-    script_input: I,
-    words: &[String],
-) -> (WordSource<O::Opened, I>, WordSource<O::Opened, I>)
-    // These are the sources of a chart of these words, whatever it leaves of them.
-    ensures { (config_after script_after : SourceState)
-        → ChartSourcesAreNamed (O.opens opener.now) (I.state bus_input) (I.state script_input)
-        (map string_bytes words.now)
-        (record {
-          words = map string_bytes words.now;
-          config = record { before = word_source O.Opened.state I.state result.0; after = config_after };
-          script = record { before = word_source O.Opened.state I.state result.1; after = script_after };
-        }) }
-{
-    match words {
-        [bus, events] => {
-            let script = open_second(opener, script_input, bus.as_str(), events.as_str());
-            let config = open_word(opener, bus_input, bus.as_str());
-            (config, script)
-        }
-        _ => {
-            let config = WordSource::Missing(MissingSource::new());
-            let script = WordSource::Missing(MissingSource::new());
-            (config, script)
-        }
-    }
-}
-
-/// Draws the run of the script over the bus that two words name, as [`run_chart`] does, and gives the status that the
-/// program ends with, and the sources of the bus file and of the script as the chart left them; without a word it draws
-/// the example, and both sources are missing.
-pub fn chart_words<O: Opener, I: Source + Drop, K: Sink, D: CutDisk>(
+/// Draws the run of the script over the bus that two words name, as [`run_chart`] does, over eight blank disks of
+/// 65,536 bytes, and gives the status that the program ends with, and the sources of the bus file and of the script as
+/// the chart left them; without a word it draws the example, and both sources are missing. `-` names the input, which
+/// is taken then; where both words are `-`, the bus file has it, and the script is missing. Of words of another number
+/// nothing is opened, and both sources are missing. The disks are made before anything is opened.
+pub fn chart_words<O: Opener, I: Source + Drop, K: Sink>(
     alloc: Global,
-    opener: &O,
-    bus_input: I,
-    script_input: I,
+    opener: &mut O,
+    input: &mut Option<I>,
     words: &[String],
     sink: &mut K,
-    disks: &mut Vec<D>,
 ) -> (u8, WordSource<O::Opened, I>, WordSource<O::Opened, I>)
-    // All that a chart promises, over the bus file and the script of the example.
-    ensures example { length words.now ≡ 0 → (i : ChartInputs) × IsExampleChart i × RunsChart (disks.new ≡ disks.old) i
-        (record { before = map D.state disks.old.items; after = map D.state disks.new.items })
+    // All that a chart promises, of these words, over the sources that they name, which are those handed back, or of
+    // the example; or there was no memory for it, and nothing was opened or written. Each of two words is opened once,
+    // and no other.
+    ensures words { ChartOfWords (O.opens opener.old)
+        (openings (O.opened opener.old) (option_map I.state input.old))
+        (openings (O.opened opener.new) (option_map I.state input.new))
+        (record {
+          config = word_source O.Opened.state I.state result.1;
+          script = word_source O.Opened.state I.state result.2;
+        })
+        (map string_bytes words.now)
         (record { before = K.state sink.old; after = K.state sink.new; status = result.0 }) }
+    ensures usage { result.0 ≡ 2 → ¬ AsksChart (map string_bytes words.now) }
+    ensures usage_only { map string_bytes words.now ≢ [] → ¬ AsksChart (map string_bytes words.now)
+        → (result.0 ≡ 2) ⊎ (result.0 ≡ 6) }
 
-    // All that a chart promises, of these words, over the sources that they name, which are those handed back.
-    ensures named { 0 < length words.now → (i : ChartInputs)
-        × ChartSourcesAreNamed (O.opens opener.now) (I.state bus_input) (I.state script_input)
-        (map string_bytes words.now) i
-        × (i.config.after ≡ word_source O.Opened.state I.state result.1)
-        × (i.script.after ≡ word_source O.Opened.state I.state result.2)
-        × RunsChart (disks.new ≡ disks.old) i
-        (record { before = map D.state disks.old.items; after = map D.state disks.new.items })
-        (record { before = K.state sink.old; after = K.state sink.new; status = result.0 }) }
+    // The disks that it makes are enough, and don't fail as the bus starts.
+    ensures starts { (result.0 ≢ 9) × (result.0 ≢ 10) }
 {
     if words.is_empty() {
-        let config = WordSource::Missing(MissingSource::new());
-        let script = WordSource::Missing(MissingSource::new());
-        return (run_example(alloc, sink, disks), config, script);
+        return unopened(run_example(alloc, sink));
     }
-    let (mut config, mut script) = open_chart(opener, bus_input, script_input, words);
-    let status = run_chart(alloc, words, &mut config, &mut script, sink, disks);
+    let Ok(mut disks) = disks_for(alloc, words) else {
+        return unopened(NO_MEMORY);
+    };
+    let (mut config, mut script) = open_two(opener, input, words);
+    let status = run_chart(alloc, words, &mut config, &mut script, sink, &mut disks);
     (status, config, script)
+}
+
+/// Eight blank disks of 65,536 bytes for a chart, and none, without taking memory, for words of another number.
+fn disks_for(alloc: Global, words: &[String]) -> Result<Vec<MemDisk>, AllocError>
+    ensures given { IfOk result (λ disks. AsksChart (map string_bytes words.now) → AreBlank 8 65536 disks.items) }
+    ensures wanted { IfErr result (λ _. AsksChart (map string_bytes words.now)) }
+{
+    if words.len() == 2 {
+        return blank_disks(alloc, 8, 65_536);
+    }
+    Ok(Vec::new(alloc))
 }

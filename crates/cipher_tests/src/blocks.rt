@@ -1,7 +1,7 @@
 //! Blocks as numbers, and what a test asks of each mode of the cipher.
 use she_aes::{
     Block, Schedule, cbc_decrypt, cbc_encrypt, decrypt, ecb_decrypt, ecb_encrypt, encrypt,
-    encrypt_by_tables, expand,
+    encrypt_by_shuffles, encrypt_by_tables, encrypt_by_words, expand,
 };
 
 /// The block of this number, big-endian.
@@ -14,13 +14,22 @@ pub(crate) fn schedule(key: u128) -> Schedule {
     expand(&block(key))
 }
 
-/// Whether the text is encrypted to the ciphertext under the key, by both bodies of the cipher,
-/// and the ciphertext decrypted to the text.
+/// Whether the text is encrypted to the ciphertext under the key, by each of the three ciphers, and
+/// the ciphertext decrypted to the text.
 pub(crate) fn agrees(key: u128, text: u128, ciphertext: u128) -> bool {
     let schedule = schedule(key);
     encrypt(&schedule, &block(text)) == block(ciphertext)
-        && encrypt_by_tables(&schedule, &block(text)) == block(ciphertext)
+        && by_each(&block(key), &block(text)) == [block(ciphertext); 3]
         && decrypt(&schedule, &block(ciphertext)) == block(text)
+}
+
+/// What each of the three ciphers gives.
+pub(crate) fn by_each(key: &Block, text: &Block) -> [Block; 3] {
+    [
+        encrypt_by_shuffles(key, text),
+        encrypt_by_words(key, text),
+        encrypt_by_tables(key, text),
+    ]
 }
 
 /// The blocks of these numbers.

@@ -2,7 +2,7 @@
 //! pieces.
 use crate::blocks::{block, schedule};
 use crate::comparing::holds;
-use byte_lists::Block;
+use basics::Block;
 use she_cmac::{Mac, cmac, cmac_of_parts};
 
 const KEY: u128 = 0x2b7e1516_28aed2a6_abf71588_09cf4f3c;
@@ -58,7 +58,7 @@ fn is_mac_of(parts: &[&[u8]], mac: u128) -> bool {
     cmac_of_parts(&schedule(KEY), parts) == block(mac)
 }
 
-/// Whether this is the MAC of the message in two parts, of which the first has so many bytes.
+/// Whether this is the MAC of the message in two parts, the first of so many bytes.
 fn is_mac_of_two(at: usize, mac: u128) -> bool {
     at <= 64 && is_mac_of(&[&MESSAGE[..at], &MESSAGE[at..]], mac)
 }

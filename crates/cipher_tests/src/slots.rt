@@ -1,4 +1,5 @@
-//! Numbers of slots and counters, a slot that is emptied, uses of a key, the printed names, and slots as they are shown.
+//! Numbers of slots and counters, a slot that is emptied, uses of a key, the printed names, and slots as they are
+//! shown.
 use crate::blocks::block;
 use crate::comparing::holds;
 use key_slots::{Counter28, Erc, Flags, Purpose, Slot, SlotId, Slots, usable};
@@ -39,7 +40,7 @@ fn slots_and_counters_have_their_bounds(rt: HostRuntime) {
     }
 }
 
-/// Slots of which the one of this number has a key, with this number as its flags.
+/// Slots with a key in the one of this number, with this number as its flags.
 fn slots_with(number: u8, flags: u8) -> Option<Slots> {
     let mut slots = Slots::empty();
     slots.set(SlotId::new(number)?, filled(flags)?);
@@ -121,7 +122,7 @@ fn is_shown(alloc: Global, slot: &Slot) -> bool {
     }
 }
 
-/// Whether slots are shown so, at their front.
+/// Whether slots are shown so, at their beginning.
 fn are_shown(alloc: Global, slots: &Slots) -> bool {
     match format!(in alloc; "{slots:?}") {
         Ok(shown) => shown.as_str().starts_with(ALL_SHOWN),

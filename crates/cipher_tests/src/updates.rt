@@ -21,7 +21,7 @@ fn own_update() -> Option<Update> {
     })
 }
 
-/// 1 in the 28 bits from the top, and 31 in the five behind them.
+/// 1 in the 28 bits from the top, and 31 in the five after them.
 const FIELDS: u128 = 0x0000001f800000000000000000000000;
 
 /// 1 in the 28 bits from the top.

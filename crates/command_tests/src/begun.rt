@@ -10,9 +10,9 @@ use std::test::Fail;
 
 const GIVEN: &Run = &Run("replay B F", [ORDINARY, ""], 6, ["", ""]);
 
-/// Behind how many lines the byte at an address of a node's disk is 1: the first four events put the cell of slot 1 and
-/// then that of slot 4, of the first node and then of the second, and have a line of ten bytes each. The mark of the
-/// second copy of a cell is 2 in a new twin store, and 1 behind the first put.
+/// After how many lines the byte at an address of a node's disk is 1. The first four events put the cell of slot 1 and
+/// then that of slot 4, of the first node and then of the second. Each has a line of ten bytes. The mark of the second
+/// copy of a cell is 2 in a new twin store, and 1 after the first put.
 const PUTS: &[(u64, usize, u64)] = &[(0, 0, 135), (1, 1, 135), (2, 0, 339), (3, 1, 339)];
 
 fn is_one(disk: &mut MemDisk, at: u64) -> bool {
@@ -33,7 +33,7 @@ fn are_begun(rt: &impl Abort, disks: &mut [MemDisk], written: u64) {
     }
 }
 
-/// A run whose sink fails once behind so many bytes.
+/// A run whose sink fails once after so many bytes.
 fn stops_behind(rt: &impl Abort, alloc: Global, written: u64) -> Result<(), Fail> {
     let mut disks = disks_of(alloc, 2_048, TWO_DISKS)?;
     let status = status_behind(alloc, GIVEN, written, &mut disks)?;

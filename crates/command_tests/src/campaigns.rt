@@ -25,8 +25,8 @@ const SHOW: &str = "\nshow 000000000000000000000000000001 4\n";
 const SHOW_AND_ISSUE: &str =
     "\nshow 000000000000000000000000000001 4\nissue 000000000000000000000000000001 4 1 00000 0f0e0d0c0b0a09080706050403020100 000102030405060708090a0b0c0d0e0f\n";
 
-/// The script before a stop, the calls that the disk stops at, the command that has them, the cuts behind it, the
-/// script behind these, and what is printed.
+/// The script before a stop, the calls that the disk stops at, the command that has them, the cuts after it, the next
+/// script, and what is printed.
 struct Stop(
     &'static str,
     &'static [&'static str],
@@ -36,8 +36,8 @@ struct Stop(
     &'static str,
 );
 
-/// The put of a command has six calls, of which the fifth writes the gate that makes the new cell count, at an even
-/// address: it was 00 at the last sync.
+/// The put of a command has six calls. The fifth writes the gate that makes the new cell count, at an even address: it
+/// was 00 at the last sync.
 const BEFORE_THE_GATE: &[&str] = &["1", "2", "3", "4"];
 
 const AT_THE_GATE: &[&str] = &["5", "6"];

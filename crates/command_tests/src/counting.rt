@@ -1,9 +1,9 @@
 //! The summary of lines that no trial has. Those that one has are rows of checks/, as are the words of a trial.
 use crate::comparing::holds;
+use basics::Pdu;
 use bus_commands::Summary;
 use bus_machine::{Line, Refusal};
-use byte_lists::Pdu;
-use numbered_run::Tally;
+use run_driver::Tally;
 use std::alloc::Global;
 
 /// A PDU that no event sent.

@@ -20,7 +20,7 @@ fn words_of(alloc: Global, line: &str) -> Result<Vec<String>, AllocError> {
     Ok(words)
 }
 
-/// The status of the words over a source, a sink and a disk in memory, of which there is still one then.
+/// The status of the arguments over a source, a sink and a disk in memory; there is still one disk then.
 fn status_of(
     rt: &impl Abort,
     alloc: Global,
@@ -82,7 +82,7 @@ fn the_largest_image_has_a_boot_mac(rt: HostRuntime) -> Result<(), Fail> {
     Ok(())
 }
 
-/// What is told of these requests where there is no disk: the first fault of the requests, and then that there is no
+/// What is printed for these requests if there is no disk: the first fault of the requests, and then that there is no
 /// disk.
 fn check_without_disk(
     rt: &impl Abort,

@@ -1,6 +1,6 @@
 //! Whether a ledger is down, and how many cells it hands back, which no program asks.
 use crate::comparing::same;
-use byte_lists::Block;
+use basics::Block;
 use campaign_commands::open_ledger;
 use cell_store::Cells;
 use cut_disk::{MemDisk, Torn};

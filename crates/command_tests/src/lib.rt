@@ -1,7 +1,7 @@
-//! Tests of the programs' top calls over ports and disks in memory: the commands of a bus, key campaigns, key
-//! commands, loading, collecting without an argument and under links that aren't any, and runs over ports
-//! that give and take pieces. There is nothing else here: a crate of tests over several libraries has none of
-//! them proved a second time. What a row of checks/ shows of a built program isn't shown again.
+//! Tests of the programs' top calls over ports and disks in memory: the commands of a bus, key campaigns, key commands,
+//! loading, collecting, and runs over ports that give and take pieces. There is nothing else here: a crate of tests
+//! over several libraries has none of them proved a second time. What a row of checks/ shows of a built program isn't
+//! shown again.
 #![tactic(auto)]
 
 #[cfg(test)]

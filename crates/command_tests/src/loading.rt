@@ -6,7 +6,7 @@ use any_cells::AnyCells;
 use bus_port::MemSink;
 use cell_store::{Kind, Version};
 use cut_disk::{CutDisk, MemDisk, Torn};
-use key_loading::{load_requests, open_loader};
+use key_commands::{load_requests, open_loader};
 use memory_update::Uid;
 use secoc_words::read_loads;
 use std::alloc::Global;
@@ -18,8 +18,8 @@ use std::test::Fail;
 const REQUESTS: &str =
     "00000000000000000000000000000111 889b716428bf0fd99aba27fc1fb1de0d6888b96edd73290b207883b92ebc9d5c 9a191bbc249466735e8699d751d99b1f\n00000000000000000000000000000141 2b111e2d93f486566bcbba1d7f7a9797c94643b050fc5d4d7de14cff682203c3 b9d745e5ace7d41860bc63c2b9f5bb46\n";
 
-/// The answers where the disk stops in the put of the second, and, behind that, where both keys are there and where the
-/// first is. That to the first was made by OpenSSL.
+/// The answers if the disk stops in the put of the second. Then those of the next load: if both keys are there, and if
+/// only the first is. The answer to the first was made by OpenSSL.
 const STOPPED: &str =
     "loaded 000000000000000000000000000001117353dd885b971e09686842f169041ac8 b24b1a4961531a52743efca92549066f\nrefused MEMORY_FAILURE\n";
 
@@ -72,8 +72,8 @@ fn fresh(alloc: Global) -> Result<MemDisk, Fail> {
 }
 
 /// The calls of a disk at which it stops within the second's put, a kind of cut, and the answers to the requests when
-/// they are loaded again: the first is in the store, and the second is there whole or not at all. Two calls look for
-/// the store, 15 attach it, and each put has 6, of which the fifth writes the gate that makes the new cell count, at an
+/// they are loaded again. The first is in the store, and the second is there whole or not at all. Two calls look for
+/// the store, 15 attach it, and each put has 6. The fifth of these writes the gate that makes the new cell count, at an
 /// even address: it was 00 at the last sync.
 struct Stop(&'static [u64], Torn, &'static str);
 
@@ -94,7 +94,7 @@ const STOPS: &[Stop] = &[
     Stop(AT_THE_GATE, Torn::Fill(0xa7), AGAIN),
 ];
 
-/// Loads the requests over a disk that stops at this call: the disk then, behind a cut.
+/// Loads the requests over a disk that stops at this call: the disk then, after a cut.
 fn cut_within(rt: &impl Abort, alloc: Global, call: u64, torn: Torn) -> Result<MemDisk, Fail> {
     let mut disk = fresh(alloc)?;
     if call == 0 {
@@ -106,7 +106,7 @@ fn cut_within(rt: &impl Abort, alloc: Global, call: u64, torn: Torn) -> Result<M
     Ok(disk)
 }
 
-/// Loads the requests again behind each stop of a row.
+/// Loads the requests again after each stop of a row.
 fn check_stops(rt: &impl Abort, alloc: Global, row: &Stop) -> Result<(), Fail> {
     for call in row.0 {
         let disk = cut_within(rt, alloc, *call, row.1)?;

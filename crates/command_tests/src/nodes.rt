@@ -1,5 +1,5 @@
-//! Two nodes that go on where their disks in memory stand, those that tell their past, or those over files in memory
-//! whose bytes are held. What one node over a file shows is a row of checks/.
+//! Two nodes that go on where their disks stand: disks in memory, some of which tell their past, or over files in
+//! memory. What one node over a file shows is a row of checks/.
 use crate::comparing::holds;
 use crate::playing::{Run, plays, status_behind};
 use crate::replays::{TWO_DISKS, disks_of, held_disks, tapes_of};
@@ -33,7 +33,7 @@ const NODE: &str = "node B F DISK";
 /// The layout, and the run.
 struct Life(&'static str, Run);
 
-/// Lives over the same disks. Behind the first come one with stores of the other kind, one that moves the stores to
+/// Lives over the same disks. After the first come one with stores of the other kind, one that moves the stores to
 /// version 2, and one of version 1.
 const TWIN_LIVES: &[Life] = &[
     Life("", Run(NODE, [KEYED, ""], 0, [KEYED_LINES, ""])),
@@ -73,7 +73,7 @@ const BEHIND_A_FAULT: &Run = &Run(
 
 const LIVES: &[&[Life]] = &[TWIN_LIVES, LOG_LIVES];
 
-/// The lives one behind the other over these disks.
+/// The lives one after the other over these disks.
 fn lives<D: CutDisk + Drop>(
     rt: &impl Abort,
     alloc: Global,

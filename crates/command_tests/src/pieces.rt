@@ -2,12 +2,11 @@
 //! has. The authenticator was made by Python's `cryptography`.
 use crate::comparing::same;
 use bus_port::{MemSink, MemSource};
-use log_watch::run_watch;
 use pdu_collection::run_pairs;
 use std::alloc::{AllocError, Global};
 use std::process::Abort;
 use std::test::Fail;
-use trace_audit::run_audit;
+use trace_audit::{run_audit, run_watch};
 
 #[derive(Clone, Copy)]
 enum Program {

@@ -7,7 +7,7 @@ use std::alloc::{AllocError, Global};
 use std::process::Abort;
 use std::test::Fail;
 
-/// A text, and another behind it.
+/// A text, and another after it.
 pub(crate) type Text = [&'static str; 2];
 
 /// A bus of two nodes: `left` sends 6bc1, and `right` receives it.
@@ -39,7 +39,7 @@ fn source_of(alloc: Global, text: Text) -> Result<CleanSource, AllocError> {
     Ok(CleanSource::new(bytes_of(alloc, text)?))
 }
 
-/// A run of these words: by itself, since what it promises is taken up anew for each way out behind it.
+/// A run of these words: by itself, since what it promises is taken up anew for each way out after it.
 fn done<S: Source, T: Source, K: Sink, D: CutDisk>(
     alloc: Global,
     words: &[String],
@@ -66,7 +66,7 @@ fn answer_to<D: CutDisk>(
     Ok(done(alloc, words, &mut bus, &mut script, sink, disks))
 }
 
-/// The status of a run over these disks, and a sink that takes a byte in a call and fails once behind so many.
+/// The status of a run over these disks, and a sink that takes a byte in a call and fails once after so many.
 pub(crate) fn status_behind<D: CutDisk>(
     alloc: Global,
     given: &Run,

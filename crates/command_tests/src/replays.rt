@@ -82,7 +82,7 @@ pub(crate) enum Size {
 }
 
 impl Size {
-    /// As many, where the store takes so many.
+    /// As many, if the store takes so many.
     fn bytes(self, least: usize) -> usize {
         match self {
             Size::Least => least,
@@ -155,7 +155,7 @@ const LAYOUTS: &[(&str, usize)] = &[
     ("store = \"log\"\nversion = 2\n", 38_244),
 ];
 
-/// The summary of a trial of one event of the seed 0, a power cut, behind the keys of two nodes: the same each time.
+/// The summary of a trial of one event of the seed 0, a power cut, after the keys of two nodes: the same each time.
 const TRIED: &str = "events 21\nsent 0\naccepted 0\nfailures 0\nkeyed 20\ncuts 1\nrefused 0\n";
 
 /// Disks, and the run over them.
@@ -235,7 +235,7 @@ const FAILURES: &[(usize, u64, &Run)] = &[
     (1, 37, STARTED),
 ];
 
-/// Two disks, of which that of this node fails at this call.
+/// Two disks; that of this node fails at this call.
 fn failing_disks(alloc: Global, node: usize, call: u64) -> Result<Vec<MemDisk>, Fail> {
     let mut disks = disks_of(alloc, 2_048, TWO_DISKS)?;
     match disks.as_mut_slice().get_mut(node) {
@@ -389,7 +389,7 @@ fn what_is_read_again_otherwise_is_told(rt: HostRuntime) -> Result<(), Fail> {
     Ok(())
 }
 
-/// A disk over such a file whose bytes are held.
+/// A disk over such a file with its bytes in memory.
 fn held(alloc: Global, at: usize, byte: u8) -> Result<FileDisk<HeldFile<WornFile>>, AllocError> {
     let room = room_to_hold(alloc)?;
     let bytes = vec![in alloc; 0; 65_536]?;
@@ -410,7 +410,7 @@ pub(crate) fn held_disks(
 
 const HELD_FAILED: &Run = &Run(REPLAY, [SENT, ""], 10, ["store: node 2: DiskFailed\n", ""]);
 
-/// What comes of a run where a disk that is read otherwise is one that failed.
+/// What comes of a run over a disk that reads otherwise, which counts as one that failed.
 fn failed(given: &'static Run) -> &'static Run {
     if given.2 == 0 { given } else { HELD_FAILED }
 }

@@ -5,7 +5,7 @@ use Rattle.cut_disk.specs.Images.{firm, LeavesAny, LeavesImage, CutsTo}
 use Rattle.cut_disk.specs.ImageLaws.{image_of_firm, image_under_write}
 use Rattle.cut_disk.specs.Lasting.{LeavesPatched}
 
--- where no byte is loose, a cut changes nothing
+-- if no byte is loose, a cut changes nothing
 pub cut_of_firm : {x : List ℕ} {new : Option Told} → LeavesImage (firm x) new → new ≡ Some (firm x)
 cut_of_firm cut = cut.now ∙ ap (λ y. Some (firm y)) (image_of_firm cut.image)
 

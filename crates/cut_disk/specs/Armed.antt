@@ -5,7 +5,7 @@ use Rattle.cut_disk.specs.State.{Mark, Stop, Fail, DiskState}
 use Rattle.cut_disk.specs.Arming.{with_stop, with_fail}
 use Rattle.cut_disk.specs.Calls.{Runs}
 
--- one call with this mark: these calls are to fail, and what is told and the count of faults stay
+-- one call with this mark: these calls are to fail, and told bytes and the count of faults stay
 pub record ArmedAs (mark : Mark) (these : Arms) (old new : DiskState) : Type 0 where
   pub runs : Runs (mark ∷ []) 1 old new
   pub told : new.told ≡ old.told

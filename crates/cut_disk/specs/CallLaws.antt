@@ -7,7 +7,7 @@ use Rattle.std.proofs.lemmas.List.Elements.{filter_map-append}
 use Rattle.std.proofs.lemmas.Bool.{false≢true}
 use Rattle.cut_disk.specs.declared.Mark.TheVariants.{Cut, Stop, Fail}
 use Rattle.cut_disk.specs.State.{Told, Mark, Entry, past_entry, DiskState}
-pub use Rattle.fault_count.specs.CountLaws.{rose_then, rose_after}
+pub use Rattle.basics.specs.CountLaws.{rose_then, rose_after}
 use Rattle.cut_disk.specs.Calls.{Rose, KeepsQuiet, StaysQuiet, IsQuiet, arms_nothing, Call, marks_of, newest}
 use Rattle.cut_disk.specs.Calls.{AddsEntries, Runs, Later, Grows, AsBefore}
 
@@ -128,7 +128,7 @@ pub runs_then : {ms : List Mark} {m : ℕ} {mark : Option Mark} {a b c : DiskSta
     → Runs (ms ++ option_to_list mark) (m + 1) a c
 runs_then first call = runs_join first (runs_of_call call)
 
--- what was told earlier stands first in what is told later
+-- what a past told earlier stands first in what it tells later
 pub later_of_runs : {marks : List Mark} {most : ℕ} {a b : DiskState} → Runs marks most a b → Later a b
 later_of_runs runs = record {
   faults = runs.later;
@@ -153,7 +153,7 @@ later_join first second = record {
 longer : (xs ys : List Entry) {all : List Entry} → all ≡ xs ++ ys → length all ≡ length xs + length ys
 longer xs ys e = ap length e ∙ length-append xs ys
 
--- a call makes a past that is told longer, and so does a stretch with a call in it
+-- a call makes a told past longer, and so does a stretch with a call in it
 pub grows_of_call : {mark : Option Mark} {a b : DiskState} → Call mark a b → Grows a b
 grows_of_call {mark} call = record {
   past = λ all is. let p =

@@ -3,8 +3,8 @@ use Rattle.std.specs.Prelude.{◌≡◌, ℕ, ◌^◌, ◌<◌, ◌≤◌, Bool,
 use Rattle.std.specs.Prelude.{is_some}
 use Rattle.std.specs.List.{filter_map}
 use Rattle.std.specs.Option.{option_to_list}
-pub use Rattle.fault_count.specs.FaultCount.{Rose}
-use Rattle.fault_count.specs.FaultCount.{last_count}
+pub use Rattle.basics.specs.FaultCount.{Rose}
+use Rattle.basics.specs.FaultCount.{last_count}
 use Rattle.cut_disk.specs.declared.Mark.TheVariants.{Cut, Stop, Fail}
 use Rattle.cut_disk.specs.State.{Told, Mark, Entry, past_entry, DiskState}
 
@@ -37,8 +37,8 @@ pub record AddsOne (mark : Option Mark) (before : Option (List Entry)) (now : Op
   pub told : now ≡ Some state
   pub whole : all ≡ earlier ++ past_entry state mark ∷ []
 
--- One call: no size changes, no count falls, bytes are told after it exactly where they were before, and a
--- disk that tells its past told it before. Only a call that arms another ends a quiet time.
+-- One call: no size changes, and no count falls. The disk tells bytes after it exactly if it told them before. If it
+-- tells its past, it told it before. Only a call that arms another ends a quiet time.
 pub record Call (mark : Option Mark) (old new : DiskState) : Type 0 where
   pub size : new.size ≡ old.size
   pub later : old.faults ≤ new.faults
@@ -50,7 +50,7 @@ pub record Call (mark : Option Mark) (old new : DiskState) : Type 0 where
 abbrev pub marks_of : List Entry → List Mark
 marks_of entries = filter_map (λ e. e.mark) entries
 
--- the state that the last of these entries left, or this one where there are none
+-- the state that the last of these entries left, or this one if there are none
 abbrev pub newest : Option Told → List Entry → Option Told
 newest told [] = told
 newest told (e ∷ entries) = newest (Some e.state) entries
@@ -85,7 +85,7 @@ pub record Later (old new : DiskState) : Type 0 where
   pub faults : old.faults ≤ new.faults
   pub past : (all : List Entry) → new.past ≡ Some all → Continues old.past all
 
--- a past that is told got at least one entry
+-- a told past got at least one entry
 pub record Grown (before : Option (List Entry)) (all : List Entry) : Type 0 where
   pub earlier : List Entry
   pub was : before ≡ Some earlier
@@ -94,7 +94,7 @@ pub record Grown (before : Option (List Entry)) (all : List Entry) : Type 0 wher
 pub record Grows (old new : DiskState) : Type 0 where
   pub past : (all : List Entry) → new.past ≡ Some all → Grown old.past all
 
--- A disk is as before, but for at most this many reads, which its past may show and its arms may have counted.
+-- A disk is as before, except for at most this many reads, which its past may show and its arms may have counted.
 pub record AsBefore (most : ℕ) (old new : DiskState) : Type 0 where
   pub runs : Runs [] most old new
   pub told : new.told ≡ old.told

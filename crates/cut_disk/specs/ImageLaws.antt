@@ -12,7 +12,7 @@ use Rattle.cut_disk.specs.Splices.{length-splice, get_or-splice_before, get_or-s
 pub image_is_read : (t : Told) → Image t t.bytes
 image_is_read t = record { sized = refl; agrees = λ i h l. refl }
 
--- where no byte is loose there is no other
+-- if no byte is loose there is no other
 pub image_of_firm : {x y : List ℕ} → Image (firm x) y → y ≡ x
 image_of_firm {x} {y} image =
     ext_get_or 0 y x image.sized
@@ -22,7 +22,7 @@ image_of_firm {x} {y} image =
 length-left : (at n : ℕ) (xs : List ℕ) → at + n ≤ length xs → length (slice_range xs at (at + n)) ≡ n
 length-left at n xs inside = search (rules, places)
 
--- where y agrees with x but in a range, y is patched there
+-- if y agrees with x but in a range, y is patched there
 pub patched_alike : (at count : ℕ) (x y : List ℕ) → at + count ≤ length x → length y ≡ length x
     → ((i : ℕ) → i < at → slice_index y i ≡ slice_index x i)
     → ((i : ℕ) → at + count ≤ i → i < length x → slice_index y i ≡ slice_index x i)

@@ -3,7 +3,7 @@ use Rattle.std.specs.Prelude.{◌≡◌, ℕ, ◌+◌, ◌<◌, true, false, Lis
 use Rattle.std.specs.Prelude.{slice_index_or, slice_range, Option, Some}
 use Rattle.cut_disk.specs.State.{Told}
 
--- xs with ys in the place of as many elements, from `at` on
+-- xs with ys instead of as many elements, from `at` on
 unfoldable pub splice : {X : Type 0} → ℕ → List X → List X → List X
 splice at ys xs = take at xs ++ ys ++ drop (at + length ys) xs
 
@@ -27,7 +27,7 @@ with_bytes at bytes t = record {
   loose = splice at (replicate (length bytes) true) t.loose;
 }
 
--- y is x with something in the place of so many bytes from `at` on
+-- y is x with something instead of so many bytes from `at` on
 pub record Patched (at count : ℕ) (x y : List ℕ) : Type 0 where
   pub left : List ℕ
   pub sized : length left ≡ count

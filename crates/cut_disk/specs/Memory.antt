@@ -6,12 +6,12 @@ use Rattle.cut_disk.specs.declared.Torn.{Torn}
 use Rattle.cut_disk.specs.declared.Torn.TheVariants.{Keep, Old, Half, Fill}
 use Rattle.cut_disk.specs.declared.arming.Arms.{Arms}
 use Rattle.cut_disk.specs.State.{Told, DiskState}
-use Rattle.fault_count.specs.FaultCount.{last_count, counted}
+use Rattle.basics.specs.FaultCount.{last_count, counted}
 use Rattle.cut_disk.specs.Arming.{no_arms, fails, after_call, after_cut, is_unarmed}
 use Rattle.cut_disk.specs.Images.{splice}
 
--- the bytes as read, the bytes of the last sync, for each byte whether it is loose, which calls are to fail,
--- and how many have failed
+-- the bytes as read, the bytes of the last sync, for each byte whether it is loose, which calls are to fail, how many
+-- failed
 pub record Contents : Type 0 where
   pub bytes : List ℕ
   pub synced : List ℕ

@@ -4,7 +4,7 @@ use Rattle.std.proofs.Common.{◌≡◌, ◌^◌, ◌<◌, ◌≤◌, Bool, true
 use Rattle.std.proofs.Common.{◌∙◌}
 use Rattle.std.specs.Prelude.{nat_lt, ◌&&◌}
 use Rattle.std.proofs.lemmas.Bool.{false≢true, ltb-true}
-use Rattle.fault_count.specs.FaultCount.{last_count}
+use Rattle.basics.specs.FaultCount.{last_count}
 use Rattle.cut_disk.specs.Arming.{is_unarmed}
 use Rattle.cut_disk.specs.State.{Entry}
 use Rattle.cut_disk.specs.Calls.{IsDisk}

@@ -1,4 +1,4 @@
--- Laws of `splice`, which puts a list in the place of as many elements of another.
+-- Laws of `splice`, which replaces elements of a list by as many others.
 use Rattle.std.proofs.Common.{◌≡◌, ℕ, ◌+◌, ◌-◌, ◌<◌, ◌≤◌, List, ◌++◌, length, get_or, arith, rules}
 use Rattle.std.specs.List.{slice_range}
 use Rattle.std.proofs.lemmas.List.{places, same_lists, length-append, length-take, length-drop}
@@ -9,7 +9,7 @@ pub length-splice : {X : Type 0} → (at : ℕ) (ys xs : List X) → at + length
 unfolding splice
 length-splice {X} at ys xs inside = simp (length-append, length-take, length-drop) (omega arith)
 
--- an element before, in and behind the new part
+-- an element before, in and after the new part
 pub get_or-splice_before : {X : Type 0} → (at : ℕ) (ys xs : List X) (i : ℕ) (d : X) → at + length ys ≤ length xs
     → i < at → get_or (splice at ys xs) i d ≡ get_or xs i d
 unfolding splice

@@ -4,7 +4,7 @@ use Rattle.std.specs.Prelude.{None, if◌then◌else◌, nat_lt}
 use Rattle.cut_disk.specs.declared.tape.PastEntry.{PastEntry}
 use Rattle.cut_disk.specs.State.{Entry, past_entry}
 
--- the size of each state, the greatest number of entries, and the past, if it is told
+-- the size of each state, the greatest number of entries, and the told past, if there is one
 pub record TapeState : Type 0 where
   pub size : ℕ
   pub room : ℕ
@@ -23,7 +23,7 @@ AllSized size entries =
     (k : ℕ) (e : PastEntry) → k < length entries → e ≡ slice_index_or entries k e
     → (length e.bytes.items ≡ size) × (length e.loose.items ≡ size)
 
--- a past gets one more entry where there is room for it, and isn't told any more where there is none
+-- a past gets one more entry if there is room for it, and isn't told any more if there is none
 abbrev pub with_entry : ℕ → Entry → Option (List Entry) → Option (List Entry)
 with_entry room e None = None
 with_entry room e (Some past) = if nat_lt (length past) room then Some (past ++ e ∷ []) else None

@@ -4,7 +4,7 @@ ghost use Rattle.cut_disk.specs.Arming.{no_arms, stops_next, stop_after, rearmed
 ghost use Rattle.cut_disk.specs.Memory.{faults_after};
 
 use crate::DiskFailed;
-use fault_count::count_fault;
+use basics::count_fault;
 
 /// A stop, from which on every call fails until the power is cut.
 #[derive(Clone, Copy, Drop)]
@@ -120,7 +120,7 @@ impl Arms {
     }
 }
 
-/// Counts one call of a disk. Where it is to fail, the count of faults rises, or stands at its last value.
+/// Counts one call of a disk. If it is to fail, the count of faults rises, or stands at its last value.
 pub fn count_call(arms: &mut Arms, faults: &mut u64) -> Result<(), DiskFailed>
     ensures ok { is_ok result ≡ not (fails arms.old) }
     ensures arms { arms.new ≡ after_call arms.old }

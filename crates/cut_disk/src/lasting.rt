@@ -1,4 +1,4 @@
-//! Calls over any disk, of which a caller knows what a power cut leaves.
+//! Calls over any disk, with what a power cut leaves of them.
 ghost use Rattle.std.specs.Prelude.{◌≡◌, ◌+◌, ◌≤◌, [], ◌∷◌, length, OnOk, OnErr};
 ghost use Rattle.cut_disk.specs.State.{Cut};
 ghost use Rattle.cut_disk.specs.Images.{Tears};
@@ -23,8 +23,8 @@ pub fn write_and_sync<D: Disk>(disk: &mut D, at: u64, bytes: &[u8]) -> Result<()
     }
 }
 
-/// Does the same, and cuts the power: the bytes are there after it, or some of them may be where the answer
-/// was that the disk failed.
+/// Does the same, and cuts the power: the bytes are there after it, or some of them may be if the answer was that the
+/// disk failed.
 pub fn write_and_cut<D: CutDisk>(
     disk: &mut D,
     at: u64,

@@ -1,7 +1,7 @@
 //! Laws of disks: the contract of each function is the law, and its body is empty.
 ghost use Rattle.std.specs.Prelude.{◌≡◌, ℕ, ◌+◌, ◌≤◌, ◌↔◌, true, List, ◌++◌, length, Option, Some};
 ghost use Rattle.std.specs.Option.{option_to_list};
-ghost use Rattle.fault_count.specs.FaultCount.{Rose};
+ghost use Rattle.basics.specs.FaultCount.{Rose};
 ghost use Rattle.cut_disk.specs.State.{Told, Mark, DiskState};
 ghost use Rattle.cut_disk.specs.Images.{Image, firm, with_bytes, UnderWrite, CutsTo};
 ghost use Rattle.cut_disk.specs.Calls.{arms_nothing, IsQuiet, Call, Runs, Later, Grows};
@@ -11,7 +11,7 @@ pub fn the_bytes_are_an_image()
     ensures { (t : Told) → Image t t.bytes }
 {}
 
-/// Where no byte is loose they are the only one.
+/// If no byte is loose they are the only one.
 pub fn firm_bytes_have_one_image()
     ensures { (bytes left : List ℕ) → Image (firm bytes) left ↔ (left ≡ bytes) }
 {}
@@ -49,7 +49,7 @@ pub fn later_states_compose()
     ensures { (a b c : DiskState) → Later a b → Later b c → Later a c }
 {}
 
-/// A past that is told grows at each call.
+/// A told past grows at each call.
 pub fn a_call_grows_the_past()
     ensures { (mark : Option Mark) (old new : DiskState) → Call mark old new → Grows old new }
 {}

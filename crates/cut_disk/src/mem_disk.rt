@@ -1,6 +1,6 @@
 //! A disk in memory.
 ghost use Rattle.std.specs.Prelude.{◌≡◌, ◌+◌, ◌^◌, ◌<◌, ◌≤◌, max, List, length, replicate, slice_range, false, not, is_ok, IfOk, OnOk, OnErr};
-ghost use Rattle.fault_count.specs.FaultCount.{last_count};
+ghost use Rattle.basics.specs.FaultCount.{last_count};
 ghost use Rattle.cut_disk.specs.Images.{splice};
 ghost use Rattle.cut_disk.specs.Memory.{torn_byte, left_bytes};
 ghost use Rattle.cut_disk.specs.Ranges.{IsSameOutside, IsFirmOutside};
@@ -15,8 +15,8 @@ impl From<AllocError> for Memory {
     }
 }
 
-/// A disk in memory. It tells its bytes. Its calls fail exactly where a stop or an arm says so, and a write that
-/// fails places its bytes all the same.
+/// A disk in memory. It tells its bytes. Its calls fail exactly if a stop or an arm says so, and a write that fails
+/// places its bytes all the same.
 #[derive(Drop)]
 pub struct MemDisk {
     bytes: Vec<u8>,

@@ -8,8 +8,8 @@ use crate::{Mark, Memory};
 use std::alloc::Global;
 use std::marker::Model;
 
-/// An entry of a past: the bytes and the loose marks that a call left, and the mark of the call, which a read, a write
-/// and a sync don't have.
+/// An entry of a past: the bytes and the loose marks that a call left, and its mark. A read, a write and a sync have
+/// none.
 #[derive(Drop)]
 pub struct PastEntry {
     pub bytes: Vec<u8>,
@@ -41,7 +41,7 @@ impl PastEntry {
     }
 }
 
-/// Adds an entry for a state of this size, or none where memory is out.
+/// Adds an entry for a state of this size, or none if memory is out.
 fn push_blank(entries: &mut Vec<PastEntry>, alloc: Global, size: usize) -> Result<(), Memory>
     ensures { IfOk result (λ _. (length entries.new.items ≡ length entries.old.items + 1)
         × (AllSized size entries.old.items → AllSized size entries.new.items)) }
@@ -94,7 +94,7 @@ impl Tape {
         })
     }
 
-    /// Adds an entry where there is room for it, and has no past any more where there is none.
+    /// Adds an entry if there is room for it, and has no past any more if there is none.
     pub fn add(&mut self, bytes: &[u8], loose: &[bool], mark: Option<Mark>)
         requires bytes { length bytes.now ≡ self.old.size }
         requires loose { length loose.now ≡ self.old.size }

@@ -42,7 +42,7 @@ impl TapeDisk {
         Ok(TapeDisk { disk, tape })
     }
 
-    /// The past, the oldest entry first, if it is told.
+    /// The past, the oldest entry first, if the disk tells it.
     pub fn past(&self) -> Option<&[PastEntry]>
         ensures { option_map (λ entries. map entry_of entries.now) result ≡ (tape_contents self.now).past }
     {

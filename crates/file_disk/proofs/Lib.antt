@@ -1,3 +1,4 @@
 pub mod Marks
 pub mod Held
 pub mod Opened
+pub mod Told

@@ -76,7 +76,7 @@ torn_marked (Some bytes) before after at count puts marks t is =
 same_told : {x y : Told} → Some x ≡ Some y → x ≡ y
 same_told p = cc
 
--- what a write left, of whatever answer, where the disk told the bytes of the file before it with these marks
+-- what a write left, of whatever answer, if the disk told the bytes of the file before it with these marks
 pub tears_after : (old mid : Option (List ℕ)) {new : Option (List ℕ)} (before marks after : List Bool) (at count : ℕ)
     → with_marks mid after ≡ with_marks old marks → PutsAny at count mid new → marks ≡ splice at (replicate count true) before
     → Tears at count (with_marks old before) (with_marks new after)

@@ -1,4 +1,4 @@
--- A disk over a file whose bytes are held, as it is opened.
+-- A disk over a file whose bytes are in memory, as it is opened.
 use Rattle.std.proofs.Common.{◌≡◌, ℕ, ◌≤◌, Bool, false, List, length, replicate, Some, None, refl, sym, subst}
 use Rattle.file_disk.specs.FileDisk.{FileContents, fresh_file_disk, IsJustOpened}
 

@@ -4,11 +4,11 @@ use Rattle.std.specs.Prelude.{Option, Some, None}
 use Rattle.cut_disk.specs.State.{Told}
 use Rattle.cut_disk.specs.Images.{splice, Patched}
 
--- so many bytes are told, if any are
+-- told bytes are so many, if there are any
 abbrev pub TellsSize : ℕ → Option (List ℕ) → Type 0
 TellsSize size told = (bytes : List ℕ) → told ≡ Some bytes → length bytes ≡ size
 
--- so many bytes from `at` on are among those that are told, if any are
+-- so many bytes from `at` on are among the told ones, if there are any
 abbrev pub IsInside : ℕ → ℕ → Option (List ℕ) → Type 0
 IsInside at count told = (bytes : List ℕ) → told ≡ Some bytes → at + count ≤ length bytes
 
@@ -16,11 +16,11 @@ IsInside at count told = (bytes : List ℕ) → told ≡ Some bytes → at + cou
 abbrev pub GivesBytes : ℕ → List ℕ → Option (List ℕ) → Type 0
 GivesBytes at out told = (bytes : List ℕ) → told ≡ Some bytes → out ≡ slice_range bytes at (at + length out)
 
--- these are put in the place of as many bytes from `at` on
+-- these are put instead of as many bytes from `at` on
 abbrev pub PutsBytes : ℕ → List ℕ → Option (List ℕ) → Option (List ℕ) → Type 0
 PutsBytes at put old new = (bytes : List ℕ) → old ≡ Some bytes → new ≡ Some (splice at put bytes)
 
--- something is put in the place of so many bytes from `at` on
+-- something is put instead of so many bytes from `at` on
 pub record LeavesPatch (at count : ℕ) (old : List ℕ) (new : Option (List ℕ)) : Type 0 where
   pub bytes : List ℕ
   pub patched : Patched at count old bytes

@@ -1,7 +1,7 @@
 -- A disk over a file: what it means, and what a call of it does.
 use Rattle.std.specs.Prelude.{◌≡◌, ◌≤◌, ℕ, Bool, true, false, if◌then◌else◌, List, length, replicate, Option, Some}
 use Rattle.std.specs.Prelude.{None}
-use Rattle.fault_count.specs.FaultCount.{counted}
+use Rattle.basics.specs.FaultCount.{counted}
 use Rattle.cut_disk.specs.declared.arming.Arms.{Arms}
 use Rattle.cut_disk.specs.State.{Told, DiskState}
 use Rattle.cut_disk.specs.Arming.{no_arms, fails, after_call, after_cut}
@@ -11,8 +11,8 @@ use Rattle.file_disk.specs.declared.file_disk.FileDisk.{FileDisk}
 use Rattle.file_disk.specs.FileBytes.{loose_since, with_marks}
 use Rattle.file_disk.specs.FileCalls.{FileCall, SyncAll, Notes}
 
--- the size, which calls are to fail, how many have failed, whether there is a file, its calls, if it tells them, and
--- its bytes with the loose marks, if it tells those
+-- the size, which calls are to fail, how many have failed, and whether there is a file. Its calls, if it tells them,
+-- and its bytes with the loose marks, if it tells those
 pub record FileContents : Type 0 where
   pub size : ℕ
   pub arms : Arms
@@ -37,13 +37,13 @@ fresh_file_disk size is_open calls told =
       told = with_marks told (replicate size false);
     }
 
--- one call was counted, and its failure where it was armed to fail
+-- one call was counted, and its failure if it was armed to fail
 abbrev pub counted_call : FileContents → FileContents
 counted_call c = record c { arms = after_call c.arms; faults = faults_after c.arms c.faults }
 
--- A call of the disk, which is Ok or not: it was counted, and its failure too; where it was armed to fail it did, and
--- the file wasn't touched; otherwise this one call of the file was made, with the same outcome. Where there is no file
--- it failed.
+-- A call of the disk, which is Ok or not: it was counted, and its failure too; if it was armed to fail it did, and the
+-- file wasn't touched; otherwise this one call of the file was made, with the same outcome. If there is no file it
+-- failed.
 pub record Passes (call : FileCall) (ok : Bool) (old new : FileContents) : Type 0 where
   pub size : new.size ≡ old.size
   pub arms : new.arms ≡ after_call old.arms
@@ -76,8 +76,8 @@ file_contents {F} {g} disk =
       told = with_marks (g.told disk.file) (loose_since disk.size disk.written.numbers);
     }
 
--- A disk over a file whose bytes are held, that was opened just now. It tells its bytes, as many as it has, and none of
--- them is loose; nothing is armed on it, and no call has failed. Where there is no file its bytes are 65,536 zeros.
+-- A disk over a file whose bytes are in memory, opened just now. It tells its bytes, as many as it has, and none of
+-- them is loose; nothing is armed on it, and no call has failed. If there is no file its bytes are 65,536 zeros.
 pub record IsJustOpened (c : FileContents) : Type 0 where
   pub bytes : List ℕ
   pub sized : length bytes ≡ c.size

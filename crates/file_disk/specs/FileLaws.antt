@@ -3,7 +3,7 @@
 use Rattle.std.proofs.Common.{◌≡◌, ℕ, ◌^◌, ◌<◌, ◌≤◌, Bool, List, length, Option, Some, None, refl, sym}
 use Rattle.std.proofs.Common.{◌∙◌}
 use Rattle.std.proofs.lemmas.Bool.{false≢true}
-use Rattle.fault_count.specs.FaultCount.{last_count}
+use Rattle.basics.specs.FaultCount.{last_count}
 use Rattle.cut_disk.specs.State.{Told}
 use Rattle.cut_disk.specs.Calls.{IsDisk}
 use Rattle.file_disk.specs.FileBytes.{TellsSize, with_marks}

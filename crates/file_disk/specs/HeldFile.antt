@@ -1,4 +1,4 @@
--- A file whose bytes are held in memory: what it means, and what a call of it does.
+-- A file with its bytes in memory: what it means, and what a call of it does.
 use Rattle.std.specs.Prelude.{◌≡◌, ℕ, ◌+◌, min, Bool, true, false, not, ◌&&◌, if◌then◌else◌, List, length}
 use Rattle.std.specs.Prelude.{replicate, slice_range, Option}
 use Rattle.cut_disk.specs.Images.{splice}
@@ -7,8 +7,8 @@ use Rattle.file_disk.specs.declared.held_file.HeldFile.{HeldFile}
 use Rattle.file_disk.specs.FileBytes.{GivesBytes}
 use Rattle.file_disk.specs.FileCalls.{FileCall, ReadAt, WriteAt, SyncAll, Notes}
 
--- the held bytes, whether there is a file, whether it has read otherwise than it was written, and the calls of the file
--- below, if that tells them
+-- the bytes in memory, whether there is a file, whether it ever read otherwise than it was written, and the calls of
+-- the file below, if that tells them
 pub record HeldContents : Type 0 where
   pub bytes : List ℕ
   pub is_open : Bool
@@ -23,8 +23,8 @@ held_contents {F} {g} file =
 abbrev pub is_asked : HeldContents → Bool
 is_asked c = c.is_open && not c.differs
 
--- what is held of a file of this size when it is opened: its first bytes, at most 131,072, as one read gave them; or,
--- where there is no file or this read failed, 65,536 zeros, and then there is none
+-- what memory holds of a file of this size when it is opened: its first bytes, at most 131,072, as one read gave them.
+-- If there is no file or this read failed, it is 65,536 zeros, and then there is no file
 pub record HoldsFirst (size : ℕ) (calls : Option (List FileCall)) (told : Option (List ℕ)) (held : HeldContents)
     : Type 0 where
   pub out : List ℕ
@@ -36,7 +36,7 @@ pub record HoldsFirst (size : ℕ) (calls : Option (List FileCall)) (told : Opti
   pub as_written : held.differs ≡ false
 
 -- A read of a file that is asked, which is Ok or not: the file below was read over the same range. A failure of it is
--- one, and Ok is that it gave the held bytes; where it gave others the file has read otherwise from now on.
+-- one, and Ok is that it gave the held bytes; if it gave others the file has read otherwise from now on.
 pub record ReadsBelow (at : ℕ) (out : List ℕ) (ok : Bool) (old new : HeldContents) : Type 0 where
   pub below : Bool
   pub noted : Notes (ReadAt at out below) old.calls new.calls
@@ -45,7 +45,7 @@ pub record ReadsBelow (at : ℕ) (out : List ℕ) (ok : Bool) (old new : HeldCon
   pub only : below ≡ true → out ≡ slice_range old.bytes at (at + length out) → ok ≡ true
   pub differs : new.differs ≡ (below && not ok)
 
--- A read. Where the file isn't asked it fails, and all is as before.
+-- A read. If the file isn't asked it fails, and all is as before.
 pub record ReadsHeld (at : ℕ) (out : List ℕ) (ok : Bool) (old new : HeldContents) : Type 0 where
   pub bytes : new.bytes ≡ old.bytes
   pub is_open : new.is_open ≡ old.is_open
@@ -53,7 +53,7 @@ pub record ReadsHeld (at : ℕ) (out : List ℕ) (ok : Bool) (old new : HeldCont
   pub untouched : is_asked old ≡ false → new ≡ old
   pub passed : is_asked old ≡ true → ReadsBelow at out ok old new
 
--- A write: the same, and the held bytes get these where the file below did.
+-- A write: the same, and the held bytes get these if the file below did.
 pub record WritesHeld (at : ℕ) (put : List ℕ) (ok : Bool) (old new : HeldContents) : Type 0 where
   pub is_open : new.is_open ≡ old.is_open
   pub differs : new.differs ≡ old.differs

@@ -4,3 +4,4 @@ pub mod FileDisk
 pub mod FileLaws
 pub mod HeldFile
 pub mod SystemFile
+pub mod NamedDisks

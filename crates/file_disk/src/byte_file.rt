@@ -10,7 +10,7 @@ pub struct FileFailed;
 /// A file of bytes at offsets from 0. It may tell which calls were made of it, and what its bytes are. One that tells
 /// its bytes reads as it was written.
 pub trait ByteFile {
-    /// Whether there is a file at all. Where there is none each call fails.
+    /// Whether there is a file at all. If there is none each call fails.
     ghost is_open: { Self → Bool };
 
     /// The calls so far, the oldest first, each with what it read or wrote and whether it was Ok, if the file tells

@@ -1,6 +1,6 @@
 //! The disk over a file.
 ghost use Rattle.std.specs.Prelude.{◌≡◌, ◌+◌, ◌^◌, ◌<◌, ◌≤◌, length, Some, None, false, not, is_ok, if◌then◌else◌, OnOk, OnErr};
-ghost use Rattle.fault_count.specs.FaultCount.{last_count, counted};
+ghost use Rattle.basics.specs.FaultCount.{last_count, counted};
 ghost use Rattle.cut_disk.specs.State.{Cut, Stop, Fail};
 ghost use Rattle.cut_disk.specs.Arming.{fails, after_cut, with_stop, with_fail};
 ghost use Rattle.cut_disk.specs.Images.{ReadsAs, WritesLoose, Tears, Syncs, CutsTo};
@@ -12,14 +12,13 @@ use crate::byte_file::{ByteFile, FileFailed};
 use crate::held_file::{HeldFile, MOST_HELD};
 use crate::system_file::SystemFile;
 use crate::writes::with_write;
+use basics::count_fault;
 use boxcar::tag::Tag;
 use cut_disk::{Arms, CutDisk, Disk, DiskFailed, Torn, count_call};
-use fault_count::count_fault;
 
-/// A disk over one file. It tells the bytes that its file tells, if that tells any, and no past, and is never quiet:
-/// any call of the file may fail. A byte is loose that was written since the last sync that was Ok, or the last power
-/// cut. That takes nothing from the file and syncs it, so that what is read behind it is what a cut of the system's own
-/// power leaves.
+/// A disk over one file. It tells the bytes that its file tells, if that tells any, and no past. It is never quiet: any
+/// call of the file may fail. A byte is loose if it was written since the last Ok sync or power cut. A power cut takes
+/// nothing from the file and syncs it, so a later read gives what a cut of the system's own power leaves.
 #[derive(Drop)]
 pub struct FileDisk<F: ByteFile = HeldFile<SystemFile>> {
     file: F,
@@ -40,7 +39,7 @@ impl<F: ByteFile> FileDisk<HeldFile<F>> {
     ghost use Rattle.file_disk.specs.HeldFile.{held_contents, HoldsFirst};
 
     /// A disk over the first bytes of this file, at most 131,072, which are read at once and held in memory. It tells
-    /// them. Where that read fails it is a disk of 65,536 zero bytes, each of whose reads, writes and syncs fails.
+    /// them. If that read fails it is a disk of 65,536 zero bytes, each of whose reads, writes and syncs fails.
     pub fn held(file: F, room: Vec<u8>) -> FileDisk<HeldFile<F>>
         requires sized { TellsSize (F.length_at_first file) (F.told file) }
         requires room { length room.items ≡ MOST_HELD }
@@ -73,7 +72,7 @@ impl<F: ByteFile> FileDisk<F> {
         }
     }
 
-    /// Counts a call, which fails where it is armed to, and then doesn't touch the file.
+    /// Counts a call, which fails if it is armed to, and then doesn't touch the file.
     fn count(&mut self) -> Result<(), DiskFailed>
         ensures ok { is_ok result ≡ not (fails (file_contents self.old).arms) }
         ensures contents { file_contents self.new ≡ counted_call (file_contents self.old) }

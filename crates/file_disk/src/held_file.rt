@@ -1,4 +1,4 @@
-//! A file whose bytes are held in memory.
+//! A file with its bytes in memory.
 ghost use Rattle.std.specs.Prelude.{◌≡◌, ◌≢◌, ◌+◌, ◌≤◌, min, length, replicate, slice_range, take, true, false, Some, None, is_ok, IsErr, IfOk, OnOk, OnErr};
 ghost use Rattle.cut_disk.specs.Images.{splice};
 ghost use Rattle.file_disk.specs.FileBytes.{TellsSize, IsInside, GivesBytes, PutsBytes, PutsAny};
@@ -8,15 +8,15 @@ use crate::byte_file::{ByteFile, FileFailed};
 use crate::system_file::{FIRST_SIZE, SystemFile};
 use std::alloc::{AllocError, Global};
 
-/// How many bytes are held at most, from the first one on. The largest store, a log store of 1,024 cells in version 2,
-/// ends behind 102,820 bytes; this is the power of two above it.
+/// How many bytes are in memory at most, from the first one on. The largest store, a log store of 1,024 cells in
+/// version 2, ends after 102,820 bytes; this is the power of two above it.
 pub const MOST_HELD: usize = 131_072;
 
 /// A file that tells its bytes: those that it read as when it was opened, and what was written to it since then. They
-/// are held in memory, and each read of the file below is compared with them. One that gives other bytes fails, and so
-/// does each call behind it: a file that doesn't read as it was written keeps nothing.
+/// are in memory, and each read of the file below is compared with them. One that gives other bytes fails, and so does
+/// each call after it: a file that doesn't read as it was written keeps nothing.
 ///
-/// Where there is no file it tells 65,536 zero bytes, and each of its calls fails.
+/// If there is no file it tells 65,536 zero bytes, and each of its calls fails.
 #[derive(Drop)]
 pub struct HeldFile<F: ByteFile = SystemFile> {
     file: F,
@@ -28,7 +28,7 @@ pub struct HeldFile<F: ByteFile = SystemFile> {
     ghost inside_below: { is_open ≡ true → IsInside 0 (length bytes.items) (F.told file) },
 }
 
-/// Room for the bytes of a file that is to be held.
+/// Room for the bytes of a file.
 pub fn room_to_hold(alloc: Global) -> Result<Vec<u8>, AllocError>
     ensures { IfOk result (λ room. length room.items ≡ MOST_HELD) }
 {
@@ -38,7 +38,7 @@ pub fn room_to_hold(alloc: Global) -> Result<Vec<u8>, AllocError>
 impl<F: ByteFile> HeldFile<F> {
     ghost use Rattle.file_disk.specs.HeldFile.{held_contents, is_asked, HoldsFirst};
 
-    /// Holds the first bytes of this file, at most 131,072. They are read at once; where that fails there is no file.
+    /// Holds the first bytes of this file, at most 131,072. They are read at once; if that fails there is no file.
     pub fn over(file: F, room: Vec<u8>) -> HeldFile<F>
         requires sized { TellsSize (F.length_at_first file) (F.told file) }
         requires room { length room.items ≡ MOST_HELD }
@@ -57,7 +57,7 @@ impl<F: ByteFile> HeldFile<F> {
         }
     }
 
-    /// Ok where a call is to be passed on to the file below.
+    /// Ok if a call is to be passed on to the file below.
     fn asked(&self) -> Result<(), FileFailed>
         ensures { is_ok result ≡ is_asked (held_contents self.now) }
     {
@@ -69,7 +69,7 @@ impl<F: ByteFile> HeldFile<F> {
     }
 }
 
-/// Reads so many bytes of the file, from the first one on, into the front of the room, and says whether that was Ok.
+/// Reads so many bytes of the file, from the first one on, to the beginning of the room, and says whether that was Ok.
 fn reads_first<F: ByteFile>(file: &mut F, room: &mut [u8], count: usize) -> bool
     requires fits { count ≤ length room.old }
     requires inside { IsInside 0 count (F.told file.old) }
@@ -107,7 +107,7 @@ fn are_held(bytes: &[u8], at: usize, out: &[u8]) -> bool
     out == &bytes[at..at + out.len()]
 }
 
-/// Holds these in the place of as many bytes from the index `at` on.
+/// Holds these instead of as many bytes from the index `at` on.
 fn hold(held: &mut [u8], at: usize, bytes: &[u8])
     requires { at + length bytes.now ≤ length held.old }
     ensures { held.new ≡ splice at bytes.now held.old }

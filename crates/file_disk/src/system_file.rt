@@ -16,13 +16,13 @@ use std::{fs, io, process};
 /// The bytes of a file that is made, and of a disk over one that can't be opened.
 pub const FIRST_SIZE: u64 = 65536;
 
-/// A file of the system, or none, where it could be neither opened nor made. It tells no calls and no bytes (a
+/// A file of the system, or none, if it could be neither opened nor made. It tells no calls and no bytes (a
 /// [`HeldFile`](crate::HeldFile) over it does). Each call of no file fails.
 ///
-/// It is open in one place at a time. It is synced before it is read, and its folder is: what is read then stands on its
-/// device, unless a sync of it failed in an earlier process. Where the path is a link, the link's folder is synced. Once
-/// a write or a sync of it has failed each further call fails: the system may have dropped what it couldn't write, and
-/// the next sync would be Ok.
+/// It is open in one place at a time. It is synced before it is read, and its folder is: what is read then stands on
+/// its device, unless a sync of it failed in an earlier process. If the path is a link, the link's folder is synced.
+/// Once a write or a sync of it has failed each further call fails: the system may have dropped what it couldn't write,
+/// and the next sync would be Ok.
 #[derive(Drop)]
 pub struct SystemFile {
     file: Option<File>,
@@ -39,9 +39,9 @@ impl From<io::Error> for FileFailed {
 }
 
 impl SystemFile {
-    /// Opens the file at this path, or makes it with 65,536 zero bytes where none is there. A file that nobody may
-    /// write, or this process may not, is opened for reading alone. A directory, a pipe, a device or a socket is no
-    /// file, and neither is one that is locked elsewhere, or whose sync fails.
+    /// Opens the file at this path, or makes it with 65,536 zero bytes if none is there. A file that nobody may write,
+    /// or this process may not, is opened for reading alone. A directory, a pipe, a device or a socket is no file, and
+    /// neither is one that is locked elsewhere, or whose sync fails.
     pub fn on(rt: &HostRuntime, path: &str) -> SystemFile
         ensures missing { is_there result ≡ false → length_of result ≡ FIRST_SIZE }
         ensures fresh { has_failed result ≡ false }
@@ -56,7 +56,7 @@ impl SystemFile {
         }
     }
 
-    /// The file, of which no write and no sync has failed.
+    /// The file, if no write and no sync of it has failed.
     fn sound(&self) -> Result<&File, FileFailed>
         ensures missing { is_there self.now ≡ false → IsErr result }
         ensures failed { has_failed self.now ≡ true → IsErr result }
@@ -103,7 +103,7 @@ impl ByteFile for SystemFile {
 
     ghost length_at_first = { λ file. length_of file };
 
-    /// The length of the file in bytes when it was opened, or 65,536 where there is none.
+    /// The length of the file in bytes when it was opened, or 65,536 if there is none.
     fn size(&self) -> u64
         ensures { result ≡ length_of self.now }
     {
@@ -205,8 +205,8 @@ fn is_protection(kind: ErrorKind) -> bool {
 }
 
 /// Makes a file of zero bytes at this path. It is made under another name, and has this one only once it is whole and
-/// on its device: no other start, at the same moment or after a kill, finds a part of it. Where another start has made
-/// the file meanwhile, that one is opened. Where the folder's file system has no second names, it is made in place.
+/// on its device: no other start, at the same moment or after a kill, finds a part of it. If another start has made the
+/// file meanwhile, that one is opened. If the folder's file system has no second names, it is made in place.
 fn made(rt: &HostRuntime, path: &str) -> io::Result<File> {
     let Ok(name) = format!(in rt.alloc(); "{path}.{}", process::id(rt.process())) else {
         return made_in_place(rt, path);
@@ -261,11 +261,10 @@ fn fill(file: &File) -> io::Result<()> {
 impl FileDisk<HeldFile<SystemFile>> {
     ghost use Rattle.file_disk.specs.FileDisk.{file_contents, IsJustOpened};
 
-    /// A disk over the file at this path, which is made with 65,536 zero bytes where it isn't there. It tells its
-    /// bytes: those that the file reads as now, of a longer file the first 131,072, which alone are the disk. They are
-    /// held in memory. A file that can be neither opened nor made, or not read, is a disk of 65,536 zero bytes, each of
-    /// whose reads, writes and syncs fails. Where there is no memory nothing is opened or made. Which file is opened no
-    /// clause says.
+    /// A disk over the file at this path, which is made with 65,536 zero bytes if it isn't there. It tells its bytes:
+    /// those that the file reads as now, of a longer file the first 131,072, which alone are the disk. They stay in
+    /// memory. A file that can't be opened and made, or read, is a disk of 65,536 zero bytes whose reads, writes and
+    /// syncs all fail. If there is no memory nothing is opened or made. No clause says which file is opened.
     pub fn on(
         alloc: Global,
         rt: &HostRuntime,

@@ -49,7 +49,7 @@ keeps_copy u k j (c ∷ cs) each = (
       (subst (λ z. u (k + suc i) ≡ whole_place (Entry z (get_or cs i []))) (let e : j + suc i ≡ suc j + i = omega arith in e) (each (suc i) (omega arith)))),
 )
 
--- the same, at the places behind a head
+-- the same, at the places after a head
 pub keeps_all : (u : ℕ → FlashPlace) (cells : CellList) → ((i : ℕ) → i < length cells → u (suc i) ≡ whole_place (Entry i (get_or cells i [])))
     → Keeps u 1 (copy_lines 0 cells)
 keeps_all u cells each = keeps_copy u 1 0 cells (λ i below.

@@ -5,3 +5,4 @@ pub mod Sound
 pub mod Scanning
 pub mod Steps
 pub mod Reached
+pub mod CallerLemmas

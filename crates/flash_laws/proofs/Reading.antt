@@ -113,7 +113,7 @@ spells_once r k (x ∷ xs) (y ∷ ys) p q =
     let e : x ≡ y = same_Some _ _ (sym p.0 ∙ q.0) in
     ap (λ z. z ∷ xs) e ∙ ap (λ zs. y ∷ zs) (spells_once r (suc k) xs ys p.1 q.1)
 
--- something is read, where nothing is read so many places further
+-- something is read, if nothing is read so many places further
 pub something_spelled : (r : ℕ → Option FlashLine) (fuel k : ℕ) → r (k + fuel) ≡ None → (xs : List FlashLine) × Spells r k xs
 something_spelled r zero k none = ([], ap r (let e : k ≡ k + 0 = omega arith in e) ∙ none)
 something_spelled r (suc fuel) k none = elim (some_or_none (r k)) [
@@ -128,7 +128,7 @@ pub keeps_same : (u v : ℕ → FlashPlace) → SamePlaces u v → (k : ℕ) (ls
 keeps_same u v same k [] held = tt
 keeps_same u v same k (l ∷ ls) held = (same k ∙ held.0, keeps_same u v same (suc k) ls held.1)
 
--- another place is changed, at or behind the end
+-- another place is changed, at or after the end
 pub keeps_before : (u v : ℕ → FlashPlace) (at : ℕ) → ((k : ℕ) → k ≢ at → v k ≡ u k) → (k : ℕ) (ls : List FlashLine)
     → k + length ls ≤ at → Keeps u k ls → Keeps v k ls
 keeps_before u v at rest k [] far held = tt

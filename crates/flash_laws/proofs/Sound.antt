@@ -1,6 +1,6 @@
--- What holds all along. At each moment one log counts, in one bank. It is firm, but for at most one line at its end, whose
--- program was cut. The next bank has an older head or none, or a copy that may become the log that counts; every other
--- bank has an older head or none.
+-- What holds all along. At each moment one log counts, in one bank. It is firm, except for at most one line at its end,
+-- whose program was cut. The next bank has an older head or none, or a copy that may become the log that counts; every
+-- other bank has an older head or none.
 use Rattle.std.proofs.Common.{◌≡◌, ◌≢◌, ◌⊎◌, inl, inr, ℕ, suc, ◌+◌, ◌<◌, ◌≤◌, Some, None, List, [], ◌∷◌, ◌++◌, length, get_or, sym, ap, subst, ◌∙◌, arith}
 use Rattle.flash_places.specs.declared.FlashLine.{FlashLine}
 use Rattle.flash_places.specs.declared.FlashLine.TheVariants.{Head, Entry}
@@ -24,7 +24,7 @@ pub record HoldsLog (n : ℕ) (u : ℕ → FlashPlace) (generation : ℕ) (cells
   pub now : cells ≡ after_lines puts first
   pub ends : next ≡ 1 + length (copy_lines 0 first ++ puts)
 
--- a line that may stand at the end makes a or b of the cells, and none stands behind it
+-- a line that may stand at the end makes a or b of the cells, and none stands after it
 abbrev pub LastOf : (ℕ → FlashPlace) → CellList → ℕ → CellList → CellList → Type 0
 LastOf u cells next a b = (line : FlashLine) → contents u next ≡ Some line
     → OneOf a b (after_lines (line ∷ []) cells) × (contents u (suc next) ≡ None)
@@ -92,7 +92,7 @@ Sound l w a b f (found bank g cells next) = SoundFound l w f bank g cells next a
 Sound l w a b f (copying bank g cells done) = SoundCopying l w f bank g cells done a b
 Sound l w a b f (ready bank g cells next) = SoundReady l w f bank g cells next a b
 
--- ---- what stays where places stay, or lose what they had
+-- ---- what stays if places stay, or lose what they had
 
 pub held_same : (n : ℕ) (u v : ℕ → FlashPlace) (g : ℕ) (cells : CellList) (next : ℕ) → SamePlaces u v → HoldsLog n u g cells next → HoldsLog n v g cells next
 held_same n u v g cells next same h = record {

@@ -1,4 +1,4 @@
--- How often the banks were erased: each as often as every other, but for one, and but for one a loss of power.
+-- How often the banks were erased: each as often as every other, except for one, and except for one a loss of power.
 use Rattle.std.proofs.Common.{◌≡◌, ◌≢◌, ◌⊎◌, inl, inr, ℕ, suc, ◌+◌, ◌<◌, ◌≤◌, Bool, if◌then◌else◌, sym, ap, subst, ◌∙◌, arith}
 use Rattle.std.proofs.lemmas.Bool.{cases_eq}
 use Rattle.std.proofs.lemmas.Bool.Decides.{eqb_tells}
@@ -9,8 +9,8 @@ pub record Wear : Type 0 where
   pub worn : ℕ → ℕ
   pub lost : ℕ
 
--- Each bank had `rounds` erases, those from 1 to this bank one more, and none has more than that but for one a loss of
--- power and `more`.
+-- Each bank had `rounds` erases, those from 1 to this bank one more, and none has more than that except for one a loss
+-- of power and `more`.
 pub record Spent (banks : ℕ) (w : Wear) (more bank : ℕ) : Type 0 where
   pub rounds : ℕ
   pub low : (x : ℕ) → x < banks → rounds ≤ w.worn x
@@ -47,7 +47,7 @@ bumped target x w w' b = elim (cases_eq x target) [
   | inr there ↦ (let e = b.others x there in (omega (arith, e), omega (arith, e)))
 ]
 
--- an erase of any bank, where one more is allowed
+-- an erase of any bank, if one more is allowed
 pub spent_more : (banks : ℕ) (w w' : Wear) (more more' bank target : ℕ) → Bumps target w w' → suc (w.lost + more) ≤ w'.lost + more'
     → Spent banks w more bank → Spent banks w' more' bank
 spent_more banks w w' more more' bank target b allowed s = record {

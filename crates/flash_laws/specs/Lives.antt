@@ -81,8 +81,8 @@ pub record CutsScan (a b : FlashMachine) : Type 0 where
 abbrev pub IsOlder : (ℕ → FlashPlace) → ℕ → Type 0
 IsOlder places generation = (g : ℕ) → (places 0).content ≡ Some (Head g) → g < generation
 
--- The store goes on in the log that was found, without an erase. It may do so only if all behind the log is blank for
--- sure, and the next bank's head is blank or was read: so a part whose blank check isn't believed never does.
+-- The store goes on in the log that was found, without an erase. It may do so only if all places behind the log are
+-- blank for sure, and the next bank's head is blank or was read: so a part whose blank check isn't believed never does.
 pub record Resumes (l : FlashLayout) (a b : FlashMachine) : Type 0 where
   pub bank : ℕ
   pub generation : ℕ
@@ -195,8 +195,8 @@ abbrev pub FlashLives : FlashLayout → List FlashDeed → FlashMachine → Flas
 FlashLives l [] a c = c ≡ a
 FlashLives l (deed ∷ deeds) a c = (b : FlashMachine) × (DoesFlashDeed l deed a b × FlashLives l deeds b c)
 
--- What a deed may make of the cells: a put that is done is there, one that the power cut into is there whole or not at
--- all, and no other deed changes them.
+-- What a deed may make of the cells. A put that is done is there. One that the power cut into is there whole or not at
+-- all. No other deed changes the cells.
 abbrev pub MayMake : FlashDeed → CellList → CellList → Type 0
 MayMake scans old new = new ≡ old
 MayMake resumes old new = new ≡ old

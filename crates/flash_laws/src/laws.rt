@@ -1,4 +1,24 @@
-//! Laws over all lives: the contract of each function is the law, and its body is empty.
+//! The laws: each function has an empty body, and its contract is the law.
+//!
+//! A flash has 2 to 16 banks (see `flash_places`). At each time one **log** counts, in one bank:
+//!
+//! | Place | Line |
+//! |---|---|
+//! | 0 | the head, with the generation of the log. It is programmed last of the copy |
+//! | 1 to n | the copy: cell 0, cell 1, and so on |
+//! | from n + 1 on | the puts, one line each |
+//!
+//! - **Power-up.** The store reads all banks. A bank is a log if its head and all n cells of its copy are whole; its
+//!   puts end before the first place that isn't. The log with the highest generation counts.
+//! - **Start.** Before anything is relied on, the store erases the *next* bank, copies the cells as they were read, and
+//!   programs the head with the next generation. Then that bank counts.
+//! - **Put.** It programs one line after the last. If the bank is full, it does what a start does before.
+//! - **Going on.** A start may go on in the log that it found, without an erase, on two conditions. All places behind
+//!   the log are blank for sure, and the next bank's head is blank or was read and is older. It takes a blank check
+//!   that is believed, so a store on a part without one never goes on.
+//!
+//! A life that doesn't finish its start never writes to the log that it found. So a line whose program was cut may be
+//! seen or not, and may change its mind, until a copy is whole. Nobody relied on it before, and then the copy decides.
 ghost use Rattle.std.specs.Prelude.{◌≡◌, ◌⊎◌, ℕ, ◌+◌, ◌<◌, ◌≤◌, List, [], ◌∷◌, Option};
 ghost use Rattle.flash_places.specs.declared.FlashLine.{FlashLine};
 ghost use Rattle.flash_places.specs.Places.{Flash, LooksAll};
@@ -6,9 +26,9 @@ ghost use Rattle.flash_places.specs.declared.FlashLine.TheVariants.{Entry};
 ghost use Rattle.flash_laws.specs.Logs.{CellList, copy_lines, after_lines};
 ghost use Rattle.flash_laws.specs.Lives.{FlashLayout, FlashMachine, FlashDeed, FlashLives, FlashFormatted, IsReadyFlash, IsOff, ScanFinds, PlaceIsBlank, Possible, wear_of, power_losses, next_bank, erases, heads, cuts_erase, cuts_put};
 
-/// A put is there whole or not at all, whenever the power goes, in any number of lives: where a store of a formatted
-/// flash is ready, its cells are what the puts that were done made of those that were formatted, each put that the
-/// power cut into being there or not; and so it is from each time that it is ready to each later one.
+/// A put is there whole or not at all, whenever the power goes, in any number of lives. If a store of a formatted flash
+/// is ready, its cells are what the puts that were done made of those that were formatted. Each put that the power cut
+/// into is there or not. The same holds from each time that it is ready to each later one.
 pub fn a_put_is_whole_or_absent_over_all_lives()
     ensures formatted { (l : FlashLayout) (deeds : List FlashDeed) (cells now : CellList) (a b : FlashMachine)
         → FlashFormatted l cells a → FlashLives l deeds a b → IsReadyFlash b now → Possible deeds cells now }
@@ -30,8 +50,8 @@ pub fn a_place_is_programmed_once()
         → FlashFormatted l cells a → FlashLives l deeds a b → PlaceIsBlank l b }
 {}
 
-/// Each bank is erased as often as every other, but for one, and but for one more each time that the power goes: a life
-/// whose start is cut short erases the same bank anew.
+/// Each bank is erased as often as every other, except for one, and except for one more each time that the power goes:
+/// a life whose start is cut short erases the same bank anew.
 pub fn wear_is_spread_evenly()
     ensures { (l : FlashLayout) (deeds : List FlashDeed) (cells : CellList) (a b : FlashMachine) (one other : ℕ)
         → FlashFormatted l cells a → FlashLives l deeds a b → one < l.banks → other < l.banks

@@ -45,7 +45,7 @@ all_blank places n held p is e bank k = elim (cases_lt k places) [
   | inr far ↦ blank_behind places held bank k far
 ]
 
--- another bank lies before this one or behind it
+-- another bank lies before this one or after it
 apart : (places bank other k : ℕ) → other ≢ bank → k < places → (other * places + k < bank * places) ⊎ (bank * places + places ≤ other * places + k)
 apart places bank other k ne below = elim (cases_lt other bank) [
   | inl less ↦ inl (let h : suc other * places ≤ bank * places = mul-le-mul_right places less in omega (arith, h))

@@ -1,7 +1,7 @@
 -- A flash in memory is a flash.
 use Rattle.std.proofs.Common.{ℕ, ◌+◌, ◌*◌, ◌^◌, ◌<◌, ◌≤◌, Bool, List, ap, if◌then◌else◌, arith}
 use Rattle.std.proofs.lemmas.Bool.{le-ltb}
-use Rattle.fault_count.specs.FaultCount.{last_count}
+use Rattle.basics.specs.FaultCount.{last_count}
 use Rattle.flash_places.specs.declared.mem_flash.MemPlace.{MemPlace}
 use Rattle.flash_places.specs.Places.{blank_place}
 use Rattle.flash_places.specs.Memory.{flash_place_in, flash_of}

@@ -1,11 +1,11 @@
--- Flash: banks of places, what each operation makes of them, and what is left where the power goes within it.
+-- Flash: banks of places, what each operation makes of them, and what is left if the power goes within it.
 use Rattle.std.specs.Prelude.{◌≡◌, ◌≢◌, ◌⊎◌, ℕ, Bool, true, false, Option, Some, None}
 use Rattle.flash_places.specs.declared.Answer.{Answer}
 use Rattle.flash_places.specs.declared.Answer.TheVariants.{Whole, Blank, Nothing}
 use Rattle.flash_places.specs.declared.FlashLine.{FlashLine}
 
--- A place is read as its content, or as nothing. Where it is firm it is always read as its content; where it isn't,
--- each read may answer the content or nothing, anew.
+-- A place is read as its content, or as nothing. If it is firm it is always read as its content; if it isn't, each read
+-- may answer the content or nothing, anew.
 pub record FlashPlace : Type 0 where
   pub content : Option FlashLine
   pub firm : Bool
@@ -58,7 +58,7 @@ pub record CutsProgram (bank at : ℕ) (line : FlashLine) (f g : Flash) : Type 0
   pub left : ((g bank at).content ≡ Some line) ⊎ ((g bank at).content ≡ None)
   pub same : SameButAt bank at f g
 
--- A checked read. A line that it answers is there, and stays: the place is firm from then on. Where it answers nothing,
+-- A checked read. A line that it answers is there, and stays: the place is firm from then on. If it answers nothing,
 -- the place is blank or not firm, and is as before.
 pub data Looks (p : FlashPlace) (answer : Option FlashLine) (q : FlashPlace) : Type 0 where
   sees : (line : FlashLine) → p.content ≡ Some line → answer ≡ Some line → q ≡ whole_place line → Looks p answer q

@@ -1,6 +1,6 @@
 -- What a flash device means to a proof.
 use Rattle.std.specs.Prelude.{◌≡◌, ◌<◌, ◌≤◌, ◌^◌, ℕ}
-use Rattle.fault_count.specs.FaultCount.{last_count}
+use Rattle.basics.specs.FaultCount.{last_count}
 use Rattle.flash_places.specs.Places.{Flash, blank_place}
 
 -- its places, how many banks it has, how many places a bank has, and how many of its calls have failed
@@ -16,7 +16,7 @@ pub record FlashRuns (old new : FlashState) : Type 0 where
   pub places : new.places ≡ old.places
   pub later : old.faults ≤ new.faults
 
--- behind the places of a bank all is blank
+-- after the places of a bank all is blank
 abbrev pub BlankBehind : ℕ → Flash → Type 0
 BlankBehind places f = (bank k : ℕ) → places ≤ k → f bank k ≡ blank_place
 

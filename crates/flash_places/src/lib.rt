@@ -1,50 +1,16 @@
 //! Flash whose banks are erased whole and whose places are programmed once between two erases.
 //!
-//! # What a flash means
-//!
-//! A [`FlashDevice`] has 2 to 16 **banks** of equally many **places**. A bank is what is erased at once: one sector or
-//! several. A place holds one line of a log: as many program units as a line needs. To a proof a place is (`FlashPlace`)
-//!
-//! - its **content**, a line or none, and
-//! - whether it is **firm**.
-//!
-//! A place is read as its content, or as nothing. Where it is firm it is always read as its content. Where it isn't,
-//! each read may answer the content or nothing, anew, until a read has answered the content: then the place is firm.
-//!
-//! | Operation | Ok | `FlashFailed`, or the power goes |
-//! |---|---|---|
-//! | erase of a bank | every place is blank: firm, without content | each has its content or none, and need not be firm |
-//! | program of a blank place | it holds the line, firm | it has the line or none, and need not be firm |
-//! | checked read | see below | no place changes |
-//!
-//! A read answers `Whole` with the content, and the place is firm from then on; `Blank`, and then the place is blank; or
-//! `Nothing`, and then it is blank or not firm. At the last two it is as before.
-//!
-//! A place that isn't blank is never programmed: that is a `requires`. Every other place is as before. Unit sizes, the
-//! value of erased bytes, ECC and the check of a line belong to the driver below.
-//!
-//! # What a driver owes
-//!
-//! - **No forged line**: a read answers a line only if it was programmed in that place since the last erase that was
-//!   done, or stood there when an erase was cut. The check value of a line buys this, together with the part's ECC.
-//! - **Settled reads**: what a read answered is there and stays until the next erase. Parts with margin reads have this
-//!   in hardware.
-//! - **`Blank` is believed**: a driver answers it only where the part's blank check shows an erase that was done and no
-//!   program since, begun or not. A driver of a part without such a check answers `Nothing`. A store then begins each
-//!   life with an erase, and needs no blank check at all.
-//! - No operation disturbs another place.
-//!
-//! # Faults
-//!
-//! Each call that fails raises the **count of faults**, or finds it at its last value. A call that answers Ok leaves the
-//! count as it was, so no failure is hidden and none is invented.
-//!
-//! [`MemFlash`] is a flash in memory whose calls are made to fail, and whose places that aren't firm are read as a
-//! pattern of bits says.
+//! A [`FlashDevice`] has 2 to 16 banks of equally many places. A place holds a line or none, and is firm or not. It is
+//! read as its content or as nothing: a firm one always as its content, one that isn't firm as either, anew, until a
+//! read has answered the content. A failed call, or a loss of power, leaves places that need not be firm. Only a blank
+//! place is programmed: that is a `requires`. Each call that fails raises the count of faults, or finds it at its last
+//! value. An Ok leaves the count as it was, so no failure is hidden and none is invented. What a driver owes stands at
+//! the trait. [`MemFlash`] is a flash in memory: its calls are made to fail, and a pattern of bits says as what its
+//! places that aren't firm are read.
 #![tactic(auto)]
 
 ghost use Rattle.std.specs.Prelude.{◌≡◌, ◌<◌, IfOk, OnOk, OnErr};
-ghost use Rattle.fault_count.specs.FaultCount.{Rose};
+ghost use Rattle.basics.specs.FaultCount.{Rose};
 ghost use Rattle.flash_places.specs.Places.{blank_place, Erases, CutsErase, Programs, CutsProgram, LooksAt, SameFlash};
 ghost use Rattle.flash_places.specs.State.{FlashState, FlashRuns, IsFlash};
 
@@ -75,6 +41,36 @@ pub enum Answer {
 }
 
 /// A flash of 2 to 16 banks of equally many places, both numbered from 0.
+///
+/// A **bank** is what is erased at once: one sector or several. A **place** holds one line of a log: as many program
+/// units as a line needs. To a proof a place is (`FlashPlace`)
+///
+/// - its **content**, a line or none, and
+/// - whether it is **firm**.
+///
+/// A place is read as its content, or as nothing. If it is firm it is always read as its content. If it isn't, each
+/// read may answer the content or nothing, anew, until a read has answered the content: then the place is firm.
+///
+/// | Operation | Ok | `FlashFailed`, or the power goes |
+/// |---|---|---|
+/// | erase of a bank | each place is blank and firm | each has its content or none, and need not be firm |
+/// | program of a blank place | it holds the line, firm | it has the line or none, and need not be firm |
+/// | checked read | see below | no place changes |
+///
+/// A read answers `Whole` with the content, and the place is firm from then on; `Blank`, and then the place is blank;
+/// or `Nothing`, and then it is blank or not firm. At the last two it is as before.
+///
+/// A place that isn't blank is never programmed. Every other place is as before. Unit sizes, the value of erased bytes,
+/// ECC and the check of a line belong to the driver below. A driver owes:
+///
+/// - **No forged line.** A read answers a line only if it was programmed in that place since the last erase that was
+///   done, or stood there when an erase was cut. The check value of a line buys this, together with the part's ECC.
+/// - **Settled reads.** What a read answered is there and stays until the next erase. Parts with margin reads have this
+///   in hardware.
+/// - **`Blank` is believed.** A driver answers it only if the part's blank check shows an erase that was done and no
+///   program since, begun or not. A driver of a part without such a check answers `Nothing`. A store then begins each
+///   life with an erase, and needs no blank check at all.
+/// - No operation disturbs another place.
 pub trait FlashDevice {
     /// What the flash means.
     ghost state: { Self → FlashState };

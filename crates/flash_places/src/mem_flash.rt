@@ -1,13 +1,13 @@
 //! A flash in memory.
 ghost use Rattle.std.specs.Prelude.{◌≡◌, ◌≢◌, ◌⊎◌, ◌+◌, ◌*◌, ◌^◌, ◌<◌, ◌≤◌, ℕ, length, Some, None, not, is_ok, IfOk, OnOk, OnErr};
-ghost use Rattle.fault_count.specs.FaultCount.{last_count};
+ghost use Rattle.basics.specs.FaultCount.{last_count};
 ghost use Rattle.flash_places.specs.Places.{blank_place, Looks, line_in};
 ghost use Rattle.flash_places.specs.declared.Answer.TheVariants.{Blank};
 ghost use Rattle.flash_places.specs.Memory.{flash_place_in};
 
 use crate::{Answer, FlashDevice, FlashFailed, FlashLine};
+use basics::count_fault;
 use cut_disk::Arms;
-use fault_count::count_fault;
 use std::alloc::{AllocError, Global};
 
 /// What a place of a flash in memory is.
@@ -22,8 +22,8 @@ const BLANK: MemPlace = MemPlace {
     firm: true,
 };
 
-/// A flash in memory. Its calls fail exactly where a stop or an arm says so. An erase that fails leaves every place of
-/// its bank with its content and not firm, and a program that fails leaves the line, not firm.
+/// A flash in memory. Its calls fail exactly if a stop or an arm says so. An erase that fails leaves every place of its
+/// bank with its content, not firm. A program that fails leaves the line, not firm.
 #[derive(Drop)]
 pub struct MemFlash {
     /// The places of the first bank, then those of the second, and so on.
@@ -72,7 +72,7 @@ impl MemFlash {
         })
     }
 
-    /// Says what the places that aren't firm are read as, and whether blank ones are told.
+    /// Says what places that aren't firm are read as, and whether reads answer `Blank`.
     pub fn answer_by(&mut self, pattern: u64, tells_blank: bool)
         ensures same { memory_state self.new ≡ memory_state self.old }
         ensures pattern { self.new.pattern ≡ pattern }
@@ -109,7 +109,7 @@ impl MemFlash {
 }
 
 impl FlashDevice for MemFlash {
-    ghost use Rattle.fault_count.specs.FaultCount.{Rose};
+    ghost use Rattle.basics.specs.FaultCount.{Rose};
     ghost use Rattle.cut_disk.specs.Arming.{fails, after_call};
     ghost use Rattle.flash_places.specs.Places.{Flash, SameFlash, Erases, CutsErase, Programs, CutsProgram, LooksAt};
     ghost use Rattle.flash_places.specs.State.{FlashRuns};

@@ -1,21 +1,12 @@
 -- What a change of a bound leaves, from its cases.
-use Rattle.std.proofs.Common.{ℕ, ◌^◌, ◌<◌, Some, List, Result, Ok, Err, OnOk, OnErr, [], length, set, refl, inl, inr, arith, get_or-set_same}
+use Rattle.std.proofs.Common.{ℕ, ◌^◌, ◌<◌, Some, List, length, set, refl, inl, inr, arith, get_or-set_same}
 use Rattle.std.proofs.Math.ListN.{length-set}
-use Rattle.cut_disk.specs.Calls.{Runs}
-use Rattle.cut_disk.specs.CallLaws.{runs_none, runs_more}
 use Rattle.cut_disk.specs.Images.{EachImage}
-use Rattle.cell_store.specs.Cells.{CellsState, Settled, Puts, FailsPut}
+use Rattle.cell_store.specs.Cells.{CellsState, Settled}
 use Rattle.freshness_routes.specs.declared.routes.Direction.{Direction}
 use Rattle.freshness_store.specs.Bound.{bound_cell}
 use Rattle.freshness_manager.specs.Counters.{KeepsBound}
 use Rattle.freshness_manager.specs.Changing.{FailsChange, KeepsEither}
-
-pub runs_unmoved : (s : CellsState) → Runs [] 6 s.disk s.disk
-runs_unmoved s = runs_more 6 (omega arith) (runs_none s.disk)
-
-pub runs_of_put : {T E : Type 0} (r : Result T E) (place : ℕ) (cell : List ℕ) (old new : CellsState) → OnOk r (Puts place cell old new) → OnErr r (FailsPut place cell old new) → Runs [] 6 old.disk new.disk
-runs_of_put (Ok x) place cell old new puts fails = puts.runs
-runs_of_put (Err e) place cell old new puts fails = fails.runs
 
 -- the cell of a bound, put at its place
 kept_there : (cells : List (List ℕ)) (place id : ℕ) (direction : Direction) (bound moved : ℕ) → KeepsBound cells place id direction bound → moved < 2 ^ 64

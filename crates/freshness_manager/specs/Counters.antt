@@ -33,7 +33,7 @@ pub record IsReceiver (window reserve counter bound : ℕ) : Type 0 where
   pub reserved : IsReserved reserve counter bound
   pub is_window : IsWindow window
 
--- the cell at this place is the one of this Data ID, direction and bound
+-- the cell at this place holds this Data ID, direction and bound
 pub record KeepsBound (cells : List (List ℕ)) (place id : ℕ) (direction : Direction) (bound : ℕ) : Type 0 where
   pub inside : place < length cells
   pub holds : HoldsBound (slice_index_or cells place []) id direction bound

@@ -6,8 +6,7 @@ ghost use Rattle.freshness_routes.specs.declared.routes.Direction.{Direction};
 ghost use Rattle.freshness_manager.specs.Counters.{KeepsBound};
 ghost use Rattle.freshness_manager.specs.Changing.{FailsChange, KeepsEither};
 
-/// Where the put of a new bound fails on a settled store, whatever a power cut leaves keeps the old
-/// bound or the new one.
+/// If the put of a new bound fails on a settled store, whatever a power cut leaves keeps the old bound or the new one.
 pub fn a_failed_change_keeps_either_bound()
     ensures { (old new : CellsState) (place id : ℕ) (direction : Direction) (bound moved : ℕ) → moved < 2 ^ 64
         → Settled old → KeepsBound old.cells place id direction bound

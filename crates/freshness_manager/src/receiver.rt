@@ -1,8 +1,8 @@
 //! The counter of a route that receives.
 ghost use Rattle.std.specs.Prelude.{◌≡◌, ◌≤◌};
 
-use crate::changing::put_change;
-use cell_store::{Cells, PutFailed};
+use crate::changing::{PutFailed, put_change};
+use cell_store::Cells;
 use freshness_routes::receiver_change;
 use freshness_store::Direction;
 use secured_pdu::candidate_of;
@@ -32,13 +32,11 @@ impl Model for Rx {
 }
 
 impl Rx {
-    ghost use Rattle.std.specs.Prelude.{◌≡◌, ℕ, ◌<◌, ◌≤◌, [], unwrap_or, false, IfNone, IfSome, OnOk, OnErr};
-    ghost use Rattle.cut_disk.specs.Calls.{Runs};
+    ghost use Rattle.std.specs.Prelude.{◌≡◌, ℕ, ◌<◌, ◌≤◌, false, IfNone, IfSome, IfErr, OnOk, OnErr};
     ghost use Rattle.secured_pdu.specs.Frame.{IsWindow, Ahead};
     ghost use Rattle.freshness_routes.specs.declared.routes.Direction.TheVariants.{Receives};
-    ghost use Rattle.freshness_routes.specs.Changes.{receiver_change as change_of_receiver};
     ghost use Rattle.freshness_manager.specs.Counters.{KeepsBound};
-    ghost use Rattle.freshness_manager.specs.Changing.{MakesChange, FailsChange};
+    ghost use Rattle.freshness_manager.specs.Changing.{MovesTo, FailsDue, KeepsRoute, due_of_receiver};
 
     /// The counter of the route with this Data ID, whose bound is kept in the cell at this place. It
     /// begins at the bound. The reserve is 1 to 128, the window 1 to 256.
@@ -91,8 +89,8 @@ impl Rx {
         self.window
     }
 
-    /// The one freshness that is 1 to the window above the counter and has this low byte; `None`
-    /// where there is none, or it would not fit 64 bits.
+    /// The one freshness that is 1 to the window above the counter and has this low byte; `None` if there is none, or
+    /// it would not fit 64 bits.
     pub fn candidate(&self, low: u8) -> Option<u64>
         ensures none { IfNone result ((v : ℕ) → ¬ Ahead self.now.counter self.now.window low v) }
         ensures ahead { IfSome result (Ahead self.now.counter self.now.window low) }
@@ -103,23 +101,17 @@ impl Rx {
 
     /// Accepts a freshness above the counter, which becomes the counter. Where it is above the bound,
     /// the bound moves ahead in the store first; where it isn't, nothing is read or written.
-    /// `PutFailed` where the bound could not be put; the counter is then as before.
+    /// `PutFailed` if that bound could not be put; the counter is then as before.
     pub fn commit<C: Cells>(&mut self, cells: &mut C, freshness: u64) -> Result<(), PutFailed>
         requires whole { (C.state cells.old).broken ≡ false }
         requires kept { KeepsBound (C.state cells.old).cells self.old.place self.old.id Receives self.old.bound }
         requires above { self.old.counter < freshness }
-        ensures counted { OnOk result (let change = change_of_receiver self.old.bound self.old.reserve freshness
-            in self.new ≡ record self.old { counter = freshness; bound = unwrap_or change self.old.bound }) }
-        ensures covered { OnOk result (freshness ≤ self.new.bound) }
-        ensures made { OnOk result (let change = change_of_receiver self.old.bound self.old.reserve freshness
-            in MakesChange self.old.place self.old.id Receives change (C.state cells.old) (C.state cells.new)) }
-        ensures faults { OnOk result ((C.state cells.new).disk.faults ≡ (C.state cells.old).disk.faults) }
-        ensures whole { OnOk result ((C.state cells.new).broken ≡ false) }
-        ensures failed { OnErr result (let change = change_of_receiver self.old.bound self.old.reserve freshness
-            in FailsChange self.old.place self.old.id Receives change (C.state cells.old) (C.state cells.new)) }
+        ensures moved { OnOk result (MovesTo freshness self.old self.new (C.state cells.old) (C.state cells.new)) }
+        ensures failed { IfErr result (λ f. FailsDue self.old.place self.old.id Receives
+            (due_of_receiver self.old freshness) f.bound (C.state cells.old) (C.state cells.new)) }
         ensures as_before { OnErr result (self.new ≡ self.old) }
-        ensures kept { KeepsBound (C.state cells.new).cells self.new.place self.new.id Receives self.new.bound }
-        ensures runs { Runs [] 6 (C.state cells.old).disk (C.state cells.new).disk }
+        ensures store { KeepsRoute self.new.place self.new.id Receives self.new.bound
+            (C.state cells.old) (C.state cells.new) result }
     {
         let change = receiver_change(self.bound, self.reserve, freshness);
         match put_change(cells, self.place, self.id, Direction::Receives, change) {

@@ -1,8 +1,8 @@
 //! The counter of a route that sends.
 ghost use Rattle.std.specs.Prelude.{◌≡◌, ◌≤◌};
 
-use crate::changing::put_change;
-use cell_store::{Cells, PutFailed};
+use crate::changing::{PutFailed, put_change};
+use cell_store::Cells;
 use freshness_routes::sender_change;
 use freshness_store::Direction;
 use std::marker::Model;
@@ -13,7 +13,10 @@ pub enum TxFault {
     /// The counter is 2^64 - 1, the last freshness.
     Exhausted,
     /// The bound could not be put.
-    PutFailed,
+    PutFailed {
+        /// The bound that was to be put.
+        bound: u64,
+    },
 }
 
 /// The counter of a route that sends, with its bound. Contracts see the record of its place, Data ID,
@@ -39,12 +42,11 @@ impl Model for Tx {
 }
 
 impl Tx {
-    ghost use Rattle.std.specs.Prelude.{◌≡◌, ◌+◌, ◌≤◌, ◌↔◌, [], unwrap_or, false, Ok, IfOk, OnOk, OnErr, IsErrOf};
-    ghost use Rattle.cut_disk.specs.Calls.{Runs};
+    ghost use Rattle.std.specs.Prelude.{◌≡◌, ◌≤◌, ◌↔◌, ℕ, false, Err, IfOk, OnErr, IsErrOf};
     ghost use Rattle.freshness_routes.specs.declared.routes.Direction.TheVariants.{Sends};
-    ghost use Rattle.freshness_routes.specs.Changes.{last_freshness, sender_change as change_of_sender};
+    ghost use Rattle.freshness_routes.specs.Changes.{last_freshness};
     ghost use Rattle.freshness_manager.specs.Counters.{KeepsBound};
-    ghost use Rattle.freshness_manager.specs.Changing.{MakesChange, FailsChange};
+    ghost use Rattle.freshness_manager.specs.Changing.{MovesOn, FailsDue, KeepsRoute, due_of_sender};
 
     /// The counter of the route with this Data ID, whose bound is kept in the cell at this place. It
     /// begins at the bound. The reserve is 1 to 128.
@@ -86,29 +88,22 @@ impl Tx {
         self.reserve
     }
 
-    /// The freshness above the counter, which becomes the counter. Where it is above the bound, the
-    /// bound moves ahead in the store first; where it isn't, nothing is read or written. Errors:
-    /// `Exhausted` exactly where the counter is 2^64 - 1, before anything is read or written, and
-    /// `PutFailed` where the bound could not be put. After either the counter is as before.
+    /// The freshness above the counter, which becomes the counter. If it is above the bound, the bound moves ahead in
+    /// the store first; if it isn't, nothing is read or written. Errors: `Exhausted` exactly if the counter is 2^64 -
+    /// 1, before anything is read or written, and `PutFailed` if the bound could not be put. After either the counter
+    /// is as before.
     pub fn next<C: Cells>(&mut self, cells: &mut C) -> Result<u64, TxFault>
         requires whole { (C.state cells.old).broken ≡ false }
         requires kept { KeepsBound (C.state cells.old).cells self.old.place self.old.id Sends self.old.bound }
-        ensures next { IfOk result (λ v. v ≡ self.old.counter + 1) }
-        ensures counted { OnOk result (let change = change_of_sender self.old.counter self.old.bound self.old.reserve
-            in self.new ≡ record self.old { counter = self.old.counter + 1; bound = unwrap_or change self.old.bound }) }
-        ensures covered { IfOk result (λ v. v ≤ self.new.bound) }
-        ensures made { OnOk result (let change = change_of_sender self.old.counter self.old.bound self.old.reserve
-            in MakesChange self.old.place self.old.id Sends change (C.state cells.old) (C.state cells.new)) }
-        ensures faults { OnOk result ((C.state cells.new).disk.faults ≡ (C.state cells.old).disk.faults) }
-        ensures whole { OnOk result ((C.state cells.new).broken ≡ false) }
+        ensures next { IfOk result (λ v. MovesOn v self.old self.new (C.state cells.old) (C.state cells.new)) }
         ensures exhausted { IsErrOf result TxFault.Exhausted ↔ self.old.counter ≡ last_freshness }
         ensures untouched { IsErrOf result TxFault.Exhausted → C.state cells.new ≡ C.state cells.old }
-        ensures failed { IsErrOf result TxFault.PutFailed
-            → (let change = change_of_sender self.old.counter self.old.bound self.old.reserve
-            in FailsChange self.old.place self.old.id Sends change (C.state cells.old) (C.state cells.new)) }
+        ensures failed { (bound : ℕ) → result ≡ Err (TxFault.PutFailed bound)
+            → FailsDue self.old.place self.old.id Sends (due_of_sender self.old) bound
+            (C.state cells.old) (C.state cells.new) }
         ensures as_before { OnErr result (self.new ≡ self.old) }
-        ensures kept { KeepsBound (C.state cells.new).cells self.new.place self.new.id Sends self.new.bound }
-        ensures runs { Runs [] 6 (C.state cells.old).disk (C.state cells.new).disk }
+        ensures store { KeepsRoute self.new.place self.new.id Sends self.new.bound
+            (C.state cells.old) (C.state cells.new) result }
     {
         let Some(freshness) = self.counter.checked_add(1) else {
             return Err(TxFault::Exhausted);
@@ -120,7 +115,7 @@ impl Tx {
                 self.counter = freshness;
                 Ok(freshness)
             }
-            Err(PutFailed) => Err(TxFault::PutFailed),
+            Err(PutFailed { bound }) => Err(TxFault::PutFailed { bound }),
         }
     }
 }

@@ -1,4 +1,4 @@
--- What a node is told to be (own; a route is a Data ID of AUTOSAR SecOC with its direction and the slot of its key)
+-- A node's configuration (own; a route is a Data ID of AUTOSAR SecOC with its direction and the slot of its key)
 use Rattle.std.specs.Prelude.{◌≡◌, ◌≢◌, ℕ, ◌^◌, ◌<◌, ◌≤◌, List, length, replicate, All, AllPairs}
 use Rattle.memory_update.specs.Identifier.{IsUid}
 use Rattle.freshness_routes.specs.declared.routes.Direction.TheVariants.{Sends}
@@ -21,7 +21,7 @@ pub record IsRoute (route : Route) : Type 0 where
   pub window_of_sender : route.direction ≡ Sends → route.window ≡ 256
   pub start_fits : route.start < 2 ^ 64
 
--- the identifier isn't zero, and the routes are at most 256, of which no two have one Data ID
+-- the identifier isn't zero, the routes are at most 256, and no two have one Data ID
 pub record IsConfig (config : Config) : Type 0 where
   pub is_uid : IsUid config.uid
   pub not_zero : config.uid ≢ replicate 15 0

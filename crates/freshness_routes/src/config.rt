@@ -8,13 +8,13 @@ use memory_update::Uid;
 use std::alloc::{AllocError, Global};
 use std::marker::Model;
 
-/// Want of memory.
+/// Out of memory.
 #[derive(Clone, Copy, Debug, PartialEq, Eq)]
 pub struct Memory;
 
-/// What a node is told to be: its identifier and its routes. Contracts see the record of both, of which
-/// `IsConfig` holds: at most 256 routes, no two with one Data ID, keys in the slots 4 to 13, reserves of
-/// 1 to 128, windows of 1 to 256 and of 256 where a route sends, and an identifier that isn't zero.
+/// A node's configuration: its identifier and its routes. Contracts see the record of both, and `IsConfig` holds of it:
+/// at most 256 routes, no two with one Data ID, and an identifier that isn't zero. Keys are in the slots 4 to 13,
+/// reserves are 1 to 128, and windows 1 to 256. The window of a route that sends is 256.
 #[derive(Debug, Drop)]
 pub struct NodeConfig {
     /// The identifier of the node's engine.
@@ -93,8 +93,8 @@ impl NodeConfig {
     ghost use Rattle.std.specs.Option.{SomeIff};
     ghost use Rattle.freshness_routes.specs.Config.{IsConfig};
 
-    /// The configuration of this identifier and these routes; `None` where it isn't one: there are more than
-    /// 256 routes, or two with one Data ID, or a number of a route is out of bounds, or the identifier is zero.
+    /// The configuration of this identifier and these routes; `None` if it isn't one: there are more than 256 routes,
+    /// or two with one Data ID, or a number of a route is out of bounds, or the identifier is zero.
     pub fn new(uid: Uid, routes: Vec<Route>) -> Option<NodeConfig>
         ensures { SomeIff result (IsConfig (record { uid = uid; routes = routes.items }))
             (record { uid = uid; routes = routes.items }) }

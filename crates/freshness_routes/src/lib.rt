@@ -1,10 +1,10 @@
-//! What a node is told to send and to receive (AUTOSAR SecOC), and how far a route's bound moves.
+//! The routes that a node sends and receives by (AUTOSAR SecOC), and how far a route's bound moves.
 //!
-//! `NodeConfig::new` gives a configuration exactly if it is one: at most 256 routes, no two with one Data ID,
-//! all numbers in their bounds, an identifier that isn't zero. `copy` gives an equal one. How far a bound
-//! moves ahead is exact. Each change moves forward and covers the freshness, at most a reserve ahead of a
-//! sender's counter, and less than one ahead of what is accepted (`bounds_move_forward`, with its premises).
-//! A bound outlasts a power cut, so a counter that begins again at its bound never falls back.
+//! `NodeConfig::new` gives a configuration exactly if it is one: at most 256 routes, no two with one Data ID, numbers
+//! in bounds, an identifier that isn't zero. `copy` gives an equal one. How far a bound moves ahead is exact. Each
+//! change moves forward and covers the freshness: at most a reserve ahead of a sender's counter, less than one ahead of
+//! what is accepted (`bounds_move_forward`). A bound outlasts a power cut, so a counter that begins again at its bound
+//! never falls back.
 #![tactic(auto)]
 
 mod changes;

@@ -24,7 +24,7 @@ pub struct Route {
     pub slot: SlotId,
     /// How much freshness is reserved at a time, 1 to 128.
     pub reserve: u16,
-    /// How far above its counter a receiver accepts freshness, 1 to 256; 256 where the route sends.
+    /// How far above its counter a receiver accepts freshness, 1 to 256; 256 if the route sends.
     pub window: u16,
     /// The first bound, at which the counter begins.
     pub start: u64,

@@ -1,7 +1,7 @@
 -- The cell of a bound: the 32 bytes in which a store keeps how far the freshness of a route may have gone (own; a route
 -- is a Data ID of AUTOSAR SecOC and a direction).
 use Rattle.std.specs.Prelude.{◌≡◌, ℕ, ◌<◌, ◌^◌, List, ◌∷◌, ◌++◌, replicate}
-use Rattle.byte_lists.specs.Numbers.{bytes_of}
+use Rattle.basics.specs.Numbers.{bytes_of}
 use Rattle.freshness_routes.specs.declared.routes.Direction.{Direction}
 use Rattle.freshness_routes.specs.declared.routes.Direction.TheVariants.{Sends, Receives}
 
@@ -13,7 +13,7 @@ direction_number Receives = 2
 unfoldable pub bound_cell : ℕ → Direction → ℕ → List ℕ
 bound_cell id direction bound = 2 ∷ direction_number direction ∷ bytes_of 2 id ++ bytes_of 8 bound ++ replicate 20 0
 
--- the cell is the one of this Data ID, direction and bound
+-- the cell holds this Data ID, direction and bound
 pub record HoldsBound (cell : List ℕ) (id : ℕ) (direction : Direction) (bound : ℕ) : Type 0 where
   pub id_fits : id < 2 ^ 16
   pub bound_fits : bound < 2 ^ 64

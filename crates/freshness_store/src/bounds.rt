@@ -11,8 +11,8 @@ use freshness_routes::Direction;
 #[derive(Clone, Copy, Debug, PartialEq, Eq, Drop)]
 pub struct BadBound(pub u16);
 
-/// The bound of this Data ID and direction, kept in the cell at this place. `BadBound` exactly where
-/// the cell holds none of them.
+/// The bound of this Data ID and direction, kept in the cell at this place. `BadBound` exactly if the cell holds none
+/// of them.
 pub fn read_bound<C: Cells>(
     cells: &C,
     place: u16,
@@ -32,8 +32,8 @@ pub fn read_bound<C: Cells>(
     }
 }
 
-/// Puts the cell of a bound, with the conditions and answers of a put. Where it fails, the cell on
-/// the disk is as before or the new bound's, whatever a power cut leaves.
+/// Puts the cell of a bound, with the conditions and answers of a put. If it fails on a settled store, the cell on the
+/// disk is as before or the new bound's, whatever a power cut leaves.
 pub fn put_bound<C: Cells>(
     cells: &mut C,
     place: u16,

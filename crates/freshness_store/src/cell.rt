@@ -25,7 +25,7 @@ pub fn bound_bytes(id: u16, direction: Direction, bound: u64) -> [u8; 32]
     cell
 }
 
-/// The bound that a cell holds for this Data ID and direction; none where it holds none.
+/// The bound that a cell holds for this Data ID and direction; none if it holds none.
 pub fn bound_in(cell: &[u8; 32], id: u16, direction: Direction) -> Option<u64>
     ensures { MatchOption result (HoldsNoBound cell.now id direction) (HoldsBound cell.now id direction) }
 {

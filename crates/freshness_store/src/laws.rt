@@ -1,6 +1,6 @@
 // Facts about the definitions alone: the contract of each function is the fact, and its body is empty.
 ghost use Rattle.std.specs.Prelude.{◌≡◌, ℕ, List};
-ghost use Rattle.byte_lists.specs.Bytes.{IsBytes};
+ghost use Rattle.basics.specs.Bytes.{IsBytes};
 ghost use Rattle.key_slots.specs.declared.memory.Slot.{Slot};
 ghost use Rattle.slot_disk.specs.Cell.{HoldsSlot};
 ghost use Rattle.freshness_routes.specs.declared.routes.Direction.{Direction};

@@ -1,11 +1,11 @@
--- What each row of a gateway's table says of the words and of the sources
+-- What each row of a gateway's table says of the arguments and of the sources
 use Rattle.std.specs.Prelude.{◌≡◌, ◌⊎◌, ℕ, Some, List, [], ◌∷◌, map, Result, Ok, Err}
 use Rattle.std.proofs.Common.{refl, sym, ap, ◌∙◌, subst, inl, inr}
-use Rattle.command_edge.specs.Input.{input_fault_text}
+use Rattle.program_edge.specs.Input.{input_fault_text}
 use Rattle.text_lines.specs.Readings.{Fault}
-use Rattle.answer_rows.specs.Rows.{Row}
-use Rattle.answer_rows.specs.Inputs.{Reading, Offers}
-use Rattle.answer_rows.specs.InputLaws.{Offers-whole}
+use Rattle.program_edge.specs.Rows.{Row}
+use Rattle.program_edge.specs.Inputs.{Reading, Offers}
+use Rattle.program_edge.specs.InputLaws.{Offers-whole}
 use Rattle.bus_config.specs.declared.fault.ConfigFault.{ConfigFault}
 use Rattle.bus_config.specs.BusFile.{bus_of}
 use Rattle.bus_machine.specs.declared.events.Event.{Event}
@@ -13,10 +13,11 @@ use Rattle.bus_nodes.specs.Buses.{NamedBus}
 use Rattle.bus_script.specs.EventForms.{own_events_of}
 use Rattle.bus_world.specs.declared.start.Start.TheVariants.{Format}
 use Rattle.bus_world.specs.StartAnswers.{DiskStates, ComesOfStart}
-use Rattle.bus_inputs.specs.BusFiles.{OffersBus}
-use Rattle.bus_inputs.specs.BusFileLaws.{same_bus, ReadsCalmly, calm_unread, calm_whole, RowTells, told_first, told_second, bus_or_fault, offered_no_fault, memory_status}
+use Rattle.bus_programs.specs.BusFiles.{OffersBus}
+use Rattle.bus_programs.specs.BusFileLaws.{same_bus, ReadsCalmly, calm_unread, calm_whole, RowTells, told_first, told_second, bus_or_fault, offered_no_fault, memory_status}
 use Rattle.gateway_commands.specs.Words.{AsksGateway, AsksNoGateway}
-use Rattle.gateway_commands.specs.Inputs.{GatewayInputs, TakesPairs, RefusesPairs, other_number, bad_pair, RefusesConfig, of_file, of_bus, SetsPairs, SetsGateway, OffersGateway}
+use Rattle.bus_programs.specs.Inputs.{BusInputs}
+use Rattle.gateway_commands.specs.Inputs.{TakesPairs, RefusesPairs, other_number, bad_pair, RefusesConfig, of_file, of_bus, SetsPairs, SetsGateway, OffersGateway}
 use Rattle.gateway_commands.specs.Rows.{RowOfInputs, no_form, no_config, config_refused, no_script, script_refused, RowOfGateway, without_disks, not_started}
 
 -- ---- the words
@@ -42,39 +43,39 @@ refused_calm : (config : Reading) (pairs : List (ℕ × ℕ)) (text : List ℕ) 
 refused_calm config pairs text (of_file fault _ is told) = calm_whole config is.0 is.1
 refused_calm config pairs text (of_bus bus _ reads refuses) = calm_whole config reads.0 reads.1
 
-set_calm : (i : GatewayInputs) (bus : NamedBus) (pairs : List (ℕ × ℕ)) → SetsPairs i bus pairs → ReadsCalmly i.config
+set_calm : (i : BusInputs) (bus : NamedBus) (pairs : List (ℕ × ℕ)) → SetsPairs i bus pairs → ReadsCalmly i.config
 set_calm i bus pairs set = calm_whole i.config set.of_bus.0 set.of_bus.1
 
-pub calm_gateway : (i : GatewayInputs) (bus : NamedBus) (pairs : List (ℕ × ℕ)) (events : List Event) → SetsGateway i bus pairs events → ReadsCalmly i.config × ReadsCalmly i.script
+pub calm_gateway : (i : BusInputs) (bus : NamedBus) (pairs : List (ℕ × ℕ)) (events : List Event) → SetsGateway i bus pairs events → ReadsCalmly i.config × ReadsCalmly i.script
 calm_gateway i bus pairs events set = (set_calm i bus pairs set.set, calm_whole i.script set.text set.whole)
 
-inputs_tell : (i : GatewayInputs) (row : Row) → RowOfInputs i row → RowTells row i.config i.script
+inputs_tell : (i : BusInputs) (row : Row) → RowOfInputs i row → RowTells row i.config i.script
 inputs_tell i row (no_form none config script) = inr (inr (calm_unread i.config config, calm_unread i.script script))
 inputs_tell i row (no_config fault (pairs, asks, lacks, unread)) = told_first fault (input_fault_text fault) i.config i.script lacks (calm_unread i.script unread)
 inputs_tell i row (config_refused pairs text asks refuses unread) = inr (inr (refused_calm i.config pairs text refuses, calm_unread i.script unread))
 inputs_tell i row (no_script fault (bus, pairs, set, lacks)) = told_second fault (input_fault_text fault) i.config i.script (set_calm i bus pairs set) lacks
 inputs_tell i row (script_refused fault f) = inr (inr (set_calm i f.bus f.pairs f.set, calm_whole i.script f.text f.whole))
 
-pub row_tells : (same : Type 0) (i : GatewayInputs) (d : DiskStates) (row : Row) → RowOfGateway same i d row → RowTells row i.config i.script
+pub row_tells : (same : Type 0) (i : BusInputs) (d : DiskStates) (row : Row) → RowOfGateway same i d row → RowTells row i.config i.script
 row_tells same i d row (without_disks _ comes as_before) = inputs_tell i row comes
 row_tells same i d row (not_started _ (bus, pairs, events, set, start) nine) = inr (inr (calm_gateway i bus pairs events set))
 
 -- ---- words of another form
 
-inputs_ask : (i : GatewayInputs) (row : Row) → RowOfInputs i row → AsksNoGateway i.words → row.status ≡ 2
+inputs_ask : (i : BusInputs) (row : Row) → RowOfInputs i row → AsksNoGateway i.words → row.status ≡ 2
 inputs_ask i row (no_form none config script) nothing = refl
 inputs_ask i row (no_config fault (pairs, asks, lacks, unread)) nothing = absurd (nothing pairs asks)
 inputs_ask i row (config_refused pairs text asks refuses unread) nothing = absurd (nothing pairs asks)
 inputs_ask i row (no_script fault (bus, pairs, set, lacks)) nothing = absurd (nothing pairs set.asks)
 inputs_ask i row (script_refused fault f) nothing = absurd (nothing f.pairs f.set.asks)
 
-pub row_asks : (same : Type 0) (i : GatewayInputs) (d : DiskStates) (row : Row) → RowOfGateway same i d row → AsksNoGateway i.words → row.status ≡ 2
+pub row_asks : (same : Type 0) (i : BusInputs) (d : DiskStates) (row : Row) → RowOfGateway same i d row → AsksNoGateway i.words → row.status ≡ 2
 row_asks same i d row (without_disks _ comes as_before) nothing = inputs_ask i row comes nothing
 row_asks same i d row (not_started _ (bus, pairs, events, set, start) nine) nothing = absurd (nothing pairs set.set.asks)
 
 -- ---- a bus file that is offered, and has a fault
 
-inputs_refuse : (i : GatewayInputs) (row : Row) (file : List ℕ) (fault : ConfigFault) (pairs : List (ℕ × ℕ)) → RowOfInputs i row → AsksGateway i.words pairs
+inputs_refuse : (i : BusInputs) (row : Row) (file : List ℕ) (fault : ConfigFault) (pairs : List (ℕ × ℕ)) → RowOfInputs i row → AsksGateway i.words pairs
     → Offers i.config file → bus_of file ≡ Err fault → (row.status ≡ 3) ⊎ (row.status ≡ 7)
 inputs_refuse i row file fault pairs (no_form none config script) asks offers err = absurd (none pairs asks)
 inputs_refuse i row file fault pairs (no_config other (p, also, lacks, unread)) asks offers err = inr (memory_status i.config file other offers lacks)
@@ -82,7 +83,7 @@ inputs_refuse i row file fault pairs (config_refused p text also refuses unread)
 inputs_refuse i row file fault pairs (no_script other (bus, p, set, lacks)) asks offers err = absurd (bus_or_fault i.config bus file fault set.of_bus offers err)
 inputs_refuse i row file fault pairs (script_refused other f) asks offers err = absurd (bus_or_fault i.config f.bus file fault f.set.of_bus offers err)
 
-pub row_refuses : (same : Type 0) (i : GatewayInputs) (d : DiskStates) (row : Row) (file : List ℕ) (fault : ConfigFault) (pairs : List (ℕ × ℕ)) → RowOfGateway same i d row
+pub row_refuses : (same : Type 0) (i : BusInputs) (d : DiskStates) (row : Row) (file : List ℕ) (fault : ConfigFault) (pairs : List (ℕ × ℕ)) → RowOfGateway same i d row
     → AsksGateway i.words pairs → Offers i.config file → bus_of file ≡ Err fault → (row.status ≡ 3) ⊎ (row.status ≡ 7)
 row_refuses same i d row file fault pairs (without_disks _ comes as_before) asks offers err = inputs_refuse i row file fault pairs comes asks offers err
 row_refuses same i d row file fault pairs (not_started _ (bus, p, events, set, start) nine) asks offers err =
@@ -94,14 +95,14 @@ takes_or_refuses : (bus : NamedBus) (pairs : List (ℕ × ℕ)) (text : List ℕ
 takes_or_refuses bus pairs text takes (other_number other) = other takes.one
 takes_or_refuses bus pairs text takes (bad_pair place one lowest) = lowest.bad (takes.good place lowest.inside)
 
-pub set_not_refused : (i : GatewayInputs) (bus over : NamedBus) (pairs p : List (ℕ × ℕ)) (text : List ℕ) → SetsPairs i over p → AsksGateway i.words pairs
+pub set_not_refused : (i : BusInputs) (bus over : NamedBus) (pairs p : List (ℕ × ℕ)) (text : List ℕ) → SetsPairs i over p → AsksGateway i.words pairs
     → OffersBus i.config bus → RefusesPairs bus pairs text → ⊥
 set_not_refused i bus over pairs p text set asks offers refuses =
     let same : over ≡ bus = same_bus i.config over bus set.of_bus offers in
     let one : p ≡ pairs = asks_once i.words p pairs set.asks asks in
     takes_or_refuses bus pairs text (subst (λ (b : NamedBus). TakesPairs b pairs) same (subst (λ (q : List (ℕ × ℕ)). TakesPairs over q) one set.takes)) refuses
 
-inputs_refuse_pairs : (i : GatewayInputs) (row : Row) (bus : NamedBus) (pairs : List (ℕ × ℕ)) (text : List ℕ) → RowOfInputs i row → AsksGateway i.words pairs
+inputs_refuse_pairs : (i : BusInputs) (row : Row) (bus : NamedBus) (pairs : List (ℕ × ℕ)) (text : List ℕ) → RowOfInputs i row → AsksGateway i.words pairs
     → OffersBus i.config bus → RefusesPairs bus pairs text → (row.status ≡ 3) ⊎ (row.status ≡ 7)
 inputs_refuse_pairs i row bus pairs text (no_form none config script) asks offers refuses = absurd (none pairs asks)
 inputs_refuse_pairs i row bus pairs text (no_config other (p, also, lacks, unread)) asks offers refuses = inr (memory_status i.config offers.0 other offers.1 lacks)
@@ -109,7 +110,7 @@ inputs_refuse_pairs i row bus pairs text (config_refused p told also why unread)
 inputs_refuse_pairs i row bus pairs text (no_script other (over, p, set, lacks)) asks offers refuses = absurd (set_not_refused i bus over pairs p text set asks offers refuses)
 inputs_refuse_pairs i row bus pairs text (script_refused other f) asks offers refuses = absurd (set_not_refused i bus f.bus pairs f.pairs text f.set asks offers refuses)
 
-pub row_refuses_pairs : (same : Type 0) (i : GatewayInputs) (d : DiskStates) (row : Row) (bus : NamedBus) (pairs : List (ℕ × ℕ)) (text : List ℕ) → RowOfGateway same i d row
+pub row_refuses_pairs : (same : Type 0) (i : BusInputs) (d : DiskStates) (row : Row) (bus : NamedBus) (pairs : List (ℕ × ℕ)) (text : List ℕ) → RowOfGateway same i d row
     → AsksGateway i.words pairs → OffersBus i.config bus → RefusesPairs bus pairs text → (row.status ≡ 3) ⊎ (row.status ≡ 7)
 row_refuses_pairs same i d row bus pairs text (without_disks _ comes as_before) asks offers refuses = inputs_refuse_pairs i row bus pairs text comes asks offers refuses
 row_refuses_pairs same i d row bus pairs text (not_started _ (over, p, events, set, start) nine) asks offers refuses =
@@ -117,7 +118,7 @@ row_refuses_pairs same i d row bus pairs text (not_started _ (over, p, events, s
 
 -- ---- a gateway that is offered
 
-refuses_not_offered : (i : GatewayInputs) (bus : NamedBus) (pairs p : List (ℕ × ℕ)) (text : List ℕ) → AsksGateway i.words p → RefusesConfig i.config p text → OffersGateway i bus pairs → ⊥
+refuses_not_offered : (i : BusInputs) (bus : NamedBus) (pairs p : List (ℕ × ℕ)) (text : List ℕ) → AsksGateway i.words p → RefusesConfig i.config p text → OffersGateway i bus pairs → ⊥
 refuses_not_offered i bus pairs p text asks (of_file fault _ is told) offers = offered_no_fault i.config bus fault offers.of_bus is
 refuses_not_offered i bus pairs p text asks (of_bus over _ reads refuses) offers =
     let same : over ≡ bus = same_bus i.config over bus reads offers.of_bus in
@@ -126,20 +127,20 @@ refuses_not_offered i bus pairs p text asks (of_bus over _ reads refuses) offers
     (subst (λ (b : NamedBus). RefusesPairs b pairs text) same (subst (λ (q : List (ℕ × ℕ)). RefusesPairs over q text) one refuses))
 
 -- what was read is what was offered
-pub offered_events : (i : GatewayInputs) (bus over : NamedBus) (pairs p : List (ℕ × ℕ)) (text input : List ℕ) (meaning : Result (List Event) Fault) → SetsPairs i over p
+pub offered_events : (i : BusInputs) (bus over : NamedBus) (pairs p : List (ℕ × ℕ)) (text input : List ℕ) (meaning : Result (List Event) Fault) → SetsPairs i over p
     → text ≡ input → own_events_of over.nodes text ≡ meaning → OffersGateway i bus pairs → own_events_of bus.nodes input ≡ meaning
 offered_events i bus over pairs p text input meaning set same is offers =
     subst (λ (b : NamedBus). own_events_of b.nodes input ≡ meaning) (same_bus i.config over bus set.of_bus offers.of_bus)
     (subst (λ (t : List ℕ). own_events_of over.nodes t ≡ meaning) same is)
 
--- want of memory; or the script's first fault; or the bus doesn't start
+-- out of memory; or the script's first fault; or the bus doesn't start
 abbrev pub OfOffered : DiskStates → Row → NamedBus → List ℕ → Type 0
 OfOffered d row bus input =
     (row.status ≡ 7)
     ⊎ (((fault : Fault) × (row.status ≡ 4) × (own_events_of bus.nodes input ≡ Err fault))
     ⊎ ((events : List Event) × (own_events_of bus.nodes input ≡ Ok events) × ComesOfStart Format bus d row))
 
-inputs_offered : (i : GatewayInputs) (d : DiskStates) (row : Row) (bus : NamedBus) (pairs : List (ℕ × ℕ)) (input : List ℕ) → RowOfInputs i row → OffersGateway i bus pairs
+inputs_offered : (i : BusInputs) (d : DiskStates) (row : Row) (bus : NamedBus) (pairs : List (ℕ × ℕ)) (input : List ℕ) → RowOfInputs i row → OffersGateway i bus pairs
     → Offers i.script input → OfOffered d row bus input
 inputs_offered i d row bus pairs input (no_form none config script) offers lines = absurd (none pairs offers.asks)
 inputs_offered i d row bus pairs input (no_config other (p, also, lacks, unread)) offers lines = inl (memory_status i.config offers.of_bus.0 other offers.of_bus.1 lacks)
@@ -148,7 +149,7 @@ inputs_offered i d row bus pairs input (no_script other (over, p, set, lacks)) o
 inputs_offered i d row bus pairs input (script_refused fault f) offers lines =
     inr (inl (fault, refl, offered_events i bus f.bus pairs f.pairs f.text input (Err fault) f.set (Offers-whole i.script input f.text lines f.whole) f.is offers))
 
-pub row_offered : (same : Type 0) (i : GatewayInputs) (d : DiskStates) (row : Row) (bus : NamedBus) (pairs : List (ℕ × ℕ)) (input : List ℕ) → RowOfGateway same i d row
+pub row_offered : (same : Type 0) (i : BusInputs) (d : DiskStates) (row : Row) (bus : NamedBus) (pairs : List (ℕ × ℕ)) (input : List ℕ) → RowOfGateway same i d row
     → OffersGateway i bus pairs → Offers i.script input → OfOffered d row bus input
 row_offered same i d row bus pairs input (without_disks _ comes as_before) offers lines = inputs_offered i d row bus pairs input comes offers lines
 row_offered same i d row bus pairs input (not_started _ (over, p, events, set, start) nine) offers lines =

@@ -1,19 +1,19 @@
 -- How a gateway ends gives all that it promises
 use Rattle.std.specs.Prelude.{◌≡◌, ◌≢◌, ◌⊎◌, ℕ, List, Result, Ok, Err, codes}
 use Rattle.std.proofs.Common.{refl, subst, arith, inl, inr}
-use Rattle.command_edge.specs.Input.{input_fault_status}
-use Rattle.command_edge.specs.Told.{EndingTold}
-use Rattle.command_edge.specs.declared.input.InputFault.{InputFault}
-use Rattle.command_edge.specs.declared.input.InputFault.TheVariants as input
+use Rattle.program_edge.specs.Input.{input_fault_status}
+use Rattle.program_edge.specs.Told.{EndingTold}
+use Rattle.program_edge.specs.declared.input.InputFault.{InputFault}
+use Rattle.program_edge.specs.declared.input.InputFault.TheVariants as input
 use Rattle.text_lines.specs.Readings.{Fault}
 use Rattle.text_lines.specs.Texts.{fault_text_of}
-use Rattle.answer_rows.specs.Rows.{Row, memory_row}
-use Rattle.answer_rows.specs.Inputs.{IsUnread, CountsFault, CountsTooMuch, Offers}
-use Rattle.answer_rows.specs.InputLaws.{Offers-whole}
-use Rattle.answer_rows.specs.Endings.{Ending, EndsInRow, PrintsWhole, PrintsFront, SinkFailed, CountsWriteFault}
-use Rattle.answer_rows.specs.EndingLaws.{EndsInRow-at, EndsInRow-only, EndsInRow-may, EndsInRow-front, EndsInRow-rose, EndsInRow-done}
-use Rattle.numbered_run.specs.declared.printing.Unwritten.{Unwritten}
-use Rattle.numbered_run.specs.declared.printing.Unwritten.TheVariants as unwritten
+use Rattle.program_edge.specs.Rows.{Row, memory_row}
+use Rattle.program_edge.specs.Inputs.{IsUnread, CountsFault, CountsTooMuch, Offers}
+use Rattle.program_edge.specs.InputLaws.{Offers-whole}
+use Rattle.program_edge.specs.Endings.{Ending, EndsInRow, PrintsWhole, PrintsFront, SinkFailed, CountsWriteFault}
+use Rattle.program_edge.specs.EndingLaws.{EndsInRow-at, EndsInRow-only, EndsInRow-may, EndsInRow-front, EndsInRow-rose, EndsInRow-done}
+use Rattle.run_driver.specs.declared.printing.Unwritten.{Unwritten}
+use Rattle.run_driver.specs.declared.printing.Unwritten.TheVariants as unwritten
 use Rattle.bus_config.specs.declared.fault.ConfigFault.{ConfigFault}
 use Rattle.bus_config.specs.BusFile.{bus_of}
 use Rattle.bus_machine.specs.declared.events.Event.{Event}
@@ -25,13 +25,14 @@ use Rattle.bus_world.specs.Starts.{HasRoom, FindsRoom}
 use Rattle.bus_world.specs.StartRows.{start_row, StoreCause, LeavesEach}
 use Rattle.bus_world.specs.StartAnswers.{DiskStates, ComesOfStart, disks_refused, store_refused, start_without_memory, BusHasDisks, CountsDiskFault, failed_row}
 use Rattle.bus_world.specs.StartAnswerLaws.{Comes-leaves, start_status, start_memory, start_without_room, start_complete, none_counted, failure_told}
-use Rattle.numbered_run.specs.Statuses.{unwritten_status}
-use Rattle.bus_inputs.specs.BusFiles.{OffersBus}
-use Rattle.bus_inputs.specs.BusFileLaws.{same_bus, told_fault, told_too_much, bus_or_fault}
+use Rattle.run_driver.specs.Statuses.{unwritten_status}
+use Rattle.bus_programs.specs.BusFiles.{OffersBus}
+use Rattle.bus_programs.specs.BusFileLaws.{same_bus, told_fault, told_too_much, bus_or_fault}
 use Rattle.gateway_commands.specs.Headline.{TellsFirst, OneGatewayRun}
 use Rattle.gateway_commands.specs.Words.{AsksGateway, AsksNoGateway}
 use Rattle.gateway_commands.specs.Texts.{gateway_usage}
-use Rattle.gateway_commands.specs.Inputs.{GatewayInputs, RefusesPairs, RefusesConfig, NoGatewayConfig, NoGatewayScript, OverGateway, OffersGateway}
+use Rattle.bus_programs.specs.Inputs.{BusInputs}
+use Rattle.gateway_commands.specs.Inputs.{RefusesPairs, RefusesConfig, NoGatewayConfig, NoGatewayScript, OverGateway, OffersGateway}
 use Rattle.gateway_commands.specs.Rows.{ScriptHasFault, RowOfInputs, no_form, no_config, config_refused, no_script, script_refused, RowOfGateway, without_disks, not_started, DoneGateway, EndsGateway, in_row, ran}
 use Rattle.gateway_commands.specs.Promises.{CutShort, EndsEarly, unprepared, unstarted, begun, RunsGateway}
 use Rattle.gateway_commands.proofs.Facts.{calm_gateway, row_tells, row_asks, row_refuses, set_not_refused, row_refuses_pairs, OfOffered, offered_events, row_offered}
@@ -39,7 +40,7 @@ use Rattle.gateway_commands.proofs.Facts.{calm_gateway, row_tells, row_asks, row
 Ok_not_Err : (r : Result (List Event) Fault) (events : List Event) (fault : Fault) → r ≡ Ok events → r ≡ Err fault → ⊥
 Ok_not_Err r events fault ok err = cc
 
-module _ (same : Type 0) (i : GatewayInputs) (d : DiskStates) (e : Ending) where
+module _ (same : Type 0) (i : BusInputs) (d : DiskStates) (e : Ending) where
   abbrev Comes : Row → Type 0
   Comes = RowOfGateway same i d
 
@@ -213,7 +214,7 @@ module _ (same : Type 0) (i : GatewayInputs) (d : DiskStates) (e : Ending) where
   row_done : EndsInRow Comes e → e.status ≡ 0 → Ended (Ok tt)
   row_done ends = EndsInRow-at ends 0 refl (λ row comes is well. absurd (row_not_0 row comes is))
 
-  -- a disk that failed is told, or events were done
+  -- a disk that failed has its row, or events were done
   abbrev FailureTold : ℕ → Type 0
   FailureTold place = EndsInRow (λ row. row ≡ failed_row place) e
       ⊎ ((result : Result (Unit {0}) Unwritten) × Ended result)
@@ -254,7 +255,7 @@ module _ (same : Type 0) (i : GatewayInputs) (d : DiskStates) (e : Ending) where
         EndsInRow-done ends well 0 (λ row comes. complete_of row bus text events is able (row_offered same i d row bus pairs text comes offers lines));
   }
 
-  -- ---- where the first events were done
+  -- ---- if the first events were done
 
   done_status : (result : Result (Unit {0}) Unwritten) → e.status ≡ unwritten_status result → (e.status ≡ 0) ⊎ ((e.status ≡ 6) ⊎ (e.status ≡ 7))
   done_status (Ok _) is = inl is

@@ -5,6 +5,7 @@ pub mod Keeping
 pub mod Preparing
 pub mod Doing
 pub mod WorkedExample
+pub mod OfWords
 pub mod Wording
 pub mod OneNode
 pub mod Lines

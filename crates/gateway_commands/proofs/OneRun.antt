@@ -8,9 +8,9 @@ use Rattle.cell_store.specs.declared.kinds.Layout.{Layout}
 use Rattle.any_cells.specs.Either.{layout}
 use Rattle.machine_runs.specs.Run.{Moment, Run, seen_as}
 use Rattle.machine_runs.specs.RunLaws.{Run-seen_as}
-use Rattle.numbered_run.specs.declared.printing.Unwritten.{Unwritten}
-use Rattle.store_runs.specs.DiskTurns.{DiskTurn, OpenedDisk, TellsBytes, TracedSince, FailuresTold}
-use Rattle.store_runs.specs.DiskTurnLaws.{traced_since, failures_told}
+use Rattle.run_driver.specs.declared.printing.Unwritten.{Unwritten}
+use Rattle.store_keeping.specs.DiskTurns.{DiskTurn, OpenedDisk, TellsBytes, TracedSince, FailuresTold}
+use Rattle.store_keeping.specs.DiskTurnLaws.{traced_since, failures_told}
 use Rattle.freshness_routes.specs.Config.{Config}
 use Rattle.bus_machine.specs.declared.events.Event.{Event}
 use Rattle.bus_machine.specs.Node.{Node, first_node, powered}
@@ -28,9 +28,9 @@ use Rattle.secoc_node.proofs.CallerLemmas.{told_before}
 use Rattle.bus_world.specs.declared.start.Start.TheVariants.{Format}
 use Rattle.bus_world.specs.Turns.{most_calls}
 use Rattle.bus_world.specs.Starts.{start_calls, Opened}
-use Rattle.gateway_machine.specs.declared.lines.GatewayLine.{GatewayLine}
-use Rattle.gateway_machine.specs.Gateway.{departs_under, EventStep, GatewayStep, GatewayMoments, GatewayRun}
-use Rattle.gateway_machine.specs.Laws.{RunsForwardWhatArrived, ArrivalsRise, DeparturesRise}
+use Rattle.secoc_gateway.specs.declared.gateway_lines.GatewayLine.{GatewayLine}
+use Rattle.secoc_gateway.specs.Gateway.{departs_under, EventStep, GatewayStep, GatewayMoments, GatewayRun}
+use Rattle.secoc_gateway.specs.MachineLaws.{RunsForwardWhatArrived, ArrivalsRise, DeparturesRise}
 use Rattle.secoc_gateway.specs.State.{GatewayState, over}
 use Rattle.secoc_gateway.specs.Turns.{calls_under, most_gateway_calls, tells_gateway_failure, GatewayTurn}
 use Rattle.secoc_gateway.specs.Laws.{GatewayTurnsKeep}

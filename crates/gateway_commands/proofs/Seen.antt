@@ -3,8 +3,8 @@ use Rattle.std.specs.Prelude.{◌≡◌, ℕ, suc, Ok, Err, Result, List, [], �
 use Rattle.std.proofs.Common.{refl, sym, ap, ◌∙◌}
 use Rattle.bus_port.specs.Sink.{SinkState}
 use Rattle.machine_runs.specs.Run.{Moment, seen_as, commands_in, lines_in}
-use Rattle.numbered_run.specs.declared.printing.Unwritten.{Unwritten}
-use Rattle.numbered_run.specs.Printed.{Written}
+use Rattle.run_driver.specs.declared.printing.Unwritten.{Unwritten}
+use Rattle.run_driver.specs.Printed.{Written}
 
 module _ {C L S T : Type 0} (state : S → T) where
   abbrev seen : List (Moment C L S) → List (Moment C L T)

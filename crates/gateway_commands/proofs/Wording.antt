@@ -7,7 +7,7 @@ use Rattle.secoc_gateway.specs.Pairs.{pair_in}
 use Rattle.gateway_commands.specs.Words.{pair_form, AsksGateway, AsksNoGateway}
 use Rattle.gateway_commands.specs.Steps.{HasPairs}
 
--- words that are each a pair's are those of the pairs at the front of the room
+-- words that are each a pair's are those of the pairs at the beginning of the room
 pub front_pairs : (given : List (List ℕ)) (room : List (ℕ × ℕ)) → length given ≤ length room → HasPairs given room true
     → map pair_form given ≡ map Some (take (length given) room)
 front_pairs [] room fits has = refl
@@ -20,7 +20,7 @@ front_pairs (word ∷ words) (pair ∷ pairs) fits has =
 None_not_Some : (o : Option (ℕ × ℕ)) (p : ℕ × ℕ) → o ≡ None → o ≡ Some p → ⊥
 None_not_Some o p none some = cc
 
--- where one of them is of another form they are those of no pairs
+-- if one of them is of another form they are those of no pairs
 pub no_pairs : (given : List (List ℕ)) (room pairs : List (ℕ × ℕ)) → HasPairs given room false → map pair_form given ≡ map Some pairs → ⊥
 no_pairs given room pairs (k, inside, none) same =
     let long : length given ≡ length pairs =
@@ -29,7 +29,7 @@ no_pairs given room pairs (k, inside, none) same =
     (get_or-map pair_form given k [] None inside ∙ none)
     (ap (λ (os : List (Option (ℕ × ℕ))). get_or os k None) same ∙ get_or-map (λ (p : ℕ × ℕ). Some p) pairs k (0, 0) None (omega (arith, inside, long)))
 
--- ---- behind the names of the bus file and of the script
+-- ---- after the names of the bus file and of the script
 
 pub asks_few : {A : Type 0} (f : A → List ℕ) (words : List A) → length words < 2 → AsksNoGateway (map f words)
 asks_few f [] few = λ pairs no. no
@@ -50,12 +50,12 @@ asks_none f (bus ∷ []) given two is none = absurd (let no : ⊥ = omega (arith
 asks_none f (bus ∷ script ∷ rest) given two is none = λ pairs asks.
     none pairs (subst (λ ws. map pair_form (map f ws) ≡ map Some pairs) (sym is) asks.0) asks.1 asks.2
 
--- as many pairs as words
+-- as many pairs as arguments
 pub as_many : (given : List (List ℕ)) (pairs : List (ℕ × ℕ)) → map pair_form given ≡ map Some pairs → length pairs ≡ length given
 as_many given pairs same =
     sym (length-map pairs (λ (p : ℕ × ℕ). Some p)) ∙ ap (λ (os : List (Option (ℕ × ℕ))). length os) (sym same) ∙ length-map given pair_form
 
--- the words are three to thirty-four
+-- the arguments are three to thirty-four
 pub asks_count : (words : List (List ℕ)) (pairs : List (ℕ × ℕ)) → AsksGateway words pairs → (3 ≤ length words) × (length words ≤ 34)
 asks_count [] pairs asks = absurd asks
 asks_count (bus ∷ []) pairs asks = absurd asks
@@ -82,14 +82,14 @@ all_taken {A} (x ∷ xs) = ap (λ (l : List A). x ∷ l) (all_taken xs)
 two_less : (n : ℕ) → suc (suc n) - 2 ≡ n
 two_less n = omega arith
 
--- the words behind the first two
+-- the arguments after the first two
 abbrev pub behind : {A : Type 0} → List A → List A
 behind words = take (length words - 2) (drop 2 words)
 
 behind_two : {A : Type 0} (bus script : A) (given : List A) → behind (bus ∷ script ∷ given) ≡ given
 behind_two {A} bus script given = ap (λ (n : ℕ). take n given) (two_less (length given)) ∙ all_taken given
 
--- where each of them is a pair's
+-- if each of them is a pair's
 pub read_asks : {A : Type 0} (f : A → List ℕ) (words : List A) (room : List (ℕ × ℕ)) → 3 ≤ length words → length words ≤ 34 → length room ≡ 32
     → HasPairs (map f (behind words)) room true → (length (behind words) ≤ 32) × AsksGateway (map f words) (take (length (behind words)) room)
 read_asks f [] room least most long has = absurd (let no : ⊥ = omega (arith, least) in no)
@@ -103,7 +103,7 @@ read_asks {A} f (bus ∷ script ∷ given) room least most long has =
     subst (λ (gs : List A). (length gs ≤ 32) × AsksGateway (f bus ∷ f script ∷ map f given) (take (length gs) room)) (sym (behind_two bus script given))
     (omega (arith, most), (same, omega (arith, least, taken), omega (arith, most, taken)))
 
--- where one of them is of another form
+-- if one of them is of another form
 pub read_none : {A : Type 0} (f : A → List ℕ) (words : List A) (room : List (ℕ × ℕ)) → 3 ≤ length words → HasPairs (map f (behind words)) room false
     → AsksNoGateway (map f words)
 read_none f [] room least has = absurd (let no : ⊥ = omega (arith, least) in no)

@@ -4,17 +4,17 @@ use Rattle.bus_port.specs.Sink.{SinkState}
 use Rattle.cut_disk.specs.State.{DiskState, Told, Entry}
 use Rattle.any_cells.specs.Either.{layout}
 use Rattle.machine_runs.specs.Run.{commands_in}
-use Rattle.numbered_run.specs.declared.printing.Unwritten.{Unwritten}
-use Rattle.numbered_run.specs.Printed.{Written}
-use Rattle.store_runs.specs.DiskTurns.{TracedSince, FailuresTold}
+use Rattle.run_driver.specs.declared.printing.Unwritten.{Unwritten}
+use Rattle.run_driver.specs.Printed.{Written}
+use Rattle.store_keeping.specs.DiskTurns.{TracedSince, FailuresTold}
 use Rattle.freshness_routes.specs.declared.routes.Direction.TheVariants.{Sends, Receives}
 use Rattle.bus_machine.specs.declared.events.Event.{Event}
 use Rattle.bus_machine.specs.Node.{Node}
 use Rattle.bus_machine.specs.Past.{mark_of}
 use Rattle.bus_nodes.specs.Buses.{NamedBus}
 use Rattle.secoc_node.specs.Fits.{FitsNode}
-use Rattle.gateway_machine.specs.Gateway.{GatewayMoments, GatewayRun}
-use Rattle.gateway_machine.specs.Claims.{AllForwardRight, FreshnessRises}
+use Rattle.secoc_gateway.specs.Gateway.{GatewayMoments, GatewayRun}
+use Rattle.secoc_gateway.specs.Claims.{AllForwardRight, FreshnessRises}
 use Rattle.secoc_gateway.specs.Turns.{most_gateway_calls, tells_gateway_failure}
 use Rattle.gateway_commands.specs.Texts.{gateway_text}
 use Rattle.gateway_commands.specs.Inputs.{gate_node}
@@ -24,9 +24,9 @@ use Rattle.gateway_commands.specs.Runs.{RanGateway}
 abbrev pub TellsFirst : List DiskState → Type 0
 TellsFirst disks = (d : DiskState) → (told : Told) × ((get_or disks 0 d).told ≡ Some told)
 
--- the disk handed back fits the last node; the others are as before; and where it tells its past, what was added is
--- traced: without a mark until the first event, then each event's, with at most 12 entries for a PDU that is injected
--- under a pair's first Data ID, 68 and the number of cells for a cut, and 6 for another event
+-- the disk handed back fits the last node, and the others are as before. If it tells its past, what was added is
+-- traced: without a mark until the first event, then each event's. A PDU injected under a pair's first Data ID has at
+-- most 12 entries. A cut has 68 and the number of cells, and another event 6
 pub record DiskFollows (bus : NamedBus) (pairs : List (ℕ × ℕ)) (before after : List DiskState)
     (moments : GatewayMoments)
     (last : Node) : Type 0 where
@@ -38,8 +38,8 @@ pub record DiskFollows (bus : NamedBus) (pairs : List (ℕ × ℕ)) (before afte
       → TracedSince mark_of (most_gateway_calls pairs) (FitsNode (layout bus.kind bus.version)) (gate_node bus) moments
       (get_or before 0 d) all
 
--- the lines that tell that the disk failed are at most the rise of its count, or that stands at its last value; a disk
--- that was quiet at the call gives none before the first event that stops it or lets it fail, and stays as quiet where
+-- the lines that tell that the disk failed are at most the rise of its count, or that stands at its last value. A disk
+-- that was quiet at the call gives none before the first event that stops it or lets it fail, and stays as quiet if
 -- none does
 abbrev pub FailuresAreCounted : List DiskState → List DiskState → GatewayMoments → Type 0
 FailuresAreCounted before after moments =

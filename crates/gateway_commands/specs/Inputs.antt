@@ -1,7 +1,7 @@
 -- What goes into a gateway, and what of it is read
 use Rattle.std.specs.Prelude.{◌≡◌, ◌≢◌, ℕ, ◌+◌, List, length, Some, Ok}
-use Rattle.command_edge.specs.declared.input.InputFault.{InputFault}
-use Rattle.answer_rows.specs.Inputs.{Reading, IsUnread, ReadsWhole, Lacks}
+use Rattle.program_edge.specs.declared.input.InputFault.{InputFault}
+use Rattle.program_edge.specs.Inputs.{Reading, IsUnread, ReadsWhole, Lacks}
 use Rattle.bus_config.specs.declared.fault.ConfigFault.{ConfigFault}
 use Rattle.bus_config.specs.FaultTexts.{config_fault_text}
 use Rattle.freshness_routes.specs.Config.{Config}
@@ -9,16 +9,11 @@ use Rattle.bus_machine.specs.declared.events.Event.{Event}
 use Rattle.bus_machine.specs.Node.{Node, first_node}
 use Rattle.bus_nodes.specs.Buses.{NamedBus, IsNamedBus}
 use Rattle.bus_script.specs.EventForms.{node_line_at, own_events_of}
-use Rattle.bus_inputs.specs.BusFiles.{ReadsBus, IsConfigFault, OffersBus}
+use Rattle.bus_programs.specs.BusFiles.{ReadsBus, IsConfigFault, OffersBus}
+use Rattle.bus_programs.specs.Inputs.{BusInputs}
 use Rattle.secoc_gateway.specs.Pairs.{AreGood, IsLowestBad}
 use Rattle.gateway_commands.specs.Words.{AsksGateway}
 use Rattle.gateway_commands.specs.Texts.{nodes_text, pair_text}
-
--- the words, and what was known of the sources of the bus file and of the script, before and after
-pub record GatewayInputs : Type 0 where
-  pub words : List (List ℕ)
-  pub config : Reading
-  pub script : Reading
 
 -- ---- the bus
 
@@ -47,39 +42,40 @@ pub data RefusesConfig (config : Reading) (pairs : List (ℕ × ℕ)) : List ℕ
   of_bus : (bus : NamedBus) (text : List ℕ) → ReadsBus config bus → RefusesPairs bus pairs text
       → RefusesConfig config pairs text
 
--- the words ask for a gateway with these pairs, and there is no bus file, for this cause; of the script nothing was
+-- the arguments ask for a gateway with these pairs, and there is no bus file, for this cause; of the script nothing was
 -- read
-abbrev pub NoGatewayConfig : GatewayInputs → InputFault → Type 0
+abbrev pub NoGatewayConfig : BusInputs → InputFault → Type 0
 NoGatewayConfig i fault = (pairs : List (ℕ × ℕ)) × AsksGateway i.words pairs × Lacks i.config fault × IsUnread i.script
 
 -- ---- the gateway and its events
 
--- the words ask for a gateway with these pairs; its bus is that of the bus file, which was read whole, and takes them
-pub record SetsPairs (i : GatewayInputs) (bus : NamedBus) (pairs : List (ℕ × ℕ)) : Type 0 where
+-- the arguments ask for a gateway with these pairs; its bus is that of the bus file, which was read whole, and takes
+-- them
+pub record SetsPairs (i : BusInputs) (bus : NamedBus) (pairs : List (ℕ × ℕ)) : Type 0 where
   pub asks : AsksGateway i.words pairs
   pub of_bus : ReadsBus i.config bus
   pub is_bus : IsNamedBus bus
   pub takes : TakesPairs bus pairs
 
 -- that is so, and there is no script, for this cause
-abbrev pub NoGatewayScript : GatewayInputs → InputFault → Type 0
+abbrev pub NoGatewayScript : BusInputs → InputFault → Type 0
 NoGatewayScript i fault = (bus : NamedBus) × (pairs : List (ℕ × ℕ)) × SetsPairs i bus pairs × Lacks i.script fault
 
 -- that is so, and the script was read whole, and has these events
-pub record SetsGateway (i : GatewayInputs) (bus : NamedBus) (pairs : List (ℕ × ℕ)) (events : List Event) : Type 0 where
+pub record SetsGateway (i : BusInputs) (bus : NamedBus) (pairs : List (ℕ × ℕ)) (events : List Event) : Type 0 where
   pub set : SetsPairs i bus pairs
   pub text : List ℕ
   pub whole : ReadsWhole i.script text
   pub has : own_events_of bus.nodes text ≡ Ok events
 
 -- all inputs are valid, and were read whole; this holds of what they mean
-abbrev pub OverGateway : GatewayInputs → (NamedBus → List (ℕ × ℕ) → List Event → Type 0) → Type 0
+abbrev pub OverGateway : BusInputs → (NamedBus → List (ℕ × ℕ) → List Event → Type 0) → Type 0
 OverGateway i P =
     (bus : NamedBus) × (pairs : List (ℕ × ℕ)) × (events : List Event) × SetsGateway i bus pairs events
     × P bus pairs events
 
--- the words ask for a gateway with these pairs over the bus that the source of the bus file tells, which takes them
-pub record OffersGateway (i : GatewayInputs) (bus : NamedBus) (pairs : List (ℕ × ℕ)) : Type 0 where
+-- the arguments ask for a gateway with these pairs over the bus that the source of the bus file tells, which takes them
+pub record OffersGateway (i : BusInputs) (bus : NamedBus) (pairs : List (ℕ × ℕ)) : Type 0 where
   pub asks : AsksGateway i.words pairs
   pub of_bus : OffersBus i.config bus
   pub takes : TakesPairs bus pairs

@@ -2,8 +2,8 @@
 use Rattle.std.specs.Prelude.{◌≡◌, ℕ, List, ◌∷◌, drop, get_or, Result}
 use Rattle.bus_port.specs.Sink.{SinkState}
 use Rattle.cut_disk.specs.State.{DiskState}
-use Rattle.numbered_run.specs.declared.printing.Unwritten.{Unwritten}
-use Rattle.numbered_run.specs.Printed.{Printed}
+use Rattle.run_driver.specs.declared.printing.Unwritten.{Unwritten}
+use Rattle.run_driver.specs.Printed.{Printed}
 use Rattle.bus_machine.specs.declared.events.Event.{Event}
 use Rattle.bus_nodes.specs.Buses.{NamedBus, IsNamedBus}
 use Rattle.bus_world.specs.declared.start.Start.TheVariants.{Format}
@@ -13,8 +13,8 @@ use Rattle.secoc_gateway.specs.Turns.{GatewayTurn}
 use Rattle.gateway_commands.specs.Texts.{gateway_text}
 use Rattle.gateway_commands.specs.Inputs.{TakesPairs, gate_config}
 
--- the first disk was formatted for the node, and a gateway over it took the turns of the first events, up to the first
--- whose text wasn't written; the disk is back in its place
+-- the first disk was formatted for the node. A gateway over it took the turns of the first events, up to the first
+-- whose text wasn't written. The disk is back in its place
 pub record RanGateway (bus : NamedBus) (pairs : List (ℕ × ℕ)) (before after : List DiskState) (events : List Event)
     (sink_before sink_after : SinkState) (result : Result (Unit {0}) Unwritten) : Type 0 where
   pub is_bus : IsNamedBus bus

@@ -1,22 +1,17 @@
 -- What the steps of the work say to one another
-use Rattle.std.specs.Prelude.{◌≡◌, ◌⊎◌, ℕ, ◌<◌, ◌≤◌, Bool, true, false, None, Some, List, [], length, slice_index_or}
-use Rattle.std.specs.Prelude.{All, Result, Ok, Err, Vec}
+use Rattle.std.specs.Prelude.{◌≡◌, ◌⊎◌, ℕ, ◌<◌, Bool, true, false, None, Some, List, [], length, slice_index_or}
+use Rattle.std.specs.Prelude.{Result, Ok, Err, Vec}
 use Rattle.std.specs.declared.alloc.Global.{Global}
-use Rattle.answer_rows.specs.Rows.{Row, row_of, memory_row}
-use Rattle.answer_rows.specs.Inputs.{Reading}
-use Rattle.answer_rows.specs.Endings.{Ending, EndsInRow}
-use Rattle.line_rows.specs.LineRows.{NoLines}
-use Rattle.text_lines.specs.Readings.{most_lines}
+use Rattle.program_edge.specs.Rows.{Row, row_of, memory_row}
+use Rattle.program_edge.specs.Endings.{Ending, EndsInRow}
 use Rattle.bus_port.specs.Sink.{SinkState}
-use Rattle.numbered_run.specs.declared.printing.Unwritten.{Unwritten}
-use Rattle.numbered_run.specs.Printed.{Printed}
+use Rattle.run_driver.specs.declared.printing.Unwritten.{Unwritten}
+use Rattle.run_driver.specs.Printed.{Printed}
 use Rattle.bus_machine.specs.declared.events.Event.{Event}
 use Rattle.bus_nodes.specs.Buses.{NamedBus, IsNamedBus}
-use Rattle.bus_script.specs.EventForms.{own_events_of}
-use Rattle.bus_script.specs.ScriptEvents.{IsScriptEvent}
 use Rattle.bus_world.specs.declared.start.Start.TheVariants.{Format}
 use Rattle.bus_world.specs.StartAnswers.{DiskStates, ComesUnstarted}
-use Rattle.bus_inputs.specs.Scripts.{LacksLines, ReadsLinesAs}
+use Rattle.bus_programs.specs.Scripts.{AreEvents}
 use Rattle.secoc_node.specs.State.{NodeState}
 use Rattle.secoc_gateway.specs.State.{GatewayState, over}
 use Rattle.secoc_gateway.specs.Pairs.{pair_in}
@@ -24,7 +19,8 @@ use Rattle.secoc_gateway.specs.Turns.{GatewayTurn}
 use Rattle.gateway_commands.specs.declared.job.GatewayJob.{GatewayJob}
 use Rattle.gateway_commands.specs.Words.{pair_form, AsksGateway, AsksNoGateway}
 use Rattle.gateway_commands.specs.Texts.{gateway_usage, gateway_text, pair_text}
-use Rattle.gateway_commands.specs.Inputs.{GatewayInputs, TakesPairs, RefusesPairs, SetsGateway}
+use Rattle.bus_programs.specs.Inputs.{BusInputs}
+use Rattle.gateway_commands.specs.Inputs.{TakesPairs, RefusesPairs, SetsGateway}
 use Rattle.gateway_commands.specs.Rows.{RowOfInputs, DoneGateway}
 
 -- ---- the words
@@ -43,7 +39,7 @@ FindsPairs words (Err row) =
 
 -- ---- the bus
 
--- the row of a pair that isn't taken, by its number, or want of memory for its text
+-- the row of a pair that isn't taken, by its number, or out of memory for its text
 abbrev pub IsPairRow : ℕ → Row → Type 0
 IsPairRow number row = (row ≡ row_of 3 (pair_text number)) ⊎ (row ≡ memory_row)
 
@@ -53,33 +49,16 @@ ChecksPairs bus pairs (Ok _) = TakesPairs bus pairs
 ChecksPairs bus pairs (Err row) =
     ((text : List ℕ) × RefusesPairs bus pairs text × (row ≡ row_of 3 text)) ⊎ (row ≡ memory_row)
 
--- ---- the script
-
--- such as a script has, at most 65,536 of them
-abbrev pub AreOwnEvents : NamedBus → List Event → Type 0
-AreOwnEvents bus events = All (IsScriptEvent bus.nodes) events × (length events ≤ most_lines)
-
--- the events of a script, or why there are none
-abbrev pub HasOwnScript : NamedBus → List ℕ → Result (Vec Event Global) Row → Type 0
-HasOwnScript bus text (Ok events) = (own_events_of bus.nodes text ≡ Ok events.items) × AreOwnEvents bus events.items
-HasOwnScript bus text (Err row) = NoLines (own_events_of bus.nodes text) row
-
--- those of a source that was read whole, or why there are none
-abbrev pub FindsOwnScript : NamedBus → Reading → Result (Vec Event Global) Row → Type 0
-FindsOwnScript bus script (Ok events) =
-    ReadsLinesAs (own_events_of bus.nodes) script events.items × AreOwnEvents bus events.items
-FindsOwnScript bus script (Err row) = LacksLines (own_events_of bus.nodes) script row
-
 -- ---- the first phase
 
 -- the job is over a bus, and has events such as a script has
 pub record IsWholeJob (job : GatewayJob) : Type 0 where
   pub is_bus : IsNamedBus job.bus
   pub takes : TakesPairs job.bus job.pairs.items
-  pub events : AreOwnEvents job.bus job.events.items
+  pub events : AreEvents job.bus job.events.items
 
 -- how the first phase ends: in a job over inputs that were read whole, or in a row that comes
-abbrev pub PreparesGateway : GatewayInputs → Result GatewayJob Row → Type 0
+abbrev pub PreparesGateway : BusInputs → Result GatewayJob Row → Type 0
 PreparesGateway i (Ok job) = IsWholeJob job × SetsGateway i job.bus job.pairs.items job.events.items
 PreparesGateway i (Err row) = RowOfInputs i row
 

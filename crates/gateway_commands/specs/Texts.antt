@@ -1,27 +1,27 @@
 -- What a gateway prints, in lower-case digits, each line with its line feed
 use Rattle.std.specs.Prelude.{ℕ, List, [], ◌∷◌, ◌++◌, codes}
 use Rattle.std.specs.Fmt.{decimal}
-use Rattle.byte_lists.specs.Numbers.{bytes_of}
+use Rattle.basics.specs.Numbers.{bytes_of}
 use Rattle.hex.specs.Hex.{encode_lower}
 use Rattle.text_lines.specs.Written.{written}
 use Rattle.text_lines.specs.Texts.{line}
-use Rattle.bus_texts.specs.LineTexts.{told_words, refusal_words}
-use Rattle.gateway_machine.specs.declared.lines.GatewayLine.{GatewayLine}
-use Rattle.gateway_machine.specs.declared.lines.GatewayLine.TheVariants.{Forwarded, Dropped, OfNode}
+use Rattle.bus_script.specs.LineTexts.{told_words, refusal_words}
+use Rattle.secoc_gateway.specs.declared.gateway_lines.GatewayLine.{GatewayLine}
+use Rattle.secoc_gateway.specs.declared.gateway_lines.GatewayLine.TheVariants.{Forwarded, Dropped, OfNode}
 
--- where the words are of another form
+-- if the arguments are of another form
 abbrev pub gateway_usage : List ℕ
 gateway_usage = line (codes "usage: gateway B F IN=OUT ..")
 
--- where the bus has another number of nodes than one
+-- if the bus has another number of nodes than one
 abbrev pub nodes_text : List ℕ
 nodes_text = line (codes "config: nodes")
 
--- where the pair with this number, from 1, isn't taken
+-- if the pair with this number, from 1, isn't taken
 abbrev pub pair_text : ℕ → List ℕ
 pair_text number = codes "config: pair " ++ line (decimal number)
 
--- the words of a line behind its number: a Data ID has four digits, a freshness 16, and bytes two each
+-- the words of a line after its number: a Data ID has four digits, a freshness 16, and bytes two each
 abbrev pub gateway_words : GatewayLine → List (List ℕ)
 gateway_words (Forwarded id v out w pdu) =
     codes "forwarded" ∷ encode_lower (bytes_of 2 id) ∷ encode_lower (bytes_of 8 v)

@@ -1,4 +1,4 @@
--- The words of the command line, and which pairs they give
+-- The arguments of the command line, and which pairs they give
 use Rattle.std.specs.Prelude.{◌≡◌, ℕ, ◌≤◌, ◌==◌, ◌&&◌, if◌then◌else◌, Option, None, Some, List, [], ◌∷◌, length, map}
 use Rattle.std.specs.Prelude.{take, drop, slice_index}
 use Rattle.secoc_words.specs.Forms.{data_id_form}
@@ -16,17 +16,17 @@ pair_form word =
     then both_ids (data_id_form (take 4 word)) (data_id_form (drop 5 word))
     else None
 
--- behind the names of the bus file and of the script the words are those of these pairs, 1 to 32
+-- after the names of the bus file and of the script the arguments are those of these pairs, 1 to 32
 abbrev pub AsksGateway : List (List ℕ) → List (ℕ × ℕ) → Type 0
 AsksGateway [] pairs = ⊥
 AsksGateway (bus ∷ []) pairs = ⊥
 AsksGateway (bus ∷ script ∷ given) pairs =
     (map pair_form given ≡ map Some pairs) × (1 ≤ length pairs) × (length pairs ≤ 32)
 
--- the words are of the form
+-- the arguments are of the form
 abbrev pub AsksSomeGateway : List (List ℕ) → Type 0
 AsksSomeGateway words = (pairs : List (ℕ × ℕ)) × AsksGateway words pairs
 
--- the words are of another form
+-- the arguments are of another form
 abbrev pub AsksNoGateway : List (List ℕ) → Type 0
 AsksNoGateway words = (pairs : List (ℕ × ℕ)) → ¬ AsksGateway words pairs

@@ -1,17 +1,17 @@
 //! The worked example.
-ghost use Rattle.std.specs.Prelude.{◌≡◌, map, string_bytes, IfOk};
-ghost use Rattle.answer_rows.specs.Inputs.{Offers};
-ghost use Rattle.gateway_commands.specs.Inputs.{GatewayInputs};
-ghost use Rattle.gateway_commands.specs.Named.{IsExampleGateway};
-ghost use Rattle.gateway_commands.specs.Promises.{RunsGateway};
+ghost use Rattle.std.specs.Prelude.{◌≡◌, ◌⊎◌, map, string_bytes, Some, IfOk};
+ghost use Rattle.bus_port.specs.MemSource.{clean_source};
+ghost use Rattle.bus_programs.specs.Blank.{AreBlank};
+ghost use Rattle.gateway_commands.specs.Named.{RunsExample};
 
 use crate::run::run_gateway;
 use bus_port::{CleanSource, Sink};
-use command_edge::NO_MEMORY;
-use cut_disk::CutDisk;
+use bus_programs::blank_disks;
+use cut_disk::MemDisk;
+use program_edge::NO_MEMORY;
 use std::alloc::{AllocError, Global};
 
-/// The words of the example.
+/// The arguments of the example.
 const WORDS: [&str; 3] = ["gateway.toml", "gateway_run.txt", "6bc2=6bc1"];
 
 /// Its bus file: one node, which receives 6bc2 and sends 6bc1, both under the key in slot 4.
@@ -37,44 +37,43 @@ inject gate 6bc2 bee22e409f9601898b20
 inject gate 6bc2 bee22e409f9601898b20
 ";
 
-/// Runs the example as [`run_gateway`] does, and gives the status that the program ends with.
-pub fn run_example<K: Sink, D: CutDisk>(alloc: Global, sink: &mut K, disks: &mut Vec<D>) -> u8
-    ensures { (i : GatewayInputs) × IsExampleGateway i × RunsGateway (disks.new ≡ disks.old) i
-        (record { before = map D.state disks.old.items; after = map D.state disks.new.items })
-        (record { before = K.state sink.old; after = K.state sink.new; status = result }) }
+/// Runs the example as [`run_gateway`] does, over a blank disk, and gives the status that the program ends with. It is
+/// 7, with nothing written, if there is no memory for it.
+pub fn run_example<K: Sink>(alloc: Global, sink: &mut K) -> u8
+    ensures { RunsExample (record { before = K.state sink.old; after = K.state sink.new; status = result })
+        ⊎ ((result ≡ 7) × (K.state sink.new ≡ K.state sink.old)) }
 {
-    match example(alloc) {
-        Ok((words, bus, events)) => {
-            let mut config = CleanSource::new(bus);
-            let mut script = CleanSource::new(events);
-            run_gateway(
-                alloc,
-                words.as_slice(),
-                &mut config,
-                &mut script,
-                sink,
-                disks,
-            )
-        }
-        Err(AllocError) => NO_MEMORY,
-    }
+    let Ok(example) = example(alloc) else {
+        return NO_MEMORY;
+    };
+    let (words, mut config, mut script, mut disks) = example;
+    run_gateway(
+        alloc,
+        words.as_slice(),
+        &mut config,
+        &mut script,
+        sink,
+        &mut disks,
+    )
 }
 
-/// The words of the example, its bus file and its script.
-fn example(alloc: Global) -> Result<(Vec<String>, Vec<u8>, Vec<u8>), AllocError>
+/// The words of the example, sources of its bus file and its script, and its disk.
+fn example(
+    alloc: Global,
+) -> Result<(Vec<String>, CleanSource, CleanSource, Vec<MemDisk>), AllocError>
     ensures words { IfOk result (λ made. map string_bytes made.0.items ≡ map (λ text. text.now) WORDS) }
-    ensures bus { IfOk result (λ made. made.1.items ≡ BUS.now) }
-    ensures script { IfOk result (λ made. made.2.items ≡ SCRIPT.now) }
+    ensures bus { IfOk result (λ made. (clean_source made.1).told ≡ Some BUS.now) }
+    ensures script { IfOk result (λ made. (clean_source made.2).told ≡ Some SCRIPT.now) }
+    ensures disks { IfOk result (λ made. AreBlank 1 65536 made.3.items) }
 {
     let words = texts_of(alloc, &WORDS)?;
-    let mut bus = Vec::new(alloc);
-    bus.extend_from_slice(BUS)?;
-    let mut script = Vec::new(alloc);
-    script.extend_from_slice(SCRIPT)?;
-    Ok((words, bus, script))
+    let config = CleanSource::new(Vec::from_slice(alloc, BUS)?);
+    let script = CleanSource::new(Vec::from_slice(alloc, SCRIPT)?);
+    let disks = blank_disks(alloc, 1, 65_536)?;
+    Ok((words, config, script, disks))
 }
 
-/// These texts as words.
+/// These texts as arguments.
 fn texts_of(alloc: Global, texts: &[&str]) -> Result<Vec<String>, AllocError>
     ensures { IfOk result (λ words. map string_bytes words.items ≡ map (λ text. text.now) texts.now) }
 {

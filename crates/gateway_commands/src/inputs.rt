@@ -1,15 +1,11 @@
-//! What the sources of a gateway have, or why they have it not.
-ghost use Rattle.std.specs.Prelude.{◌≡◌, ◌<◌, ◌≤◌, ◌^◌, length, MatchOption};
+//! Whether a gateway over the bus of a bus file takes the pairs.
+ghost use Rattle.std.specs.Prelude.{◌≤◌, MatchOption};
 ghost use Rattle.secoc_gateway.specs.Pairs.{AreGood, IsLowestBad};
-ghost use Rattle.gateway_commands.specs.Steps.{IsPairRow, ChecksPairs, HasOwnScript, FindsOwnScript};
+ghost use Rattle.gateway_commands.specs.Steps.{IsPairRow, ChecksPairs};
 
-use answer_rows::Refusal;
 use bus_nodes::BusConfig;
-use bus_port::Source;
-use bus_script::{Event, read_own_script};
-use command_edge::read_input;
 use freshness_routes::NodeConfig;
-use line_rows::line_refusal;
+use program_edge::Refusal;
 use secoc_gateway::lowest_bad;
 use std::alloc::{AllocError, Global};
 
@@ -45,28 +41,5 @@ fn pair_refusal(alloc: Global, number: u16) -> Refusal
     match format!(in alloc; "config: pair {number}\n") {
         Ok(text) => Refusal::made(3, text),
         Err(AllocError) => Refusal::no_memory(),
-    }
-}
-
-/// The events of the script that a source gives, over this bus, or the refusal of the source or of a line.
-pub fn own_script_from<S: Source>(
-    alloc: Global,
-    bus: &BusConfig,
-    script: &mut S,
-) -> Result<Vec<Event>, Refusal>
-    ensures { FindsOwnScript bus.now (record { before = S.state script.old; after = S.state script.new }) result }
-{
-    let input = read_input(alloc, script)?;
-    own_events_in(alloc, bus, input.as_slice())
-}
-
-// The events of a script, or the refusal of a line.
-fn own_events_in(alloc: Global, bus: &BusConfig, text: &[u8]) -> Result<Vec<Event>, Refusal>
-    requires { length text.now < 2 ^ 32 }
-    ensures { HasOwnScript bus.now text.now result }
-{
-    match read_own_script(alloc, text, bus) {
-        Ok(events) => Ok(events),
-        Err(fault) => Err(line_refusal(alloc, fault)),
     }
 }

@@ -3,11 +3,9 @@ ghost use Rattle.gateway_commands.specs.Headline.{GatewaysAreRuns};
 
 use bus_laws::buses_begin_first;
 use bus_nodes::named_buses_are_buses;
-use gateway_machine::{arrivals_rise, departures_rise, forwards_what_arrived};
-use secoc_gateway::gateway_turns_keep;
+use secoc_gateway::{arrivals_rise, departures_rise, forwards_what_arrived, gateway_turns_keep};
 
-/// What was done of a gateway over a disk that tells its bytes is one run of its machine, and all of `OneGatewayRun`
-/// holds of it.
+/// What was done of a gateway over a disk that tells its bytes is one run of its machine with all of `OneGatewayRun`.
 pub fn gateways_are_runs()
     ensures { GatewaysAreRuns }
 {

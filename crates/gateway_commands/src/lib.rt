@@ -4,7 +4,7 @@
 //! [`run_gateway`] is all of it: the record `RunsGateway` says what each status means and what is printed.
 //! What was done over a disk that tells its bytes is one run of the gateway's machine, with all of
 //! `OneGatewayRun` (law `gateways_are_runs`). [`gateway_words`] opens the sources that the arguments name,
-//! and runs the example if there are none. `is_asked` tells which arguments ask for a gateway.
+//! and runs the example if there are none, over a blank disk of 65,536 bytes in memory. So 9 and 10 don't come of it.
 #![tactic(auto)]
 
 mod example;
@@ -20,4 +20,3 @@ mod words;
 pub use laws::gateways_are_runs;
 pub use run::run_gateway;
 pub use start::gateway_words;
-pub use words::is_asked;

@@ -3,25 +3,25 @@ ghost use Rattle.std.specs.Prelude.{◌≡◌, map, string_bytes};
 ghost use Rattle.gateway_commands.specs.Promises.{RunsGateway};
 ghost use Rattle.gateway_commands.specs.Steps.{PreparesGateway};
 
-use crate::inputs::{check_pairs, own_script_from};
+use crate::inputs::check_pairs;
 use crate::job::GatewayJob;
 use crate::running::do_job;
 use crate::words::asked_pairs;
-use answer_rows::{Refusal, tell_refusal};
-use bus_inputs::bus_from;
 use bus_port::{Sink, Source};
+use bus_programs::{OwnScript, bus_from, script_from};
 use cut_disk::CutDisk;
+use program_edge::{Refusal, tell_refusal};
 use std::alloc::Global;
 
-/// Runs a script over a gateway, and gives the status that the program ends with. Of the words, the program's name left
-/// out, the first names the bus file, which `config` gives, and the second the script, which `script` gives; each other
-/// one, 1 to 32 of them, is a pair `IN=OUT` of Data IDs of four hexadecimal digits. The bus has one node. The first
-/// disk is formatted for it, and each line is written as soon as its event is done. All reading comes before all
+/// Runs a script over a gateway, and gives the status that the program ends with. Of the arguments, the program's name
+/// left out, the first names the bus file, which `config` gives, and the second the script, which `script` gives; each
+/// other one, 1 to 32 of them, is a pair `IN=OUT` of Data IDs of four hexadecimal digits. The bus has one node. The
+/// first disk is formatted for it, and each line is written as soon as its event is done. All reading comes before all
 /// printing, and every text that is printed ends with a line feed.
 ///
-/// The statuses are looked for in the order 2, then 5, 8 and 3 of the bus file and its pairs, then 5, 8 and 4 of the
-/// script, then 9 and 10 of the disk. A sink that fails makes the status 6, whatever was to be printed, and no further
-/// event is done. Want of memory, 7, prints nothing more.
+/// The statuses are looked for in this order: 2; 5, 8 and 3 of the bus file and its pairs; 5, 8 and 4 of the script; 9
+/// and 10 of the disk. A sink that fails makes the status 6, whatever was to be printed, and no further event is done.
+/// Out of memory, 7, prints nothing more.
 pub fn run_gateway<S: Source, T: Source, K: Sink, D: CutDisk>(
     alloc: Global,
     words: &[String],
@@ -48,7 +48,7 @@ pub fn run_gateway<S: Source, T: Source, K: Sink, D: CutDisk>(
     }
 }
 
-// The first phase: the words and the inputs. It ends in a job, or in the first refusal that applies.
+// The first phase: the arguments and the inputs. It ends in a job, or in the first refusal that applies.
 fn prepare<S: Source, T: Source>(
     alloc: Global,
     words: &[String],
@@ -66,6 +66,6 @@ fn prepare<S: Source, T: Source>(
     let pairs = asked_pairs(alloc, words)?;
     let bus = bus_from(alloc, config)?;
     check_pairs(alloc, &bus, pairs.as_slice())?;
-    let events = own_script_from(alloc, &bus, script)?;
+    let events = script_from::<OwnScript, T>(alloc, &bus, script)?;
     Ok(GatewayJob { bus, pairs, events })
 }

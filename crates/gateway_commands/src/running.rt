@@ -7,19 +7,19 @@ ghost use Rattle.gateway_commands.specs.Steps.{IsWholeJob, PrintsTurns, DoesGate
 use crate::job::GatewayJob;
 use crate::laws::gateways_are_runs;
 use crate::texts::GatewayTexts;
-use answer_rows::tell_refusal;
 use bus_port::Sink;
 use bus_script::Event;
 use bus_world::{Start, close_nodes, open_nodes, start_refusal};
 use cell_store::CutCells;
 use cut_disk::CutDisk;
-use numbered_run::{Unwritten, print_run, status_of_run};
+use program_edge::tell_refusal;
+use run_driver::{Unwritten, print_run, status_of_run};
 use secoc_gateway::Gateway;
 use secoc_node::Node;
 use std::alloc::Global;
 
-/// Opens the node over the first disk, which is formatted, steps a gateway over it through the events and writes the
-/// line of each, and hands the disk back. After a text that isn't written no further event is done.
+/// Opens the node over the first disk, which is formatted. Steps a gateway over it through the events, writes the line
+/// of each, and hands the disk back. After a text that isn't written no further event is done.
 pub fn do_job<K: Sink, D: CutDisk>(
     alloc: Global,
     job: GatewayJob,

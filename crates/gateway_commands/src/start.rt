@@ -1,83 +1,82 @@
-//! The words of the command line, the program's name left out: a gateway runs over the sources that two of them name,
-//! and without a word the example.
-ghost use Rattle.std.specs.Prelude.{◌≡◌, ◌<◌, length, map, string_bytes};
-ghost use Rattle.bus_port.specs.Source.{SourceState};
-ghost use Rattle.named_sources.specs.NamedSources.{word_source};
-ghost use Rattle.gateway_commands.specs.Inputs.{GatewayInputs};
-ghost use Rattle.gateway_commands.specs.Named.{SourcesAreNamed, IsExampleGateway};
-ghost use Rattle.gateway_commands.specs.Promises.{RunsGateway};
+//! The arguments of the command line, the program's name left out: a gateway runs over the sources that two of them
+//! name, and without a word the example.
+ghost use Rattle.std.specs.Prelude.{◌≡◌, ◌≢◌, ◌⊎◌, None, [], map, string_bytes, option_map, IfOk, IfErr};
+ghost use Rattle.program_edge.specs.NamedSources.{word_source, openings};
+ghost use Rattle.bus_programs.specs.Blank.{AreBlank};
+ghost use Rattle.gateway_commands.specs.Words.{AsksNoGateway};
+ghost use Rattle.gateway_commands.specs.Named.{NameSources, GatewayOfWords};
 
 use crate::example::run_example;
 use crate::run::run_gateway;
 use crate::words::is_asked;
 use bus_port::{Sink, Source};
-use cut_disk::CutDisk;
-use named_sources::{MissingSource, Opener, WordSource, open_second, open_word};
-use std::alloc::Global;
+use bus_programs::{blank_disks, unopened};
+use cut_disk::MemDisk;
+use program_edge::{NO_MEMORY, Opener, WordSource, open_both};
+use std::alloc::{AllocError, Global};
 
-/// The sources of the bus file and of the script that the first two words name, of which nothing was read here. `-` is
-/// the input, which is handed in once for each; where both are `-`, the bus file has it, and the script is missing. For
-/// words of another form nothing is opened, and both sources are missing.
-fn open_inputs<O: Opener, I: Source + Drop>(
-    opener: &O,
-    bus_input: I,
-    script_input: I,
-    words: &[String],
-) -> (WordSource<O::Opened, I>, WordSource<O::Opened, I>)
-    // These are the sources of a gateway of these words, whatever it leaves of them.
-    ensures { (config_after script_after : SourceState)
-        → SourcesAreNamed (O.opens opener.now) (I.state bus_input) (I.state script_input) (map string_bytes words.now)
-        (record {
-          words = map string_bytes words.now;
-          config = record { before = word_source O.Opened.state I.state result.0; after = config_after };
-          script = record { before = word_source O.Opened.state I.state result.1; after = script_after };
-        }) }
+/// The arguments that name the bus file and the script: the first two, and none of arguments of another form.
+fn source_words(words: &[String]) -> (Option<&str>, Option<&str>)
+    ensures { NameSources (map string_bytes words.now) (option_map (λ w. w.now) result.0)
+        (option_map (λ w. w.now) result.1) }
 {
     if !is_asked(words) {
-        let config = WordSource::Missing(MissingSource::new());
-        let script = WordSource::Missing(MissingSource::new());
-        return (config, script);
+        return (None, None);
     }
-    let bus = words[0].as_str();
-    let events = words[1].as_str();
-    let script = open_second(opener, script_input, bus, events);
-    let config = open_word(opener, bus_input, bus);
-    (config, script)
+    (Some(words[0].as_str()), Some(words[1].as_str()))
 }
 
-/// Runs a gateway over the bus file and the script that the first two words name, as [`run_gateway`] does, and gives
-/// the status that the program ends with, and the sources of the bus file and of the script as the gateway left them;
-/// without a word it runs the example, and both sources are missing.
-pub fn gateway_words<O: Opener, I: Source + Drop, K: Sink, D: CutDisk>(
+/// Runs a gateway over the bus file and the script that the first two words name, as [`run_gateway`] does, over a blank
+/// disk of 65,536 bytes, and gives the status that the program ends with, and the sources of the bus file and of the
+/// script as the gateway left them; without a word it runs the example, and both sources are missing. `-` names the
+/// input, which is taken then; where both words are `-`, the bus file has it, and the script is missing. Of words of
+/// another form nothing is opened, and both sources are missing. The disk is made before anything is opened.
+pub fn gateway_words<O: Opener, I: Source + Drop, K: Sink>(
     alloc: Global,
-    opener: &O,
-    bus_input: I,
-    script_input: I,
+    opener: &mut O,
+    input: &mut Option<I>,
     words: &[String],
     sink: &mut K,
-    disks: &mut Vec<D>,
 ) -> (u8, WordSource<O::Opened, I>, WordSource<O::Opened, I>)
-    // All that a gateway promises, over the example's texts.
-    ensures example { length words.now ≡ 0 → (i : GatewayInputs) × IsExampleGateway i
-        × RunsGateway (disks.new ≡ disks.old) i
-        (record { before = map D.state disks.old.items; after = map D.state disks.new.items })
+    // All that a gateway promises, of these words, over the sources that they name, which are those handed back, or of
+    // the example; or there was no memory for it, and nothing was opened or written. Each word that names a source is
+    // opened once, and no other.
+    ensures words { GatewayOfWords (O.opens opener.old)
+        (openings (O.opened opener.old) (option_map I.state input.old))
+        (openings (O.opened opener.new) (option_map I.state input.new))
+        (record {
+          config = word_source O.Opened.state I.state result.1;
+          script = word_source O.Opened.state I.state result.2;
+        })
+        (map string_bytes words.now)
         (record { before = K.state sink.old; after = K.state sink.new; status = result.0 }) }
+    ensures usage { result.0 ≡ 2 → AsksNoGateway (map string_bytes words.now) }
+    ensures usage_only { map string_bytes words.now ≢ [] → AsksNoGateway (map string_bytes words.now)
+        → (result.0 ≡ 2) ⊎ (result.0 ≡ 6) }
 
-    // All that a gateway promises, of these words, over the sources that they name, which are those handed back.
-    ensures named { 0 < length words.now → (i : GatewayInputs)
-        × SourcesAreNamed (O.opens opener.now) (I.state bus_input) (I.state script_input) (map string_bytes words.now) i
-        × (i.config.after ≡ word_source O.Opened.state I.state result.1)
-        × (i.script.after ≡ word_source O.Opened.state I.state result.2)
-        × RunsGateway (disks.new ≡ disks.old) i
-        (record { before = map D.state disks.old.items; after = map D.state disks.new.items })
-        (record { before = K.state sink.old; after = K.state sink.new; status = result.0 }) }
+    // The disk that it makes is enough, and doesn't fail as the gateway starts.
+    ensures starts { (result.0 ≢ 9) × (result.0 ≢ 10) }
 {
     if words.is_empty() {
-        let config = WordSource::Missing(MissingSource::new());
-        let script = WordSource::Missing(MissingSource::new());
-        return (run_example(alloc, sink, disks), config, script);
+        return unopened(run_example(alloc, sink));
     }
-    let (mut config, mut script) = open_inputs(opener, bus_input, script_input, words);
-    let status = run_gateway(alloc, words, &mut config, &mut script, sink, disks);
+    let (bus, events) = source_words(words);
+    let Ok(mut disks) = disks_for(alloc, bus) else {
+        return unopened(NO_MEMORY);
+    };
+    let (mut config, mut script) = open_both(opener, input, bus, events);
+    let status = run_gateway(alloc, words, &mut config, &mut script, sink, &mut disks);
     (status, config, script)
+}
+
+/// A blank disk of 65,536 bytes for a gateway, whose bus file this word names, and none, without taking memory, for
+/// words of another form.
+fn disks_for(alloc: Global, bus: Option<&str>) -> Result<Vec<MemDisk>, AllocError>
+    ensures given { IfOk result (λ disks. ¬ (option_map (λ w. w.now) bus.entry ≡ None) → AreBlank 1 65536 disks.items) }
+    ensures wanted { IfErr result (λ _. ¬ (option_map (λ w. w.now) bus.entry ≡ None)) }
+{
+    match bus {
+        Some(_) => blank_disks(alloc, 1, 65_536),
+        None => Ok(Vec::new(alloc)),
+    }
 }

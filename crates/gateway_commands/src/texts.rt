@@ -1,18 +1,18 @@
 //! How the lines of a gateway are written.
 ghost use Rattle.std.specs.Prelude.{◌≡◌, [], ◌∷◌, ◌++◌, OnOk};
-ghost use Rattle.byte_lists.specs.Numbers.{bytes_of};
+ghost use Rattle.basics.specs.Numbers.{bytes_of};
 ghost use Rattle.hex.specs.Hex.{encode_lower};
 ghost use Rattle.text_lines.specs.Spaced.{spaced};
-ghost use Rattle.gateway_machine.specs.declared.lines.GatewayLine.TheVariants.{Dropped};
+ghost use Rattle.secoc_gateway.specs.declared.gateway_lines.GatewayLine.TheVariants.{Dropped};
 ghost use Rattle.gateway_commands.specs.Texts.{gateway_words, gateway_text};
 
+use basics::Pdu;
 use bus_machine::Refusal;
 use bus_port::Memory;
-use bus_texts::push_told;
-use bus_texts::words::{push_freshness, push_id, push_refusal};
-use byte_lists::Pdu;
-use gateway_machine::GatewayLine;
-use numbered_run::LineText;
+use bus_script::push_told;
+use bus_script::words::{push_freshness, push_id, push_refusal};
+use run_driver::LineText;
+use secoc_gateway::GatewayLine;
 use std::alloc::{AllocError, Global};
 use text_lines::pushing::{begin_line, end_line, push_hex, push_word};
 
@@ -46,7 +46,7 @@ fn append_line(number: u32, line: &GatewayLine, out: &mut Vec<u8>) -> Result<(),
     end_line(out)
 }
 
-// Adds the words of a line, as they stand behind its number.
+// Adds the words of a line, as they stand after its number.
 fn push_line(text: &mut Vec<u8>, line: &GatewayLine) -> Result<(), AllocError>
     ensures { OnOk result (text.new.items ≡ text.old.items ++ spaced (gateway_words line.now)) }
 {

@@ -1,14 +1,14 @@
-//! The words of the command line.
+//! The arguments of the command line.
 ghost use Rattle.std.specs.Prelude.{◌≡◌, ◌≤◌, ◌↔◌, length, map, take, string_bytes, IsTrue, MatchOption};
 ghost use Rattle.gateway_commands.specs.Words.{pair_form, AsksGateway, AsksNoGateway, AsksSomeGateway};
 ghost use Rattle.gateway_commands.specs.Steps.{HasPairs, FindsPairs};
 
-use answer_rows::Refusal;
+use program_edge::Refusal;
 use std::alloc::{AllocError, Global};
 
 const USAGE: &str = "usage: gateway B F IN=OUT ..\n";
 
-/// Whether the words, the program's name left out, are of the form `B F IN=OUT ..`.
+/// Whether the arguments, the program's name left out, are of the form `B F IN=OUT ..`.
 pub fn is_asked(words: &[String]) -> bool
     ensures { IsTrue result ↔ AsksSomeGateway (map string_bytes words.now) }
 {
@@ -16,8 +16,8 @@ pub fn is_asked(words: &[String]) -> bool
     read_pairs(words, &mut room).is_some()
 }
 
-/// The pairs that the words give behind the names of the bus file and of the script, the program's name left out; or
-/// the refusal of words of another form, or want of memory.
+/// The pairs that the arguments give after the names of the bus file and of the script, the program's name left out; or
+/// the refusal of arguments of another form, or out of memory.
 pub fn asked_pairs(alloc: Global, words: &[String]) -> Result<Vec<(u16, u16)>, Refusal>
     ensures { FindsPairs (map string_bytes words.now) result }
 {
@@ -31,8 +31,8 @@ pub fn asked_pairs(alloc: Global, words: &[String]) -> Result<Vec<(u16, u16)>, R
     }
 }
 
-// Puts the pairs that the words give at the front of the room, and tells how many they are; None where the words are of
-// another form.
+// Puts the pairs that the arguments give at the beginning of the room, and tells how many they are; None if the
+// arguments are of another form.
 fn read_pairs(words: &[String], room: &mut [(u16, u16); 32]) -> Option<usize>
     ensures { MatchOption result (AsksNoGateway (map string_bytes words.now))
         (λ count. (count ≤ 32) × AsksGateway (map string_bytes words.now) (take count room.new)) }
@@ -50,7 +50,7 @@ fn read_pairs(words: &[String], room: &mut [(u16, u16); 32]) -> Option<usize>
     Some(given.len())
 }
 
-// Puts the pair of each word into its place; false where a word is of another form.
+// Puts the pair of each word into its place; false if a word is of another form.
 fn read_given(given: &[String], room: &mut [(u16, u16); 32]) -> bool
     requires { length given.now ≤ 32 }
     ensures { HasPairs (map string_bytes given.now) room.new result }

@@ -3,7 +3,7 @@ ghost use Rattle.std.specs.Prelude.{◌+◌, ◌≤◌, IsTrue};
 
 use cut_disk::{CutDisk, Disk, Mark, Torn, write_and_cut, write_and_sync};
 
-/// What is done behind a write.
+/// What is done after a write.
 #[derive(Clone, Copy)]
 pub(crate) enum Then {
     Nothing,
@@ -36,9 +36,9 @@ pub(crate) enum What {
     Reads,
     /// A read of so many bytes fails.
     ReadFails,
-    /// A write of these bytes from an address on, and what is done behind it: whether all that is Ok.
+    /// A write of these bytes from an address on, and what is done after it: whether all that is Ok.
     Writes(Then, bool),
-    /// Syncs: a dot where one is Ok, an x where it fails.
+    /// Syncs: a dot if one is Ok, an x if it fails.
     Syncs,
     /// In the same way a read of a byte, a write of 5 and 6, and a sync, from the address 0 on.
     Answers,

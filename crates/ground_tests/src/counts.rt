@@ -1,5 +1,5 @@
 use crate::comparing::holds;
-use fault_count::*;
+use basics::*;
 
 const COUNTS: &[(u64, u64)] = &[
     (0, 1),
@@ -8,7 +8,7 @@ const COUNTS: &[(u64, u64)] = &[
     (u64::MAX, u64::MAX),
 ];
 
-/// What a count is behind one more fault.
+/// What a count is after one more fault.
 fn behind_one(before: u64) -> u64 {
     let mut faults = before;
     count_fault(&mut faults);

@@ -16,9 +16,9 @@ enum Opening {
     Disk,
     /// A disk over it of 65,536 zero bytes, which are read in one call.
     Zeros,
-    /// Two disks one behind the other, of which the first is closed: each call of the second fails.
+    /// Two disks one after the other, the first of them closed: each call of the second fails.
     Second,
-    /// A disk of no bytes over the file itself, of which nothing is held: its sync is Ok.
+    /// A disk of no bytes over the file itself, with nothing of it in memory: its sync is Ok.
     NothingHeld,
 }
 
@@ -117,7 +117,7 @@ fn is_left(rt: &HostRuntime, path: &str, acts: &[Act]) -> bool {
     true
 }
 
-/// Whether a second disk fails behind a first one, which is closed.
+/// Whether a second disk fails after a first one, which is closed.
 fn is_second<D: CutDisk + Drop>(rt: &HostRuntime, path: &str, first: D) -> bool {
     match FileDisk::on(rt.alloc(), rt, path) {
         Ok(mut other) => {

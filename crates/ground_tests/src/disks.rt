@@ -16,8 +16,8 @@ fn done_in_memory(alloc: Global, size: usize, acts: &[Act]) -> usize {
     }
 }
 
-/// The same over one that tells its past, with room for one entry, the least, where the disk has one byte, and for nine,
-/// which no life has, where it has four.
+/// The same over one that tells its past. It has room for one entry, the least, if the disk has one byte. It has room
+/// for nine, which no life has, if it has four.
 fn done_on_tape(alloc: Global, size: usize, acts: &[Act]) -> usize {
     if size == 0 || size > 100 {
         return 0;
@@ -33,7 +33,7 @@ fn done_on_tape(alloc: Global, size: usize, acts: &[Act]) -> usize {
     }
 }
 
-/// Plays each of these lives over new disks of so many zeros; what is told is the act at which one differs.
+/// Plays each of these lives over new disks of so many zeros. A failure names the act at which one differs.
 fn plays(rt: &impl Abort, alloc: Global, size: usize, lives: &[&[Act]]) {
     for acts in lives {
         let memory = done_in_memory(alloc, size, acts);
@@ -204,7 +204,7 @@ fn a_cut_is_the_last_sync_of_what_it_left(rt: HostRuntime) {
     holds(&rt, done, done == 6);
 }
 
-/// One call of each kind, of which the second write fails.
+/// One call of each kind; the second write fails.
 const ONE_OF_EACH: &[Act] = &[
     Act(What::Size, 2, b""),
     Act(What::Writes(Then::Nothing, true), 0, &[7]),
@@ -242,7 +242,7 @@ fn are_told(past: &[PastEntry]) -> bool {
         .all(|(entry, wanted)| is_told(entry, wanted))
 }
 
-/// Whether the disk tells eight entries, and none any more behind the next call.
+/// Whether the disk tells eight entries, and none any more after the next call.
 fn tells(disk: &mut TapeDisk) -> bool {
     let tells_eight = match disk.past() {
         Some(past) => past.len() == 8 && are_told(past),
@@ -251,7 +251,7 @@ fn tells(disk: &mut TapeDisk) -> bool {
     tells_eight && syncs(disk, b".") && disk.past().is_none()
 }
 
-/// Whether it does so behind one call of each kind.
+/// Whether it does so after one call of each kind.
 fn tells_each(alloc: Global) -> bool {
     match TapeDisk::new(alloc, 2, 8) {
         Ok(mut disk) => done(&mut disk, ONE_OF_EACH) == 8 && tells(&mut disk),

@@ -1,7 +1,8 @@
-//! An input that fails. How long an input is, what is told of one, endings, and what words name are rows of checks/.
+//! An input that fails. How long an input is, what is printed of one, endings, and what arguments name are rows of
+//! checks/.
 use crate::comparing::holds;
 use bus_port::{MemSource, Source};
-use command_edge::{InputFault, read_input};
+use program_edge::{InputFault, read_input};
 use std::alloc::Global;
 
 /// Whether reading this fails.

@@ -1,6 +1,6 @@
 //! Lists of bytes that are made and written.
 use crate::comparing::holds;
-use byte_lists::*;
+use basics::*;
 use std::alloc::Global;
 
 /// Lengths of PDUs: none, the most of CAN, the most of CAN FD, and one more, which none has.
@@ -32,7 +32,7 @@ fn a_pdu_has_the_bytes_that_it_was_made_of(rt: HostRuntime) {
 
 const WORD: &[u8; 3] = b"\x5a\xff\x01";
 
-/// A PDU of so many bytes, into which these three are written, where they are so many.
+/// A PDU of so many bytes, into which these three are written, if they are so many.
 fn filled(len: usize) -> Option<Pdu> {
     Pdu::filled_by(len, |bytes: &mut [u8]| {
         if bytes.len() != WORD.len() {

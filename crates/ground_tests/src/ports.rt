@@ -66,7 +66,7 @@ fn reads<S: Source>(
     }
 }
 
-/// A source of five bytes, of which these calls fail, and which gives pieces of this size at most.
+/// A source of five bytes. These calls of it fail, and it gives pieces of this size at most.
 fn source_of(alloc: Global, failing: &[u64], piece: usize) -> Option<MemSource> {
     if piece == 0 {
         return None;
@@ -104,7 +104,7 @@ fn read_all_answers_by_its_limit_and_its_source(rt: HostRuntime) {
     }
 }
 
-/// A sink of this room, of which these calls fail, and which takes pieces of this size at most.
+/// A sink of this room. These calls of it fail, and it takes pieces of this size at most.
 fn sink_of(alloc: Global, room: usize, failing: &[u64], piece: usize) -> Option<MemSink> {
     if piece == 0 {
         return None;
@@ -140,7 +140,7 @@ fn write_all_stops_at_the_failing_call_or_the_full_room(rt: HostRuntime) {
     }
 }
 
-/// Whether a source of which no read fails has its bytes, where no more are taken.
+/// Whether a source whose reads don't fail has its bytes, if no more are taken.
 fn is_read_clean(alloc: Global) -> bool {
     match HELLO.to_vec(alloc) {
         Ok(bytes) => reads(alloc, &mut CleanSource::new(bytes), 5, &Ok(HELLO)),
@@ -220,7 +220,7 @@ fn a_read_that_fails_is_told_and_a_later_one_works(rt: HostRuntime) {
     holds(&rt, "it is missing", fails(rt.alloc(), &mut missing));
 }
 
-/// Whether a writer whose first call takes nothing, or fails, takes all behind it.
+/// Whether a writer whose first call takes nothing, or fails, takes all after it.
 fn is_written_again(alloc: Global, takes_nothing: bool) -> bool {
     let mut text = Vec::new(alloc);
     let mut sink = StdSink::new(FlawedWriter {

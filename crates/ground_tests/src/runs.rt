@@ -1,6 +1,6 @@
 //! The statuses of runs. What a run prints, and how far it goes over a sink that fails, are rows of checks/.
 use crate::comparing::holds;
-use numbered_run::{Unwritten, status_of_run};
+use run_driver::{Unwritten, status_of_run};
 
 const STATUSES: &[(Result<(), Unwritten>, u8)] = &[
     (Ok(()), 0),

@@ -5,17 +5,17 @@ use Rattle.key_slots.specs.Authority.{is_pair}
 use Rattle.key_slots.specs.declared.memory.Flags.{Flags}
 use Rattle.memory_update.specs.Messages.{Builds, Confirms}
 use Rattle.memory_update.specs.declared.messages.Request.{Request}
-use Rattle.campaign_machine.specs.declared.commands.Issue.{Issue}
-use Rattle.campaign_machine.specs.declared.commands.Confirm.{Confirm}
-use Rattle.campaign_machine.specs.declared.commands.LedgerCommand.TheVariants as command
-use Rattle.campaign_machine.specs.declared.entries.LedgerEntry.{LedgerEntry}
-use Rattle.campaign_machine.specs.declared.entries.PendingEntry.{PendingEntry}
-use Rattle.campaign_machine.specs.declared.lines.LedgerLine.TheVariants as line
-use Rattle.campaign_machine.specs.declared.lines.LedgerRefusal.TheVariants as refusal
-use Rattle.campaign_machine.specs.Entries.{IsUnit, entry_counter, Advances}
-use Rattle.campaign_machine.specs.Campaign.{Campaign, changed_ledger, failed_change, SoundLedger}
-use Rattle.campaign_machine.specs.Steps.{update_for, update_told, issued_entry, MakesIssue, MakesConfirm, LedgerStep}
-use Rattle.campaign_machine.proofs.CallerLemmas.{advances_made}
+use Rattle.key_campaign.specs.declared.commands.Issue.{Issue}
+use Rattle.key_campaign.specs.declared.commands.Confirm.{Confirm}
+use Rattle.key_campaign.specs.declared.commands.LedgerCommand.TheVariants as command
+use Rattle.key_campaign.specs.declared.entries.LedgerEntry.{LedgerEntry}
+use Rattle.key_campaign.specs.declared.entries.PendingEntry.{PendingEntry}
+use Rattle.key_campaign.specs.declared.lines.LedgerLine.TheVariants as line
+use Rattle.key_campaign.specs.declared.lines.LedgerRefusal.TheVariants as refusal
+use Rattle.key_campaign.specs.Entries.{IsUnit, entry_counter, Advances}
+use Rattle.key_campaign.specs.Campaign.{Campaign, changed_ledger, failed_change, SoundLedger}
+use Rattle.key_campaign.specs.Steps.{update_for, update_told, issued_entry, MakesIssue, MakesConfirm, LedgerStep}
+use Rattle.key_campaign.proofs.SoundSteps.{advances_made}
 use Rattle.key_campaign.specs.declared.faults.LedgerFault.{LedgerFault}
 use Rattle.key_campaign.specs.declared.faults.LedgerFault.TheVariants as fault
 use Rattle.key_campaign.specs.Lines.{ledger_refusal}

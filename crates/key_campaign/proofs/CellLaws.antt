@@ -2,12 +2,12 @@
 use Rattle.std.proofs.Common.{◌≡◌, ℕ, suc, ◌<◌, List, [], ◌∷◌, ◌++◌, map, get_or, All, replicate, refl, sym, ap, ◌∙◌, arith, length-append, lit<}
 use Rattle.std.specs.Prelude.{Option, None, Some, Bool, true, false}
 use Rattle.std.proofs.lemmas.List.Elements.{All-cons, All-append, All-replicate}
-use Rattle.byte_lists.specs.Bytes.{IsBytes}
-use Rattle.byte_lists.specs.Numbers.{bytes_of}
-use Rattle.byte_lists.specs.NumberLaws.{IsBytes-bytes_of}
+use Rattle.basics.specs.Bytes.{IsBytes}
+use Rattle.basics.specs.Numbers.{bytes_of}
+use Rattle.basics.specs.NumberLaws.{IsBytes-bytes_of}
 use Rattle.key_slots.specs.Flags.{bit}
-use Rattle.campaign_machine.specs.declared.entries.LedgerEntry.{LedgerEntry}
-use Rattle.campaign_machine.specs.Entries.{IsEntry, AreLedgerEntries}
+use Rattle.key_campaign.specs.declared.entries.LedgerEntry.{LedgerEntry}
+use Rattle.key_campaign.specs.Entries.{IsEntry, AreLedgerEntries}
 use Rattle.key_campaign.specs.Cell.{place_cell, IsLedgerPlace, HoldsPlace, HoldEntries}
 use Rattle.key_campaign.proofs.Parts.{first_is, empty_first, uid_is, id_is, counter_is, state_is, same_bit}
 

@@ -7,18 +7,20 @@ use Rattle.cut_disk.specs.declared.Torn.{Torn}
 use Rattle.cut_disk.specs.Images.{CutsTo}
 use Rattle.cell_store.specs.declared.faults.Reread.{Reread}
 use Rattle.cell_store.specs.declared.faults.Reread.TheVariants as reread
-use Rattle.campaign_machine.specs.declared.commands.LedgerCommand.TheVariants as command
+use Rattle.key_campaign.specs.declared.commands.LedgerCommand.TheVariants as command
 use Rattle.key_campaign.specs.declared.faults.LedgerCut.TheVariants as cut
 use Rattle.key_campaign.specs.Lines.{ledger_cut_line}
 use Rattle.cell_store.specs.Cells.{CellsState, StandsNow, EachImageStands}
-use Rattle.store_runs.specs.Keeping.{MayKeep, FitsStore, TellsKept}
-use Rattle.store_runs.specs.KeepingLaws.{found_kept, each_stands, fits_refused, fits_up}
-use Rattle.campaign_machine.specs.declared.entries.LedgerEntry.{LedgerEntry}
-use Rattle.campaign_machine.specs.declared.entries.PendingEntry.{PendingEntry}
-use Rattle.campaign_machine.specs.Entries.{place_count, place_for, entry_at, with_change}
-use Rattle.campaign_machine.specs.Campaign.{Campaign, powered_ledger, stays_off}
-use Rattle.campaign_machine.specs.Steps.{PowersLedger, LedgerStep}
-use Rattle.campaign_machine.proofs.CallerLemmas.{at_place, AreLedgerEntries-change, pending_advances, sound_off}
+use Rattle.store_keeping.specs.Keeping.{MayKeep, FitsStore, TellsKept}
+use Rattle.store_keeping.specs.KeepingLaws.{found_kept, each_stands, fits_refused, fits_up}
+use Rattle.key_campaign.specs.declared.entries.LedgerEntry.{LedgerEntry}
+use Rattle.key_campaign.specs.declared.entries.PendingEntry.{PendingEntry}
+use Rattle.key_campaign.specs.Entries.{place_count, place_for, entry_at, with_change}
+use Rattle.key_campaign.specs.Campaign.{Campaign, powered_ledger, stays_off}
+use Rattle.key_campaign.specs.Steps.{PowersLedger, LedgerStep}
+use Rattle.key_campaign.proofs.EntryPlaces.{at_place}
+use Rattle.key_campaign.proofs.Changes.{AreLedgerEntries-change}
+use Rattle.key_campaign.proofs.SoundSteps.{pending_advances, sound_off}
 use Rattle.key_campaign.specs.Cell.{place_cell, HoldsPlace, ledger_cells, HoldEntries, FirstBadEntry}
 use Rattle.key_campaign.specs.State.{keeping_of, IsLedger}
 use Rattle.key_campaign.proofs.CellLaws.{one_place, place_at, one_ledger}
@@ -116,7 +118,7 @@ ledger_powered entries left hold count whole = record {
   holds = λ up. record { whole = whole; cells = hold.cells_are };
 }
 
--- where the store isn't read, only the disk can have failed
+-- if the store isn't read, only the disk can have failed
 pub step_unread : (c : Campaign) (torn : Torn) (fault : Reread) → fault ≡ reread.DiskFailed → LedgerStep c (command.Cut torn) (ledger_cut_line (Err (cut.Store fault))) (stays_off c)
 step_unread c torn fault is = subst (λ f. LedgerStep c (command.Cut torn) (ledger_cut_line (Err (cut.Store f))) (stays_off c)) (sym is) refl
 

@@ -4,9 +4,9 @@ use Rattle.std.specs.Prelude.{Option, None, Some, is_none, position, cond, not}
 use Rattle.std.proofs.lemmas.List.Sums.{position_or_len_is, prefix_len-le-length}
 use Rattle.std.proofs.lemmas.Bool.{cases_lt, lt-ltb}
 use Rattle.std.proofs.lemmas.Option.{none-some}
-use Rattle.campaign_machine.specs.declared.entries.LedgerEntry.{LedgerEntry}
-use Rattle.campaign_machine.specs.Entries.{is_of, place_for, empty_place}
-use Rattle.campaign_machine.proofs.CallerLemmas.{is_of_same}
+use Rattle.key_campaign.specs.declared.entries.LedgerEntry.{LedgerEntry}
+use Rattle.key_campaign.specs.Entries.{is_of, place_for, empty_place}
+use Rattle.key_campaign.proofs.EntryPlaces.{is_of_same}
 use Rattle.key_campaign.specs.Places.{FoundEntry}
 
 module _ (uid : List ℕ) (id : ℕ) (places : List (Option LedgerEntry)) (place : ℕ) (before : (k : ℕ) → k < place → is_of uid id (get_or places k None) ≡ false) where
@@ -25,7 +25,7 @@ module _ (uid : List ℕ) (id : ℕ) (places : List (Option LedgerEntry)) (place
   found_nowhere past most =
       position_or_len_is (is_of uid id) places place None most before (λ inside. absurd (omega (arith, inside, past))) ∙ omega (arith, past, most)
 
--- no place is empty, where none is found
+-- no place is empty, if none is found
 pub none_empty : (places : List (Option LedgerEntry)) → position is_none places ≡ None → empty_place places ≡ length places
 none_empty places none = elim (cases_lt (empty_place places) (length places)) [
   | inl inside ↦

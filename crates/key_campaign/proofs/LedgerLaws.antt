@@ -4,12 +4,12 @@ use Rattle.std.specs.Prelude.{None, Some, option_map}
 use Rattle.std.proofs.lemmas.List.{map-set, length-set}
 use Rattle.cell_store.specs.declared.kinds.Layout.{Layout}
 use Rattle.cell_store.specs.Cells.{CellsState, Puts, FailsPut}
-use Rattle.store_runs.specs.Keeping.{Fits, FitsStore}
-use Rattle.store_runs.specs.KeepingLaws.{fits_put, fits_failed_put}
-use Rattle.campaign_machine.specs.declared.entries.PendingEntry.{PendingEntry}
-use Rattle.campaign_machine.specs.Entries.{with_change, Advances}
-use Rattle.campaign_machine.specs.Campaign.{Campaign, changed_ledger, failed_change}
-use Rattle.campaign_machine.proofs.CallerLemmas.{sound_made, sound_failed}
+use Rattle.store_keeping.specs.Keeping.{Fits, FitsStore}
+use Rattle.store_keeping.specs.KeepingLaws.{fits_put, fits_failed_put}
+use Rattle.key_campaign.specs.declared.entries.PendingEntry.{PendingEntry}
+use Rattle.key_campaign.specs.Entries.{with_change, Advances}
+use Rattle.key_campaign.specs.Campaign.{Campaign, changed_ledger, failed_change}
+use Rattle.key_campaign.proofs.SoundSteps.{sound_made, sound_failed}
 use Rattle.key_campaign.specs.Cell.{place_cell, ledger_cells}
 use Rattle.key_campaign.specs.State.{keeping_of, IsLedger}
 
@@ -56,7 +56,7 @@ module _ (c : Campaign) (store : CellsState) (is : IsLedger c store) (up : c.up 
   fits_ledger_failed fails fits =
       fits_failed_put (keeping_of c) store new change.place cell fits up none_pending (is.holds up) (ledger_cells (with_change change c.entries)) fails cells_changed
 
--- where the bytes are as before, what fitted fits
+-- if the bytes are as before, what fitted fits
 pub fits_told : (c : Campaign) (store new : CellsState) → new.layout ≡ store.layout → new.disk.told ≡ store.disk.told → FitsStore (keeping_of c) store → FitsStore (keeping_of c) new
 fits_told c store new layout same fits = λ told is.
     subst (λ (l : Layout). Fits l (keeping_of c) told) (sym layout) (fits told (sym same ∙ is))

@@ -1,3 +1,11 @@
+pub mod EntryPlaces
+pub mod Changes
+pub mod Effects
+pub mod SoundSteps
+pub mod Rising
+pub mod Requests
+pub mod Skipping
+pub mod Replies
 pub mod Parts
 pub mod CellLaws
 pub mod PlacesSoFar

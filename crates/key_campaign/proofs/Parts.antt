@@ -1,16 +1,16 @@
--- What the parts of a cell are, where it is the cell of an entry.
+-- What the parts of a cell are, if it is the cell of an entry.
 use Rattle.std.proofs.Common.{◌≡◌, ℕ, ◌+◌, ◌^◌, ◌<◌, List, [], ◌∷◌, ◌++◌, length, get_or, take, drop, replicate, refl, sym, ap, ◌∙◌, arith}
 use mir.Val.{bool_byte}
 use Rattle.std.specs.Prelude.{Bool, true, false, None, Some, nat_eq}
 use Rattle.std.proofs.lemmas.List.{get_or-drop}
 use Rattle.std.proofs.Math.Seq.{take-append_seam, drop-append_seam}
-use Rattle.byte_lists.specs.Numbers.{number_of, bytes_of}
-use Rattle.byte_lists.specs.NumberLaws.{number_of-bytes_of-lt}
+use Rattle.basics.specs.Numbers.{number_of, bytes_of}
+use Rattle.basics.specs.NumberLaws.{number_of-bytes_of-lt}
 use Rattle.key_slots.specs.Flags.{bit}
-use Rattle.campaign_machine.specs.declared.entries.LedgerEntry.{LedgerEntry}
+use Rattle.key_campaign.specs.declared.entries.LedgerEntry.{LedgerEntry}
 use Rattle.key_campaign.specs.Cell.{place_cell}
 
--- what stands behind the UID
+-- what stands after the UID
 abbrev pub behind : LedgerEntry → List ℕ
 behind e = e.id ∷ bytes_of 4 e.counter ++ bit e.confirmed ∷ replicate 10 0
 
@@ -27,7 +27,7 @@ pub rest_is : (cell : List ℕ) (e : LedgerEntry) → cell ≡ place_cell (Some 
 unfolding place_cell
 rest_is cell e is size = ap (λ c. drop 16 c) is ∙ ap (λ n. drop n (e.uid ++ behind e)) (sym size) ∙ drop-append_seam e.uid (behind e)
 
--- ---- in what stands behind the UID
+-- ---- in what stands after the UID
 
 at_rest : (cell : List ℕ) (e : LedgerEntry) (k : ℕ) → cell ≡ place_cell (Some e) → length e.uid ≡ 15 → get_or cell (16 + k) 0 ≡ get_or (behind e) k 0
 at_rest cell e k is size = sym (get_or-drop 16 cell k 0) ∙ ap (λ xs. get_or xs k 0) (rest_is cell e is size)

@@ -8,13 +8,13 @@ use Rattle.std.proofs.lemmas.Bool.Decides.{eqb_tells}
 use Rattle.std.proofs.lemmas.List.{take_more, take_more_set, take_all, map-append, get_or-set_other, get_or-replicate, get_or_past, length-replicate, length-take-le, length-set}
 use Rattle.std.proofs.lemmas.List.Folds.{position_or_len_push}
 use Rattle.std.proofs.lemmas.Option.{same_Some, none-some}
-use Rattle.campaign_machine.specs.declared.entries.LedgerEntry.{LedgerEntry}
-use Rattle.campaign_machine.specs.Entries.{IsEntry, place_count, is_of, place_for, entry_at, AreLedgerEntries, no_entries}
-use Rattle.campaign_machine.proofs.CallerLemmas.{is_of_same, inside_of, place_for_most}
+use Rattle.key_campaign.specs.declared.entries.LedgerEntry.{LedgerEntry}
+use Rattle.key_campaign.specs.Entries.{IsEntry, place_count, is_of, place_for, entry_at, AreLedgerEntries, no_entries}
+use Rattle.key_campaign.proofs.EntryPlaces.{is_of_same, inside_of, place_for_most}
 use Rattle.key_campaign.specs.Cell.{place_cell, HoldsPlace, ledger_cells, HoldEntries, FirstBadEntry}
 use Rattle.key_campaign.specs.Places.{ReadSoFar}
 
--- what a place may be behind others
+-- what a place may be after others
 abbrev pub MayFollow : List (Option LedgerEntry) → Option LedgerEntry → Type 0
 MayFollow front place = (e : LedgerEntry) → place ≡ Some e → IsEntry e × (place_for e.uid e.id front ≡ length front)
 
@@ -69,7 +69,7 @@ cells_more cells places later n place inside so_far is next =
     ∙ sym (map-append place_cell (take n places) (place ∷ []))
     ∙ ap ledger_cells (sym next)
 
--- ---- behind what is read there is nothing yet
+-- ---- after what is read there is nothing yet
 
 abbrev nothing : Option LedgerEntry
 nothing = None
@@ -147,7 +147,7 @@ read_all cells places count read = record {
   cells_are = sym (take_all 256 cells (omega (arith, count))) ∙ read.so_far.cells_are ∙ ap ledger_cells (take_all 256 places (omega (arith, read.count)));
 }
 
--- ---- a bad one is behind them
+-- ---- a bad one is after them
 
 pub bad_read : (cells : List (List ℕ)) (places : List (Option LedgerEntry)) (n : ℕ) → length cells ≡ place_count → n < 256 → ReadSoFar cells n places
     → ((place : Option LedgerEntry) → HoldsPlace (get_or cells n []) place → ⊥) → FirstBadEntry cells n

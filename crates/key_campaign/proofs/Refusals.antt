@@ -3,17 +3,17 @@ use Rattle.std.specs.Prelude.{◌≡◌, ◌≢◌, ◌↔◌, ℕ, Bool, true, 
 use Rattle.std.proofs.Common.{refl, sym, ap, subst, ◌∙◌, arith, inl, inr, true≢false}
 use Rattle.std.proofs.lemmas.Option.{same_Some, none-some}
 use Rattle.memory_update.specs.declared.messages.Request.{Request}
-use Rattle.campaign_machine.specs.declared.commands.Issue.{Issue}
-use Rattle.campaign_machine.specs.declared.commands.Confirm.{Confirm}
-use Rattle.campaign_machine.specs.declared.commands.LedgerCommand.TheVariants as command
-use Rattle.campaign_machine.specs.declared.entries.LedgerEntry.{LedgerEntry}
-use Rattle.campaign_machine.specs.declared.entries.PendingEntry.{PendingEntry}
-use Rattle.campaign_machine.specs.declared.lines.LedgerRefusal.{LedgerRefusal}
-use Rattle.campaign_machine.specs.declared.lines.LedgerRefusal.TheVariants as refusal
-use Rattle.campaign_machine.specs.Entries.{entry_for, entry_counter, last_issued, TakesPlace}
-use Rattle.campaign_machine.specs.Campaign.{Campaign}
-use Rattle.campaign_machine.specs.Steps.{HasNoPlace, RefusesIssue, MakesIssue, ConfirmsWith, RefusesConfirm, MakesConfirm, LedgerStep}
-use Rattle.campaign_machine.proofs.CallerLemmas.{unknown_of}
+use Rattle.key_campaign.specs.declared.commands.Issue.{Issue}
+use Rattle.key_campaign.specs.declared.commands.Confirm.{Confirm}
+use Rattle.key_campaign.specs.declared.commands.LedgerCommand.TheVariants as command
+use Rattle.key_campaign.specs.declared.entries.LedgerEntry.{LedgerEntry}
+use Rattle.key_campaign.specs.declared.entries.PendingEntry.{PendingEntry}
+use Rattle.key_campaign.specs.declared.lines.LedgerRefusal.{LedgerRefusal}
+use Rattle.key_campaign.specs.declared.lines.LedgerRefusal.TheVariants as refusal
+use Rattle.key_campaign.specs.Entries.{entry_for, entry_counter, last_issued, TakesPlace}
+use Rattle.key_campaign.specs.Campaign.{Campaign}
+use Rattle.key_campaign.specs.Steps.{HasNoPlace, RefusesIssue, MakesIssue, ConfirmsWith, RefusesConfirm, MakesConfirm, LedgerStep}
+use Rattle.key_campaign.proofs.EntryPlaces.{unknown_of}
 use Rattle.key_campaign.specs.declared.faults.LedgerFault.{LedgerFault}
 use Rattle.key_campaign.specs.declared.faults.LedgerFault.TheVariants as fault
 use Rattle.key_campaign.specs.Lines.{ledger_refusal, issued_line, confirmed_line}

@@ -5,7 +5,7 @@ use Rattle.key_campaign.specs.Cell.{FirstBadEntry}
 use Rattle.key_campaign.specs.declared.faults.LedgerCut.{LedgerCut}
 use Rattle.key_campaign.specs.declared.faults.LedgerCut.TheVariants as cut
 
--- no call of the disk failed, its bytes stand for the cells, and this is the first bad one
+-- no call of the disk failed, its bytes stand for the cells, and this is the first bad cell
 pub record ReadBad (old new : CellsState) (bad : ℕ) : Type 0 where
   pub faults : new.disk.faults ≡ old.disk.faults
   pub stands : StandsNow new

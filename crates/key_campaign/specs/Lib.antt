@@ -1,5 +1,11 @@
+pub mod Entries
+pub mod Campaign
+pub mod Steps
+pub mod Claims
 pub mod Cell
 pub mod Places
 pub mod Causes
+pub mod Powering
 pub mod State
 pub mod Lines
+pub mod Words

@@ -2,16 +2,16 @@
 use Rattle.std.specs.Prelude.{ℕ, Result, Ok, Err}
 use Rattle.cell_store.specs.declared.faults.Reread.TheVariants as reread
 use Rattle.memory_update.specs.declared.messages.Request.{Request}
-use Rattle.campaign_machine.specs.declared.lines.LedgerLine.{LedgerLine}
-use Rattle.campaign_machine.specs.declared.lines.LedgerLine.TheVariants as line
-use Rattle.campaign_machine.specs.declared.lines.LedgerRefusal.{LedgerRefusal}
-use Rattle.campaign_machine.specs.declared.lines.LedgerRefusal.TheVariants as refusal
+use Rattle.key_campaign.specs.declared.lines.LedgerLine.{LedgerLine}
+use Rattle.key_campaign.specs.declared.lines.LedgerLine.TheVariants as line
+use Rattle.key_campaign.specs.declared.lines.LedgerRefusal.{LedgerRefusal}
+use Rattle.key_campaign.specs.declared.lines.LedgerRefusal.TheVariants as refusal
 use Rattle.key_campaign.specs.declared.faults.LedgerFault.{LedgerFault}
 use Rattle.key_campaign.specs.declared.faults.LedgerFault.TheVariants as fault
 use Rattle.key_campaign.specs.declared.faults.LedgerCut.{LedgerCut}
 use Rattle.key_campaign.specs.declared.faults.LedgerCut.TheVariants as cut
 
--- a failure of the disk is told as such
+-- each refusal by its name; a failure of the disk is `MemoryFailure`
 abbrev pub ledger_refusal : LedgerFault → LedgerRefusal
 ledger_refusal fault.Down = refusal.Down
 ledger_refusal fault.BadPair = refusal.BadPair

@@ -1,9 +1,9 @@
 -- What is found in the places of a ledger (own)
 use Rattle.std.specs.Prelude.{◌≡◌, ℕ, ◌+◌, ◌<◌, ◌≤◌, Option, None, Some, List, length, take}
-use Rattle.campaign_machine.specs.declared.entries.LedgerEntry.{LedgerEntry}
-use Rattle.campaign_machine.specs.Entries.{place_count, greatest_counter, place_for, entry_at, entry_for, last_issued}
-use Rattle.campaign_machine.specs.Entries.{TakesPlace}
-use Rattle.campaign_machine.specs.Steps.{HasNoPlace}
+use Rattle.key_campaign.specs.declared.entries.LedgerEntry.{LedgerEntry}
+use Rattle.key_campaign.specs.Entries.{place_count, greatest_counter, place_for, entry_at, entry_for, last_issued}
+use Rattle.key_campaign.specs.Entries.{TakesPlace}
+use Rattle.key_campaign.specs.Steps.{HasNoPlace}
 use Rattle.key_campaign.specs.Cell.{HoldEntries}
 use Rattle.key_campaign.specs.declared.faults.LedgerFault.{LedgerFault}
 use Rattle.key_campaign.specs.declared.faults.LedgerFault.TheVariants as fault
@@ -27,7 +27,7 @@ HasNoNext uid id entries fault.Full = HasNoPlace entries uid id
 HasNoNext uid id entries fault.Spent = last_issued uid id entries ≡ greatest_counter
 HasNoNext uid id entries _ = ⊥
 
--- The first n cells are those of the first n places, and behind these there is nothing yet.
+-- The first n cells are those of the first n places, and after these there is nothing yet.
 pub record ReadSoFar (cells : List (List ℕ)) (n : ℕ) (places : List (Option LedgerEntry)) : Type 0 where
   pub count : length places ≡ place_count
   pub so_far : HoldEntries (take n cells) (take n places)

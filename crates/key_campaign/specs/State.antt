@@ -2,9 +2,9 @@
 use Rattle.std.specs.Prelude.{◌≡◌, true, [], option_map, length, Result, OnOk, IsErrOf}
 use Rattle.cut_disk.specs.Calls.{Rose, Runs}
 use Rattle.cell_store.specs.Cells.{CellsState}
-use Rattle.store_runs.specs.Keeping.{Keeping, FitsStore, TellsKept, HoldsKept}
-use Rattle.campaign_machine.specs.Entries.{place_count, with_change}
-use Rattle.campaign_machine.specs.Campaign.{Campaign, SoundLedger}
+use Rattle.store_keeping.specs.Keeping.{Keeping, FitsStore, TellsKept, HoldsKept}
+use Rattle.key_campaign.specs.Entries.{place_count, with_change}
+use Rattle.key_campaign.specs.Campaign.{Campaign, SoundLedger}
 use Rattle.key_campaign.specs.declared.faults.LedgerFault.{LedgerFault}
 use Rattle.key_campaign.specs.declared.faults.LedgerFault.TheVariants as fault
 use Rattle.key_campaign.specs.Cell.{ledger_cells}
@@ -21,7 +21,7 @@ keeping_of c = record {
   up = c.up;
 }
 
--- where the disk tells its bytes, they fit the ledger
+-- if the disk tells its bytes, they fit the ledger
 abbrev pub FitsLedger : LedgerState → Type 0
 FitsLedger s = FitsStore (keeping_of s.campaign) s.store
 
@@ -29,8 +29,8 @@ FitsLedger s = FitsStore (keeping_of s.campaign) s.store
 abbrev pub TellsLedger : LedgerState → Type 0
 TellsLedger s = TellsKept (keeping_of s.campaign) s.store
 
--- what an issue or a confirmation leaves, whatever it answers: a fault comes only from the disk; at most six calls of the
--- disk, which arm nothing and cut nothing
+-- what an issue or a confirmation leaves, whatever it answers: a fault comes only from the disk; at most six calls of
+-- the disk, which arm nothing and cut nothing
 pub record ServedLedger {T : Type 0} (old new : LedgerState) (result : Result T LedgerFault) : Type 0 where
   pub faulted : IsErrOf result fault.Faulted → Rose old.store.disk.faults new.store.disk.faults
   pub faults : OnOk result (new.store.disk.faults ≡ old.store.disk.faults)

@@ -1,10 +1,10 @@
 //! The cell of a place.
 ghost use Rattle.std.specs.Prelude.{◌≡◌, ◌⊎◌, ◌≢◌, ℕ, MatchOption, None, Some, IfSome, Option};
-ghost use Rattle.campaign_machine.specs.declared.entries.LedgerEntry.{LedgerEntry};
-ghost use Rattle.campaign_machine.specs.Entries.{IsEntry};
+ghost use Rattle.key_campaign.specs.declared.entries.LedgerEntry.{LedgerEntry};
+ghost use Rattle.key_campaign.specs.Entries.{IsEntry};
 ghost use Rattle.key_campaign.specs.Cell.{place_cell, IsLedgerPlace, HoldsPlace};
 
-use campaign_machine::LedgerEntry;
+use crate::LedgerEntry;
 use key_slots::{Counter28, SlotId};
 use memory_update::Uid;
 
@@ -104,7 +104,7 @@ fn parts(cell: &[u8; 32]) -> Option<Option<LedgerEntry>>
     }
 }
 
-/// What the place of a cell has, an entry or nothing; none where the cell is no place's.
+/// What the place of a cell has, an entry or nothing; none if the cell is no place's.
 pub fn place_in(cell: &[u8; 32]) -> Option<Option<LedgerEntry>>
     ensures { MatchOption result ((place : Option LedgerEntry) → ¬ HoldsPlace cell.now place) (HoldsPlace cell.now) }
 {

@@ -1,8 +1,8 @@
 //! Why a ledger refuses.
 use cell_store::Reread;
 
-/// Why a ledger doesn't do what it is told. The first that applies is answered, in this order for an issue, and for a
-/// confirmation `Down`, `Unknown`, `AlreadyConfirmed`, `NotConfirmed` and `Faulted`.
+/// Why a ledger refuses a command. The first cause that applies is answered: for an issue in this order, and for a
+/// confirmation in the order `Down`, `Unknown`, `AlreadyConfirmed`, `NotConfirmed`, `Faulted`.
 #[derive(Clone, Copy, Debug, PartialEq, Eq, Drop)]
 pub enum LedgerFault {
     /// A call of the disk failed, or a power cut was refused, since the last power-up that succeeded.

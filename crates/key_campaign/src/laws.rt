@@ -1,13 +1,13 @@
 //! Laws of ledgers and their stores: the contract of each function is the law, and its body is empty.
 ghost use Rattle.std.specs.Prelude.{◌≡◌, ℕ, List, Option, replicate};
-ghost use Rattle.byte_lists.specs.Bytes.{IsBytes};
+ghost use Rattle.basics.specs.Bytes.{IsBytes};
 ghost use Rattle.cut_disk.specs.Images.{firm};
 ghost use Rattle.cell_store.specs.declared.kinds.Layout.{Layout};
 ghost use Rattle.cell_store.specs.Store.{Stands};
-ghost use Rattle.store_runs.specs.Keeping.{Fits};
-ghost use Rattle.campaign_machine.specs.declared.entries.LedgerEntry.{LedgerEntry};
-ghost use Rattle.campaign_machine.specs.Campaign.{powered_ledger};
-ghost use Rattle.campaign_machine.specs.Entries.{no_entries};
+ghost use Rattle.store_keeping.specs.Keeping.{Fits};
+ghost use Rattle.key_campaign.specs.declared.entries.LedgerEntry.{LedgerEntry};
+ghost use Rattle.key_campaign.specs.Campaign.{powered_ledger};
+ghost use Rattle.key_campaign.specs.Entries.{no_entries};
 ghost use Rattle.key_campaign.specs.Cell.{IsLedgerPlace, place_cell, HoldsPlace, HoldEntries, FirstBadEntry, ledger_cells};
 ghost use Rattle.key_campaign.specs.State.{keeping_of};
 
@@ -16,8 +16,8 @@ pub fn a_place_has_a_cell_of_32_bytes()
     ensures { (place : Option LedgerEntry) → IsLedgerPlace place → IsBytes 32 (place_cell place) }
 {}
 
-/// Cells tell entries one-to-one: a cell is the cell of at most one place, empty or an entry, and a list of cells is
-/// that of at most one list of places.
+/// Cells tell entries one-to-one. A cell is the cell of at most one place, empty or an entry. A list of cells is that
+/// of at most one list of places.
 pub fn cells_tell_entries()
     ensures cell { (cell : List ℕ) (place other : Option LedgerEntry)
         → HoldsPlace cell place → HoldsPlace cell other → place ≡ other }
@@ -33,7 +33,7 @@ pub fn a_settled_disk_fits_its_ledger()
         → Fits layout (keeping_of (powered_ledger entries)) (firm bytes) }
 {}
 
-/// Cells that are those of entries have no bad one: a ledger is attached exactly where there is none.
+/// Cells that are those of entries have no bad one: a ledger is attached exactly if there is none.
 pub fn held_cells_have_no_bad_entry()
     ensures { (cells : List (List ℕ)) (entries : List (Option LedgerEntry)) (bad : ℕ) → HoldEntries cells entries
         → ¬ FirstBadEntry cells bad }

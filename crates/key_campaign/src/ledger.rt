@@ -1,26 +1,18 @@
 //! A ledger in all its lives.
-ghost use Rattle.std.specs.Prelude.{◌≡◌, ◌≢◌, ◌<◌, ◌≤◌, ◌+◌, ◌∷◌, ◌↔◌, ℕ, [], length, true, false, Some, None, option_map, not, IfOk, IfErr, OnOk, OnErr, IsErrOf};
-ghost use Rattle.cut_disk.specs.State.{Told, Cut};
-ghost use Rattle.cut_disk.specs.Armed.{ArmsStop, ArmsFail};
-ghost use Rattle.cut_disk.specs.Calls.{Rose, Runs, Grows};
-ghost use Rattle.cut_disk.specs.Images.{CutsTo};
-ghost use Rattle.cell_store.specs.Reading.{NoStop, CutStays};
-ghost use Rattle.cell_store.specs.Cells.{Settled, StandsNow};
-ghost use Rattle.key_slots.specs.Authority.{is_pair};
-ghost use Rattle.campaign_machine.specs.declared.entries.PendingEntry.{PendingEntry};
-ghost use Rattle.campaign_machine.specs.Entries.{place_count, greatest_counter, IsUnit, entry_for, last_issued, Advances};
-ghost use Rattle.campaign_machine.specs.Campaign.{powered_ledger, changed_ledger, failed_change, stays_off, SoundLedger};
-ghost use Rattle.campaign_machine.specs.Steps.{HasNoPlace, RefusesConfirm, told_entry, LedgerStep};
-ghost use Rattle.key_campaign.specs.Cell.{HoldEntries, FirstBadEntry};
-ghost use Rattle.key_campaign.specs.Causes.{LedgerCutCause};
-ghost use Rattle.key_campaign.specs.State.{FitsLedger, TellsLedger, ServedLedger};
-ghost use Rattle.key_campaign.specs.Lines.{issued_line, confirmed_line, ledger_cut_line};
+ghost use Rattle.std.specs.Prelude.{◌≡◌, ◌≢◌, ◌≤◌, ◌+◌, ◌↔◌, [], length, true, false, None, option_map, not, IfOk};
+ghost use Rattle.std.specs.Prelude.{IfErr, OnOk, OnErr, IsErrOf};
+ghost use Rattle.key_campaign.specs.Words.{ArmsStop, ArmsFail, Rose, Runs, CutAndRead, Settled, is_pair};
+ghost use Rattle.key_campaign.specs.Words.{place_count, greatest_counter, IsUnit, entry_for, last_issued, Advances};
+ghost use Rattle.key_campaign.specs.Words.{powered_ledger, changed_ledger, failed_change, SoundLedger, HasNoPlace};
+ghost use Rattle.key_campaign.specs.Words.{RefusesConfirm, told_entry, LedgerStep, HoldEntries, FirstBadEntry};
+ghost use Rattle.key_campaign.specs.Words.{LedgerComesUp, LedgerStaysDown, FitsLedger, TellsLedger, ServedLedger};
+ghost use Rattle.key_campaign.specs.Words.{issued_line, confirmed_line, ledger_cut_line};
 
 use crate::faults::{BadEntry, LedgerCut, LedgerFault};
 use crate::places::{Places, put_entry, read_places};
-use byte_lists::Block;
-use campaign_machine::{LedgerCommand, LedgerEntry, LedgerLine, LedgerRefusal, PendingEntry};
-use cell_store::{Cells, CutCells, PutFailed, Reread};
+use crate::{LedgerCommand, LedgerEntry, LedgerLine, LedgerRefusal, PendingEntry};
+use basics::Block;
+use cell_store::{Cells, CutCells, PutFailed};
 use cut_disk::Torn;
 use key_slots::{Counter28, Flags, SlotId, may_authorise};
 use memory_update::{Reply, Request, Uid, Update, build, is_confirmed};
@@ -51,8 +43,8 @@ impl<C: Cells> Model for Ledger<C> {
 }
 
 impl<C: Cells> Ledger<C> {
-    /// The ledger over a store of 256 cells. `BadEntry` exactly where a cell is neither empty nor an entry, or repeats
-    /// the unit and slot of an earlier one; the lowest is named, and the cells are handed back as they were.
+    /// The ledger over a store of 256 cells. `BadEntry` exactly if a cell is neither empty nor an entry, or repeats the
+    /// unit and slot of an earlier one; the lowest is named, and the cells are handed back as they were.
     pub fn attach(cells: C) -> Result<Ledger<C>, BadEntry<C>>
         requires count { length (C.state cells).cells ≡ place_count }
         requires whole { (C.state cells).broken ≡ false }
@@ -75,8 +67,8 @@ impl<C: Cells> Ledger<C> {
         }
     }
 
-    // Puts an entry into its place, in the store and then in memory. Where the disk fails, the change is pending and
-    // the ledger down.
+    // Puts an entry into its place, in the store and then in memory. If the disk fails, the change is pending and the
+    // ledger down.
     fn put(&mut self, place: u16, entry: LedgerEntry) -> Result<(), PutFailed>
         requires up { self.old.campaign.up ≡ true }
         requires advances { Advances self.old.campaign.entries (record { place = place; entry = entry }) }
@@ -104,8 +96,8 @@ impl<C: Cells> Ledger<C> {
         }
     }
 
-    /// Issues the request that puts a new key into slot `id` of one unit, authorised by the key of slot `auth`, with
-    /// the next counter of that unit and slot (SHE specification, memory update). The entry with this counter is put
+    /// Issues the request that puts a new key into slot `id` of one unit (SHE specification, memory update). The key of
+    /// slot `auth` authorises it, and it has the next counter of that unit and slot. The entry with this counter is put
     /// before the request is made. The UID is that of one unit: it isn't zero. Errors, in their order: `Down`,
     /// `BadPair`, `Full`, `Spent`, `Faulted`. After each of them but `Faulted` all is as before, and no call of the
     /// disk was made.
@@ -166,10 +158,10 @@ impl<C: Cells> Ledger<C> {
         }
     }
 
-    /// Records that a unit's engine confirmed the update that was issued last for its slot `id`, with this new key and
-    /// authorised by the key of slot `auth` (SHE specification, memory update); gives the update's counter. Errors, in
-    /// their order: `Down`, `Unknown`, `AlreadyConfirmed`, `NotConfirmed`, `Faulted`. After each of them but `Faulted`
-    /// all is as before, and no call of the disk was made.
+    /// Records that a unit's engine confirmed the update that was issued last for its slot `id`, and gives the update's
+    /// counter (SHE specification, memory update). The update has this new key, and the key of slot `auth` authorised
+    /// it. Errors, in their order: `Down`, `Unknown`, `AlreadyConfirmed`, `NotConfirmed`, `Faulted`. After each of them
+    /// but `Faulted` all is as before, and no call of the disk was made.
     pub fn confirm(
         &mut self,
         uid: Uid,
@@ -226,7 +218,7 @@ impl<C: Cells> Ledger<C> {
     }
 
     /// The counter that was issued last for a unit and slot, and whether it was confirmed, also while the ledger is
-    /// down; `None` exactly where there is no entry.
+    /// down; `None` exactly if there is no entry.
     pub fn show(&self, uid: Uid, id: SlotId) -> Option<(Counter28, bool)>
         ensures { result ≡ option_map told_entry (entry_for uid id self.now.campaign.entries) }
     {
@@ -253,26 +245,16 @@ impl<C: Cells> Ledger<C> {
 
 impl<C: CutCells> Ledger<C> {
     /// Cuts the power and powers up again, from a ledger that is up as from one that is down: the cells are read anew,
-    /// so that the bytes of the disk stand for them. Errors: `Store` where the store isn't read, then `BadEntry`. The
+    /// so that the bytes of the disk stand for them. Errors: `Store` if the store isn't read, then `BadEntry`. The
     /// ledger is then down, and its entries and its pending change are as before. Over a disk that tells its bytes, and
     /// fits the ledger, only the disk itself can fail.
     pub fn power_cut(&mut self, torn: Torn) -> Result<(), LedgerCut>
         ensures step { TellsLedger self.old
             → LedgerStep self.old.campaign (LedgerCommand.Cut torn) (ledger_cut_line result) self.new.campaign }
-        ensures up { OnOk result (self.new.campaign ≡ powered_ledger self.new.campaign.entries) }
-        ensures held { OnOk result (HoldEntries self.new.store.cells self.new.campaign.entries) }
-        ensures stands { OnOk result (StandsNow self.new.store) }
-        ensures settled { OnOk result ((t : Told) → self.old.store.disk.told ≡ Some t → Settled self.new.store) }
-        ensures refused { OnErr result (self.new.campaign ≡ stays_off self.old.campaign) }
-        ensures cause { IfErr result (LedgerCutCause self.old.store self.new.store) }
-        ensures only { TellsLedger self.old → IfErr result (λ fault. fault ≡ LedgerCut.Store Reread.DiskFailed) }
-        ensures image { CutsTo self.old.store.disk.told self.new.store.disk.told }
-        ensures stays { CutStays torn self.old.store.disk self.new.store.disk }
-        ensures stops { NoStop self.new.store.disk }
-        ensures faults { OnOk result (self.new.store.disk.faults ≡ self.old.store.disk.faults) }
+        ensures up { OnOk result (LedgerComesUp self.old self.new) }
+        ensures refused { IfErr result (LedgerStaysDown self.old self.new) }
+        ensures disk { CutAndRead torn (68 + place_count) self.old.store.disk self.new.store.disk }
         ensures layout { self.new.store.layout ≡ self.old.store.layout }
-        ensures runs { Runs (Cut torn ∷ []) (68 + place_count) self.old.store.disk self.new.store.disk }
-        ensures grows { OnOk result (Grows self.old.store.disk self.new.store.disk) }
         ensures fits { FitsLedger self.old → FitsLedger self.new }
         ensures sound { SoundLedger self.new.campaign }
     {

@@ -1,13 +1,13 @@
 //! The places of a ledger, in memory and in a store.
 ghost use Rattle.std.specs.Prelude.{◌≡◌, ◌<◌, ◌≤◌, ◌+◌, ℕ, length, None, Some, set, is_none, position, IfOk, IfErr, OnOk, OnErr, MatchOption, IsTrue, ◌↔◌, false, take, slice_index_or};
 ghost use Rattle.cell_store.specs.Cells.{Puts, FailsPut};
-ghost use Rattle.campaign_machine.specs.Entries.{place_count, place_for, empty_place, no_entries};
+ghost use Rattle.key_campaign.specs.Entries.{place_count, place_for, empty_place, no_entries};
 ghost use Rattle.key_campaign.specs.Places.{FoundEntry, IsNext, HasNoNext, ReadSoFar};
 ghost use Rattle.key_campaign.specs.Cell.{place_cell, HoldEntries, FirstBadEntry};
 
+use crate::LedgerEntry;
 use crate::cell::{entry_bytes, place_in};
 use crate::faults::LedgerFault;
-use campaign_machine::LedgerEntry;
 use cell_store::{Cells, PutFailed};
 use key_slots::{Counter28, SlotId};
 use memory_update::Uid;
@@ -21,7 +21,7 @@ pub struct Places {
 
 impl Model for Places {
     ghost use Rattle.std.specs.Prelude.{◌≡◌, List, Option, length};
-    ghost use Rattle.campaign_machine.specs.declared.entries.LedgerEntry.{LedgerEntry};
+    ghost use Rattle.key_campaign.specs.declared.entries.LedgerEntry.{LedgerEntry};
 
     ghost Value = { List (Option LedgerEntry) };
 
@@ -56,7 +56,7 @@ fn empty_in(places: &[Option<LedgerEntry>]) -> Option<usize>
 
 impl Places {
     /// Each place is empty.
-    #[tactic(auto, unfolding(campaign_machine::specs::Entries::no_entries, campaign_machine::specs::Entries::place_count))]
+    #[tactic(auto, unfolding(crate::specs::Entries::no_entries, crate::specs::Entries::place_count))]
     pub fn empty() -> Places
         ensures { result ≡ no_entries }
     {
@@ -132,8 +132,8 @@ fn read_next<C: Cells>(cells: &C, place: u16, places: &mut Places) -> bool
     }
 }
 
-/// The places that the cells hold. The number of the lowest cell that is neither empty nor an entry, or that repeats
-/// the unit and slot of an earlier one, exactly where there is one.
+/// The places that the cells hold; or, exactly if there is a bad cell, the number of the lowest. A bad one is neither
+/// empty nor an entry, or repeats the unit and slot of an earlier one.
 pub fn read_places<C: Cells>(cells: &C) -> Result<Places, u16>
     requires { length (C.state cells.now).cells ≡ place_count }
     ensures places { IfOk result (HoldEntries (C.state cells.now).cells) }
@@ -149,8 +149,8 @@ pub fn read_places<C: Cells>(cells: &C) -> Result<Places, u16>
     Ok(places)
 }
 
-/// Puts the cell of an entry, with the conditions and answers of a put. Where it fails, the cell on the disk is as
-/// before or the entry's, whatever a power cut leaves.
+/// Puts the cell of an entry, with the conditions and answers of a put. If it fails, the cell on the disk is as before
+/// or the entry's, whatever a power cut leaves.
 pub fn put_entry<C: Cells>(cells: &mut C, place: u16, entry: &LedgerEntry) -> Result<(), PutFailed>
     requires place { place < length (C.state cells.old).cells }
     requires whole { (C.state cells.old).broken ≡ false }

@@ -11,7 +11,7 @@ use Rattle.clap.proofs.OnLiterals.{clap_on_literals}
 use Rattle.clap.specs.Simple.{new_shape}
 use Rattle.key_commands.specs.declared.subcommands.Subcommand.{Subcommand}
 use Rattle.key_commands.specs.declared.subcommands.Subcommand.TheVariants.{Make, Read, Confirm, Bootmac, Load}
-use Rattle.answer_rows.specs.Rows.{Row, row_of, memory_row}
+use Rattle.program_edge.specs.Rows.{Row, row_of, memory_row}
 use Rattle.key_commands.specs.Parsing.{command_of, found, refusals, required_text, simple_command}
 use Rattle.key_commands.specs.Texts.{key_usage}
 
@@ -38,7 +38,7 @@ next_argument name values i d a r within a_is r_is =
     one_more name (get_or values i d).now (map (λ v. v.now) (take i values)) a r a_is r_is
     ∙ ap (simple_command name) (sym (names_more values i d within))
 
--- clap says of these commands exactly where it refuses their words, and what it finds in them
+-- for these commands it is known exactly when clap refuses the arguments, and what it finds in them
 is_simple_and_free_command : (s : Subcommand) → is_simple_and_free (command_of s) ≡ true
 unfolding clap_on_literals
 is_simple_and_free_command Make = refl
@@ -66,7 +66,7 @@ unfolding found
 found_values s a words rows is matches =
     (matches (ap is_simple is ∙ is_simple_command s)).0 ∙ ap (λ b. matches_of b words) is
 
--- the kind of its error tells want of memory from a refusal
+-- the kind of its error says whether memory was out or it refuses
 pub refused_words : (s : Subcommand) (a : App) (words : List (List ℕ)) (e : Error) (k : ErrorKind) (row : Row) → a ≡ command_of s
     → (is_simple_and_free a ≡ true → HasKind (fault_of a words) e) → k ≡ kind_of e
     → ((k ≡ OutOfMemory) × (row ≡ memory_row)) ⊎ (¬ (k ≡ OutOfMemory) × (row ≡ row_of 2 key_usage))

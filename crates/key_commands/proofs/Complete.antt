@@ -1,6 +1,6 @@
 -- Of plain values the run ends in a row of what they ask for
 use Rattle.std.proofs.Common.{◌≡◌, ◌⊎◌, ℕ, List, Ok, ap, sym, refl, subst, inl, inr}
-use Rattle.answer_rows.specs.Rows.{Row}
+use Rattle.program_edge.specs.Rows.{Row}
 use Rattle.key_commands.specs.declared.subcommands.Subcommand.{Subcommand}
 use Rattle.key_commands.specs.declared.tasks.Task.{Task}
 use Rattle.key_commands.specs.Subcommands.{name_of}
@@ -16,7 +16,7 @@ plain_asks words s values (words_are, size, plain) =
     let taken = plain_values s (name_of s) values size plain in
     subst (λ (w : List (List ℕ)). AsksFor w (task_of s values)) (sym words_are) (s, refl, taken.0, ap (task_of s) taken.1)
 
--- a row that comes is one of what the words ask for
+-- a row that comes is one of what the arguments ask for
 pub plain_row : (words : List (List ℕ)) (s : Subcommand) (values : List (List ℕ)) → IsPlainCall words s values
     → (row : Row) → ComesOfWords words row → AskedComes (task_of s values) row
 plain_row words s values call row (refused_words refused) = absurd (asks_taken words _ (plain_asks words s values call) refused)

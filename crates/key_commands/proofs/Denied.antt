@@ -1,7 +1,7 @@
 -- A task that is denied isn't done
 use Rattle.std.proofs.Common.{◌≡◌, ◌⊎◌, ℕ, List, Ok, Err, refl, subst, inl, inr}
 use Rattle.memory_update.specs.MessageLaws.{HasSlots-Carries}
-use Rattle.answer_rows.specs.Rows.{Row}
+use Rattle.program_edge.specs.Rows.{Row}
 use Rattle.key_commands.specs.declared.tasks.Task.{Task}
 use Rattle.key_commands.specs.declared.tasks.Task.TheVariants.{Words, Load}
 use Rattle.key_commands.specs.declared.tasks.WordTask.TheVariants.{Make, Read, Confirm, Bootmac}
@@ -21,7 +21,7 @@ not_both (Words (Confirm reply update)) first second prints denies = denies.0 pr
 not_both (Words (Bootmac key image)) first second prints denies = denies
 not_both (Load uid) first second prints denies = denies
 
--- this status or that of want of memory
+-- this status or 7, out of memory
 abbrev pub IsOr7 : ℕ → ℕ → Type 0
 IsOr7 n status = (status ≡ n) ⊎ (status ≡ 7)
 

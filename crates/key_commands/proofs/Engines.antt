@@ -18,7 +18,7 @@ use Rattle.key_commands.specs.Subcommands.{NamesSubcommand}
 use Rattle.key_commands.specs.Parsing.{given}
 use Rattle.key_commands.specs.Rows.{AsksLoad}
 
--- where the values of a subcommand ask for a load, it is that of `load`, into an engine whose identifier isn't zero
+-- if the values of a subcommand ask for a load, it is that of `load`, into an engine whose identifier isn't zero
 abbrev GoodEngine : Subcommand → Result Task BadValue → Type 0
 GoodEngine s (Ok (task.Load uid)) = (uid ≢ replicate 15 0) × (s ≡ subcommand.Load)
 GoodEngine s _ = Unit {0}

@@ -1,3 +1,12 @@
+pub mod CountingLaws
+pub mod TextLaws
+pub mod LoadingLaws
+pub mod EndingLaws
+pub mod OpeningLaws
+pub mod SourceLaws
+pub mod EngineLaws
+pub mod AnsweredLaws
+pub mod LoadPromises
 pub mod Commands
 pub mod Named
 pub mod Engines
@@ -8,4 +17,4 @@ pub mod Rows
 pub mod Values
 pub mod Phases
 pub mod Promises
-pub mod CallerLemmas
+pub mod LoadAlone

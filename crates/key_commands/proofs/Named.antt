@@ -1,4 +1,4 @@
--- The words name one subcommand at most, and ask it for one thing
+-- The arguments name one subcommand at most, and ask it for one thing
 use Rattle.std.proofs.Common.{◌≡◌, ◌∙◌, ℕ, List, [], ◌∷◌, ap, sym, refl, get_or, inl, inr, arith}
 use Rattle.std.specs.Prelude.{Result}
 use Rattle.key_commands.specs.declared.subcommands.Subcommand.{Subcommand}
@@ -41,7 +41,7 @@ first_letters Load Load e = refl
 one_name : (r s : Subcommand) → name_of r ≡ name_of s → r ≡ s
 one_name r s e = first_letters r s (ap (λ (name : List ℕ). get_or name 0 0) e)
 
--- so the words name one subcommand at most
+-- so the arguments name one subcommand at most
 pub names_one : (words : List (List ℕ)) (r s : Subcommand) → NamesSubcommand words r → NamesSubcommand words s → r ≡ s
 names_one [] r s left right = absurd left
 names_one (word ∷ words) r s left right = one_name r s (sym left ∙ right)

@@ -1,7 +1,7 @@
 -- The two phases of a run
 use Rattle.std.proofs.Common.{◌≡◌, ◌⊎◌, ◌∙◌, ℕ, List, [], ◌≢◌, Ok, Err, ap, sym, refl, subst, inl, inr}
 use Rattle.clap.specs.Words.{Row as FoundRow}
-use Rattle.answer_rows.specs.Rows.{Row, row_of, memory_row}
+use Rattle.program_edge.specs.Rows.{Row, row_of, memory_row}
 use Rattle.key_commands.specs.declared.subcommands.Subcommand.{Subcommand}
 use Rattle.key_commands.specs.declared.tasks.Task.{Task}
 use Rattle.key_commands.specs.declared.tasks.BadValue.{BadValue}
@@ -24,7 +24,7 @@ refuses_value s words rows bad row names taken rows_are is tells = elim tells [
     asks : AsksFor words (Err bad)
     asks = (s, names, taken, ap (λ (r : List FoundRow). task_of s (values_in (values_of s) r)) (sym rows_are) ∙ sym is)
 
--- a row of the task that the words ask for
+-- a row of the task that the arguments ask for
 pub asked_row : (words : List (List ℕ)) (task : Task) → AsksFor words (Ok task) → (row : Row) → AskedComes (Ok task) row → ComesOfWords words row
 asked_row words task asks row (asked_wrongly bad is) = cc is
 asked_row words task asks row no_text = no_memory (asks.0, asks.1)
@@ -37,7 +37,7 @@ pub clap_refuses : (s : Subcommand) (words : List (List ℕ)) (row : Row) → Na
 clap_refuses s words row names (inl memory) = subst (ComesOfWords words) (sym memory) (no_memory (s, names))
 clap_refuses s words row names (inr (wrong, usage)) = subst (ComesOfWords words) (sym usage) (refused_words (inr (s, names, wrong)))
 
--- want of memory for a text, and messages that are refused
+-- out of memory for a text, and messages that are refused
 pub asked_memory : (asked : Result Task BadValue) (row : Row) → row ≡ memory_row → AskedComes asked row
 asked_memory asked row is = subst (AskedComes asked) (sym is) no_text
 

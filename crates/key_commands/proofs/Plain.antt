@@ -52,7 +52,7 @@ plain_fault s word h plain =
     ∙ ap (λ (o : Option (Text × Option Text)). flag_word_fault s.rules s.args_override_self o word h) (no_long word plain)
     ∙ ap (λ (o : Option Text). option_map_or (λ flags. bundle_fault s.rules s.args_override_self flags h) o []) (no_short word plain)
 
--- between two words nothing waits for a value
+-- between two arguments nothing waits for a value
 abbrev at_rest : Held → ℕ → Walk
 at_rest h position = record { held = h; waiting = idle; position = position; is_trailing = false; stopped = None }
 
@@ -74,7 +74,7 @@ turn_plain s w word rest plain =
     subst (λ (v : Walk). turn_fault s [] v word ≡ step_fault s v.position v.held value) (sym rest)
     (ap₂ (λ (f : Kinds) (met : Held × Step). or_else f (step_fault s w.position met.0 met.1)) (plain_fault s word w.held plain) (plain_met s.rules w.position word w.held plain))
 
--- before each of these words the walk is at rest, and the positional takes it
+-- before each of these arguments the walk is at rest, and the positional takes it
 abbrev Passes : Shape → Walk → List Text → Type 0
 Passes s w [] = Unit {0}
 Passes s w (word ∷ words) =
@@ -112,7 +112,7 @@ start = walk_from nothing_held
 abbrev through : Subcommand → List Text → Walk
 through s values = fold (after_plain (shape s).rules) start values
 
--- the kinds of error behind the walk
+-- the kinds of error after the walk
 abbrev ends : App → Walk → Kinds
 ends a w =
     or_else (entered_fault a w.stopped)

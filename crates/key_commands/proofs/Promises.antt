@@ -1,19 +1,19 @@
 -- What a key command promises, by how it ran
 use Rattle.std.proofs.Common.{◌≡◌, ◌≢◌, ◌∙◌, ◌⊎◌, ℕ, ◌≤◌, List, [], Ok, Err, inl, inr, refl, subst, sym, ap, arith}
 use Rattle.bus_port.specs.Source.{SourceState}
-use Rattle.command_edge.specs.declared.input.InputFault.TheVariants as input
+use Rattle.program_edge.specs.declared.input.InputFault.TheVariants as input
 use Rattle.memory_update.specs.declared.messages.Request.{Request}
-use Rattle.answer_rows.specs.Rows.{Row, memory_row}
+use Rattle.program_edge.specs.Rows.{Row, memory_row}
 use Rattle.std.specs.Prelude.{codes}
 use Rattle.text_lines.specs.Readings.{Fault}
 use Rattle.text_lines.specs.Texts.{fault_text_of}
-use Rattle.answer_rows.specs.Inputs.{CountsFault, CountsTooMuch, IsUnread, Lacks}
-use Rattle.answer_rows.specs.InputLaws.{Lacks-unread}
-use Rattle.answer_rows.specs.Endings.{CountsWriteFault, Ending, EndsIn, EndsInRow, MayEndIn, PrintsFront, PrintsWhole, SinkFailed}
-use Rattle.answer_rows.specs.EndingLaws.{EndsInRow-at, EndsInRow-more}
-use Rattle.key_loading.specs.Loads.{ComesInLoad, EndsLoad, IsRequestFault, LoadInputs, in_lines, in_row, no_requests_read, without_requests}
-use Rattle.key_loading.specs.Promises.{AnswersNone, EndsAtOne, OffersEngine, OffersRequests, RefusesStore, RunsLoad, StopsAtOne}
-use Rattle.key_loading.proofs.CallerLemmas.{runs_load}
+use Rattle.program_edge.specs.Inputs.{CountsFault, CountsTooMuch, IsUnread, Lacks}
+use Rattle.program_edge.specs.InputLaws.{Lacks-unread}
+use Rattle.program_edge.specs.Endings.{CountsWriteFault, Ending, EndsIn, EndsInRow, MayEndIn, PrintsFront, PrintsWhole, SinkFailed}
+use Rattle.program_edge.specs.EndingLaws.{EndsInRow-at, EndsInRow-more}
+use Rattle.key_commands.specs.Loads.{ComesInLoad, EndsLoad, IsRequestFault, LoadInputs, in_lines, in_row, no_requests_read, without_requests}
+use Rattle.key_commands.specs.Promises.{AnswersNone, EndsAtOne, OffersEngine, OffersRequests, RefusesStore, RunsLoad, StopsAtOne}
+use Rattle.key_commands.proofs.LoadPromises.{runs_load}
 use Rattle.key_commands.specs.declared.subcommands.Subcommand.{Subcommand}
 use Rattle.key_commands.specs.declared.subcommands.Subcommand.TheVariants as subcommand
 use Rattle.key_commands.specs.declared.tasks.Task.{Task}
@@ -111,7 +111,7 @@ failed_is_6 e ends counts = elim ends.told [
   | inr failed ↦ failed.0
 ]
 
--- a row of the words has one of these statuses
+-- a row of the arguments has one of these statuses
 words_low : (words : List (List ℕ)) (row : Row) → ComesOfWords words row → (row.status ≤ 3) ⊎ (row.status ≡ 7)
 words_low words row (refused_words refused) = inl (omega arith)
 words_low words row (wrong_value bad asks) = inl (omega arith)
@@ -133,7 +133,7 @@ pub data RanKey {S D : Type 0} (i : KeyInputs S D) (e : Ending) : Type 0 where
   apart : EndsInRow (ComesOfWords i.words) e → IsAsBefore i.request → IsAsBefore i.disks → IsUnread i.reading → IsAsBefore i.known → RanKey i e
   loads : (uid : List ℕ) → AsksLoad i.words uid → EndsLoad (load_inputs i uid) e → RanKey i e
 
--- where a load is asked for, a row of the words is want of memory
+-- if a load is asked for, a row of the arguments is out of memory
 words_of_load : {S D : Type 0} (i : KeyInputs S D) (uid : List ℕ) → AsksLoad i.words uid → IsUnread i.reading → IsAsBefore i.known
     → (row : Row) → ComesOfWords i.words row → ComesInLoad (load_inputs i uid) row
 words_of_load i uid asks unread same row (refused_words refused) = absurd (asks_taken i.words _ asks refused)
@@ -151,21 +151,21 @@ words_of_load i uid asks unread same row (done task text also prints) =
     let task_is : task ≡ Load uid = cc is in
     absurd (subst (λ (k : Task). PrintsDone k text) task_is prints)
 
--- the words ask for one load
+-- the arguments ask for one load
 one_load : (words : List (List ℕ)) (a b : List ℕ) → AsksLoad words a → AsksLoad words b → a ≡ b
 one_load words a b left right =
     let is : Ok (Load a) ≡ Ok (Load b) = asks_one words (Ok (Load a)) (Ok (Load b)) left right in
     cc is
 
 module _ {S D : Type 0} (i : KeyInputs S D) (e : Ending) where
-  -- what a load promises, where one is asked for
+  -- what a load promises, if one is asked for
   of_load : RanKey i e → (uid : List ℕ) → AsksLoad i.words uid → RunsLoad (load_inputs i uid) e
   of_load (apart ends unread untouched unasked same) uid asks =
       runs_load (load_inputs i uid) e (in_row (EndsInRow-more (words_of_load i uid asks unasked same) ends))
   of_load (loads other also ends) uid asks =
       subst (λ (u : List ℕ). RunsLoad (load_inputs i u) e) (one_load i.words other uid also asks) (runs_load (load_inputs i other) e ends)
 
-  -- a status that no row of the words has is that of a load
+  -- a status that no row of the arguments has is that of a load
   only_load : RanKey i e → (P : LoadInputs → Type 0) → (4 ≤ e.status) × (e.status ≢ 6) × (e.status ≢ 7)
       → ((uid : List ℕ) → RunsLoad (load_inputs i uid) e → P (load_inputs i uid)) → OverLoad i P
   only_load (apart ends unread untouched unasked same) P (high, not_6, not_7) of = elim (ends_low i.words e ends) [
@@ -186,7 +186,7 @@ module _ {S D : Type 0} (i : KeyInputs S D) (e : Ending) where
         | inr (least, most) ↦ inr least
       ]
 
-  -- where it isn't that of a load, it is that of a row of the words
+  -- if it isn't that of a load, it is that of a row of the arguments
   not_load : {A : Type 0} → RanKey i e → (e.status ≡ 1) ⊎ (e.status ≡ 2) ⊎ (e.status ≡ 3) → (EndsInRow (ComesOfWords i.words) e → A) → A
   not_load (apart ends unread untouched unasked same) low of = of ends
   not_load (loads uid asks ends) low of = (let among = no_low uid ends in absurd (omega (arith, low, among)))

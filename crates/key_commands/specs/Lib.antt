@@ -1,7 +1,17 @@
+pub mod Counting
+pub mod Finding
+pub mod LoadTexts
+pub mod Answers
+pub mod Loader
+pub mod Opening
+pub mod Loading
+pub mod Loads
+pub mod Promises
 pub mod Subcommands
 pub mod Parsing
 pub mod Tasks
 pub mod Texts
 pub mod Rows
 pub mod Keys
+pub mod Files
 pub mod Steps

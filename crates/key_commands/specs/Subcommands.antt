@@ -21,7 +21,7 @@ values_of Confirm =
 values_of Bootmac = codes "KEY" ∷ codes "IMAGE" ∷ []
 values_of Load = codes "FILE" ∷ codes "UID" ∷ []
 
--- the words after the program's name begin with the subcommand's
+-- the arguments after the program's name begin with the subcommand's
 abbrev pub NamesSubcommand : List (List ℕ) → Subcommand → Type 0
 NamesSubcommand [] s = ⊥
 NamesSubcommand (word ∷ words) s = word ≡ name_of s

@@ -67,7 +67,7 @@ boot_task key_value image_value = do
 unfoldable pub bootmac_of : List (List ℕ) → Result Task BadValue
 bootmac_of values = boot_task (key_form (nth_word values 1)) (hex_bytes_form 1 65536 (nth_word values 2))
 
--- FILE UID, of which FILE may be any text
+-- FILE UID; FILE may be any text
 unfoldable pub load_task : List (List ℕ) → Result Task BadValue
 load_task values = do
   uid ← value_at 2 (engine_uid_form (nth_word values 2))

@@ -13,7 +13,7 @@ use Rattle.key_commands.specs.declared.tasks.Task.{Task}
 use Rattle.key_commands.specs.declared.tasks.Task.TheVariants.{Words, Load}
 use Rattle.key_commands.specs.declared.tasks.WordTask.TheVariants.{Make, Read, Confirm, Bootmac}
 
--- the line that is printed where the words are of no form
+-- the line that is printed if the arguments are malformed
 abbrev pub key_usage : List ℕ
 key_usage = line (codes "usage: make, read, confirm, bootmac, load")
 
@@ -49,7 +49,7 @@ content_rows u =
 abbrev pub update_text : Update → List ℕ
 update_text u = target_rows u (content_rows u)
 
--- what is printed where a task is done: the request that is built, the update that is carried, the confirmation, or the
+-- what is printed if a task is done: the request that is built, the update that is carried, the confirmation, or the
 -- boot MAC; a load has lines, and rows of its own
 abbrev pub PrintsDone : Task → List ℕ → Type 0
 PrintsDone (Words (Make update authkey)) text =
@@ -61,7 +61,7 @@ PrintsDone (Words (Confirm reply update)) text =
 PrintsDone (Words (Bootmac key image)) text = text ≡ mac_text (bootmac key image)
 PrintsDone (Load uid) text = ⊥
 
--- what is printed where the messages are refused: ID or AuthID is no slot's, M3 is wrong, or M4 and M5 are not the
+-- what is printed if the messages are refused: ID or AuthID is no slot's, M3 is wrong, or M4 and M5 are not the
 -- update's
 abbrev pub Denies : Task → List ℕ → Type 0
 Denies (Words (Make update authkey)) text = ⊥

@@ -3,7 +3,7 @@ ghost use Rattle.std.specs.Prelude.{◌≡◌, IfOk};
 ghost use Rattle.secure_boot.specs.Booting.{IsImage};
 ghost use Rattle.text_lines.specs.Forms.{hex_bytes_form};
 
-use byte_lists::Bytes;
+use basics::Bytes;
 use std::alloc::Global;
 use std::marker::Model;
 use text_lines::{Memory, forms};
@@ -26,8 +26,8 @@ impl Model for Image {
 }
 
 impl Image {
-    /// The image that a word is: an even number of hexadecimal digits of either case, 2 to 131,072; none exactly where
-    /// the word is of another form.
+    /// The image that a word is: an even number of hexadecimal digits of either case, 2 to 131,072; none exactly if the
+    /// word is of another form.
     pub fn of_word(alloc: Global, word: &[u8]) -> Result<Option<Image>, Memory>
         ensures { IfOk result (λ found. found ≡ hex_bytes_form 1 65536 word.now) }
     {

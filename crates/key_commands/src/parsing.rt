@@ -1,19 +1,19 @@
-//! The words of a subcommand, read by `clap` as those of one simple command whose arguments are required texts.
+//! The arguments of a subcommand, read by `clap` as those of one simple command whose arguments are required texts.
 ghost use Rattle.std.specs.Prelude.{◌≡◌, ◌≢◌, ◌⊎◌, [], false, map, string_bytes, IfOk, IfErr};
 ghost use Rattle.clap.specs.Words.{app_of, rows_of, rule_of, found_of};
 ghost use Rattle.clap.specs.declared.error.kind.ErrorKind.TheVariants.{OutOfMemory};
-ghost use Rattle.answer_rows.specs.Rows.{row_of, memory_row};
+ghost use Rattle.program_edge.specs.Rows.{row_of, memory_row};
 ghost use Rattle.key_commands.specs.Texts.{key_usage};
 ghost use Rattle.key_commands.specs.Parsing.{required_text, simple_command, command_of, refusals, found, value_in};
 
 use crate::refusals::usage_refusal;
 use crate::subcommands::Subcommand;
-use answer_rows::Refusal;
 use clap::error::ErrorKind;
 use clap::{Arg, ArgMatches, Command};
+use program_edge::Refusal;
 use std::alloc::{AllocError, Global};
 
-/// What `clap` finds in the words from the subcommand on, or the refusal of words that it doesn't take.
+/// What `clap` finds in the arguments from the subcommand on, or the refusal of arguments that it doesn't take.
 pub fn parse<'a>(
     alloc: Global,
     subcommand: Subcommand,
@@ -36,7 +36,7 @@ pub fn parse<'a>(
     Ok(matches)
 }
 
-/// The simple command that reads the words of a subcommand.
+/// The simple command that reads the arguments of a subcommand.
 fn command_of<'a>(alloc: Global, subcommand: Subcommand) -> Result<Command<'a>, AllocError>
     ensures { IfOk result (λ command. app_of command ≡ command_of subcommand) }
 {

@@ -3,7 +3,7 @@ ghost use Rattle.std.specs.Prelude.{◌≡◌, map, string_bytes, IfSome, IfNone
 ghost use Rattle.key_commands.specs.Subcommands.{NamesSubcommand, name_of};
 ghost use Rattle.key_commands.specs.declared.subcommands.Subcommand.{Subcommand};
 
-/// What the words ask for.
+/// What the arguments ask for.
 #[derive(Clone, Copy, Debug, PartialEq, Eq)]
 pub enum Subcommand {
     /// `make UID ID AUTH COUNTER FLAGS NEWKEY AUTHKEY`: the messages M1, M2 and M3.
@@ -19,7 +19,7 @@ pub enum Subcommand {
     Load,
 }
 
-/// The subcommand that the first of the words names, the program's name left out.
+/// The subcommand that the first of the arguments names, the program's name left out.
 pub fn subcommand_of(words: &[String]) -> Option<Subcommand>
     ensures found { IfSome result (NamesSubcommand (map string_bytes words.now)) }
     ensures none { IfNone result ((s : Subcommand) → ¬ NamesSubcommand (map string_bytes words.now) s) }

@@ -10,7 +10,7 @@ ghost use Rattle.key_commands.specs.declared.subcommands.Subcommand.TheVariants 
 use crate::image::Image;
 use crate::parsing::value_of;
 use crate::subcommands::Subcommand;
-use byte_lists::Block;
+use basics::Block;
 use clap::ArgMatches;
 use key_slots::Flags;
 use memory_update::{Reply, Request, Uid, Update};
@@ -20,13 +20,13 @@ use text_lines::Memory;
 /// What a subcommand is to do.
 #[derive(Debug, Drop)]
 pub enum Task {
-    /// A task over the words alone.
+    /// A task over the arguments alone.
     Words(WordTask),
     /// Load the requests of a source into the engine with this identifier.
     Load { uid: Uid },
 }
 
-/// What is done over the words alone, without the source of requests and the disks.
+/// What is done over the arguments alone, without the source of requests and the disks.
 #[derive(Debug, Drop)]
 pub enum WordTask {
     /// Make the request that puts the update into an engine whose slot `auth` holds this key.
@@ -136,7 +136,7 @@ fn bootmac_of(alloc: Global, matches: &ArgMatches<'_>) -> Result<Result<Task, Ba
     Ok(boot_task(key, image))
 }
 
-/// The boot MAC of these two values, where both are of their forms.
+/// The boot MAC of these two values, if both are of their forms.
 #[tactic(auto, unfolding(crate::specs::Tasks::boot_task))]
 fn boot_task(key: Option<Block>, image: Option<Image>) -> Result<Task, BadValue>
     ensures { result ≡ boot_task key image }
@@ -154,7 +154,7 @@ fn load_task(matches: &ArgMatches<'_>) -> Result<Task, BadValue>
     Ok(Task::Load { uid })
 }
 
-/// The value with this number, counted from 1, where it is of its form.
+/// The value with this number, counted from 1, if it is of its form.
 fn value_at<T: Drop>(number: u8, value: Option<T>) -> Result<T, BadValue>
     ensures { result ≡ value_at number value }
 {

@@ -6,7 +6,7 @@ ghost use Rattle.key_commands.specs.Texts.{mac_text as mac_line, request_text as
 ghost use Rattle.key_commands.specs.Texts.{update_text as update_lines, target_rows, content_rows};
 ghost use Rattle.key_commands.specs.Texts.{value_text as value_line};
 
-use byte_lists::Block;
+use basics::Block;
 use hex::encode;
 use memory_update::{Request, Update};
 use secoc_words::texts::flags_text;
@@ -37,7 +37,7 @@ pub fn mac_text(alloc: Global, mac: &Block) -> Result<String, AllocError>
     format!(in alloc; "{digits}\n")
 }
 
-/// The digits of two blocks, one behind the other.
+/// The digits of two blocks, one after the other.
 fn two_text(alloc: Global, blocks: &[Block; 2]) -> Result<String, AllocError>
     ensures { IfOk result (λ text. string_bytes text ≡ flat_map encode_lower blocks.now) }
 {

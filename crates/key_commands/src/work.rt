@@ -1,4 +1,4 @@
-//! What a task over the words alone comes to.
+//! What a task over the arguments alone comes to.
 ghost use Rattle.std.specs.Prelude.{◌≡◌, IfOk};
 ghost use Rattle.key_commands.specs.Steps.{Does};
 ghost use Rattle.key_commands.specs.declared.tasks.Task.TheVariants.{Words};
@@ -7,13 +7,13 @@ ghost use Rattle.key_commands.specs.declared.tasks.WordTask.TheVariants.{Make, R
 use crate::image::Image;
 use crate::tasks::WordTask;
 use crate::texts::{mac_text, request_text, update_text};
-use answer_rows::Refusal;
 use memory_update::{Reply, Request, Unseal, Update, build, is_confirmed, unseal};
+use program_edge::Refusal;
 use secure_boot::boot_mac;
 use she_aes::{Block, expand};
 use std::alloc::{AllocError, Global};
 
-/// Does a task: the text that is printed where it is done, or why its messages are refused.
+/// Does a task: the text that is printed if it is done, or why its messages are refused.
 pub fn do_task(alloc: Global, task: &WordTask) -> Result<String, Refusal>
     ensures { Does (Words task.now) result }
 {

@@ -49,7 +49,7 @@ pair_of_rule target auth r =
       ]
     ]
 
--- an answer that is true just where the rule allows it is right of the pairs
+-- an answer that is true exactly if the rule allows it is right of the pairs
 decides : (answer : Bool) (target auth : ℕ) → (answer ≡ true → Authorises target auth)
     → (Authorises target auth → answer ≡ true) → IsTrue answer ↔ Contains pairs (target, auth)
 decides answer target auth to from = (λ h. pair_of_rule target auth (to h), λ p. from (rule_of_pair target auth p))

@@ -9,8 +9,8 @@ pairs =
     ∷ (8, 1) ∷ (8, 8) ∷ (9, 1) ∷ (9, 9) ∷ (10, 1) ∷ (10, 10) ∷ (11, 1) ∷ (11, 11) ∷ (12, 1) ∷ (12, 12) ∷ (13, 1)
     ∷ (13, 13) ∷ []
 
--- the same by their rule: a target of 1 to 13, and as authority slot 1, or slot 2 for target 3, or the target itself
--- for another target than 3
+-- the same by their rule: a target of 1 to 13. Its authority is slot 1, or slot 2 for target 3, or the target itself if
+-- that isn't 3
 abbrev pub Authorises : ℕ → ℕ → Type 0
 Authorises target auth =
     (1 ≤ target) × (target ≤ 13) × ((auth ≡ 1) ⊎ ((target ≡ 3) × (auth ≡ 2)) ⊎ ((target ≢ 3) × (auth ≡ target)))

@@ -25,20 +25,20 @@ usable_at_slot slots s slot good purpose answer high at is =
     let e : nat_lt s 4 ≡ false = search (rules, nat_tests) in
     rw (e, at) is
 
--- where no refusal applies, the first test fails, and none of the rest applies
+-- if no refusal applies, the first test fails, and none of the rest applies
 pub none_of_first : (test : Bool) (refusal : Erc) (rest : List (Bool × Erc))
     → first_applying ((test, refusal) ∷ rest) ≡ None → (test ≡ false) × (first_applying rest ≡ None)
 none_of_first true refusal rest none = cc
 none_of_first false refusal rest none = (refl, none)
 
--- where none of the first refusals applies, the others decide
+-- if none of the first refusals applies, the others decide
 pub first_applying-append : (first rest : List (Bool × Erc)) → first_applying first ≡ None
     → first_applying (first ++ rest) ≡ first_applying rest
 first_applying-append [] rest none = refl
 first_applying-append ((true, refusal) ∷ first) rest none = cc
 first_applying-append ((false, refusal) ∷ first) rest none = first_applying-append first rest none
 
--- where no refusal of a list applies, none of its first part applies, and none of the rest
+-- if no refusal of a list applies, none of its first part applies, and none of the rest
 pub none_of_append : (first rest : List (Bool × Erc)) → first_applying (first ++ rest) ≡ None
     → (first_applying first ≡ None) × (first_applying rest ≡ None)
 none_of_append [] rest none = (refl, none)

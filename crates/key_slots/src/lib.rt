@@ -20,4 +20,4 @@ pub use numbers::{Counter28, SlotId};
 pub use refusals::Erc;
 pub use usage::{Purpose, usable};
 // a key
-pub use byte_lists::Block;
+pub use basics::Block;

@@ -6,7 +6,7 @@ ghost use Rattle.key_slots.specs.Names.{shown_slot};
 ghost use Rattle.key_slots.specs.Slots.{IsSlot, IsSlots};
 
 use crate::numbers::{Counter28, SlotId};
-use byte_lists::Block;
+use basics::Block;
 use std::fmt;
 use std::marker::Model;
 
@@ -19,7 +19,7 @@ pub struct Flags {
     pub boot: bool,
     /// DEBUGGER_PROTECTION: stored, without further effect.
     pub debugger: bool,
-    /// KEY_USAGE: the key serves MACs where it is set, and ciphers where it is not.
+    /// KEY_USAGE: the key serves MACs if it is set, and ciphers if it is not.
     pub usage: bool,
     /// WILDCARD: an update with a zero UID is refused.
     pub wildcard: bool,

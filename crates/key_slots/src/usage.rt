@@ -17,7 +17,7 @@ pub enum Purpose {
     Cipher,
 }
 
-// The refusals in their order, each behind the test for which it applies.
+// The refusals in their order, each after the test for which it applies.
 macro_rules! refuse_first {
     ($($applies:expr => $refusal:expr),+ $(,)?) => {{
         $(if $applies {

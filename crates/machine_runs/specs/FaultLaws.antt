@@ -2,7 +2,7 @@
 use Rattle.std.specs.Prelude.{◌≡◌, ℕ, ◌+◌, ◌≤◌, ◌⊎◌, List, [], ◌∷◌, Bool, true, false, cond, count_by}
 use Rattle.std.proofs.Common.{refl, ap, subst, sym, ◌∙◌, arith, inl, inr}
 use Rattle.std.proofs.lemmas.List.Sums.{sum_by-append}
-use Rattle.fault_count.specs.FaultCount.{last_count, Rose}
+use Rattle.basics.specs.FaultCount.{last_count, Rose}
 use Rattle.machine_runs.specs.Run.{Moment, Run, lines_in}
 use Rattle.machine_runs.specs.Faults.{Counts, FailsWithin, QuietUntilArmed}
 
@@ -17,7 +17,7 @@ counted_on true before mid after n later rose more (inl most) =
 count_by-cons : {L : Type 0} (p : L → Bool) (x : L) (xs : List L) → count_by p (x ∷ xs) ≡ cond (p x) 1 0 + count_by p xs
 count_by-cons p x xs = sum_by-append (λ y. cond (p y) 1 0) (x ∷ []) xs ∙ omega arith
 
--- where each step counts its failures, the failed lines of a run are at most the rise of the count
+-- if each step counts its failures, the failed lines of a run are at most the rise of the count
 pub Run-fails_within : {C L S : Type 0} (steps : S → C → L → S → Type 0) (fails : L → Bool) (count : S → ℕ)
     → ((s : S) (c : C) (l : L) (t : S) → steps s c l t → Counts fails count s l t)
     → (start : S) (ms : List (Moment C L S)) (now : S) → Run steps start ms now → FailsWithin fails count start ms now
@@ -35,8 +35,8 @@ Run-fails_within steps fails count each start (m ∷ ms) now run =
           (count_by fails (lines_in ms)) step.later step.rose rest.later rest.within);
     }
 
--- where a step from a quiet state that arms nothing stays quiet and doesn't fail, a run from a quiet state is quiet
--- until something is armed
+-- a run from a quiet state is quiet until something is armed, if each step from a quiet state that arms nothing stays
+-- quiet and doesn't fail
 pub Run-quiet_until_armed : {C L S : Type 0} (steps : S → C → L → S → Type 0) (arms : C → Bool) (fails : L → Bool)
     (Quiet : S → Type 0)
     → ((s : S) (c : C) (l : L) (t : S) → Quiet s → arms c ≡ false → steps s c l t → Quiet t × (fails l ≡ false))

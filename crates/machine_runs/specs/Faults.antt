@@ -1,9 +1,9 @@
 -- Failed lines of a run, against the count of faults of what failed.
 use Rattle.std.specs.Prelude.{◌≡◌, ℕ, ◌+◌, ◌≤◌, ◌⊎◌, List, [], ◌∷◌, Bool, true, false, count_by}
-use Rattle.fault_count.specs.FaultCount.{last_count, Rose}
+use Rattle.basics.specs.FaultCount.{last_count, Rose}
 use Rattle.machine_runs.specs.Run.{Moment, lines_in}
 
--- a step whose count of faults doesn't fall, and rose where its line tells a failure
+-- a step whose count of faults doesn't fall, and rose if its line tells a failure
 pub record Counts {L S : Type 0} (fails : L → Bool) (count : S → ℕ) (before : S) (line : L) (after : S) : Type 0 where
   pub later : count before ≤ count after
   pub rose : fails line ≡ true → Rose (count before) (count after)

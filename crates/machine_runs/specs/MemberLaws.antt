@@ -15,7 +15,7 @@ pub MemberSteps-length : {C L S : Type 0} {steps : S → C → L → S → Type 
 MemberSteps-length {members = members} {place = place} step =
     ap length step.others ∙ length-set members place step.after
 
--- where the place is i, the member i did the step, and else it is as before; a run of it from there is one from here
+-- if the place is i, the member i did the step, and else it is as before; a run of it from there is one from here
 MemberSteps-run : {C L S : Type 0} (steps : S → C → L → S → Type 0) (members later : List S) (place i : ℕ) (command : C)
     (line : L) (default : S) (rest : List (Moment C L S)) (now : S)
     → i < length members → MemberSteps steps members place command line later
@@ -46,7 +46,7 @@ MemberSteps-run {C} {L} {S} steps members later place i command line default res
           (subst (λ s. Run steps s rest now) new run)
     ]
 
--- where each step is one of the member that its command concerns, a run is, for each member, a run of that member
+-- if each step is one of the member that its command concerns, a run is, for each member, a run of that member
 pub Run-of_member : {B C L S W : Type 0} (all : W → B → L → W → Type 0) (steps : S → C → L → S → Type 0)
     (members : W → List S) (place : B → ℕ) (act : W → B → C) (default : S)
     → ((w : W) (b : B) (l : L) (v : W) → all w b l v → MemberSteps steps (members w) (place b) (act w b) l (members v))

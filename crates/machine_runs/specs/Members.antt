@@ -11,8 +11,8 @@ pub record MemberSteps {C L S : Type 0} (steps : S → C → L → S → Type 0)
   pub step : steps before command line after
   pub others : later ≡ set members place after
 
--- the moments of the member at this place, in a run from the state `start`: what it was told to do there, its line, and
--- its state after it
+-- the moments of the member at this place, in a run from the state `start`: its act there, its line, and its state
+-- after it
 abbrev pub of_member : {B C L S W : Type 0} → (W → List S) → (B → ℕ) → (W → B → C) → S → ℕ → W → List (Moment B L W)
     → List (Moment C L S)
 of_member members place act default i start [] = []

@@ -19,7 +19,7 @@ Run-adds_to steps past P adds each start (m ∷ ms) now holds run =
           (Run-adds_to steps past P adds each m.after ms now step.1 run.1),
     )
 
--- where each step from a state with P adds a part that its moment may add, and keeps P, the past of a run is traced
+-- if each step from a state with P adds a part that its moment may add, and keeps P, the past of a run is traced
 pub Run-traced : {C L S E : Type 0} (steps : S → C → L → S → Type 0) (past : S → List E) (P : S → Type 0)
     (begins : S → List E → Type 0) (adds : List E → Moment C L S → List E → Type 0)
     → ((s : S) (m : Moment C L S) → P s → steps s m.command m.line m.after

@@ -1,7 +1,7 @@
 -- Runs of a machine, each as one list of moments.
 use Rattle.std.specs.Prelude.{◌≡◌, List, [], ◌∷◌, ◌++◌, map}
 
--- a command, the line that was told for it, and the state after it
+-- a command, its line, and the state after it
 pub record Moment (C L S : Type 0) : Type 0 where
   pub command : C
   pub line : L
@@ -23,7 +23,7 @@ abbrev pub seen_as : {C L S D T : Type 0} → (C → D) → (S → T) → List (
 seen_as command state moments =
     map (λ m. record { command = command m.command; line = m.line; after = state m.after }) moments
 
--- the moments of another machine that these are made of, where each is made of those that `parts` gives
+-- the moments of another machine that these are made of, if each is made of those that `parts` gives
 abbrev pub made_of : {C L S D K T : Type 0} → (S → Moment C L S → List (Moment D K T)) → S → List (Moment C L S)
     → List (Moment D K T)
 made_of parts start [] = []

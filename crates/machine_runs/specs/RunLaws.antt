@@ -16,7 +16,7 @@ pub Run-more : {C L S : Type 0} (steps : S → C → L → S → Type 0) (start 
     → Run steps start ms now → steps now m.command m.line m.after → Run steps start (ms ++ m ∷ []) m.after
 Run-more steps start ms now m run step = Run-append steps start ms (m ∷ []) now m.after run (step, refl)
 
--- a front of a run is one, and so is the rest
+-- a prefix of a run is one, and so is the rest
 pub Run-split : {C L S : Type 0} (steps : S → C → L → S → Type 0) (start : S) (ms more : List (Moment C L S)) (now : S)
     → Run steps start (ms ++ more) now → (mid : S) × Run steps start ms mid × Run steps mid more now
 Run-split steps start [] more now run = (start, refl, run)
@@ -35,7 +35,7 @@ Run-keeps steps R keeps start done (m ∷ ms) now holds run =
     subst (λ xs. R xs now) (append_assoc done (m ∷ []) ms)
     (Run-keeps steps R keeps m.after (done ++ m ∷ []) ms now (keeps done start m holds run.0) run.1)
 
--- where each step from a state with P is, seen so, a step of another machine, and keeps P, a run is a run of the other
+-- if each step from a state with P is, seen so, a step of another machine, and keeps P, a run is a run of the other
 -- machine
 pub Run-seen_as : {C L S D T : Type 0} (steps : S → C → L → S → Type 0) (others : T → D → L → T → Type 0)
     (command : C → D) (state : S → T) (P : S → Type 0)
@@ -47,7 +47,7 @@ Run-seen_as steps others command state P simulates start (m ∷ ms) now holds ru
     let seen = simulates start m.command m.line m.after holds run.0 in
     (seen.0, Run-seen_as steps others command state P simulates m.after ms now seen.1 run.1)
 
--- where each step from a state with P is a run of another machine, and keeps P, a run is a run of the other machine
+-- if each step from a state with P is a run of another machine, and keeps P, a run is a run of the other machine
 pub Run-made_of : {C L S D K T : Type 0} (steps : S → C → L → S → Type 0) (others : T → D → K → T → Type 0)
     (parts : S → Moment C L S → List (Moment D K T)) (state : S → T) (P : S → Type 0)
     → ((s : S) (m : Moment C L S) → P s → steps s m.command m.line m.after

@@ -20,7 +20,7 @@ pub fn run_and_a_further_moment_is_a_run<M: Steps>()
         → Run M.steps start (moments ++ m ∷ []) m.after }
 {}
 
-/// A front of a run is a run, and so is the rest, from where the front ended.
+/// A prefix of a run is a run, and so is the rest, from where the prefix ended.
 pub fn front_of_a_run_is_a_run<M: Steps>()
     ensures { (start now : M.State) (front rest : List (Moment M.Command M.Line M.State))
         → Run M.steps start (front ++ rest) now
@@ -36,7 +36,7 @@ pub fn what_each_step_keeps_holds_at_the_end<M: Claim>()
         → Run M.steps start moments now → M.holds moments now }
 {}
 
-/// Where each step is a step of the machine that it is seen as, a run is a run of that machine.
+/// If each step is a step of the machine that it is seen as, a run is a run of that machine.
 pub fn run_is_a_run_of_the_machine_that_it_is_seen_as<M: View>()
     ensures { (start now : M.State) (moments : List (Moment M.Command M.Line M.State))
         → ((s : M.State) (c : M.Command) (l : M.Line) (t : M.State) → M.holds s → M.steps s c l t
@@ -45,8 +45,7 @@ pub fn run_is_a_run_of_the_machine_that_it_is_seen_as<M: View>()
         → Run M.seen_steps (M.state start) (seen_as M.command M.state moments) (M.state now) }
 {}
 
-/// Where each step is made of steps of another machine, a run is made of them, and is a run of that
-/// machine.
+/// If each step is made of steps of another machine, a run is made of them, and is a run of that machine.
 pub fn run_of_made_steps_is_a_run_of_their_parts<M: Composite>()
     ensures { (start now : M.State) (moments : List (Moment M.Command M.Line M.State))
         → ((s : M.State) (m : Moment M.Command M.Line M.State) → M.holds s → M.steps s m.command m.line m.after
@@ -55,8 +54,7 @@ pub fn run_of_made_steps_is_a_run_of_their_parts<M: Composite>()
         → Run M.part_steps (M.state start) (made_of M.parts start moments) (M.state now) }
 {}
 
-/// Where each step is one of the member that its command concerns, a run is, for each member, a run
-/// of that member.
+/// If each step is one of the member that its command concerns, a run is, for each member, a run of that member.
 pub fn run_is_a_run_of_each_member<M: Members>()
     ensures { (start now : M.State) (moments : List (Moment M.Command M.Line M.State)) (i : ℕ) (d : M.Member)
         → ((s : M.State) (c : M.Command) (l : M.Line) (t : M.State) → M.steps s c l t
@@ -66,16 +64,16 @@ pub fn run_is_a_run_of_each_member<M: Members>()
         (get_or (M.members now) i d) }
 {}
 
-/// Where each step counts its failure, the failed lines of a run are at most the rise of the count, or
-/// it stands at its last value.
+/// The failed lines of a run are at most the rise of the count, or it stands at its last value, if each step counts its
+/// failure.
 pub fn failures_are_within_the_rise_of_the_count<M: Faults>()
     ensures { (start now : M.State) (moments : List (Moment M.Command M.Line M.State))
         → ((s : M.State) (c : M.Command) (l : M.Line) (t : M.State) → M.steps s c l t → Counts M.fails M.count s l t)
         → Run M.steps start moments now → FailsWithin M.fails M.count start moments now }
 {}
 
-/// Where a step from a quiet state that arms nothing stays quiet and doesn't fail, a run from a quiet
-/// state doesn't fail before something is armed.
+/// A run from a quiet state doesn't fail before something is armed, if each step from a quiet state that arms nothing
+/// stays quiet and doesn't fail.
 pub fn run_is_quiet_until_something_is_armed<M: Faults>()
     ensures { (start now : M.State) (moments : List (Moment M.Command M.Line M.State))
         → ((s : M.State) (c : M.Command) (l : M.Line) (t : M.State) → M.quiet s → M.arms c ≡ false → M.steps s c l t
@@ -83,7 +81,7 @@ pub fn run_is_quiet_until_something_is_armed<M: Faults>()
         → M.quiet start → Run M.steps start moments now → QuietUntilArmed M.arms M.fails moments }
 {}
 
-/// Where each step adds to the past what its moment may add, the past of a run is traced.
+/// If each step adds to the past what its moment may add, the past of a run is traced.
 pub fn past_of_a_run_is_traced<M: Past>()
     ensures { (start now : M.State) (moments : List (Moment M.Command M.Line M.State))
         → ((s : M.State) (m : Moment M.Command M.Line M.State) → M.holds s → M.steps s m.command m.line m.after

@@ -1,11 +1,11 @@
 //! Runs of machines: what a run is, and what holds of every run of every machine.
 //!
-//! A machine does commands, tells one line for each, and has a state. Its [`Steps`] are a relation between
-//! states. A run is one list of moments: a command, its line, and the state after it. The empty list, a run
-//! and a further moment, and a prefix of a run are runs. What holds at first, and each step keeps, holds at
-//! the end. If each step says so: a run is one of the machine that it is seen as or made of, and of each
-//! member; failures are at most one per fault; a quiet state gives none before something is armed; the past
-//! is traced. The laws are contracts of functions with empty bodies.
+//! A machine does commands, answers each with one line, and has a state. Its [`Steps`] are a relation between states. A
+//! run is one list of moments: a command, its line, and the state after it. The empty list, a run and a further moment,
+//! and a prefix of a run are runs. What holds at first, and each step keeps, holds at the end. If each step says so: a
+//! run is one of the machine that it is seen as or made of, and of each member; failures are at most one per fault; a
+//! quiet state gives none before something is armed; the past is traced. The laws are contracts of functions with empty
+//! bodies.
 #![tactic(auto)]
 
 mod laws;

@@ -94,7 +94,7 @@ pub trait Members {
 
     ghost steps: { State → Self.Command → Self.Line → State → Type 0 };
 
-    /// What a member is told to do.
+    /// The acts of a member.
     type Act;
 
     ghost Member: { Type 0 };

@@ -1,8 +1,8 @@
 -- What a reply confirms
 use Rattle.std.proofs.Common.{◌≡◌, ℕ, ◌+◌, ◌*◌, ◌^◌, ◌<◌, List, [], ◌∷◌, refl, sym, ap, ◌∙◌, arith}
 use Rattle.std.specs.List.{concat}
-use Rattle.byte_lists.specs.Numbers.{number_of, bytes_of}
-use Rattle.byte_lists.specs.NumberLaws.{IsBytes-bytes_of, same_number}
+use Rattle.basics.specs.Numbers.{number_of, bytes_of}
+use Rattle.basics.specs.NumberLaws.{IsBytes-bytes_of, same_number}
 use Rattle.she_aes.specs.Cipher.{IsBlock, enc, dec}
 use Rattle.she_aes.specs.CipherFacts.{IsBlock-enc}
 use Rattle.she_aes.proofs.CallerLemmas.{dec-enc}
@@ -44,7 +44,7 @@ same_counter u v is_u is_v sealed keys =
     let numbers : u.counter * 2 ^ 100 + 2 ^ 99 ≡ v.counter * 2 ^ 100 + 2 ^ 99 = same_number 16 (u.counter * 2 ^ 100 + 2 ^ 99) (v.counter * 2 ^ 100 + 2 ^ 99) (omega (arith, is_u.counter_fits)) (omega (arith, is_v.counter_fits)) blocks in
     omega arith
 
--- one reply confirms at most one update of a unit under one key, but for its flags and its UID
+-- one reply confirms at most one update of a unit under one key, except for its flags and its UID
 pub same_confirmed : (r : Reply) (u v : Update) (uid other : List ℕ) → IsUpdate u → IsUpdate v → IsUid uid → IsUid other → Confirms r u uid → Confirms r v other → SameConfirmed uid other u v
 same_confirmed r u v uid other is_u is_v is_uid is_other x y =
     let m1 : List ℕ = bytes_of 16 (head_number uid u.id u.auth) in

@@ -2,9 +2,9 @@
 use Rattle.std.proofs.Common.{◌≡◌, ℕ, ◌+◌, ◌*◌, ◌/◌, ◌%◌, ◌^◌, ◌<◌, List, [], ◌∷◌, length, get_or, take, sym, ap, ◌∙◌, subst, arith}
 use Rattle.std.specs.List.{All, concat}
 use Rattle.std.proofs.lemmas.List.Elements.{All-head, All-tail}
-use Rattle.byte_lists.specs.Numbers.{number_of, bytes_of}
-use Rattle.byte_lists.specs.NumberLaws.{number_of-lt, bytes_of-number_of}
-use Rattle.byte_lists.specs.Blocks.{IsBlock, zero_block}
+use Rattle.basics.specs.Numbers.{number_of, bytes_of}
+use Rattle.basics.specs.NumberLaws.{number_of-lt, bytes_of-number_of}
+use Rattle.basics.specs.Blocks.{IsBlock, zero_block}
 use Rattle.she_aes.specs.Modes.{cbc_inverse}
 use Rattle.she_aes.specs.ModeLaws.{length-cbc_inverse}
 use Rattle.she_kdf.specs.Derivation.{kdf}

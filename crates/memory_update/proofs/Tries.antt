@@ -54,7 +54,7 @@ after_a_boot : refusal true 5 5 ≡ None
 unfolding is_pair
 after_a_boot = refl
 
--- BOOT_PROTECTION of the target plays no part where another slot authorises
+-- BOOT_PROTECTION of the target plays no part if another slot authorises
 target_behind_a_boot : refusal false 5 1 ≡ None
 unfolding is_pair
 target_behind_a_boot = refl

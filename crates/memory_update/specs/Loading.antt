@@ -25,7 +25,7 @@ key_in (Filled key counter flags) = key
 
 -- ---- who is refused
 
--- the update is for the engine with this UID, or, where the target lets it, for every engine
+-- the update is for the engine with this UID, or, if the target lets it, for every engine
 abbrev pub is_meant : List ℕ → Slot → List ℕ → Bool
 is_meant uid target update_uid =
     let for_all = bytes_eq update_uid (replicate 15 0) in
@@ -65,7 +65,7 @@ Allows slots good uid request (Ok update) =
     (first_applying (load_refusals slots good uid request) ≡ None)
     × Carries request (authorising_key slots request) update
 
--- what holds where no refusal applies
+-- what holds if no refusal applies
 pub record NoneRefuses (slots : List Slot) (good : Bool) (uid : List ℕ) (request : Request) : Type 0 where
   pub pair : is_pair (id_of request.m1) (auth_of request.m1) ≡ true
   pub head : first_applying (head_refusals slots good (id_of request.m1) (auth_of request.m1)) ≡ None

@@ -6,7 +6,7 @@ use Rattle.std.specs.Str.{bytes_eq}
 use Rattle.std.proofs.lemmas.Bool.{and_from, and_parts, not-false, lt-ltb, ltb-true, false_from_ne_true}
 use Rattle.std.proofs.lemmas.List.Elements.{All-replicate}
 use Rattle.std.proofs.lemmas.Slice.Eq.{bytes_eq-Decides}
-use Rattle.byte_lists.specs.Blocks.{IsBlock}
+use Rattle.basics.specs.Blocks.{IsBlock}
 use Rattle.key_slots.specs.declared.memory.Slot.{Slot}
 use Rattle.key_slots.specs.declared.memory.Slot.TheVariants.{Empty, Filled}
 use Rattle.key_slots.specs.declared.refusals.Erc.{Erc}
@@ -40,7 +40,7 @@ pub IsBlock-authorising_key : (slots : List Slot) (request : Request) → IsSlot
 IsBlock-authorising_key slots request is_slots =
     IsBlock-key_in (slot_at slots (auth_of request.m1)) (IsSlot-slot_at slots (auth_of request.m1) is_slots.slots_are)
 
--- ---- where no refusal applies
+-- ---- if no refusal applies
 
 pub none_refuses : (slots : List Slot) (good : Bool) (uid : List ℕ) (request : Request)
     → first_applying (load_refusals slots good uid request) ≡ None → NoneRefuses slots good uid request
@@ -121,7 +121,7 @@ counter_of-Allows slots good uid request u is_slots x =
     let Than : Update → Type 0 = λ v. With (id_of request.m1) v.counter in
     subst At (id_of-Allows slots good uid request u x).0 (subst Than same facts.greater)
 
--- ---- the test of the last refusal, where a request carries an update
+-- ---- the test of the last refusal, if a request carries an update
 
 pub is_fit-carried : (uid : List ℕ) (target : Slot) (authkey : List ℕ) (request : Request) (u : Update)
     → IsBlock authkey → Carries request authkey u
@@ -152,8 +152,8 @@ is_meant-own uid target not_zero =
     ap (λ z. (bytes_eq uid uid || z) && not (z && (flags_of target).wildcard)) for_all
     ∙ ap (λ o. (o || false) && not (false && (flags_of target).wildcard)) own
 
--- a request that is built is taken, where the first four refusals don't apply, the authorising key is the given one and
--- the target's counter is lower
+-- a request that is built is taken on three conditions: the first four refusals don't apply, the authorising key is the
+-- given one, and the target's counter is lower
 pub Allows-Builds : (slots : List Slot) (good : Bool) (uid : List ℕ) (request : Request) (authkey : List ℕ) (u : Update)
     → IsBlock authkey → Builds request authkey u → key_in (slot_at slots u.auth) ≡ authkey
     → first_applying (head_refusals slots good u.id u.auth) ≡ None → u.uid ≡ uid → uid ≢ replicate 15 0

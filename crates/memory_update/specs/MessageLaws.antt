@@ -5,13 +5,13 @@ use Rattle.std.specs.List.{All, concat}
 use Rattle.std.proofs.Math.Seq.{take-append_seam, drop-append_seam, take-length}
 use Rattle.std.proofs.lemmas.List.{append-nil, take_more, length-take}
 use Rattle.std.proofs.lemmas.List.Elements.{All-nil, All-cons, All-head, All-tail, All-take, All-get_or}
-use Rattle.byte_lists.specs.Numbers.{number_of, bytes_of}
-use Rattle.byte_lists.specs.NumberLaws.{IsBytes-bytes_of, number_of-lt, number_of-bytes_of-lt, bytes_of-number_of}
-use Rattle.byte_lists.specs.NumberLaws.{number_of-append, bytes_of-append}
+use Rattle.basics.specs.Numbers.{number_of, bytes_of}
+use Rattle.basics.specs.NumberLaws.{IsBytes-bytes_of, number_of-lt, number_of-bytes_of-lt, bytes_of-number_of}
+use Rattle.basics.specs.NumberLaws.{number_of-append, bytes_of-append}
 use Rattle.key_slots.specs.declared.memory.Flags.{Flags}
 use Rattle.key_slots.specs.Flags.{flags_number, flags_from}
 use Rattle.key_slots.specs.FlagsLaws.{flags_number-lt, flags_from-number, flags_number-from}
-use Rattle.byte_lists.specs.Blocks.{IsBlock, zero_block}
+use Rattle.basics.specs.Blocks.{IsBlock, zero_block}
 use Rattle.she_aes.specs.CipherFacts.{IsBlock-zero_block}
 use Rattle.she_aes.specs.Modes.{cbc, cbc_inverse}
 use Rattle.she_aes.specs.ModeLaws.{length-cbc, All-cbc, length-cbc_inverse, All-cbc_inverse}
@@ -59,7 +59,7 @@ two_blocks-join x y is_x is_y =
     ap (λ bs. take 16 bs ∷ drop 16 bs ∷ []) joined ∙ ap (λ a. a ∷ drop 16 (x ++ y) ∷ []) front
     ∙ ap (λ b. x ∷ b ∷ []) back
 
--- the same, where the upper half is given as a number
+-- the same, if the upper half is given as a number
 pub two_blocks-pair : (a : ℕ) (low : List ℕ) → a < 2 ^ 128 → IsBlock low
     → two_blocks (a * 2 ^ 128 + number_of low) ≡ bytes_of 16 a ∷ low ∷ []
 two_blocks-pair a low fits is_low =

@@ -1,7 +1,7 @@
 -- The messages of a key update (SHE specification, memory update protocol)
 use Rattle.std.specs.Prelude.{◌≡◌, ℕ, ◌+◌, ◌*◌, ◌/◌, ◌%◌, ◌^◌, ◌<◌, List, [], ◌∷◌, ◌++◌, length, take, drop, All}
 use Rattle.std.specs.List.{concat}
-use Rattle.byte_lists.specs.Numbers.{number_of, bytes_of}
+use Rattle.basics.specs.Numbers.{number_of, bytes_of}
 use Rattle.she_aes.specs.Cipher.{IsBlock, zero_block, enc}
 use Rattle.she_aes.specs.Modes.{cbc, cbc_inverse}
 use Rattle.she_kdf.specs.Derivation.{kdf}
@@ -86,7 +86,7 @@ pub record HeadOf (m1 : List ℕ) (h : Head) : Type 0 where
   pub is_head : IsHead h
   pub m1_is : m1 ≡ bytes_of 16 (head_number h.uid h.id h.auth)
 
--- what M1 says, where it names slots
+-- what M1 says, if it names slots
 abbrev pub head_in : List ℕ → Head
 head_in m1 = record { uid = take 15 m1; id = id_of m1; auth = auth_of m1 }
 

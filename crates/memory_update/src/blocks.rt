@@ -1,7 +1,7 @@
 // The blocks that the messages are made of.
 ghost use Rattle.std.specs.Prelude.{◌≡◌, ◌+◌, ◌*◌, ◌^◌, ◌<◌};
-ghost use Rattle.byte_lists.specs.Numbers.{number_of, bytes_of};
-ghost use Rattle.byte_lists.specs.Blocks.{IsBlock};
+ghost use Rattle.basics.specs.Numbers.{number_of, bytes_of};
+ghost use Rattle.basics.specs.Blocks.{IsBlock};
 ghost use Rattle.she_kdf.specs.Derivation.{kdf};
 ghost use Rattle.key_slots.specs.Flags.{flags_number};
 ghost use Rattle.memory_update.specs.Fields.{bit_field};

@@ -1,6 +1,6 @@
 //! Laws of the messages and of loading: each function has an empty body, and its contract is the law.
 ghost use Rattle.std.specs.Prelude.{◌≡◌, ◌≢◌, ◌<◌, ℕ, Bool, List, replicate, Result, Ok, None};
-ghost use Rattle.byte_lists.specs.Blocks.{IsBlock};
+ghost use Rattle.basics.specs.Blocks.{IsBlock};
 ghost use Rattle.key_slots.specs.declared.memory.Slot.{Slot};
 ghost use Rattle.key_slots.specs.declared.refusals.Erc.{Erc};
 ghost use Rattle.key_slots.specs.Slots.{slot_at, counter_of, IsSlots};
@@ -17,8 +17,7 @@ pub fn a_carried_update_is_one()
         → Carries request authkey u → Carries request authkey v → u ≡ v }
 {}
 
-/// A request whose ID and AuthID are at most 13 and whose M3 is right carries the update that stands in its M1 and M2,
-/// and no other.
+/// A request whose ID and AuthID are at most 13 and whose M3 is right carries one update: the one in its M1 and M2.
 pub fn a_whole_request_carries_its_update()
     ensures carried { (request : Request) (authkey : List ℕ) → IsBlock authkey → IsRequest request → HasSlots request.m1
         → request.m3 ≡ request_mac authkey request.m1 request.m2 → Carries request authkey (update_in authkey request) }
@@ -76,8 +75,8 @@ pub fn a_taken_update_raises_the_counter()
         → Allows slots good uid request (Ok u) → counter_of (slot_at slots u.id) < u.counter }
 {}
 
-/// A request that is built for an engine whose UID isn't zero is taken by it, where the first four refusals don't
-/// apply, the authorising slot has the given key, and the target's counter is lower.
+/// An engine whose UID isn't zero takes a request that is built for it on three conditions: the first four refusals
+/// don't apply, the authorising slot has the given key, and the target's counter is lower.
 pub fn a_built_request_is_taken()
     ensures { (slots : List Slot) (good : Bool) (uid : List ℕ) (request : Request) (authkey : List ℕ) (u : Update)
         → IsBlock authkey → Builds request authkey u → key_in (slot_at slots u.auth) ≡ authkey

@@ -3,7 +3,7 @@ ghost use Rattle.std.specs.Prelude.{◌≡◌, ◌↔◌, IsTrue, replicate, Som
 ghost use Rattle.memory_update.specs.Identifier.{IsUid};
 ghost use Rattle.memory_update.specs.Shown.{shown_update};
 
-use byte_lists::Block;
+use basics::Block;
 use key_slots::{Counter28, Flags, SlotId};
 use std::fmt;
 use std::marker::Model;

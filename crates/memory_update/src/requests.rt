@@ -1,6 +1,6 @@
 //! The request M1, M2, M3: made, and read again.
 ghost use Rattle.std.specs.Prelude.{◌≡◌, ◌≢◌, ◌↔◌, Some, Ok, Err, IsSome, IfSome, IfOk, All, length};
-ghost use Rattle.byte_lists.specs.Blocks.{IsBlock};
+ghost use Rattle.basics.specs.Blocks.{IsBlock};
 ghost use Rattle.memory_update.specs.Messages.{request_mac, update_in, Builds, Carries, HasSlots, HeadOf};
 ghost use Rattle.memory_update.specs.declared.messages.Head.{Head};
 ghost use Rattle.memory_update.specs.declared.messages.Update.{Update};
@@ -37,7 +37,7 @@ pub fn build(update: &Update, authkey: &Block) -> Request
     Request { m1, m2, m3 }
 }
 
-/// UID, ID and AuthID of an M1; `None` exactly where ID or AuthID is over 13.
+/// UID, ID and AuthID of an M1; `None` exactly if ID or AuthID is over 13.
 pub fn head(m1: &Block) -> Option<Head>
     ensures found { IfSome result (HeadOf m1.now) }
     ensures some { IsSome result ↔ HasSlots m1.now }
@@ -71,9 +71,8 @@ fn opened(request: &Request, head: &Head, authkey: &Block) -> Update
     }
 }
 
-/// The update that the request carries under the authorising key. The padding bits of M2 aren't
-/// examined. `BadId` comes exactly where `head` is `None`, and `BadMac` exactly where there is a head
-/// and M3 differs.
+/// The update that the request carries under the authorising key. The padding bits of M2 aren't examined. `BadId` comes
+/// exactly if `head` is `None`, and `BadMac` exactly if there is a head and M3 differs.
 pub fn unseal(request: &Request, authkey: &Block) -> Result<Update, Unseal>
     ensures carried { IfOk result (Carries request.now authkey.now) }
     ensures only { (u : Update) → Carries request.now authkey.now u → result ≡ Ok u }

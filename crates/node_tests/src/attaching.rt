@@ -43,7 +43,7 @@ fn refuses<C: Cells + Drop>(
     }
 }
 
-/// What a cell has that no bound has, and what stands behind the cells of a node.
+/// What a cell has that no bound has, and what stands after the cells of a node.
 const NOTHING: [u8; 32] = [7; 32];
 
 fn is_handed_back(rt: &impl Abort, alloc: Global, store: (Kind, Version)) -> Result<(), Fail> {

@@ -5,7 +5,7 @@ ghost use Rattle.any_cells.specs.Either.{any_state};
 
 use crate::comparing::{holds, same};
 use any_cells::AnyCells;
-use byte_lists::Block;
+use basics::Block;
 use cell_store::{Cells, CutCells, Kind, Version};
 use cut_disk::{MemDisk, Torn};
 use freshness_manager::{Direction, NodeConfig, Route};
@@ -218,7 +218,7 @@ fn use_of(place: u16) -> (Direction, bool) {
     }
 }
 
-/// The counter of each of the 256 routes is its place, or one above it where a PDU passed.
+/// The counter of each of the 256 routes is its place, or one above it if a PDU passed.
 fn counts_each<C: CutCells>(rt: &impl Abort, node: &Node<C>) -> Answer {
     for place in 0..256u16 {
         let (direction, is_used) = use_of(place);
@@ -252,7 +252,7 @@ fn does<C: CutCells>(
     }
 }
 
-/// The buffer of a send with these bytes at its front.
+/// The buffer of a send with these bytes at its beginning.
 fn buffer(pdu: &[u8]) -> [u8; 64] {
     let mut out = [7; 64];
     for (to, from) in out.iter_mut().zip(pdu) {

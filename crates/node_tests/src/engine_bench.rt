@@ -4,7 +4,7 @@ ghost use Rattle.cell_store.specs.Store.{FewCells};
 ghost use Rattle.any_cells.specs.Either.{any_state};
 
 use any_cells::AnyCells;
-use byte_lists::Block;
+use basics::Block;
 use cell_store::{Kind, Version};
 use cut_disk::MemDisk;
 use freshness_routes::Direction;

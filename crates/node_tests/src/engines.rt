@@ -6,7 +6,7 @@ ghost use Rattle.slot_disk.specs.Cell.{HoldSlots};
 use crate::comparing::{holds, same};
 use crate::engine_bench::{KEY, UID, block, slot};
 use crate::engine_lives::{self, Life, live};
-use byte_lists::Block;
+use basics::Block;
 use cell_store::CutCells;
 use freshness_routes::Direction;
 use key_slots::{Counter28, Erc, Flags, SlotId};

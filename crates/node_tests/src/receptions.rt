@@ -54,7 +54,7 @@ fn receiver_in<C: Cells>(store: &C, reserve: u16) -> Result<Rx, Fail>
     Ok(Rx::restore(14, ID, reserve, 256, bound))
 }
 
-/// The reserve, whether the disk has stopped, a PDU, what is answered, and the counter behind it.
+/// The reserve, whether the disk has stopped, a PDU, what is answered, and the counter after it.
 pub(crate) struct Row {
     reserve: u16,
     stops: bool,

@@ -47,7 +47,7 @@ fn sender_in<C: Cells>(store: &C) -> Result<Tx, Fail>
 }
 
 /// A send of the payload: the slot of the key, whether the disk has stopped, what is answered, and the counter and the
-/// buffer behind it.
+/// buffer after it.
 pub(crate) struct Row {
     slot: u8,
     stops: bool,
@@ -59,7 +59,7 @@ pub(crate) struct Row {
 /// What the buffer has before.
 const BEFORE: [u8; 64] = [0xaa; 64];
 
-/// The PDU, and behind it what was there before.
+/// The PDU, and after it what was there before.
 const PDU: [u8; 64] = [
     0xbe, 0xe2, 0x2e, 0x40, 0x9f, 0x96, 0x2a, 0x07, 0x0a, 0x16, 0xaa, 0xaa, 0xaa, 0xaa, 0xaa, 0xaa,
     0xaa, 0xaa, 0xaa, 0xaa, 0xaa, 0xaa, 0xaa, 0xaa, 0xaa, 0xaa, 0xaa, 0xaa, 0xaa, 0xaa, 0xaa, 0xaa,

@@ -1,9 +1,9 @@
--- The answers of lines, one behind the other, go on by the answer of one more line.
+-- The answers of lines, one after the other, go on by the answer of one more line.
 use Rattle.std.proofs.Common.{◌≡◌, ℕ, zero, suc, arith, ◌<◌, ◌+◌, List, [], ◌∷◌, ◌++◌, length, take, map, get_or, refl, sym, ap, ◌∙◌, subst, append-nil, append_assoc}
 use Rattle.std.proofs.lemmas.List.{take_more, map-append}
 use Rattle.std.specs.List.{flat_map}
-use Rattle.counting_receiver.specs.Counting.{next_counter, last_accepted}
-use Rattle.counting_receiver.specs.CountingLaws.{last_accepted-more}
+use Rattle.secoc_words.specs.Counting.{next_counter, last_accepted}
+use Rattle.secoc_words.specs.CountingLaws.{last_accepted-more}
 use Rattle.pdu_collection.specs.declared.answering.Receiver.{Receiver}
 use Rattle.pdu_collection.specs.declared.pair_lines.Head.{Head}
 use Rattle.pdu_collection.specs.declared.pair_lines.Entry.{Entry}

@@ -6,11 +6,11 @@ use Rattle.pdu_collection.specs.Joining.{Kind, authentic, cryptographic, other_k
 use Rattle.pdu_collection.specs.Joined.{IsPduAt, NextJoins, JoinerState, waiting, Waits, Given, IsToldOf, Arrives}
 use Rattle.pdu_collection.proofs.NextJoined.{kinds, one_latest, partner_new, joins, joins_none, waits_new, waits_old}
 
--- the link of an arrival of which kind and PDU are known
+-- the link of an arrival whose kind and PDU are known
 link_of_known : (place : Place) (a : Arrival) (kind : Kind) (pdu : List ℕ) → a.kind ≡ kind → pdu ≡ a.pdu → link place a ≡ link_in place kind pdu
 link_of_known place a kind pdu k p = ap (λ x. link_in place x a.pdu) k ∙ ap (link_in place kind) (sym p)
 
--- nothing waits behind a join
+-- nothing waits after a join
 abbrev pub ended : JoinerState → JoinerState
 ended state = record { place = state.place; payload = None; pdu = None }
 

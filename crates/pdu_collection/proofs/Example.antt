@@ -2,13 +2,13 @@
 use Rattle.std.proofs.Common.{◌≡◌, ◌≤◌, [], ◌∷◌, length, refl, arith}
 use Rattle.std.specs.Prelude.{Some}
 use Rattle.bus_port.specs.Sink.{SinkState}
-use Rattle.command_edge.specs.Input.{input_limit}
-use Rattle.command_edge.specs.declared.input.InputFault.TheVariants as input
-use Rattle.answer_rows.specs.InputLaws.{Lacks-unread, Offers-clean}
-use Rattle.answer_rows.specs.EndingLaws.{EndsInRow-memory}
+use Rattle.program_edge.specs.Input.{input_limit}
+use Rattle.program_edge.specs.declared.input.InputFault.TheVariants as input
+use Rattle.program_edge.specs.InputLaws.{Lacks-unread, Offers-clean}
+use Rattle.program_edge.specs.EndingLaws.{EndsInRow-memory}
 use Rattle.pdu_collection.specs.Rows.{PairingInputs, ComesInPairing, no_input}
 use Rattle.pdu_collection.specs.Pairs.{RunsPairs}
-use Rattle.pdu_collection.specs.Named.{IsExampleScript}
+use Rattle.pdu_collection.specs.Rows.{IsExampleScript}
 use Rattle.pdu_collection.specs.declared.start.TheConstants.{EXAMPLE}
 use Rattle.pdu_collection.proofs.Promises.{RunsPairs-row}
 

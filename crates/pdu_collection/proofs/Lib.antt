@@ -9,4 +9,3 @@ pub mod OneJoining
 pub mod MadePdus
 pub mod Promises
 pub mod Example
-pub mod Naming

@@ -109,7 +109,7 @@ module _ (xs : List Arrival) (x : Arrival) (ps : List (Option ℕ)) (p : Option 
     joined_by_none = λ k a b e. h.joined_by_none k a (omega (arith, b, le)) (partner_old ps p k (omega (arith, as_many, b)) ∙ e);
   }
 
-  -- a joining goes on where the new arrival's partner is the one that it joins
+  -- a joining goes on if the new arrival's partner is the one that it joins
   Joining-more : (place : Place) → Joining place xs ps
       → ((j : ℕ) → (p ≡ Some j) ↔ Joins place longer more (length xs) j) → Joining place longer more
   Joining-more place old new =

@@ -8,7 +8,7 @@ use Rattle.pdu_collection.specs.Joining.{Arrival, partner_at, Joining}
 use Rattle.pdu_collection.proofs.NextJoined.{Joins-same}
 
 module _ (place : Place) (xs : List Arrival) (ps qs : List (Option ℕ)) (a : Joining place xs ps) (b : Joining place xs qs) where
-  -- where the partners before are the same, so is this one
+  -- if the partners before are the same, so is this one
   here : (i : ℕ) → i < length xs → ((k : ℕ) → k < i → partner_at ps k ≡ partner_at qs k) → (p q : Option ℕ)
       → partner_at ps i ≡ p → partner_at qs i ≡ q → p ≡ q
   here i within same None None e f = refl

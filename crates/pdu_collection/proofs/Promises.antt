@@ -2,11 +2,11 @@
 use Rattle.std.proofs.Common.{◌≡◌, ℕ, List, [], inl, inr, refl, arith, rules}
 use Rattle.std.specs.Prelude.{Ok}
 use Rattle.std.proofs.lemmas.Grind.{common_steps}
-use Rattle.command_edge.specs.declared.input.InputFault.TheVariants as input
-use Rattle.answer_rows.specs.Rows.{Row}
-use Rattle.answer_rows.specs.Inputs.{Lacks}
-use Rattle.answer_rows.specs.Endings.{Ending, PrintsWhole, EndsInRow}
-use Rattle.answer_rows.specs.EndingLaws.{EndsInRow-at}
+use Rattle.program_edge.specs.declared.input.InputFault.TheVariants as input
+use Rattle.program_edge.specs.Rows.{Row}
+use Rattle.program_edge.specs.Inputs.{Lacks}
+use Rattle.program_edge.specs.Endings.{Ending, PrintsWhole, EndsInRow}
+use Rattle.program_edge.specs.EndingLaws.{EndsInRow-at}
 use Rattle.pdu_collection.specs.declared.pair_lines.PairLine.{PairLine}
 use Rattle.pdu_collection.specs.PairLines.{pairs_of}
 use Rattle.pdu_collection.specs.Answering.{TellsPairs, TellsRising}

@@ -2,9 +2,9 @@
 use Rattle.std.proofs.Common.{ℕ, ◌<◌, List, [], ◌∷◌, map, sym, subst}
 use Rattle.std.specs.Prelude.{IfSome}
 use Rattle.std.proofs.lemmas.List.{map-append}
-use Rattle.counting_receiver.specs.Counting.{KeepsCounters, AcceptedRise}
-use Rattle.counting_receiver.specs.Counting as counting
-use Rattle.counting_receiver.specs.CountingLaws.{KeepsCounters-rise}
+use Rattle.secoc_words.specs.Counting.{KeepsCounters, AcceptedRise}
+use Rattle.secoc_words.specs.Counting as counting
+use Rattle.secoc_words.specs.CountingLaws.{KeepsCounters-rise}
 use Rattle.pdu_collection.specs.declared.pair_lines.Head.{Head}
 use Rattle.pdu_collection.specs.declared.pair_lines.Entry.{Entry}
 use Rattle.pdu_collection.specs.declared.pair_lines.Entry.TheVariants.{Authentic, Cryptographic, Secured}

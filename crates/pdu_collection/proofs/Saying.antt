@@ -2,8 +2,8 @@
 use Rattle.std.proofs.Common.{◌≡◌, ℕ, ◌+◌, List, [], ◌∷◌, ◌++◌, take, refl, sym, ap, ◌∙◌, subst, append-nil, append_assoc}
 use Rattle.std.specs.Prelude.{Option, None, Some, Result, Ok, Err, IfOk, IfErr}
 use Rattle.secured_pdu.specs.Verdict.{Verdict}
-use Rattle.counting_receiver.specs.Counting.{AddsVerdict}
-use Rattle.counting_receiver.specs.CountingLaws.{next_counter-verdict}
+use Rattle.secoc_words.specs.Counting.{AddsVerdict}
+use Rattle.secoc_words.specs.CountingLaws.{next_counter-verdict}
 use Rattle.pdu_collection.specs.declared.joiner.BadLength.{BadLength}
 use Rattle.pdu_collection.specs.declared.answering.Receiver.{Receiver}
 use Rattle.pdu_collection.specs.declared.pair_lines.Head.{Head}
@@ -27,7 +27,7 @@ words_added old a b t1 t2 t3 t4 e1 e2 e3 e4 =
     let three : t3 ≡ old ++ ((a ++ 32 ∷ []) ++ b) = e3 ∙ ap (λ t. t ++ b) two ∙ append_assoc old (a ++ 32 ∷ []) b in
     e4 ∙ ap (λ t. t ++ 10 ∷ []) three ∙ append_assoc old ((a ++ 32 ∷ []) ++ b) (10 ∷ [])
 
--- what an arrival joins fits what is told
+-- what an arrival joins fits what is said
 joins_none : (next : Arrival) (joined : Option (List ℕ)) (before after : List ℕ) → IsToldOf next joined before after None → joined ≡ None
 joins_none next None before after t = refl
 joins_none next (Some pdu) before after t = absurd t

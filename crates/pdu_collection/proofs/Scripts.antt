@@ -1,4 +1,4 @@
--- What is read as the lines of a script is a head and entries behind it, or nothing.
+-- What is read as the lines of a script is a head and entries after it, or nothing.
 use Rattle.std.proofs.Common.{◌≡◌, ℕ, Bool, true, false, cond, List, [], ◌∷◌, ◌++◌, length, map, refl, sym, ap, ◌∙◌, subst, inl, inr}
 use Rattle.std.specs.Prelude.{Result, Ok, Err, nat_le}
 use Rattle.std.proofs.lemmas.List.{map-append}

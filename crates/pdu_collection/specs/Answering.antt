@@ -3,7 +3,7 @@ use Rattle.std.specs.Prelude.{◌≡◌, ◌⊎◌, ℕ, List, [], ◌∷◌, �
 use Rattle.std.specs.List.{flat_map}
 use Rattle.hex.specs.Hex.{encode_lower}
 use Rattle.secured_pdu.specs.Verdict.{Outcome, Verdict}
-use Rattle.counting_receiver.specs.Counting.{Acceptance, accepted_by, last_accepted, AcceptedRise}
+use Rattle.secoc_words.specs.Counting.{Acceptance, accepted_by, last_accepted, AcceptedRise}
 use Rattle.secoc_words.specs.Texts.{outcome_text, bad_length_text}
 use Rattle.text_lines.specs.Texts.{line}
 use Rattle.pdu_collection.specs.declared.pair_lines.Head.{Head}
@@ -36,7 +36,7 @@ abbrev pub HasLength : Place → Kind → List ℕ → Type 0
 HasLength place authentic pdu = IsAuthentic place pdu
 HasLength place cryptographic pdu = IsCryptographic place pdu
 
--- the arrival of a PDU of which this is said: none where its length is bad
+-- the arrival of a PDU with this answer: none if its length is bad
 abbrev pub arrives : Kind → List ℕ → Said → List Arrival
 arrives kind pdu bad_length = []
 arrives kind pdu said = record { kind = kind; pdu = pdu } ∷ []
@@ -56,7 +56,7 @@ said_accepts waits = None
 said_accepts (judged outcome) = accepted_by 0 outcome
 said_accepts (made payload pdu) = None
 
--- the counter behind these lines: the freshness of the latest that was accepted, or the head's
+-- the counter after these lines: the freshness of the latest that was accepted, or the head's
 abbrev pub counter_behind_lines : Head → List Said → ℕ
 counter_behind_lines head said = last_accepted 0 head.counter (map said_accepts said)
 
@@ -83,7 +83,7 @@ SaysMade head freshness payload (made authentic_pdu part) =
 SaysMade head freshness payload waits = ⊥
 SaysMade head freshness payload (judged outcome) = ⊥
 
--- behind these arrivals, and with this counter
+-- after these arrivals, and with this counter
 abbrev pub Says : Head → List Arrival → ℕ → Entry → Said → Type 0
 Says head before counter (Authentic pdu) said = SaysOf head before counter authentic pdu said
 Says head before counter (Cryptographic pdu) said = SaysOf head before counter cryptographic pdu said
@@ -91,7 +91,7 @@ Says head before counter (Secured freshness payload) said = SaysMade head freshn
 
 -- ---- the whole script
 
--- what is said of the entries so far, and the arrivals among them; of one more it is said behind these, with the
+-- what is said of the entries so far, and the arrivals among them; of one more it is said after these, with the
 -- freshness that was accepted last
 pub data SaysEach (head : Head) : List Entry → List Arrival → List Said → Type 0 where
   none : SaysEach head [] [] []
@@ -100,7 +100,7 @@ pub data SaysEach (head : Head) : List Entry → List Arrival → List Said → 
       → Says head arrivals (counter_behind_lines head said) entry s
       → SaysEach head (entries ++ entry ∷ []) (arrivals ++ arrival_of entry s) (said ++ s ∷ [])
 
--- the text is what is said of each line behind the head; without a head there is none
+-- the text is what is said of each line after the head; without a head there is none
 abbrev pub TellsPairs : List PairLine → List ℕ → Type 0
 TellsPairs lines text =
     ((lines ≡ []) × (text ≡ []))
@@ -109,8 +109,8 @@ TellsPairs lines text =
 
 -- ---- what holds of it
 
--- what is said of each line, of which the later of two that were accepted has the greater freshness; the text is that
--- of it
+-- what is said of each line, and the text is that of it. The later of two lines that were accepted has the greater
+-- freshness
 abbrev pub TellsRising : List PairLine → List ℕ → Type 0
 TellsRising lines text =
     ((lines ≡ []) × (text ≡ []))

@@ -28,7 +28,7 @@ IsCryptographic place pdu = length pdu ≡ 4 + place.size
 abbrev pub joined_pdu : List ℕ → List ℕ → List ℕ
 joined_pdu payload pdu = payload ++ take 4 pdu
 
--- the cryptographic PDU of this payload and freshness: what the Secured I-PDU has behind the payload, and the link
+-- the cryptographic PDU of this payload and freshness: what the Secured I-PDU has after the payload, and the link
 abbrev pub IsPartOf : List ℕ → ℕ → Place → List ℕ → ℕ → List ℕ → Type 0
 IsPartOf key id place payload freshness pdu =
     (frame : List ℕ) × Secured key id payload freshness frame

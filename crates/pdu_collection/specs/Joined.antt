@@ -11,7 +11,7 @@ IsPduAt arrivals (Some j) (Some pdu) = pdu ≡ (arrival_at arrivals j).pdu
 IsPduAt arrivals None (Some pdu) = ⊥
 IsPduAt arrivals (Some j) None = ⊥
 
--- behind these arrivals, the next one joins one that has this PDU, or none
+-- after these arrivals, the next one joins one that has this PDU, or none
 pub record NextJoins (place : Place) (arrivals : List Arrival) (next : Arrival) (joined : Option (List ℕ))
     : Type 0 where
   pub partners : List (Option ℕ)
@@ -44,7 +44,7 @@ pub record Given (state : JoinerState) (arrivals : List Arrival) : Type 0 where
   pub joining : Joining state.place arrivals partners
   pub waits : (kind : Kind) → Waits arrivals partners kind (waiting state kind)
 
--- what waits is a partner where it has this link
+-- what waits is a partner if it has this link
 abbrev pub IsPartner : List ℕ → (List ℕ → List ℕ) → Option (List ℕ) → Option (List ℕ) → Type 0
 IsPartner link link_of waiting (Some pdu) = (waiting ≡ Some pdu) × (link_of pdu ≡ link)
 IsPartner link link_of waiting None = (pdu : List ℕ) → waiting ≡ Some pdu → ¬ (link_of pdu ≡ link)
@@ -54,7 +54,7 @@ abbrev pub joined_with : Kind → List ℕ → List ℕ → List ℕ
 joined_with authentic payload pdu = joined_pdu payload pdu
 joined_with cryptographic pdu payload = joined_pdu payload pdu
 
--- what is told of an arrival that joins this PDU, or none: the Secured I-PDU in front, the rest as before
+-- what an arrival gives that joins this PDU, or none: the Secured I-PDU at the beginning, the rest as before
 abbrev pub IsToldOf : Arrival → Option (List ℕ) → List ℕ → List ℕ → Option ℕ → Type 0
 IsToldOf next (Some pdu) before after (Some size) =
     (take size after ≡ joined_with next.kind next.pdu pdu) × (drop size after ≡ drop size before)
@@ -62,7 +62,7 @@ IsToldOf next None before after None = after ≡ before
 IsToldOf next (Some pdu) before after None = ⊥
 IsToldOf next None before after (Some size) = ⊥
 
--- the arrival was given to the joiner, whatever was given before, and it is told what it joins
+-- the arrival was given to the joiner, whatever was given before, and the answer is what it joins
 pub record Arrives (old new : JoinerState) (next : Arrival) (before after : List ℕ) (size : Option ℕ) : Type 0 where
   pub place_is : new.place ≡ old.place
   pub joined : Option (List ℕ)

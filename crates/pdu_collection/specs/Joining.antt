@@ -15,7 +15,7 @@ pub record Arrival : Type 0 where
   pub kind : Kind
   pub pdu : List ℕ
 
--- the message link of a PDU: the payload's, or what stands behind the authenticator
+-- the message link of a PDU: the payload's, or what stands after the authenticator
 abbrev pub link_in : Place → Kind → List ℕ → List ℕ
 link_in place authentic pdu = link_of place pdu
 link_in place cryptographic pdu = drop 4 pdu
@@ -42,7 +42,7 @@ pub record IsSingle (partners : List (Option ℕ)) (i j : ℕ) : Type 0 where
   pub joins_none : partner_at partners j ≡ None
   pub joined_by_none : (k : ℕ) → j < k → k < i → ¬ (partner_at partners k ≡ Some j)
 
--- arrival i joins j: the latest earlier one of the other kind, where their links are equal and j is single
+-- arrival i joins j: the latest earlier one of the other kind, if their links are equal and j is single
 pub record Joins (place : Place) (arrivals : List Arrival) (partners : List (Option ℕ)) (i j : ℕ) : Type 0 where
   pub latest : IsLatestOfKind arrivals (other_kind (arrival_at arrivals i).kind) i j
   pub same_link : link place (arrival_at arrivals j) ≡ link place (arrival_at arrivals i)

@@ -8,4 +8,3 @@ pub mod Receiving
 pub mod Rows
 pub mod Pairs
 pub mod Steps
-pub mod Named

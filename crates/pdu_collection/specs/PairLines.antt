@@ -54,7 +54,7 @@ secured_of words = with_count 3 words (do
   payload ← field 3 (bytes_form (nth_word words 3))
   Ok (Secured freshness payload))
 
--- a line behind the head
+-- a line after the head
 unfoldable pub pair_entry_of : List (List ℕ) → Result Entry Cause
 pair_entry_of words =
     if bytes_eq (nth_word words 1) (codes "a") then authentic_of words
@@ -75,6 +75,6 @@ pair_line_of (_ ∷ _) words = do
 unfoldable pub pairs_of : List ℕ → Result (List PairLine) Fault
 pairs_of text = read_all pair_line_of most_lines text
 
--- the lines are a head and entries behind it
+-- the lines are a head and entries after it
 abbrev pub IsScript : List PairLine → Head → List Entry → Type 0
 IsScript lines head entries = lines ≡ line.Head head ∷ map line.Entry entries

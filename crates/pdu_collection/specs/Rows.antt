@@ -2,11 +2,12 @@
 use Rattle.std.specs.Prelude.{◌≡◌, ℕ, List, length, Ok, Err, codes}
 use Rattle.text_lines.specs.Readings.{Fault}
 use Rattle.text_lines.specs.Texts.{line}
-use Rattle.command_edge.specs.declared.input.InputFault.{InputFault}
-use Rattle.answer_rows.specs.Rows.{Row, row_of, input_row}
-use Rattle.answer_rows.specs.Inputs.{Reading, IsUnread, ReadsWhole, Lacks}
-use Rattle.line_rows.specs.LineRows.{line_row}
+use Rattle.program_edge.specs.declared.input.InputFault.{InputFault}
+use Rattle.program_edge.specs.Rows.{Row, row_of, input_row}
+use Rattle.program_edge.specs.Inputs.{Reading, IsUnread, ReadsWhole, Lacks, Offers}
+use Rattle.text_lines.specs.LineRows.{line_row}
 use Rattle.pdu_collection.specs.declared.pair_lines.PairLine.{PairLine}
+use Rattle.pdu_collection.specs.declared.start.TheConstants.{EXAMPLE}
 use Rattle.pdu_collection.specs.PairLines.{pairs_of}
 use Rattle.pdu_collection.specs.Answering.{TellsPairs}
 
@@ -19,7 +20,11 @@ pub record PairingInputs : Type 0 where
 abbrev pub NamesInput : List (List ℕ) → Type 0
 NamesInput words = length words ≡ 1
 
--- the line that is printed where they are of no form
+-- a run of the example: of one word, over a source that tells its text, and doesn't fail
+abbrev pub IsExampleScript : PairingInputs → Type 0
+IsExampleScript i = NamesInput i.words × Offers i.script EXAMPLE.now
+
+-- the line that is printed if they are malformed
 abbrev pub pairing_usage : List ℕ
 pairing_usage = line (codes "usage: pairing F")
 

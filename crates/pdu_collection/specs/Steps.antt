@@ -1,8 +1,8 @@
 -- What the two phases of `pairing` say to one another
 use Rattle.std.specs.Prelude.{◌≡◌, ℕ, List, Result, Ok, Err, Vec}
 use Rattle.std.specs.declared.alloc.Global.{Global}
-use Rattle.answer_rows.specs.Rows.{Row, row_of, memory_row}
-use Rattle.line_rows.specs.LineRows.{NoLines}
+use Rattle.program_edge.specs.Rows.{Row, row_of, memory_row}
+use Rattle.text_lines.specs.LineRows.{NoLines}
 use Rattle.pdu_collection.specs.declared.pair_lines.PairLine.{PairLine}
 use Rattle.pdu_collection.specs.PairLines.{pairs_of}
 use Rattle.pdu_collection.specs.Answering.{TellsPairs}

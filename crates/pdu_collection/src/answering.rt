@@ -8,8 +8,8 @@ ghost use Rattle.pdu_collection.specs.Receiving.{IsPairScript, AreEntries, Tells
 
 use crate::joiner::{BadLength, Joiner};
 use crate::pair_lines::{Entry, Head, PairLine};
-use counting_receiver::{WIDEST_WINDOW, push_verdict};
 use secoc_words::verdicts::push_bad_length;
+use secoc_words::{WIDEST_WINDOW, push_verdict};
 use she_aes::{Schedule, expand};
 use std::alloc::{AllocError, Global};
 use text_lines::pushing::{push_digits, push_line};
@@ -21,7 +21,7 @@ pub struct Receiver {
     counter: u64,
 }
 
-/// What is said of all lines, one behind the other.
+/// What is said of all lines, one after the other.
 pub fn answers(alloc: Global, lines: &[PairLine]) -> Result<Vec<u8>, AllocError>
     requires { IsPairScript lines.now }
     ensures { IfOk result (λ text. TellsPairs lines.now text.items) }
@@ -32,7 +32,7 @@ pub fn answers(alloc: Global, lines: &[PairLine]) -> Result<Vec<u8>, AllocError>
     }
 }
 
-/// What is said of each line behind the head.
+/// What is said of each line after the head.
 fn entry_answers(alloc: Global, head: &Head, lines: &[PairLine]) -> Result<Vec<u8>, AllocError>
     requires { AreEntries lines.now }
     ensures { IfOk result (λ text. TellsEntries head.now lines.now text.items) }

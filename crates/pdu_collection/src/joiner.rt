@@ -5,7 +5,7 @@ ghost use Rattle.pdu_collection.specs.Joining.{authentic, cryptographic};
 ghost use Rattle.pdu_collection.specs.Joined.{Given, Arrives, IsPartner};
 
 use crate::linker::{Linker, join};
-use byte_lists::Pdu;
+use basics::Pdu;
 use std::marker::Model;
 
 /// A PDU hasn't the length of its kind.
@@ -13,9 +13,9 @@ use std::marker::Model;
 pub struct BadLength;
 
 /// Joins the PDUs of one Secured PDU collection as they arrive. An arrival joins the latest earlier one of the other
-/// kind, where their links are equal, and that one joins none and no arrival between them joined it.
+/// kind, if their links are equal. That one must join none, and no arrival between them may have joined it.
 ///
-/// It keeps of each kind the latest arrival where that is single, which is all that a later one may join: where two are
+/// It keeps of each kind the latest arrival if that is single, which is all that a later one may join: if two are
 /// joined, none.
 #[derive(Drop)]
 pub struct Joiner {
@@ -49,9 +49,8 @@ impl Joiner {
         }
     }
 
-    /// An authentic PDU arrives. Where it joins an earlier arrival, their Secured I-PDU is in front of `out`, and its
-    /// length is given.
-    /// `BadLength` exactly where it hasn't 1 to 60 bytes or not those of the link; nothing is then changed.
+    /// An authentic PDU arrives. If it joins an earlier arrival, `out` begins with their Secured I-PDU, and its length
+    /// is given. `BadLength` exactly if it hasn't 1 to 60 bytes or not those of the link; nothing is then changed.
     pub fn authentic(&mut self, pdu: &[u8], out: &mut [u8; 64]) -> Result<Option<usize>, BadLength>
         ensures bad_length { IfErr result (λ _. ¬ IsAuthentic self.old.place pdu.now
             × (self.new ≡ self.old) × (out.new ≡ out.old)) }
@@ -76,9 +75,8 @@ impl Joiner {
         }
     }
 
-    /// A cryptographic PDU arrives. Where it joins an earlier arrival, their Secured I-PDU is in front of `out`, and
-    /// its length is given.
-    /// `BadLength` exactly where it hasn't four bytes and those of the link; nothing is then changed.
+    /// A cryptographic PDU arrives. If it joins an earlier arrival, `out` begins with their Secured I-PDU, and its
+    /// length is given. `BadLength` exactly if it hasn't four bytes and those of the link; nothing is then changed.
     pub fn cryptographic(
         &mut self,
         pdu: &[u8],

@@ -1,6 +1,6 @@
 //! Laws of the definitions: each function has an empty body, and its contract is the law.
 ghost use Rattle.std.specs.Prelude.{◌≡◌, ℕ, List, [], ◌∷◌, ◌++◌, map, Option};
-ghost use Rattle.counting_receiver.specs.Counting.{AcceptedRise};
+ghost use Rattle.secoc_words.specs.Counting.{AcceptedRise};
 ghost use Rattle.pdu_collection.specs.Collection.{Place};
 ghost use Rattle.pdu_collection.specs.Joining.{Arrival, Joining, authentic, cryptographic};
 ghost use Rattle.pdu_collection.specs.declared.pair_lines.Head.{Head};
@@ -21,8 +21,8 @@ pub fn accepted_freshness_rises()
 {}
 
 /// The PDUs that are made of a payload and a freshness, given back as two arrivals, are judged as exactly their one
-/// Secured I-PDU: where the first of them waits, whatever arrived before, and the other comes next. Where the freshness
-/// is ahead of the counter, they are accepted.
+/// Secured I-PDU: if the first of them waits, whatever arrived before, and the other comes next. If the freshness is 1
+/// to 256 above the counter, they are accepted.
 pub fn made_pdus_are_judged_as_one()
     ensures payload_first { (head : Head) (before : List Arrival) (earlier counter freshness : ℕ)
         (payload part : List ℕ) (said : Said) → SaysMade head freshness payload (made payload part)

@@ -2,7 +2,7 @@
 ghost use Rattle.std.specs.Prelude.{◌≡◌, ◌↔◌, ◌+◌, ◌≤◌, true, length, take, drop, IfNone, IfSome};
 ghost use Rattle.pdu_collection.specs.Collection.{IsPlace, IsAuthentic, IsCryptographic, IsPartOf, link_of, joined_pdu};
 
-use byte_lists::append;
+use basics::append;
 use secured_pdu::build;
 use she_aes::Schedule;
 use std::marker::Model;
@@ -28,7 +28,7 @@ impl Model for Linker {
 }
 
 impl Linker {
-    /// The link of `size` bytes from place `at` of a payload on. `None` exactly where these aren't 1 to 4 bytes of the
+    /// The link of `size` bytes from place `at` of a payload on. `None` exactly if these aren't 1 to 4 bytes of the
     /// first 60.
     pub fn new(at: u8, size: u8) -> Option<Linker>
         ensures none { IfNone result (¬ IsPlace (record { at = at; size = size })) }
@@ -55,7 +55,7 @@ impl Linker {
         pdu.len() == 4 + usize::from(self.size)
     }
 
-    // The place behind the bytes of the link.
+    // The place after the bytes of the link.
     fn end(&self) -> usize
         ensures exact { result ≡ self.now.at + self.now.size }
     {
@@ -73,9 +73,9 @@ impl Linker {
         &from[..usize::from(self.size)]
     }
 
-    /// Writes the cryptographic PDU of a payload and a freshness to the front of `out`, and gives its length, 5 to 8
-    /// bytes: the low byte of the freshness, the first three bytes of the authenticator, and the link. `None` exactly
-    /// where the payload isn't an authentic PDU; `out` is then as before.
+    /// Writes the cryptographic PDU of a payload and a freshness to the beginning of `out`, and gives its length, 5 to
+    /// 8 bytes: the low byte of the freshness, the first three bytes of the authenticator, and the link. `None` exactly
+    /// if the payload isn't an authentic PDU; `out` is then as before.
     pub fn part(
         &self,
         schedule: &Schedule,
@@ -103,8 +103,8 @@ impl Linker {
     }
 }
 
-/// Writes the Secured I-PDU of an authentic and a cryptographic PDU to the front of `out`, and gives its length, 5 to
-/// 64 bytes.
+/// Writes the Secured I-PDU of an authentic and a cryptographic PDU to the beginning of `out`, and gives its length, 5
+/// to 64 bytes.
 pub fn join(payload: &[u8], pdu: &[u8], out: &mut [u8; 64]) -> usize
     requires payload { 1 ≤ length payload.now × length payload.now ≤ 60 }
     requires pdu { 4 ≤ length pdu.now }

@@ -6,7 +6,7 @@ ghost use Rattle.pdu_collection.specs.PairLines.{secured_of, pair_entry_of, pair
 ghost use Rattle.pdu_collection.specs.Receiving.{IsPairScript};
 
 use crate::linker::Linker;
-use byte_lists::{Block, Bytes};
+use basics::{Block, Bytes};
 use std::alloc::Global;
 use text_lines::reader::{LineReader, MOST_LINES, expect_count, read_lines, value_at};
 use text_lines::words::Words;
@@ -25,7 +25,7 @@ pub struct Head {
     pub place: Linker,
 }
 
-/// A line behind the head.
+/// A line after the head.
 #[derive(Debug, Drop)]
 pub enum Entry {
     /// An authentic PDU arrives.
@@ -139,7 +139,7 @@ fn read_secured(alloc: Global, words: &Words<'_>) -> Result<Entry, LineFault>
     Ok(Entry::Secured { freshness, payload })
 }
 
-/// Reads a line behind the first.
+/// Reads a line after the first.
 #[tactic(auto, unfolding(crate::specs::PairLines::pair_entry_of))]
 fn read_entry(alloc: Global, words: &Words<'_>) -> Result<Entry, LineFault>
     ensures { GivesLine (pair_entry_of words.now) result }
@@ -160,7 +160,7 @@ fn read_entry(alloc: Global, words: &Words<'_>) -> Result<Entry, LineFault>
     Err(LineFault::Refused(Cause::Event))
 }
 
-/// The lines of a script of pairs: at most 65,536 that aren't skipped, of which the first is the head.
+/// The lines of a script of pairs: at most 65,536 that aren't skipped, the first of them the head.
 #[tactic(auto, unfolding(crate::specs::PairLines::pairs_of))]
 pub fn read_pairs(alloc: Global, text: &[u8]) -> Result<Vec<PairLine>, ScriptFault>
     requires { length text.now < 2 ^ 32 }

@@ -1,6 +1,6 @@
 //! The program's one command.
 ghost use Rattle.std.specs.Prelude.{◌↔◌, IsTrue, ◌<◌, ◌^◌, length, map, string_bytes};
-ghost use Rattle.answer_rows.specs.Endings.{EndsInRow};
+ghost use Rattle.program_edge.specs.Endings.{EndsInRow};
 ghost use Rattle.pdu_collection.specs.Receiving.{IsPairScript};
 ghost use Rattle.pdu_collection.specs.Rows.{NamesInput};
 ghost use Rattle.pdu_collection.specs.Pairs.{RunsPairs};
@@ -8,17 +8,16 @@ ghost use Rattle.pdu_collection.specs.Steps.{PreparesPairs, ReadsPairs, DoesPair
 
 use crate::answering::answers;
 use crate::pair_lines::{PairLine, read_pairs};
-use answer_rows::{Refusal, tell_refusal};
 use bus_port::{Sink, Source};
-use command_edge::{DONE, read_input, tell};
-use line_rows::line_refusal;
+use program_edge::{DONE, Refusal, read_input, tell, tell_refusal};
 use std::alloc::{AllocError, Global};
+use text_lines::line_refusal;
 
 /// Tells what is said of each line of a script of pairs, and gives the status that the program ends with. One word,
 /// which names the script and may be any text, is the form of the words, the program's name left out. All reading comes
 /// before all printing, and every text that is printed ends with a line feed.
 ///
-/// The statuses are looked for in the order 2, 5, 8, 4. Want of memory, 7, prints nothing. A sink that fails makes the
+/// The statuses are looked for in the order 2, 5, 8, 4. Out of memory, 7, prints nothing. A sink that fails makes the
 /// status 6, whatever was to be printed.
 pub fn run_pairs<T: Source, K: Sink>(
     alloc: Global,
@@ -83,7 +82,7 @@ fn lines_of(alloc: Global, input: &[u8]) -> Result<Vec<PairLine>, Refusal>
     }
 }
 
-/// The second phase: what is said of the lines is told.
+/// The second phase: the answers to the lines are printed.
 fn tell_pairs<K: Sink>(alloc: Global, lines: &[PairLine], sink: &mut K) -> u8
     requires { IsPairScript lines.now }
     ensures { EndsInRow (DoesPairs lines.now)

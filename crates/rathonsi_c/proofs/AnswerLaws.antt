@@ -16,20 +16,37 @@ use Rattle.secured_pdu.specs.Verdict.{Outcome, Verdict}
 use Rattle.rathonsi_c.specs.declared.secoc.RathonsiVerdict.{RathonsiVerdict}
 use Rattle.rathonsi_c.specs.declared.route.RathonsiRoute.{RathonsiRoute}
 use Rattle.rathonsi_c.specs.declared.refusals.Refusal.{Refusal}
-use Rattle.rathonsi_c.specs.declared.refusals.Refusal.TheVariants.{BadValue, Damaged, Key, Exhausted, Reserve}
+use Rattle.rathonsi_c.specs.declared.refusals.Refusal.TheVariants.{BadValue, WrongCell, Damaged, Key, Exhausted, Reserve}
 use Rattle.rathonsi_c.specs.Causes.{IsDone}
-use Rattle.rathonsi_c.specs.Images.{ImageKey, SlotRefuses}
+use Rattle.rathonsi_c.specs.Images.{ImageBound, DamagedCell, ImageKey, SlotRefuses}
 use Rattle.rathonsi_c.specs.Refused.{route_status, RouteRefused, SendRefused}
 use Rattle.rathonsi_c.specs.Routes.{RouteReady, is_booted, RouteAnswers, CounterAnswers, status_alone, no_verdict, bounded_answer, JudgesPdu, ReceiveAnswers}
 use Rattle.rathonsi_c.specs.Stores.{IsSize}
 use Rattle.rathonsi_c.proofs.ImageLaws.{slot_once, bound_once}
 
+-- a cell that is damaged keeps no bound
+pub damaged_keeps_none : (image : List ℕ) (place id : ℕ) (direction : Direction) (bound : ℕ) → DamagedCell image place → ImageBound image place id direction bound → ⊥
+damaged_keeps_none image place id direction bound damaged kept = none-some kept.bytes (sym damaged.none ∙ kept.is)
+
 -- of a route that isn't ready, whatever the rest says
 pub refused_route : {A : Type 0} (tell : ℤ → A) (r : RathonsiRoute) (d : Direction) (image : List ℕ) (rest : A → Type 0) (refusal : Refusal) → RouteRefused r d image refusal → RouteAnswers tell r d image rest (tell (route_status refusal))
 refused_route {A} tell r d image rest BadValue h = inl (h, refl)
-refused_route {A} tell r d image rest Damaged (ranges, none) = inr ((λ out. out ranges), inl (none, refl))
-refused_route {A} tell r d image rest (Key refusal) (ranges, (bound, kept), refuses) =
-    inr ((λ out. out ranges), inr ((λ none. elim none [ inl nowhere ↦ nowhere bound kept | inr empty ↦ empty refuses.slot refuses.held ]), inl (refusal, (refuses, refl))))
+refused_route {A} tell r d image rest WrongCell (in_use, other) = inr ((λ out. out in_use), inl (other, refl))
+refused_route {A} tell r d image rest Damaged (in_use, own, none) = inr ((λ out. out in_use), inr (own, inl (none, refl)))
+refused_route {A} tell r d image rest (Key refusal) (in_use, (bound, kept), refuses) =
+    inr (
+      (λ out. out in_use),
+      inr (
+        (λ other. other.no_bound bound kept),
+        inr (
+          (λ none. elim none [
+            | inl damaged ↦ damaged_keeps_none image r.cell r.data_id d bound damaged kept
+            | inr empty ↦ empty refuses.slot refuses.held
+          ]),
+          inl (refusal, (refuses, refl)),
+        ),
+      ),
+    )
 refused_route {A} tell r d image rest Exhausted h = absurd h
 refused_route {A} tell r d image rest Reserve h = absurd h
 
@@ -43,15 +60,22 @@ may-not-refused image r key refusal k s =
 pub ready_route : {A : Type 0} (tell : ℤ → A) (r : RathonsiRoute) (d : Direction) (image key : List ℕ) (bound : ℕ) (rest : A → Type 0) (answer : A) → RouteReady r d image key bound → rest answer → RouteAnswers tell r d image rest answer
 ready_route {A} tell r d image key bound rest answer ready says =
     inr (
-      (λ out. out ready.ranges),
+      (λ out. out (record { ranges = ready.ranges; opened = ready.opened })),
       inr (
-        (λ none. elim none [ inl nowhere ↦ nowhere bound ready.kept | inr empty ↦ empty (Filled key ready.keyed.counter ready.keyed.flags) ready.keyed.held ]),
-        inr ((λ refusal refuses. may-not-refused image r key refusal ready.keyed refuses), says),
+        (λ other. other.no_bound bound ready.kept),
+        inr (
+          (λ none. elim none [
+            | inl damaged ↦ damaged_keeps_none image r.cell r.data_id d bound damaged ready.kept
+            | inr empty ↦ empty (Filled key ready.keyed.counter ready.keyed.flags) ready.keyed.held
+          ]),
+          inr ((λ refusal refuses. may-not-refused image r key refusal ready.keyed refuses), says),
+        ),
       ),
     )
 
 pub refused_send : (r : RathonsiRoute) (image : List ℕ) (refusal : Refusal) → SendRefused r image refusal → RouteAnswers status_alone r Sends image (CounterAnswers r image) (route_status refusal)
 refused_send r image BadValue h = refused_route status_alone r Sends image (CounterAnswers r image) BadValue h
+refused_send r image WrongCell h = refused_route status_alone r Sends image (CounterAnswers r image) WrongCell h
 refused_send r image Damaged h = refused_route status_alone r Sends image (CounterAnswers r image) Damaged h
 refused_send r image (Key refusal) h = refused_route status_alone r Sends image (CounterAnswers r image) (Key refusal) h
 refused_send r image Exhausted (most, (key, (bound, ready))) =

@@ -1,5 +1,4 @@
--- A loop over a text of whole blocks that writes, in the place of each block, what f gives of a state and the rest of
--- the text.
+-- A loop over a text of whole blocks that overwrites each block with what f gives of a state and the rest of the text.
 use Rattle.std.proofs.Common.{◌≡◌, ◌<◌, ◌≤◌, ◌+◌, ◌-◌, ◌*◌, ◌/◌, length, ℕ, suc, List, [], ◌∷◌, take, drop, ◌++◌, sym, ap, ◌∙◌, arith}
 use Rattle.std.specs.List.{concat}
 use Rattle.std.specs.Simd.{first_chunks}

@@ -1,4 +1,4 @@
--- The image of a store is the front of a store over a disk, and the other way round.
+-- The image of a store is the beginning of a store over a disk, and the other way round.
 use Rattle.std.proofs.Common.{◌≡◌, ℕ, zero, suc, ◌+◌, ◌<◌, ◌≤◌, inl, inr, Option, Some, None, IsSome, List, [], ◌∷◌, ◌++◌, length, take, get_or, refl, sym, ap, subst, ◌∙◌, arith, length-take}
 use Rattle.std.proofs.lemmas.Bool.{cases_lt, false≢true}
 use Rattle.std.proofs.Math.Nat.{zero-add}
@@ -11,7 +11,7 @@ use Rattle.cell_store.specs.Store.{Stands}
 use Rattle.cell_store.proofs.CallerLemmas.{part-part, stands-held, held-stands}
 use Rattle.rathonsi_c.specs.Stores.{IsWhole}
 
--- a part of the front of a list
+-- a part of the beginning of a list
 front-part : (x : List ℕ) (size at n : ℕ) → at + n ≤ size → size ≤ length x → part at n (take size x) ≡ part at n x
 front-part x size at n inside long = sym (part-part 0 size at n x inside (omega arith)) ∙ ap (λ m. part m n x) (zero-add at)
 
@@ -24,7 +24,7 @@ front-cell x n i below long =
 some-cell : (o : Option (List ℕ)) (c : List ℕ) → o ≡ Some c → IsSome o
 some-cell o c e = subst (λ (p : Option (List ℕ)). IsSome p) (sym e) refl
 
--- the front of a store over a disk
+-- the beginning of a store over a disk
 module _ (x : List ℕ) (cells : List (List ℕ)) (stands : Stands (twin_layout One) x cells) where
   front : List ℕ
   front = take (twin_size (length cells)) x

@@ -20,6 +20,12 @@ bound_once image place id direction a b h k =
     let e : h.bytes ≡ k.bytes = same_Some _ _ (sym h.is ∙ k.is) in
     (one_bound k.bytes id id direction direction a b (subst (λ (c : List ℕ). HoldsBound c id direction a) e h.holds) k.holds).2
 
+-- whatever its direction
+pub bound_alone : (image : List ℕ) (place id : ℕ) (d e : Direction) (a b : ℕ) → ImageBound image place id d a → ImageBound image place id e b → a ≡ b
+bound_alone image place id d e a b h k =
+    let same : h.bytes ≡ k.bytes = same_Some _ _ (sym h.is ∙ k.is) in
+    (one_bound k.bytes id id d e a b (subst (λ (c : List ℕ). HoldsBound c id d a) same h.holds) k.holds).2
+
 pub slot_once : (image : List ℕ) (place : ℕ) (a b : Slot) → ImageSlot image place a → ImageSlot image place b → a ≡ b
 slot_once image place a b h k =
     let e : h.bytes ≡ k.bytes = same_Some _ _ (sym h.is ∙ k.is) in

@@ -95,7 +95,7 @@ planned-does n place drops a b few p d = inl (inl d.empty)
 planned-does n place finishes a b few p d = inl (inl d.done.empty)
 planned-does n place powers_up a b few p d = inl (inl d.empty)
 
--- what one deed plans, where it plans no update of the slot
+-- what one deed plans, if it plans no update of the slot
 none-does : (n place : ℕ) (planned : Bool) (deed : Deed) (a b : Memory) → place < 14 → (planned ≡ false → NoUpdatePlanned place a) → DoesDeed n deed a b → planned_behind place planned deed ≡ false → NoUpdatePlanned place b
 none-does n place planned (sends k freshness) a b few none d not = none-same place a b d.changes.image d.changes.plan (none not)
 none-does n place planned (accepts k freshness) a b few none d not = none-same place a b d.changes.image d.changes.plan (none not)
@@ -118,7 +118,7 @@ none-does n place planned drops a b few none d not = inl d.empty
 none-does n place planned finishes a b few none d not = inl d.done.empty
 none-does n place planned powers_up a b few none d not = inl d.empty
 
--- what it leaves of the slot, where it begins no update of it
+-- what it leaves of the slot, if it begins no update of it
 held-does : (n place : ℕ) (slot : Slot) (planned : Bool) (deed : Deed) (a b : Memory) → BeginsNone planned deed → (planned ≡ false → NoUpdatePlanned place a) → ImageSlot a.image place slot → DoesDeed n deed a b → ImageSlot b.image place slot
 held-does n place slot planned (sends k freshness) a b free none held d = held-same place slot a b d.changes.image held
 held-does n place slot planned (accepts k freshness) a b free none held d = held-same place slot a b d.changes.image held
@@ -144,7 +144,7 @@ kept-over n place slot planned (deed ∷ deeds) a c few free h (b, (d, rest)) =
       none = none-does n place planned deed a b few h.none d;
     }) rest
 
--- what is planned behind all deeds
+-- what is planned after all deeds
 planned-over : (n place : ℕ) (deeds : List Deed) (a c : Memory) → place < 14 → FilledPlanned place a → Lives n deeds a c → FilledPlanned place c
 planned-over n place [] a c few p lives = subst (λ (m : Memory). FilledPlanned place m) (sym lives) p
 planned-over n place (deed ∷ deeds) a c few p (b, (d, rest)) = planned-over n place deeds b c few (planned-does n place deed a b few p d) rest

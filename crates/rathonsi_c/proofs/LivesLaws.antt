@@ -8,7 +8,7 @@ use Rattle.store_plan.specs.Plans.{PlansPut, CutWithin, IsEmptyPlan, applied}
 use Rattle.store_plan.proofs.CallerLemmas.{applied-cell, applied-others, applied-length, cut-cell, cut-others, cut-length, cut-none, applied-none}
 use Rattle.rathonsi_c.specs.declared.route.RathonsiRoute.{RathonsiRoute}
 use Rattle.rathonsi_c.specs.Images.{ImageBound}
-use Rattle.rathonsi_c.specs.Routes.{InRanges, at_counter, wanted, Opens, RouteAdvances, Reserves}
+use Rattle.rathonsi_c.specs.Routes.{InRanges, at_counter, opened_at, wanted, Opens, RouteAdvances, Reserves}
 use Rattle.rathonsi_c.specs.Lives.{Memory, Deed, sends, accepts, opens, sets, reserves, loads, drops, finishes, powers_up, SameRoute, OpensFilled, ChangesRoute, GivesOut, OpensRoute, SetsFields, PlansBound, PlansUpdate, DropsPlan, FinishesPlan, PowerBack, SameRoutes, DoesDeed, Lives, PoweredUp, given_out, RisesTo, CounterCovered}
 use Rattle.rathonsi_c.proofs.ImageLaws.{bound_once, same_direction, one_direction, moved_bound, renewed_bound}
 
@@ -86,6 +86,18 @@ after-cut image plan r y cut h = elim h.planned [
 -- only the counter of a route changes
 ranges-counted : (r : RathonsiRoute) (n : ℕ) (d : Direction) → InRanges r d → InRanges (at_counter r n) d
 ranges-counted r n d h = record {
+  direction_is = h.direction_is;
+  cell_least = h.cell_least;
+  reserve_least = h.reserve_least;
+  reserve_most = h.reserve_most;
+  window_is = h.window_is;
+  slot_least = h.slot_least;
+  slot_most = h.slot_most;
+  booted_most = h.booted_most;
+}
+
+ranges-opened : (r : RathonsiRoute) (n : ℕ) (d : Direction) → InRanges r d → InRanges (opened_at r n) d
+ranges-opened r n d h = record {
   direction_is = h.direction_is;
   cell_least = h.cell_least;
   reserve_least = h.reserve_least;
@@ -234,7 +246,7 @@ opened_anew image plan r s o h =
     let e : q.direction ≡ h.direction = same_direction q.direction h.direction (sym q.ranges.direction_is ∙ (o.same.direction ∙ h.ranges.direction_is)) in
     let same : q.bound ≡ h.bound = bound_once image r.cell r.data_id h.direction q.bound h.bound (bound_back image r f h.direction q.bound o.same (subst (λ (d : Direction). ImageBound image f.cell f.data_id d q.bound) e q.kept)) h.kept in
     subst (λ (t : RathonsiRoute). Goes image plan r t) (sym q.now) (record {
-      holds = refilled image plan r (at_counter f q.bound) q.direction (record { cell = o.same.cell; data_id = o.same.data_id; direction = o.same.direction }) (ranges-counted f q.bound q.direction q.ranges) h (omega arith);
+      holds = refilled image plan r (opened_at f q.bound) q.direction (record { cell = o.same.cell; data_id = o.same.data_id; direction = o.same.direction }) (ranges-opened f q.bound q.direction q.ranges) h (omega arith);
       later = (let b = h.below in omega arith);
     })
 
@@ -388,12 +400,12 @@ rises n k (finishes ∷ deeds) a c x s (b, (d, rest)) =
 rises n k (powers_up ∷ deeds) a c x s (b, (d, rest)) =
     let m = moves n powers_up a b s d in rises_from _ _ _ (given_out k deeds) (m.goes k x).later (rises n k deeds b c x (sound-then n a b s m) rest)
 
--- a route that was opened for the first time, where nothing is planned
+-- a route that was opened for the first time, if nothing is planned
 holds_opened : (image : List ℕ) (plan : Plan) (f r : RathonsiRoute) → IsEmptyPlan plan → Opens f image r → Holds image plan r
 holds_opened image plan f r empty o =
     subst (λ (t : RathonsiRoute). Holds image plan t) (sym o.now) (record {
       direction = o.direction;
-      ranges = ranges-counted f o.bound o.direction o.ranges;
+      ranges = ranges-opened f o.bound o.direction o.ranges;
       bound = o.bound;
       kept = o.kept;
       below = omega arith;

@@ -24,7 +24,7 @@ use Rattle.rathonsi_c.specs.Images.{ImageBound, ImageSlot, ImageKey}
 use Rattle.rathonsi_c.specs.Routes.{RouteReady, is_booted, wanted, Reserves, bounded_answer, no_verdict, JudgesPdu, ReceiveAnswers}
 use Rattle.rathonsi_c.specs.Lives.{PlanDone}
 use Rattle.rathonsi_c.proofs.ImageLaws.{bound_once, slot_once, one_direction, renewed_bound, moved_slot}
-use Rattle.rathonsi_c.proofs.AnswerLaws.{may-not-refused}
+use Rattle.rathonsi_c.proofs.AnswerLaws.{may-not-refused, damaged_keeps_none}
 
 abbrev number_of : ℤ → ℕ
 number_of (pos n) = n
@@ -55,10 +55,13 @@ judged r image pdu v answers is = elim answers [
   | inr (_, framed) ↦ elim framed [
     | inl (out, e) ↦ absurd (other _ RESERVE (λ x. omega arith) (told v _ e is))
     | inr (_, ranged) ↦ elim ranged [
-      | inl (none, e) ↦ absurd (other _ RESERVE (λ x. omega arith) (told v _ e is))
-      | inr (_, kept) ↦ elim kept [
-        | inl (refusal, (refuses, e)) ↦ absurd (erc-other refusal (told v _ e is))
-        | inr (_, says) ↦ says
+      | inl (elsewhere, e) ↦ absurd (other _ RESERVE (λ x. omega arith) (told v _ e is))
+      | inr (_, own) ↦ elim own [
+        | inl (none, e) ↦ absurd (other _ RESERVE (λ x. omega arith) (told v _ e is))
+        | inr (_, kept) ↦ elim kept [
+          | inl (refusal, (refuses, e)) ↦ absurd (erc-other refusal (told v _ e is))
+          | inr (_, says) ↦ says
+        ]
       ]
     ]
   ]
@@ -72,12 +75,18 @@ framed r image pdu v w next key bound first is ready second = elim second [
     | inr (not_short, _) ↦ absurd (not_short short)
   ]
   | inr (_, rest) ↦ elim rest [
-    | inl (out, e) ↦ absurd (out ready.ranges)
+    | inl (out, e) ↦ absurd (out (record { ranges = ready.ranges; opened = ready.opened }))
     | inr (_, ranged) ↦ elim ranged [
-      | inl (none, e) ↦ absurd (elim none [ inl nowhere ↦ nowhere bound ready.kept | inr empty ↦ empty (Filled key ready.keyed.counter ready.keyed.flags) ready.keyed.held ])
-      | inr (_, kept) ↦ elim kept [
-        | inl (refusal, (refuses, e)) ↦ absurd (may-not-refused next r key refusal ready.keyed refuses)
-        | inr (_, says) ↦ says
+      | inl (elsewhere, e) ↦ absurd (elsewhere.no_bound bound ready.kept)
+      | inr (_, own) ↦ elim own [
+        | inl (none, e) ↦ absurd (elim none [
+          | inl damaged ↦ damaged_keeps_none next r.cell r.data_id Receives bound damaged ready.kept
+          | inr empty ↦ empty (Filled key ready.keyed.counter ready.keyed.flags) ready.keyed.held
+        ])
+        | inr (_, kept) ↦ elim kept [
+          | inl (refusal, (refuses, e)) ↦ absurd (may-not-refused next r key refusal ready.keyed refuses)
+          | inr (_, says) ↦ says
+        ]
       ]
     ]
   ]
@@ -155,7 +164,7 @@ module _ (r : RathonsiRoute) (image next pdu : List ℕ) (v w : RathonsiVerdict)
   }
 
   abbrev k : JudgesPdu r next pdu w
-  k = framed r image pdu v w next j.key to first is (record { ranges = j.ready.ranges; kept = kept; keyed = keyed }) second
+  k = framed r image pdu v w next j.key to first is (record { ranges = j.ready.ranges; opened = j.ready.opened; kept = kept; keyed = keyed }) second
 
   same-key : k.key ≡ j.key
   same-key = same_Some _ _ (ap (λ (s : Slot). key_of s) (slot_once next r.slot (Filled k.key k.ready.keyed.counter k.ready.keyed.flags) (Filled j.key j.ready.keyed.counter j.ready.keyed.flags) k.ready.keyed.held keyed.held))

@@ -22,7 +22,7 @@ whole_blocks text = first_chunks 16 (length text / 16) text
 abbrev pub TakesProtect : List ℕ → List ℕ → List ℕ → Type 0
 TakesProtect key payload pdu = IsKey key × IsPayload payload × (length payload + 4 ≤ length pdu)
 
--- the lengths that `rathonsi_secoc_protect_in_place` takes, where the payload has n bytes
+-- the lengths that `rathonsi_secoc_protect_in_place` takes, if the payload has n bytes
 abbrev pub TakesInPlace : List ℕ → ℕ → List ℕ → Type 0
 TakesInPlace key n pdu = IsKey key × (1 ≤ n) × (n ≤ 60) × (n + 4 ≤ length pdu)
 

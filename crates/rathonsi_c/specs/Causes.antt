@@ -6,7 +6,7 @@ use Rattle.key_slots.specs.declared.refusals.Erc.TheVariants.{KeyWriteProtected,
 use Rattle.rathonsi_c.specs.declared.TheConstants.{OK, DAMAGED, KEY_EMPTY, KEY_INVALID, KEY_NOT_AVAILABLE}
 use Rattle.rathonsi_c.specs.declared.TheConstants.{KEY_WRITE_PROTECTED, KEY_UPDATE_ERROR}
 
--- where the cause stands, this is the answer, and else it is as the rest says
+-- if the cause stands, this is the answer, and else it is as the rest says
 abbrev pub IfCause : {A : Type 0} → Type 0 → A → (A → Type 0) → A → Type 0
 IfCause {A} cause this rest answer = (cause × (answer ≡ this)) ⊎ ((¬ cause) × rest answer)
 

@@ -1,4 +1,4 @@
--- What the image of a store keeps of a route and of a key slot: cells of which both copies are within it.
+-- What the image of a store keeps of a route and of a key slot: cells with both copies within it.
 use Rattle.std.specs.Prelude.{◌≡◌, ℕ, ◌+◌, ◌<◌, ◌≤◌, Bool, Some, None, List, length}
 use Rattle.cell_store.specs.Twin.{twin_size, cell_at}
 use Rattle.key_slots.specs.declared.memory.Flags.{Flags}
@@ -22,6 +22,16 @@ pub record ImageBound (image : List ℕ) (place id : ℕ) (direction : Direction
 -- or it keeps none of this Data ID and direction there
 abbrev pub NoBound : List ℕ → ℕ → ℕ → Direction → Type 0
 NoBound image place id direction = (bound : ℕ) → ¬ ImageBound image place id direction bound
+
+-- no copy of the cell at this place counts
+pub record DamagedCell (image : List ℕ) (place : ℕ) : Type 0 where
+  pub room : twin_size (place + 1) ≤ length image
+  pub none : cell_at image place ≡ None
+
+-- the cell at this place isn't that of this Data ID and direction: the image ends before it, or it holds something else
+pub record OthersCell (image : List ℕ) (place id : ℕ) (direction : Direction) : Type 0 where
+  pub undamaged : ¬ DamagedCell image place
+  pub no_bound : NoBound image place id direction
 
 -- the image keeps this slot in the cell at this place
 pub record ImageSlot (image : List ℕ) (place : ℕ) (slot : Slot) : Type 0 where

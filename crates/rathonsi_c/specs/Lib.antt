@@ -7,3 +7,4 @@ pub mod Refused
 pub mod Slots
 pub mod Stores
 pub mod Lives
+pub mod States

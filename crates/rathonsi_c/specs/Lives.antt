@@ -23,9 +23,9 @@ pub record Memory : Type 0 where
   pub routes : ℕ → RathonsiRoute
 
 -- What happens. A PDU with this freshness is sent by a route, or accepted; a route is opened again; a field of it that
--- doesn't say which route it is, nor its counter, is set; a bound is planned for a route, or an update for a slot; a
--- plan of which no write was begun is dropped; a plan is done, and the caller says so; the power comes back, whenever
--- it went.
+-- doesn't say which route it is, nor its counter, nor that it is open, is set; a bound is planned for a route, or an
+-- update for a slot; a plan is dropped before a write of it was begun; a plan is done, and the caller says so; the power
+-- comes back, whenever it went.
 pub data Deed : Type 0 where
   sends : (route : ℕ) → (freshness : ℕ) → Deed
   accepts : (route : ℕ) → (freshness : ℕ) → Deed
@@ -74,10 +74,11 @@ pub record SetsFields (n k : ℕ) (a b : Memory) : Type 0 where
   pub changes : ChangesRoute n k a b
   pub same : SameRoute (a.routes k) (b.routes k)
   pub counter : (b.routes k).counter ≡ (a.routes k).counter
+  pub opened : (b.routes k).opened ≡ (a.routes k).opened
   pub direction : Direction
   pub ranges : InRanges (b.routes k) direction
 
--- `rathonsi_route_reserve` on route k
+-- `rathonsi_route_reserve` or `rathonsi_route_advance` on route k
 pub record PlansBound (n k : ℕ) (a b : Memory) : Type 0 where
   pub which : k < n
   pub freshness : ℕ
@@ -192,7 +193,7 @@ abbrev pub PlannedAs : ℕ → Bool → Memory → Type 0
 PlannedAs slot false a = NoUpdatePlanned slot a
 PlannedAs slot true a = UpdatePlanned slot a
 
--- whether an update of this slot is planned behind a deed, where `planned` says whether one was before it
+-- whether an update of this slot is planned after a deed; `planned` says whether one was before it
 abbrev pub planned_behind : ℕ → Bool → Deed → Bool
 planned_behind slot planned (sends k freshness) = planned
 planned_behind slot planned (accepts k freshness) = planned
@@ -208,7 +209,7 @@ abbrev pub planned_after : ℕ → Bool → List Deed → Bool
 planned_after slot planned [] = planned
 planned_after slot planned (deed ∷ deeds) = planned_after slot (planned_behind slot planned deed) deeds
 
--- a deed may begin what is planned where a plan is done, or the power went
+-- a deed may begin what is planned if a plan is done, or the power went
 abbrev pub BeginsNone : Bool → Deed → Type 0
 BeginsNone planned (sends k freshness) = Unit {0}
 BeginsNone planned (accepts k freshness) = Unit {0}

@@ -10,11 +10,11 @@ use Rattle.secured_pdu.specs.Verdict.{Outcome, Verdict, Accepted, FreshnessFailu
 use Rattle.store_plan.specs.declared.planning.Plan.{Plan}
 use Rattle.store_plan.specs.Plans.{PlansPut, IsEmptyPlan}
 use Rattle.rathonsi_c.specs.declared.TheConstants.{OK, BAD_LENGTH, BAD_VALUE, FRESHNESS_FAILURE, VERIFICATION_FAILURE}
-use Rattle.rathonsi_c.specs.declared.TheConstants.{DAMAGED, BUSY, RESERVE, EXHAUSTED}
+use Rattle.rathonsi_c.specs.declared.TheConstants.{DAMAGED, BUSY, RESERVE, EXHAUSTED, WRONG_CELL}
 use Rattle.rathonsi_c.specs.declared.secoc.RathonsiVerdict.{RathonsiVerdict}
 use Rattle.rathonsi_c.specs.declared.route.RathonsiRoute.{RathonsiRoute}
 use Rattle.rathonsi_c.specs.Causes.{IfCause, IsDone, erc_status}
-use Rattle.rathonsi_c.specs.Images.{ImageBound, NoBound, ImageKey, NoSlot, SlotRefuses}
+use Rattle.rathonsi_c.specs.Images.{ImageBound, DamagedCell, OthersCell, ImageKey, NoSlot, SlotRefuses}
 
 -- the numbers of a route in this direction are within their ranges
 pub record InRanges (r : RathonsiRoute) (direction : Direction) : Type 0 where
@@ -31,12 +31,25 @@ pub record InRanges (r : RathonsiRoute) (direction : Direction) : Type 0 where
 abbrev pub OutOfRanges : RathonsiRoute → Type 0
 OutOfRanges r = (direction : Direction) → ¬ InRanges r direction
 
+-- `rathonsi_route_open` opened the route
+abbrev pub IsOpened : RathonsiRoute → Type 0
+IsOpened r = r.opened ≡ 1
+
+-- an opened route whose numbers in this direction are within their ranges
+pub record InUse (r : RathonsiRoute) (direction : Direction) : Type 0 where
+  pub ranges : InRanges r direction
+  pub opened : IsOpened r
+
 -- whether the caller says that a secure boot succeeded
 abbrev pub is_booted : RathonsiRoute → Bool
 is_booted r = r.booted == 1
 
 abbrev pub at_counter : RathonsiRoute → ℕ → RathonsiRoute
 at_counter r counter = record r { counter = counter }
+
+-- the route as it is opened at this bound
+abbrev pub opened_at : RathonsiRoute → ℕ → RathonsiRoute
+opened_at r bound = record r { counter = bound; opened = 1 }
 
 -- the image keeps a bound of the route that is at least this freshness
 pub record BoundCovers (r : RathonsiRoute) (image : List ℕ) (direction : Direction) (freshness : ℕ) : Type 0 where
@@ -53,6 +66,7 @@ pub record BoundBelow (r : RathonsiRoute) (image : List ℕ) (direction : Direct
 -- a route that may be used in this direction, with this key and this bound
 pub record RouteReady (r : RathonsiRoute) (direction : Direction) (image key : List ℕ) (bound : ℕ) : Type 0 where
   pub ranges : InRanges r direction
+  pub opened : IsOpened r
   pub kept : ImageBound image r.cell r.data_id direction bound
   pub keyed : ImageKey image r.slot (is_booted r) key
 
@@ -64,25 +78,27 @@ pub record Opens (r : RathonsiRoute) (image : List ℕ) (opened : RathonsiRoute)
   pub ranges : InRanges r direction
   pub bound : ℕ
   pub kept : ImageBound image r.cell r.data_id direction bound
-  pub now : opened ≡ at_counter r bound
+  pub now : opened ≡ opened_at r bound
 
 -- a PDU with this freshness is given out, or accepted: it is above the counter, and becomes it, and a bound covers it
 pub record RouteAdvances (direction : Direction) (r : RathonsiRoute) (image : List ℕ) (freshness : ℕ)
     (next : RathonsiRoute) : Type 0 where
   pub ranges : InRanges r direction
+  pub opened : IsOpened r
   pub above : r.counter < freshness
   pub covered : BoundCovers r image direction freshness
   pub now : next ≡ at_counter r freshness
 
--- the bound that a reserve for a freshness wants: as far above it as the reserve, at most the last freshness
+-- the bound that a reserve for a freshness asks for: as far above it as the reserve, at most the last freshness
 abbrev pub wanted : RathonsiRoute → ℕ → ℕ
 wanted r freshness = min (freshness + (r.reserve - 1)) (2 ^ 64 - 1)
 
--- into an empty plan comes that bound, or nothing where the image keeps one that is as high
+-- into an empty plan comes that bound, or nothing if the image keeps one that is as high
 pub record Reserves (r : RathonsiRoute) (image : List ℕ) (freshness : ℕ) (old new : Plan) : Type 0 where
   pub empty : IsEmptyPlan old
   pub direction : Direction
   pub ranges : InRanges r direction
+  pub opened : IsOpened r
   pub bound : ℕ
   pub kept : ImageBound image r.cell r.data_id direction bound
   pub enough : wanted r freshness ≤ bound → new ≡ old
@@ -101,7 +117,7 @@ pub record SentBy (r : RathonsiRoute) (image payload pdu : List ℕ) : Type 0 wh
 
 -- ---- what the calls answer
 
--- the first refusal of the slot's key, and where there is none what the rest says
+-- the first refusal of the slot's key, and if there is none what the rest says
 abbrev pub IfKeyRefused : {A : Type 0} → (ℤ → A) → List ℕ → ℕ → Bool → (A → Type 0) → A → Type 0
 IfKeyRefused {A} tell image place booted rest answer =
     ((refusal : Erc) × (SlotRefuses image place booted refusal × (answer ≡ tell (erc_status refusal))))
@@ -110,9 +126,10 @@ IfKeyRefused {A} tell image place booted rest answer =
 -- the causes for which a route isn't ready, and else what the rest says; `tell` makes an answer of a status
 abbrev pub RouteAnswers : {A : Type 0} → (ℤ → A) → RathonsiRoute → Direction → List ℕ → (A → Type 0) → A → Type 0
 RouteAnswers {A} tell r direction image rest answer =
-    IfCause (¬ InRanges r direction) (tell BAD_VALUE)
-    (IfCause (NoBound image r.cell r.data_id direction ⊎ NoSlot image r.slot) (tell DAMAGED)
-    (IfKeyRefused tell image r.slot (is_booted r) rest)) answer
+    IfCause (¬ InUse r direction) (tell BAD_VALUE)
+    (IfCause (OthersCell image r.cell r.data_id direction) (tell WRONG_CELL)
+    (IfCause (DamagedCell image r.cell ⊎ NoSlot image r.slot) (tell DAMAGED)
+    (IfKeyRefused tell image r.slot (is_booted r) rest))) answer
 
 -- of a route that is ready to send
 abbrev pub CounterAnswers : RathonsiRoute → List ℕ → ℤ → Type 0
@@ -157,13 +174,30 @@ ReceiveAnswers r image pdu answer =
     IfCause (¬ IsFrame pdu) (no_verdict BAD_LENGTH)
     (RouteAnswers no_verdict r Receives image (JudgesPdu r image pdu)) answer
 
+-- the cell of a route isn't its own, or no copy of it counts, and else what the rest says
+abbrev pub CellAnswers : RathonsiRoute → List ℕ → (ℤ → Type 0) → ℤ → Type 0
+CellAnswers r image rest status =
+    IfCause ((direction : Direction) → InRanges r direction → OthersCell image r.cell r.data_id direction) WRONG_CELL
+    (IfCause (DamagedCell image r.cell) DAMAGED rest) status
+
 -- what `rathonsi_route_open` answers
 abbrev pub OpenAnswers : RathonsiRoute → List ℕ → ℤ → Type 0
-OpenAnswers r image status =
-    IfCause (OutOfRanges r) BAD_VALUE
-    (IfCause
-    ((direction : Direction) → InRanges r direction → NoBound image r.cell r.data_id direction) DAMAGED IsDone) status
+OpenAnswers r image status = IfCause (OutOfRanges r) BAD_VALUE (CellAnswers r image IsDone) status
+
+-- what `rathonsi_route_advance` answers, and `rathonsi_route_reserve` where the freshness isn't too far ahead
+abbrev pub AdvanceAnswers : RathonsiRoute → List ℕ → Plan → (ℤ → Type 0) → ℤ → Type 0
+AdvanceAnswers r image plan rest status =
+    IfCause (¬ IsEmptyPlan plan) BUSY
+    (IfCause (OutOfRanges r ⊎ ¬ IsOpened r) BAD_VALUE (CellAnswers r image rest)) status
+
+-- the freshness is further above the bound in the image than any window reaches
+pub record IsFarAhead (r : RathonsiRoute) (image : List ℕ) (freshness : ℕ) : Type 0 where
+  pub direction : Direction
+  pub bound : ℕ
+  pub kept : ImageBound image r.cell r.data_id direction bound
+  pub far : bound + 256 < freshness
 
 -- what `rathonsi_route_reserve` answers
-abbrev pub ReserveAnswers : RathonsiRoute → List ℕ → Plan → ℤ → Type 0
-ReserveAnswers r image plan status = IfCause (¬ IsEmptyPlan plan) BUSY (OpenAnswers r image) status
+abbrev pub ReserveAnswers : RathonsiRoute → List ℕ → ℕ → Plan → ℤ → Type 0
+ReserveAnswers r image freshness plan status =
+    AdvanceAnswers r image plan (IfCause (IsFarAhead r image freshness) BAD_VALUE IsDone) status

@@ -1,4 +1,4 @@
--- The image of a whole store: fourteen key slots, and behind them a cell a route.
+-- The image of a whole store: fourteen key slots, and after them a cell a route.
 use Rattle.std.specs.Prelude.{ℤ, ◌≡◌, ◌≢◌, ℕ, ◌+◌, ◌<◌, ◌≤◌, ◌⊎◌, None, IsSome, List, length}
 use Rattle.cut_disk.specs.Images.{splice}
 use Rattle.cell_store.specs.declared.kinds.Version.TheVariants.{One}

@@ -1,7 +1,7 @@
 //! AES-128 over texts of whole blocks, in place, and its CMAC.
 ghost use Rattle.std.specs.Prelude.{◌≡◌, ◌≢◌, ◌↔◌, ◌+◌, ◌≤◌, ◌%◌, ◌++◌, length, take, drop};
 ghost use Rattle.std.specs.List.{concat};
-ghost use Rattle.byte_lists.specs.Blocks.{IsBlock};
+ghost use Rattle.basics.specs.Blocks.{IsBlock};
 ghost use Rattle.she_aes.specs.Modes.{ecb, ecb_inverse, cbc, cbc_inverse};
 ghost use Rattle.she_cmac.specs.Cmac.{cmac};
 ghost use Rattle.rathonsi_c.specs.Calls.{IsKey, TakesText, whole_blocks};

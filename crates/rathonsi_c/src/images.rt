@@ -16,7 +16,7 @@ pub fn slot_at(image: &[u8], place: u8) -> Option<Slot>
     }
 }
 
-/// The fourteen slots that the image keeps; none where one of its first fourteen cells is no slot's.
+/// The fourteen slots that the image keeps; none if one of its first fourteen cells is no slot's.
 pub fn slots_in(image: &[u8]) -> Option<Slots>
     ensures { MatchOption result (NoSlots image.now) (ImageSlots image.now) }
 {

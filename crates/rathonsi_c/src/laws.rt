@@ -18,10 +18,10 @@ ghost use Rattle.rathonsi_c.specs.declared.TheConstants.{OK, RESERVE};
 ghost use Rattle.rathonsi_c.specs.declared.route.RathonsiRoute.{RathonsiRoute};
 ghost use Rattle.rathonsi_c.specs.declared.secoc.RathonsiVerdict.{RathonsiVerdict};
 
-/// Whatever a caller that keeps its duties does with a store of several routes and slots, and whenever the power goes,
-/// the freshness that a route sends, or accepts, strictly rises, over all its lives: with another key, window, reserve
-/// or boot, too. It stays at most the counter, and whatever the power leaves keeps a bound that covers the counter. No
-/// two routes have one Data ID and direction, so that a route is a Data ID in one direction.
+/// The freshness that a route sends, or accepts, strictly rises over all its lives, whenever the power goes. The caller
+/// keeps its duties, and else does with a store of several routes and slots what it likes. Key, window, reserve and
+/// boot may change. Freshness stays at most the counter, and whatever the power leaves keeps a bound that covers the
+/// counter. A route is a Data ID in one direction: no two routes have both.
 pub fn freshness_rises_over_all_lives()
     ensures rises { (n : ℕ) (deeds : List Deed) (first last : Memory) → PoweredUp n first → Lives n deeds first last
         → (k : ℕ) → k < n → RisesTo (first.routes k).counter (given_out k deeds) (last.routes k).counter }
@@ -31,10 +31,10 @@ pub fn freshness_rises_over_all_lives()
 {}
 
 /// An update that `rathonsi_slot_confirm` confirmed stays in its slot, with its key, its counter and its flags, and the
-/// same reply confirms it, until another update of the slot is done, or is planned as the power goes or all begins
-/// again: one that was planned and dropped changes nothing. Where one is planned now, whatever the power leaves holds
-/// the one or the other. All this also where another one of the slot was `planned` when it was confirmed. And no filled
-/// slot becomes empty.
+/// same reply confirms it. This ends when another update of the slot is done, or is planned as the power goes or all
+/// begins again. An update that was planned and dropped changes nothing. If one is planned now, whatever the power
+/// leaves holds the one or the other. All this also if another one of the slot was `planned` when it was confirmed. And
+/// no filled slot becomes empty.
 pub fn keys_are_kept_over_all_lives()
     ensures kept { (n : ℕ) (deeds : List Deed) (first last : Memory) (uid m1 : List ℕ) (reply : Reply) (planned : Bool)
         → (c : ConfirmsSlot uid m1 first.image reply) → (planned ≡ false → NoUpdatePlanned c.update.id first)
@@ -65,8 +65,8 @@ pub fn a_store_stays_whole_over_all_lives()
         → IsWhole last.image × IsWhole image }
 {}
 
-/// Where `rathonsi_route_receive` answers RESERVE, and the freshness that it tells is reserved and the plan done, the
-/// same call on the same PDU accepts it.
+/// If `rathonsi_route_receive` answers RESERVE, and the freshness that it tells is reserved and the plan done, the same
+/// call on the same PDU accepts it.
 pub fn a_reserved_pdu_is_accepted()
     ensures { (r : RathonsiRoute) (image next pdu : List ℕ) (first second : RathonsiVerdict) (old plan done : Plan)
         → ReceiveAnswers r image pdu first → first.status ≡ RESERVE → Reserves r image first.freshness old plan
@@ -74,8 +74,8 @@ pub fn a_reserved_pdu_is_accepted()
         → second ≡ record { status = OK; payload_length = length pdu - 4; freshness = first.freshness } }
 {}
 
-/// The front of a store over a disk, which a node or the key tool left in version 1, is an image of which
-/// `rathonsi_store_check` answers OK, where the store has fourteen to 270 cells; and it has the cells of the store.
+/// The beginning of a store over a disk, which a node or the key tool left in version 1, is an image with the store's
+/// cells. `rathonsi_store_check` answers OK for it, if the store has fourteen to 270 cells.
 pub fn a_store_over_a_disk_is_an_image()
     ensures { (x : List ℕ) (cells : List (List ℕ)) → Stands (twin_layout One) x cells
         → 14 ≤ length cells → length cells ≤ 270 → IsWhole (take (twin_size (length cells)) x)

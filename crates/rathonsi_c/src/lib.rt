@@ -16,6 +16,7 @@ mod route;
 mod secoc;
 mod she;
 mod slots;
+mod states;
 mod store;
 
 pub use aes::{
@@ -23,8 +24,8 @@ pub use aes::{
     rathonsi_aes128_encrypt, rathonsi_cmac,
 };
 pub use route::{
-    RathonsiRoute, rathonsi_route_open, rathonsi_route_receive, rathonsi_route_reserve,
-    rathonsi_route_send,
+    RathonsiRoute, rathonsi_route_advance, rathonsi_route_open, rathonsi_route_receive,
+    rathonsi_route_reserve, rathonsi_route_send,
 };
 pub use secoc::{
     RathonsiVerdict, rathonsi_secoc_protect, rathonsi_secoc_protect_in_place, rathonsi_secoc_verify,
@@ -34,6 +35,10 @@ pub use she::{
     rathonsi_she_make_update, rathonsi_she_read_update,
 };
 pub use slots::{rathonsi_slot_confirm, rathonsi_slot_load};
+pub use states::{
+    RathonsiRouteState, RathonsiSlotState, VERSION, rathonsi_route_state, rathonsi_slot_state,
+    rathonsi_version,
+};
 pub use store::{
     rathonsi_route_make, rathonsi_store_check, rathonsi_store_done, rathonsi_store_make,
 };
@@ -53,7 +58,7 @@ pub const FRESHNESS_FAILURE: i32 = 3;
 /// The authenticator of the PDU is another.
 pub const VERIFICATION_FAILURE: i32 = 4;
 
-/// ID or AuthID of M1 is no number of a slot.
+/// ID or AuthID of M1 isn't the number of a slot.
 pub const BAD_ID: i32 = 5;
 
 /// M3 is not the MAC of M1 and M2 under the authorising key.
@@ -62,7 +67,7 @@ pub const BAD_MAC: i32 = 6;
 /// The image doesn't begin with the header of a store of this size.
 pub const NO_STORE: i32 = 7;
 
-/// A cell has no copy that counts, or isn't what the call asks of it.
+/// A cell has no copy that counts, or the cell of a slot holds no slot.
 pub const DAMAGED: i32 = 8;
 
 /// The plan isn't empty: it is to be done first.
@@ -88,3 +93,6 @@ pub const KEY_WRITE_PROTECTED: i32 = 15;
 
 /// The request's MAC, identifier or counter is refused.
 pub const KEY_UPDATE_ERROR: i32 = 16;
+
+/// The image ends before the cell, or the cell is another's: it holds something else than is asked of it.
+pub const WRONG_CELL: i32 = 17;

@@ -5,16 +5,18 @@ ghost use Rattle.rathonsi_c.specs.Refused.{route_status};
 
 use crate::{
     BAD_VALUE, DAMAGED, EXHAUSTED, KEY_EMPTY, KEY_INVALID, KEY_NOT_AVAILABLE, KEY_UPDATE_ERROR,
-    KEY_WRITE_PROTECTED, RESERVE,
+    KEY_WRITE_PROTECTED, RESERVE, WRONG_CELL,
 };
 use key_slots::Erc;
 
 /// Why a route isn't used.
 #[derive(Clone, Copy)]
 pub enum Refusal {
-    /// A number of the route is outside its range.
+    /// A number of the route is outside its range, or the route isn't open.
     BadValue,
-    /// The cell of its bound or of its slot isn't what it should be.
+    /// The image ends before the cell of its bound, or that cell holds something else.
+    WrongCell,
+    /// No copy of the cell of its bound counts, or the cell of its slot holds no slot.
     Damaged,
     /// The slot's key isn't for this use.
     Key(Erc),
@@ -30,6 +32,7 @@ impl Refusal {
     {
         match self {
             Refusal::BadValue => BAD_VALUE,
+            Refusal::WrongCell => WRONG_CELL,
             Refusal::Damaged => DAMAGED,
             Refusal::Key(refusal) => erc_status(refusal),
             Refusal::Exhausted => EXHAUSTED,

@@ -6,23 +6,27 @@ ghost use Rattle.secured_pdu.specs.Frame.{IsPayload};
 ghost use Rattle.secured_pdu.specs.Verdict.{Outcome, Verdict};
 ghost use Rattle.secured_pdu.specs.Judged.{outcome_of};
 ghost use Rattle.store_plan.specs.Plans.{PlanFits, IsEmptyPlan};
-ghost use Rattle.rathonsi_c.specs.Images.{ImageBound, NoBound, ImageKey};
-ghost use Rattle.rathonsi_c.specs.Refused.{KeyRefused, RouteRefused, SendRefused};
-ghost use Rattle.rathonsi_c.specs.Routes.{InRanges, OutOfRanges, BoundCovers, is_booted, at_counter, RouteReady, Opens, RouteAdvances, Reserves, SentBy, bounded_answer, SendAnswers, ReceiveAnswers, OpenAnswers, ReserveAnswers};
+ghost use Rattle.rathonsi_c.specs.Images.{ImageBound, ImageKey};
+ghost use Rattle.rathonsi_c.specs.Refused.{BoundRefused, KeyRefused, RouteRefused, SendRefused};
+ghost use Rattle.rathonsi_c.specs.Routes.{InRanges, OutOfRanges, InUse, BoundCovers, is_booted, RouteReady, Opens};
+ghost use Rattle.rathonsi_c.specs.Routes.{RouteAdvances, Reserves, SentBy, bounded_answer, SendAnswers};
+ghost use Rattle.rathonsi_c.specs.Routes.{ReceiveAnswers, OpenAnswers, IsFarAhead, AdvanceAnswers, ReserveAnswers};
+ghost use Rattle.rathonsi_c.specs.Causes.{IsDone};
 
 use crate::images::slot_at;
 use crate::refusals::Refusal;
 use crate::secoc::{RathonsiVerdict, refusal as no_verdict};
 use crate::{
     BAD_LENGTH, BAD_VALUE, BUSY, DAMAGED, FRESHNESS_FAILURE, OK, RESERVE, VERIFICATION_FAILURE,
+    WRONG_CELL,
 };
 use freshness_store::{Direction, bound_bytes, bound_in};
 use key_slots::{Purpose, Slot, usable};
 use secured_pdu::{Judgement, build, judge, split};
 use she_aes::{Block, expand};
-use store_plan::{Plan, cell_in, is_empty, plan_put};
+use store_plan::{Plan, PlanFault, cell_in, is_empty, plan_put};
 
-/// A Data ID in one direction. The caller fills in all but the counter; `rathonsi_route_open` sets it.
+/// A Data ID in one direction. The caller fills in all but the counter and `opened`; `rathonsi_route_open` sets these.
 #[derive(Clone, Copy)]
 #[repr(C)]
 pub struct RathonsiRoute {
@@ -42,8 +46,10 @@ pub struct RathonsiRoute {
     pub direction: u8,
     /// 1 after a secure boot that succeeded, else 0.
     pub booted: u8,
+    /// 1 once `rathonsi_route_open` opened it.
+    pub opened: u8,
     /// Fills the struct up; not read.
-    pub unused: [u8; 5],
+    pub unused: [u8; 4],
 }
 
 /// The direction of a route whose numbers are within their ranges.
@@ -73,18 +79,23 @@ pub fn direction_of(route: &RathonsiRoute) -> Option<Direction>
     }
 }
 
-// The bound that the image keeps for a route of this direction.
-fn bound_of(route: &RathonsiRoute, direction: Direction, image: &[u8]) -> Option<u64>
-    ensures none { IfNone result (NoBound image.now route.now.cell route.now.data_id direction) }
-    ensures some { IfSome result (ImageBound image.now route.now.cell route.now.data_id direction) }
+/// The bound that the image keeps for a route of this direction.
+pub fn bound_of(route: &RathonsiRoute, direction: Direction, image: &[u8]) -> Result<u64, Refusal>
+    ensures refused { IfErr result (BoundRefused image.now route.now.cell route.now.data_id direction) }
+    ensures kept { IfOk result (ImageBound image.now route.now.cell route.now.data_id direction) }
 {
-    match cell_in(image, route.cell) {
-        Ok(cell) => bound_in(&cell, route.data_id, direction),
-        Err(_) => None,
+    let cell = match cell_in(image, route.cell) {
+        Ok(cell) => cell,
+        Err(PlanFault::Damaged) => return Err(Refusal::Damaged),
+        Err(PlanFault::NoCell) => return Err(Refusal::WrongCell),
+    };
+    match bound_in(&cell, route.data_id, direction) {
+        Some(bound) => Ok(bound),
+        None => Err(Refusal::WrongCell),
     }
 }
 
-// The key of this slot, where it may be used for a MAC.
+// The key of this slot, if it may be used for a MAC.
 fn key_of(image: &[u8], slot: u8, booted: bool) -> Result<Block, Refusal>
     ensures key { IfOk result (ImageKey image.now slot booted) }
     ensures refused { IfErr result (KeyRefused image.now slot booted) }
@@ -116,11 +127,12 @@ fn make_ready(route: &RathonsiRoute, wanted: Direction, image: &[u8]) -> Result<
     let Some(direction) = direction_of(route) else {
         return Err(Refusal::BadValue);
     };
-    if direction != wanted {
+    if direction != wanted || route.opened != 1 {
         return Err(Refusal::BadValue);
     }
-    let Some(bound) = bound_of(route, wanted, image) else {
-        return Err(Refusal::Damaged);
+    let bound = match bound_of(route, wanted, image) {
+        Ok(bound) => bound,
+        Err(refusal) => return Err(refusal),
     };
     match key_of(image, route.slot, route.booted == 1) {
         Ok(key) => Ok(Ready { key, bound }),
@@ -137,7 +149,7 @@ struct Sending {
 
 // Whether a route may send, and with what.
 fn may_send(route: &RathonsiRoute, image: &[u8]) -> Result<Sending, Refusal>
-    ensures ranges { IfOk result (λ _. InRanges route.now Sends) }
+    ensures in_use { IfOk result (λ _. InUse route.now Sends) }
     ensures covered { IfOk result (λ s. BoundCovers route.now image.now Sends s.freshness) }
     ensures key { IfOk result (λ s. ImageKey image.now route.now.slot (is_booted route.now) s.key) }
     ensures next { IfOk result (λ s. s.freshness ≡ route.now.counter + 1) }
@@ -156,8 +168,8 @@ fn may_send(route: &RathonsiRoute, image: &[u8]) -> Result<Sending, Refusal>
     Ok(Sending { key, freshness })
 }
 
-/// Sets the counter to the bound that the image keeps. `BAD_VALUE`: a number of the route is outside its range.
-/// `DAMAGED`: its cell is no bound of this Data ID and direction.
+/// Opens the route: its counter is the bound that the image keeps. `BAD_VALUE`: a number of the route is outside its
+/// range. `WRONG_CELL`: the image has no such cell, or it holds something else. `DAMAGED`: no copy of it counts.
 #[unsafe(no_mangle)]
 pub extern "C" fn rathonsi_route_open(route: &mut RathonsiRoute, image: &[u8]) -> i32
     ensures answer { OpenAnswers route.old image.now result }
@@ -168,16 +180,18 @@ pub extern "C" fn rathonsi_route_open(route: &mut RathonsiRoute, image: &[u8]) -
         return BAD_VALUE;
     };
     match bound_of(route, direction, image) {
-        Some(bound) => {
+        Ok(bound) => {
             route.counter = bound;
+            route.opened = 1;
             OK
         }
-        None => DAMAGED,
+        Err(refusal) => refusal.status(),
     }
 }
 
-/// Plans the bound that covers this freshness and a reserve less one above it. The plan stays empty where the bound in
-/// the image is as high already. `BUSY`, `BAD_VALUE`, `DAMAGED`: the first that applies.
+/// Plans the bound that covers this freshness and a reserve less one above it. The plan stays empty if the bound in the
+/// image is as high already. `BUSY`, `BAD_VALUE` (also: the route isn't open), `WRONG_CELL`, `DAMAGED`, `BAD_VALUE` (the
+/// freshness is over 256 above the bound in the image): the first that applies.
 #[unsafe(no_mangle)]
 pub extern "C" fn rathonsi_route_reserve(
     route: &RathonsiRoute,
@@ -185,28 +199,86 @@ pub extern "C" fn rathonsi_route_reserve(
     image: &[u8],
     plan: &mut Plan,
 ) -> i32
-    ensures answer { ReserveAnswers route.now image.now plan.old result }
+    ensures answer { ReserveAnswers route.now image.now freshness plan.old result }
     ensures reserved { result ≡ OK → Reserves route.now image.now freshness plan.old plan.new }
     ensures fits { result ≡ OK → IsEmptyPlan plan.new ⊎ PlanFits (length image.now) plan.new }
     ensures unchanged { result ≢ OK → plan.new ≡ plan.old }
 {
+    let Kept { direction, bound } = match kept_for(route, image, plan) {
+        Ok(kept) => kept,
+        Err(status) => return status,
+    };
+    if freshness > bound.saturating_add(256) {
+        return BAD_VALUE;
+    }
+    raise(route, Kept { direction, bound }, freshness, image, plan)
+}
+
+/// What `rathonsi_route_reserve` does, however far ahead the freshness is: for a sender that is put in the place of
+/// another, whose freshness it goes on above. `BUSY`, `BAD_VALUE`, `WRONG_CELL`, `DAMAGED`: the first that applies.
+#[unsafe(no_mangle)]
+pub extern "C" fn rathonsi_route_advance(
+    route: &RathonsiRoute,
+    freshness: u64,
+    image: &[u8],
+    plan: &mut Plan,
+) -> i32
+    ensures answer { AdvanceAnswers route.now image.now plan.old IsDone result }
+    ensures reserved { result ≡ OK → Reserves route.now image.now freshness plan.old plan.new }
+    ensures fits { result ≡ OK → IsEmptyPlan plan.new ⊎ PlanFits (length image.now) plan.new }
+    ensures unchanged { result ≢ OK → plan.new ≡ plan.old }
+{
+    match kept_for(route, image, plan) {
+        Ok(kept) => raise(route, kept, freshness, image, plan),
+        Err(status) => status,
+    }
+}
+
+// The direction of a route, and the bound that the image keeps for it.
+#[derive(Clone, Copy)]
+struct Kept {
+    direction: Direction,
+    bound: u64,
+}
+
+// What a reserve begins with, or the status of why it can't.
+fn kept_for(route: &RathonsiRoute, image: &[u8], plan: &Plan) -> Result<Kept, i32>
+    ensures kept { IfOk result (λ k. InUse route.now k.direction
+        × ImageBound image.now route.now.cell route.now.data_id k.direction k.bound) }
+    ensures empty { IfOk result (λ _. IsEmptyPlan plan.now) }
+    ensures refused { IfErr result (AdvanceAnswers route.now image.now plan.now (λ _. ⊥)) }
+{
     if !is_empty(plan) {
-        return BUSY;
+        return Err(BUSY);
     }
     let Some(direction) = direction_of(route) else {
-        return BAD_VALUE;
+        return Err(BAD_VALUE);
     };
-    let Some(bound) = bound_of(route, direction, image) else {
-        return DAMAGED;
-    };
+    if route.opened != 1 {
+        return Err(BAD_VALUE);
+    }
+    match bound_of(route, direction, image) {
+        Ok(bound) => Ok(Kept { direction, bound }),
+        Err(refusal) => Err(refusal.status()),
+    }
+}
+
+// Plans the bound that covers this freshness and a reserve less one above it, if the one that is kept is lower.
+fn raise(route: &RathonsiRoute, kept: Kept, freshness: u64, image: &[u8], plan: &mut Plan) -> i32
+    requires { IsEmptyPlan plan.old × (InUse route.now kept.direction
+        × ImageBound image.now route.now.cell route.now.data_id kept.direction kept.bound) }
+    ensures done { result ≡ OK }
+    ensures reserved { Reserves route.now image.now freshness plan.old plan.new }
+    ensures fits { IsEmptyPlan plan.new ⊎ PlanFits (length image.now) plan.new }
+{
     let to = freshness.saturating_add(u64::from(route.reserve - 1));
-    if to <= bound {
+    if to <= kept.bound {
         return OK;
     }
     match plan_put(
         image,
         route.cell,
-        &bound_bytes(route.data_id, direction, to),
+        &bound_bytes(route.data_id, kept.direction, to),
     ) {
         Ok(made) => {
             *plan = made;
@@ -216,9 +288,10 @@ pub extern "C" fn rathonsi_route_reserve(
     }
 }
 
-/// Writes the Secured I-PDU of a payload of 1 to 60 bytes, with the freshness above the counter, to the front of `pdu`,
-/// which has room for four bytes more than the payload. That freshness becomes the counter. `BAD_LENGTH`, `BAD_VALUE`,
-/// `DAMAGED`, `KEY_EMPTY`, `KEY_INVALID`, `KEY_NOT_AVAILABLE`, `EXHAUSTED`, `RESERVE`: the first that applies.
+/// Writes the Secured I-PDU of a payload of 1 to 60 bytes, with the freshness above the counter, to the beginning of
+/// `pdu`. That has room for four bytes more than the payload. That freshness becomes the counter. Answers in this
+/// order: `BAD_LENGTH`, `BAD_VALUE`, `WRONG_CELL`, `DAMAGED`, `KEY_EMPTY`, `KEY_INVALID`, `KEY_NOT_AVAILABLE`,
+/// `EXHAUSTED`, `RESERVE`.
 #[unsafe(no_mangle)]
 pub extern "C" fn rathonsi_route_send(
     route: &mut RathonsiRoute,
@@ -282,8 +355,8 @@ fn answer(judgement: Judgement, bound: u64, payload: &[u8]) -> RathonsiVerdict
 
 /// Judges a PDU of 5 to 64 bytes. `OK`: it is accepted, and its freshness becomes the counter. `RESERVE`: its
 /// authenticator agrees, and the same call accepts it once its freshness is reserved. `BAD_LENGTH`, `BAD_VALUE`,
-/// `DAMAGED`, `KEY_EMPTY`, `KEY_INVALID`, `KEY_NOT_AVAILABLE`, `FRESHNESS_FAILURE`, `VERIFICATION_FAILURE`: the first
-/// that applies.
+/// `WRONG_CELL`, `DAMAGED`, `KEY_EMPTY`, `KEY_INVALID`, `KEY_NOT_AVAILABLE`, `FRESHNESS_FAILURE`,
+/// `VERIFICATION_FAILURE`: the first that applies.
 #[unsafe(no_mangle)]
 pub extern "C" fn rathonsi_route_receive(
     route: &mut RathonsiRoute,

@@ -14,17 +14,17 @@ use secured_pdu::{Judgement, build, judge, split};
 #[derive(Clone, Copy, Debug, PartialEq, Eq)]
 #[repr(C)]
 pub struct RathonsiVerdict {
-    /// `OK` where the PDU is accepted, else why it isn't.
+    /// `OK` if the PDU is accepted, else why it isn't.
     pub status: i32,
-    /// The length in bytes of the payload, which stands at the front of the PDU; 0 where the PDU isn't accepted.
+    /// The length in bytes of the payload, which stands at the beginning of the PDU; 0 if the PDU isn't accepted.
     pub payload_length: u32,
-    /// The full freshness, which is the receiver's next counter; 0 where the PDU isn't accepted, but for the status
+    /// The full freshness, which is the receiver's next counter; 0 if the PDU isn't accepted, except for the status
     /// RESERVE of `rathonsi_route_receive`, with which it is the freshness to reserve.
     pub freshness: u64,
 }
 
-/// Writes the Secured I-PDU of a payload of 1 to 60 bytes to the front of `pdu`, which has room for four bytes more
-/// than the payload. With another length of key, payload or buffer it is `BAD_LENGTH`.
+/// Writes the Secured I-PDU of a payload of 1 to 60 bytes to the beginning of `pdu`, which has room for four bytes
+/// more. With another length of key, payload or buffer it is `BAD_LENGTH`.
 #[unsafe(no_mangle)]
 pub extern "C" fn rathonsi_secoc_protect(
     key: &[u8],
@@ -86,7 +86,7 @@ pub extern "C" fn rathonsi_secoc_protect_in_place(
 
 /// Says what a receiver with this counter and a window of 1 to 256 says of a PDU of 5 to 64 bytes. With another length
 /// of key or PDU it is `BAD_LENGTH`, and else with another window `BAD_VALUE`. What is accepted has its payload at its
-/// front.
+/// beginning.
 #[unsafe(no_mangle)]
 pub extern "C" fn rathonsi_secoc_verify(
     key: &[u8],

@@ -8,7 +8,7 @@ ghost use Rattle.rathonsi_c.specs.Updates.{IsSendable, IsConstant, as_update, as
 
 use crate::keys::key_of;
 use crate::{BAD_ID, BAD_LENGTH, BAD_MAC, BAD_VALUE, OK};
-use byte_lists::Block;
+use basics::Block;
 use key_slots::{Counter28, Flags, SlotId};
 use memory_update::{Reply, Request, Uid, Unseal, Update, build, confirm_for, unseal};
 use she_kdf::{Constant, derive};

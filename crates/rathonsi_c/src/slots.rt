@@ -8,7 +8,7 @@ use crate::images::{slot_at, slots_in};
 use crate::refusals::erc_status;
 use crate::she::{RathonsiReply, RathonsiRequest, read_request, reply_struct};
 use crate::{BAD_ID, BAD_VALUE, BUSY, DAMAGED, KEY_EMPTY, OK};
-use byte_lists::Block;
+use basics::Block;
 use key_slots::Slot;
 use memory_update::{Uid, Update, confirm_for, head};
 use she_engine::{allowed, slot_of};

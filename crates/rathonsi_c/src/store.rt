@@ -14,7 +14,7 @@ use crate::{BAD_LENGTH, BAD_VALUE, DAMAGED, NO_STORE, OK};
 use freshness_store::bound_bytes;
 use store_plan::{ImageFault, Plan, check, count_of, done, is_within, make, make_cell};
 
-// The number of cells of an image of this size, where it is one of fourteen slots and up to 256 routes.
+// The number of cells of an image of this size, if it is one of fourteen slots and up to 256 routes.
 fn cells_of(size: usize) -> Option<u16>
     ensures { MatchOption result (NoSize size) (λ n. IsSize n size) }
 {
@@ -28,7 +28,7 @@ fn cells_of(size: usize) -> Option<u16>
 }
 
 /// Makes the image of a store with fourteen empty slots, and a cell of zero bytes for each route. `BAD_LENGTH`: the
-/// image has the size of no store of up to 256 routes.
+/// image doesn't have the size of a store of up to 256 routes.
 #[unsafe(no_mangle)]
 pub extern "C" fn rathonsi_store_make(image: &mut [u8]) -> i32
     ensures answer { MakeAnswers (length image.old) result }

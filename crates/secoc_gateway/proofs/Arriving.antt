@@ -1,5 +1,5 @@
 -- One arrival, from what the node's two calls ensure
-use Rattle.std.specs.Prelude.{◌≡◌, ◌≢◌, ℕ, ◌+◌, ◌<◌, ◌≤◌, ◌⊎◌, ◌==◌, Bool, true, false, not, nat_lt, nat_le, Option, None, Some, List, [], ◌∷◌, length, get_or, option_map}
+use Rattle.std.specs.Prelude.{◌≡◌, ◌≢◌, ℕ, ◌+◌, ◌<◌, ◌≤◌, ◌⊎◌, ◌==◌, Bool, true, false, not, nat_lt, nat_le, Option, None, Some, List, [], ◌∷◌, length, get_or, option_map, Ok, Err, ◌↔◌, IsErrOf}
 use Rattle.std.proofs.Common.{refl, sym, ◌∙◌, ap, subst, arith, inl, inr, get_or-set_other}
 use Rattle.std.proofs.lemmas.Bool.Decides.{nat_tests}
 use Rattle.cut_disk.specs.State.{DiskState}
@@ -19,8 +19,9 @@ use Rattle.secoc_node.specs.declared.faults.NodeFault.{NodeFault}
 use Rattle.secoc_node.specs.declared.faults.NodeFault.TheVariants as fault
 use Rattle.secoc_node.specs.Lines.{refusal_of_fault}
 use Rattle.secoc_node.specs.State.{NodeState}
-use Rattle.gateway_machine.proofs.CallerLemmas.{SameKeys, accepted_keys, same_key}
-use Rattle.secoc_gateway.specs.Arrivals.{IsReason, CanForward}
+use Rattle.secoc_gateway.proofs.Forwarding.{SameKeys, accepted_keys, same_key}
+use Rattle.secoc_gateway.specs.declared.arrival.Arrival.TheVariants.{Dropped}
+use Rattle.secoc_gateway.specs.Arrivals.{IsReason, IsFaulted, CanForward}
 
 -- ---- quiet disks
 
@@ -36,6 +37,51 @@ quiet_fails_not most a b runs quiet rose =
       | inl more ↦ omega (arith, more, s.faults)
       | inr top ↦ omega (arith, top, s.faults, quiet.below)
     ]
+
+-- ---- which error it is, of a result of another type
+
+pub ok_down : {T U E P : Type 0} (x : T) (y : U) (e : E) → (IsErrOf (Ok x) e ↔ P) → (IsErrOf (Ok y) e ↔ P)
+ok_down x y e h = (λ is. absurd (cc), λ p. let never = h.1 p in absurd (cc))
+
+pub err_down : {T U E P : Type 0} (f e : E) → (IsErrOf {T = T} (Err f) e ↔ P) → (IsErrOf {T = U} (Err f) e ↔ P)
+err_down f e h =
+    (λ is. let same : f ≡ e = cc in h.0 (ap Err same), λ p. let is = h.1 p in let same : f ≡ e = cc in ap Err same)
+
+-- ---- the count of faults, by what came of an arrival
+
+-- of an arrival whose payload wasn't sent for this fault: `a` before it, `b` between, `c` after it
+pub drop_rose : (v : ℕ) (f : NodeFault) (a b c : ℕ) → b ≡ a → (f ≡ fault.Faulted → Rose b c) → IsFaulted (Ok (Dropped v f)) → Rose a c
+drop_rose v fault.Faulted a b c same rose faulted = subst (λ n. Rose n c) same (rose refl)
+drop_rose v fault.Down a b c same rose faulted = absurd faulted
+drop_rose v fault.NoRoute a b c same rose faulted = absurd faulted
+drop_rose v fault.BadLength a b c same rose faulted = absurd faulted
+drop_rose v (fault.Key erc) a b c same rose faulted = absurd faulted
+drop_rose v fault.Exhausted a b c same rose faulted = absurd faulted
+
+pub drop_same : (v : ℕ) (f : NodeFault) (a b c : ℕ) → b ≡ a → (f ≢ fault.Faulted → c ≡ b) → (¬ IsFaulted (Ok (Dropped v f))) → c ≡ a
+drop_same v fault.Faulted a b c same left apart = absurd (apart tt)
+drop_same v fault.Down a b c same left apart = left (λ e. cc) ∙ same
+drop_same v fault.NoRoute a b c same left apart = left (λ e. cc) ∙ same
+drop_same v fault.BadLength a b c same left apart = left (λ e. cc) ∙ same
+drop_same v (fault.Key erc) a b c same left apart = left (λ e. cc) ∙ same
+drop_same v fault.Exhausted a b c same left apart = left (λ e. cc) ∙ same
+
+-- of one that answers this fault
+pub refuse_rose : (f : NodeFault) (a b : ℕ) → (f ≡ fault.Faulted → Rose a b) → IsFaulted (Err f) → Rose a b
+refuse_rose fault.Faulted a b rose faulted = rose refl
+refuse_rose fault.Down a b rose faulted = absurd faulted
+refuse_rose fault.NoRoute a b rose faulted = absurd faulted
+refuse_rose fault.BadLength a b rose faulted = absurd faulted
+refuse_rose (fault.Key erc) a b rose faulted = absurd faulted
+refuse_rose fault.Exhausted a b rose faulted = absurd faulted
+
+pub refuse_same : (f : NodeFault) (a b : ℕ) → (f ≢ fault.Faulted → b ≡ a) → (¬ IsFaulted (Err f)) → b ≡ a
+refuse_same fault.Faulted a b left apart = absurd (apart tt)
+refuse_same fault.Down a b left apart = left (λ e. cc)
+refuse_same fault.NoRoute a b left apart = left (λ e. cc)
+refuse_same fault.BadLength a b left apart = left (λ e. cc)
+refuse_same (fault.Key erc) a b left apart = left (λ e. cc)
+refuse_same fault.Exhausted a b left apart = left (λ e. cc)
 
 -- ---- the node between
 

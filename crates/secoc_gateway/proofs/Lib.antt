@@ -1,3 +1,6 @@
+pub mod Stepping
+pub mod Rising
+pub mod Forwarding
 pub mod Few
 pub mod Arriving
 pub mod Paired

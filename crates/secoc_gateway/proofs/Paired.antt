@@ -9,9 +9,9 @@ use Rattle.bus_machine.specs.Node.{Node, HasRoute}
 use Rattle.bus_machine.specs.Bus.{act_of, silent_world}
 use Rattle.bus_laws.proofs.CallerLemmas.{same_some, eq_of_test}
 use Rattle.secoc_node.specs.declared.faults.NodeFault.{NodeFault}
-use Rattle.gateway_machine.specs.declared.lines.GatewayLine.{GatewayLine}
-use Rattle.gateway_machine.specs.Gateway.{NodeSteps, second_of, PassesOn, StepUnder, GatewayStep, EventStep}
-use Rattle.gateway_machine.specs.StepLaws.{PassesOn-keeps}
+use Rattle.secoc_gateway.specs.declared.gateway_lines.GatewayLine.{GatewayLine}
+use Rattle.secoc_gateway.specs.Gateway.{NodeSteps, second_of, PassesOn, StepUnder, GatewayStep, EventStep}
+use Rattle.secoc_gateway.specs.StepLaws.{PassesOn-keeps}
 use Rattle.secoc_gateway.specs.declared.arrival.Arrival.{Arrival}
 use Rattle.secoc_gateway.specs.Arrivals.{arrival_line}
 use Rattle.secoc_gateway.specs.Pairs.{pair_in, AreGood}

@@ -7,7 +7,7 @@ use Rattle.cut_disk.specs.declared.Mark.{Mark}
 use Rattle.cut_disk.specs.declared.Mark.TheVariants as mark
 use Rattle.cut_disk.specs.Calls.{Runs}
 use Rattle.cut_disk.specs.CallLaws.{runs_join, runs_more}
-use Rattle.store_runs.specs.DiskTurns.{CountsFailure, DiskTurn}
+use Rattle.store_keeping.specs.DiskTurns.{CountsFailure, DiskTurn}
 use Rattle.bus_machine.specs.declared.events.Event.{Event}
 use Rattle.bus_machine.specs.declared.events.Event.TheVariants.{Inject}
 use Rattle.bus_machine.specs.declared.lines.Line.{Line}
@@ -20,12 +20,12 @@ use Rattle.bus_machine.specs.Bus.{node_of, silent_world}
 use Rattle.bus_world.specs.Turns.{IsCertain, TellsFaults, LeavesAlone, LeavesCut, StaysBehind, most_calls}
 use Rattle.bus_world.proofs.CallerLemmas.{turn_fits}
 use Rattle.secoc_node.specs.State.{NodeState, FitsNow, TellsFitting}
-use Rattle.gateway_machine.specs.declared.lines.GatewayLine.{GatewayLine}
-use Rattle.gateway_machine.specs.declared.lines.GatewayLine.TheVariants.{Forwarded, Dropped, OfNode}
-use Rattle.gateway_machine.specs.Gateway.{departs_under, TellsDeparture, Departs, PassesOn, OneStep, StepUnder, GatewayStep, EventStep}
-use Rattle.gateway_machine.specs.StepLaws.{GatewayStep-keeps}
-use Rattle.gateway_machine.specs.PartLaws.{GatewayRun-parts}
-use Rattle.gateway_machine.proofs.CallerLemmas.{arriving}
+use Rattle.secoc_gateway.specs.declared.gateway_lines.GatewayLine.{GatewayLine}
+use Rattle.secoc_gateway.specs.declared.gateway_lines.GatewayLine.TheVariants.{Forwarded, Dropped, OfNode}
+use Rattle.secoc_gateway.specs.Gateway.{departs_under, TellsDeparture, Departs, PassesOn, OneStep, StepUnder, GatewayStep, EventStep}
+use Rattle.secoc_gateway.specs.StepLaws.{GatewayStep-keeps}
+use Rattle.secoc_gateway.specs.PartLaws.{GatewayRun-parts}
+use Rattle.secoc_gateway.proofs.Forwarding.{arriving}
 use Rattle.secoc_gateway.specs.State.{GatewayState, over}
 use Rattle.secoc_gateway.specs.Turns.{EventTurn, GatewayTurn, tells_gateway_failure, calls_under}
 use Rattle.secoc_gateway.specs.Laws.{TurnKeeps, GatewayTurnsAreOfTheNode}
@@ -128,7 +128,7 @@ departure_counts id v second told before after faults is = absurd is
 same_told : (a b : Line) → OfNode a ≡ OfNode b → a ≡ b
 same_told a b same = cc
 
--- what is told of a departure is no line of the node
+-- the line of a departure isn't one of the node
 departure_told : (id v : ℕ) (second : Line) (told : GatewayLine) (l : Line) → TellsDeparture id v second told → told ≡ OfNode l → ⊥
 departure_told id v (line.Sent out w pdu) told l is of = let no : Forwarded id v out w pdu ≡ OfNode l = sym is ∙ of in cc
 departure_told id v (line.Refused r) told l is of = let no : Dropped id v r ≡ OfNode l = sym is ∙ of in cc
@@ -194,7 +194,7 @@ on_disk_under pairs (Some out) before event told after is step =
     (arrival_on_disk (node_of event) a.id out a.pdu before told after (subst (λ (e : Event). PassesOn EventTurn out before e told after) a.event_is step))
 on_disk_under pairs None before event told after is step = own_on_disk before event told after step
 
--- ---- each turn, and turns one behind the other
+-- ---- each turn, and turns one after the other
 
 pub turn_keeps : (before : GatewayState) (event : Event) (told : GatewayLine) (after : GatewayState) → GatewayTurn before event told after → TurnKeeps before event told after
 turn_keeps before event told after turn =

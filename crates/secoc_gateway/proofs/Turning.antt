@@ -5,8 +5,8 @@ use Rattle.bus_machine.specs.declared.events.Event.{Event}
 use Rattle.bus_machine.specs.declared.lines.Line.{Line}
 use Rattle.bus_machine.specs.declared.lines.Line.TheVariants as line
 use Rattle.bus_machine.specs.Bus.{NamesSource, silent_world}
-use Rattle.gateway_machine.specs.declared.lines.GatewayLine.TheVariants.{OfNode}
-use Rattle.gateway_machine.specs.Gateway.{departs_under, FromNone, StepUnder}
+use Rattle.secoc_gateway.specs.declared.gateway_lines.GatewayLine.TheVariants.{OfNode}
+use Rattle.secoc_gateway.specs.Gateway.{departs_under, FromNone, StepUnder}
 use Rattle.secoc_gateway.specs.State.{GatewayState, over}
 use Rattle.secoc_gateway.specs.Turns.{EventTurn, GatewayTurn}
 

@@ -12,14 +12,14 @@ use Rattle.secoc_node.specs.declared.faults.NodeFault.{NodeFault}
 use Rattle.secoc_node.specs.declared.faults.NodeFault.TheVariants as fault
 use Rattle.secoc_node.specs.Lines.{refusal_of_fault}
 use Rattle.secoc_node.specs.State.{NodeState}
-use Rattle.gateway_machine.specs.declared.lines.GatewayLine.{GatewayLine}
-use Rattle.gateway_machine.specs.declared.lines.GatewayLine.TheVariants.{Forwarded, Dropped, OfNode}
+use Rattle.secoc_gateway.specs.declared.gateway_lines.GatewayLine.{GatewayLine}
+use Rattle.secoc_gateway.specs.declared.gateway_lines.GatewayLine.TheVariants.{Forwarded, Dropped, OfNode}
 use Rattle.secoc_gateway.specs.declared.arrival.Arrival.{Arrival}
 use Rattle.secoc_gateway.specs.declared.arrival.Arrival.TheVariants as arrival
 
 -- ---- the line of the machine that an answer stands for
 
--- of an arrival under the first of these Data IDs, whose payload departs under the second: its PDU is a front of
+-- of an arrival under the first of these Data IDs, whose payload departs under the second: its PDU is a prefix of
 -- `bytes`
 abbrev pub arrival_line : (id out : ℕ) → List ℕ → Result Arrival NodeFault → GatewayLine
 arrival_line id out bytes (Ok (arrival.Forwarded v sent)) = Forwarded id v out sent.freshness (take sent.len bytes)
@@ -70,8 +70,8 @@ IfNothingDone _ P = P
 
 -- ---- what is forwarded
 
--- the node is up over a disk that is quiet, both slots are usable, the verdict on the PDU is that it is accepted with
--- this payload and freshness, and there is freshness left for the departure
+-- the node is up over a quiet disk, and both slots are usable. The verdict on the PDU is that it is accepted with this
+-- payload and freshness. There is freshness left for the departure
 pub record CanForward (s : NodeState) (id out : ℕ) (pdu payload : List ℕ) (v : ℕ) : Type 0 where
   pub is_up : s.node.up ≡ true
   pub quiet : IsQuiet s.store.disk

@@ -1,5 +1,13 @@
+pub mod Gateway
+pub mod Claims
+pub mod MachineLaws
+pub mod StepLaws
+pub mod Parts
+pub mod PartLaws
 pub mod Pairs
 pub mod State
 pub mod Arrivals
+pub mod Relayed
 pub mod Turns
 pub mod Laws
+pub mod Words

@@ -9,9 +9,9 @@ use Rattle.bus_machine.specs.Past.{mark_of, cell_count}
 use Rattle.bus_machine.specs.Bus.{silent_world}
 use Rattle.bus_world.specs.Turns.{CanBeDone, NodeTurn, duty_of, most_calls}
 use Rattle.secoc_node.specs.State.{NodeState}
-use Rattle.gateway_machine.specs.declared.lines.GatewayLine.{GatewayLine}
-use Rattle.gateway_machine.specs.declared.lines.GatewayLine.TheVariants.{Dropped, OfNode}
-use Rattle.gateway_machine.specs.Gateway.{departs_under, GatewayStep}
+use Rattle.secoc_gateway.specs.declared.gateway_lines.GatewayLine.{GatewayLine}
+use Rattle.secoc_gateway.specs.declared.gateway_lines.GatewayLine.TheVariants.{Dropped, OfNode}
+use Rattle.secoc_gateway.specs.Gateway.{departs_under, GatewayStep}
 use Rattle.secoc_gateway.specs.State.{GatewayState, over}
 
 -- ---- the turn
@@ -20,9 +20,9 @@ use Rattle.secoc_gateway.specs.State.{GatewayState, over}
 abbrev pub EventTurn : NodeState → Event → Line → NodeState → Type 0
 EventTurn before event line after = NodeTurn before (duty_of silent_world event) line after
 
--- a gateway's turn is a step of its machine over the turns of its node: an arrival under the first Data ID of a pair is
--- the node's turn that receives, and where this is accepted, behind it the node's turn that sends; any other event is
--- the node's one turn. So all that a turn of the node keeps holds of each part
+-- a gateway's turn is a step of its machine over the turns of its node. An arrival under the first Data ID of a pair is
+-- the node's turn that receives and, if this is accepted, the node's turn that sends. Any other event is the node's one
+-- turn. So all that a turn of the node keeps holds of each part
 pub record GatewayTurn (before : GatewayState) (event : Event) (line : GatewayLine)
     (after : GatewayState) : Type 0 where
   pub step : GatewayStep EventTurn before.pairs (over before) event line (over after)
@@ -40,8 +40,7 @@ tells_gateway_failure (Dropped id v MemoryFailure) = true
 tells_gateway_failure (OfNode (Refused MemoryFailure)) = true
 tells_gateway_failure _ = false
 
--- the most calls of the disk: two puts of one cell where what arrives is to depart, else what the node's own event
--- makes
+-- the most calls of the disk: two puts of one cell if what arrives is to depart, else what the node's own event makes
 abbrev pub calls_under : Option ℕ → ℕ → ℕ
 calls_under (Some out) own = 12
 calls_under None own = own

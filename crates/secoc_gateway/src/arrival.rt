@@ -31,7 +31,7 @@ pub enum Arrival {
 pub struct PairRefused<C: Cells> {
     /// The node, as it was.
     pub node: Node<C>,
-    /// The number of the lowest pair whose first Data ID has no receiving route, or whose second has no sending route,
-    /// or one of which stands at the same place of an earlier pair; counted from 1.
+    /// The number of the lowest bad pair, counted from 1. Its first Data ID has no receiving route, its second has no
+    /// sending route, or one of them stands at the same place of an earlier pair.
     pub pair: u16,
 }

@@ -1,51 +1,32 @@
 //! A gateway over a node.
-ghost use Rattle.std.specs.Prelude.{◌≡◌, ◌≢◌, ◌<◌, ◌≤◌, ◌+◌, ◌^◌, ◌∷◌, ◌↔◌, ℕ, [], List, length, drop, not, true};
-ghost use Rattle.std.specs.Prelude.{false, Some, None, Option, IsSome, IfOk, IfErr, OnOk, OnErr, IsErrOf, MatchOption};
-ghost use Rattle.cut_disk.specs.State.{Told, Cut};
-ghost use Rattle.cut_disk.specs.Armed.{ArmsStop, ArmsFail};
-ghost use Rattle.cut_disk.specs.Calls.{Rose, Runs, Grows};
-ghost use Rattle.cut_disk.specs.Images.{CutsTo};
-ghost use Rattle.cell_store.specs.Reading.{NoStop, CutStays};
-ghost use Rattle.cell_store.specs.Cells.{Settled, StandsNow};
-ghost use Rattle.secure_boot.specs.Booting.{IsImage};
-ghost use Rattle.memory_update.specs.declared.messages.Update.{Update};
-ghost use Rattle.memory_update.specs.Messages.{Builds};
-ghost use Rattle.freshness_routes.specs.declared.routes.Direction.TheVariants.{Sends, Receives};
-ghost use Rattle.bus_machine.specs.declared.events.Event.TheVariants.{Inject};
-ghost use Rattle.bus_machine.specs.Node.{HasRoute, place_of, counter_at, powered, refused_up};
-ghost use Rattle.bus_machine.specs.Sound.{Sound};
-ghost use Rattle.bus_machine.specs.Steps.{receives, loads, keys, boots, cuts, NodeStep};
-ghost use Rattle.bus_machine.specs.Bus.{SentLine};
-ghost use Rattle.bus_machine.specs.Honest.{IsInTime, IsHeard};
-ghost use Rattle.secoc_node.specs.Cells.{CellsOf};
-ghost use Rattle.secoc_node.specs.State.{FitsNow, TellsFitting, IsCovered, Served};
-ghost use Rattle.secoc_node.specs.Causes.{CutCause};
-ghost use Rattle.secoc_node.specs.Lines.{received_line, loaded_line, keyed_line, boot_line, cut_line};
-ghost use Rattle.secoc_node.specs.Lines.{IfAcceptedWith, IfLeftAlone};
-ghost use Rattle.gateway_machine.specs.Gateway.{second_of as second_in, departs_under, EventStep, GatewayStep};
-ghost use Rattle.secoc_gateway.specs.State.{over};
-ghost use Rattle.secoc_gateway.specs.Pairs.{AreGood, IsLowestBad};
-ghost use Rattle.bus_world.specs.Turns.{CanBeDone};
-ghost use Rattle.secoc_gateway.specs.Turns.{EventTurn, GatewayTurn};
-ghost use Rattle.secoc_gateway.specs.Arrivals.{arrival_line, IfForwarded, IfNotForwarded, IfDropped, IfSpent};
-ghost use Rattle.secoc_gateway.specs.Arrivals.{IsReason, IsFaulted, IfNothingDone, CanForward, IsForwardedWith};
+ghost use Rattle.std.specs.Prelude.{◌≡◌, ◌≢◌, ◌<◌, ◌≤◌, ◌+◌, ◌^◌, ◌↔◌, ℕ, List, length, not, true, false, Some, None};
+ghost use Rattle.std.specs.Prelude.{Option, IsSome, IfOk, IfErr, OnOk, OnErr, IsErrOf, MatchOption};
+ghost use Rattle.secoc_gateway.specs.Words.{ArmsStop, ArmsFail, CutAndRead, IsImage, Update, Builds, Sends, Receives};
+ghost use Rattle.secoc_gateway.specs.Words.{Inject, HasRoute, place_of, counter_at, Sound, receives, loads, keys};
+ghost use Rattle.secoc_gateway.specs.Words.{boots, cuts, NodeStep, SentLine, IsInTime, IsHeard, FitsNow, TellsFitting};
+ghost use Rattle.secoc_gateway.specs.Words.{IsCovered, Served, ComesUp, StaysDown, received_line, loaded_line};
+ghost use Rattle.secoc_gateway.specs.Words.{keyed_line, boot_line, cut_line, IfAcceptedWith, IfLeftAlone, second_in};
+ghost use Rattle.secoc_gateway.specs.Words.{departs_under, EventStep, GatewayStep, over, AreGood, IsLowestBad};
+ghost use Rattle.secoc_gateway.specs.Words.{CanBeDone, EventTurn, GatewayTurn, arrival_line, IfForwarded};
+ghost use Rattle.secoc_gateway.specs.Words.{IfNotForwarded, IfSpent, IfNothingDone, CanForward};
+ghost use Rattle.secoc_gateway.specs.Words.{IsForwardedWith, DepartsIn, ServedArrival};
 
+use crate::GatewayLine;
 use crate::arrival::{Arrival, PairRefused};
 use crate::lines::line_of;
 use crate::pairs::{lowest_bad, second_of};
 use crate::passing::pass_on;
 use bus_machine::Event;
 use bus_world::own_turn;
-use cell_store::{CutCells, Reread};
+use cell_store::CutCells;
 use cut_disk::Torn;
 use freshness_manager::Direction;
-use gateway_machine::GatewayLine;
 use memory_update::{Reply, Request};
-use numbered_run::Machine;
+use run_driver::Machine;
 use secoc_node::{CutFault, Node, NodeFault, Reception};
 use std::marker::Model;
 
-/// A gateway: a node, and pairs of Data IDs of which it receives the first and sends the second. Contracts see the
+/// A gateway: a node, and pairs of Data IDs. It receives the first of a pair, and sends the second. Contracts see the
 /// state of the node and the pairs. The pairs are always good: the node has their routes, and no two have one Data ID
 /// at one place.
 #[derive(Drop)]
@@ -67,8 +48,8 @@ impl<C: CutCells> Model for Gateway<C> {
 }
 
 impl<C: CutCells> Gateway<C> {
-    /// The gateway over this node with these pairs. Where one of them isn't good, the lowest that isn't is named, and
-    /// the node is handed back as it was.
+    /// The gateway over this node with these pairs. If one of them isn't good, the lowest that isn't is named, and the
+    /// node is handed back as it was.
     pub fn new(node: Node<C>, pairs: Vec<(u16, u16)>) -> Result<Gateway<C>, PairRefused<C>>
         ensures over { IfOk result (λ g. over g ≡ node) }
         ensures pairs { IfOk result (λ g. g.pairs ≡ pairs.items) }
@@ -95,15 +76,15 @@ impl<C: CutCells> Gateway<C> {
         Gateway { node, pairs }
     }
 
-    /// The Data ID under which departs what arrives under this one; `None` where this is the first of no pair.
+    /// The Data ID under which departs what arrives under this one; `None` if this is the first of no pair.
     pub fn second(&self, id: u16) -> Option<u16>
         ensures { result ≡ second_in self.now.pairs id }
     {
         second_of(self.pairs.as_slice(), id)
     }
 
-    /// Receives a PDU of 5 to 64 bytes under the first Data ID of a pair, and where it is accepted sends its payload
-    /// under the second: the PDU that departs stands at the front of `out`, whose rest is as before. Where nothing is
+    /// Receives a PDU of 5 to 64 bytes under the first Data ID of a pair, and if it is accepted sends its payload under
+    /// the second. The PDU that departs stands at the beginning of `out`, whose rest is as before. If nothing is
     /// forwarded `out` is as before. Errors: those of the reception, in their order `Down`, `BadLength`, `Key` and
     /// `Faulted`.
     pub fn arrive(&mut self, id: u16, pdu: &[u8], out: &mut [u8; 64]) -> Result<Arrival, NodeFault>
@@ -115,27 +96,17 @@ impl<C: CutCells> Gateway<C> {
         ensures turn { (place second : ℕ) → second_in self.old.pairs id ≡ Some second
             → GatewayStep EventTurn self.old.pairs (over self.old) (Inject place id pdu.now)
             (arrival_line id second out.new result) (over self.new) }
-        ensures length { IfForwarded result (λ sent. sent.len ≡ length pdu.now) }
-        ensures within { IfForwarded result (λ sent. sent.len ≤ 64) }
-        ensures rest { IfForwarded result (λ sent. drop sent.len out.new ≡ drop sent.len out.old) }
+        ensures departs { IfForwarded result (DepartsIn pdu.now out.old out.new) }
         ensures unwritten { IfNotForwarded result (out.new ≡ out.old) }
         // the freshness of what was accepted is at most the bound in its route's cell, and so is that of what departed
         ensures arrival_covered { IfSpent result (IsCovered (over self.new) id Receives) }
         ensures departure_covered { (second : ℕ) → second_in self.old.pairs id ≡ Some second
             → IfForwarded result (λ sent. IsCovered (over self.new) second Sends sent.freshness) }
-        ensures reason { IfDropped result IsReason }
         ensures untouched { IfNothingDone result (self.new ≡ self.old) }
         ensures forwards { (second : ℕ) (payload : List ℕ) (v : ℕ) → second_in self.old.pairs id ≡ Some second
             → CanForward (over self.old) id second pdu.now payload v
             → IsForwardedWith result v (counter_at self.old.node (place_of self.old.node second Sends) + 1) }
-        ensures down { IsErrOf result NodeFault.Down ↔ self.old.node.up ≡ false }
-        ensures routed { ¬ IsErrOf result NodeFault.NoRoute }
-        ensures faulted { IsFaulted result → Rose self.old.store.disk.faults self.new.store.disk.faults }
-        ensures faults { (¬ IsFaulted result) → self.new.store.disk.faults ≡ self.old.store.disk.faults }
-        ensures layout { self.new.store.layout ≡ self.old.store.layout }
-        ensures runs { Runs [] 12 self.old.store.disk self.new.store.disk }
-        ensures fits { FitsNow (over self.old) → FitsNow (over self.new) }
-        ensures sound { Sound self.new.node }
+        ensures serves { ServedArrival (over self.old) (over self.new) result }
         ensures pairs { self.new.pairs ≡ self.old.pairs }
     {
         let second = self.second(id).unwrap();
@@ -164,7 +135,7 @@ impl<C: CutCells> Gateway<C> {
         }
     }
 
-    // What comes of an event of which nothing is to depart.
+    // What comes of an event that lets nothing depart.
     fn own(&mut self, event: &Event) -> GatewayLine
         requires fields { CanBeDone event.now }
         requires own { departs_under self.old.pairs event.now ≡ None }
@@ -185,7 +156,7 @@ impl<C: CutCells> Gateway<C> {
         line_of(id, second, &answer, &out)
     }
 
-    /// Receives a PDU of 5 to 64 bytes under a Data ID. An accepted payload is a front of the PDU. Errors, in their
+    /// Receives a PDU of 5 to 64 bytes under a Data ID. An accepted payload is a prefix of the PDU. Errors, in their
     /// order: `Down`, `NoRoute`, `BadLength`, `Key`, `Faulted`. After each of them but `Faulted`, and after the two
     /// failures, all is as before, and no call of the disk was made.
     pub fn receive(&mut self, id: u16, pdu: &[u8]) -> Result<Reception, NodeFault>
@@ -236,8 +207,8 @@ impl<C: CutCells> Gateway<C> {
     }
 
     /// The counter of the route with this Data ID and direction: the last freshness that was sent or accepted, or the
-    /// bound at which it began. `None` exactly where there is no such route. Whatever was called before and answered,
-    /// the node is sound.
+    /// bound at which it began. `None` exactly if there is no such route. Whatever was called before and answered, the
+    /// node is sound.
     pub fn counter(&self, id: u16, direction: Direction) -> Option<u64>
         ensures value { MatchOption result (¬ HasRoute self.now.node id direction)
             (λ v. HasRoute self.now.node id direction
@@ -257,26 +228,16 @@ impl<C: CutCells> Gateway<C> {
     }
 
     /// Cuts the power and powers up again, from a node that is up as from one that is down: the cells are read anew, so
-    /// that the bytes of the disk stand for them, each counter is its bound, and no boot was made. Errors: `Store`
-    /// where the store isn't read, then `BadSlot`, then `BadBound`. The node is then down, and what it knows is as
-    /// before. Over a disk that tells its bytes, and fits the node, only the disk itself can fail.
+    /// that the bytes of the disk stand for them, each counter is its bound, and no boot was made. Errors: `Store` if
+    /// the store isn't read, then `BadSlot`, then `BadBound`. The node is then down, and what it knows is as before.
+    /// Over a disk that tells its bytes, and fits the node, only the disk itself can fail.
     pub fn power_cut(&mut self, torn: Torn) -> Result<(), CutFault>
         ensures step { TellsFitting (over self.old) → NodeStep self.old.node cuts (cut_line result) self.new.node }
-        ensures up { OnOk result (self.new.node ≡ powered self.old.node.config self.new.node.kept) }
-        ensures kept { OnOk result (self.new.store.cells ≡ CellsOf self.old.node.config self.new.node.kept) }
-        ensures stands { OnOk result (StandsNow self.new.store) }
-        ensures settled { OnOk result ((t : Told) → self.old.store.disk.told ≡ Some t → Settled self.new.store) }
-        ensures refused { OnErr result (self.new.node ≡ refused_up self.old.node) }
-        ensures cause { IfErr result (CutCause self.old.node.config.routes self.old.store self.new.store) }
-        ensures only { TellsFitting (over self.old) → IfErr result (λ fault. fault ≡ CutFault.Store Reread.DiskFailed) }
-        ensures image { CutsTo self.old.store.disk.told self.new.store.disk.told }
-        ensures stays { CutStays torn self.old.store.disk self.new.store.disk }
-        ensures stops { NoStop self.new.store.disk }
-        ensures faults { OnOk result (self.new.store.disk.faults ≡ self.old.store.disk.faults) }
-        ensures layout { self.new.store.layout ≡ self.old.store.layout }
-        ensures runs { Runs (Cut torn ∷ []) (68 + (14 + length self.old.node.config.routes)) self.old.store.disk
+        ensures up { OnOk result (ComesUp (over self.old) (over self.new)) }
+        ensures refused { IfErr result (StaysDown (over self.old) (over self.new)) }
+        ensures disk { CutAndRead torn (68 + (14 + length self.old.node.config.routes)) self.old.store.disk
             self.new.store.disk }
-        ensures grows { OnOk result (Grows self.old.store.disk self.new.store.disk) }
+        ensures layout { self.new.store.layout ≡ self.old.store.layout }
         ensures fits { FitsNow (over self.old) → FitsNow (over self.new) }
         ensures sound { Sound self.new.node }
         ensures pairs { self.new.pairs ≡ self.old.pairs }

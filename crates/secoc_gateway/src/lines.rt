@@ -2,15 +2,15 @@
 ghost use Rattle.std.specs.Prelude.{◌≡◌, ◌≤◌};
 ghost use Rattle.secoc_gateway.specs.Arrivals.{arrival_line, IfForwarded};
 
+use crate::GatewayLine;
 use crate::arrival::Arrival;
 use crate::passing::front;
+use basics::Pdu;
 use bus_machine::Line;
 use bus_world::refusal_of;
-use byte_lists::Pdu;
-use gateway_machine::GatewayLine;
 use secoc_node::NodeFault;
 
-/// The line of an arrival under the first Data ID of a pair: what departs under the second stands at the front of
+/// The line of an arrival under the first Data ID of a pair: what departs under the second stands at the beginning of
 /// `out`.
 pub fn line_of(
     id: u16,

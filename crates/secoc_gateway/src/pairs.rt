@@ -1,6 +1,6 @@
 //! Pairs of Data IDs: what arrives under the first departs under the second.
 ghost use Rattle.std.specs.Prelude.{◌≡◌, ◌≢◌, ◌↔◌, ◌<◌, ◌≤◌, IsTrue, All, MatchOption, length, take};
-ghost use Rattle.gateway_machine.specs.Gateway.{second_of as second_in};
+ghost use Rattle.secoc_gateway.specs.Gateway.{second_of as second_in};
 ghost use Rattle.secoc_gateway.specs.Pairs.{pair_in, IsGoodAfter, AreGood, IsLowestBad};
 
 use freshness_manager::{Direction, Route};

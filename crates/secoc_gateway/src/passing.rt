@@ -1,15 +1,14 @@
 //! One arrival: what a node accepts under one Data ID, it sends under another.
-ghost use Rattle.std.specs.Prelude.{◌≡◌, ◌+◌, ◌<◌, ◌≤◌, ◌↔◌, ℕ, List, [], length, take, drop, false, IsErrOf};
-ghost use Rattle.cut_disk.specs.Calls.{Rose, Runs};
+ghost use Rattle.std.specs.Prelude.{◌≡◌, ◌+◌, ◌≤◌, ℕ, List, length, take};
 ghost use Rattle.freshness_routes.specs.declared.routes.Direction.TheVariants.{Sends, Receives};
 ghost use Rattle.bus_machine.specs.declared.events.Event.TheVariants.{Inject};
 ghost use Rattle.bus_machine.specs.Node.{HasRoute, place_of, counter_at};
-ghost use Rattle.bus_machine.specs.Sound.{Sound};
-ghost use Rattle.secoc_node.specs.State.{FitsNow, IsCovered};
-ghost use Rattle.gateway_machine.specs.Gateway.{EventStep, PassesOn};
+ghost use Rattle.secoc_node.specs.State.{IsCovered};
+ghost use Rattle.secoc_gateway.specs.Gateway.{EventStep, PassesOn};
 ghost use Rattle.secoc_gateway.specs.Turns.{EventTurn};
-ghost use Rattle.secoc_gateway.specs.Arrivals.{arrival_line, IfForwarded, IfNotForwarded, IfDropped, IfSpent};
-ghost use Rattle.secoc_gateway.specs.Arrivals.{IsReason, IsFaulted, IfNothingDone, CanForward, IsForwardedWith};
+ghost use Rattle.secoc_gateway.specs.Arrivals.{arrival_line, IfForwarded, IfNotForwarded, IfSpent};
+ghost use Rattle.secoc_gateway.specs.Arrivals.{IfNothingDone, CanForward, IsForwardedWith};
+ghost use Rattle.secoc_gateway.specs.Relayed.{DepartsIn, ServedArrival};
 
 use crate::arrival::Arrival;
 use cell_store::Cells;
@@ -23,8 +22,8 @@ pub fn front(bytes: &[u8], len: u8) -> &[u8]
     &bytes[..usize::from(len)]
 }
 
-/// Receives a PDU under a Data ID, and where it is accepted sends its payload under another: the PDU that departs
-/// stands at the front of `out`, whose rest is as before. Errors: those of the reception.
+/// Receives a PDU under a Data ID, and if it is accepted sends its payload under another: the PDU that departs stands
+/// at the beginning of `out`, whose rest is as before. Errors: those of the reception.
 pub fn pass_on<C: Cells>(
     node: &mut Node<C>,
     id: u16,
@@ -39,24 +38,14 @@ pub fn pass_on<C: Cells>(
     // the same of what the node knows of its store and disk: one turn of the node, or two
     ensures turn { (place : ℕ) → PassesOn EventTurn second node.old (Inject place id pdu.now)
         (arrival_line id second out.new result) node.new }
-    ensures length { IfForwarded result (λ sent. sent.len ≡ length pdu.now) }
-    ensures within { IfForwarded result (λ sent. sent.len ≤ 64) }
-    ensures rest { IfForwarded result (λ sent. drop sent.len out.new ≡ drop sent.len out.old) }
+    ensures departs { IfForwarded result (DepartsIn pdu.now out.old out.new) }
     ensures unwritten { IfNotForwarded result (out.new ≡ out.old) }
     ensures arrival_covered { IfSpent result (IsCovered node.new id Receives) }
     ensures departure_covered { IfForwarded result (λ sent. IsCovered node.new second Sends sent.freshness) }
-    ensures reason { IfDropped result IsReason }
     ensures untouched { IfNothingDone result (node.new ≡ node.old) }
     ensures forwards { (payload : List ℕ) (v : ℕ) → CanForward node.old id second pdu.now payload v
         → IsForwardedWith result v (counter_at node.old.node (place_of node.old.node second Sends) + 1) }
-    ensures down { IsErrOf result NodeFault.Down ↔ node.old.node.up ≡ false }
-    ensures routed { ¬ IsErrOf result NodeFault.NoRoute }
-    ensures faulted { IsFaulted result → Rose node.old.store.disk.faults node.new.store.disk.faults }
-    ensures faults { (¬ IsFaulted result) → node.new.store.disk.faults ≡ node.old.store.disk.faults }
-    ensures layout { node.new.store.layout ≡ node.old.store.layout }
-    ensures runs { Runs [] 12 node.old.store.disk node.new.store.disk }
-    ensures fits { FitsNow node.old → FitsNow node.new }
-    ensures sound { Sound node.new.node }
+    ensures serves { ServedArrival node.old node.new result }
 {
     match node.receive(id, pdu) {
         Ok(Reception::Accepted { freshness, len }) => {

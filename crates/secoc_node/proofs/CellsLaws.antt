@@ -61,7 +61,7 @@ module _ (config : Config) (kept : Kept) (is : IsKept config kept) where
   unfolding CellsOf
   cell_of_kept_slot k inside = get_or_append_left (map slot_cell kept.slots) (bound_cells config.routes kept.bounds) [] k (omega (arith, slots_length, inside))
 
-  -- and behind them are those of the bounds
+  -- and after them are those of the bounds
   pub cell_of_kept_bound : (k : ℕ) → k < length config.routes → cell_in (CellsOf config kept) (14 + k) ≡ cell_of_route (route_in config.routes k) (get_or kept.bounds k 0)
   unfolding CellsOf
   cell_of_kept_bound k inside =
@@ -87,7 +87,7 @@ module _ (config : Config) (kept : Kept) (is : IsKept config kept) where
 
 -- ---- cells that are read
 
--- the cell of a route's bound, where it was read
+-- the cell of a route's bound, as it was read
 module _ (routes : List Route) (cells : List (List ℕ)) (place cell : ℕ) (route : Route) (inside : place < length routes) (at : cell ≡ 14 + place) (here : route ≡ get_or routes place route) where
   route_is : route ≡ route_in routes place
   route_is = here ∙ get_or_default routes place route no_route inside

@@ -1,4 +1,4 @@
--- What is covered of the routes that receive, behind a send
+-- What is covered of the routes that receive, after a send
 use Rattle.std.specs.Prelude.{◌≡◌, ◌≢◌, ℕ, ◌+◌, ◌<◌, true, Option, None, Some, List, [], length}
 use Rattle.std.proofs.Common.{sym, ◌∙◌, ap, subst, arith, get_or-set_other}
 use Rattle.std.proofs.lemmas.List.{length-set}

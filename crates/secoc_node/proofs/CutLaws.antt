@@ -1,21 +1,22 @@
 -- What a power cut of a node leaves
-use Rattle.std.proofs.Common.{◌≡◌, ◌+◌, false, true≢false, length, refl, sym, subst, ◌∙◌, inl, inr}
+use Rattle.std.proofs.Common.{◌≡◌, ◌+◌, false, true≢false, length, refl, sym, subst, ap, ◌∙◌, inl, inr}
 use Rattle.std.specs.Prelude.{Some, is_some, Result, Ok, Err, OnOk, OnErr, IfErr}
 use Rattle.cut_disk.specs.Images.{CutsTo}
 use Rattle.cell_store.specs.declared.faults.Reread.{Reread}
 use Rattle.cell_store.specs.declared.faults.Reread.TheVariants as reread
-use Rattle.cell_store.specs.Cells.{CellsState, StandsNow, EachImageStands}
+use Rattle.cell_store.specs.Cells.{CellsState, Rereads, StandsNow, EachImageStands}
 use Rattle.slot_disk.specs.Cell.{FirstBadSlot}
 use Rattle.bus_machine.specs.declared.lines.Line.TheVariants.{Refused}
 use Rattle.bus_machine.specs.declared.lines.Refusal.TheVariants.{MemoryFailure}
-use Rattle.bus_machine.specs.Node.{Node, Kept, Change, changed, powered, refused_up}
+use Rattle.bus_machine.specs.Node.{Node, Kept, Change, changed, refused_up}
 use Rattle.bus_machine.specs.Steps.{cuts, NodeStep}
 use Rattle.bus_laws.proofs.CallerLemmas.{Sound-step, pending_forward}
 use Rattle.secoc_node.specs.declared.faults.CutFault.{CutFault}
 use Rattle.secoc_node.specs.declared.faults.CutFault.TheVariants as cut
 use Rattle.secoc_node.specs.declared.known.Known.{Known}
 use Rattle.secoc_node.specs.Cells.{CellsOf, IsKept, SlotsButNoBound}
-use Rattle.secoc_node.specs.Causes.{LifeCause}
+use Rattle.secoc_node.specs.Causes.{LifeCause, CutCause}
+use Rattle.secoc_node.specs.Powering.{ComesUp, StaysDown}
 use Rattle.secoc_node.specs.Lines.{cut_line}
 use Rattle.secoc_node.specs.State.{NodeState, FitsNow, TellsFitting}
 use Rattle.secoc_node.specs.Keeping.{node_in, state_in, IsNode, BeginsLife}
@@ -94,17 +95,31 @@ module _ (known : Known) (store : CellsState) (is : IsNode known store) where
     step_after (Ok u) life cause fitting = life_powers node left.cells after is.sound left_size life (found fitting)
     step_after (Err fault) life cause fitting = absurd (no_cause left fault (found fitting) cause)
 
-    pub up_after : (r : Result (Unit {0}) CutFault) → OnOk r (BeginsLife known.config left.cells after) → OnOk r (node_in after ≡ powered known.config (node_in after).kept)
-    up_after (Ok u) life = life_is known.config left.cells after is.sound.config left_size life
-    up_after (Err fault) life = tt
+    -- where the cells are a node's, it is up
+    pub comes_up : (r : Result (Unit {0}) CutFault) → OnOk r (BeginsLife known.config left.cells after) → Rereads store left → OnOk r (ComesUp old (state_in after left))
+    comes_up (Ok u) life reread = record {
+      up = life_is known.config left.cells after is.sound.config left_size life;
+      kept = life_cells known.config left.cells after is.sound.config left_size life;
+      stands = reread.stands;
+      settled = reread.settled;
+      faults = reread.faults;
+      grows = reread.grows;
+    }
+    comes_up (Err fault) life reread = tt
 
-    pub kept_after : (r : Result (Unit {0}) CutFault) → OnOk r (BeginsLife known.config left.cells after) → OnOk r (left.cells ≡ CellsOf known.config (node_in after).kept)
-    kept_after (Ok u) life = life_cells known.config left.cells after is.sound.config left_size life
-    kept_after (Err fault) life = tt
+    cause_after : (fault : CutFault) → Rereads store left → LifeCause known.config.routes left.cells fault → CutCause known.config.routes store left fault
+    cause_after (cut.Store fault) reread cause = absurd cause
+    cause_after (cut.BadSlot slot) reread cause = (record { faults = reread.faults; stands = reread.stands }, cause)
+    cause_after (cut.BadBound place) reread cause = (record { faults = reread.faults; stands = reread.stands }, cause)
 
-    pub only_after : (r : Result (Unit {0}) CutFault) → IfErr r (LifeCause known.config.routes left.cells) → TellsFitting old → IfErr r (λ fault. fault ≡ cut.Store reread.DiskFailed)
-    only_after (Ok u) cause fitting = tt
-    only_after (Err fault) cause fitting = absurd (no_cause left fault (found fitting) cause)
+    -- where they aren't, it stays down
+    pub stays_down : (r : Result (Unit {0}) CutFault) → OnErr r (after ≡ fallen known) → Rereads store left → IfErr r (LifeCause known.config.routes left.cells) → IfErr r (StaysDown old (state_in after left))
+    stays_down (Ok u) same reread cause = tt
+    stays_down (Err fault) same reread cause = record {
+      refused = ap (λ k. node_in k) same;
+      cause = cause_after fault reread cause;
+      only = λ fitting. absurd (no_cause left fault (found fitting) cause);
+    }
 
     pub fits_after : (r : Result (Unit {0}) CutFault) → OnOk r (BeginsLife known.config left.cells after) → OnErr r (after ≡ fallen known) → FitsNow old → FitsNow (state_in after left)
     fits_after (Ok u) life same fits =
@@ -112,6 +127,6 @@ module _ (known : Known) (store : CellsState) (is : IsNode known store) where
     fits_after (Err fault) life same fits =
         subst (λ k. FitsNow (state_in k left)) (sym same) (fits_refused old left fits anew.cuts_to anew.tells anew.layout)
 
--- where the store isn't read, only the disk can have failed
+-- if the store isn't read, only the disk can have failed
 pub step_unread : (node : Node) (fault : Reread) → fault ≡ reread.DiskFailed → NodeStep node cuts (cut_line (Err (cut.Store fault))) (refused_up node)
 step_unread node fault is = subst (λ f. NodeStep node cuts (cut_line (Err (cut.Store f))) (refused_up node)) (sym is) refl

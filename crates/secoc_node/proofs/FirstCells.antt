@@ -23,7 +23,7 @@ first_is_kept config is = record {
   fit = All-map (λ bound. bound < 2 ^ 64) (λ route. route.start) config.routes (λ k d inside. (is.are_routes k d inside).start_fits);
 }
 
--- a front of fourteen zero cells holds the slots
+-- a prefix of fourteen zero cells holds the slots
 pub front_so_far : (config : Config) → IsConfig config → (front rest : List (List ℕ)) → front ≡ replicate 14 (replicate 32 0) → (k : ℕ) → k < 14
     → cell_in (front ++ rest) k ≡ cell_in (CellsOf config (first_node config).kept) k
 unfolding slot_cell
@@ -33,7 +33,7 @@ front_so_far config is front rest zeros k inside =
     ∙ ap (λ cells. cell_in cells k) zeros
     ∙ sym (cell_of_kept_slot config (first_kept config) (first_is_kept config is) k inside)
 
--- what lies behind a front that was written
+-- what lies after a prefix that was written
 pub front_rest : (front out : List (List ℕ)) → length front ≡ 14 → (k : ℕ) → 14 ≤ k → cell_in (front ++ drop 14 out) k ≡ cell_in out k
 front_rest front out size k behind =
     get_or-append_right front (drop 14 out) 14 k [] size behind
@@ -58,7 +58,7 @@ one_cell_more config is out place route cell fits inside here is_cell before k b
   | inr other ↦ get_or-set_other out (14 + place) k cell [] other.1 ∙ before k (omega (arith, below, other.1))
 ]
 
--- another cell than those behind all
+-- a cell behind all of them stays as it was
 pub rest_as_before : (out before : List (List ℕ)) (n place : ℕ) (cell : List ℕ) → place < n
     → ((k : ℕ) → 14 + n ≤ k → cell_in out k ≡ cell_in before k) → (k : ℕ) → 14 + n ≤ k → cell_in (set out (14 + place) cell) k ≡ cell_in before k
 rest_as_before out before n place cell inside rest k behind =

@@ -1,5 +1,5 @@
 -- A PDU that an up node receives under a Data ID for which it has a route
-use Rattle.std.proofs.Common.{◌≡◌, ℕ, ◌+◌, ◌^◌, ◌<◌, ◌≤◌, true, false, List, length, get_or, take, refl, sym, ap, subst, ◌∙◌}
+use Rattle.std.proofs.Common.{◌≡◌, ℕ, ◌+◌, ◌^◌, ◌<◌, true, false, List, length, get_or, take, refl, sym, ap, subst, ◌∙◌}
 use Rattle.std.specs.Prelude.{Option, Some, Ok, option_map, unwrap_or}
 use Rattle.cell_store.specs.Cells.{CellsState}
 use Rattle.freshness_routes.specs.declared.routes.Direction.TheVariants.{Receives}
@@ -9,7 +9,7 @@ use Rattle.freshness_manager.specs.Counters.{ReceiverCounter, KeepsBound}
 use Rattle.freshness_manager.specs.Changing.{MakesChange, FailsChange}
 use Rattle.secoc_receiver.specs.declared.receiver.Reception.{Reception}
 use Rattle.secoc_receiver.specs.declared.receiver.Reception.TheVariants as reception
-use Rattle.secoc_receiver.specs.Receiving.{IfAccepted, IfNotAccepted, IfUnmoved, line_of_receive, after_receive}
+use Rattle.secoc_receiver.specs.Receiving.{AcceptsPdu, IfAccepted, IfNotAccepted, IfUnmoved, line_of_receive, after_receive}
 use Rattle.bus_machine.specs.declared.lines.Line.{Line}
 use Rattle.bus_machine.specs.declared.lines.Line.TheVariants.{Accepted, FreshnessFailure, VerificationFailure, Refused}
 use Rattle.bus_machine.specs.declared.lines.Refusal.TheVariants.{MemoryFailure}
@@ -30,10 +30,11 @@ use Rattle.bus_laws.proofs.CallerLemmas.{facts, heard_line}
 use Rattle.secoc_node.proofs.CallLaws.{Done}
 use Rattle.secoc_node.proofs.RouteLaws.{with_counter_at, place_at, route_id, got_here, made_of, keeps_its_bound, counter_is, bound_is, moved_done, same_state, same_done, failed_done}
 
-pub said_length : (said : Reception) (count : ℕ) → IfAccepted (Ok said) (λ v len. len + 4 ≡ count) → IfAcceptedWith (Ok said) (λ v len. len + 4 ≡ count)
-said_length (reception.Accepted v len) count is = is
-said_length reception.FreshnessFailure count is = tt
-said_length reception.VerificationFailure count is = tt
+pub said_length : (said : Reception) (pdu : List ℕ) (rx rx' : ReceiverCounter) (old new : CellsState) → IfAccepted (Ok said) (λ v len. AcceptsPdu v len pdu rx rx' old new)
+    → IfAcceptedWith (Ok said) (λ v len. len + 4 ≡ length pdu)
+said_length (reception.Accepted v len) pdu rx rx' old new takes = takes.as_long
+said_length reception.FreshnessFailure pdu rx rx' old new takes = tt
+said_length reception.VerificationFailure pdu rx rx' old new takes = tt
 
 -- the receiver in a counter
 abbrev receiver_in : ReceiverCounter → RouteCounter → ReceiverCounter
@@ -90,7 +91,7 @@ module _ (known : Known) (store : CellsState) (is : IsNode known store) (up : kn
         same_done known store is up id Receives place route finds (of_route.Receives rx') left (got_again rx' same) untouched (receives id pdu) line
         (subst (λ i. NodeStep (node_in known) (receives i pdu) line (node_in known)) (route_id known store is up id Receives place route finds) step)
 
-    -- where no payload was accepted, the node is as before
+    -- if no payload was accepted, the node is as before
     pub said_untouched : (old : NodeState) (said : Reception) (rx' : ReceiverCounter) (left : CellsState) → state_in known store ≡ old
         → IfNotAccepted (Ok said) (rx' ≡ rx) → IfUnmoved (Ok said) (left ≡ store)
         → IfLeftAlone (Ok said) (state_in (with_counter_at known place (of_route.Receives rx')) left ≡ old)
@@ -112,12 +113,12 @@ module _ (known : Known) (store : CellsState) (is : IsNode known store) (up : kn
 
     -- a verdict was given
     pub said_done : (pdu : List ℕ) (source : Option ℕ) (said : Reception) (rx' : ReceiverCounter) (left : CellsState)
-        → IfAccepted (Ok said) (λ v len. rx' ≡ record rx { counter = v; bound = unwrap_or (receiver_change rx.bound rx.reserve v) rx.bound })
-        → IfAccepted (Ok said) (λ v len. MakesChange rx.place rx.id Receives (receiver_change rx.bound rx.reserve v) store left)
+        → IfAccepted (Ok said) (λ v len. AcceptsPdu v len pdu rx rx' store left)
         → IfNotAccepted (Ok said) (rx' ≡ rx) → IfUnmoved (Ok said) (left ≡ store)
         → NodeStep (node_in known) (receives route.id pdu) (line_of_receive route.id pdu source (Ok said)) (after_receive (node_in known) route.id (Ok said))
         → Done known store (receives id pdu) (received_line id pdu source (Ok said)) (with_counter_at known place (of_route.Receives rx')) left
-    said_done pdu source (reception.Accepted v len) rx' left rx'_is made same untouched step =
+    said_done pdu source (reception.Accepted v len) rx' left takes same untouched step =
+        let rx'_is = takes.moved.counted in
         let r = route_id known store is up id Receives place route finds in
         let at = place_at known store is up id Receives place route finds in
         let here : counter_in known.counters.items place ≡ of_route.Receives rx = got_here known store is up id Receives place route finds counter got ∙ of in
@@ -133,31 +134,31 @@ module _ (known : Known) (store : CellsState) (is : IsNode known store) (up : kn
         ∙ ap (λ (t : ReceiverCounter). of_route.Receives (record { place = 14 + place; id = route.id; reserve = route.reserve; window = route.window; counter = t.counter; bound = t.bound })) (sym rx'_is))
         (ap (λ (t : ReceiverCounter). t.counter) rx'_is)
         (ap (λ (t : ReceiverCounter). t.bound) rx'_is ∙ ap (λ c. unwrap_or (change v) (bound_in c)) (sym here))
-        (subst (λ i. MakesChange (14 + place) i Receives (change v) store left) rx_id (subst (λ p. MakesChange p rx.id Receives (change v) store left) rx_place made))
+        (subst (λ i. MakesChange (14 + place) i Receives (change v) store left) rx_id (subst (λ p. MakesChange p rx.id Receives (change v) store left) rx_place takes.moved.made))
         (receives id pdu) (Accepted id v (take len pdu) source) placed
-    said_done pdu source reception.FreshnessFailure rx' left rx'_is made same untouched step =
+    said_done pdu source reception.FreshnessFailure rx' left takes same untouched step =
         same_done known store is up id Receives place route finds (of_route.Receives rx') left (got_again rx' same) untouched (receives id pdu) FreshnessFailure
         (subst (λ i. NodeStep (node_in known) (receives i pdu) FreshnessFailure (node_in known)) (route_id known store is up id Receives place route finds) step)
-    said_done pdu source reception.VerificationFailure rx' left rx'_is made same untouched step =
+    said_done pdu source reception.VerificationFailure rx' left takes same untouched step =
         same_done known store is up id Receives place route finds (of_route.Receives rx') left (got_again rx' same) untouched (receives id pdu) VerificationFailure
         (subst (λ i. NodeStep (node_in known) (receives i pdu) VerificationFailure (node_in known)) (route_id known store is up id Receives place route finds) step)
 
     -- the freshness is covered
-    pub said_covered : (said : Reception) (rx' : ReceiverCounter) (left : CellsState)
-        → IfAccepted (Ok said) (λ v len. rx' ≡ record rx { counter = v; bound = unwrap_or (receiver_change rx.bound rx.reserve v) rx.bound })
-        → KeepsBound left.cells rx'.place rx'.id Receives rx'.bound → IfAccepted (Ok said) (λ v len. v ≤ rx'.bound)
+    pub said_covered : (said : Reception) (pdu : List ℕ) (rx' : ReceiverCounter) (left : CellsState) → IfAccepted (Ok said) (λ v len. AcceptsPdu v len pdu rx rx' store left)
+        → KeepsBound left.cells rx'.place rx'.id Receives rx'.bound
         → IfAcceptedWith (Ok said) (λ v len. IsCovered (state_in (with_counter_at known place (of_route.Receives rx')) left) id Receives v)
-    said_covered (reception.Accepted v len) rx' left rx'_is kept covers =
+    said_covered (reception.Accepted v len) pdu rx' left takes kept =
+        let rx'_is = takes.moved.counted in
         let p : rx'.place ≡ 14 + place = ap (λ (t : ReceiverCounter). t.place) rx'_is ∙ rx_place in
         let i : rx'.id ≡ id = ap (λ (t : ReceiverCounter). t.id) rx'_is ∙ rx_id in
         record {
           bound = rx'.bound;
           kept = subst (λ k. KeepsBound left.cells (14 + k) id Receives rx'.bound) (sym (place_at known store is up id Receives place route finds))
               (subst (λ d. KeepsBound left.cells (14 + place) d Receives rx'.bound) i (subst (λ q. KeepsBound left.cells q rx'.id Receives rx'.bound) p kept));
-          covers = covers;
+          covers = takes.moved.covered;
         }
-    said_covered reception.FreshnessFailure rx' left rx'_is kept covers = tt
-    said_covered reception.VerificationFailure rx' left rx'_is kept covers = tt
+    said_covered reception.FreshnessFailure pdu rx' left takes kept = tt
+    said_covered reception.VerificationFailure pdu rx' left takes kept = tt
 
     -- the disk failed as the bound was put
     pub receive_failed : (pdu : List ℕ) (bound : ℕ) (rx' : ReceiverCounter) (left : CellsState) (fallen : Known) → rx' ≡ rx

@@ -36,7 +36,7 @@ with_counter_at known place counter = record known { counters = with_item known.
 abbrev state_of : Node → CellsState → NodeState
 state_of node store = record { node = node; store = store }
 
--- where nothing is pending, no slot is
+-- if nothing is pending, no slot is
 no_slot : (slot : Option PendingSlot) (bound : Option PendingBound) → pending_in slot bound ≡ None → slot ≡ None
 no_slot None bound e = refl
 no_slot (Some p) bound e = cc

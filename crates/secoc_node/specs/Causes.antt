@@ -10,7 +10,7 @@ use Rattle.secoc_node.specs.declared.faults.CutFault.{CutFault}
 use Rattle.secoc_node.specs.declared.faults.CutFault.TheVariants as cut
 
 -- the lowest cell of a slot that is no slot's; or the slots are there, and the lowest cell of a bound that is none of
--- its route; want of memory comes only where all of them are there
+-- its route; out of memory comes only if all of them are there
 abbrev pub AttachCause : List Route → List (List ℕ) → AttachFault → Type 0
 AttachCause routes cells (attach.BadSlot slot) = FirstBadSlot cells slot
 AttachCause routes cells (attach.BadBound place) = SlotsButNoBound routes cells place

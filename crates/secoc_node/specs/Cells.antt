@@ -14,7 +14,7 @@ bound_cells [] bounds = []
 bound_cells (route ∷ routes) [] = []
 bound_cells (route ∷ routes) (bound ∷ bounds) = bound_cell route.id route.direction bound ∷ bound_cells routes bounds
 
--- fourteen cells of slots, and behind them the cell of each route's bound
+-- fourteen cells of slots, and after them the cell of each route's bound
 unfoldable pub CellsOf : Config → Kept → List (List ℕ)
 CellsOf config kept = map slot_cell kept.slots ++ bound_cells config.routes kept.bounds
 

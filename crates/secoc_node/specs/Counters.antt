@@ -45,7 +45,7 @@ no_counter = of_route.Sends (record { place = 0; id = 0; reserve = 0; counter = 
 abbrev pub counter_in : List RouteCounter → ℕ → RouteCounter
 counter_in counters k = slice_index_or counters k no_counter
 
--- the counter at this place is that of this route, whose bound is in the cell of this place behind the slots
+-- the counter at this place is that of this route, whose bound is in the cell of this place after the slots
 abbrev pub CountsRoute : Route → ℕ → RouteCounter → Type 0
 CountsRoute route k counter = counter ≡ counter_of_route route (14 + k) (freshness_in counter) (bound_in counter)
 

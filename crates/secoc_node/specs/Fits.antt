@@ -2,11 +2,11 @@
 use Rattle.std.specs.Prelude.{ℕ, List, option_map}
 use Rattle.cut_disk.specs.State.{Told}
 use Rattle.cell_store.specs.declared.kinds.Layout.{Layout}
-use Rattle.store_runs.specs.Keeping.{Keeping, StandsForKept, Fits}
+use Rattle.store_keeping.specs.Keeping.{Keeping, StandsForKept, Fits}
 use Rattle.bus_machine.specs.Node.{Node, changed}
 use Rattle.secoc_node.specs.Cells.{CellsOf}
 
--- the cells of what the node keeps, and where a change is pending those with the change made
+-- the cells of what the node keeps, and if a change is pending those with the change made
 abbrev pub node_keeping : Node → Keeping
 node_keeping node = record {
   cells = CellsOf node.config node.kept;

@@ -12,7 +12,7 @@ use Rattle.bus_machine.specs.Node.{Node, Kept, Change, slot_to, bound_to, place_
 use Rattle.bus_machine.specs.Sound.{Sound}
 use Rattle.secoc_node.specs.Cells.{route_in}
 use Rattle.secoc_node.specs.Counters.{freshness_in, bound_in, CountRoutes, BeginRoutes}
-use Rattle.store_runs.specs.Keeping.{HoldsKept}
+use Rattle.store_keeping.specs.Keeping.{HoldsKept}
 use Rattle.secoc_node.specs.Fits.{node_keeping}
 use Rattle.secoc_node.specs.State.{NodeState}
 use Rattle.secoc_node.specs.declared.counters.RouteCounter.{RouteCounter}
@@ -47,7 +47,7 @@ state_in known store = record { node = node_in known; store = store }
 abbrev pub KeepsNode : Node → CellsState → Type 0
 KeepsNode node store = HoldsKept (node_keeping node) store
 
--- the node is sound, its engine is its own, each route has its counter, and while it is up its store has the cells of
+-- the node is sound, its engine is its own, and each route has its counter. While it is up its store has the cells of
 -- what it keeps
 pub record IsNode (known : Known) (store : CellsState) : Type 0 where
   pub sound : Sound (node_in known)

@@ -2,6 +2,8 @@ pub mod Cells
 pub mod Fits
 pub mod State
 pub mod Causes
+pub mod Powering
 pub mod Lines
 pub mod Counters
 pub mod Keeping
+pub mod Words

@@ -15,7 +15,7 @@ use Rattle.secoc_node.specs.declared.faults.NodeFault.TheVariants as fault
 use Rattle.secoc_node.specs.declared.faults.CutFault.{CutFault}
 use Rattle.secoc_node.specs.declared.faults.CutFault.TheVariants as cut
 
--- a failure of the disk is told as such
+-- a failure of the disk is `MemoryFailure`
 abbrev pub refusal_of_fault : NodeFault → Refusal
 refusal_of_fault fault.Down = refusal.Down
 refusal_of_fault fault.NoRoute = refusal.NoRoute
@@ -24,12 +24,12 @@ refusal_of_fault (fault.Key erc) = refusal.Key erc
 refusal_of_fault fault.Exhausted = refusal.Exhausted
 refusal_of_fault fault.Faulted = refusal.MemoryFailure
 
--- of a send under this Data ID, whose PDU stands at the front of `out`
+-- of a send under this Data ID, whose PDU stands at the beginning of `out`
 abbrev pub sent_line : ℕ → List ℕ → Result Sending NodeFault → Line
 sent_line id out (Ok sent) = Sent id sent.freshness (take sent.len out)
 sent_line id out (Err fault) = Refused (refusal_of_fault fault)
 
--- of the PDU under this Data ID, whose front the payload is; `source` is the event that sent it
+-- of the PDU under this Data ID, which begins with the payload; `source` is the event that sent it
 abbrev pub received_line : ℕ → List ℕ → Option ℕ → Result Reception NodeFault → Line
 received_line id pdu source (Ok (reception.Accepted freshness len)) = Accepted id freshness (take len pdu) source
 received_line id pdu source (Ok reception.FreshnessFailure) = FreshnessFailure
@@ -63,12 +63,12 @@ abbrev pub cut_line : Result (Unit {0}) CutFault → Line
 cut_line (Ok u) = Up
 cut_line (Err fault) = Refused (refusal_of_cut fault)
 
--- what holds of the freshness and of the payload's length where a PDU is accepted
+-- what holds of the freshness and of the payload's length if a PDU is accepted
 abbrev pub IfAcceptedWith : Result Reception NodeFault → (ℕ → ℕ → Type 0) → Type 0
 IfAcceptedWith (Ok (reception.Accepted freshness len)) P = P freshness len
 IfAcceptedWith _ P = Unit {0}
 
--- what holds where it isn't, and the disk didn't fail
+-- what holds if it isn't, and the disk didn't fail
 abbrev pub IfLeftAlone : Result Reception NodeFault → Type 0 → Type 0
 IfLeftAlone (Ok (reception.Accepted freshness len)) P = Unit {0}
 IfLeftAlone (Err fault.Faulted) P = Unit {0}

@@ -6,7 +6,7 @@ use Rattle.freshness_routes.specs.declared.routes.Direction.{Direction}
 use Rattle.freshness_manager.specs.Counters.{KeepsBound}
 use Rattle.bus_machine.specs.Node.{Node, place_of}
 use Rattle.bus_machine.specs.Sound.{Sound}
-use Rattle.store_runs.specs.Keeping.{FitsStore, TellsKept}
+use Rattle.store_keeping.specs.Keeping.{FitsStore, TellsKept}
 use Rattle.secoc_node.specs.declared.faults.NodeFault.{NodeFault}
 use Rattle.secoc_node.specs.declared.faults.NodeFault.TheVariants as fault
 use Rattle.secoc_node.specs.Fits.{node_keeping}
@@ -15,7 +15,7 @@ pub record NodeState : Type 0 where
   pub node : Node
   pub store : CellsState
 
--- where the disk tells its bytes, they fit the node
+-- if the disk tells its bytes, they fit the node
 abbrev pub FitsNow : NodeState → Type 0
 FitsNow s = FitsStore (node_keeping s.node) s.store
 

@@ -6,7 +6,7 @@ ghost use Rattle.secoc_node.specs.Cells.{CellsOf};
 use freshness_manager::NodeConfig;
 use freshness_store::bound_bytes;
 
-/// Writes the cells of a new node to the front of `out`: fourteen empty slots, and then each route's start as its
+/// Writes the cells of a new node to the beginning of `out`: fourteen empty slots, and then each route's start as its
 /// bound. Gives their number, 14 to 270.
 pub fn first_cells(config: &NodeConfig, out: &mut [[u8; 32]; 270]) -> usize
     ensures most { result ≤ 270 }

@@ -39,7 +39,7 @@ pub fn cell_of_bound(route: usize) -> u16
     14 + route as u16
 }
 
-/// The counter of a route, which begins at the bound in this cell. `BadBound` exactly where the cell holds none of the
+/// The counter of a route, which begins at the bound in this cell. `BadBound` exactly if the cell holds none of the
 /// route.
 fn counter_at<C: Cells>(cells: &C, cell: u16, route: &Route) -> Result<RouteCounter, BadBound>
     requires inside { cell < length (C.state cells.now).cells }

@@ -2,7 +2,7 @@
 use cell_store::Reread;
 use key_slots::{Erc, SlotId};
 
-/// Why a node doesn't do what it is told. The first that applies is answered, in this order.
+/// Why a node refuses a call. The first cause that applies is answered, in this order.
 #[derive(Clone, Copy, Debug, PartialEq, Eq, Drop)]
 pub enum NodeFault {
     /// A call of the disk failed, or a power cut was refused, since the last power-up that succeeded.
@@ -25,7 +25,7 @@ pub enum NodeFault {
 pub enum AttachFault {
     /// This slot's cell, the lowest, is no slot's.
     BadSlot(SlotId),
-    /// The cell at this place, the lowest from 14 on, is no bound of its route.
+    /// The cell at this place, the lowest from 14 on, doesn't hold the bound of its route.
     BadBound(u16),
     /// There was no memory for the counters.
     Memory,
@@ -47,6 +47,6 @@ pub enum CutFault {
     Store(Reread),
     /// This slot's cell, the lowest, was read anew and is no slot's.
     BadSlot(SlotId),
-    /// The cell at this place, the lowest from 14 on, was read anew and is no bound of its route.
+    /// The cell at this place, the lowest from 14 on, was read anew and doesn't hold the bound of its route.
     BadBound(u16),
 }

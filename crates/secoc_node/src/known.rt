@@ -70,7 +70,7 @@ impl Known {
         })
     }
 
-    /// Begins a new life over these cells, which were read anew. Where they are no node's, nothing has changed.
+    /// Begins a new life over these cells, which were read anew. If they are no node's, nothing has changed.
     pub fn power_up<C: Cells>(&mut self, cells: &C) -> Result<(), CutFault>
         requires count { length (C.state cells.now).cells ≡ 14 + length self.old.config.routes }
         requires counters { length self.old.counters.items ≡ length self.old.config.routes }

@@ -1,30 +1,17 @@
 //! A node in all its lives.
-ghost use Rattle.std.specs.Prelude.{◌≡◌, ◌≢◌, ◌<◌, ◌≤◌, ◌+◌, ◌^◌, ◌∷◌, ◌↔◌, ℕ, [], List, length, drop, not, true, false, Some, None, Option, IfOk, IfErr, OnOk, OnErr, IsErrOf, MatchOption, MatchResult};
-ghost use Rattle.cut_disk.specs.State.{Told, Cut};
-ghost use Rattle.cut_disk.specs.Armed.{ArmsStop, ArmsFail};
-ghost use Rattle.cut_disk.specs.Calls.{Runs, Grows};
-ghost use Rattle.cut_disk.specs.Images.{CutsTo};
-ghost use Rattle.cell_store.specs.Reading.{NoStop, CutStays};
-ghost use Rattle.cell_store.specs.Cells.{Settled, StandsNow};
-ghost use Rattle.secure_boot.specs.Booting.{IsImage};
-ghost use Rattle.memory_update.specs.declared.messages.Update.{Update};
-ghost use Rattle.memory_update.specs.Messages.{Builds};
-ghost use Rattle.freshness_routes.specs.Config.{Config};
-ghost use Rattle.freshness_routes.specs.declared.routes.Direction.TheVariants.{Sends, Receives};
-ghost use Rattle.bus_machine.specs.Node.{Kept, HasRoute, place_of, counter_at, powered, refused_up};
-ghost use Rattle.bus_machine.specs.Sound.{Sound};
-ghost use Rattle.bus_machine.specs.Steps.{sends, receives, loads, keys, boots, cuts, arms, NodeStep};
-ghost use Rattle.bus_machine.specs.Bus.{SentLine};
-ghost use Rattle.bus_machine.specs.Honest.{IsInTime, IsHeard};
-ghost use Rattle.secoc_node.specs.Cells.{CellsOf, IsKept};
-ghost use Rattle.secoc_node.specs.State.{FitsNow, TellsFitting, IsCovered, Served};
-ghost use Rattle.secoc_node.specs.Causes.{AttachCause, CutCause};
-ghost use Rattle.secoc_node.specs.Lines.{sent_line, received_line, loaded_line, keyed_line, boot_line, cut_line, IfAcceptedWith, IfLeftAlone};
+ghost use Rattle.std.specs.Prelude.{◌≡◌, ◌≢◌, ◌<◌, ◌≤◌, ◌+◌, ◌^◌, ◌↔◌, ℕ, List, length, drop, not, true, false};
+ghost use Rattle.std.specs.Prelude.{Option, IfOk, IfErr, OnOk, OnErr, IsErrOf, MatchOption, MatchResult};
+ghost use Rattle.secoc_node.specs.Words.{ArmsStop, ArmsFail, CutAndRead, Settled, IsImage, Update, Builds, Sends};
+ghost use Rattle.secoc_node.specs.Words.{Receives, Kept, HasRoute, place_of, counter_at, powered, Sound, sends};
+ghost use Rattle.secoc_node.specs.Words.{receives, loads, keys, boots, cuts, NodeStep, SentLine, IsInTime};
+ghost use Rattle.secoc_node.specs.Words.{IsHeard, CellsOf, IsKept, FitsNow, TellsFitting, IsCovered, Served};
+ghost use Rattle.secoc_node.specs.Words.{AttachCause, ComesUp, StaysDown, sent_line, received_line, loaded_line};
+ghost use Rattle.secoc_node.specs.Words.{keyed_line, boot_line, cut_line, IfAcceptedWith, IfLeftAlone};
 
 use crate::counters::RouteCounter;
 use crate::faults::{AttachFault, CutFault, NodeFault, NodeRefused};
 use crate::known::Known;
-use cell_store::{Cells, CutCells, Reread};
+use cell_store::{Cells, CutCells};
 use cut_disk::Torn;
 use freshness_manager::{Direction, NodeConfig, Route};
 use memory_update::{Reply, Request};
@@ -79,9 +66,9 @@ impl<C: Cells> Node<C> {
     }
 
     /// Sends a payload of 1 to 60 bytes under a Data ID: its Secured I-PDU (AUTOSAR SecOC, profile 1) stands at the
-    /// front of `out`, whose rest is as before. Errors, in their order: `Down`, `NoRoute`, `BadLength`, `Key`,
-    /// `Exhausted`, `Faulted`. After each of them `out` is as before, and but for `Faulted` so is all else, and no call
-    /// of the disk was made.
+    /// beginning of `out`, whose rest is as before. Errors, in their order: `Down`, `NoRoute`, `BadLength`, `Key`,
+    /// `Exhausted`, `Faulted`. After each of them `out` is as before, and except for `Faulted` so is all else, and no
+    /// call of the disk was made.
     pub fn send(&mut self, id: u16, payload: &[u8], out: &mut [u8; 64]) -> Result<Sent, NodeFault>
         ensures step { NodeStep self.old.node (sends id payload.now) (sent_line id out.new result) self.new.node }
         ensures length { IfOk result (λ sent. sent.len ≡ length payload.now + 4) }
@@ -122,7 +109,7 @@ impl<C: Cells> Node<C> {
         }
     }
 
-    /// Receives a PDU of 5 to 64 bytes under a Data ID. An accepted payload is a front of the PDU. Errors, in their
+    /// Receives a PDU of 5 to 64 bytes under a Data ID. An accepted payload is a prefix of the PDU. Errors, in their
     /// order: `Down`, `NoRoute`, `BadLength`, `Key`, `Faulted`. After each of them but `Faulted`, and after the two
     /// failures, all is as before, and no call of the disk was made.
     pub fn receive(&mut self, id: u16, pdu: &[u8]) -> Result<Reception, NodeFault>
@@ -198,8 +185,8 @@ impl<C: Cells> Node<C> {
     }
 
     /// The counter of the route with this Data ID and direction: the last freshness that was sent or accepted, or the
-    /// bound at which it began. `None` exactly where there is no such route. Whatever was called before and answered,
-    /// the node is sound.
+    /// bound at which it began. `None` exactly if there is no such route. Whatever was called before and answered, the
+    /// node is sound.
     pub fn counter(&self, id: u16, direction: Direction) -> Option<u64>
         ensures value { MatchOption result (¬ HasRoute self.now.node id direction)
             (λ v. HasRoute self.now.node id direction
@@ -237,27 +224,17 @@ impl<C: Cells> Node<C> {
 
 impl<C: CutCells> Node<C> {
     /// Cuts the power and powers up again, from a node that is up as from one that is down: the cells are read anew, so
-    /// that the bytes of the disk stand for them, each counter is its bound, and no boot was made. Errors: `Store`
-    /// where the store isn't read, then `BadSlot`, then `BadBound`. The node is then down, and what it knows is as
-    /// before. Over a disk that tells its bytes, and fits the node, only the disk itself can fail. It adds at most
-    /// 68 entries and one a cell to a past, with the cut's mark alone.
+    /// that the bytes of the disk stand for them, each counter is its bound, and no boot was made. Errors: `Store` if
+    /// the store isn't read, then `BadSlot`, then `BadBound`. The node is then down, and what it knows is as before.
+    /// Over a disk that tells its bytes, and fits the node, only the disk itself can fail. It adds at most 68 entries
+    /// and one a cell to a past, with the cut's mark alone.
     pub fn power_cut(&mut self, torn: Torn) -> Result<(), CutFault>
         ensures step { TellsFitting self.old → NodeStep self.old.node cuts (cut_line result) self.new.node }
-        ensures up { OnOk result (self.new.node ≡ powered self.old.node.config self.new.node.kept) }
-        ensures kept { OnOk result (self.new.store.cells ≡ CellsOf self.old.node.config self.new.node.kept) }
-        ensures stands { OnOk result (StandsNow self.new.store) }
-        ensures settled { OnOk result ((t : Told) → self.old.store.disk.told ≡ Some t → Settled self.new.store) }
-        ensures refused { OnErr result (self.new.node ≡ refused_up self.old.node) }
-        ensures cause { IfErr result (CutCause self.old.node.config.routes self.old.store self.new.store) }
-        ensures only { TellsFitting self.old → IfErr result (λ fault. fault ≡ CutFault.Store Reread.DiskFailed) }
-        ensures image { CutsTo self.old.store.disk.told self.new.store.disk.told }
-        ensures stays { CutStays torn self.old.store.disk self.new.store.disk }
-        ensures stops { NoStop self.new.store.disk }
-        ensures faults { OnOk result (self.new.store.disk.faults ≡ self.old.store.disk.faults) }
-        ensures layout { self.new.store.layout ≡ self.old.store.layout }
-        ensures runs { Runs (Cut torn ∷ []) (68 + (14 + length self.old.node.config.routes)) self.old.store.disk
+        ensures up { OnOk result (ComesUp self.old self.new) }
+        ensures refused { IfErr result (StaysDown self.old self.new) }
+        ensures disk { CutAndRead torn (68 + (14 + length self.old.node.config.routes)) self.old.store.disk
             self.new.store.disk }
-        ensures grows { OnOk result (Grows self.old.store.disk self.new.store.disk) }
+        ensures layout { self.new.store.layout ≡ self.old.store.layout }
         ensures fits { FitsNow self.old → FitsNow self.new }
         ensures sound { Sound self.new.node }
     {

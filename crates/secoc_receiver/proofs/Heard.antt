@@ -23,7 +23,7 @@ not_stale p v e = cc
 pub not_forged : (p : List ℕ) (v : ℕ) → verdict.VerificationFailure ≡ verdict.Accepted p v → ⊥
 not_forged p v e = cc
 
--- what is said where a freshness above the counter is to be taken
+-- what is said if a freshness above the counter is to be taken
 pub taken : (p q : List ℕ) (v w len : ℕ) (rx : ReceiverCounter) (r : Result Reception ReceiveFault) (old new : CellsState)
     → IfOk r (λ said. said ≡ Accepted v len) → IfErr r (λ fault. FaultedWith fault rx v old new) → len ≡ length p
     → verdict.Accepted p v ≡ verdict.Accepted q w → ComesThrough q w r old new
@@ -36,4 +36,4 @@ taken p q v w len rx (Ok FreshnessFailure) old new said failed is e = absurd (cc
 taken p q v w len rx (Ok VerificationFailure) old new said failed is e = absurd (cc)
 taken p q v w len rx (Err BadLength) old new said failed is e = failed
 taken p q v w len rx (Err (Key erc)) old new said failed is e = failed
-taken p q v w len rx (Err (Faulted bound)) old new said failed is e = failed.1.failed
+taken p q v w len rx (Err (Faulted bound)) old new said failed is e = failed.rose

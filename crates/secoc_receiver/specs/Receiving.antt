@@ -1,5 +1,5 @@
 -- What the answer of a receiver is for the machine's node (own; the verdict is that of AUTOSAR SecOC, profile 1)
-use Rattle.std.specs.Prelude.{◌≡◌, ℕ, Option, None, Some, Result, Ok, Err, List, length, take}
+use Rattle.std.specs.Prelude.{◌≡◌, ℕ, ◌+◌, Option, None, Some, Result, Ok, Err, List, length, take}
 use Rattle.cut_disk.specs.Calls.{Rose}
 use Rattle.cell_store.specs.Cells.{CellsState}
 use Rattle.key_slots.specs.Slots.{slot_at}
@@ -7,9 +7,8 @@ use Rattle.memory_update.specs.Loading.{key_in}
 use Rattle.secured_pdu.specs.Verdict as verdict
 use Rattle.freshness_routes.specs.declared.routes.Direction.TheVariants.{Receives}
 use Rattle.freshness_routes.specs.declared.routes.Route.{Route}
-use Rattle.freshness_routes.specs.Changes.{receiver_change}
 use Rattle.freshness_manager.specs.Counters.{ReceiverCounter}
-use Rattle.freshness_manager.specs.Changing.{FailsChange}
+use Rattle.freshness_manager.specs.Changing.{MovesTo, FailsDue, due_of_receiver}
 use Rattle.she_engine.specs.declared.engine.Engine.{Engine}
 use Rattle.bus_machine.specs.declared.lines.Line as line
 use Rattle.bus_machine.specs.declared.lines.Line.TheVariants.{Refused}
@@ -37,14 +36,14 @@ refusal_of_receive (Err BadLength) = Some refusal.BadLength
 refusal_of_receive (Err (Key erc)) = Some (refusal.Key erc)
 refusal_of_receive (Err (Faulted bound)) = None
 
--- the verdict on this PDU: an accepted payload is its front
+-- the verdict on this PDU: an accepted payload is a prefix of it
 abbrev pub outcome_in : List ℕ → Reception → verdict.Outcome
 outcome_in pdu (Accepted freshness len) = verdict.Accepted (take len pdu) freshness
 outcome_in pdu FreshnessFailure = verdict.FreshnessFailure
 outcome_in pdu VerificationFailure = verdict.VerificationFailure
 
--- what holds where the PDU is accepted with a freshness and a payload of this length, where it isn't, and where it
--- isn't and no bound was to be put
+-- what holds if the PDU is accepted with a freshness and a payload of this length; if it isn't; and if it isn't and no
+-- bound was to be put
 abbrev pub IfAccepted : Result Reception ReceiveFault → (ℕ → ℕ → Type 0) → Type 0
 IfAccepted (Ok (Accepted freshness len)) P = P freshness len
 IfAccepted _ P = Unit {0}
@@ -58,11 +57,15 @@ IfUnmoved (Ok (Accepted freshness len)) P = Unit {0}
 IfUnmoved (Err (Faulted bound)) P = Unit {0}
 IfUnmoved _ P = P
 
+-- what is left where a freshness and a payload of this length are accepted of a PDU
+pub record AcceptsPdu (v len : ℕ) (pdu : List ℕ) (before after : ReceiverCounter) (old new : CellsState) : Type 0 where
+  pub as_long : len + 4 ≡ length pdu
+  pub moved : MovesTo v before after old new
+
 -- the bound no longer covers the freshness, and the put of the one that does failed
 abbrev pub FaultedWith : ReceiveFault → ReceiverCounter → ℕ → CellsState → CellsState → Type 0
 FaultedWith (Faulted bound) rx freshness old new =
-    (receiver_change rx.bound rx.reserve freshness ≡ Some bound)
-    × FailsChange rx.place rx.id Receives (Some bound) old new
+    FailsDue rx.place rx.id Receives (due_of_receiver rx freshness) bound old new
 FaultedWith _ rx freshness old new = ⊥
 
 -- the PDU is authentic with a freshness ahead, which the bound no longer covers, and the put of the bound that does

@@ -1,27 +1,16 @@
 //! What a receiver says of a PDU, and why it says nothing.
-ghost use Rattle.std.specs.Prelude.{◌≡◌, ◌+◌, ◌↔◌, ◌%◌, ◌<◌, ◌≤◌, ◌∷◌, ◌++◌, ℕ, List, [], length, take, unwrap_or, false, IsTrue, Option, None, Some, Err, IfOk, IfErr, OnOk, OnErr, IsErrOf};
-ghost use Rattle.cut_disk.specs.Calls.{Rose, Runs};
-ghost use Rattle.she_cmac.specs.Cmac.{cmac};
-ghost use Rattle.key_slots.specs.Slots.{slot_at};
-ghost use Rattle.key_slots.specs.Usage.{usable};
-ghost use Rattle.key_slots.specs.declared.usage.Purpose.TheVariants.{Mac};
-ghost use Rattle.memory_update.specs.Loading.{key_in};
-ghost use Rattle.secure_boot.specs.Booting.{is_good};
-ghost use Rattle.secured_pdu.specs.Frame.{IsPayload, IsFrame, IsWindow, Secured, Ahead, authenticated_input};
-ghost use Rattle.secured_pdu.specs.Verdict.{Verdict};
-ghost use Rattle.secured_pdu.specs.Judged.{outcome_of};
-ghost use Rattle.freshness_routes.specs.declared.routes.Direction.TheVariants.{Receives};
-ghost use Rattle.freshness_routes.specs.Changes.{receiver_change as change_of_receiver};
-ghost use Rattle.freshness_manager.specs.Counters.{KeepsBound};
-ghost use Rattle.freshness_manager.specs.Changing.{MakesChange};
-ghost use Rattle.bus_machine.specs.Handlers.{ServesRoute};
-ghost use Rattle.bus_machine.specs.Node.{Node};
-ghost use Rattle.bus_machine.specs.Steps.{first_of, receiver_refusals, receives, NodeStep};
-ghost use Rattle.secoc_receiver.specs.Receiving.{IsReceiverRoute, refusal_of_receive, line_of_receive, after_receive, outcome_in, IfAccepted, IfNotAccepted, IfUnmoved, FaultedAt, FaultedWith, ComesThrough};
+ghost use Rattle.std.specs.Prelude.{◌≡◌, ◌↔◌, ◌%◌, ◌<◌, ℕ, List, false, Option, None, Err, IfOk, IfErr, OnOk, OnErr};
+ghost use Rattle.std.specs.Prelude.{IsErrOf};
+ghost use Rattle.secoc_receiver.specs.Words.{slot_at, usable, Mac, key_in, is_good, IsFrame, Secured, Ahead, Verdict};
+ghost use Rattle.secoc_receiver.specs.Words.{Receives, KeepsBound, MovesTo, KeepsRoute, ServesRoute, Node, first_of};
+ghost use Rattle.secoc_receiver.specs.Words.{receiver_refusals, receives, NodeStep, IsReceiverRoute, AcceptsPdu};
+ghost use Rattle.secoc_receiver.specs.Words.{refusal_of_receive, line_of_receive, after_receive, outcome_in};
+ghost use Rattle.secoc_receiver.specs.Words.{IfAccepted, IfNotAccepted, IfUnmoved, FaultedAt, FaultedWith};
+ghost use Rattle.secoc_receiver.specs.Words.{ComesThrough};
 
-use cell_store::{Cells, PutFailed};
-use freshness_manager::Rx;
-use freshness_routes::{Route, receiver_change};
+use cell_store::Cells;
+use freshness_manager::{PutFailed, Rx};
+use freshness_routes::Route;
 use key_slots::Erc;
 use secured_pdu::{Judgement, split};
 use she_engine::Engine;
@@ -33,7 +22,7 @@ pub enum Reception {
     Accepted {
         /// The freshness, all 64 bits.
         freshness: u64,
-        /// The length of the payload in bytes, 1 to 60: the payload is the front of the PDU.
+        /// The length of the payload in bytes, 1 to 60: the PDU begins with the payload.
         len: u8,
     },
     /// No freshness within the window has the low byte of the PDU.
@@ -57,11 +46,11 @@ pub enum ReceiveFault {
     },
 }
 
-/// Receives a PDU: the key is asked first, then the freshness, then the authenticator, and only then a bound is put
-/// that no longer covers the freshness. Where it is accepted, the freshness becomes the counter. The receiver is that
-/// of the route. Errors: the first of `BadLength`, `Key` and `Faulted` that applies, and `Faulted` only where the disk
-/// failed. But where the PDU is accepted the receiver is as before, and a refusal and a failure make no call of the
-/// disk.
+/// Receives a PDU: it asks for the key first, then the freshness, then the authenticator. Only then it puts a new
+/// bound, if the old one doesn't cover the freshness. If it is accepted, the freshness becomes the counter. The
+/// receiver is that of the route. Errors: the first of `BadLength`, `Key` and `Faulted` that applies, and `Faulted`
+/// only if the disk failed. Unless the PDU is accepted the receiver is as before. A refusal and a failed verdict make
+/// no call of the disk.
 pub fn receive<C: Cells>(
     engine: &Engine,
     rx: &mut Rx,
@@ -78,22 +67,14 @@ pub fn receive<C: Cells>(
     ensures verdict { IfOk result
         (λ said. Verdict (key_in (slot_at engine.now.slots route.now.slot)) route.now.id rx.old.counter
         route.now.window pdu.now (outcome_in pdu.now said)) }
-    ensures length { IfAccepted result (λ v len. len + 4 ≡ length pdu.now) }
-    ensures counted { IfAccepted result (λ v len. let change = change_of_receiver rx.old.bound rx.old.reserve v
-        in rx.new ≡ record rx.old { counter = v; bound = unwrap_or change rx.old.bound }) }
-    ensures covered { IfAccepted result (λ v len. v ≤ rx.new.bound) }
-    ensures made { IfAccepted result (λ v len. let change = change_of_receiver rx.old.bound rx.old.reserve v
-        in MakesChange rx.old.place rx.old.id Receives change (C.state cells.old) (C.state cells.new)) }
-    ensures faults { OnOk result ((C.state cells.new).disk.faults ≡ (C.state cells.old).disk.faults) }
-    ensures whole { OnOk result ((C.state cells.new).broken ≡ false) }
+    ensures accepted { IfAccepted result
+        (λ v len. AcceptsPdu v len pdu.now rx.old rx.new (C.state cells.old) (C.state cells.new)) }
     ensures as_before { IfNotAccepted result (rx.new ≡ rx.old) }
     ensures untouched { IfUnmoved result (C.state cells.new ≡ C.state cells.old) }
     ensures faulted { (bound : ℕ) → result ≡ Err (ReceiveFault.Faulted bound)
         → FaultedAt bound engine.now rx.old route.now pdu.now (C.state cells.old) (C.state cells.new) }
-    ensures rose { (bound : ℕ) → result ≡ Err (ReceiveFault.Faulted bound)
-        → Rose (C.state cells.old).disk.faults (C.state cells.new).disk.faults }
-    ensures kept { KeepsBound (C.state cells.new).cells rx.new.place rx.new.id Receives rx.new.bound }
-    ensures runs { Runs [] 6 (C.state cells.old).disk (C.state cells.new).disk }
+    ensures store { KeepsRoute rx.new.place rx.new.id Receives rx.new.bound
+        (C.state cells.old) (C.state cells.new) result }
     ensures honest { (payload : List ℕ) (v : ℕ)
         → usable engine.now.slots route.now.slot (is_good engine.now.boot) Mac ≡ None
         → Secured (key_in (slot_at engine.now.slots route.now.slot)) route.now.id payload v pdu.now
@@ -118,7 +99,7 @@ pub fn receive<C: Cells>(
     }
 }
 
-// Takes a freshness above the counter, and with it a payload of this length.
+// AcceptsPdu a freshness above the counter, and with it a payload of this length.
 fn accept<C: Cells>(
     rx: &mut Rx,
     cells: &mut C,
@@ -129,24 +110,15 @@ fn accept<C: Cells>(
     requires kept { KeepsBound (C.state cells.old).cells rx.old.place rx.old.id Receives rx.old.bound }
     requires above { rx.old.counter < freshness }
     ensures said { IfOk result (λ said. said ≡ Reception.Accepted freshness len) }
-    ensures counted { OnOk result (let change = change_of_receiver rx.old.bound rx.old.reserve freshness
-        in rx.new ≡ record rx.old { counter = freshness; bound = unwrap_or change rx.old.bound }) }
-    ensures covered { OnOk result (freshness ≤ rx.new.bound) }
-    ensures made { OnOk result (let change = change_of_receiver rx.old.bound rx.old.reserve freshness
-        in MakesChange rx.old.place rx.old.id Receives change (C.state cells.old) (C.state cells.new)) }
-    ensures faults { OnOk result ((C.state cells.new).disk.faults ≡ (C.state cells.old).disk.faults) }
-    ensures whole { OnOk result ((C.state cells.new).broken ≡ false) }
+    ensures moved { OnOk result (MovesTo freshness rx.old rx.new (C.state cells.old) (C.state cells.new)) }
     ensures failed { IfErr result
         (λ fault. FaultedWith fault rx.old freshness (C.state cells.old) (C.state cells.new)) }
     ensures as_before { OnErr result (rx.new ≡ rx.old) }
-    ensures kept { KeepsBound (C.state cells.new).cells rx.new.place rx.new.id Receives rx.new.bound }
-    ensures runs { Runs [] 6 (C.state cells.old).disk (C.state cells.new).disk }
+    ensures store { KeepsRoute rx.new.place rx.new.id Receives rx.new.bound
+        (C.state cells.old) (C.state cells.new) result }
 {
-    let change = receiver_change(rx.bound(), rx.reserve(), freshness);
     match rx.commit(cells, freshness) {
         Ok(()) => Ok(Reception::Accepted { freshness, len }),
-        Err(PutFailed) => Err(ReceiveFault::Faulted {
-            bound: change.unwrap(),
-        }),
+        Err(PutFailed { bound }) => Err(ReceiveFault::Faulted { bound }),
     }
 }

@@ -1,5 +1,6 @@
 -- What the answer of a send is for the machine's node (own; the PDU is that of AUTOSAR SecOC, profile 1)
-use Rattle.std.specs.Prelude.{◌≡◌, ℕ, Option, None, Some, Result, Ok, Err, List, take}
+use Rattle.std.specs.Prelude.{◌≡◌, ℕ, ◌+◌, Option, None, Some, Result, Ok, Err, List, length, take, drop}
+use Rattle.secured_pdu.specs.Frame.{Secured}
 use Rattle.freshness_routes.specs.declared.routes.Direction.TheVariants.{Sends}
 use Rattle.freshness_routes.specs.declared.routes.Route.{Route}
 use Rattle.freshness_manager.specs.Counters.{SenderCounter}
@@ -19,6 +20,12 @@ pub record IsSenderRoute (route : Route) (tx : SenderCounter) : Type 0 where
   pub id : route.id ≡ tx.id
   pub reserve : route.reserve ≡ tx.reserve
 
+-- the first bytes of `after` are the Secured I-PDU of this payload under the key, and its rest is as before
+pub record IsSent (key : List ℕ) (id : ℕ) (payload before after : List ℕ) (sent : Sent) : Type 0 where
+  pub as_long : sent.len ≡ length payload + 4
+  pub secured : Secured key id payload sent.freshness (take sent.len after)
+  pub rest : drop sent.len after ≡ drop sent.len before
+
 -- the refusal that the machine knows the answer by, if it is one
 abbrev pub refusal_of_send : Result Sent SendFault → Option machine.Refusal
 refusal_of_send (Ok sent) = None
@@ -27,7 +34,7 @@ refusal_of_send (Err (Key erc)) = Some (refusal.Key erc)
 refusal_of_send (Err Exhausted) = Some refusal.Exhausted
 refusal_of_send (Err (Faulted bound)) = None
 
--- the line that tells of the send under this Data ID, whose PDU stands at the front of these bytes
+-- the line that tells of the send under this Data ID, whose PDU stands at the beginning of these bytes
 abbrev pub line_of_send : ℕ → Result Sent SendFault → List ℕ → line.Line
 line_of_send id (Ok sent) out = line.TheVariants.Sent id sent.freshness (take sent.len out)
 line_of_send id (Err BadLength) out = Refused refusal.BadLength

@@ -1,24 +1,20 @@
 //! A send, and why one isn't made.
-ghost use Rattle.std.specs.Prelude.{◌≡◌, ◌+◌, ◌≤◌, ◌↔◌, ℕ, List, [], take, drop, length, unwrap_or, false, None, Some, Err, IfOk, IfSome, OnOk, OnErr, IsErrOf};
-ghost use Rattle.cut_disk.specs.Calls.{Rose, Runs};
+ghost use Rattle.std.specs.Prelude.{◌≡◌, ◌↔◌, ℕ, false, Err, IfOk, IfSome, OnErr, IsErrOf};
 ghost use Rattle.key_slots.specs.Slots.{slot_at};
-ghost use Rattle.key_slots.specs.Usage.{usable};
-ghost use Rattle.key_slots.specs.declared.usage.Purpose.TheVariants.{Mac};
 ghost use Rattle.memory_update.specs.Loading.{key_in};
 ghost use Rattle.secure_boot.specs.Booting.{is_good};
-ghost use Rattle.secured_pdu.specs.Frame.{IsPayload, Secured};
+ghost use Rattle.secured_pdu.specs.Frame.{IsPayload};
 ghost use Rattle.freshness_routes.specs.declared.routes.Direction.TheVariants.{Sends};
-ghost use Rattle.freshness_routes.specs.Changes.{sender_change as change_of_sender};
 ghost use Rattle.freshness_manager.specs.Counters.{KeepsBound};
-ghost use Rattle.freshness_manager.specs.Changing.{MakesChange, FailsChange};
+ghost use Rattle.freshness_manager.specs.Changing.{MovesOn, FailsDue, KeepsRoute, due_of_sender};
 ghost use Rattle.bus_machine.specs.Handlers.{ServesRoute};
 ghost use Rattle.bus_machine.specs.Node.{Node};
 ghost use Rattle.bus_machine.specs.Steps.{first_of, sender_refusals, sends, NodeStep};
-ghost use Rattle.secoc_sender.specs.Sending.{IsSenderRoute, refusal_of_send, line_of_send, after_send};
+ghost use Rattle.secoc_sender.specs.Sending.{IsSenderRoute, IsSent, refusal_of_send, line_of_send, after_send};
 
 use cell_store::Cells;
 use freshness_manager::{Tx, TxFault};
-use freshness_routes::{Route, sender_change};
+use freshness_routes::Route;
 use key_slots::Erc;
 use she_engine::Engine;
 
@@ -48,9 +44,9 @@ pub enum SendFault {
 }
 
 /// Sends a payload under the freshness above the counter, which becomes the counter: the Secured I-PDU stands at the
-/// front of `out`. The sender is that of the route. Errors: the first of `BadLength`, `Key`, `Exhausted` and `Faulted`
-/// that applies, and `Faulted` only where the disk failed. After each of them `out` and the sender are as before, and
-/// no call of the disk was made but for `Faulted`.
+/// beginning of `out`. The sender is that of the route. Errors: the first of `BadLength`, `Key`, `Exhausted` and
+/// `Faulted` that applies, and `Faulted` only if the disk failed. After each of them `out` and the sender are as
+/// before, and no call of the disk was made except for `Faulted`.
 pub fn send<C: Cells>(
     engine: &Engine,
     tx: &mut Tx,
@@ -65,31 +61,18 @@ pub fn send<C: Cells>(
     ensures refusal { first_of
         (sender_refusals engine.now.slots (is_good engine.now.boot) route.now tx.old.counter payload.now)
         ≡ refusal_of_send result }
-    ensures next { IfOk result (λ sent. sent.freshness ≡ tx.old.counter + 1) }
-    ensures length { IfOk result (λ sent. sent.len ≡ length payload.now + 4) }
-    ensures secured { IfOk result
-        (λ sent. Secured (key_in (slot_at engine.now.slots route.now.slot)) route.now.id payload.now
-        sent.freshness (take sent.len out.new)) }
-    ensures rest { IfOk result (λ sent. drop sent.len out.new ≡ drop sent.len out.old) }
-    ensures counted { OnOk result (let change = change_of_sender tx.old.counter tx.old.bound tx.old.reserve
-        in tx.new ≡ record tx.old { counter = tx.old.counter + 1; bound = unwrap_or change tx.old.bound }) }
-    ensures covered { IfOk result (λ sent. sent.freshness ≤ tx.new.bound) }
-    ensures made { OnOk result (let change = change_of_sender tx.old.counter tx.old.bound tx.old.reserve
-        in MakesChange tx.old.place tx.old.id Sends change (C.state cells.old) (C.state cells.new)) }
-    ensures faults { OnOk result ((C.state cells.new).disk.faults ≡ (C.state cells.old).disk.faults) }
-    ensures whole { OnOk result ((C.state cells.new).broken ≡ false) }
+    ensures sent { IfOk result (IsSent (key_in (slot_at engine.now.slots route.now.slot)) route.now.id payload.now
+        out.old out.new) }
+    ensures moved { IfOk result
+        (λ sent. MovesOn sent.freshness tx.old tx.new (C.state cells.old) (C.state cells.new)) }
     ensures untouched { IfSome (refusal_of_send result) (λ _. C.state cells.new ≡ C.state cells.old) }
     ensures bad_length { IsErrOf result SendFault.BadLength ↔ (¬ IsPayload payload.now) }
-    ensures due { (bound : ℕ) → result ≡ Err (SendFault.Faulted bound)
-        → change_of_sender tx.old.counter tx.old.bound tx.old.reserve ≡ Some bound }
-    ensures rose { (bound : ℕ) → result ≡ Err (SendFault.Faulted bound)
-        → Rose (C.state cells.old).disk.faults (C.state cells.new).disk.faults }
-    ensures failed { (bound : ℕ) → result ≡ Err (SendFault.Faulted bound)
-        → FailsChange tx.old.place tx.old.id Sends (Some bound) (C.state cells.old) (C.state cells.new) }
+    ensures faulted { (bound : ℕ) → result ≡ Err (SendFault.Faulted bound)
+        → FailsDue tx.old.place tx.old.id Sends (due_of_sender tx.old) bound (C.state cells.old) (C.state cells.new) }
     ensures as_before { OnErr result (tx.new ≡ tx.old) }
     ensures unwritten { OnErr result (out.new ≡ out.old) }
-    ensures kept { KeepsBound (C.state cells.new).cells tx.new.place tx.new.id Sends tx.new.bound }
-    ensures runs { Runs [] 6 (C.state cells.old).disk (C.state cells.new).disk }
+    ensures store { KeepsRoute tx.new.place tx.new.id Sends tx.new.bound
+        (C.state cells.old) (C.state cells.new) result }
     ensures step { (node : Node)
         → ServesRoute node route.now Sends tx.old.counter tx.old.bound engine.now.slots engine.now.boot
         → NodeStep node (sends route.now.id payload.now) (line_of_send route.now.id result out.new)
@@ -102,15 +85,12 @@ pub fn send<C: Cells>(
         Ok(key) => key,
         Err(refusal) => return Err(SendFault::Key(refusal)),
     };
-    let change = sender_change(tx.counter(), tx.bound(), tx.reserve());
     match tx.next(cells) {
         Ok(freshness) => {
             let len = key.build(route.id, payload, freshness, out).unwrap() as u8;
             Ok(Sent { freshness, len })
         }
         Err(TxFault::Exhausted) => Err(SendFault::Exhausted),
-        Err(TxFault::PutFailed) => Err(SendFault::Faulted {
-            bound: change.unwrap(),
-        }),
+        Err(TxFault::PutFailed { bound }) => Err(SendFault::Faulted { bound }),
     }
 }

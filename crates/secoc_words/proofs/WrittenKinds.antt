@@ -4,9 +4,9 @@ use Rattle.std.specs.Prelude.{◌==◌, not, slice_index, option_map}
 use Rattle.std.specs.List.{list_all, flat_map}
 use Rattle.std.proofs.Math.Seq.{take-append_seam, drop-append_seam}
 use Rattle.std.proofs.lemmas.List.Elements.{All-head, All-tail}
-use Rattle.byte_lists.specs.Bytes.{IsBytes}
-use Rattle.byte_lists.specs.Numbers.{number_of, bytes_of}
-use Rattle.byte_lists.specs.NumberLaws.{IsBytes-bytes_of, number_of-bytes_of-lt}
+use Rattle.basics.specs.Bytes.{IsBytes}
+use Rattle.basics.specs.Numbers.{number_of, bytes_of}
+use Rattle.basics.specs.NumberLaws.{IsBytes-bytes_of, number_of-bytes_of-lt}
 use Rattle.hex.specs.Hex.{encode_lower, lower_digits}
 use Rattle.hex.proofs.HexLemmas.{length-encode_with}
 use Rattle.memory_update.specs.declared.messages.Request.{Request}
@@ -59,7 +59,7 @@ judge_of-words line h =
       bytes_form-word line.pdu h.pdu_bytes,
     ) refl
 
--- two blocks, written one behind the other
+-- two blocks, written one after the other
 two_form-encode : (first second : List ℕ) → IsBytes 16 first → IsBytes 16 second
     → two_form (encode_lower first ++ (encode_lower second ++ [])) ≡ Some (first ∷ second ∷ [])
 unfolding two_form

@@ -1,4 +1,4 @@
--- What a word about a disk means by its form: the value, or none where it isn't of the form.
+-- What a word about a disk means by its form: the value, or none if it isn't of the form.
 use Rattle.std.specs.Prelude.{ℕ, if◌then◌else◌, List, slice_index, codes, Option, Some, option_map}
 use Rattle.std.specs.Result.{result_ok}
 use Rattle.std.specs.Str.{bytes_eq}

@@ -1,4 +1,4 @@
--- What a word of a key update means by its form: the value, or none where it isn't of the form.
+-- What a word of a key update means by its form: the value, or none if it isn't of the form.
 use Rattle.std.specs.Prelude.{ℕ, ◌==◌, Bool, true, false, if◌then◌else◌, List, [], ◌∷◌, replicate, Option, Some, None}
 use Rattle.std.specs.Option.{option_and_then}
 use Rattle.std.specs.Result.{result_ok}

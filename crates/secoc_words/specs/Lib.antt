@@ -4,3 +4,5 @@ pub mod Frames
 pub mod KeyForms
 pub mod Texts
 pub mod Written
+pub mod Counting
+pub mod CountingLaws

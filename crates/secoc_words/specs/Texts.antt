@@ -1,6 +1,6 @@
 -- The printed texts of verdicts, in lower-case digits, each line with its line feed.
 use Rattle.std.specs.Prelude.{ℕ, List, ◌++◌, codes}
-use Rattle.byte_lists.specs.Numbers.{bytes_of}
+use Rattle.basics.specs.Numbers.{bytes_of}
 use Rattle.hex.specs.Hex.{encode_lower}
 use Rattle.secured_pdu.specs.Verdict.{Outcome, Accepted, FreshnessFailure, VerificationFailure}
 use Rattle.text_lines.specs.Texts.{line}
@@ -12,6 +12,6 @@ outcome_text (Accepted payload freshness) =
 outcome_text FreshnessFailure = line (codes "FRESHNESSFAILURE")
 outcome_text VerificationFailure = line (codes "VERIFICATIONFAILURE")
 
--- the text where a PDU has a length that no frame has
+-- the text if a PDU has a length that no frame has
 abbrev pub bad_length_text : List ℕ
 bad_length_text = line (codes "BadLength")

@@ -2,8 +2,8 @@
 use Rattle.std.specs.Prelude.{◌≡◌, ℕ, ◌<◌, ◌≤◌, ◌^◌, List, [], ◌∷◌, ◌++◌, length, All}
 use Rattle.std.specs.List.{flat_map}
 use Rattle.std.specs.Fmt.{decimal}
-use Rattle.byte_lists.specs.Bytes.{IsBytes}
-use Rattle.byte_lists.specs.Numbers.{bytes_of}
+use Rattle.basics.specs.Bytes.{IsBytes}
+use Rattle.basics.specs.Numbers.{bytes_of}
 use Rattle.hex.specs.Hex.{encode_lower}
 use Rattle.key_slots.specs.Flags.{bit}
 use Rattle.key_slots.specs.declared.memory.Flags.{Flags}

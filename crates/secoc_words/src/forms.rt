@@ -5,7 +5,7 @@ ghost use Rattle.secoc_words.specs.Forms.{key_form, two_form, data_id_form, fres
 ghost use Rattle.text_lines.specs.Forms.{hex_bytes_form, bytes_form};
 
 use crate::received_bytes::ReceivedBytes;
-use byte_lists::{Block, Pdu};
+use basics::{Block, Pdu};
 use hex::{FromHex, decode_to_slice};
 use std::alloc::Global;
 use text_lines::Memory;
@@ -20,7 +20,7 @@ pub fn key(word: &[u8]) -> Option<Block>
     Some(Block::of(bytes))
 }
 
-/// Two blocks, one behind the other: 64 hexadecimal digits.
+/// Two blocks, one after the other: 64 hexadecimal digits.
 #[tactic(auto, unfolding(crate::specs::Forms::two_form))]
 pub fn two(word: &[u8]) -> Option<[Block; 2]>
     ensures { result ≡ two_form word.now }

@@ -5,7 +5,7 @@ ghost use Rattle.secoc_words.specs.Frames.{frames_of};
 ghost use Rattle.text_lines.specs.Readings.{Gives};
 
 use crate::forms;
-use byte_lists::{Block, Pdu};
+use basics::{Block, Pdu};
 use std::alloc::Global;
 use text_lines::reader::{LineReader, MOST_LINES, expect_count, read_lines, value_at};
 use text_lines::words::Words;

@@ -6,14 +6,14 @@ ghost use Rattle.text_lines.specs.Readings.{Gives};
 
 use crate::forms;
 use crate::received_bytes::ReceivedBytes;
-use byte_lists::Block;
+use basics::Block;
 use std::alloc::Global;
 use text_lines::reader::{LineReader, MOST_LINES, expect_count, read_lines, value_at};
 use text_lines::words::Words;
 use text_lines::{LineFault, ScriptFault};
 
-/// A line of `judge`: the key, the Data ID and the counter of a receiver, which is the freshness
-/// that it accepted last (AUTOSAR SecOC), and the bytes that arrive, of any number.
+/// A line of `judge`: the key, the Data ID and the counter of a receiver, and the bytes that arrive, of any number. The
+/// counter is the freshness that it accepted last (AUTOSAR SecOC).
 #[derive(Debug, Drop)]
 pub struct JudgeLine {
     pub key: Block,

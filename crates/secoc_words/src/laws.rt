@@ -17,7 +17,7 @@ pub fn written_frames_are_read()
         → frames_of (flat_map written (map frame_words lines)) ≡ Ok lines }
 {}
 
-/// Law: the same of lines of `judge`, where a PDU without bytes is written as `-`.
+/// Law: the same of lines of `judge`, if a PDU without bytes is written as `-`.
 pub fn written_judges_are_read()
     ensures { (lines : List JudgeLine) → All IsJudgeLine lines → length lines ≤ most_lines
         → judges_of (flat_map written (map judge_words lines)) ≡ Ok lines }

@@ -1,12 +1,16 @@
-//! The words of SecOC and SHE: keys, Data IDs, freshness, PDUs, slots, counters, flags, torn kinds, disk
-//! calls.
+//! The words of SecOC and SHE in lines of text, and receivers of such lines (AUTOSAR SecOC, verification).
 //!
-//! Each form takes one word, and answers none exactly if it isn't of the form. Hexadecimal digits are of
-//! either case. `read_frames`, `read_judges` and `read_loads` give the lines of a text, or its first fault
-//! with line and cause, exactly. At most 65,536 lines of one kind that are written in lower-case digits with
-//! single spaces are read as they were ([`laws`]). Here are the printed texts of verdicts and flags, too.
+//! Each form takes one word, and answers none exactly if it isn't of the form. Keys, Data IDs, freshness, PDUs, slots,
+//! counters, flags, torn kinds and disk calls have one. Hexadecimal digits are of either case. `read_frames`,
+//! `read_judges` and `read_loads` give the lines of a text, or its first fault with line and cause, exactly. At most
+//! 65,536 lines of one kind, in lower-case digits with single spaces, are read as they were written ([`laws`]).
+//! [`push_verdict`] judges a Secured I-PDU by its receiver's counter and window, and adds the text of the verdict, as
+//! it does with room for 158 bytes. The counter is then the freshness of an accepted PDU, and as before for any other.
+//! So accepted freshness rises ([`counting_laws::accepted_freshness_rises`]).
 #![tactic(auto)]
 
+mod counting;
+pub mod counting_laws;
 mod disk_forms;
 mod forms;
 pub mod frames;
@@ -25,3 +29,4 @@ pub use crate::judges::{JudgeLine, read_judges};
 pub use crate::key_forms::{counter, engine_uid, flags, slot, uid};
 pub use crate::loads::read_loads;
 pub use crate::received_bytes::ReceivedBytes;
+pub use counting::{WIDEST_WINDOW, push_verdict};

@@ -1,9 +1,9 @@
 //! Bytes that arrive, of any number.
 
 ghost use Rattle.std.specs.Prelude.{◌≡◌, length};
-ghost use Rattle.byte_lists.specs.Bytes.{IsBytes};
+ghost use Rattle.basics.specs.Bytes.{IsBytes};
 
-use byte_lists::{Bytes, Pdu};
+use basics::{Bytes, Pdu};
 use std::alloc::Global;
 use std::marker::Model;
 

@@ -1,7 +1,7 @@
 -- The secure boot of the Secure Hardware Extensions (SHE specification, secure booting)
 use Rattle.std.specs.Prelude.{◌≡◌, ℕ, ◌*◌, ◌≤◌, ◌↔◌, List, ◌++◌, length, replicate, Bool, true, false, Result, Err}
 use Rattle.std.specs.Prelude.{IsOkAnd, IsTrue}
-use Rattle.byte_lists.specs.Numbers.{bytes_of}
+use Rattle.basics.specs.Numbers.{bytes_of}
 use Rattle.key_slots.specs.declared.memory.Slot.{Slot}
 use Rattle.key_slots.specs.declared.memory.Slot.TheVariants.{Filled}
 use Rattle.key_slots.specs.declared.refusals.Erc.{Erc}
@@ -20,8 +20,8 @@ IsImage image = (1 ≤ length image) × (length image ≤ 65536)
 unfoldable pub bootmac : List ℕ → List ℕ → List ℕ
 bootmac key image = cmac key (replicate 12 0 ++ bytes_of 4 (8 * length image) ++ image)
 
--- a boot where the first of these slots is for the boot MAC key and the second for the boot MAC: it succeeds exactly
--- where the image has that boot MAC
+-- a boot with the boot MAC key in the first of these slots and the boot MAC in the second: it succeeds exactly if the
+-- image has that boot MAC
 abbrev pub BootsBy : Slot → Slot → List ℕ → Result Bool Erc → Type 0
 BootsBy (Filled key counter flags) (Filled mac counter' flags') image answer =
     IsOkAnd answer (λ good. IsTrue good ↔ (mac ≡ bootmac key image))

@@ -1,6 +1,6 @@
 //! The boot MAC and the decision (SHE specification, secure booting).
 ghost use Rattle.std.specs.Prelude.{◌≡◌, ◌≤◌, length};
-ghost use Rattle.byte_lists.specs.Blocks.{IsBlock};
+ghost use Rattle.basics.specs.Blocks.{IsBlock};
 ghost use Rattle.secure_boot.specs.Booting.{bootmac, Boots, IsImage};
 
 use key_slots::{Erc, Slot, SlotId, Slots};
@@ -18,8 +18,8 @@ pub fn boot_mac(schedule: &Schedule, image: &[u8]) -> Block
     cmac_of_parts(schedule, &[&[0; 12], &bits, image])
 }
 
-/// What a boot with this image, of 1 to 65,536 bytes, comes to: whether slot 3, BOOT_MAC, holds the image's boot
-/// MAC under the key of slot 2, BOOT_MAC_KEY. `NoSecureBoot` where one of the two is empty.
+/// What a boot with this image, of 1 to 65,536 bytes, comes to: whether slot 3, BOOT_MAC, holds the image's boot MAC
+/// under the key of slot 2, BOOT_MAC_KEY. `NoSecureBoot` if one of the two is empty.
 pub fn decide(slots: &Slots, image: &[u8]) -> Result<bool, Erc>
     requires { IsImage image.now }
     ensures { Boots slots.now image.now result }

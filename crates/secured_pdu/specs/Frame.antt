@@ -1,6 +1,6 @@
--- The Secured I-PDU of AUTOSAR SecOC, profile 1 (24Bit-CMAC-8Bit-FV), where the full freshness has 64 bits
+-- The Secured I-PDU of AUTOSAR SecOC, profile 1 (24Bit-CMAC-8Bit-FV), with a full freshness of 64 bits
 use Rattle.std.specs.Prelude.{◌≡◌, ℕ, ◌+◌, ◌%◌, ◌^◌, ◌<◌, ◌≤◌, List, ◌∷◌, ◌++◌, length, take}
-use Rattle.byte_lists.specs.Numbers.{bytes_of}
+use Rattle.basics.specs.Numbers.{bytes_of}
 use Rattle.she_cmac.specs.Cmac.{cmac}
 
 -- the bytes that the authenticator covers: the Data ID in two bytes, the payload, the full freshness in eight bytes,

@@ -2,14 +2,14 @@
 use Rattle.std.specs.Prelude.{◌≡◌, ℕ, ◌+◌, ◌-◌, ◌%◌, ◌^◌, ◌<◌, ◌≤◌, List, ◌∷◌, ◌++◌, length, take, drop}
 use Rattle.std.proofs.Common.{refl, sym, ap, ◌∙◌, arith}
 use Rattle.std.proofs.lemmas.List.{take_at, drop_at, get_or_at, length-append, length-take-le}
-use Rattle.byte_lists.specs.Numbers.{bytes_of}
-use Rattle.byte_lists.specs.NumberLaws.{length-bytes_of, same_number}
+use Rattle.basics.specs.Numbers.{bytes_of}
+use Rattle.basics.specs.NumberLaws.{length-bytes_of, same_number}
 use Rattle.she_cmac.specs.Cmac.{cmac}
 use Rattle.she_cmac.specs.CmacLaws.{length-cmac}
 use Rattle.secured_pdu.specs.Frame.{authenticated_input, assembled, secured_frame, IsFrame, Secured, Ahead}
 use Rattle.secured_pdu.specs.Verdict.{payload_of, low_of}
 
--- where two joined lists are the same, and their first parts are equally long, both parts are the same
+-- if two joined lists are the same, and their first parts are equally long, both parts are the same
 parts_same : (p q x y : List ℕ) → length p ≡ length q → p ++ x ≡ q ++ y → (p ≡ q) × (x ≡ y)
 parts_same p q x y h e = (
   sym (take_at p x (length p) refl) ∙ ap (take (length p)) e ∙ take_at q y (length p) (sym h),
@@ -67,7 +67,7 @@ IsFrame-Secured k d p v frame s =
     let size : length frame ≡ length p + 4 = ap length s.frame_is ∙ length-secured_frame k d p v in
     (omega (arith, size, s.is_payload.0), omega (arith, size, s.is_payload.1))
 
--- what is cut off a Secured I-PDU is its payload, and the byte behind it the low byte of the freshness
+-- what is cut off a Secured I-PDU is its payload, and the byte after it the low byte of the freshness
 pub payload_of_secured : (k : List ℕ) (d : ℕ) (p : List ℕ) (v : ℕ) (frame : List ℕ) → Secured k d p v frame
     → payload_of frame ≡ p
 unfolding secured_frame assembled

@@ -14,7 +14,7 @@ payload_of frame = take (length frame - 4) frame
 abbrev pub low_of : List ℕ → ℕ
 low_of frame = slice_index frame (length frame - 4)
 
--- the verdict on a frame of 5 to 64 bytes under this key and Data ID, by a receiver with this counter and a window of 1
+-- the verdict on a frame of 5 to 64 bytes under this key and Data ID. The receiver has this counter and a window of 1
 -- to 256
 abbrev pub Verdict : List ℕ → ℕ → ℕ → ℕ → List ℕ → Outcome → Type 0
 Verdict key id counter window frame (Accepted payload freshness) =

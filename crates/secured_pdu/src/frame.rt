@@ -3,10 +3,10 @@ ghost use Rattle.std.specs.Prelude.{◌≡◌, ◌+◌, ◌∷◌, ◌++◌, len
 ghost use Rattle.she_cmac.specs.Cmac.{cmac};
 ghost use Rattle.secured_pdu.specs.Frame.{authenticated_input, assembled, IsPayload, IsFrame, Secured};
 
-use byte_lists::append;
+use basics::append;
 use she_cmac::{Block, Schedule, cmac};
 
-/// Writes the authenticated input to the front of `out` and gives its length in bytes. All numbers are big-endian.
+/// Writes the authenticated input to the beginning of `out` and gives its length in bytes. All numbers are big-endian.
 pub fn input_bytes(id: u16, payload: &[u8], freshness: u64, out: &mut [u8; 70]) -> usize
     requires { IsPayload payload.now }
     ensures length { result ≡ length payload.now + 10 }
@@ -28,8 +28,8 @@ pub fn input_mac(schedule: &Schedule, id: u16, payload: &[u8], freshness: u64) -
     cmac(schedule, &input[..length])
 }
 
-/// Writes the PDU to the front of `out` and gives its length in bytes: the payload, the low byte of the freshness, and
-/// the first three bytes of the authenticator.
+/// Writes the PDU to the beginning of `out` and gives its length in bytes: the payload, the low byte of the freshness,
+/// and the first three bytes of the authenticator.
 pub fn assemble(payload: &[u8], freshness: u64, mac: &Block, out: &mut [u8; 64]) -> usize
     requires { IsPayload payload.now }
     ensures length { result ≡ length payload.now + 4 }
@@ -41,7 +41,7 @@ pub fn assemble(payload: &[u8], freshness: u64, mac: &Block, out: &mut [u8; 64])
     append(out, after_low, &tag_of(mac))
 }
 
-/// Writes the Secured I-PDU to the front of `out` and gives its length in bytes. For a payload that has not 1 to 60
+/// Writes the Secured I-PDU to the beginning of `out` and gives its length in bytes. For a payload that has not 1 to 60
 /// bytes it gives `None` and writes nothing.
 pub fn build(
     schedule: &Schedule,
@@ -66,7 +66,7 @@ pub fn build(
 /// A PDU taken apart. The payload is a part of the PDU itself.
 #[derive(Clone, Copy)]
 pub struct Parts<'a> {
-    /// the payload, of 1 to 60 bytes where `split` made the parts
+    /// the payload, of 1 to 60 bytes if `split` made the parts
     pub payload: &'a [u8],
     /// the low byte of the freshness
     pub low: u8,

@@ -7,7 +7,7 @@ ghost use Rattle.secured_pdu.specs.Judged.{outcome_of};
 use crate::frame::{Parts, input_mac, tag_of};
 use she_cmac::Schedule;
 
-/// The one freshness that is 1 to `window` above the counter and has this low byte; `None` where there is none, or it
+/// The one freshness that is 1 to `window` above the counter and has this low byte; `None` if there is none, or it
 /// would not fit 64 bits. A window is 1 to 256.
 pub fn candidate_of(counter: u64, window: u16, low: u8) -> Option<u64>
     requires { IsWindow window }

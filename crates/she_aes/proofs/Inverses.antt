@@ -1,4 +1,4 @@
--- A byte has one inverse: to multiply by a byte and then by its inverse changes nothing, since it changes no power of x
+-- A byte has one inverse. To multiply by a byte and then by its inverse changes nothing, since it changes no power of x
 -- and is linear.
 use Rattle.std.proofs.Common.{◌≡◌, ℕ, zero, suc, ◌+◌, ◌*◌, ◌^◌, ◌<◌, Bool, true, map, fold, refl, ap, sym, ◌∙◌, arith}
 use Rattle.std.specs.Prelude.{◌==◌, nat_lt}

@@ -27,7 +27,7 @@ unfolding round_key key_words
 round_key-zero key l =
     rw (first_four key 40 0 (lit< tt), first_four key 40 1 (lit< tt), first_four key 40 2 (lit< tt), first_four key 40 3 (lit< tt)) (block_of_self key l)
 
--- the round keys have the key in front
+-- the round keys begin with the key
 pub round_keys-head : (key : List ℕ) → length key ≡ 16 → get_or (round_keys key) 0 [] ≡ key
 unfolding round_keys
 round_keys-head key l = round_key-zero key l

@@ -16,6 +16,12 @@ pub mod RoundSteps
 pub mod Chains
 pub mod Inverses
 pub mod RoundTables
-pub mod ByteTable
+pub mod KeyColumns
+pub mod Choices
 pub mod CipherByTable
+mod BitWords
+pub mod Turning
+pub mod GateLanes
+pub mod ColumnWords
+pub mod PlaneLanes
 pub mod CallerLemmas

@@ -24,7 +24,7 @@ sixteen : (a b c d e f g h i j k l m n o p : ℕ) → four (four a b c d) (four 
 sixteen a b c d e f g h i j k l m n o p =
     ap (λ t. bit_xor t (bit_xor (four i j k l) (four m n o p))) (two_fours a b c d e f g h) ∙ ap (λ t. bit_xor (four (bit_xor a e) (bit_xor b f) (bit_xor c g) (bit_xor d h)) t) (two_fours i j k l m n o p) ∙ two_fours (bit_xor a e) (bit_xor b f) (bit_xor c g) (bit_xor d h) (bit_xor i m) (bit_xor j n) (bit_xor k o) (bit_xor l p)
 
--- the last one to the front
+-- the last one to the beginning
 pub turned : (a b c d : ℕ) → four a b c d ≡ four d a b c
 turned a b c d =
     xor_comm (bit_xor a b) (bit_xor c d) ∙ ap (λ t. bit_xor t (bit_xor a b)) (xor_comm c d) ∙ xor_swap d c a b ∙ ap (λ t. bit_xor (bit_xor d a) t) (xor_comm c b)

@@ -16,7 +16,7 @@ abbrev RoundsLast : List ℕ → List ℕ → List ℕ → Type 0
 RoundsLast added state out =
     (k s : List ℕ) → IsBlock k → IsBlock s → added ≡ without_constant k → state ≡ in_pairs s → out ≡ add_round_key k (shift_rows (sub_bytes s))
 
-length-after_rounds : (words : List (List ℕ)) (block : List ℕ) (n : ℕ) → length (after_rounds words block n) ≡ 16
+pub length-after_rounds : (words : List (List ℕ)) (block : List ℕ) (n : ℕ) → length (after_rounds words block n) ≡ 16
 unfolding after_rounds add_round_key xor_blocks
 length-after_rounds words block zero = refl
 length-after_rounds words block (suc n) = refl
@@ -24,7 +24,7 @@ length-after_rounds words block (suc n) = refl
 -- ---- with the key and the block of a schedule
 
 module _ (key block : List ℕ) (added : List (List ℕ)) (are : IsAddedUnder key added) where
-  pub first_state : add_round_key key block ≡ after_rounds (key_words key) block 0
+  first_state : add_round_key key block ≡ after_rounds (key_words key) block 0
   unfolding after_rounds
   first_state = ap (λ k. add_round_key k block) (sym (round_key-zero key are.key_is_block.size))
 
@@ -36,17 +36,6 @@ module _ (key block : List ℕ) (added : List (List ℕ)) (are : IsAddedUnder ke
   pub last_key : {made : List ℕ} → ((k : List ℕ) → IsBlock k → get_or added 9 [] ≡ without_constant k → made ≡ k) → made ≡ round_key (key_words key) 10
   last_key makes =
       makes (round_key (key_words key) 10) (IsBlock-round_key key are.key_is_block 10) (last_added key added are.of_key)
-
-  -- a round over bytes
-  pub round_more : (s made next : List ℕ) (n : ℕ) → made ≡ round_key (key_words key) (suc n) → next ≡ add_round_key made (mix_columns (shift_rows (sub_bytes s))) → s ≡ after_rounds (key_words key) block n → next ≡ after_rounds (key_words key) block (n + 1)
-  unfolding after_rounds
-  round_more s made next n key_is e so_far =
-      let this : n + 1 ≡ suc n = omega arith in
-      rw (this, sym so_far, sym key_is) e
-
-  pub round_last : (s made out : List ℕ) → made ≡ round_key (key_words key) 10 → out ≡ add_round_key made (shift_rows (sub_bytes s)) → s ≡ after_rounds (key_words key) block 9 → out ≡ enc key block
-  unfolding cipher enc
-  round_last s made out key_is e so_far = rw (sym so_far, sym key_is) e
 
   -- the rounds in pairs
   module _ (of_block : IsBlock block) where

@@ -5,9 +5,9 @@ use Rattle.std.specs.Int.{w32, to_be_bytes}
 use Rattle.std.specs.Int.Bits.{bit_xor, xor_zero_l, xor_zero_r, xor_lt, xor_block}
 use Rattle.std.proofs.lemmas.List.Elements.{All-cons, All-nil}
 use Rattle.std.proofs.lemmas.Bool.{agree_below, agree_below_at, eqb-true}
-use Rattle.byte_lists.specs.Bytes.{IsBytes}
-use Rattle.byte_lists.specs.Numbers.{number_of}
-use Rattle.byte_lists.specs.NumberLaws.{to_be_bytes-is, bytes_of-number_of}
+use Rattle.basics.specs.Bytes.{IsBytes}
+use Rattle.basics.specs.Numbers.{number_of}
+use Rattle.basics.specs.NumberLaws.{to_be_bytes-is, bytes_of-number_of}
 use Rattle.she_aes.specs.Field.{product, cancelled, remainder, mul, sub_byte}
 use Rattle.she_aes.specs.FieldFacts.{mul-lt, sub_byte-lt}
 use Rattle.she_aes.proofs.SBoxTable.{s_box, s_box_is}
@@ -66,7 +66,7 @@ third_rule = s_box_is
 -- ---- the sum of four words, as bytes
 
 -- the sum of two words of four bytes goes byte by byte
-word_sum : (a b c d e f g h : ℕ) → a < 256 → b < 256 → c < 256 → d < 256 → e < 256 → f < 256 → g < 256 → h < 256 → bit_xor (number_of (a ∷ b ∷ c ∷ d ∷ [])) (number_of (e ∷ f ∷ g ∷ h ∷ [])) ≡ number_of (bit_xor a e ∷ bit_xor b f ∷ bit_xor c g ∷ bit_xor d h ∷ [])
+pub word_sum : (a b c d e f g h : ℕ) → a < 256 → b < 256 → c < 256 → d < 256 → e < 256 → f < 256 → g < 256 → h < 256 → bit_xor (number_of (a ∷ b ∷ c ∷ d ∷ [])) (number_of (e ∷ f ∷ g ∷ h ∷ [])) ≡ number_of (bit_xor a e ∷ bit_xor b f ∷ bit_xor c g ∷ bit_xor d h ∷ [])
 unfolding number_of
 word_sum a b c d e f g h la lb lc ld le lf lg lh =
     let last : bit_xor (d * 1 + 0) (h * 1 + 0) ≡ bit_xor d h * 1 + 0 =
@@ -98,16 +98,16 @@ no_3 : mul 3 0 ≡ 0
 unfolding product cancelled remainder mul
 no_3 = refl
 
-alone_0 : (x : ℕ) → four x 0 0 0 ≡ x
+pub alone_0 : (x : ℕ) → four x 0 0 0 ≡ x
 alone_0 x = xor_zero_r (bit_xor x 0) ∙ xor_zero_r x
 
-alone_1 : (x : ℕ) → four 0 x 0 0 ≡ x
+pub alone_1 : (x : ℕ) → four 0 x 0 0 ≡ x
 alone_1 x = xor_zero_r (bit_xor 0 x) ∙ xor_zero_l x
 
-alone_2 : (x : ℕ) → four 0 0 x 0 ≡ x
+pub alone_2 : (x : ℕ) → four 0 0 x 0 ≡ x
 alone_2 x = xor_zero_l (bit_xor x 0) ∙ xor_zero_r x
 
-alone_3 : (x : ℕ) → four 0 0 0 x ≡ x
+pub alone_3 : (x : ℕ) → four 0 0 0 x ≡ x
 alone_3 x = xor_zero_l (bit_xor 0 x) ∙ xor_zero_l x
 
 -- what MixColumns gives for a column with one byte
@@ -178,8 +178,8 @@ module _ (x y z w : ℕ) (lx : x < 256) (ly : y < 256) (lz : z < 256) (lw : w < 
   all_four : (p q r s : ℕ) → four (mul p x) (mul q y) (mul r z) (mul s w) < 256
   all_four p q r s = xor_lt 8 (bit_xor (mul p x) (mul q y)) (bit_xor (mul r z) (mul s w)) (both p q x y lx ly) (both r s z w lz lw)
 
-  pub sum_of_words : to_be_bytes w32 (bit_xor (bit_xor (mixed_column (x ∷ 0 ∷ 0 ∷ 0 ∷ [])) (mixed_column (0 ∷ y ∷ 0 ∷ 0 ∷ []))) (bit_xor (mixed_column (0 ∷ 0 ∷ z ∷ 0 ∷ [])) (mixed_column (0 ∷ 0 ∷ 0 ∷ w ∷ [])))) ≡ circulant 2 3 1 1 (x ∷ y ∷ z ∷ w ∷ [])
-  sum_of_words =
+  sum_of_numbers : bit_xor (bit_xor (mixed_column (x ∷ 0 ∷ 0 ∷ 0 ∷ [])) (mixed_column (0 ∷ y ∷ 0 ∷ 0 ∷ []))) (bit_xor (mixed_column (0 ∷ 0 ∷ z ∷ 0 ∷ [])) (mixed_column (0 ∷ 0 ∷ 0 ∷ w ∷ []))) ≡ number_of (four (mul 2 x) (mul 3 y) (mul 1 z) (mul 1 w) ∷ four (mul 1 x) (mul 2 y) (mul 3 z) (mul 1 w) ∷ four (mul 1 x) (mul 1 y) (mul 2 z) (mul 3 w) ∷ four (mul 3 x) (mul 1 y) (mul 1 z) (mul 2 w) ∷ [])
+  sum_of_numbers =
       let n0 = ap number_of (single_0 x) in
       let n1 = ap number_of (single_1 y) in
       let n2 = ap number_of (single_2 z) in
@@ -187,8 +187,14 @@ module _ (x y z w : ℕ) (lx : x < 256) (ly : y < 256) (lz : z < 256) (lw : w < 
       let top = word_sum (mul 2 x) (mul 1 x) (mul 1 x) (mul 3 x) (mul 3 y) (mul 2 y) (mul 1 y) (mul 1 y) (byte 2 x lx) (byte 1 x lx) (byte 1 x lx) (byte 3 x lx) (byte 3 y ly) (byte 2 y ly) (byte 1 y ly) (byte 1 y ly) in
       let bottom = word_sum (mul 1 z) (mul 3 z) (mul 2 z) (mul 1 z) (mul 1 w) (mul 1 w) (mul 3 w) (mul 2 w) (byte 1 z lz) (byte 3 z lz) (byte 2 z lz) (byte 1 z lz) (byte 1 w lw) (byte 1 w lw) (byte 3 w lw) (byte 2 w lw) in
       let whole = word_sum (bit_xor (mul 2 x) (mul 3 y)) (bit_xor (mul 1 x) (mul 2 y)) (bit_xor (mul 1 x) (mul 1 y)) (bit_xor (mul 3 x) (mul 1 y)) (bit_xor (mul 1 z) (mul 1 w)) (bit_xor (mul 3 z) (mul 1 w)) (bit_xor (mul 2 z) (mul 3 w)) (bit_xor (mul 1 z) (mul 2 w)) (both 2 3 x y lx ly) (both 1 2 x y lx ly) (both 1 1 x y lx ly) (both 3 1 x y lx ly) (both 1 1 z w lz lw) (both 3 1 z w lz lw) (both 2 3 z w lz lw) (both 1 2 z w lz lw) in
-      let sum : bit_xor (bit_xor (mixed_column (x ∷ 0 ∷ 0 ∷ 0 ∷ [])) (mixed_column (0 ∷ y ∷ 0 ∷ 0 ∷ []))) (bit_xor (mixed_column (0 ∷ 0 ∷ z ∷ 0 ∷ [])) (mixed_column (0 ∷ 0 ∷ 0 ∷ w ∷ []))) ≡ number_of (four (mul 2 x) (mul 3 y) (mul 1 z) (mul 1 w) ∷ four (mul 1 x) (mul 2 y) (mul 3 z) (mul 1 w) ∷ four (mul 1 x) (mul 1 y) (mul 2 z) (mul 3 w) ∷ four (mul 3 x) (mul 1 y) (mul 1 z) (mul 2 w) ∷ []) = cc in
-      ap (to_be_bytes w32) sum
+      cc
+
+  pub sum_of_columns : bit_xor (bit_xor (mixed_column (x ∷ 0 ∷ 0 ∷ 0 ∷ [])) (mixed_column (0 ∷ y ∷ 0 ∷ 0 ∷ []))) (bit_xor (mixed_column (0 ∷ 0 ∷ z ∷ 0 ∷ [])) (mixed_column (0 ∷ 0 ∷ 0 ∷ w ∷ []))) ≡ mixed_column (x ∷ y ∷ z ∷ w ∷ [])
+  sum_of_columns = sum_of_numbers ∙ ap number_of rows
+
+  pub sum_of_words : to_be_bytes w32 (bit_xor (bit_xor (mixed_column (x ∷ 0 ∷ 0 ∷ 0 ∷ [])) (mixed_column (0 ∷ y ∷ 0 ∷ 0 ∷ []))) (bit_xor (mixed_column (0 ∷ 0 ∷ z ∷ 0 ∷ [])) (mixed_column (0 ∷ 0 ∷ 0 ∷ w ∷ [])))) ≡ circulant 2 3 1 1 (x ∷ y ∷ z ∷ w ∷ [])
+  sum_of_words =
+      ap (to_be_bytes w32) sum_of_numbers
       ∙ bytes_of_word (four (mul 2 x) (mul 3 y) (mul 1 z) (mul 1 w)) (four (mul 1 x) (mul 2 y) (mul 3 z) (mul 1 w)) (four (mul 1 x) (mul 1 y) (mul 2 z) (mul 3 w)) (four (mul 3 x) (mul 1 y) (mul 1 z) (mul 2 w)) (all_four 2 3 1 1) (all_four 1 2 3 1) (all_four 1 1 2 3) (all_four 3 1 1 2)
       ∙ rows
 

@@ -3,8 +3,8 @@
 use Rattle.std.specs.Prelude.{ℕ, zero, suc, ◌+◌, ◌-◌, ◌*◌, ◌/◌, ◌%◌, ◌==◌, if◌then◌else◌, List, [], ◌∷◌, ◌++◌, length}
 use Rattle.std.specs.Prelude.{map, slice_index, slice_index_or, bit_xor}
 use Rattle.std.specs.List.{range_with_len}
-pub use Rattle.byte_lists.specs.Blocks.{block_of, IsBlock, zero_block}
-unfoldable pub use Rattle.byte_lists.specs.Blocks.{xor_blocks}
+pub use Rattle.basics.specs.Blocks.{block_of, IsBlock, zero_block}
+unfoldable pub use Rattle.basics.specs.Blocks.{xor_blocks}
 use Rattle.she_aes.specs.Field.{mul, sub_byte, inv_sub_byte}
 
 -- the word with the bytes f 0 to f 3
@@ -64,7 +64,7 @@ power_of_x (suc n) = mul 2 (power_of_x n)
 unfoldable pub rcon : ℕ → List ℕ
 rcon i = power_of_x (i - 1) ∷ 0 ∷ 0 ∷ 0 ∷ []
 
--- what is added to word i - 4 to give word i, where word i - 1 is w
+-- what is added to word i - 4 to give word i, if word i - 1 is w
 unfoldable pub added_word : ℕ → List ℕ → List ℕ
 added_word i w = if i % 4 == 0 then xor_words (sub_word (rot_word w)) (rcon (i / 4)) else w
 
@@ -121,7 +121,7 @@ inv_shift_rows s = block_of (λ i. cell s (i % 4) (i / 4 + 4 - i % 4))
 unfoldable pub inv_mix_columns : List ℕ → List ℕ
 inv_mix_columns s = on_columns (circulant 0x0e 0x0b 0x0d 0x09) s
 
--- the state where the round without MixColumns is undone, and this many of the others
+-- the state with the round without MixColumns undone, and this many of the others
 unfoldable pub undone_rounds : List (List ℕ) → List ℕ → ℕ → List ℕ
 undone_rounds words block zero = inv_sub_bytes (inv_shift_rows (add_round_key (round_key words 10) block))
 undone_rounds words block (suc n) =

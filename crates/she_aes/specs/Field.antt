@@ -28,7 +28,7 @@ remainder p = fold cancelled p (reverse (range_with_len 0 7))
 unfoldable pub mul : ℕ → ℕ → ℕ
 mul a b = remainder (product a b)
 
--- the byte whose product with a is 1, or 0 where there is none
+-- the byte whose product with a is 1, or 0 if there is none
 unfoldable pub inv : ℕ → ℕ
 inv a = unwrap_or (find (λ b. mul a b == 1) (range_with_len 0 256)) 0
 

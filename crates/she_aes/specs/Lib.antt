@@ -4,9 +4,12 @@ pub mod Lookups
 pub mod Substitution
 pub mod Pairs
 pub mod Cipher
+pub mod Columns
+pub mod Gates
 pub mod KeySteps
 pub mod RoundTables
 pub mod RoundKeys
+pub mod Choice
 pub mod ReadBytes
 pub mod CipherFacts
 pub mod Modes

@@ -1,12 +1,12 @@
 -- The tables of a round.
 use Rattle.std.specs.Prelude.{◌≡◌, ◌<◌, ℕ, List, [], ◌∷◌, slice_index}
-use Rattle.byte_lists.specs.Numbers.{number_of}
+use Rattle.basics.specs.Numbers.{number_of}
 use Rattle.she_aes.specs.Field.{sub_byte}
 use Rattle.she_aes.specs.Cipher.{circulant}
 use Rattle.she_aes.specs.declared.by_tables.TheConstants.{ROW_0, ROW_1, ROW_2, ROW_3}
 
--- entry s of each table is the number of the column that MixColumns gives for the one with the S-box of s in its row,
--- and zeros elsewhere
+-- entry s of each table is the number of a column: the one that MixColumns gives for the S-box of s in its row and
+-- zeros elsewhere
 abbrev pub mixed_column : List ℕ → ℕ
 mixed_column column = number_of (circulant 2 3 1 1 column)
 

@@ -1,5 +1,5 @@
--- A substitution by look-ups in tables of 16 bytes, as it goes for one byte: it is taken for a pair of elements of the
--- field of 16, in which it is inverted by a few quotients, and two tables give the byte of what comes out.
+-- A substitution by look-ups in tables of 16 bytes, as it goes for one byte. The byte is taken for a pair of elements
+-- of the field of 16, in which it is inverted by a few quotients. Two tables give the byte of what comes out.
 use Rattle.std.specs.Prelude.{ℕ, ◌/◌, ◌^◌, List, bit_and, bit_xor}
 use Rattle.she_aes.specs.Lookups.{entry}
 use Rattle.she_aes.specs.declared.substitution.TheConstants.{INVERSES, QUOTIENTS}

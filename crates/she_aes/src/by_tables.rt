@@ -1,18 +1,17 @@
-// The rounds by tables, for processors that shuffle no bytes: a column of a round is the sum of four words, one from
+// The cipher by tables, for processors that shuffle no bytes: a column of a round is the sum of four words, one from
 // each table.
 //
 // The tables are read at places that depend on the key and the text.
 ghost use Rattle.std.specs.Prelude.{◌≡◌, ◌<◌, List, ℕ};
 ghost use Rattle.she_aes.specs.Field.{sub_byte};
-ghost use Rattle.she_aes.specs.Cipher.{IsBlock, column, add_round_key, sub_bytes, shift_rows, mix_columns};
-ghost use Rattle.she_aes.specs.Substitution.{pair};
-ghost use Rattle.she_aes.specs.Pairs.{in_pairs, without_constant};
-ghost use Rattle.she_aes.specs.declared.substitution.TheConstants.{BYTE_OF_LOWER, BYTE_OF_UPPER};
+ghost use Rattle.she_aes.specs.Cipher.{IsBlock, column, add_round_key, sub_bytes, shift_rows, mix_columns, enc};
+ghost use Rattle.she_aes.specs.RoundKeys.{IsPlainUnder};
 
 use crate::rounds::{State, xor};
+use basics::Block;
 
-// Entry `s` of the table of row `r` is the column that MixColumns gives for one that has the S-box of `s` in row `r`
-// and zeros elsewhere, its first row in the highest byte.
+// Entry `s` of the table of row `r` is a column, its first row in the highest byte. MixColumns gives it for one that
+// has the S-box of `s` in row `r` and zeros elsewhere.
 pub(crate) static ROW_0: [u32; 256] = [
     0xc66363a5, 0xf87c7c84, 0xee777799, 0xf67b7b8d, 0xfff2f20d, 0xd66b6bbd, 0xde6f6fb1, 0x91c5c554,
     0x60303050, 0x02010103, 0xce6767a9, 0x562b2b7d, 0xe7fefe19, 0xb5d7d762, 0x4dababe6, 0xec76769a,
@@ -164,7 +163,7 @@ fn column<const C: usize>(state: &State) -> [u8; 4]
     (top ^ bottom).to_be_bytes()
 }
 
-// The bytes of these columns of the state after SubBytes, ShiftRows and MixColumns, one column behind the other, by
+// The bytes of these columns of the state after SubBytes, ShiftRows and MixColumns, one column after the other, by
 // these names.
 macro_rules! columns {
     ($state:expr, $($number:literal as [$($byte:ident),+]),+) => {{
@@ -174,7 +173,7 @@ macro_rules! columns {
 }
 
 // A round of the cipher but the last.
-pub(crate) fn round(key: &State, state: &State) -> State
+fn round(key: &State, state: &State) -> State
     ensures { result ≡ add_round_key key.now (mix_columns (shift_rows (sub_bytes state.now))) }
 {
     let mixed = columns!(
@@ -189,14 +188,14 @@ pub(crate) fn round(key: &State, state: &State) -> State
 
 // The byte that the S-box gives, which stands in the third row of each column of the first table.
 #[tactic(auto, using(crate::proofs::RoundTables::third_rule))]
-fn substitute(byte: u8) -> u8
+pub(crate) fn substitute(byte: u8) -> u8
     ensures { result ≡ sub_byte byte }
 {
     ((ROW_0[byte as usize] >> 8) & 0xff) as u8
 }
 
 // The last round, which has no MixColumns.
-pub(crate) fn last_round(key: &State, state: &State) -> State
+fn last_round(key: &State, state: &State) -> State
     ensures { result ≡ add_round_key key.now (shift_rows (sub_bytes state.now)) }
 {
     xor(&substituted_rows(state), key)
@@ -228,55 +227,15 @@ fn substituted_rows(state: &State) -> State
     ]
 }
 
-// The byte of each pair, plus the constant of the S-box.
-pub(crate) static BYTES: [u8; 256] = [
-    0x63, 0xd0, 0x8a, 0x39, 0xb9, 0x0a, 0x50, 0xe3, 0x9f, 0x2c, 0x76, 0xc5, 0x45, 0xf6, 0xac, 0x1f,
-    0xd1, 0x62, 0x38, 0x8b, 0x0b, 0xb8, 0xe2, 0x51, 0x2d, 0x9e, 0xc4, 0x77, 0xf7, 0x44, 0x1e, 0xad,
-    0xd6, 0x65, 0x3f, 0x8c, 0x0c, 0xbf, 0xe5, 0x56, 0x2a, 0x99, 0xc3, 0x70, 0xf0, 0x43, 0x19, 0xaa,
-    0x64, 0xd7, 0x8d, 0x3e, 0xbe, 0x0d, 0x57, 0xe4, 0x98, 0x2b, 0x71, 0xc2, 0x42, 0xf1, 0xab, 0x18,
-    0x59, 0xea, 0xb0, 0x03, 0x83, 0x30, 0x6a, 0xd9, 0xa5, 0x16, 0x4c, 0xff, 0x7f, 0xcc, 0x96, 0x25,
-    0xeb, 0x58, 0x02, 0xb1, 0x31, 0x82, 0xd8, 0x6b, 0x17, 0xa4, 0xfe, 0x4d, 0xcd, 0x7e, 0x24, 0x97,
-    0xec, 0x5f, 0x05, 0xb6, 0x36, 0x85, 0xdf, 0x6c, 0x10, 0xa3, 0xf9, 0x4a, 0xca, 0x79, 0x23, 0x90,
-    0x5e, 0xed, 0xb7, 0x04, 0x84, 0x37, 0x6d, 0xde, 0xa2, 0x11, 0x4b, 0xf8, 0x78, 0xcb, 0x91, 0x22,
-    0xcf, 0x7c, 0x26, 0x95, 0x15, 0xa6, 0xfc, 0x4f, 0x33, 0x80, 0xda, 0x69, 0xe9, 0x5a, 0x00, 0xb3,
-    0x7d, 0xce, 0x94, 0x27, 0xa7, 0x14, 0x4e, 0xfd, 0x81, 0x32, 0x68, 0xdb, 0x5b, 0xe8, 0xb2, 0x01,
-    0x7a, 0xc9, 0x93, 0x20, 0xa0, 0x13, 0x49, 0xfa, 0x86, 0x35, 0x6f, 0xdc, 0x5c, 0xef, 0xb5, 0x06,
-    0xc8, 0x7b, 0x21, 0x92, 0x12, 0xa1, 0xfb, 0x48, 0x34, 0x87, 0xdd, 0x6e, 0xee, 0x5d, 0x07, 0xb4,
-    0xf5, 0x46, 0x1c, 0xaf, 0x2f, 0x9c, 0xc6, 0x75, 0x09, 0xba, 0xe0, 0x53, 0xd3, 0x60, 0x3a, 0x89,
-    0x47, 0xf4, 0xae, 0x1d, 0x9d, 0x2e, 0x74, 0xc7, 0xbb, 0x08, 0x52, 0xe1, 0x61, 0xd2, 0x88, 0x3b,
-    0x40, 0xf3, 0xa9, 0x1a, 0x9a, 0x29, 0x73, 0xc0, 0xbc, 0x0f, 0x55, 0xe6, 0x66, 0xd5, 0x8f, 0x3c,
-    0xf2, 0x41, 0x1b, 0xa8, 0x28, 0x9b, 0xc1, 0x72, 0x0e, 0xbd, 0xe7, 0x54, 0xd4, 0x67, 0x3d, 0x8e,
-];
-
-// A round key from what a round adds.
-pub(crate) fn key_of(added: &State) -> State
-    ensures { (k : List ℕ) → IsBlock k → added.now ≡ in_pairs (without_constant k) → result ≡ k }
+// The block encrypted, from the round keys.
+pub(crate) fn encrypted(key: &State, plain: &[State; 10], block: &Block) -> Block
+    ensures value { IsPlainUnder key.now plain.now → result ≡ enc key.now block.now }
+    ensures is_block { IsBlock result }
+    ensures of_block { IsBlock block.now }
 {
-    let [a, b, c, d, e, f, g, h, i, j, k, l, m, n, o, p] = *added;
-    [
-        byte_of(a),
-        byte_of(b),
-        byte_of(c),
-        byte_of(d),
-        byte_of(e),
-        byte_of(f),
-        byte_of(g),
-        byte_of(h),
-        byte_of(i),
-        byte_of(j),
-        byte_of(k),
-        byte_of(l),
-        byte_of(m),
-        byte_of(n),
-        byte_of(o),
-        byte_of(p),
-    ]
-}
-
-// The byte of a pair, plus that constant.
-#[tactic(auto, using(crate::proofs::ByteTable::byte_at))]
-fn byte_of(place: u8) -> u8
-    ensures { result ≡ pair BYTE_OF_LOWER BYTE_OF_UPPER place }
-{
-    BYTES[place as usize]
+    let mut state = xor(block.bytes(), key);
+    for done in 0..9 {
+        state = round(&plain[done], &state);
+    }
+    Block::of(last_round(&plain[9], &state))
 }

@@ -1,4 +1,4 @@
-//! Facts about the definitions alone: the contract of each function is the fact, and its body is empty.
+//! Laws of the definitions: each function has an empty body, and its contract is the law.
 ghost use Rattle.std.specs.Prelude.{◌≡◌, ℕ, ◌<◌, List, All};
 ghost use Rattle.she_aes.specs.Field.{mul, inv};
 ghost use Rattle.she_aes.specs.Cipher.{IsBlock, enc, dec};

@@ -4,49 +4,57 @@
 //! direction undoes the other, for every key and block, in each mode ([`laws`]). No call refuses, and none
 //! takes memory.
 //!
-//! Where the processor shuffles bytes, only [`encrypt_by_tables`] reads tables at places that depend on a key
-//! or a text. This was seen in the code that was built, and no clause speaks of it. `encrypt_by_tables` meets
-//! the contract of `encrypt`, and each of its 1,024 words is what the field says.
+//! There are three ciphers under one contract, and a build takes one of them. That by shuffles of bytes is the default.
+//! That by words works on the bits of words of 32 bits, without a table. That by shuffles reads none at a place that
+//! depends on a key or a text if the processor shuffles bytes; that by tables does. Decryption is by shuffles in each.
+//! This was seen in the code that was built: no clause speaks of it.
 #![tactic(auto)]
 
+mod by_shuffles;
 mod by_tables;
+mod by_words;
+mod choice;
+mod circuits;
+mod columns;
 mod expansion;
 mod inverse;
+mod key_columns;
 pub mod laws;
 mod modes;
+mod planes;
 mod rounds;
 mod substitution;
 
 ghost use Rattle.std.specs.Prelude.{◌≡◌};
 ghost use Rattle.she_aes.specs.Cipher.{IsBlock, enc, dec};
 
-pub use byte_lists::Block;
+pub use basics::Block;
+use choice::{Cipher, chosen};
 pub use modes::{cbc_decrypt, cbc_encrypt, ecb_decrypt, ecb_encrypt};
 use rounds::State;
 use std::marker::Model;
-use std::simd::prelude::*;
 
 /// The round keys of a key (FIPS 197, section 5.2). A contract sees the key itself.
 #[derive(Clone, Copy)]
 pub struct Schedule {
     // the key, which is the first round key
     key: State,
-    // what the ten rounds add: nine round keys in pairs and the last one in bytes, each together with the constant of
-    // the S-box
-    added: [State; 10],
+    // those of the ten rounds, in the form that the cipher of this build takes
+    rounds: [State; 10],
 }
 
 impl Model for Schedule {
     ghost use Rattle.std.specs.Prelude.{List, ℕ};
-    ghost use Rattle.she_aes.specs.RoundKeys.{added_keys, IsAddedUnder};
+    ghost use Rattle.she_aes.specs.RoundKeys.{keys_for, AreKeysFor};
+    ghost use Rattle.she_aes.specs.Choice.{choice};
 
     ghost Value = { List ℕ };
 
     ghost view = { λ s. s.key };
 
-    ghost invariant = { λ s. IsAddedUnder s.key s.added };
+    ghost invariant = { λ s. AreKeysFor choice s.key s.rounds };
 
-    ghost inverse = { λ key. record { key = key; added = added_keys key } };
+    ghost inverse = { λ key. record { key = key; rounds = keys_for choice key } };
 }
 
 /// The round keys of a key, by the key expansion of FIPS 197, section 5.2.
@@ -57,7 +65,7 @@ pub fn expand(key: &Block) -> Schedule
     let bytes = key.bytes();
     Schedule {
         key: *bytes,
-        added: expansion::added_keys(bytes),
+        rounds: choice::keys_of(bytes),
     }
 }
 
@@ -67,33 +75,13 @@ pub fn encrypt(schedule: &Schedule, block: &Block) -> Block
     ensures is_block { IsBlock result }
     ensures of_blocks { IsBlock schedule.now × IsBlock block.now }
 {
-    let added = &schedule.added;
-    let s0 = rounds::begin(&schedule.key, block.bytes());
-    let s1 = rounds::round(&added[0], s0);
-    let s2 = rounds::round(&added[1], s1);
-    let s3 = rounds::round(&added[2], s2);
-    let s4 = rounds::round(&added[3], s3);
-    let s5 = rounds::round(&added[4], s4);
-    let s6 = rounds::round(&added[5], s5);
-    let s7 = rounds::round(&added[6], s6);
-    let s8 = rounds::round(&added[7], s7);
-    let s9 = rounds::round(&added[8], s8);
-    Block::of(rounds::last_round(&added[9], s9).to_array())
-}
-
-/// What [`encrypt`] gives, by tables of words and one of bytes, for processors that shuffle no bytes. It reads them at
-/// places that depend on the key and the block.
-pub fn encrypt_by_tables(schedule: &Schedule, block: &Block) -> Block
-    ensures value { result ≡ enc schedule.now block.now }
-    ensures is_block { IsBlock result }
-    ensures of_blocks { IsBlock schedule.now × IsBlock block.now }
-{
-    let added = &schedule.added;
-    let mut state = rounds::xor(block.bytes(), &schedule.key);
-    for done in 0..9 {
-        state = by_tables::round(&by_tables::key_of(&added[done]), &state);
+    let key = &schedule.key;
+    let rounds = &schedule.rounds;
+    match chosen() {
+        Cipher::Shuffles => by_shuffles::encrypted(key, rounds, block),
+        Cipher::Words => by_words::encrypted(key, rounds, block),
+        Cipher::Tables => by_tables::encrypted(key, rounds, block),
     }
-    Block::of(by_tables::last_round(&rounds::last_key_of(&added[9]), &state))
 }
 
 /// The block decrypted under the key of the schedule (FIPS 197, section 5.3): the block that `encrypt`
@@ -103,17 +91,38 @@ pub fn decrypt(schedule: &Schedule, block: &Block) -> Block
     ensures is_block { IsBlock result }
     ensures of_blocks { IsBlock schedule.now × IsBlock block.now }
 {
-    let added = &schedule.added;
-    let k10 = rounds::last_key_of(&added[9]);
-    let s9 = inverse::undo_last_round(&k10, u8x16::from_array(*block.bytes()));
-    let s8 = inverse::undo_round(&rounds::key_of(&added[8]), s9);
-    let s7 = inverse::undo_round(&rounds::key_of(&added[7]), s8);
-    let s6 = inverse::undo_round(&rounds::key_of(&added[6]), s7);
-    let s5 = inverse::undo_round(&rounds::key_of(&added[5]), s6);
-    let s4 = inverse::undo_round(&rounds::key_of(&added[4]), s5);
-    let s3 = inverse::undo_round(&rounds::key_of(&added[3]), s4);
-    let s2 = inverse::undo_round(&rounds::key_of(&added[2]), s3);
-    let s1 = inverse::undo_round(&rounds::key_of(&added[1]), s2);
-    let s0 = inverse::undo_round(&rounds::key_of(&added[0]), s1);
-    Block::of(rounds::add_round_key(&schedule.key, s0).to_array())
+    let key = &schedule.key;
+    let rounds = &schedule.rounds;
+    match chosen() {
+        Cipher::Shuffles => by_shuffles::decrypted(key, rounds, block),
+        Cipher::Words => by_shuffles::decrypted_plain(key, rounds, block),
+        Cipher::Tables => by_shuffles::decrypted_plain(key, rounds, block),
+    }
+}
+
+/// What [`encrypt`] gives under the expanded key, by shuffles of bytes, whichever cipher the build takes.
+pub fn encrypt_by_shuffles(key: &Block, block: &Block) -> Block
+    ensures value { result ≡ enc key.now block.now }
+    ensures is_block { IsBlock result }
+{
+    let bytes = key.bytes();
+    by_shuffles::encrypted(bytes, &expansion::added_keys(bytes), block)
+}
+
+/// The same over words of 32 bits, bit by bit. No table is read, and no place depends on the key or the block.
+pub fn encrypt_by_words(key: &Block, block: &Block) -> Block
+    ensures value { result ≡ enc key.now block.now }
+    ensures is_block { IsBlock result }
+{
+    let bytes = key.bytes();
+    by_words::encrypted(bytes, &key_columns::keys_by_words(bytes), block)
+}
+
+/// The same by tables of words. It reads them at places that depend on the key and the block.
+pub fn encrypt_by_tables(key: &Block, block: &Block) -> Block
+    ensures value { result ≡ enc key.now block.now }
+    ensures is_block { IsBlock result }
+{
+    let bytes = key.bytes();
+    by_tables::encrypted(bytes, &key_columns::keys_by_tables(bytes), block)
 }

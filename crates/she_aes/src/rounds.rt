@@ -1,7 +1,7 @@
 // The rounds of the cipher (FIPS 197, section 5.1), on the 16 bytes of the state at once.
 //
 // Between two rounds each byte of the state is its pair. A round key comes as the round adds it: with the constant of
-// the S-box, which the substitution before it leaves out, and in pairs, but for the last one, which comes in bytes.
+// the S-box, which the substitution before it leaves out, and in pairs, except for the last one, which comes in bytes.
 ghost use Rattle.std.specs.Prelude.{◌≡◌, List, ℕ, map};
 ghost use Rattle.she_aes.specs.Field.{mul};
 ghost use Rattle.she_aes.specs.Cipher.{IsBlock, xor_blocks, add_round_key, sub_bytes, shift_rows, mix_columns};

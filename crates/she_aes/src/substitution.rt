@@ -1,9 +1,9 @@
 // SubBytes and its inverse (FIPS 197, sections 5.1.1 and 5.3.2) by byte shuffles: no table is read at a secret index.
 //
-// A byte is taken for a pair of elements of the field of 16, an upper and a lower one, since the field of 256 is an
-// extension of it. There its inverse is found by look-ups in tables of 16 bytes, each of which is one shuffle of all 16
-// bytes of the state. The quotient by 0 is no element of the field: it is a place from 128 on, and what is looked up
-// there is 0. (M. Hamburg, Accelerating AES with vector permute instructions, 2009.)
+// A byte is taken for a pair of elements of the field of 16, an upper and a lower one: the field of 256 is an extension
+// of it. There its inverse is found by look-ups in tables of 16 bytes. Each look-up is one shuffle of all 16 bytes of
+// the state. The quotient by 0 isn't an element of the field: it is a place from 128 on, and what is looked up there is
+// 0. (M. Hamburg, Accelerating AES with vector permute instructions, 2009.)
 //
 // The sum of two bytes is taken for the sum of their pairs, so between two rounds the state stays in pairs.
 ghost use Rattle.std.specs.Prelude.{◌≡◌, List, ℕ, All, IsTrue, map, bit_xor};
@@ -38,7 +38,7 @@ const HIGH: Table = [
     0x00, 0xe6, 0x2d, 0xcb, 0x6e, 0x88, 0x43, 0xa5, 0x07, 0xe1, 0x2a, 0xcc, 0x69, 0x8f, 0x44, 0xa2,
 ];
 
-// The byte that the S-box gives for the inverse, but for the constant 63: what the two quotients add to it.
+// The byte that the S-box gives for the inverse, except for the constant 63: what the two quotients add to it.
 pub(crate) const LEFT: Table = [
     0x00, 0x9f, 0x61, 0x16, 0xc2, 0x2a, 0x77, 0xe8, 0x89, 0x4b, 0x5d, 0x3c, 0xb5, 0xa3, 0xd4, 0xfe,
 ];

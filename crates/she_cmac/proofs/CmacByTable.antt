@@ -1,7 +1,7 @@
 -- The CMAC with the cipher's S-box read from a table, to compute examples by: it is the CMAC.
 use Rattle.std.specs.Prelude.{◌≡◌, ℕ, ◌-◌, ◌==◌, if◌then◌else◌, List, [], ◌∷◌, ◌++◌, length, fold, replicate}
 use Rattle.std.proofs.Common.{refl, ap, ◌∙◌}
-use Rattle.byte_lists.specs.Numbers.{number_of, bytes_of}
+use Rattle.basics.specs.Numbers.{number_of, bytes_of}
 use Rattle.she_aes.specs.Cipher.{enc, zero_block, xor_blocks}
 use Rattle.she_aes.proofs.CallerLemmas.{enc_by_table, enc_by_table_is}
 use Rattle.she_cmac.specs.Cmac.{dbl, encrypted_zero, first_subkey, second_subkey, front_blocks, last_piece, last_block, chained, cmac}

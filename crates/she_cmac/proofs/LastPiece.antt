@@ -42,7 +42,7 @@ last_piece-more m xs room =
     let b = bounds m in
     last_piece_is (m ++ xs) ∙ ap (λ n. drop (16 * n) (m ++ xs)) (before_last-more m xs room) ∙ drop-append-le (16 * before_last m) m xs b.0 ∙ ap (λ p. p ++ xs) (sym (last_piece_is m))
 
--- bytes behind a complete block
+-- bytes after a complete block
 before_last_full : (m xs : List ℕ) → length (last_piece m) ≡ 16 → 0 < length xs → length xs ≤ 16 → before_last (m ++ xs) ≡ before_last m + 1
 unfolding before_last
 before_last_full m xs full some most = omega (arith, length-last_piece m, length-append m xs)
@@ -93,13 +93,13 @@ module _ (key m xs : List ℕ) (mac : Mac) where
 
 -- ---- the block that is kept
 
--- a byte written behind the piece
+-- a byte written after the piece
 pub written_behind : (p : List ℕ) (x : ℕ) → length p < 16 → set (p ++ replicate (16 - length p) 0) (length p) x ≡ p ++ x ∷ replicate (15 - length p) 0
 written_behind p x h =
     let e : 16 - length p ≡ suc (15 - length p) = omega arith in
     ap (λ n. set (p ++ replicate n 0) (length p) x) e ∙ set_at p 0 (replicate (15 - length p) 0) x (length p) refl
 
--- bytes written behind the piece
+-- bytes written after the piece
 pub kept_behind : (p xs : List ℕ) → length p + length xs ≤ 16 → take (length p) (p ++ replicate (16 - length p) 0) ++ xs ++ drop (length p + length xs) (p ++ replicate (16 - length p) 0) ≡ (p ++ xs) ++ replicate (16 - length (p ++ xs)) 0
 kept_behind p xs room =
     let zeros : List ℕ = replicate (16 - length p) 0 in

@@ -3,10 +3,10 @@
 use Rattle.std.specs.Prelude.{ℕ, ◌-◌, ◌*◌, ◌/◌, ◌^◌, ◌==◌, nat_lt, if◌then◌else◌, List, [], ◌∷◌, ◌++◌, length, take}
 use Rattle.std.specs.Prelude.{drop, map, fold, replicate, bit_xor}
 use Rattle.std.specs.List.{range_with_len}
-use Rattle.byte_lists.specs.Numbers.{number_of, bytes_of}
+use Rattle.basics.specs.Numbers.{number_of, bytes_of}
 use Rattle.she_aes.specs.Cipher.{enc, zero_block, xor_blocks}
 
--- section 6.1, steps 2 and 3: a number below 2^128 shifted left by one bit, with 135 added bit by bit where a 1 was
+-- section 6.1, steps 2 and 3: a number below 2^128 shifted left by one bit, with 135 added bit by bit if a 1 was
 -- shifted out
 unfoldable pub dbl : ℕ → ℕ
 dbl a = if nat_lt a (2 ^ 127) then 2 * a else bit_xor (2 * a - 2 ^ 128) 135
@@ -22,7 +22,7 @@ first_subkey key = bytes_of 16 (dbl (encrypted_zero key))
 unfoldable pub second_subkey : List ℕ → List ℕ
 second_subkey key = bytes_of 16 (dbl (dbl (encrypted_zero key)))
 
--- section 6.2, steps 2 and 3: how many blocks stand before the last one, which has 1 to 16 bytes, or none where the
+-- section 6.2, steps 2 and 3: how many blocks stand before the last one, which has 1 to 16 bytes, or none if the
 -- message is empty
 unfoldable pub before_last : List ℕ → ℕ
 before_last message = (length message - 1) / 16

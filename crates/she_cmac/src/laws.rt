@@ -1,6 +1,6 @@
-//! Facts about the definitions alone: the contract of each function is the fact, and its body is empty.
+//! Laws of the definitions: each function has an empty body, and its contract is the law.
 ghost use Rattle.std.specs.Prelude.{ℕ, List};
-ghost use Rattle.byte_lists.specs.Blocks.{IsBlock};
+ghost use Rattle.basics.specs.Blocks.{IsBlock};
 ghost use Rattle.she_cmac.specs.Cmac.{cmac};
 ghost use Rattle.she_cmac.specs.Examples.{ExampleOf16Bytes, ExampleOf40Bytes};
 

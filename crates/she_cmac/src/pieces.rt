@@ -1,7 +1,7 @@
 //! The CMAC of a message (SP 800-38B, section 6.2), whole or in pieces.
 ghost use Rattle.std.specs.Prelude.{◌≡◌, ◌≤◌, map};
 ghost use Rattle.std.specs.List.{concat};
-ghost use Rattle.byte_lists.specs.Blocks.{IsBlock};
+ghost use Rattle.basics.specs.Blocks.{IsBlock};
 ghost use Rattle.she_cmac.specs.Cmac.{cmac};
 
 use crate::subkeys::{first_subkey, second_subkey};
@@ -19,7 +19,7 @@ pub struct Mac<'a> {
 
 impl<'a> Mac<'a> {
     ghost use Rattle.std.specs.Prelude.{◌≡◌, ◌-◌, ◌<◌, ◌≤◌, ℕ, List, [], ◌∷◌, ◌++◌, length, min, take};
-    ghost use Rattle.byte_lists.specs.Blocks.{IsBlock};
+    ghost use Rattle.basics.specs.Blocks.{IsBlock};
     ghost use Rattle.she_cmac.specs.Cmac.{cmac, last_block};
     ghost use Rattle.she_cmac.specs.Took.{Holds, Took};
 
@@ -68,7 +68,7 @@ impl<'a> Mac<'a> {
         Block::of(padded).xor(&second_subkey(self.schedule))
     }
 
-    // Takes bytes from the front of these, up to the end of a block, and says how many. A block that is complete is
+    // Takes bytes from the beginning of these, up to the end of a block, and says how many. A block that is complete is
     // chained only when another byte comes after it.
     fn take(&mut self, bytes: &[u8]) -> usize
         requires { 0 < length bytes.now }
@@ -95,7 +95,7 @@ impl<'a> Mac<'a> {
         self.filled = 0;
     }
 
-    // Keeps the block at the front of these bytes, where nothing is kept.
+    // Keeps the block at the beginning of these bytes, if nothing is kept.
     fn keep_block(&mut self, bytes: &[u8])
         requires { 16 ≤ length bytes.now }
         ensures { (key : List ℕ) (blocks : List (List ℕ)) → Holds key blocks [] self.old
@@ -105,7 +105,7 @@ impl<'a> Mac<'a> {
         self.filled = 16;
     }
 
-    // Keeps, behind the bytes that are kept, as many of these as fit, and says how many. A whole block is taken as one.
+    // Keeps, after the bytes that are kept, as many of these as fit, and says how many. A whole block is taken as one.
     fn keep(&mut self, bytes: &[u8]) -> usize
         ensures count { result ≡ min (length bytes.now) (16 - self.old.filled) }
         ensures kept { (key piece : List ℕ) (blocks : List (List ℕ)) → Holds key blocks piece self.old

@@ -1,6 +1,6 @@
 // The subkeys (SP 800-38B, section 6.1).
 ghost use Rattle.std.specs.Prelude.{◌≡◌};
-ghost use Rattle.byte_lists.specs.Numbers.{bytes_of};
+ghost use Rattle.basics.specs.Numbers.{bytes_of};
 ghost use Rattle.she_cmac.specs.Cmac.{dbl, encrypted_zero, first_subkey, second_subkey};
 
 use she_aes::{Block, Schedule, encrypt};

@@ -23,8 +23,7 @@ pub record Loaded (before after : Engine) (old new : CellsState) (request : Requ
   pub engine : after ≡ record before { slots = set before.slots update.id (slot_of update) }
   pub store : Puts update.id (slot_cell (slot_of update)) old new
 
--- this is the first refusal that applies, and neither the engine nor the store has changed: no call of the disk was
--- made
+-- this is the first refusal that applies, and neither engine nor store has changed. No call of the disk was made
 pub record RefusedLoad (before after : Engine) (old new : CellsState) (request : Request) (refusal : Erc) : Type 0 where
   pub refused : Allows before.slots (is_good before.boot) before.uid request (Err refusal)
   pub engine : after ≡ before

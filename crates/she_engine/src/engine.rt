@@ -26,8 +26,8 @@ pub struct PendingSlot {
     slot: Slot,
 }
 
-/// A SHE engine with its identifier. Contracts see its identifier, its slots, what secure boot came to in this life,
-/// and the slot that a load was to put when the disk failed, which no call hands out.
+/// A SHE engine with its identifier. Contracts see its identifier, its slots, and what secure boot came to in this
+/// life. They also see the slot that a load was to put when the disk failed, which no call hands out.
 #[derive(Drop)]
 pub struct Engine {
     uid: Uid,
@@ -47,7 +47,7 @@ pub enum LoadFault {
 
 impl Engine {
     /// The engine with this identifier, which isn't zero, over the slots in the store's first fourteen cells. No boot
-    /// has been made, and nothing is pending. `BadSlot` exactly where one of these cells is no slot's; the lowest is
+    /// has been made, and nothing is pending. `BadSlot` exactly if one of these cells is no slot's; the lowest is
     /// named.
     pub fn attach<C: Cells>(uid: Uid, cells: &C) -> Result<Engine, BadSlot>
         requires cells { 14 ≤ length (C.state cells.now).cells }
@@ -68,8 +68,8 @@ impl Engine {
 
     /// Loads the key of the request into its slot and the slot's cell, and confirms it with the engine's own
     /// identifier. `Refused` names the first refusal that applies, and then nothing has changed and no call of the disk
-    /// was made. `Faulted` comes only where the disk failed: the slots are as before, and the slot that was to be put
-    /// is pending.
+    /// was made. `Faulted` comes only if the disk failed: the slots are as before, and the slot that was to be put is
+    /// pending.
     pub fn load_key<C: Cells>(
         &mut self,
         cells: &mut C,
@@ -115,7 +115,7 @@ impl Engine {
         usable(held, self.boot.is_good(), purpose)
     }
 
-    // The round keys of the slot's key, where it may be used.
+    // The round keys of the slot's key, if it may be used.
     pub(crate) fn key_for(&self, slot: SlotId, purpose: Purpose) -> Result<&Schedule, Erc>
         ensures refusal { result_err result ≡ use_refusal self.now.slots slot (is_good self.now.boot) purpose }
         ensures key { IfOk result (λ schedule. schedule.now ≡ key_in (slot_at self.now.slots slot)) }
@@ -146,8 +146,8 @@ impl Engine {
     }
 
     /// Decides the secure boot of this life with an image of 1 to 65,536 bytes: whether slot 3, BOOT_MAC, holds its
-    /// boot MAC under the key of slot 2, BOOT_MAC_KEY. `SequenceError` exactly where a boot was decided before in this
-    /// life, and then `NoSecureBoot` exactly where one of the two slots is empty, which doesn't count as a boot.
+    /// boot MAC under the key of slot 2, BOOT_MAC_KEY. `SequenceError` comes exactly if a boot was decided before in
+    /// this life. Else `NoSecureBoot` comes exactly if one of the two slots is empty; it doesn't count as a boot.
     pub fn boot(&mut self, image: &[u8]) -> Result<bool, Erc>
         requires { IsImage image.now }
         ensures once { is_decided self.old.boot ≡ true → result ≡ Err Erc.SequenceError }

@@ -6,11 +6,11 @@ ghost use Rattle.key_slots.specs.Slots.{IsSlots, slot_at, counter_of, flags_of, 
 ghost use Rattle.key_slots.specs.Usage.{first_applying};
 ghost use Rattle.memory_update.specs.Loading.{Allows, head_refusals, is_meant, key_in, slot_of};
 
-use byte_lists::Block;
+use basics::Block;
 use key_slots::{Erc, Flags, Slot, SlotId, Slots, may_authorise};
 use memory_update::{Request, Uid, Update, head, unseal};
 
-// The refusals in their order, each behind the test for which it applies.
+// The refusals in their order, each after the test for which it applies.
 macro_rules! refuse_first {
     ($($applies:expr => $refusal:expr),+ $(,)?) => {{
         $(if $applies {
@@ -104,8 +104,8 @@ fn head_refusal(slots: &Slots, good: bool, id: SlotId, auth: SlotId) -> Result<(
     }
 }
 
-// Whether the update is for the engine with this identifier, or for every engine where the target lets it, and raises
-// the counter.
+// Whether the update is for the engine with this identifier, or for every engine if the target lets it, and raises the
+// counter.
 fn is_fit(uid: Uid, target: &Slot, update: &Update) -> bool
     ensures { result ≡ (is_meant uid target.now update.now.uid
         && nat_lt (counter_of target.now) update.now.counter) }

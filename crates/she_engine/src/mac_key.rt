@@ -30,8 +30,8 @@ impl<'a> MacKey<'a> {
         MacKey { schedule }
     }
 
-    /// Writes the Secured I-PDU to the front of `out` and gives its length in bytes. For a payload that has not 1 to 60
-    /// bytes it gives `None` and writes nothing.
+    /// Writes the Secured I-PDU to the beginning of `out` and gives its length in bytes. For a payload that has not 1
+    /// to 60 bytes it gives `None` and writes nothing.
     pub fn build(
         &self,
         id: u16,

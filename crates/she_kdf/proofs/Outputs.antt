@@ -2,7 +2,7 @@
 use Rattle.std.proofs.Common.{◌≡◌, ◌+◌, ◌<◌, ℕ, List, [], ◌∷◌, length, take, get_or, sym, ap, ◌∙◌}
 use Rattle.std.proofs.lemmas.List.{take_more}
 use Rattle.std.proofs.lemmas.Grind.{fold-append}
-use Rattle.byte_lists.specs.Blocks.{zero_block}
+use Rattle.basics.specs.Blocks.{zero_block}
 use Rattle.she_kdf.specs.Derivation.{next_out, miyaguchi_preneel}
 
 -- one more block

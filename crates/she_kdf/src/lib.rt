@@ -5,7 +5,7 @@
 #![tactic(auto)]
 
 ghost use Rattle.std.specs.Prelude.{◌≡◌, All};
-ghost use Rattle.byte_lists.specs.Blocks.{IsBlock};
+ghost use Rattle.basics.specs.Blocks.{IsBlock};
 ghost use Rattle.she_kdf.specs.Derivation.{next_out, miyaguchi_preneel, constant_block, kdf};
 
 use she_aes::{Block, encrypt, expand};

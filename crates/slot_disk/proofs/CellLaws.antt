@@ -1,9 +1,9 @@
 -- A cell is one slot, and has 32 bytes.
 use Rattle.std.proofs.Common.{◌≡◌, ℕ, ◌<◌, List, [], ◌∷◌, ◌++◌, map, All, replicate, refl, sym, ◌∙◌, arith, length-append, lit<}
 use Rattle.std.proofs.lemmas.List.Elements.{All-head, All-tail, All-cons, All-append, All-replicate}
-use Rattle.byte_lists.specs.Bytes.{IsBytes}
-use Rattle.byte_lists.specs.Numbers.{bytes_of}
-use Rattle.byte_lists.specs.NumberLaws.{IsBytes-bytes_of}
+use Rattle.basics.specs.Bytes.{IsBytes}
+use Rattle.basics.specs.Numbers.{bytes_of}
+use Rattle.basics.specs.NumberLaws.{IsBytes-bytes_of}
 use Rattle.key_slots.specs.Flags.{flags_number}
 use Rattle.key_slots.specs.declared.memory.Slot.{Slot}
 use Rattle.key_slots.specs.declared.memory.Slot.TheVariants.{Empty, Filled}

@@ -1,8 +1,8 @@
--- What the parts of a cell are, where it is the cell of a slot.
+-- What the parts of a cell are, if it is the cell of a slot.
 use Rattle.std.proofs.Common.{◌≡◌, ℕ, ◌^◌, ◌<◌, List, [], ◌∷◌, ◌++◌, length, get_or, take, drop, replicate, refl, sym, ap, ◌∙◌, arith}
 use Rattle.std.proofs.Math.Seq.{take-append_seam}
-use Rattle.byte_lists.specs.Numbers.{number_of, bytes_of}
-use Rattle.byte_lists.specs.NumberLaws.{number_of-bytes_of-lt}
+use Rattle.basics.specs.Numbers.{number_of, bytes_of}
+use Rattle.basics.specs.NumberLaws.{number_of-bytes_of-lt}
 use Rattle.key_slots.specs.declared.memory.Flags.{Flags}
 use Rattle.key_slots.specs.declared.memory.Slot.{Slot}
 use Rattle.key_slots.specs.declared.memory.Slot.TheVariants.{Empty, Filled}

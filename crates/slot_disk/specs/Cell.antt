@@ -1,6 +1,6 @@
 -- The cell of a key slot: the 32 bytes in which a store keeps it (own).
 use Rattle.std.specs.Prelude.{◌≡◌, ℕ, ◌<◌, List, ◌∷◌, [], ◌++◌, map, take, replicate, slice_index_or}
-use Rattle.byte_lists.specs.Numbers.{bytes_of}
+use Rattle.basics.specs.Numbers.{bytes_of}
 use Rattle.key_slots.specs.declared.memory.Slot.{Slot}
 use Rattle.key_slots.specs.declared.memory.Slot.TheVariants.{Empty, Filled}
 use Rattle.key_slots.specs.Flags.{flags_number}
@@ -12,7 +12,7 @@ unfoldable pub slot_cell : Slot → List ℕ
 slot_cell Empty = replicate 32 0
 slot_cell (Filled key counter flags) = 1 ∷ flags_number flags ∷ bytes_of 4 counter ++ key ++ replicate 10 0
 
--- the cell is the one of this slot
+-- the cell holds this slot
 pub record HoldsSlot (cell : List ℕ) (slot : Slot) : Type 0 where
   pub is_slot : IsSlot slot
   pub cell_is : cell ≡ slot_cell slot

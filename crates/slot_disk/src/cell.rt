@@ -64,7 +64,7 @@ fn filled_bytes(key: &Block, counter: Counter28, flags: Flags) -> [u8; 32]
     out
 }
 
-/// The slot that a cell holds; none where it holds none.
+/// The slot that a cell holds; none if it holds none.
 pub fn slot_in(cell: &[u8; 32]) -> Option<Slot>
     ensures { MatchOption result ((slot : Slot) → ¬ HoldsSlot cell.now slot) (HoldsSlot cell.now) }
 {

@@ -11,8 +11,7 @@ use key_slots::{Slot, SlotId, Slots};
 #[derive(Clone, Copy, Debug, PartialEq, Eq, Drop)]
 pub struct BadSlot(pub SlotId);
 
-/// The slots that the first fourteen cells hold. `BadSlot` exactly where one of them is no slot's;
-/// the lowest is named.
+/// The slots that the first fourteen cells hold. `BadSlot` exactly if one of them is no slot's; the lowest is named.
 pub fn read_slots<C: Cells>(cells: &C) -> Result<Slots, BadSlot>
     requires { 14 ≤ length (C.state cells.now).cells }
     ensures slots { IfOk result (HoldSlots (C.state cells.now).cells) }
@@ -31,8 +30,8 @@ pub fn read_slots<C: Cells>(cells: &C) -> Result<Slots, BadSlot>
     Ok(slots)
 }
 
-/// Puts the cell of a slot, with the conditions and answers of a put. Where it fails, the cell on
-/// the disk is the old slot's or the new one's, whatever a power cut leaves.
+/// Puts the cell of a slot, with the conditions and answers of a put. If it fails on a settled store, the cell on the
+/// disk is the old slot's or the new one's, whatever a power cut leaves.
 pub fn put_slot<C: Cells>(cells: &mut C, id: SlotId, slot: &Slot) -> Result<(), PutFailed>
     requires cells { 14 ≤ length (C.state cells.old).cells }
     requires whole { (C.state cells.old).broken ≡ false }

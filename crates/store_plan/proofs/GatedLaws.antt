@@ -30,7 +30,7 @@ pub put_mid-splice : (at k : ℕ) (x new : List ℕ) → k ≡ length new → at
 unfolding splice
 put_mid-splice at k x new same inside = same_lists _ _ (search (rules, places)) (λ i d h. grind (arith, places))
 
--- where a plan writes, the write is the splice
+-- if a plan writes, the write is the splice
 pub splice-at : (w : Write) (at : ℕ) (new x : List ℕ) → WritesAt w at new → splice w.offset (bytes_written w) x ≡ splice at new x
 splice-at w at new x p = ap (λ n. splice n (bytes_written w) x) p.place ∙ ap (λ (b : List ℕ). splice at b x) p.is
 
@@ -82,7 +82,7 @@ module _ (plan : Plan) (x : List ℕ) (i : ℕ) (c : List ℕ) (p : PlansPut pla
   pub applied-stands : (cells : List (List ℕ)) → Stands (twin_layout One) x cells → i < length cells → Stands (twin_layout One) (applied plan x) (set cells i c)
   applied-stands cells stands below = put_stands (twin_layout One) x (applied plan x) cells i c stands below p.sized applied-put
 
-  -- the copy that counts, as it is held
+  -- the copy that counts, as memory holds it
   abbrev pub counted : Held
   counted = record { payload = payload (copy x i p.side); mark = mark (copy x i p.side); side = p.side; spare_is_live = is_live (copy x i (other p.side)) }
 

@@ -30,7 +30,7 @@ pub on_err_both : {T E P Q R : Type 0} (r : Result T E) → (P → Q → R) → 
 on_err_both (Ok x) f p q = tt
 on_err_both (Err e) f p q = f p q
 
--- the gate is closed first, where it is live
+-- the gate is closed first, if it is live
 pub gate-closed : (plan : Plan) (n at : ℕ) (live : Bool) (rest : List ℕ) (a b : Option Told) → Gated plan at live rest → ((t : Told) → a ≡ Some t → at + 1 ≤ length t.bytes) → ((t : Told) → a ≡ Some t → is_live (part at (suc n) t.bytes) ≡ live) → WriteDone plan.first a b → ClosesGate n at a b
 gate-closed plan n at live rest a b gated fits gate done = elim (cases_Bool live) [
   | inl on ↦ closed-write n at a b fits (done.lasts at (0 ∷ []) (omega arith) (gated.closes on))

@@ -30,7 +30,7 @@ Serves plan told i c = (t : Told) → told ≡ Some t → PlansPut plan t.bytes 
 abbrev pub store_on : List (List ℕ) → DiskState → Bool → CellsState
 store_on cells disk broken = record { layout = twin_layout One; cells = cells; disk = disk; broken = broken }
 
--- over bytes of which none is loose a write makes such bytes
+-- if no byte is loose, none is loose after a write
 abbrev pub MakesFirm : Write → Option Told → Option Told → Type 0
 MakesFirm w old new = (x : List ℕ) → old ≡ Some (firm x) → new ≡ Some (firm (applied_write w x))
 
@@ -38,7 +38,7 @@ MakesFirm w old new = (x : List ℕ) → old ≡ Some (firm x) → new ≡ Some 
 abbrev pub DoesPlan : Plan → Option Told → Option Told → Type 0
 DoesPlan plan old new = (x : List ℕ) → old ≡ Some (firm x) → new ≡ Some (firm (applied plan x))
 
--- where no byte was loose, every image is what the power leaves that goes within the plan
+-- if no byte was loose, every image is what the power leaves that goes within the plan
 abbrev pub LeavesPlanCut : Plan → Option Told → Option Told → Type 0
 LeavesPlanCut plan old new = (x : List ℕ) → old ≡ Some (firm x) → EachImage new (CutWithin plan x)
 
@@ -62,7 +62,7 @@ pub record DoesEach (plan : Plan) (old new : DiskState) : Type 0 where
   pub second : WritesOne plan.second behind_first behind_second
   pub third : WritesOne plan.third behind_second new
 
--- they were done one after the other up to one that failed, and none behind that one was begun
+-- they were done one after the other up to one that failed, and none after that one was begun
 pub data StopsAtFailure (plan : Plan) (old new : DiskState) : Type 0 where
   at_first : FailsOne plan.first old new → StopsAtFailure plan old new
   at_second : (first : DiskState) → WritesOne plan.first old first → FailsOne plan.second first new

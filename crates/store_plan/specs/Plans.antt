@@ -25,11 +25,11 @@ no_write = record { offset = 0; size = 0; bytes = replicate 40 0 }
 abbrev pub no_plan : Plan
 no_plan = record { first = no_write; second = no_write; third = no_write }
 
--- what stands behind the bytes of a write is zero
+-- what stands after the bytes of a write is zero
 abbrev pub RestIsZero : Write → Type 0
 RestIsZero w = drop w.size w.bytes ≡ replicate (40 - w.size) 0
 
--- the write stays within n bytes, where it has some, and within what a plan keeps of it
+-- the write stays within n bytes, if it has some, and within what a plan keeps of it
 pub record WriteFits (n : ℕ) (w : Write) : Type 0 where
   pub few : w.size ≤ 40
   pub inside : 0 < w.size → w.offset + w.size ≤ n
@@ -39,7 +39,7 @@ pub record PlanFits (n : ℕ) (plan : Plan) : Type 0 where
   pub second : WriteFits n plan.second
   pub third : WriteFits n plan.third
 
--- a gate is closed where it is live, these bytes are written behind it, and it is opened
+-- a gate is closed if it is live, these bytes are written behind it, and it is opened
 pub record Gated (plan : Plan) (at : ℕ) (live : Bool) (new : List ℕ) : Type 0 where
   pub closes : live ≡ true → WritesAt plan.first at (0 ∷ [])
   pub closed : live ≡ false → plan.first ≡ no_write

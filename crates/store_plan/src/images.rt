@@ -9,12 +9,12 @@ ghost use Rattle.cell_store.specs.Store.{FewCells, HasHeader, fresh_store};
 use crate::planning::cell_held;
 use cell_store::{Kind, Layout, Version, fresh_cell, header, is_header, pair_place};
 
-/// Why an image isn't the one of a store.
+/// Why an image isn't that of a store.
 #[derive(Clone, Copy, Debug, PartialEq, Eq)]
 pub enum ImageFault {
     /// It doesn't begin with the header of a twin store of version 1 with so many cells.
     NoStore,
-    /// No copy of some cell counts.
+    /// Some cell has no copy that counts.
     Damaged,
 }
 
@@ -68,7 +68,7 @@ pub fn make_cell(image: &mut [u8], cell: u16, payload: &[u8; 32])
     image[at..at + 68].copy_from_slice(&fresh_cell(payload));
 }
 
-/// Whether an image is the one of a store of so many cells, of which each has a copy that counts.
+/// Whether an image is that of a store of so many cells, each with a copy that counts.
 pub fn check(image: &[u8], cells: u16) -> Result<(), ImageFault>
     requires { length image.now ≡ twin_size cells }
     ensures no_store { IsErrOf result ImageFault.NoStore ↔ ¬ HasHeader (twin_layout One) cells image.now }

@@ -7,8 +7,8 @@ ghost use Rattle.cell_store.specs.Store.{Stands};
 ghost use Rattle.store_plan.specs.declared.planning.Plan.{Plan};
 ghost use Rattle.store_plan.specs.Plans.{PlansPut, CutWithin};
 
-/// Whatever stands there when the power went within a plan, where the device keeps what is durable and a write that
-/// is cut changes its own bytes alone, is the old list or the new one.
+/// If the power goes within a plan, what stands there is the old list or the new one. The device has to keep what is
+/// durable, and a write that is cut changes its own bytes alone.
 pub fn a_cut_within_a_plan_leaves_either_list()
     ensures { (plan : Plan) (x y : List ℕ) (cells : List (List ℕ)) (cell : ℕ) (bytes : List ℕ)
         → Stands (twin_layout One) x cells → cell < length cells → PlansPut plan x cell bytes → CutWithin plan x y

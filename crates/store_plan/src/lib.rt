@@ -1,12 +1,12 @@
 //! A put of a twin store of version 1, planned without a disk, for a caller that keeps the store's bytes: the
 //! image.
 //!
-//! [`plan_put`] plans at most three writes, exactly if the image has the cell with a copy that counts. The
-//! caller does them, each durable before the next, and [`done`] makes of the image the finished put.
-//! [`perform`] is that loop over any disk, with the contract of a store's put; Ok over bytes of which none is
-//! loose says that the writes are made. A plan is determined to the byte. If power goes within it and a write
-//! that is cut changes its own bytes alone (`CutWithin`), the bytes stand for the old list or the new, every
-//! other cell as it was. [`make`] gives a fresh store's image. [`check`] is exact. No call takes memory.
+//! [`plan_put`] plans at most three writes, exactly if the image has the cell with a copy that counts. The caller does
+//! them, each durable before the next, and [`done`] makes of the image the finished put. [`perform`] is that loop over
+//! any disk, with the contract of a store's put; Ok over bytes of which none is loose says that the writes are made. A
+//! plan is determined byte for byte. If power goes within it the bytes stand for the old list or the new, every other
+//! cell as it was (`CutWithin`: a write that is cut changes its own bytes alone). [`make`] gives a fresh store's image.
+//! [`check`] is exact. No call takes memory.
 #![tactic(auto)]
 
 mod images;

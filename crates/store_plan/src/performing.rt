@@ -30,9 +30,9 @@ fn do_write<D: Disk>(disk: &mut D, write: &Write) -> Result<(), DiskFailed>
 }
 
 /// Does the writes of a plan in their order, each durable before the next, and none after one that failed. An Ok says
-/// that all of them are done and durable, where no byte was loose before. Where the plan is one of a put for the bytes
-/// of the disk, this has the contract of a store's put: after an Ok the disk has the new list, and after a failure
-/// every image that a power cut may leave stands for the old list or the new one.
+/// that all of them are done and durable, if no byte was loose before. If the plan is one of a put for the bytes of the
+/// disk, this has the contract of a store's put. If no byte was loose, the disk has the new list after an Ok. After a
+/// failure every image that a power cut may leave then stands for the old list or the new one.
 pub fn perform<D: Disk>(disk: &mut D, plan: &Plan) -> Result<(), DiskFailed>
     requires { PlanFits (D.state disk.old).size plan.now }
     ensures runs { Runs [] 6 (D.state disk.old) (D.state disk.new) }

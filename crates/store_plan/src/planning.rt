@@ -10,7 +10,7 @@ ghost use Rattle.store_plan.specs.Plans.{WritesAt, WriteFits, PlanFits, PlansPut
 
 use cell_store::{Held, LIVE, copy_place, held_in, marked, next, pair_place};
 
-/// One write: so many bytes from an offset on. None where the size is 0.
+/// One write: so many bytes from an offset on. None if the size is 0.
 #[derive(Clone, Copy, Debug, PartialEq, Eq)]
 #[repr(C)]
 pub struct Write {
@@ -19,8 +19,8 @@ pub struct Write {
     pub bytes: [u8; 40],
 }
 
-/// The writes of a put, each durable before the next: the gate of the copy that doesn't count is closed, where it is
-/// live; the mark and the payload are written behind it; it is opened.
+/// The writes of a put, each durable before the next: the gate of the copy that doesn't count is closed, if it is live;
+/// the mark and the payload are written behind it; it is opened.
 #[derive(Clone, Copy, Debug, PartialEq, Eq)]
 #[repr(C)]
 pub struct Plan {
@@ -34,7 +34,7 @@ pub struct Plan {
 pub enum PlanFault {
     /// The image ends before the cell does.
     NoCell,
-    /// No copy of the cell counts.
+    /// The cell has no copy that counts.
     Damaged,
 }
 
@@ -123,7 +123,7 @@ pub fn plan_put(image: &[u8], cell: u16, payload: &[u8; 32]) -> Result<Plan, Pla
     }
 }
 
-// The plan of a put beside the copy that is held.
+// The plan of a put beside the copy that counts.
 fn plan_beside(cell: u16, held: &Held, payload: &[u8; 32]) -> Plan
     ensures plans { (x : List ℕ) → twin_size (cell + 1) ≤ length x → Keeps x cell held.now
         → PlansPut result x cell payload.now }
@@ -138,7 +138,7 @@ fn plan_beside(cell: u16, held: &Held, payload: &[u8; 32]) -> Plan
     }
 }
 
-// The write that closes a gate, where it is live.
+// The write that closes a gate, if it is live.
 fn closing(at: u32, live: bool) -> Write
     ensures closes { IsTrue live → WritesAt result at (0 ∷ []) }
     ensures none { live ≡ false → result ≡ no_write }
@@ -176,8 +176,8 @@ fn write_is_within(write: &Write, size: usize) -> bool
     count <= 40 && (count == 0 || offset as usize + count as usize <= size)
 }
 
-/// Whether each write of the plan that has a byte stays within so many, and has at most the forty that a plan keeps
-/// of it.
+/// Whether each write of the plan that has a byte stays within so many bytes, and has at most the forty that a plan
+/// keeps of it.
 pub fn is_within(plan: &Plan, size: usize) -> bool
     ensures { IsTrue result ↔ PlanFits size plan.now }
 {

@@ -25,7 +25,7 @@ fn fresh_store(alloc: Global, kind: Kind) -> Result<AnyCells<MemDisk>, Fail> {
     }
 }
 
-/// What is found of a fresh store, whose disk fails at a call behind.
+/// What is found of a fresh store, whose disk fails at a call after.
 fn found_two(alloc: Global, kind: Kind) -> Result<Result<Probe, StoreFault>, Fail> {
     let mut store = fresh_store(alloc, kind)?;
     if store.count() != 2 {
@@ -63,7 +63,7 @@ fn sizes_are_those_of_kind_and_version(rt: HostRuntime) {
     }
 }
 
-/// Fifteen cells, of which no two are the same.
+/// Fifteen cells, no two of them the same.
 fn fifteen_cells() -> [[u8; 32]; 15] {
     let mut cells = [ZEROS; 15];
     for i in 0..15u8 {
@@ -141,7 +141,7 @@ const TORN: [Torn; 5] = [
     Torn::Fill(0),
 ];
 
-/// A kind of store, and from which call on a stop comes behind its migration.
+/// A kind of store, and from which call on a stop comes after its migration.
 const MIGRATIONS: [(Kind, u64); 2] = [(Kind::Twin, 36), (Kind::Log, 259)];
 
 #[test]
@@ -157,7 +157,7 @@ fn a_migration_that_is_stopped_and_cut_keeps_the_cells(rt: HostRuntime) -> Resul
     Ok(())
 }
 
-/// Changes a byte of a disk, where it has that place.
+/// Changes a byte of a disk, if it has that place.
 fn changes(disk: &mut MemDisk, change: (u64, u8)) -> Result<(), Fail> {
     let (place, byte) = change;
     if place < disk.size() {
@@ -273,7 +273,7 @@ fn disk_with(alloc: Global, laid: &Laid) -> Result<MemDisk, Fail> {
     Ok(disk)
 }
 
-/// The disk with a store of this version, where one is to stand there.
+/// The disk with a store of this version, if one is to stand there.
 fn with_store(
     disk: MemDisk,
     laid: &Laid,
@@ -294,7 +294,7 @@ fn formatted(disk: MemDisk, kind: Kind, version: Version) -> Result<MemDisk, Fai
     }
 }
 
-/// What is found on such a disk for a store of fifteen cells, where its disk stops at this call, and at none for 0.
+/// What is found on such a disk for a store of fifteen cells, if its disk stops at this call, and at none for 0.
 fn looked(
     alloc: Global,
     laid: &Laid,
@@ -332,8 +332,8 @@ fn finds(
     Ok(())
 }
 
-/// A disk to be looked at: whether stores of version 1 and 2 stand on it, whether these are of the other kind, the byte
-/// that is changed, and what is found.
+/// A disk to look at: whether stores of version 1 and 2 stand on it, whether these are of the other kind, the byte that
+/// is changed, what is found.
 type Look = (bool, bool, bool, (u64, u8), Found);
 
 const LOOKS_FOR_ONE: &[Look] = &[
@@ -468,7 +468,7 @@ fn reopened(alloc: Global, disk: MemDisk, kind: Kind, version: Version) -> Resul
     }
 }
 
-/// What is read of a blank disk that is opened, and again behind that.
+/// What is read of a blank disk that is opened, and again after that.
 fn found_again(
     alloc: Global,
     kind: Kind,
@@ -513,7 +513,7 @@ fn a_disk_with_anything_else_is_refused_as_it_was(rt: HostRuntime) -> Result<(),
     Ok(())
 }
 
-/// What is answered where a store of version 1 has lost both gates from this place on.
+/// What is answered if a store of version 1 has lost both gates from this place on.
 fn damaged(alloc: Global, kind: Kind, gate: u64) -> Result<Result<[u8; 32], StoreFault>, Fail> {
     let (_, mut disk) = opened(alloc, MemDisk::new(alloc, 40000)?, kind, Version::One);
     if gate > 100 || disk.size() != 40000 {
@@ -538,7 +538,7 @@ fn a_damaged_store_and_a_small_disk_are_refused(rt: HostRuntime) -> Result<(), F
     Ok(())
 }
 
-/// What is answered over a disk that stops at this call, and behind a cut.
+/// What is answered over a disk that stops at this call, and after a cut.
 fn stopped(alloc: Global, call: u64) -> Result<[Result<[u8; 32], StoreFault>; 2], Fail> {
     if call == 0 {
         return Err(Fail::from("no call"));

@@ -12,17 +12,17 @@ use std::alloc::Global;
 use std::process::Abort;
 use std::test::Fail;
 
-/// Bytes, each with its place behind the store's base; all others are 00.
+/// Bytes, each with its place, counted from the store's base; all others are 00.
 type Pieces = &'static [(usize, &'static [u8])];
 
 /// A layout of a store of one cell.
 struct Layout {
     kind: Kind,
     version: Version,
-    /// The least size of its disk, and how many of these bytes are the store's own, behind the base of its version.
+    /// The least size of its disk, and how many of these bytes are the store's own, from the base of its version on.
     size: usize,
     len: usize,
-    /// The bytes of a fresh store of zeros, and those behind a put of elevens.
+    /// The bytes of a fresh store of zeros, and those after a put of elevens.
     fresh: Pieces,
     put: Pieces,
     /// The call of a put that opens the new cell's gate.
@@ -128,7 +128,7 @@ fn fresh_store(alloc: Global, layout: &Layout) -> Result<AnyCells<MemDisk>, Fail
 /// As many bytes as the larger of the stores has.
 const MOST: usize = 4_580;
 
-/// The store's own bytes of a disk, and 00 behind them.
+/// The store's own bytes of a disk, and 00 after them.
 fn bytes_of(disk: &mut MemDisk, layout: &Layout) -> Result<[u8; MOST], Fail> {
     let mut bytes = [0; MOST];
     let base = layout.version.base();
@@ -165,7 +165,7 @@ fn bytes_behind_a_put(alloc: Global, layout: &Layout) -> Result<[u8; MOST], Fail
     bytes_of(&mut store.release(), layout)
 }
 
-/// A store of one cell has its bytes, fresh and behind a put.
+/// A store of one cell has its bytes, fresh and after a put.
 fn has_its_bytes(rt: &impl Abort, alloc: Global, layout: &Layout) -> Result<(), Fail> {
     let fresh = bytes_of_fresh(alloc, layout)?;
     same(
@@ -192,8 +192,7 @@ fn a_store_of_one_cell_has_these_bytes(rt: HostRuntime) -> Result<(), Fail> {
     Ok(())
 }
 
-/// Each kind of cut, and whether it leaves the new cell where it comes within the call that opens its gate, or the
-/// next.
+/// Each kind of cut, and whether it leaves the new cell if it comes within the call that opens its gate, or the next.
 const CUTS: [(Torn, bool); 5] = [
     (Torn::Keep, true),
     (Torn::Old, false),
@@ -216,7 +215,7 @@ fn cut_in_a_put(
     put_and_cut(&mut store, 0, calls, torn)
 }
 
-/// A put that stops at each of its calls and behind them: the cell is the old one or the new one, as the cut leaves it.
+/// A put that stops at each of its calls and after them: the cell is the old one or the new one, as the cut leaves it.
 fn is_whole_or_absent(
     rt: &impl Abort,
     alloc: Global,

@@ -63,7 +63,7 @@ fn twice(disk: MemDisk) -> FileDisk<DiskFile>
     FileDisk::over(DiskFile { disk }, size)
 }
 
-/// Two writes, of which the first alone was synced, and a cut: whether the second was Ok, and the bytes then.
+/// Two writes, only the first of them synced, and a cut: whether the second was Ok, and the bytes then.
 fn cut_behind_two_writes<D: CutDisk>(
     disk: &mut D,
     torn: Torn,
@@ -79,8 +79,8 @@ fn cut_behind_two_writes<D: CutDisk>(
     Ok((outcome.is_ok(), bytes))
 }
 
-/// Of the disk and of the file the number of the one call that is to fail. A cut takes nothing from a file, also where
-/// its sync of the file, the fourth call, fails; and a write that is armed to fail doesn't reach it.
+/// Of the disk and of the file the number of the one call that is to fail. A cut takes nothing from a file, also if its
+/// sync of the file, the fourth call, fails; and a write that is armed to fail doesn't reach it.
 #[test]
 fn a_cut_over_a_file_that_tells_leaves_its_bytes(rt: HostRuntime) -> Result<(), Fail> {
     for (disk_fails, file_fails, torn, is_ok, bytes) in [
@@ -99,7 +99,7 @@ fn a_cut_over_a_file_that_tells_leaves_its_bytes(rt: HostRuntime) -> Result<(), 
     Ok(())
 }
 
-/// A disk with a store of three cells, of which this byte is another.
+/// A disk with a store of three cells, with another byte here.
 fn changed_store(alloc: Global, at: u64, byte: u8) -> Result<MemDisk, Fail> {
     let disk = MemDisk::new(alloc, 240)?;
     let mut disk = match TwinCells::format(disk, &[[0x11; 32]; 3]) {
@@ -136,7 +136,7 @@ fn a_store_over_a_file_that_tells_is_refused_for_its_bytes(rt: HostRuntime) -> R
     Ok(())
 }
 
-/// The size of a store, which is held whole of its file.
+/// The size of a store, all of whose bytes are in memory.
 fn held_size(kind: Kind, version: Version, cells: u16) -> u64
     requires { cells ≤ 1024 }
     ensures size { result ≡ store_size (layout kind version) cells }
@@ -161,7 +161,7 @@ fn the_largest_store_is_held_of_its_file(rt: HostRuntime) {
     }
 }
 
-/// The bytes of a disk of four over the held bytes of a file, whose calls fail from this one on: behind a write that is
+/// The bytes of a disk of four over the held bytes of a file, whose calls fail from this one on: after a write that is
 /// synced, and a power cut; and how many bytes the disk has.
 fn held_bytes(alloc: Global, stops: u64) -> Result<(u64, Result<[u8; 4], DiskFailed>), Fail>
     requires { 1 ≤ stops }
@@ -185,7 +185,7 @@ fn written_and_read<D: Disk>(disk: &mut D) -> Result<[u8; 4], DiskFailed> {
     Ok(bytes)
 }
 
-/// The first call of the file is the read of what is held: where it fails there is none.
+/// The first call of the file reads what memory then holds: if it fails there is no file.
 #[test]
 fn a_held_file_fails_where_the_file_below_does(rt: HostRuntime) -> Result<(), Fail> {
     for (stops, size, bytes) in [

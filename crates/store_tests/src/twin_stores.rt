@@ -123,7 +123,7 @@ fn disk_of(alloc: Global, probed: Probed) -> Result<MemDisk, Fail> {
     }
 }
 
-/// What is found on it for this version, where its disk stops at this call; at none for 0.
+/// What is found on it for this version, if its disk stops at this call; at none for 0.
 fn found_on(
     alloc: Global,
     probed: Probed,

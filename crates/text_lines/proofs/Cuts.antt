@@ -1,4 +1,4 @@
--- Steps along a text: from the words, or the lines, that begin at one place to those behind.
+-- Steps along a text: from the words, or the lines, that begin at one place to those after it.
 use Rattle.std.proofs.Common.{◌≡◌, ℕ, ◌+◌, ◌-◌, ◌<◌, ◌≤◌, List, [], ◌∷◌, ◌++◌, take, drop, map, sym, ◌∙◌, ap, inl, inr, arith, append_assoc, append-nil}
 use Rattle.std.specs.List.{position_or_len}
 use Rattle.std.proofs.lemmas.Bool.{cases_lt}
@@ -9,7 +9,7 @@ use Rattle.text_lines.specs.Places.{Piece, words_from}
 use Rattle.text_lines.specs.Spans.{piece_at}
 use Rattle.text_lines.proofs.Pieces.{words_from-nil, words_from-word, words_from-blank}
 
--- one more at the end of a mapped list, in front of what is left
+-- one more at the end of a mapped list, before what is left
 pub map_push : {A B : Type 0} (f : A → B) (xs : List A) (x : A) (rest : List B) → map f (xs ++ x ∷ []) ++ rest ≡ map f xs ++ f x ∷ rest
 map_push f xs x rest = ap (λ ys. ys ++ rest) (map-append f xs (x ∷ [])) ∙ append_assoc (map f xs) (f x ∷ []) rest
 
@@ -38,7 +38,7 @@ rest_between text at end n =
     ∙ ap (λ (m : ℕ). take (end - at - (n + 1)) (drop m text)) places
     ∙ ap (λ (m : ℕ). take m (drop (at + n + 1) text)) lengths
 
--- a word, and the words behind it
+-- a word, and the words after it
 pub words_between-word : (text : List ℕ) (at end stop : ℕ) → stop ≡ at + position_or_len is_blank (take (end - at) (drop at text)) → at < stop → stop ≤ end
     → words_between text at end ≡ record { at = at; bytes = take (stop - at) (drop at text) } ∷ words_between text (stop + 1) end
 words_between-word text at end stop e lt le =
@@ -52,7 +52,7 @@ words_between-word text at end stop e lt le =
     ∙ ap (λ (l : List ℕ). record { at = at; bytes = take (stop - at) (drop at text) } ∷ words_from (at + n + 1) l) (rest_between text at end n)
     ∙ ap (λ (m : ℕ). record { at = at; bytes = take (stop - at) (drop at text) } ∷ words_between text m end) behind
 
--- a blank, and the words behind it
+-- a blank, and the words after it
 pub words_between-blank : (text : List ℕ) (at end stop : ℕ) → stop ≡ at + position_or_len is_blank (take (end - at) (drop at text)) → stop ≤ at
     → words_between text at end ≡ words_between text (stop + 1) end
 words_between-blank text at end stop e le =
@@ -64,13 +64,13 @@ words_between-blank text at end stop e le =
     ∙ ap (λ (m : ℕ). words_from (at + 1) (take (end - m) (drop m text))) behind
     ∙ ap (λ (m : ℕ). words_from m (take (end - (stop + 1)) (drop (stop + 1) text))) next
 
--- no words stand behind the end
+-- no words stand after the end
 pub words_between-end : (text : List ℕ) (at end : ℕ) → end ≤ at → words_between text at end ≡ []
 words_between-end text at end le =
     let none : end - at ≡ 0 = omega arith in
     ap (λ (m : ℕ). words_from at (take m (drop at text))) none ∙ words_from-nil at
 
--- a step of the loop over the words, where a word is pushed
+-- a step of the loop over the words, if a word is pushed
 pub words_step-word : (text : List ℕ) (at end stop : ℕ) (xs ys : List Span) (words : List Piece)
     → ys ≡ xs ++ record { at = at; len = stop - at } ∷ []
     → stop ≡ at + position_or_len is_blank (take (end - at) (drop at text)) → at < stop → stop ≤ end
@@ -82,7 +82,7 @@ words_step-word text at end stop xs ys words pushed e lt le so_far =
     ∙ ap (λ (l : List Piece). map (piece_at text) xs ++ l) (sym (words_between-word text at end stop e lt le))
     ∙ so_far
 
--- a step of the loop over the words, where none stands
+-- a step of the loop over the words, if none stands
 pub words_step-blank : (text : List ℕ) (at end stop : ℕ) (xs ys : List Span) (words : List Piece)
     → ys ≡ xs
     → stop ≡ at + position_or_len is_blank (take (end - at) (drop at text)) → stop ≤ at

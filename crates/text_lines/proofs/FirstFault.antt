@@ -9,12 +9,12 @@ use Rattle.text_lines.proofs.Folds.{read_from-ok, read_from-err, read_from-nil, 
 use Rattle.text_lines.proofs.Results.{limited_ok}
 use Rattle.text_lines.proofs.Values.{Behind, Behind-nil, Behind-cons, values_given, values_read}
 
--- why the line behind these values is refused
+-- why the line after these values is refused
 abbrev IsRefused : {A : Type 0} → (List A → List (List ℕ) → Result A Cause) → ℕ → List A → List (List ℕ) → Cause → Type 0
 IsRefused means most values words cause =
     ((length values ≡ most) × (cause ≡ TooMany)) ⊎ ((length values < most) × (means values words ≡ Err cause))
 
--- the first fault of lines that stand behind others, whose values are `seen`
+-- the first fault of lines that stand after others, whose values are `seen`
 record FaultBehind {A : Type 0} (means : List A → List (List ℕ) → Result A Cause) (most : ℕ) (seen : List A) (lines : List TextLine) (fault : Fault) : Type 0 where
   before : List TextLine
   here : TextLine
@@ -121,7 +121,7 @@ read-first_fault means most lines fault = (
   fault_read means most lines fault,
 )
 
--- and exactly the values of the lines, where they are few enough
+-- and exactly the values of the lines, if they are few enough
 pub read-values : {A : Type 0} (means : List A → List (List ℕ) → Result A Cause) (most : ℕ) (lines : List TextLine) (values : List A)
     → (read_from means most [] lines ≡ Ok values) ↔ (AreValues means lines values × (length values ≤ most))
 read-values {A} means most lines values = (

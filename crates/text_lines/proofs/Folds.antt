@@ -92,7 +92,7 @@ fold_refused means most text number at end spans values cause whole ends here pl
     ∙ ap (read_from means most values) (lines_left-kept text number at end spans ends here plain)
     ∙ read_from-err means most values (record { number = number; words = map (word_at text) spans }) rest cause gives
 
--- the end behind all lines
+-- the end after all lines
 pub fold_done : {A : Type 0} (means : List A → List (List ℕ) → Result A Cause) (most : ℕ) (text : List ℕ) (number at : ℕ) (values : List A) (whole : Result (List A) Fault)
     → length text ≤ at
     → read_from means most values (lines_left text number at) ≡ whole

@@ -1,4 +1,4 @@
--- The first piece of a text that is cut at separators, and what is behind it.
+-- The first piece of a text that is cut at separators, and what is after it.
 use Rattle.std.proofs.Common.{◌≡◌, ℕ, ◌+◌, ◌<◌, ◌≤◌, Bool, false, List, [], ◌∷◌, length, take, drop, refl, sym, ◌∙◌, ap, inl, inr, arith}
 use Rattle.std.specs.Prelude.{filter}
 use Rattle.std.specs.List.{position_or_len, slice_split, All}
@@ -13,7 +13,7 @@ use Rattle.text_lines.specs.Places.{Piece, placed, is_word_piece, words_from}
 pub position_or_len_within : (p : ℕ → Bool) (s : List ℕ) → position_or_len p s ≤ length s
 position_or_len_within p s = prefix_len-le-length _ s
 
--- where no separator is left, the list is one piece
+-- if no separator is left, the list is one piece
 pub placed-last : (p : ℕ → Bool) (at : ℕ) (s : List ℕ) → position_or_len p s ≡ length s
     → placed at (slice_split p s) ≡ record { at = at; bytes = s } ∷ []
 unfolding placed
@@ -21,7 +21,7 @@ placed-last p at s e =
     let none : All (λ x. p x ≡ false) s = λ k d h. fails_before_first p s k d (omega arith) in
     ap (placed at) (slice_split_none p s none)
 
--- the first piece and those behind it
+-- the first piece and those after it
 pub placed-first : (p : ℕ → Bool) (at : ℕ) (s : List ℕ) → position_or_len p s < length s
     → placed at (slice_split p s)
     ≡ record { at = at; bytes = take (position_or_len p s) s }
@@ -45,7 +45,7 @@ pub words_from-nil : (at : ℕ) → words_from at [] ≡ []
 unfolding words_from placed
 words_from-nil at = refl
 
--- the words, where no blank stands first
+-- the words, if no blank stands first
 pub words_from-word : (at : ℕ) (s : List ℕ) → 0 < position_or_len is_blank s
     → words_from at s
     ≡ record { at = at; bytes = take (position_or_len is_blank s) s }
@@ -66,7 +66,7 @@ words_from-word at s h =
           ∙ ap (λ (l : List Piece). record { at = at; bytes = s } ∷ l) (sym (words_from-nil (at + position_or_len is_blank s + 1))))
     ]
 
--- the words behind a blank
+-- the words after a blank
 pub words_from-blank : (at : ℕ) (s : List ℕ) → position_or_len is_blank s ≡ 0
     → words_from at s ≡ words_from (at + 1) (drop 1 s)
 unfolding words_from

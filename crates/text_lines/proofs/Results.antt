@@ -1,4 +1,4 @@
--- What an `Ok` behind steps shows.
+-- What an `Ok` after steps shows.
 use Rattle.std.proofs.Common.{◌≡◌, ℕ, ◌<◌, Bool, true, false, cond, Option, Some, None, Result, Ok, Err, refl, ap, arith}
 use Rattle.std.specs.Prelude.{nat_le}
 use Rattle.std.specs.Result.{result_ok}
@@ -6,7 +6,7 @@ use Rattle.text_lines.specs.declared.fault.Cause.{Cause}
 use Rattle.text_lines.specs.declared.fault.Cause.TheVariants.{Count}
 use Rattle.text_lines.specs.Readings.{◌>>=◌, field, at_line, limited}
 
--- what an `Ok` behind a step shows
+-- what an `Ok` after a step shows
 pub bind_ok : {A B E : Type 0} (r : Result A E) (f : A → Result B E) (y : B) → (r >>= f) ≡ Ok y → (x : A) × (r ≡ Ok x) × (f x ≡ Ok y)
 bind_ok (Ok x) f y h = (x, refl, h)
 bind_ok (Err e) f y h = cc h
@@ -21,12 +21,12 @@ pub field_ok : {A : Type 0} (n : ℕ) (o : Option A) (x : A) → field n o ≡ O
 field_ok n (Some y) x h = let same : y ≡ x = cc h in ap Some same
 field_ok n None x h = cc h
 
--- an `Ok` where no error was chosen
+-- an `Ok` if no error was chosen
 pub chosen_ok : {A E : Type 0} (b : Bool) (e : E) (r : Result A E) (x : A) → cond b (Err e) r ≡ Ok x → (b ≡ false) × (r ≡ Ok x)
 chosen_ok true e r x h = cc h
 chosen_ok false e r x h = (refl, h)
 
--- a value where there is one only under a test
+-- a value if there is one only under a test
 pub chosen_some : {A : Type 0} (b : Bool) (o : Option A) (x : A) → cond b o None ≡ Some x → (b ≡ true) × (o ≡ Some x)
 chosen_some true o x h = (refl, h)
 chosen_some false o x h = cc h

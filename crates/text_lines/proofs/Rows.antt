@@ -1,4 +1,4 @@
--- Steps along a text: from the lines that begin at one place to those behind.
+-- Steps along a text: from the lines that begin at one place to those after it.
 use Rattle.std.proofs.Common.{◌≡◌, ℕ, ◌+◌, ◌-◌, ◌≤◌, Bool, true, false, cond, List, [], ◌∷◌, ◌++◌, length, take, drop, map, refl, sym, ◌∙◌, ap, inl, inr, arith, append-nil, append_assoc}
 use Rattle.std.specs.Prelude.{◌==◌}
 use Rattle.std.specs.List.{position_or_len, slice_split}
@@ -32,7 +32,7 @@ lines_from-end text number at le =
     ap (λ (s : List ℕ). placed_numbered number (placed at (slice_split is_line_feed s))) (drop_all at text le)
     ∙ numbered-nil number at
 
--- one line, and those behind it
+-- one line, and those after it
 pub lines_from-step : (text : List ℕ) (number at end : ℕ) → end ≡ at + position_or_len is_line_feed (drop at text)
     → lines_from text number at ≡ placed_kept (line_between text number at end) ++ lines_from text (number + 1) (end + 1)
 unfolding placed_numbered

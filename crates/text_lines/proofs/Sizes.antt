@@ -14,7 +14,7 @@ use Rattle.text_lines.specs.Readings.{at_line, limited, read_from}
 use Rattle.text_lines.specs.Lines.{TextLine}
 use Rattle.text_lines.proofs.Results.{bind_ok, ok_some, chosen_ok, chosen_some, at_line_ok, limited_ok}
 
--- what an `Ok` behind a step of `hex` shows
+-- what an `Ok` after a step of `hex` shows
 hex_ok : {A B : Type 0} (r : Result A FromHexError) (f : A → Result B FromHexError) (y : B) → hex.◌>>=◌ r f ≡ Ok y → (x : A) × (r ≡ Ok x) × (f x ≡ Ok y)
 hex_ok (Ok x) f y h = (x, refl, h)
 hex_ok (Err e) f y h = cc h

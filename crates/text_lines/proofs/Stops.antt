@@ -114,7 +114,7 @@ none_before p text start at end stop before le inside e k low high =
           ∙ fails_before_first p line (k - at) 0 (omega arith)
     ]
 
--- where one of the next bytes passes, it is the first
+-- if one of the next bytes passes, it is the first
 pub stop_is_near : (p : ℕ → Bool) (text : List ℕ) (start at end stop : ℕ) → NoneFrom p text start at → start ≤ at → at ≤ end → end ≤ length text
     → stop ≡ at + position_or_len p (take (end - at) (drop at text)) → stop < end → stop ≡ start + position_or_len p (drop start text)
 stop_is_near p text start at end stop before first le inside e lt =
@@ -131,7 +131,7 @@ stop_is_near p text start at end stop before first le inside e lt =
       passes = λ _. passes;
     })
 
--- and where none passes, the first is behind them
+-- and if none passes, the first is after them
 pub stop_is_far : (p : ℕ → Bool) (text : List ℕ) (start at end stop : ℕ) → NoneFrom p text start at → at ≤ end → end ≤ length text
     → stop ≡ at + position_or_len p (take (end - at) (drop at text)) → end ≤ stop → NoneFrom p text start end
 stop_is_far p text start at end stop before le inside e ge k low high = none_before p text start at end stop before le inside e k low (omega arith)
@@ -178,7 +178,7 @@ line_ends_here text at stop f ends = record {
   ];
 }
 
--- a line goes on behind a word that doesn't end it
+-- a line goes on after a word that doesn't end it
 pub line_goes_on : (text : List ℕ) (at stop end : ℕ) → FirstFrom ends_word text at stop → FirstFrom is_line_feed text at end → stop < length text → is_line_feed (slice_index text stop) ≡ false
     → stop < end
 line_goes_on text at stop end f line lt plain = elim (cases_lt stop end) [

@@ -7,7 +7,7 @@ use Rattle.text_lines.specs.Readings.{at_line, limited, read_from}
 use Rattle.text_lines.proofs.Folds.{read_from-ok, limited-few, length_pushed}
 use Rattle.text_lines.proofs.Results.{bind_ok, at_line_ok, limited_ok}
 
--- the values of lines that stand behind others, whose values are `seen`
+-- the values of lines that stand after others, whose values are `seen`
 pub record Behind {A : Type 0} (means : List A → List (List ℕ) → Result A Cause) (seen : List A) (lines : List TextLine) (values : List A) : Type 0 where
   pub as_many : length values ≡ length lines
   pub each : (i : ℕ) (line : TextLine) (value : A) → slice_get lines i ≡ Some line → slice_get values i ≡ Some value

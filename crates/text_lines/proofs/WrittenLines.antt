@@ -76,7 +76,7 @@ kept-unskipped : (line : TextLine) → is_skipped line.words ≡ false → kept 
 unfolding kept
 kept-unskipped line h = ap (λ (b : Bool). cond b [] (line ∷ [])) h
 
--- a written line, and what is behind it
+-- a written line, and what is after it
 numbered-written : (number : ℕ) (words : List (List ℕ)) (rest : List ℕ) → is_writable words ≡ true
     → numbered number (slice_split is_line_feed (written words ++ rest))
     ≡ record { number = number; words = words } ∷ numbered (number + 1) (slice_split is_line_feed rest)

@@ -1,4 +1,4 @@
--- What a word of a line means by its form: the value, or none where it isn't of the form.
+-- What a word of a line means by its form: the value, or none if it isn't of the form.
 use Rattle.std.specs.Prelude.{ℕ, ◌/◌, ◌==◌, ◌&&◌, ◌||◌, not, nat_lt, nat_le, Bool, if◌then◌else◌, List, [], ◌∷◌, length}
 use Rattle.std.specs.Prelude.{slice_index, Option, Some, None}
 use Rattle.std.specs.List.{list_all}

@@ -8,3 +8,4 @@ pub mod Texts
 pub mod Written
 pub mod Spaced
 pub mod SpacedLaws
+pub mod LineRows

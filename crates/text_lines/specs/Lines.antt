@@ -11,11 +11,11 @@ is_line_feed c = c == 10
 abbrev pub is_blank : ℕ → Bool
 is_blank c = (c == 32) || (c == 9)
 
--- a blank or a line feed stands behind a word, where the text goes on
+-- a blank or a line feed stands after a word, if the text goes on
 abbrev pub ends_word : ℕ → Bool
 ends_word c = is_blank c || is_line_feed c
 
--- the last byte of a line, and 0 where it has none
+-- the last byte of a line, and 0 if it has none
 abbrev pub last_byte : List ℕ → ℕ
 last_byte bytes = slice_index bytes (length bytes - 1)
 
@@ -50,7 +50,7 @@ unfoldable pub numbered : ℕ → List (List ℕ) → List TextLine
 numbered number [] = []
 numbered number (line ∷ lines) = kept (record { number = number; words = words_of line }) ++ numbered (number + 1) lines
 
--- the lines of a text that aren't skipped. What stands behind the last line feed is a line too;
--- where it is empty, it has no words.
+-- the lines of a text that aren't skipped. What stands after the last line feed is a line too; if it is empty, it has
+-- no words.
 unfoldable pub lines_of : List ℕ → List TextLine
 lines_of text = numbered 1 (slice_split is_line_feed text)

@@ -17,7 +17,7 @@ placed at (run ∷ runs) = record { at = at; bytes = run } ∷ placed (at + leng
 abbrev pub is_word_piece : Piece → Bool
 is_word_piece piece = is_word piece.bytes
 
--- the longest runs of bytes other than blanks, where the bytes begin at this place
+-- the longest runs of bytes other than blanks, of bytes that begin at this place
 unfoldable pub words_from : ℕ → List ℕ → List Piece
 words_from at bytes = filter is_word_piece (placed at (slice_split is_blank bytes))
 

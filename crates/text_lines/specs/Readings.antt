@@ -31,7 +31,7 @@ nth_word words n = slice_index_or words (n - 1) []
 abbrev pub field : {A : Type 0} → ℕ → Option A → Result A Cause
 field n value = ok_or value (Field n)
 
--- what the words of a line give, where there are n of them
+-- what the words of a line give, if there are n of them
 abbrev pub with_count : {A : Type 0} → ℕ → List (List ℕ) → Result A Cause → Result A Cause
 with_count n words meaning = if length words == n then meaning else Err Count
 
@@ -40,15 +40,15 @@ abbrev pub at_line : {A : Type 0} → ℕ → Result A Cause → Result A Fault
 at_line number (Ok x) = Ok x
 at_line number (Err cause) = Err (record { line = number; cause = cause })
 
--- the most lines that a text may have where a program names no other number
+-- the most lines that a text may have if a program names no other number
 abbrev pub most_lines : ℕ
 most_lines = 65536
 
--- what a line gives behind this number of others, where at most `most` are read
+-- what a line gives after this number of others, if at most `most` are read
 abbrev pub limited : {A : Type 0} → ℕ → ℕ → Result A Cause → Result A Cause
 limited most before meaning = if nat_le most before then Err TooMany else meaning
 
--- the values that lines give in their order, behind those that were given before, or the first fault
+-- the values that lines give in their order, after those that were given before, or the first fault
 unfoldable pub read_from : {A : Type 0} → (List A → List (List ℕ) → Result A Cause) → ℕ → List A → List TextLine
     → Result (List A) Fault
 read_from means most values [] = Ok values
@@ -56,12 +56,12 @@ read_from means most values (line ∷ lines) = do
   value ← at_line line.number (limited most (length values) (means values line.words))
   read_from means most (values ++ value ∷ []) lines
 
--- what a whole text gives, where `means` says what the words of a line give behind the values of the lines before it,
--- and at most `most` lines are read
+-- what a whole text gives, at most `most` lines of it. `means` says what the words of a line give after the values of
+-- the lines before it
 abbrev pub read_all : {A : Type 0} → (List A → List (List ℕ) → Result A Cause) → ℕ → List ℕ → Result (List A) Fault
 read_all means most text = read_from means most [] (lines_of text)
 
--- an answer is what the definition says, the fault with its line and cause; want of memory is free
+-- an answer is what the definition says, the fault with its line and cause; out of memory is free
 abbrev pub Gives : {A : Type 0} → Result (List A) Fault → Result (Vec A Global) ScriptFault → Type 0
 Gives meaning (Ok v) = meaning ≡ Ok v.items
 Gives meaning (Err (At line cause)) = meaning ≡ Err (record { line = line; cause = cause })
@@ -73,7 +73,7 @@ GivesLine meaning (Ok x) = meaning ≡ Ok x
 GivesLine meaning (Err (Refused cause)) = meaning ≡ Err cause
 GivesLine meaning (Err OutOfMemory) = Unit {0}
 
--- what a line of this number and these words adds to the values before it, or the fault that it is; want of memory is
+-- what a line of this number and these words adds to the values before it, or the fault that it is; out of memory is
 -- free
 abbrev pub ReadsOne : {A : Type 0} → (List A → List (List ℕ) → Result A Cause) → ℕ → ℕ → List (List ℕ) → List A → List A
     → Result (Unit {0}) ScriptFault → Type 0
@@ -83,15 +83,15 @@ ReadsOne means most number words before after (Err (At line cause)) =
     (line ≡ number) × (limited most (length before) (means before words) ≡ Err cause)
 ReadsOne means most number words before after (Err Memory) = Unit {0}
 
--- these are the values of the lines: as many, and each is what its line gives behind the values before it
+-- these are the values of the lines: as many, and each is what its line gives after the values before it
 pub record AreValues {A : Type 0} (means : List A → List (List ℕ) → Result A Cause) (lines : List TextLine)
     (values : List A) : Type 0 where
   pub as_many : length values ≡ length lines
   pub each : (i : ℕ) (line : TextLine) (value : A) → slice_get lines i ≡ Some line → slice_get values i ≡ Some value
       → means (take i values) line.words ≡ Ok value
 
--- the fault is that of a line before which all lines give values: one that is too many behind as many as are read, or
--- one behind fewer that gives the cause
+-- the fault is that of a line before which all lines give values: one that is too many after as many as are read, or
+-- one after fewer that gives the cause
 pub record IsFirstFault {A : Type 0} (means : List A → List (List ℕ) → Result A Cause) (most : ℕ)
     (lines : List TextLine) (fault : Fault) : Type 0 where
   pub before : List TextLine

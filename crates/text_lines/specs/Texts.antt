@@ -5,7 +5,7 @@ use Rattle.text_lines.specs.declared.fault.Cause.{Cause}
 use Rattle.text_lines.specs.declared.fault.Cause.TheVariants.{Event, Count, Field, TooMany}
 use Rattle.text_lines.specs.Readings.{Fault}
 
--- a text and the line feed behind it, which is 10
+-- a text and the line feed after it, which is 10
 abbrev pub line : List ℕ → List ℕ
 line text = text ++ 10 ∷ []
 

@@ -16,7 +16,7 @@ is_word_byte c = not (is_line_feed c) && not (is_blank c) && not (c == 13)
 abbrev pub is_plain_word : List ℕ → Bool
 is_plain_word word = nat_lt 0 (length word) && list_all is_word_byte word
 
--- words that may be written as a line that isn't skipped: at least one, the first with no `#` in front
+-- words that may be written as a line that isn't skipped: at least one, and the first doesn't begin with `#`
 abbrev pub is_writable : List (List ℕ) → Bool
 is_writable [] = false
 is_writable (word ∷ words) = not (slice_index word 0 == 35) && list_all is_plain_word (word ∷ words)

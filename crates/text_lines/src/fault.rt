@@ -23,8 +23,8 @@ impl<T: Drop> From<AllocFailed<T>> for Memory {
     }
 }
 
-/// Why a line is refused. Where several causes stand together, the first of `TooMany`, `Event`,
-/// `Count` and the lowest `Field` is given.
+/// Why a line is refused. If several causes stand together, the first of `TooMany`, `Event`, `Count` and the lowest
+/// `Field` is given.
 #[derive(Clone, Copy, Debug, PartialEq, Eq, Error)]
 pub enum Cause {
     /// The first word is no event.
@@ -36,7 +36,7 @@ pub enum Cause {
     /// The word with this number, counted from 1, isn't of its form.
     #[error("word {0}")]
     Field(u8),
-    /// The line is behind 65,536 others that were read.
+    /// The line is after 65,536 others that were read.
     #[error("too many events")]
     TooMany,
 }

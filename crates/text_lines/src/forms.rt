@@ -1,7 +1,7 @@
 //! The forms of words, and the words of a text.
 //!
-//! Each call but `cut` takes one word and answers none exactly where it isn't of the form.
-//! Hexadecimal digits are of either case.
+//! Each call but `cut` takes one word and answers none exactly if it isn't of the form. Hexadecimal digits are of
+//! either case.
 
 ghost use Rattle.std.specs.Prelude.{◌≡◌, ◌≤◌, IfOk, IfSome};
 ghost use Rattle.std.specs.Result.{result_ok};
@@ -11,11 +11,11 @@ ghost use Rattle.text_lines.specs.Forms.{is_number as is_numeral, number_form, h
 pub use crate::cutting::cut;
 use crate::fault::Memory;
 pub use crate::span::{Cut, Span, Spans};
-use byte_lists::Bytes;
+use basics::Bytes;
 use hex::FromHexError;
 use std::alloc::Global;
 
-// Whether a word is a number in decimal digits without sign, where only 0 begins with 0.
+// Whether a word is a number in decimal digits without sign, if only 0 begins with 0.
 fn is_number(word: &[u8]) -> bool
     ensures { result ≡ is_numeral word.now }
 {

@@ -9,21 +9,21 @@ ghost use Rattle.text_lines.specs.Written.{written, is_writable};
 
 use crate::reader::LineReader;
 
-/// Law: the lines that `cut` gives are those of the text, where the places of their words are left out.
+/// Law: the lines that `cut` gives are those of the text, if the places of their words are left out.
 pub fn places_are_those_of_the_words()
     ensures { (text : List ℕ) → map unplaced (placed_lines_of text) ≡ lines_of text }
 {}
 
-/// Law: values come exactly where they are as many as the lines, at most as many as are read, and each is what its line
-/// gives behind the values before it.
+/// Law: values come exactly if they are as many as the lines, and at most as many as are read. Each is its line's,
+/// given the values before it.
 pub fn values_are_those_of_the_lines<R: LineReader>()
     ensures { (reader : R) (most : ℕ) (text : List ℕ) (values : List R.Item)
         → (read_all (R.means reader) most text ≡ Ok values)
         ↔ (AreValues (R.means reader) (lines_of text) values × (length values ≤ most)) }
 {}
 
-/// Law: a fault comes exactly where all lines before its line give values and either these are as many as are read and
-/// the cause is `TooMany`, or they are fewer and its line gives the cause.
+/// Law: a fault comes exactly if all lines before its line give values. If these are as many as are read, the cause is
+/// `TooMany`; if they are fewer, the line gives it.
 pub fn a_fault_is_the_first<R: LineReader>()
     ensures { (reader : R) (most : ℕ) (text : List ℕ) (fault : Fault)
         → (read_all (R.means reader) most text ≡ Err fault)

@@ -11,7 +11,7 @@ use crate::fault::Memory;
 use crate::span::Span;
 use memchr::memchr3_iter;
 
-// How many bytes stand before the first blank or line feed, or all where there is none.
+// How many bytes stand before the first blank or line feed, or all if there is none.
 #[tactic(auto, using(crate::proofs::Stops::first_item_or_length, crate::proofs::Pieces::position_or_len_within))]
 fn until_stop(bytes: &[u8]) -> usize
     ensures exact { result ≡ position_or_len ends_word bytes.now }
@@ -22,7 +22,7 @@ fn until_stop(bytes: &[u8]) -> usize
 }
 
 // The end of the word that begins at `start`: the next blank or line feed, or the end of the text. Words are short: the
-// iterator over 32 bytes compares them once, where a search of a longer text begins with wider runs.
+// iterator over 32 bytes compares them once, while a search of a longer text begins with wider runs.
 #[inline(always)]
 fn word_end(text: &[u8], start: usize) -> usize
     requires { start ≤ length text.now }

@@ -1,5 +1,6 @@
-//! Digits, words and lines that are added to a text. A line begins with its number, each word has a space before it, and
-//! a line feed ends the line. Without memory nothing is said of the text. In room that it has already none is taken.
+//! Digits, words and lines that are added to a text. A line begins with its number, each word has a space before it,
+//! and a line feed ends the line. Without memory nothing is said of the text. In room that it has already none is
+//! taken.
 
 ghost use Rattle.std.specs.Prelude.{◌≡◌, ◌*◌, [], ◌∷◌, ◌++◌, length, OnOk};
 ghost use Rattle.std.specs.Fmt.{decimal};
@@ -27,7 +28,7 @@ pub fn push_digits(text: &mut Vec<u8>, bytes: &[u8]) -> Result<(), AllocError>
     Ok(())
 }
 
-/// Adds a line of these bytes, with the line feed behind it.
+/// Adds a line of these bytes, with the line feed after it.
 pub fn push_line(text: &mut Vec<u8>, bytes: &[u8]) -> Result<(), AllocError>
     ensures { OnOk result (text.new.items ≡ text.old.items ++ line bytes.now) }
 {

@@ -8,7 +8,7 @@ use crate::lines;
 use crate::words::Words;
 use std::alloc::Global;
 
-/// The most lines that a text may have where a program names no other number, without those that are skipped.
+/// The most lines that a text may have if a program names no other number, without those that are skipped.
 pub const MOST_LINES: usize = 65_536;
 
 /// Reads the words of one line. It sees what the lines before gave: a later line may depend on the first, or may not
@@ -20,7 +20,7 @@ pub trait LineReader {
 
     type Item: Drop;
 
-    /// What the words of a line give, behind the values of the lines before it.
+    /// What the words of a line give, after the values of the lines before it.
     ghost means: { Self → List Self.Item → List (List ℕ) → Result Self.Item Cause };
 
     fn read(
@@ -32,14 +32,14 @@ pub trait LineReader {
         ensures { GivesLine (means self.now before.now words.now) result };
 }
 
-/// The value of the word with this number, counted from 1, or the cause `Field` where it has none.
+/// The value of the word with this number, counted from 1, or the cause `Field` if it has none.
 pub fn value_at<T: Drop>(number: u8, value: Option<T>) -> Result<T, Cause>
     ensures { result ≡ field number value }
 {
     value.ok_or(Cause::Field(number))
 }
 
-/// The cause `Count` where a line has another number of words than `count`.
+/// The cause `Count` if a line has another number of words than `count`.
 pub fn expect_count(words: &Words<'_>, count: usize) -> Result<(), Cause>
     ensures { result ≡ (if length words.now == count then Ok tt else Err Cause.Count) }
 {
@@ -50,8 +50,7 @@ pub fn expect_count(words: &Words<'_>, count: usize) -> Result<(), Cause>
     }
 }
 
-/// What a reader makes of the lines of a text that aren't skipped, of which at most `most` are read; or the first
-/// fault.
+/// What a reader makes of the lines of a text that aren't skipped, at most `most`; or the first fault.
 pub fn read_lines<R: LineReader>(
     alloc: Global,
     text: &[u8],

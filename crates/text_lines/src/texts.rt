@@ -7,7 +7,7 @@ ghost use Rattle.text_lines.specs.Texts.{fault_text_of};
 use crate::fault::{Cause, Memory};
 use std::alloc::Global;
 
-/// The text of a fault of the line with this number, with the line feed behind it.
+/// The text of a fault of the line with this number, with the line feed after it.
 pub fn fault_text(alloc: Global, line: u32, cause: &Cause) -> Result<String, Memory>
     ensures { IfOk result (λ text. string_bytes text ≡ fault_text_of (record { line = line; cause = cause.now })) }
 {

@@ -1,4 +1,4 @@
-//! Buses of two nodes or three, of which each route uses slot 4.
+//! Buses of two nodes or three; each route uses slot 4.
 use bus_nodes::{BusConfig, Name, NodeLine};
 use cell_store::{Kind, Version};
 use freshness_routes::{Direction, NodeConfig, Route};
@@ -30,7 +30,7 @@ fn node(alloc: Global, name: &[u8], last: u8, routes: &[(u16, Direction)]) -> Op
     Some(NodeLine { name, config })
 }
 
-/// The routes of the nodes `left` and `right`, and whether there is a node `third` without one behind them.
+/// The routes of the nodes `left` and `right`, and whether there is a node `third` without one after them.
 pub(crate) type Shape = (
     &'static [(u16, Direction)],
     &'static [(u16, Direction)],

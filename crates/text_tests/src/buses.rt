@@ -128,7 +128,7 @@ fn a_bus_has_its_bounds(rt: HostRuntime) -> Result<(), Fail> {
     Ok(())
 }
 
-/// The routes of three nodes, of which the last sends what the others send.
+/// The routes of three nodes; the last sends what the others send.
 const SENDERS: Nodes = &[
     (b"a", &[(1, true), (2, true), (3, false)]),
     (b"b", &[(1, false), (3, true)]),

@@ -1,8 +1,8 @@
 //! Lines that were sent are found by the number of their event, and by what they carry.
 use crate::comparing::holds;
+use basics::Pdu;
 use bus_machine::Line;
-use byte_lists::Pdu;
-use sent_lines::History;
+use sent_history::History;
 use std::alloc::Global;
 use std::process::Abort;
 
@@ -46,7 +46,7 @@ const SENT: &[(u16, u64, u8)] = &[
     (0x6bc1, 9, 2),
 ];
 
-/// The line of a PDU of ten bytes, the last four of which are no payload; of the Data ID 0 one that isn't sent.
+/// The line of a PDU of ten bytes, whose last four aren't payload; of the Data ID 0 one that isn't sent.
 fn line_of(sent: &(u16, u64, u8)) -> Option<Line> {
     if sent.0 == 0 {
         return Some(Line::Up);

@@ -1,7 +1,7 @@
 // Lines, words and numbers of a text, and texts of faults, as no program prints them. What programs print is rows of
 // checks/text_rows.
 use crate::comparing::{holds, same};
-use byte_lists::Bytes;
+use basics::Bytes;
 use secoc_words::frames::FrameReader;
 use std::alloc::Global;
 use std::fmt::Display;

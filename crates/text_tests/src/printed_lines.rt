@@ -1,9 +1,9 @@
 //! Lines that no replay over disks in memory prints: what a cut finds on a disk that doesn't tell bytes that fit, and
 //! the longest line. The other texts are rows of checks/replay_rows.
 use crate::comparing::holds;
+use basics::Pdu;
 use bus_machine::{Line, Refusal};
-use bus_texts::write_line;
-use byte_lists::Pdu;
+use bus_script::write_line;
 use key_slots::SlotId;
 use std::alloc::Global;
 
@@ -57,7 +57,7 @@ fn what_a_cut_finds_has_its_words(rt: HostRuntime) {
     }
 }
 
-/// Of 64 bytes 5a, behind two short ones.
+/// Of 64 bytes 5a, after two short ones.
 const LONGEST: &str =
     "1 up\n2 armed\n4294967295 accepted ffff ffffffffffffffff 5a5a5a5a5a5a5a5a5a5a5a5a5a5a5a5a5a5a5a5a5a5a5a5a5a5a5a5a5a5a5a5a5a5a5a5a5a5a5a5a5a5a5a5a5a5a5a5a5a5a5a5a5a5a5a5a5a5a5a5a5a5a5a5a from 4294967295\n";
 
@@ -70,7 +70,7 @@ fn longest() -> Option<Line> {
     })
 }
 
-/// Whether the longest line is written behind two others.
+/// Whether the longest line is written after two others.
 fn is_written_behind(alloc: Global, longest: &Line) -> bool {
     let mut out = Vec::new(alloc);
     adds(alloc, 1, &Line::Up, &mut out)

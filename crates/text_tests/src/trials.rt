@@ -5,8 +5,7 @@ ghost use Rattle.bus_script.specs.ScriptEvents.{IsScriptEvent};
 use crate::bus_shapes::{Shape, bus_of};
 use crate::comparing::holds;
 use Direction::{Receives, Sends};
-use bus_script::{BusConfig, Event, write_event};
-use bus_trials::make_trial;
+use bus_script::{BusConfig, Event, make_trial, write_event};
 use freshness_routes::Direction;
 use std::alloc::Global;
 
@@ -37,7 +36,7 @@ fn adds_trial(alloc: Global, bus: &BusConfig, numbers: Numbers, out: &mut Vec<u8
     }
 }
 
-/// Whether the events of a trial over this bus, behind the first ones, are these.
+/// Whether the events of a trial over this bus, after the first ones, are these.
 fn is_trial(alloc: Global, bus: &BusConfig, numbers: Numbers, text: &str) -> bool {
     let mut out = Vec::new(alloc);
     adds_trial(alloc, bus, numbers, &mut out) && out.as_slice() == text.as_bytes()

@@ -12,8 +12,8 @@ use Rattle.text_lines.specs.Places.{texts_of, unplaced, placed_lines_of}
 use Rattle.text_lines.specs.Spans.{word_at, piece_at, line_at}
 use Rattle.trace_audit.specs.declared.map_lines.MapLine.{MapLine}
 use Rattle.trace_audit.specs.declared.auditing.Tally.{Tally}
-use Rattle.counting_receiver.specs.Counting.{next_counter, last_accepted}
-use Rattle.counting_receiver.specs.CountingLaws.{last_accepted-more}
+use Rattle.secoc_words.specs.Counting.{next_counter, last_accepted}
+use Rattle.secoc_words.specs.CountingLaws.{last_accepted-more}
 use Rattle.trace_audit.specs.Auditing.{Finding, other, too_short, verdict, finding_text, is_other, is_other_tally, tally_of, others_in, finding_accepts, first_counters, counter_of_place, AuditsLine, none, more}
 use Rattle.trace_audit.specs.Findings.{AddsFinding, Audited}
 
@@ -63,7 +63,7 @@ Audited-none mapping counters text counters_are text_is = record {
   counters_are = λ place inside. ap (λ cs. slice_index cs place) counters_are;
 }
 
--- a line is an other one exactly where it counts as one
+-- a line is an other one exactly if it counts as one
 pub other_as : (finding : Finding) → is_other finding ≡ is_other_tally (tally_of finding)
 other_as other = refl
 other_as (too_short n p c) = refl

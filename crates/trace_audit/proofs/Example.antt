@@ -2,12 +2,12 @@
 use Rattle.std.proofs.Common.{◌≡◌, ◌≤◌, [], ◌∷◌, length, refl, arith}
 use Rattle.std.specs.Prelude.{Some}
 use Rattle.bus_port.specs.Sink.{SinkState}
-use Rattle.command_edge.specs.Input.{input_limit}
-use Rattle.answer_rows.specs.InputLaws.{Lacks-unread, Offers-clean}
-use Rattle.answer_rows.specs.EndingLaws.{EndsInRow-memory}
+use Rattle.program_edge.specs.Input.{input_limit}
+use Rattle.program_edge.specs.InputLaws.{Lacks-unread, Offers-clean}
+use Rattle.program_edge.specs.EndingLaws.{EndsInRow-memory}
 use Rattle.trace_audit.specs.Rows.{AuditInputs, ComesInAudit, no_memory}
 use Rattle.trace_audit.specs.Audits.{Audits}
-use Rattle.trace_audit.specs.Named.{IsExampleAudit}
+use Rattle.trace_audit.specs.Rows.{IsExampleAudit}
 use Rattle.trace_audit.specs.declared.start.TheConstants.{EXAMPLE_MAP, EXAMPLE_LOG}
 use Rattle.trace_audit.proofs.Promises.{Audits-row}
 

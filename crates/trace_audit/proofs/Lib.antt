@@ -4,8 +4,15 @@ pub mod Windows
 pub mod OneFinding
 pub mod Audited
 pub mod Noting
-pub mod Naming
 pub mod Phases
 pub mod Promises
 pub mod Example
 pub mod CallerLemmas
+pub mod Cutting
+pub mod Going
+pub mod WatchRising
+pub mod OneWatch
+pub mod PrintedRise
+pub mod Ports
+pub mod WatchPhases
+pub mod WatchPromises

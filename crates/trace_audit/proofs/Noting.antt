@@ -4,7 +4,7 @@ use Rattle.std.specs.Prelude.{slice_index, if◌then◌else◌, None, Some, Resu
 use Rattle.std.specs.List.{slice_get}
 use Rattle.std.proofs.lemmas.Bool.Decides.{nat_tests}
 use Rattle.secured_pdu.specs.Verdict.{Outcome, Accepted, FreshnessFailure, VerificationFailure}
-use Rattle.counting_receiver.specs.Counting.{counter_behind, accepted_by, next_counter}
+use Rattle.secoc_words.specs.Counting.{counter_behind, accepted_by, next_counter}
 use Rattle.text_lines.specs.Lines.{TextLine}
 use Rattle.secoc_words.specs.Texts.{outcome_text, bad_length_text}
 use Rattle.trace_audit.specs.declared.map_lines.MapLine.{MapLine}

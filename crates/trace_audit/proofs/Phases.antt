@@ -2,14 +2,14 @@
 use Rattle.std.proofs.Common.{◌≡◌, ℕ, List, inl, inr, subst, sym}
 use Rattle.std.specs.Prelude.{Result, Ok, Err, Vec, IfOk, IfErr}
 use Rattle.std.specs.declared.alloc.Global.{Global}
-use Rattle.command_edge.specs.declared.input.InputFault.TheVariants as input
+use Rattle.program_edge.specs.declared.input.InputFault.TheVariants as input
 use Rattle.text_lines.specs.Readings.{Fault}
-use Rattle.answer_rows.specs.Rows.{Row}
-use Rattle.answer_rows.specs.Inputs.{Reading, IsUnread, ReadsWhole}
-use Rattle.answer_rows.specs.InputLaws.{Lacks-whole}
+use Rattle.program_edge.specs.Rows.{Row}
+use Rattle.program_edge.specs.Inputs.{Reading, IsUnread, ReadsWhole}
+use Rattle.program_edge.specs.InputLaws.{Lacks-whole}
 use Rattle.trace_audit.specs.declared.map_lines.MapLine.{MapLine}
 use Rattle.trace_audit.specs.declared.run.Audit.{Audit}
-use Rattle.line_rows.specs.LineRows.{NoLines}
+use Rattle.text_lines.specs.LineRows.{NoLines}
 use Rattle.trace_audit.specs.MapLines.{map_of}
 use Rattle.trace_audit.specs.Auditing.{TellsAudit}
 use Rattle.trace_audit.specs.Rows.{AuditInputs, NamesInputs, ComesInAudit, no_input, map_fault, no_memory, done}

@@ -6,14 +6,14 @@ use Rattle.bus_port.specs.Source.{SourceState}
 use Rattle.text_lines.specs.Lines.{lines_of}
 use Rattle.text_lines.specs.Readings.{Fault}
 use Rattle.text_lines.specs.Texts.{fault_text_of}
-use Rattle.command_edge.specs.Input.{input_fault_status}
-use Rattle.command_edge.specs.declared.input.InputFault.TheVariants as input
-use Rattle.answer_rows.specs.Rows.{Row}
-use Rattle.answer_rows.specs.Inputs.{Reading, IsUnread, ReadsWhole, Lacks, SourceFailed, CountsFault, GivesTooMuch, CountsTooMuch, Offers}
-use Rattle.answer_rows.specs.InputLaws.{Lacks-unread, Lacks-whole, CountsFault-is, CountsTooMuch-is, Offers-is, Offers-whole}
-use Rattle.answer_rows.specs.Endings.{Ending, PrintsWhole, EndsInRow, EndsIn}
-use Rattle.answer_rows.specs.EndingLaws.{EndsInRow-at, EndsInRow-front, EndsInRow-rose, EndsInRow-only, EndsInRow-may, EndsInRow-done}
-use Rattle.counting_receiver.specs.Counting.{AcceptedRise}
+use Rattle.program_edge.specs.Input.{input_fault_status}
+use Rattle.program_edge.specs.declared.input.InputFault.TheVariants as input
+use Rattle.program_edge.specs.Rows.{Row}
+use Rattle.program_edge.specs.Inputs.{Reading, IsUnread, ReadsWhole, Lacks, SourceFailed, CountsFault, GivesTooMuch, CountsTooMuch, Offers}
+use Rattle.program_edge.specs.InputLaws.{Lacks-unread, Lacks-whole, CountsFault-is, CountsTooMuch-is, Offers-is, Offers-whole}
+use Rattle.program_edge.specs.Endings.{Ending, PrintsWhole, EndsInRow, EndsIn}
+use Rattle.program_edge.specs.EndingLaws.{EndsInRow-at, EndsInRow-front, EndsInRow-rose, EndsInRow-only, EndsInRow-may, EndsInRow-done}
+use Rattle.secoc_words.specs.Counting.{AcceptedRise}
 use Rattle.trace_audit.specs.declared.map_lines.MapLine.{MapLine}
 use Rattle.trace_audit.specs.MapLines.{map_of}
 use Rattle.trace_audit.specs.Rows.{AuditInputs, NamesInputs, audit_usage, IsMapFault, OverAudit, ComesInAudit, no_form, no_input, map_fault, no_memory, done}

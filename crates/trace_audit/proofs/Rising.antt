@@ -4,9 +4,9 @@ use Rattle.std.specs.Prelude.{slice_index, IfSome}
 use Rattle.std.proofs.lemmas.List.{map-append}
 use Rattle.secured_pdu.specs.Verdict.{Accepted, FreshnessFailure, VerificationFailure}
 use Rattle.text_lines.specs.Lines.{TextLine}
-use Rattle.counting_receiver.specs.Counting.{KeepsCounters, AcceptedRise}
-use Rattle.counting_receiver.specs.Counting as counting
-use Rattle.counting_receiver.specs.CountingLaws.{KeepsCounters-rise}
+use Rattle.secoc_words.specs.Counting.{KeepsCounters, AcceptedRise}
+use Rattle.secoc_words.specs.Counting as counting
+use Rattle.secoc_words.specs.CountingLaws.{KeepsCounters-rise}
 use Rattle.trace_audit.specs.declared.map_lines.MapLine.{MapLine}
 use Rattle.trace_audit.specs.Auditing.{Finding, other, too_short, verdict, finding_accepts, first_counters, counter_of_place, AuditsLine, AuditsEach, none, more}
 

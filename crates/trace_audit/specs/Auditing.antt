@@ -4,7 +4,7 @@ use Rattle.std.specs.Prelude.{slice_index, codes, Option, None, Some}
 use Rattle.std.specs.List.{flat_map, slice_get}
 use Rattle.std.specs.Fmt.{decimal}
 use Rattle.secured_pdu.specs.Verdict.{Outcome, Accepted, FreshnessFailure, VerificationFailure, Verdict}
-use Rattle.counting_receiver.specs.Counting.{Acceptance, accepted_by, last_accepted}
+use Rattle.secoc_words.specs.Counting.{Acceptance, accepted_by, last_accepted}
 use Rattle.text_lines.specs.Lines.{TextLine, lines_of}
 use Rattle.text_lines.specs.Readings.{nth_word}
 use Rattle.secoc_words.specs.Texts.{outcome_text, bad_length_text}
@@ -16,14 +16,14 @@ use Rattle.trace_audit.specs.declared.auditing.Tally.TheVariants as tally
 use Rattle.trace_audit.specs.MapLines.{place_of_frame}
 use Rattle.trace_audit.specs.Frames.{log_frame_of}
 
--- what is found of a line: the map has no line for it; or the number of the line, the place of the map's line, counted
--- from 0, and its CAN identifier, and that the frame is too short, or the verdict
+-- what is found of a line: that the map has no line for it; or the line's number, the place of the map's line, counted
+-- from 0, and its CAN identifier, with the verdict, or that the frame is too short
 pub data Finding : Type 0 where
   other : Finding
   too_short : (number place : ℕ) (can : List ℕ) → Finding
   verdict : (number place : ℕ) (can : List ℕ) (outcome : Outcome) → Finding
 
--- the number of a line and a CAN identifier, each with a space behind it
+-- the number of a line and a CAN identifier, each with a space after it
 abbrev pub front_text : ℕ → List ℕ → List ℕ
 front_text number can = decimal number ++ codes " " ++ can ++ codes " "
 
@@ -74,7 +74,7 @@ finding_accepts (verdict number place can outcome) = accepted_by place outcome
 abbrev pub first_counters : List MapLine → List ℕ
 first_counters mapping = map (λ l. l.counter) mapping
 
--- the counter of the map's line at this place behind these findings
+-- the counter of the map's line at this place after these findings
 abbrev pub counter_of_place : List MapLine → List Finding → ℕ → ℕ
 counter_of_place mapping findings place =
     last_accepted place (slice_index (first_counters mapping) place) (map finding_accepts findings)
@@ -103,8 +103,8 @@ abbrev pub IsUnmapped : List MapLine → List (List ℕ) → Type 0
 IsUnmapped mapping words =
     (frame : LogFrame) → log_frame_of words ≡ Some frame → place_of_frame mapping frame.can (channel_of words) ≡ None
 
--- the first bytes of a mapped frame are judged as a Secured I-PDU with a payload of the map's length, by a receiver
--- with the window of the map's line, where `counter` says the counter of each line of the map; the rest is padding
+-- the first bytes of a mapped frame are judged as a Secured I-PDU with a payload of the map's length, and the rest is
+-- padding. The receiver has the window of the map's line, and the counter that `counter` gives for that line
 abbrev pub AuditsLine : List MapLine → (ℕ → ℕ) → TextLine → Finding → Type 0
 AuditsLine mapping counter text_line other = IsUnmapped mapping text_line.words
 AuditsLine mapping counter text_line (too_short number place can) =
@@ -126,7 +126,7 @@ pub data AuditsEach (mapping : List MapLine) : List TextLine → List Finding �
       → AuditsEach mapping lines findings → AuditsLine mapping (counter_of_place mapping findings) text_line finding
       → AuditsEach mapping (lines ++ text_line ∷ []) (findings ++ finding ∷ [])
 
--- the text of findings, one behind the other, and then the number of the others
+-- the text of findings, one after the other, and then the number of the others
 abbrev pub findings_text : List Finding → List ℕ
 findings_text findings = flat_map finding_text findings ++ others_text (others_in findings)
 

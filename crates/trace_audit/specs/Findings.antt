@@ -4,14 +4,14 @@ use Rattle.std.specs.List.{flat_map}
 use Rattle.text_lines.specs.Lines.{TextLine}
 use Rattle.secoc_words.specs.Texts.{outcome_text, bad_length_text}
 use Rattle.secured_pdu.specs.Verdict.{Outcome, Verdict}
-use Rattle.counting_receiver.specs.Counting.{counter_behind, next_counter}
+use Rattle.secoc_words.specs.Counting.{counter_behind, next_counter}
 use Rattle.trace_audit.specs.declared.map_lines.MapLine.{MapLine}
 use Rattle.trace_audit.specs.declared.auditing.Tally.{Tally}
 use Rattle.trace_audit.specs.declared.auditing.Tally.TheVariants as tally
 use Rattle.trace_audit.specs.Auditing.{Finding, finding_text, tally_by, tally_of, others_in, finding_accepts}
 use Rattle.trace_audit.specs.Auditing.{counter_of_place, AuditsLine, AuditsEach}
 
--- the bad length of the data was added, or the verdict on its front; and it is told what it counts as
+-- the bad length of the data was added, or the verdict on its beginning, and the answer is what it counts as
 abbrev pub AddsDataVerdict : MapLine → ℕ → ℕ → List ℕ → List ℕ → List ℕ → Tally → Type 0
 AddsDataVerdict entry old new bytes before after counts =
     ((length bytes < entry.size + 4) × (new ≡ old) × (after ≡ before ++ bad_length_text) × (counts ≡ tally.Failed))
@@ -19,7 +19,7 @@ AddsDataVerdict entry old new bytes before after counts =
     × Verdict entry.key entry.id old entry.window (take (entry.size + 4) bytes) outcome
     × (after ≡ before ++ outcome_text outcome) × (new ≡ counter_behind old outcome) × (counts ≡ tally_by outcome)))
 
--- what is found of a line was added, each counter is the one behind it, and it is told what it counts as
+-- what is found of a line was added, each counter is the one after it, and the answer is what it counts as
 abbrev pub AddsFinding : List MapLine → List ℕ → List ℕ → TextLine → List ℕ → List ℕ → Tally → Type 0
 AddsFinding mapping old new text_line before after counts =
     (finding : Finding) × AuditsLine mapping (slice_index old) text_line finding

@@ -5,4 +5,9 @@ pub mod Findings
 pub mod Rows
 pub mod Audits
 pub mod Steps
-pub mod Named
+pub mod WatchMaps
+pub mod Watching
+pub mod States
+pub mod WatchRows
+pub mod Watches
+pub mod WatchSteps

@@ -1,4 +1,4 @@
--- The lines of a map: what stands behind the CAN identifiers of a bus.
+-- The lines of a map: what stands after the CAN identifiers of a bus.
 use Rattle.std.specs.Prelude.{ℕ, ◌==◌, ◌&&◌, ◌||◌, Bool, true, if◌then◌else◌, List, length, map}
 use Rattle.std.specs.Prelude.{Option, None, Some, option_and_then, is_some, Result, Ok}
 use Rattle.std.specs.List.{list_all, position}
@@ -14,7 +14,7 @@ use Rattle.trace_audit.specs.declared.map_lines.MapLine.{MapLine}
 abbrev pub is_can : List ℕ → Bool
 is_can word = list_all is_ascii_hexdigit word && (length word == 3 || length word == 8)
 
--- CANID: its digits in lower case, which are the same for two of them exactly where their lengths and values are
+-- CANID: its digits in lower case, which are the same for two of them exactly if their lengths and values are
 unfoldable pub can_form : List ℕ → Option (List ℕ)
 can_form word = if is_can word then Some (map to_ascii_lowercase word) else None
 
@@ -22,7 +22,7 @@ can_form word = if is_can word then Some (map to_ascii_lowercase word) else None
 abbrev pub place_of_can : List MapLine → List ℕ → Option ℕ
 place_of_can mapping can = position (λ l. bytes_eq l.can can) mapping
 
--- a line hears a channel: its own, or any where it names none
+-- a line hears a channel: its own, or any if it names none
 abbrev pub hears : Option (List ℕ) → List ℕ → Bool
 hears None channel = true
 hears (Some own) channel = bytes_eq own channel
@@ -40,8 +40,8 @@ unfoldable pub new_can_form : List MapLine → List ℕ → Option (List ℕ)
 new_can_form before word =
     option_and_then (λ can. if is_some (place_of_can before can) then None else Some can) (can_form word)
 
--- the line of `CANID ID KEY FRESH LEN`, where FRESH is the receiver's counter; what its CAN identifier and its window
--- are, if they are of their forms, and its channel is for each program to say
+-- the line of `CANID ID KEY FRESH LEN`, where FRESH is the receiver's counter. Each program says what its CAN
+-- identifier and its window are, if they are of their forms, and its channel
 unfoldable pub line_with : Option (List ℕ) → Option ℕ → Option (List ℕ) → List (List ℕ) → Result MapLine Cause
 line_with can window channel words = do
   can ← field 1 can

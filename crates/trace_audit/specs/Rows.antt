@@ -2,12 +2,13 @@
 use Rattle.std.specs.Prelude.{◌≡◌, ◌⊎◌, ℕ, List, length, Result, Ok, Err, codes}
 use Rattle.text_lines.specs.Readings.{Fault}
 use Rattle.text_lines.specs.Texts.{line}
-use Rattle.command_edge.specs.declared.input.InputFault.{InputFault}
-use Rattle.command_edge.specs.declared.input.InputFault.TheVariants as input
-use Rattle.answer_rows.specs.Rows.{Row, row_of, input_row, memory_row}
-use Rattle.answer_rows.specs.Inputs.{Reading, IsUnread, ReadsWhole, Lacks}
-use Rattle.line_rows.specs.LineRows.{line_row}
+use Rattle.program_edge.specs.declared.input.InputFault.{InputFault}
+use Rattle.program_edge.specs.declared.input.InputFault.TheVariants as input
+use Rattle.program_edge.specs.Rows.{Row, row_of, input_row, memory_row}
+use Rattle.program_edge.specs.Inputs.{Reading, IsUnread, ReadsWhole, Lacks, Offers}
+use Rattle.text_lines.specs.LineRows.{line_row}
 use Rattle.trace_audit.specs.declared.map_lines.MapLine.{MapLine}
+use Rattle.trace_audit.specs.declared.start.TheConstants.{EXAMPLE_MAP, EXAMPLE_LOG}
 use Rattle.trace_audit.specs.MapLines.{map_of}
 use Rattle.trace_audit.specs.Auditing.{TellsAudit}
 
@@ -21,11 +22,15 @@ pub record AuditInputs : Type 0 where
 abbrev pub NamesInputs : List (List ℕ) → Type 0
 NamesInputs words = length words ≡ 2
 
--- the line that is printed where they are of no form
+-- an audit of the example: of two words, over sources that tell its map and its log, and don't fail
+abbrev pub IsExampleAudit : AuditInputs → Type 0
+IsExampleAudit i = NamesInputs i.words × Offers i.map EXAMPLE_MAP.now × Offers i.log EXAMPLE_LOG.now
+
+-- the line that is printed if they are malformed
 abbrev pub audit_usage : List ℕ
 audit_usage = line (codes "usage: audit MAP LOG")
 
--- the map was read whole, and has these lines, where `means` says which lines a text has
+-- the map was read whole, and has these lines; `means` says which lines a text has
 abbrev pub ReadsMapBy : (List ℕ → Result (List MapLine) Fault) → Reading → List MapLine → Type 0
 ReadsMapBy means map mapping = (text : List ℕ) × ReadsWhole map text × (means text ≡ Ok mapping)
 

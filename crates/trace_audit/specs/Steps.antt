@@ -1,18 +1,18 @@
 -- What the two phases of `audit` say to one another
 use Rattle.std.specs.Prelude.{◌≡◌, ℕ, ◌≤◌, List, length, Result, Ok, Err, Vec}
 use Rattle.std.specs.declared.alloc.Global.{Global}
-use Rattle.command_edge.specs.Input.{input_limit}
-use Rattle.command_edge.specs.declared.input.InputFault.{InputFault}
+use Rattle.program_edge.specs.Input.{input_limit}
+use Rattle.program_edge.specs.declared.input.InputFault.{InputFault}
 use Rattle.text_lines.specs.Readings.{Fault}
-use Rattle.answer_rows.specs.Rows.{Row, row_of, input_row, memory_row}
-use Rattle.answer_rows.specs.Inputs.{Reading, Lacks}
-use Rattle.line_rows.specs.LineRows.{line_row}
+use Rattle.program_edge.specs.Rows.{Row, row_of, input_row, memory_row}
+use Rattle.program_edge.specs.Inputs.{Reading, Lacks}
+use Rattle.text_lines.specs.LineRows.{line_row}
 use Rattle.trace_audit.specs.declared.map_lines.MapLine.{MapLine}
 use Rattle.trace_audit.specs.declared.run.Audit.{Audit}
 use Rattle.trace_audit.specs.Auditing.{TellsAudit}
 use Rattle.trace_audit.specs.Rows.{AuditInputs, ReadsMapBy, IsMapFaultBy, OverAudit, ComesInAudit}
 
--- why the source of a map gives no lines, where `means` says which lines a text has
+-- why the source of a map gives no lines; `means` says which lines a text has
 pub data LacksMap (means : List ℕ → Result (List MapLine) Fault) (map : Reading) : Row → Type 0 where
   no_map : (fault : InputFault) → Lacks map fault → LacksMap means map (input_row fault)
   refused : (fault : Fault) → IsMapFaultBy means map fault → LacksMap means map (line_row fault)

@@ -6,8 +6,8 @@ ghost use Rattle.trace_audit.specs.Findings.{AddsFinding, AddsDataVerdict};
 
 use crate::frames::log_frame;
 use crate::map_lines::{MapLine, place_for};
-use counting_receiver::push_verdict;
 use itoa::Buffer;
+use secoc_words::push_verdict;
 use secoc_words::verdicts::push_bad_length;
 use she_aes::expand;
 use std::alloc::{AllocError, Global};
@@ -36,7 +36,7 @@ impl Tally {
     }
 }
 
-/// What is found of all lines, one behind the other, and then the number of those that the map has no line for.
+/// What is found of all lines, one after the other, and then the number of those that the map has no line for.
 pub fn audit_text(alloc: Global, map: &[MapLine], log: &[u8]) -> Result<Vec<u8>, Memory>
     requires { length log.now < 2 ^ 32 }
     ensures { IfOk result (λ text. TellsAudit map.now log.now text.items) }
@@ -98,7 +98,7 @@ pub fn push_finding(
     push_data_verdict(line, &mut counters[place], frame.bytes.bytes(), text)
 }
 
-/// Adds the number of a line and the CAN identifier of its frame, each with a space behind it.
+/// Adds the number of a line and the CAN identifier of its frame, each with a space after it.
 fn push_front(number: u64, can: &[u8], text: &mut Vec<u8>) -> Result<(), AllocError>
     requires { length can.now ≤ 8 }
     ensures front { OnOk result (text.new.items ≡ text.old.items ++ front_text number can.now) }
@@ -112,8 +112,8 @@ fn push_front(number: u64, can: &[u8], text: &mut Vec<u8>) -> Result<(), AllocEr
     Ok(())
 }
 
-/// Adds the verdict on the data of a frame without its padding, or its bad length, and tells what it counts as. Where
-/// it is accepted, the counter is its freshness: an accepted frame, and no other, moves it.
+/// Adds the verdict on the data of a frame without its padding, or its bad length, and tells what it counts as. If it
+/// is accepted, the counter is its freshness: an accepted frame, and no other, moves it.
 fn push_data_verdict(
     line: &MapLine,
     counter: &mut u64,

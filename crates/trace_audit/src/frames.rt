@@ -38,7 +38,7 @@ impl Model for FrameBytes {
 }
 
 impl FrameBytes {
-    /// The bytes of a word of hexadecimal digits, two a byte; `None` where it isn't one, or has more than `most` bytes.
+    /// The bytes of a word of hexadecimal digits, two a byte; `None` if it isn't one, or has more than `most` bytes.
     #[tactic(auto, unfolding(text_lines::specs::Forms::hex_bytes_form), using(crate::proofs::Digits::decode_half))]
     pub fn of_digits(word: &[u8], most: usize) -> Option<FrameBytes>
         requires { most ≤ 64 }
@@ -63,8 +63,8 @@ impl FrameBytes {
     }
 }
 
-/// The frame of a line of a log: a time in parentheses, an interface, and the frame. What follows is ignored. `None`
-/// where the line is no data frame.
+/// The frame of a line of a log: a time in parentheses, an interface, and the frame. What follows is ignored. `None` if
+/// the line is no data frame.
 #[tactic(auto, unfolding(crate::specs::Frames::log_frame_of))]
 pub fn log_frame(words: &Words<'_>) -> Option<LogFrame>
     ensures found { result ≡ log_frame_of words.now }
@@ -83,7 +83,7 @@ fn is_time(word: &[u8]) -> bool
     !word.is_empty() && word[0] == b'(' && word[word.len() - 1] == b')'
 }
 
-/// The frame of a word: the CAN identifier, the first `#`, and what stands behind it.
+/// The frame of a word: the CAN identifier, the first `#`, and what stands after it.
 #[tactic(auto, unfolding(crate::specs::Frames::frame_form))]
 fn frame(word: &[u8]) -> Option<LogFrame>
     ensures { result ≡ frame_form word.now }
@@ -92,7 +92,7 @@ fn frame(word: &[u8]) -> Option<LogFrame>
     frame_of_parts(&word[..at], &word[at + 1..])
 }
 
-/// The place of the first `#`, counted from 0; `None` where there is none.
+/// The place of the first `#`, counted from 0; `None` if there is none.
 fn place_of_hash(word: &[u8]) -> Option<usize>
     ensures exact { result ≡ position (λ byte. byte == 35) word.now }
     ensures within { IfSome result (λ at. at < length word.now) }
@@ -100,7 +100,7 @@ fn place_of_hash(word: &[u8]) -> Option<usize>
     word.iter().position(|byte| *byte == b'#')
 }
 
-/// The frame of a CAN identifier and what stands behind `#`.
+/// The frame of a CAN identifier and what stands after `#`.
 #[tactic(auto, unfolding(crate::specs::Frames::frame_parts))]
 fn frame_of_parts(can: &[u8], rest: &[u8]) -> Option<LogFrame>
     ensures { result ≡ frame_parts can.now rest.now }
@@ -110,7 +110,7 @@ fn frame_of_parts(can: &[u8], rest: &[u8]) -> Option<LogFrame>
     Some(LogFrame { can, bytes })
 }
 
-/// The data bytes that stand behind `#`: up to 8 bytes, or another `#`, one digit for the flags of CAN FD, and up to 64
+/// The data bytes that stand after `#`: up to 8 bytes, or another `#`, one digit for the flags of CAN FD, and up to 64
 /// bytes.
 #[tactic(auto, unfolding(crate::specs::Frames::data_form))]
 fn data_bytes(rest: &[u8]) -> Option<FrameBytes>

@@ -1,7 +1,7 @@
 //! Laws of the definitions: each function has an empty body, and its contract is the law.
 ghost use Rattle.std.specs.Prelude.{◌≡◌, ℕ, List, map, All, Ok};
 ghost use Rattle.secured_pdu.specs.Frame.{IsWindow};
-ghost use Rattle.counting_receiver.specs.Counting.{AcceptedRise};
+ghost use Rattle.secoc_words.specs.Counting.{AcceptedRise};
 ghost use Rattle.text_lines.specs.Lines.{TextLine};
 ghost use Rattle.trace_audit.specs.declared.map_lines.MapLine.{MapLine};
 ghost use Rattle.trace_audit.specs.MapLines.{map_of};

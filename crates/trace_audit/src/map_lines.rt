@@ -1,4 +1,4 @@
-//! The lines of a map: what stands behind the CAN identifiers of a bus.
+//! The lines of a map: what stands after the CAN identifiers of a bus.
 ghost use Rattle.std.specs.Prelude.{◌≡◌, ◌≤◌, length, map as each, true};
 ghost use Rattle.std.specs.Char.{to_ascii_lowercase};
 ghost use Rattle.secured_pdu.specs.Frame.{IsWindow};
@@ -6,8 +6,8 @@ ghost use Rattle.trace_audit.specs.MapLines.{is_can, can_form, new_can_form, lin
 ghost use Rattle.trace_audit.specs.MapLines.{hears_frame, place_of_frame};
 
 use arrayvec::ArrayVec;
-use byte_lists::{Block, Bytes};
-use counting_receiver::WIDEST_WINDOW;
+use basics::{Block, Bytes};
+use secoc_words::WIDEST_WINDOW;
 use std::alloc::Global;
 use std::marker::Model;
 use text_lines::reader::{LineReader, expect_count, value_at};
@@ -32,7 +32,7 @@ pub struct MapLine {
     pub size: PayloadSize,
     /// The window of the receiver.
     pub window: Window,
-    /// The channel that it hears, as a log names it; every one where there is none.
+    /// The channel that it hears, as a log names it; every one if there is none.
     pub channel: Option<Bytes>,
 }
 
@@ -168,7 +168,7 @@ fn is_can_id(word: &[u8]) -> bool
     word.len() == 3 || word.len() == 8
 }
 
-/// The place of the line for a CAN identifier, counted from 0; `None` where there is none.
+/// The place of the line for a CAN identifier, counted from 0; `None` if there is none.
 pub fn place_of(lines: &[MapLine], can: &[u8]) -> Option<usize>
     ensures { result ≡ place_of_can lines.now can.now }
 {
@@ -188,7 +188,7 @@ fn does_hear(line: &MapLine, can: &[u8], channel: &[u8]) -> bool
     }
 }
 
-/// The place of the first line that hears a frame, counted from 0; `None` where none does.
+/// The place of the first line that hears a frame, counted from 0; `None` if none does.
 pub fn place_for(lines: &[MapLine], can: &[u8], channel: &[u8]) -> Option<usize>
     ensures { result ≡ place_of_frame lines.now can.now channel.now }
 {

@@ -1,21 +1,20 @@
 //! The map that a source gives.
 ghost use Rattle.std.specs.Prelude.{◌≡◌, ◌<◌, ◌^◌, length, Ok, IfOk, IfErr};
 ghost use Rattle.text_lines.specs.Readings.{read_all};
-ghost use Rattle.line_rows.specs.LineRows.{NoLines};
+ghost use Rattle.text_lines.specs.LineRows.{NoLines};
 ghost use Rattle.trace_audit.specs.MapLines.{map_of, most_map_lines};
 ghost use Rattle.trace_audit.specs.Steps.{ReadsMapSource};
 
 use crate::map_lines::{MOST_MAP_LINES, MapLine, MapReader};
-use answer_rows::Refusal;
 use bus_port::Source;
-use command_edge::read_input;
-use line_rows::line_refusal;
+use program_edge::{Refusal, read_input};
 use std::alloc::Global;
+use text_lines::line_refusal;
 use text_lines::reader::{LineReader, read_lines};
 
 /// The lines of the map that a source gives, at most 256 that aren't skipped, as this reader reads them; or why there
 /// are none. The source is read whole, at most 1,048,576 bytes. The row is that of the source's fault, that of the
-/// first line that is none, or that of want of memory.
+/// first line that is none, or out of memory.
 pub fn read_map_by<R: LineReader<Item = MapLine>, S: Source>(
     alloc: Global,
     reader: &R,

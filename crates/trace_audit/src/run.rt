@@ -1,7 +1,7 @@
 //! The program's one command.
 ghost use Rattle.std.specs.Prelude.{◌↔◌, ◌≤◌, length, map as each, string_bytes, IsTrue};
-ghost use Rattle.command_edge.specs.Input.{input_limit};
-ghost use Rattle.answer_rows.specs.Endings.{EndsInRow};
+ghost use Rattle.program_edge.specs.Input.{input_limit};
+ghost use Rattle.program_edge.specs.Endings.{EndsInRow};
 ghost use Rattle.trace_audit.specs.Rows.{NamesInputs};
 ghost use Rattle.trace_audit.specs.Audits.{Audits};
 ghost use Rattle.trace_audit.specs.Steps.{PreparesAudit, DoesAudit};
@@ -9,9 +9,8 @@ ghost use Rattle.trace_audit.specs.Steps.{PreparesAudit, DoesAudit};
 use crate::auditing::audit_text;
 use crate::map_lines::MapLine;
 use crate::map_source::read_map;
-use answer_rows::{Refusal, tell_refusal};
 use bus_port::{Sink, Source};
-use command_edge::{DONE, read_input, tell};
+use program_edge::{DONE, Refusal, read_input, tell, tell_refusal};
 use std::alloc::Global;
 use text_lines::Memory;
 
@@ -19,7 +18,7 @@ use text_lines::Memory;
 /// and the log and may be any text, are the form of the words, the program's name left out. All reading comes before
 /// all printing, and every text that is printed ends with a line feed.
 ///
-/// The statuses are looked for in the order 2, then 5, 8 and 4 of the map, then 5 and 8 of the log. Want of memory, 7,
+/// The statuses are looked for in the order 2, then 5, 8 and 4 of the map, then 5 and 8 of the log. Out of memory, 7,
 /// prints nothing. A sink that fails makes the status 6, whatever was to be printed.
 pub fn run_audit<S: Source, T: Source, K: Sink>(
     alloc: Global,
@@ -83,7 +82,7 @@ pub fn names_inputs(words: &[String]) -> bool
     words.len() == 2
 }
 
-/// The second phase: what is found of the log is told.
+/// The second phase: what is found of the log is printed.
 fn do_audit<K: Sink>(alloc: Global, audit: &Audit, sink: &mut K) -> u8
     requires { length audit.now.log.items ≤ input_limit }
     ensures { EndsInRow (DoesAudit audit.now)

@@ -122,7 +122,7 @@ const HEADERS: [(Kind, &[u8; 32]); 2] = [
     ),
 ];
 
-/// The bytes of a disk where a store of version 2 begins.
+/// The bytes of a disk at the place where a store of version 2 begins.
 fn head_of(disk: &mut MemDisk) -> Result<[u8; 32], Fail> {
     let mut head = [0xff; 32];
     if disk.size() != 65_536 {

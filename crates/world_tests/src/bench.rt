@@ -4,10 +4,10 @@ ghost use Rattle.bus_machine.specs.Bus.{node_of};
 ghost use Rattle.bus_world.specs.Turns.{CanBeDone};
 
 use crate::comparing::{holds, same};
+use basics::{Block, Bytes, Pdu};
 use bus_machine::{Event, Line, Refusal};
 use bus_nodes::{BusConfig, Name, NodeLine};
 use bus_world::{Start, StartFault, World};
-use byte_lists::{Block, Bytes, Pdu};
 use cell_store::{Kind, Version};
 use cut_disk::{CutDisk, Disk, MemDisk, Torn};
 use freshness_routes::{Direction, NodeConfig, Route};

@@ -1,11 +1,10 @@
-//! What is compared: a call of a function in place of the steps of a macro, each of which would be proved in each test
-//! anew.
+//! What is compared: a call of a function instead of a macro, whose steps would be proved anew in each test.
 ghost use Rattle.std.specs.Prelude.{IsTrue};
 
 use std::fmt::{Debug, Display};
 use std::process::Abort;
 
-/// Two values are the same; `what` tells which, where they aren't.
+/// Two values are the same; `what` tells which, if they aren't.
 pub(crate) fn same<W: Display + Copy, T: PartialEq + Debug>(
     rt: &impl Abort,
     what: W,
@@ -15,7 +14,7 @@ pub(crate) fn same<W: Display + Copy, T: PartialEq + Debug>(
     assert_eq!(rt; *left, *right, "{what}");
 }
 
-/// This holds; `what` tells what was asked, where it doesn't.
+/// This holds; `what` tells what was asked, if it doesn't.
 pub(crate) fn holds<W: Display + Copy>(rt: &impl Abort, what: W, it: bool)
     ensures { IsTrue it }
 {

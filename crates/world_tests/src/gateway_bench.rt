@@ -4,7 +4,7 @@ ghost use Rattle.cell_store.specs.Store.{FewCells};
 
 use crate::comparing::holds;
 use any_cells::AnyCells;
-use byte_lists::Block;
+use basics::Block;
 use cell_store::{Kind, Reread, Version};
 use cut_disk::{MemDisk, Torn};
 use freshness_manager::{Direction, NodeConfig, Route};
@@ -250,7 +250,7 @@ fn does(gateway: &mut Gateway<AnyCells<MemDisk>>, act: &Act, out: &mut [u8; 64])
     }
 }
 
-/// A buffer of sevens with these bytes in front.
+/// A buffer of sevens that begins with these bytes.
 fn buffer(front: &[u8]) -> [u8; 64] {
     let mut bytes = [7; 64];
     for (place, byte) in front.iter().enumerate() {

@@ -26,7 +26,7 @@ const THREE: &[NodeRow] = &[
     ),
 ];
 
-/// The PDU of `left` with the payload and the fourth freshness behind its start.
+/// The PDU of `left` with the payload and the fourth freshness after its start.
 const FOURTH: &[u8] = b"\xbe\xe2\x2e\x40\x9f\x96\x2d\x0b\xa6\xdc";
 
 const LIFE: &[Row] = &[

@@ -38,7 +38,7 @@ struct Row(Layout, Layout, &'static [u64], &'static [u8], Refused);
 const NO_CELL: &[u8] = &[0xff; 32];
 
 /// Bytes of the header; the gates of both copies of the second cell of a twin store, and of the first bank of a log
-/// store; slot 13 of a log store, with the bound behind it, of which the slot is named; and the bound, in both copies of
+/// store; slot 13 of a log store, with the bound after it, of which the slot is named; and the bound, in both copies of
 /// a twin store.
 const ROWS: &[Row] = &[
     Row(
@@ -193,7 +193,7 @@ fn fails_at(rt: &impl Abort, alloc: Global, store: Layout, call: u64) -> Result<
     Ok(())
 }
 
-/// The look at a store that stands, and what is read behind it.
+/// The look at a store that stands, and what is read after it.
 #[test]
 fn a_second_disk_that_fails_as_it_is_looked_at_is_named(rt: HostRuntime) -> Result<(), Fail> {
     for store in STORES {

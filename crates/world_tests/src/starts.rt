@@ -14,7 +14,7 @@ const HEARD: RouteRow = RouteRow(0, Direction::Receives, 4, 1, 0);
 
 const HEARD_TOO: RouteRow = RouteRow(1, Direction::Receives, 4, 1, 0);
 
-/// Three nodes, of which the second has a route more.
+/// Three nodes; the second has a route more.
 const UNEQUAL: &[NodeRow] = &[
     NodeRow(b"a", 1, &[HEARD, HEARD_TOO]),
     NodeRow(
@@ -227,7 +227,7 @@ fn too_few_and_too_small_disks_are_named(rt: HostRuntime) -> Result<(), Fail> {
     Ok(())
 }
 
-/// Eight nodes, of which the second has a route more.
+/// Eight nodes; the second has a route more.
 const EIGHT: &[NodeRow] = &[
     NodeRow(b"a", 1, &[HEARD, HEARD_TOO]),
     NodeRow(
@@ -248,7 +248,7 @@ const SIZES: [usize; 9] = [
     39_000, 39_001, 39_002, 39_003, 39_004, 39_005, 39_006, 39_007, 39_008,
 ];
 
-/// These disks, of which the one of the node with this number fails at this call.
+/// These disks; that of the node with this number fails at this call.
 fn failing(alloc: Global, number: u8, call: u64) -> Result<Vec<MemDisk>, Fail> {
     let mut made = disks(alloc, &SIZES)?;
     let place = usize::from(number).saturating_sub(1);
@@ -259,7 +259,7 @@ fn failing(alloc: Global, number: u8, call: u64) -> Result<Vec<MemDisk>, Fail> {
     Ok(made)
 }
 
-/// A start over them, and one over the same disks behind it.
+/// A start over them, and one over the same disks after it.
 fn fails_and_starts(
     rt: &impl Abort,
     alloc: Global,

@@ -28,8 +28,7 @@ fn standing(alloc: Global, kind: Kind) -> Result<Vec<MemDisk>, Fail> {
     }
 }
 
-/// The bytes of the disks of a bus with stores of version 1, and the store of the second when it was moved to version
-/// 2.
+/// The bytes of the disks of a bus with stores of version 1, and the second's store after its move to version 2.
 #[derive(Drop)]
 struct Laid {
     first: [u8; SIZE],
@@ -73,7 +72,7 @@ fn lay(alloc: Global, bus: &BusConfig) -> Result<Laid, Fail> {
     })
 }
 
-/// The disks with the stores of version 1, of which the second stops at this call.
+/// The disks with the stores of version 1; the second stops at this call.
 fn stopping(alloc: Global, laid: &Laid, call: u64) -> Result<Vec<MemDisk>, Fail>
     requires { 1 ≤ call }
 {
@@ -121,8 +120,8 @@ fn is_moved(
     Ok(())
 }
 
-/// Starts over stores of this kind, of which the second disk has so many calls: a look of two calls, a move, and all
-/// reads. They stop at each call, and the power is cut in each of these ways.
+/// Starts over stores of this kind. The second disk has so many calls: a look of two calls, a move, and all reads. They
+/// stop at each call, and the power is cut in each of these ways.
 fn stops(rt: &impl Abort, alloc: Global, kind: Kind, calls: u16, cuts: &[Torn]) -> Result<(), Fail>
     requires { calls ≤ 1000 }
 {

@@ -1,5 +1,5 @@
-//! NIST's known-answer tests for AES-128 (AESAVS, appendices B to E), as the validation programme gives them: each
-//! block under each key is encrypted by both bodies, and decrypted.
+//! NIST's known-answer tests for AES-128 (AESAVS, appendices B to E), as the validation programme gives them. Each of
+//! the three ciphers encrypts each block under each key, and it is decrypted.
 use crate::blocks::agrees;
 use crate::comparing::holds;
 

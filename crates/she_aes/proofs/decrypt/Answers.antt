@@ -1,27 +1,20 @@
-use Rattle.std.proofs.Common.{◌∙◌, refl, sym, ap, lit<}
-use Rattle.she_aes.specs.Cipher.{add_round_key, round_keys, inv_sub_bytes, inv_shift_rows, inv_mix_columns}
-use Rattle.she_aes.proofs.KeyWords.{get_or-round_keys, round_keys-head}
-use Rattle.she_aes.proofs.RoundSteps.{middle_key, last_key, all_undone}
+use Rattle.she_aes.proofs.Choices.{added_by_shuffles, plain_by_words, plain_by_tables}
 use Rattle.she_aes.proofs.decrypt.Goals as goal
 
-pub returns-clause-value : goal.returns-clause-value
-returns-clause-value c =
-    let key = c.args.schedule.now in
-    let block = c.args.block.now in
+pub returns-in-Shuffles-clause-value : goal.returns-in-Shuffles-clause-value
+returns-in-Shuffles-clause-value c =
     let are = rw c.schedule.view_is at c.schedule.invariant in
-    let k10 = last_key key block c.schedule.inside.added are c.last_key_of-k10.ensures ∙ sym (get_or-round_keys key 10 (lit< tt)) in
-    let k9 = middle_key key block c.schedule.inside.added are 8 (lit< tt) c.key_of.ensures ∙ sym (get_or-round_keys key 9 (lit< tt)) in
-    let k8 = middle_key key block c.schedule.inside.added are 7 (lit< tt) c.key_of-2.ensures ∙ sym (get_or-round_keys key 8 (lit< tt)) in
-    let k7 = middle_key key block c.schedule.inside.added are 6 (lit< tt) c.key_of-3.ensures ∙ sym (get_or-round_keys key 7 (lit< tt)) in
-    let k6 = middle_key key block c.schedule.inside.added are 5 (lit< tt) c.key_of-4.ensures ∙ sym (get_or-round_keys key 6 (lit< tt)) in
-    let k5 = middle_key key block c.schedule.inside.added are 4 (lit< tt) c.key_of-5.ensures ∙ sym (get_or-round_keys key 5 (lit< tt)) in
-    let k4 = middle_key key block c.schedule.inside.added are 3 (lit< tt) c.key_of-6.ensures ∙ sym (get_or-round_keys key 4 (lit< tt)) in
-    let k3 = middle_key key block c.schedule.inside.added are 2 (lit< tt) c.key_of-7.ensures ∙ sym (get_or-round_keys key 3 (lit< tt)) in
-    let k2 = middle_key key block c.schedule.inside.added are 1 (lit< tt) c.key_of-8.ensures ∙ sym (get_or-round_keys key 2 (lit< tt)) in
-    let k1 = middle_key key block c.schedule.inside.added are 0 (lit< tt) c.key_of-9.ensures ∙ sym (get_or-round_keys key 1 (lit< tt)) in
-    let k0 = c.schedule.view_is ∙ sym (round_keys-head key are.key_is_block.size) in
-    let last = (rw c.bytes.ensures.value at c.undo_last_round-s9.ensures) ∙ ap (λ k. inv_sub_bytes (inv_shift_rows (add_round_key k block))) k10 in
-    c.of.ensures.value ∙ all_undone key block (round_keys key) refl last (c.undo_round-s8.ensures ∙ ap (λ k. inv_sub_bytes (inv_shift_rows (inv_mix_columns (add_round_key k c.undo_last_round-s9.result)))) k9) (c.undo_round-s7.ensures ∙ ap (λ k. inv_sub_bytes (inv_shift_rows (inv_mix_columns (add_round_key k c.undo_round-s8.result)))) k8) (c.undo_round-s6.ensures ∙ ap (λ k. inv_sub_bytes (inv_shift_rows (inv_mix_columns (add_round_key k c.undo_round-s7.result)))) k7) (c.undo_round-s5.ensures ∙ ap (λ k. inv_sub_bytes (inv_shift_rows (inv_mix_columns (add_round_key k c.undo_round-s6.result)))) k6) (c.undo_round-s4.ensures ∙ ap (λ k. inv_sub_bytes (inv_shift_rows (inv_mix_columns (add_round_key k c.undo_round-s5.result)))) k5) (c.undo_round-s3.ensures ∙ ap (λ k. inv_sub_bytes (inv_shift_rows (inv_mix_columns (add_round_key k c.undo_round-s4.result)))) k4) (c.undo_round-s2.ensures ∙ ap (λ k. inv_sub_bytes (inv_shift_rows (inv_mix_columns (add_round_key k c.undo_round-s3.result)))) k3) (c.undo_round-s1.ensures ∙ ap (λ k. inv_sub_bytes (inv_shift_rows (inv_mix_columns (add_round_key k c.undo_round-s2.result)))) k2) (c.undo_round-s0.ensures ∙ ap (λ k. inv_sub_bytes (inv_shift_rows (inv_mix_columns (add_round_key k c.undo_round-s1.result)))) k1) (c.add_round_key.ensures ∙ ap (λ k. add_round_key k c.undo_round-s0.result) k0)
+    let made = added_by_shuffles are c.in-Shuffles.ensures in
+    rw c.schedule.view_is at c.decrypted.ensures.value made
 
-pub returns-clause-of_blocks : goal.returns-clause-of_blocks
-returns-clause-of_blocks c = (rw c.schedule.view_is at c.schedule.invariant.key_is_block, c.bytes.ensures.is_block)
+pub returns-in-Words-clause-value : goal.returns-in-Words-clause-value
+returns-in-Words-clause-value c =
+    let are = rw c.schedule.view_is at c.schedule.invariant in
+    let made = plain_by_words are c.in-Words.ensures in
+    rw c.schedule.view_is at c.decrypted_plain.ensures.value made
+
+pub returns-in-Tables-clause-value : goal.returns-in-Tables-clause-value
+returns-in-Tables-clause-value c =
+    let are = rw c.schedule.view_is at c.schedule.invariant in
+    let made = plain_by_tables are c.in-Tables.ensures in
+    rw c.schedule.view_is at c.decrypted_plain-in-Tables.ensures.value made

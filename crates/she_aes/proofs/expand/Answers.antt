@@ -9,7 +9,8 @@ are_block c = subst IsBlock (sym c.bytes-bytes.ensures.value) c.bytes-bytes.ensu
 
 pub invariant_of-result : goal.invariant_of-result
 invariant_of-result c =
-    record { of_key = c.added_keys.ensures; key_is_block = are_block (goal.at.invariant_of-result c).After-bytes-bytes }
+    let block = are_block (goal.at.invariant_of-result c).After-bytes-bytes in
+    record { of_key = c.keys_of.ensures block; key_is_block = block }
 
 pub returns : goal.returns
 returns c = record { value = c.bytes-bytes.ensures.value; is_block = are_block (goal.at.returns c).After-bytes-bytes }

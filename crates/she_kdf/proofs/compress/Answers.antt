@@ -1,6 +1,6 @@
 use Rattle.std.proofs.Common.{arith, ◌<◌, length}
 use Rattle.std.proofs.lemmas.List.Elements.{All-more}
-use Rattle.byte_lists.specs.Blocks.{IsBlock}
+use Rattle.basics.specs.Blocks.{IsBlock}
 use Rattle.she_kdf.proofs.Outputs.{output_more}
 use Rattle.she_kdf.proofs.compress.Goals as goal
 

@@ -1,5 +1,5 @@
 use Rattle.std.proofs.Common.{◌≡◌, take, All}
-use Rattle.byte_lists.specs.Blocks.{IsBlock}
+use Rattle.basics.specs.Blocks.{IsBlock}
 use Rattle.she_kdf.specs.Derivation.{miyaguchi_preneel}
 use Rattle.she_kdf.proofs.compress.Given as goal
 

@@ -1,5 +1,5 @@
 use Rattle.std.proofs.lemmas.Result.{err_from_is_err_and}
-use Rattle.bus_inputs.specs.Scripts.{no_lines}
+use Rattle.bus_programs.specs.Scripts.{no_lines}
 use Rattle.bus_commands.proofs.Preparing.{FindsScript-read}
 use Rattle.bus_commands.proofs.inputs.script_from.Goals as goal
 

@@ -1,11 +1,12 @@
 use Rattle.std.proofs.Common.{ap, subst, ◌∙◌}
 use Rattle.cell_store.specs.Cells.{CellsState}
-use Rattle.numbered_run.specs.Printed.{Printed}
+use Rattle.run_driver.specs.Printed.{Printed}
 use Rattle.key_campaign.specs.State.{LedgerState}
-use Rattle.campaign_texts.specs.LedgerTexts.{ledger_line_text}
+use Rattle.campaign_commands.specs.LedgerTexts.{ledger_line_text}
 use Rattle.campaign_commands.specs.Turns.{LedgerTurn}
 use Rattle.campaign_commands.specs.Headline.{RanCampaign}
 use Rattle.campaign_commands.specs.Steps.{first_done}
+use Rattle.campaign_commands.proofs.OneRun.{ledger_stays}
 use Rattle.campaign_commands.proofs.campaign.over_ledger.Goals as goal
 
 pub returns : goal.returns
@@ -22,5 +23,6 @@ returns g c = λ before opened.
     first_done c.print_run-printed.result (record {
       ran = ran;
       status_is = c.status_of_run.ensures;
+      stay = ledger_stays before _ _ _ _ _ ran;
       one_run = c.campaigns_are_runs.ensures before _ _ _ _ _ ran;
     })

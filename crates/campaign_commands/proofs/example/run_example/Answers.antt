@@ -6,8 +6,8 @@ use Rattle.bus_port.specs.MemSource.{CleanSourceState, clean_source}
 use Rattle.cut_disk.specs.Memory.{disk_of}
 use Rattle.cut_disk.specs.MemDisk.{contents}
 use Rattle.cut_disk.specs.declared.mem_disk.MemDisk.{MemDisk}
-use Rattle.answer_rows.specs.Inputs.{Reading}
-use Rattle.answer_rows.specs.InputLaws.{Offers-clean}
+use Rattle.program_edge.specs.Inputs.{Reading}
+use Rattle.program_edge.specs.InputLaws.{Offers-clean}
 use Rattle.campaign_commands.specs.declared.example.TheConstants.{EXAMPLE}
 use Rattle.campaign_commands.specs.Rows.{CampaignDisks, AreTwo}
 use Rattle.campaign_commands.proofs.Known.{campaigns_known}

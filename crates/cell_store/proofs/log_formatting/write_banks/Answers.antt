@@ -1,4 +1,4 @@
--- One bank behind the other, and then a sync.
+-- One bank after the other, and then a sync.
 use Rattle.std.proofs.Common.{◌≡◌, ◌+◌, ◌*◌, ◌∙◌, ◌∷◌, sym, length, replicate, arith}
 use Rattle.std.proofs.lemmas.Result.{on_ok_weaker, on_err_weaker}
 use Rattle.cut_disk.specs.CallLaws.{runs_then, runs_join, runs_more, grows_after, grows_of_call}

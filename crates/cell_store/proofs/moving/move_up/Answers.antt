@@ -4,7 +4,8 @@ use Rattle.cut_disk.specs.CallLaws.{runs_join, runs_more, grows_after, grows_the
 use Rattle.cell_store.specs.ReadOrder.{reads, reads_to}
 use Rattle.cell_store.specs.Moving.{move_calls}
 use Rattle.cell_store.proofs.TwinSteps.{leaves-runs}
-use Rattle.cell_store.proofs.MovingLaws.{kept-same, below-same, leaves-told, damaged-unmoved, only-disk, one-read, not-two, second-unmoved, read-moves, torn-counted, fresh-counted, fresh-below, fresh-moves}
+use Rattle.cell_store.proofs.ReadingLaws.{leaves-told}
+use Rattle.cell_store.proofs.MovingLaws.{kept-same, below-same, damaged-unmoved, only-disk, one-read, not-two, second-unmoved, read-moves, torn-counted, fresh-counted, fresh-below, fresh-moves}
 use Rattle.cell_store.proofs.moving.move_up.Goals as goal
 
 pub returns-in-Ok-clause-runs : goal.returns-in-Ok-clause-runs

@@ -1,6 +1,6 @@
 use Rattle.std.proofs.Common.{◌∙◌, ap, sym, subst}
 use Rattle.std.specs.Prelude.{Option, List}
-use Rattle.answer_rows.specs.Rows.{row_of}
+use Rattle.program_edge.specs.Rows.{row_of}
 use Rattle.bus_machine.specs.declared.lines.Line.{Line}
 use Rattle.chart_commands.specs.Steps.{ToldOfLines, no_chart, kept_lines}
 use Rattle.chart_commands.proofs.Drawing.{told_as_chart}

@@ -1,6 +1,6 @@
 use Rattle.std.proofs.Common.{◌≡◌, map, refl}
-use Rattle.answer_rows.specs.Endings.{Ending, EndsInRow}
-use Rattle.answer_rows.specs.EndingLaws.{EndsInRow-more}
+use Rattle.program_edge.specs.Endings.{Ending, EndsInRow}
+use Rattle.program_edge.specs.EndingLaws.{EndsInRow-more}
 use Rattle.bus_world.specs.StartAnswers.{DiskStates}
 use Rattle.bus_world.specs.StartAnswerLaws.{same_known}
 use Rattle.chart_commands.specs.Steps.{AnswersChart}

@@ -1,4 +1,4 @@
--- Two calls, or one where the write failed.
+-- Two calls, or one if the write failed.
 use Rattle.std.proofs.Common.{arith}
 use Rattle.cut_disk.specs.CallLaws.{runs_of_call, runs_then, runs_more}
 use Rattle.cut_disk.proofs.lasting.write_and_sync.Goals as goal

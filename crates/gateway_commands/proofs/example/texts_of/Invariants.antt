@@ -1,4 +1,4 @@
--- the words so far are those of the texts so far
+-- the arguments so far are those of the texts so far
 use Rattle.std.proofs.Common.{◌≡◌, map, take}
 use Rattle.std.specs.Prelude.{string_bytes}
 use Rattle.gateway_commands.proofs.example.texts_of.Given as goal

@@ -4,7 +4,7 @@ use Rattle.secoc_node.specs.State.{NodeState}
 use Rattle.bus_world.specs.Starts.{disks_of}
 use Rattle.bus_world.specs.declared.start.Start.TheVariants.{Format}
 use Rattle.bus_world.specs.StartAnswerLaws.{Comes-unstarted}
-use Rattle.bus_inputs.specs.EventLaws.{all_can_be_done}
+use Rattle.bus_programs.specs.EventLaws.{all_can_be_done}
 use Rattle.gateway_commands.specs.Steps.{refused_start, first_done}
 use Rattle.bus_world.specs.StartRowLaws.{no_disk}
 use Rattle.gateway_commands.proofs.OneNode.{last_one, none_left, one_node, good_pairs, ran_gateway}

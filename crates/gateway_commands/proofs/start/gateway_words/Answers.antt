@@ -1,18 +1,41 @@
-use Rattle.std.proofs.Common.{map, refl}
+use Rattle.std.proofs.Common.{◌≢◌, ℕ, map, refl, sym, subst, inl}
 use Rattle.std.specs.Prelude.{string_bytes}
-use Rattle.named_sources.specs.NamedSources.{word_source}
+use Rattle.program_edge.specs.NamedSources.{word_source}
+use Rattle.bus_programs.specs.Inputs.{BusInputs, inputs_of}
+use Rattle.gateway_commands.specs.Named.{ran_words, ran_nothing}
+use Rattle.gateway_commands.proofs.OfWords.{example_starts, words_usage_only, words_start, given_to_named, wanted_for_named}
 use Rattle.gateway_commands.proofs.start.gateway_words.Goals as goal
 
-pub returns-clause-named : goal.returns-clause-named
-returns-clause-named g c some =
-    let state = word_source g.O.Opened.Source.state g.I.Source.state in (
-      record {
-        words = map string_bytes c.args.words.now;
-        config = record { before = state c.open_inputs-config.result.0; after = state c.run_gateway-status.new.config };
-        script = record { before = state c.open_inputs-config.result.1; after = state c.run_gateway-status.new.script };
-      },
-      c.open_inputs-config.ensures _ _,
-      refl,
-      refl,
-      c.run_gateway-status.ensures,
-    )
+pub returns-then-is_empty-clause-starts : goal.returns-then-is_empty-clause-starts
+returns-then-is_empty-clause-starts g c =
+    subst (λ (n : ℕ). (n ≢ 9) × (n ≢ 10)) (sym c.unopened.ensures.status) (example_starts _ c.run_example.ensures)
+
+pub returns-in_default-clause-words : goal.returns-in_default-clause-words
+returns-in_default-clause-words g c =
+    ran_nothing (inl (wanted_for_named _ _ _ c.source_words.ensures c.in_default.ensures.wanted)) (record {
+      status_is = c.unopened-in_default.ensures.status;
+      unwritten = refl;
+      unopened = refl;
+      config_missing = c.unopened-in_default.ensures.config;
+      script_missing = c.unopened-in_default.ensures.script;
+    })
+
+pub returns-in_default-clause-usage_only : goal.returns-in_default-clause-usage_only
+returns-in_default-clause-usage_only g c = words_usage_only _ _ _ _ _ _ (returns-in_default-clause-words g c)
+
+pub returns-clause-words : goal.returns-clause-words
+returns-clause-words g c =
+    let state = word_source g.O.Opened.Source.state g.I.Source.state in
+    let i : BusInputs = inputs_of (map string_bytes c.args.words.now) (state c.open_both-config.result.0) (state c.run_gateway-status.new.config)
+    (state c.open_both-config.result.1) (state c.run_gateway-status.new.script) in
+    ran_words _ _ c.source_words.ensures i refl (record { named = c.open_both-config.ensures.named; left = c.open_both-config.ensures.left })
+    (record { config = refl; script = refl })
+    (record {
+      made = c.in-Ok.disks;
+      left = c.run_gateway-status.new.disks;
+      given = λ asks. c.in-Ok.ensures.given (given_to_named _ _ _ c.source_words.ensures asks);
+      runs = c.run_gateway-status.ensures;
+    })
+
+pub returns-clause-starts : goal.returns-clause-starts
+returns-clause-starts g c = words_start _ _ _ _ _ _ (returns-clause-words g c)

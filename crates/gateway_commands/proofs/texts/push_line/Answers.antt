@@ -1,7 +1,7 @@
 use Rattle.std.proofs.Common.{[], ◌∷◌}
 use Rattle.std.specs.Prelude.{codes}
 use Rattle.std.proofs.lemmas.Result.{on_ok_weaker}
-use Rattle.byte_lists.specs.Numbers.{bytes_of}
+use Rattle.basics.specs.Numbers.{bytes_of}
 use Rattle.hex.specs.Hex.{encode_lower}
 use Rattle.gateway_commands.proofs.Lines.{two_parts}
 use Rattle.gateway_commands.proofs.texts.push_line.Goals as goal

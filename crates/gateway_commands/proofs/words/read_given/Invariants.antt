@@ -1,4 +1,4 @@
--- the words so far are those of the pairs at the front
+-- the arguments so far are those of the pairs at the beginning
 use Rattle.std.specs.Prelude.{◌≡◌, ℕ, ◌<◌, [], length, map, string_bytes, Some, slice_index_or}
 use Rattle.secoc_gateway.specs.Pairs.{pair_in}
 use Rattle.gateway_commands.specs.Words.{pair_form}

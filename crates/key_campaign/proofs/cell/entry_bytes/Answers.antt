@@ -1,6 +1,6 @@
 use Rattle.std.proofs.Common.{refl, ◌∙◌}
 use Rattle.std.proofs.Math.Nat.{div-one}
-use Rattle.byte_lists.specs.Numbers.{bytes_of}
+use Rattle.basics.specs.Numbers.{bytes_of}
 use Rattle.key_campaign.specs.Cell.{place_cell}
 use Rattle.key_campaign.proofs.Parts.{from_bool}
 use Rattle.key_campaign.proofs.cell.entry_bytes.Goals as goal

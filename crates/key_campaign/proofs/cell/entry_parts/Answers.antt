@@ -1,8 +1,8 @@
--- The parts of the cell of an entry, where it is one.
+-- The parts of the cell of an entry, if it is one.
 use Rattle.std.proofs.Common.{◌≡◌, ◌^◌, ◌<◌, ◌∷◌, [], List, ℕ, refl, sym, get_or, ◌∙◌, arith}
 use Rattle.std.specs.Prelude.{Bool, Some, nat_eq}
-use Rattle.byte_lists.specs.NumberLaws.{from_be_bytes-32}
-use Rattle.campaign_machine.specs.declared.entries.LedgerEntry.{LedgerEntry}
+use Rattle.basics.specs.NumberLaws.{from_be_bytes-32}
+use Rattle.key_campaign.specs.declared.entries.LedgerEntry.{LedgerEntry}
 use Rattle.key_campaign.proofs.Parts.{uid_is, id_is, counter_is, state_is, told_bit}
 use Rattle.key_campaign.proofs.cell.entry_parts.Goals as goal
 

@@ -1,6 +1,6 @@
 use Rattle.std.proofs.Common.{◌≡◌, ℕ, ◌<◌, get_or, false}
 use Rattle.std.specs.Prelude.{None}
-use Rattle.campaign_machine.specs.Entries.{is_of}
+use Rattle.key_campaign.specs.Entries.{is_of}
 use Rattle.key_campaign.proofs.places.find_in.Given as goal
 
 abbrev pub invariant-loop-place : goal.invariant-loop-place

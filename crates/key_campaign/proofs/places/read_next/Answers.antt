@@ -1,7 +1,7 @@
 use Rattle.std.proofs.Common.{◌≡◌, ◌<◌, ◌+◌, List, ℕ, set, take, refl, sym, ap, subst, ◌∙◌, arith, true≢false}
 use Rattle.std.specs.Prelude.{Option, None, Some, IsTrue, false}
-use Rattle.campaign_machine.specs.declared.entries.LedgerEntry.{LedgerEntry}
-use Rattle.campaign_machine.specs.Entries.{place_count, place_for}
+use Rattle.key_campaign.specs.declared.entries.LedgerEntry.{LedgerEntry}
+use Rattle.key_campaign.specs.Entries.{place_count, place_for}
 use Rattle.key_campaign.specs.Cell.{HoldsPlace}
 use Rattle.key_campaign.specs.Places.{ReadSoFar}
 use Rattle.key_campaign.proofs.PlacesSoFar.{empty_read, entry_read, bad_read, repeated_read}

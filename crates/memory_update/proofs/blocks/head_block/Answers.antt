@@ -1,5 +1,5 @@
 use Rattle.std.proofs.Common.{◌≡◌, ℕ, ◌+◌, ◌*◌, ◌<◌, List, [], ◌∷◌, ◌++◌, sym, ap, ◌∙◌, arith}
-use Rattle.byte_lists.specs.Numbers.{bytes_of}
+use Rattle.basics.specs.Numbers.{bytes_of}
 use Rattle.memory_update.specs.Messages.{head_number, IsUid}
 use Rattle.memory_update.specs.MessageLaws.{head_bytes}
 use Rattle.memory_update.proofs.blocks.head_block.Goals as goal

@@ -1,6 +1,6 @@
 use Rattle.std.proofs.Common.{length, ap, ◌∙◌}
-use Rattle.byte_lists.specs.Numbers.{number_of}
-use Rattle.byte_lists.specs.NumberLaws.{from_be_bytes-128}
+use Rattle.basics.specs.Numbers.{number_of}
+use Rattle.basics.specs.NumberLaws.{from_be_bytes-128}
 use Rattle.memory_update.proofs.blocks.word_of.Goals as goal
 
 pub returns : goal.returns

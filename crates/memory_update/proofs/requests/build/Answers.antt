@@ -1,7 +1,7 @@
 use Rattle.std.proofs.Common.{◌≡◌, ℕ, ◌+◌, ◌*◌, ◌^◌, ◌<◌, List, [], ◌∷◌, sym, ap, ◌∙◌, arith}
 use Rattle.std.proofs.lemmas.List.Elements.{All-head, All-tail}
-use Rattle.byte_lists.specs.Numbers.{bytes_of}
-use Rattle.byte_lists.specs.Blocks.{IsBlock}
+use Rattle.basics.specs.Numbers.{bytes_of}
+use Rattle.basics.specs.Blocks.{IsBlock}
 use Rattle.she_aes.specs.Modes.{cbc}
 use Rattle.key_slots.specs.Flags.{flags_number}
 use Rattle.memory_update.specs.Messages.{two_blocks, plain}

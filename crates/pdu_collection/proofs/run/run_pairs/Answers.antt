@@ -1,5 +1,5 @@
-use Rattle.answer_rows.specs.EndingLaws.{EndsInRow-more}
-use Rattle.answer_rows.specs.Endings.{EndsInRow}
+use Rattle.program_edge.specs.EndingLaws.{EndsInRow-more}
+use Rattle.program_edge.specs.Endings.{EndsInRow}
 use Rattle.pdu_collection.specs.Steps.{DoesPairs}
 use Rattle.pdu_collection.proofs.Phases.{Comes-does}
 use Rattle.pdu_collection.proofs.Promises.{RunsPairs-row}

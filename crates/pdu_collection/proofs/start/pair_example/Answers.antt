@@ -2,8 +2,8 @@ use Rattle.std.proofs.Common.{◌∙◌, length, map, ap, refl}
 use Rattle.std.proofs.lemmas.List.{length-map}
 use Rattle.std.specs.Prelude.{string_bytes, Some}
 use Rattle.bus_port.specs.MemSource.{CleanSourceState, clean_source}
-use Rattle.answer_rows.specs.Inputs.{Reading}
-use Rattle.answer_rows.specs.InputLaws.{Offers-clean}
+use Rattle.program_edge.specs.Inputs.{Reading}
+use Rattle.program_edge.specs.InputLaws.{Offers-clean}
 use Rattle.pdu_collection.specs.Rows.{NamesInput}
 use Rattle.pdu_collection.specs.declared.start.TheConstants.{EXAMPLE}
 use Rattle.pdu_collection.proofs.Example.{short_example, no_example}

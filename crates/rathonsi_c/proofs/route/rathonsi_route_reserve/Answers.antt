@@ -1,20 +1,35 @@
-use Rattle.std.proofs.Common.{inl, inr, refl, subst, rules}
-use Rattle.freshness_routes.specs.declared.routes.Direction.{Direction}
-use Rattle.rathonsi_c.specs.Images.{ImageBound}
-use Rattle.rathonsi_c.proofs.ImageLaws.{one_direction}
+use Rattle.std.proofs.Common.{◌≡◌, inl, inr, arith, rules}
+use Rattle.rathonsi_c.proofs.ImageLaws.{bound_alone}
+use Rattle.rathonsi_c.proofs.AnswerLaws.{damaged_keeps_none}
 use Rattle.rathonsi_c.proofs.route.rathonsi_route_reserve.Goals as goal
 
-pub returns-in_default-bound_of-clause-answer : goal.returns-in_default-bound_of-clause-answer
-returns-in_default-bound_of-clause-answer c =
+pub returns-clause-answer : goal.returns-clause-answer
+returns-clause-answer c =
     let r = c.args.route.now in
+    let image = c.args.image.now in
+    let in_use = c.in-Ok.ensures.kept.0 in
+    let kept = c.in-Ok.ensures.kept.1 in
+    let direction = c.in-Ok.kept.direction in
+    let bound = c.in-Ok.kept.bound in
     inr (
-      search rules,
+      (λ busy. busy c.in-Ok.ensures.empty),
       inr (
-        (λ out. out c.in-Some.direction c.in-Some.ensures.some),
-        inl (
-          (λ d ranges bound kept.
-              c.in_default-bound_of.ensures.none bound (subst (λ (q : Direction). ImageBound c.args.image.now c.args.route.now.cell c.args.route.now.data_id q bound) (one_direction r d c.in-Some.direction ranges c.in-Some.ensures.some) kept)),
-          refl,
+        (λ bad. elim bad [ inl out ↦ out direction in_use.ranges | inr closed ↦ closed in_use.opened ]),
+        inr (
+          (λ others. (others direction in_use.ranges).no_bound bound kept),
+          inr (
+            (λ damaged. damaged_keeps_none image r.cell r.data_id direction bound damaged kept),
+            inr (
+              (λ far.
+                  let same : far.bound ≡ bound = bound_alone image r.cell r.data_id far.direction direction far.bound bound far.kept kept in
+                  let ahead = far.far in
+                  let near = c.if-freshness-saturating_add.false in
+                  let sum = c.saturating_add.ensures in
+                  let fits = c.ranges.freshness.fits in
+                  omega arith),
+              search rules,
+            ),
+          ),
         ),
       ),
     )

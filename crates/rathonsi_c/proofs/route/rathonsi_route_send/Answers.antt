@@ -13,6 +13,6 @@ returns-in-Err-clause-answer c = inr (
 pub returns-clause-answer : goal.returns-clause-answer
 returns-clause-answer c = inr (
   search rules,
-  done_send c.args.route.now c.args.image.now c.in-Ok.sending.key c.in-Ok.ensures.covered.bound _ (record { ranges = c.in-Ok.ensures.ranges; kept = c.in-Ok.ensures.covered.kept; keyed = c.in-Ok.ensures.key })
+  done_send c.args.route.now c.args.image.now c.in-Ok.sending.key c.in-Ok.ensures.covered.bound _ (record { ranges = c.in-Ok.ensures.in_use.ranges; opened = c.in-Ok.ensures.in_use.opened; kept = c.in-Ok.ensures.covered.kept; keyed = c.in-Ok.ensures.key })
       (let n = c.in-Ok.ensures.next in let k = c.in-Ok.ensures.covered.covers in omega arith) refl,
 )

@@ -1,12 +1,13 @@
 use Rattle.std.specs.Prelude.{◌≡◌, None, Err}
-use Rattle.std.proofs.Common.{refl, ap, arith, take}
+use Rattle.std.proofs.Common.{◌∙◌, refl, ap, arith, take}
 use Rattle.std.proofs.lemmas.Result.{IfErr-at_err}
 use Rattle.cut_disk.specs.CallLaws.{runs_join, runs_more}
 use Rattle.bus_machine.specs.declared.lines.Line.TheVariants.{Sent, Accepted, FreshnessFailure, VerificationFailure, Refused}
 use Rattle.bus_machine.specs.Steps.{sends, receives}
 use Rattle.secoc_node.specs.declared.faults.NodeFault.{NodeFault}
 use Rattle.secoc_node.specs.Lines.{refusal_of_fault}
-use Rattle.secoc_gateway.proofs.Arriving.{reason_of, brought_line, in_time, forwards_right, drops_not, refuses_not}
+use Rattle.secoc_node.specs.State.{NodeState}
+use Rattle.secoc_gateway.proofs.Arriving.{ok_down, err_down, drop_rose, drop_same, refuse_rose, refuse_same, reason_of, brought_line, in_time, forwards_right, drops_not, refuses_not}
 use Rattle.bus_world.proofs.CallerLemmas.{calm_turn, sends_no_cut, receives_no_cut, faults_told, alone_told, unmoved_by}
 use Rattle.secoc_gateway.proofs.passing.pass_on.Goals as goal
 
@@ -52,15 +53,23 @@ returns-in-Ok-clause-forwards g c payload v can =
     (c.in-Ok-Accepted.ensures.honest (brought_line c.args.id c.args.pdu.now payload v) None refl refl
     (in_time c.args.node.now c.args.id c.args.second c.args.pdu.now payload v c.requires.receives can) can.accepted.0.fits))
 
-pub returns-in-Ok-clause-runs : goal.returns-in-Ok-clause-runs
-returns-in-Ok-clause-runs g c = runs_join c.receive.ensures.serves.runs c.send.ensures.serves.runs
-
-pub returns-in-Ok-clause-fits : goal.returns-in-Ok-clause-fits
-returns-in-Ok-clause-fits g c = λ fits. c.send.ensures.serves.fits (c.receive.ensures.serves.fits fits)
-
 pub returns-in-Ok-clause-arrival_covered : goal.returns-in-Ok-clause-arrival_covered
 returns-in-Ok-clause-arrival_covered g c =
     c.send.ensures.others c.args.id c.in-Ok-Accepted.freshness (rw c.in-Ok-Accepted.field-0-is at c.in-Ok-Accepted.ensures.covered)
+
+pub returns-in-Ok-clause-serves : goal.returns-in-Ok-clause-serves
+returns-in-Ok-clause-serves g c =
+    record {
+      down = ok_down _ _ _ c.in-Ok-Accepted.ensures.serves.down;
+      routed = λ none. cc;
+      reason = tt;
+      faulted = λ e. absurd e;
+      faults = λ _. c.in-Ok.ensures.serves.faults ∙ c.in-Ok-Accepted.ensures.serves.faults;
+      layout = c.send.ensures.serves.layout ∙ c.receive.ensures.serves.layout;
+      runs = runs_join c.receive.ensures.serves.runs c.send.ensures.serves.runs;
+      fits = λ fits. c.send.ensures.serves.fits (c.receive.ensures.serves.fits fits);
+      sound = c.send.ensures.serves.sound;
+    }
 
 -- ---- it didn't
 
@@ -94,12 +103,6 @@ returns-in-Err-send-clause-turn g c place = record {
   );
 }
 
-pub returns-in-Err-send-clause-reason : goal.returns-in-Err-send-clause-reason
-returns-in-Err-send-clause-reason g c =
-    reason_of c.args.node.now.node c.receive.new.self.node c.args.id c.args.second c.args.pdu.now (take c.in-Ok-Accepted.len c.args.pdu.now) c.in-Ok-Accepted.freshness None
-    (rw c.in-Ok-Accepted.field-0-is at (c.in-Ok-Accepted.ensures.step None)) c.requires.sends c.in-Err-send.fault c.send.new.self.node
-    (rw c.front-payload.ensures at c.in-Err-send.ensures.step)
-
 pub returns-in-Err-send-clause-forwards : goal.returns-in-Err-send-clause-forwards
 returns-in-Err-send-clause-forwards g c payload v can =
     drops_not c.args.node.now c.receive.new.self c.send.new.self c.args.id c.args.second c.args.pdu.now (take c.in-Ok-Accepted.len c.args.pdu.now) payload
@@ -108,11 +111,24 @@ returns-in-Err-send-clause-forwards g c payload v can =
     (rw c.front-payload.ensures at c.in-Err-send.ensures.step)
     c.receive.ensures.serves.runs c.send.ensures.serves.runs (λ e. c.in-Err-send.ensures.serves.faulted (ap Err e)) can
 
-pub returns-in-Err-send-clause-runs : goal.returns-in-Err-send-clause-runs
-returns-in-Err-send-clause-runs g c = runs_join c.receive.ensures.serves.runs c.send.ensures.serves.runs
-
-pub returns-in-Err-send-clause-fits : goal.returns-in-Err-send-clause-fits
-returns-in-Err-send-clause-fits g c = λ fits. c.send.ensures.serves.fits (c.receive.ensures.serves.fits fits)
+pub returns-in-Err-send-clause-serves : goal.returns-in-Err-send-clause-serves
+returns-in-Err-send-clause-serves g c =
+    record {
+      down = ok_down _ _ _ c.in-Ok-Accepted.ensures.serves.down;
+      routed = λ none. cc;
+      reason =
+          reason_of c.args.node.now.node c.receive.new.self.node c.args.id c.args.second c.args.pdu.now (take c.in-Ok-Accepted.len c.args.pdu.now) c.in-Ok-Accepted.freshness None
+          (rw c.in-Ok-Accepted.field-0-is at (c.in-Ok-Accepted.ensures.step None)) c.requires.sends c.in-Err-send.fault c.send.new.self.node
+          (rw c.front-payload.ensures at c.in-Err-send.ensures.step);
+      faulted = drop_rose c.in-Ok-Accepted.freshness c.in-Err-send.fault c.args.node.now.store.disk.faults c.receive.new.self.store.disk.faults c.send.new.self.store.disk.faults c.in-Ok-Accepted.ensures.serves.faults
+          (λ e. c.in-Err-send.ensures.serves.faulted (ap Err e));
+      faults = drop_same c.in-Ok-Accepted.freshness c.in-Err-send.fault c.args.node.now.store.disk.faults c.receive.new.self.store.disk.faults c.send.new.self.store.disk.faults c.in-Ok-Accepted.ensures.serves.faults
+          (λ apart. ap (λ (s : NodeState). s.store.disk.faults) (c.in-Err-send.ensures.untouched apart));
+      layout = c.send.ensures.serves.layout ∙ c.receive.ensures.serves.layout;
+      runs = runs_join c.receive.ensures.serves.runs c.send.ensures.serves.runs;
+      fits = λ fits. c.send.ensures.serves.fits (c.receive.ensures.serves.fits fits);
+      sound = c.send.ensures.serves.sound;
+    }
 
 -- ---- nothing was accepted
 
@@ -197,10 +213,47 @@ returns-in-Err-clause-forwards g c payload v can =
     (c.in-Err.ensures.honest (brought_line c.args.id c.args.pdu.now payload v) None refl refl
     (in_time c.args.node.now c.args.id c.args.second c.args.pdu.now payload v c.requires.receives can) can.accepted.0.fits)
 
-pub returns-in-Err-clause-runs : goal.returns-in-Err-clause-runs
-returns-in-Err-clause-runs g c = runs_more 12 (omega arith) c.receive.ensures.serves.runs
+pub returns-in-Ok-FreshnessFailure-clause-serves : goal.returns-in-Ok-FreshnessFailure-clause-serves
+returns-in-Ok-FreshnessFailure-clause-serves g c =
+    record {
+      down = ok_down _ _ _ c.in-Ok-FreshnessFailure.ensures.serves.down;
+      routed = λ none. cc;
+      reason = tt;
+      faulted = λ e. absurd e;
+      faults = λ _. c.in-Ok-FreshnessFailure.ensures.serves.faults;
+      layout = c.receive.ensures.serves.layout;
+      runs = runs_more 12 (omega arith) c.receive.ensures.serves.runs;
+      fits = c.receive.ensures.serves.fits;
+      sound = c.receive.ensures.serves.sound;
+    }
 
-pub returns-in-Err-clause-routed : goal.returns-in-Err-clause-routed
-returns-in-Err-clause-routed g c none =
-    let same = IfErr-at_err (λ (e : NodeFault). c.in-Err.fault ≡ e) none refl in
-    (c.in-Err.ensures.no_route.0 (ap Err same)).1 c.requires.receives
+pub returns-in-Ok-VerificationFailure-clause-serves : goal.returns-in-Ok-VerificationFailure-clause-serves
+returns-in-Ok-VerificationFailure-clause-serves g c =
+    record {
+      down = ok_down _ _ _ c.in-Ok-VerificationFailure.ensures.serves.down;
+      routed = λ none. cc;
+      reason = tt;
+      faulted = λ e. absurd e;
+      faults = λ _. c.in-Ok-VerificationFailure.ensures.serves.faults;
+      layout = c.receive.ensures.serves.layout;
+      runs = runs_more 12 (omega arith) c.receive.ensures.serves.runs;
+      fits = c.receive.ensures.serves.fits;
+      sound = c.receive.ensures.serves.sound;
+    }
+
+pub returns-in-Err-clause-serves : goal.returns-in-Err-clause-serves
+returns-in-Err-clause-serves g c =
+    record {
+      down = err_down _ _ c.in-Err.ensures.serves.down;
+      routed = λ none.
+          let same = IfErr-at_err (λ (e : NodeFault). c.in-Err.fault ≡ e) none refl in
+          (c.in-Err.ensures.no_route.0 (ap Err same)).1 c.requires.receives;
+      reason = tt;
+      faulted = refuse_rose c.in-Err.fault c.args.node.now.store.disk.faults c.receive.new.self.store.disk.faults (λ e. c.in-Err.ensures.serves.faulted (ap Err e));
+      faults = refuse_same c.in-Err.fault c.args.node.now.store.disk.faults c.receive.new.self.store.disk.faults
+          (λ apart. ap (λ (s : NodeState). s.store.disk.faults) (unmoved_by c.in-Err.fault _ c.in-Err.ensures.untouched apart));
+      layout = c.receive.ensures.serves.layout;
+      runs = runs_more 12 (omega arith) c.receive.ensures.serves.runs;
+      fits = c.receive.ensures.serves.fits;
+      sound = c.receive.ensures.serves.sound;
+    }

@@ -1,4 +1,4 @@
--- the cells so far are those of the list, and those behind all of it are as before
+-- the cells so far are those of the list, and those after all of it are as before
 use Rattle.std.proofs.Common.{◌≡◌, ℕ, [], ◌+◌, ◌<◌, ◌≤◌, length, get_or}
 use Rattle.bus_machine.specs.Node.{first_node}
 use Rattle.secoc_node.specs.Cells.{CellsOf}

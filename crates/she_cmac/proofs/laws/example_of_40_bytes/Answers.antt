@@ -1,5 +1,5 @@
 use Rattle.std.proofs.Common.{sym}
-use Rattle.byte_lists.specs.Numbers.{number_of, bytes_of}
+use Rattle.basics.specs.Numbers.{number_of, bytes_of}
 use Rattle.she_aes.specs.Field.{product, cancelled, remainder, mul}
 use Rattle.she_aes.specs.Cipher.{xor_blocks, add_round_key, shift_rows, circulant, mix_columns, xor_words, rot_word, power_of_x, rcon, words_up_to, round_key}
 use Rattle.she_aes.proofs.CallerLemmas.{tabled_byte, tabled_word, tabled_added, tabled_next, tabled_words, tabled_bytes, tabled_rounds, tabled_cipher}

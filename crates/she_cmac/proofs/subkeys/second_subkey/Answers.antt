@@ -1,5 +1,5 @@
 use Rattle.std.proofs.Common.{ap, ◌∙◌}
-use Rattle.byte_lists.specs.Numbers.{bytes_of}
+use Rattle.basics.specs.Numbers.{bytes_of}
 use Rattle.she_cmac.specs.Cmac.{dbl, second_subkey}
 use Rattle.she_cmac.proofs.subkeys.second_subkey.Goals as goal
 

@@ -1,6 +1,6 @@
 use Rattle.std.proofs.Common.{refl}
 use Rattle.std.proofs.Math.Nat.{div-one}
-use Rattle.byte_lists.specs.Numbers.{bytes_of}
+use Rattle.basics.specs.Numbers.{bytes_of}
 use Rattle.slot_disk.specs.Cell.{slot_cell}
 use Rattle.slot_disk.proofs.cell.filled_bytes.Goals as goal
 

@@ -6,7 +6,7 @@ use Rattle.std.proofs.lemmas.Iterator.{YieldsList-from_slice}
 use Rattle.std.proofs.lemmas.Iterator.Search.{all_from_yields_List}
 use Rattle.text_lines.proofs.forms.is_number.Goals as goal
 
--- a word of more than one digit is a number where its first digit isn't 0
+-- a word of more than one digit is a number if its first digit isn't 0
 number_test : (n : ℕ) (a b : Bool) → (n == 0) ≡ false → a ≡ true → (n ≡ 1 → ⊥) → b ≡ (nat_lt 0 n && a && (n == 1 || b))
 number_test n a b some digits more = grind arith
 

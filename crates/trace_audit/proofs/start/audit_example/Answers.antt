@@ -2,8 +2,8 @@ use Rattle.std.proofs.Common.{◌∙◌, length, map, ap, refl}
 use Rattle.std.proofs.lemmas.List.{length-map}
 use Rattle.std.specs.Prelude.{string_bytes, Some}
 use Rattle.bus_port.specs.MemSource.{CleanSourceState, clean_source}
-use Rattle.answer_rows.specs.Inputs.{Reading}
-use Rattle.answer_rows.specs.InputLaws.{Offers-clean}
+use Rattle.program_edge.specs.Inputs.{Reading}
+use Rattle.program_edge.specs.InputLaws.{Offers-clean}
 use Rattle.trace_audit.specs.Rows.{NamesInputs}
 use Rattle.trace_audit.specs.declared.start.TheConstants.{EXAMPLE_MAP, EXAMPLE_LOG}
 use Rattle.trace_audit.proofs.Example.{short_map, short_log, no_example}

@@ -1,17 +1,15 @@
-use Rattle.std.proofs.Common.{map, string_bytes, refl}
-use Rattle.named_sources.specs.NamedSources.{word_source}
+use Rattle.std.proofs.Common.{refl}
+use Rattle.program_edge.specs.NamedSources.{word_source}
 use Rattle.trace_audit.proofs.start.audit_words.Goals as goal
 
 pub returns-clause-named : goal.returns-clause-named
 returns-clause-named g c some =
-    let state = word_source g.O.Opened.Source.state g.I.Source.state in (
-      record {
-        words = map string_bytes c.args.words.now;
-        map = record { before = state c.open_inputs-map.result.0; after = state c.run_audit-status.new.map };
-        log = record { before = state c.open_inputs-map.result.1; after = state c.run_audit-status.new.log };
-      },
-      c.open_inputs-map.ensures _ _,
-      refl,
-      refl,
-      c.run_audit-status.ensures,
-    )
+    let state = word_source g.O.Opened.Source.state g.I.Source.state in record {
+      one = record { before = state c.open_two-map.result.0; after = state c.run_audit-status.new.map };
+      other = record { before = state c.open_two-map.result.1; after = state c.run_audit-status.new.log };
+      named = c.open_two-map.ensures.named;
+      opened_once = c.open_two-map.ensures.left;
+      one_left = refl;
+      other_left = refl;
+      has = c.run_audit-status.ensures;
+    }

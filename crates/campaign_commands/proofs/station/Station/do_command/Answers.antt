@@ -1,6 +1,6 @@
 use Rattle.std.proofs.Common.{sym, subst}
-use Rattle.campaign_machine.specs.declared.commands.LedgerCommand.{LedgerCommand}
-use Rattle.campaign_machine.specs.declared.lines.LedgerLine.TheVariants.{Shown}
+use Rattle.key_campaign.specs.declared.commands.LedgerCommand.{LedgerCommand}
+use Rattle.key_campaign.specs.declared.lines.LedgerLine.TheVariants.{Shown}
 use Rattle.campaign_commands.specs.Turns.{LedgerTurn}
 use Rattle.campaign_commands.proofs.Turning.{turn_of_show}
 use Rattle.campaign_commands.proofs.station.Station.do_command.Goals as goal

@@ -1,4 +1,4 @@
--- What the file below left, and what is held then.
+-- What the file below left, and what memory holds then.
 use Rattle.std.proofs.Common.{◌≡◌, ℕ, length, arith, refl, sym, ap, subst, ◌∙◌}
 use Rattle.std.specs.Vec.{with_items}
 use Rattle.std.proofs.lemmas.List.{with_items_is}

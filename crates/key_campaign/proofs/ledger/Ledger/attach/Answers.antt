@@ -1,5 +1,5 @@
-use Rattle.store_runs.specs.KeepingLaws.{fits_settled}
-use Rattle.campaign_machine.specs.Campaign.{powered_ledger}
+use Rattle.store_keeping.specs.KeepingLaws.{fits_settled}
+use Rattle.key_campaign.specs.Campaign.{powered_ledger}
 use Rattle.key_campaign.specs.State.{keeping_of}
 use Rattle.key_campaign.proofs.ledger.Ledger.attach.Goals as goal
 

@@ -1,6 +1,6 @@
 use Rattle.std.proofs.Common.{◌≡◌, true, refl, subst}
-use Rattle.campaign_machine.specs.declared.commands.Confirm.{Confirm}
-use Rattle.campaign_machine.specs.Campaign.{Campaign, SoundLedger}
+use Rattle.key_campaign.specs.declared.commands.Confirm.{Confirm}
+use Rattle.key_campaign.specs.Campaign.{Campaign, SoundLedger}
 use Rattle.key_campaign.specs.Places.{FoundEntry}
 use Rattle.key_campaign.specs.State.{LedgerState}
 use Rattle.key_campaign.proofs.CallLaws.{advances_found, step_confirmed, step_unconfirmed}

@@ -1,6 +1,6 @@
 use Rattle.std.proofs.Common.{◌≡◌, ap, subst}
 use Rattle.cell_store.specs.Cells.{CellsState}
-use Rattle.campaign_machine.specs.Campaign.{Campaign}
+use Rattle.key_campaign.specs.Campaign.{Campaign}
 use Rattle.key_campaign.specs.State.{LedgerState, FitsLedger}
 use Rattle.key_campaign.proofs.LedgerLaws.{fits_told}
 use Rattle.key_campaign.proofs.ledger.Ledger.fail_at.Goals as goal

@@ -3,8 +3,8 @@ use Rattle.std.specs.Prelude.{Result, Ok, Err}
 use Rattle.key_slots.specs.Authority.{is_pair}
 use Rattle.key_slots.specs.AuthorityLaws.{answer_is_pair}
 use Rattle.memory_update.specs.declared.messages.Request.{Request}
-use Rattle.campaign_machine.specs.declared.commands.Issue.{Issue}
-use Rattle.campaign_machine.specs.Campaign.{Campaign, SoundLedger}
+use Rattle.key_campaign.specs.declared.commands.Issue.{Issue}
+use Rattle.key_campaign.specs.Campaign.{Campaign, SoundLedger}
 use Rattle.key_campaign.specs.declared.faults.LedgerFault.{LedgerFault}
 use Rattle.key_campaign.specs.declared.faults.LedgerFault.TheVariants as fault
 use Rattle.key_campaign.specs.Places.{IsNext, HasNoNext}

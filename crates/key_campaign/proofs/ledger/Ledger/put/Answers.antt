@@ -1,9 +1,9 @@
 use Rattle.std.proofs.Common.{◌≡◌, List, set, sym, ap, subst, ◌∙◌, true, false}
 use Rattle.std.specs.Prelude.{Option, Some}
-use Rattle.campaign_machine.specs.declared.entries.LedgerEntry.{LedgerEntry}
-use Rattle.campaign_machine.specs.declared.entries.PendingEntry.{PendingEntry}
-use Rattle.campaign_machine.specs.Entries.{Advances}
-use Rattle.campaign_machine.specs.Campaign.{Campaign}
+use Rattle.key_campaign.specs.declared.entries.LedgerEntry.{LedgerEntry}
+use Rattle.key_campaign.specs.declared.entries.PendingEntry.{PendingEntry}
+use Rattle.key_campaign.specs.Entries.{Advances}
+use Rattle.key_campaign.specs.Campaign.{Campaign}
 use Rattle.key_campaign.specs.State.{LedgerState, FitsLedger, IsLedger}
 use Rattle.key_campaign.proofs.LedgerLaws.{ledger_put, fits_ledger_put, fits_ledger_failed}
 use Rattle.key_campaign.proofs.ledger.Ledger.put.Goals as goal

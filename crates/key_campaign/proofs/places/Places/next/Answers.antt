@@ -1,8 +1,8 @@
 use Rattle.std.proofs.Common.{◌≡◌, List, length, sym, subst}
 use Rattle.std.specs.Prelude.{Option}
-use Rattle.campaign_machine.specs.declared.entries.LedgerEntry.{LedgerEntry}
-use Rattle.campaign_machine.specs.Entries.{empty_place}
-use Rattle.campaign_machine.proofs.CallerLemmas.{none_of}
+use Rattle.key_campaign.specs.declared.entries.LedgerEntry.{LedgerEntry}
+use Rattle.key_campaign.specs.Entries.{empty_place}
+use Rattle.key_campaign.proofs.EntryPlaces.{none_of}
 use Rattle.key_campaign.proofs.Founds.{none_empty}
 use Rattle.key_campaign.proofs.places.Places.next.Goals as goal
 

@@ -1,5 +1,5 @@
 use Rattle.std.proofs.Common.{take, subst}
-use Rattle.counting_receiver.specs.Counting.{AddsVerdict}
+use Rattle.secoc_words.specs.Counting.{AddsVerdict}
 use Rattle.std.proofs.lemmas.Result.{on_ok_weaker}
 use Rattle.pdu_collection.proofs.Saying.{said_waits, said_judged}
 use Rattle.pdu_collection.proofs.answering.Receiver.push_arrival.Goals as goal

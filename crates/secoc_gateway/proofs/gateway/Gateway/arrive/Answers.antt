@@ -2,12 +2,13 @@ use Rattle.std.proofs.Common.{ℕ, subst, sym, ap, ◌∙◌}
 use Rattle.freshness_routes.specs.declared.routes.Direction.TheVariants.{Sends}
 use Rattle.bus_machine.specs.declared.events.Event.TheVariants.{Inject}
 use Rattle.bus_laws.proofs.CallerLemmas.{same_some}
-use Rattle.secoc_node.specs.State.{FitsNow, IsCovered}
+use Rattle.secoc_node.specs.State.{IsCovered}
 use Rattle.secoc_gateway.specs.State.{GatewayState, over}
 use Rattle.secoc_gateway.specs.Arrivals.{arrival_line, IfForwarded}
+use Rattle.secoc_gateway.specs.Relayed.{ServedArrival}
 use Rattle.secoc_gateway.specs.Turns.{EventTurn}
 use Rattle.secoc_gateway.proofs.Paired.{AreGood-same, good_routes, passes_config, step_of_pair}
-use Rattle.gateway_machine.specs.Gateway.{second_of, EventStep, GatewayStep}
+use Rattle.secoc_gateway.specs.Gateway.{second_of, EventStep, GatewayStep}
 use Rattle.secoc_gateway.proofs.gateway.Gateway.arrive.Goals as goal
 
 pub pass_on-requires-clause-receives : goal.pass_on-requires-clause-receives
@@ -38,8 +39,8 @@ returns-clause-turn g c place told also =
     (ap (λ (s : GatewayState). second_of s.pairs c.args.id) c.self.view_is ∙ sym c.second.ensures ∙ c.unwrap-second.ensures)
     (ap (λ (s : GatewayState). second_of s.pairs c.args.id) c.self.view_is ∙ also) (c.pass_on.ensures.turn place))
 
-pub returns-clause-fits : goal.returns-clause-fits
-returns-clause-fits g c = subst (λ s. FitsNow (over s) → FitsNow c.pass_on.new.node) c.self.view_is c.pass_on.ensures.fits
+pub returns-clause-serves : goal.returns-clause-serves
+returns-clause-serves g c = subst (λ s. ServedArrival (over s) c.pass_on.new.node c.pass_on.result) c.self.view_is c.pass_on.ensures.serves
 
 pub returns-clause-departure_covered : goal.returns-clause-departure_covered
 returns-clause-departure_covered g c told also =

@@ -1,6 +1,6 @@
 use Rattle.std.proofs.Common.{refl, ap, ◌∙◌, subst}
-use Rattle.gateway_machine.specs.declared.lines.GatewayLine.TheVariants.{OfNode}
-use Rattle.gateway_machine.specs.Gateway.{departs_under}
+use Rattle.secoc_gateway.specs.declared.gateway_lines.GatewayLine.TheVariants.{OfNode}
+use Rattle.secoc_gateway.specs.Gateway.{departs_under}
 use Rattle.secoc_gateway.specs.State.{GatewayState}
 use Rattle.secoc_gateway.specs.Turns.{GatewayTurn}
 use Rattle.secoc_gateway.proofs.Paired.{AreGood-same}

@@ -1,7 +1,7 @@
 use Rattle.std.proofs.Common.{sym, subst, List, ℕ}
 use Rattle.bus_machine.specs.declared.events.Event.{Event}
 use Rattle.bus_machine.specs.declared.events.Event.TheVariants.{Inject}
-use Rattle.gateway_machine.specs.Gateway.{GatewayStep}
+use Rattle.secoc_gateway.specs.Gateway.{GatewayStep}
 use Rattle.secoc_gateway.specs.State.{over}
 use Rattle.secoc_gateway.specs.Turns.{EventTurn, GatewayTurn}
 use Rattle.secoc_gateway.proofs.gateway.Gateway.turn.Goals as goal

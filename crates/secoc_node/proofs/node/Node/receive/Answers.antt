@@ -1,4 +1,4 @@
-use Rattle.std.proofs.Common.{◌≡◌, ℕ, ap, sym, subst, ◌∙◌, Ok, Err, length}
+use Rattle.std.proofs.Common.{◌≡◌, ℕ, ap, sym, subst, ◌∙◌, Ok, Err}
 use Rattle.std.specs.Prelude.{Option, None}
 use Rattle.cut_disk.specs.Calls.{Rose}
 use Rattle.bus_machine.specs.declared.lines.Line.TheVariants.{Refused}
@@ -40,7 +40,7 @@ said : (g : Over) (c : goal.In-Ok g) (source : Option ℕ)
 said g c source =
     said_done c.self.inside.known (g.C.Cells.state c.self.inside.cells) c.self.invariant c.if-not-self.false c.args.id c.in-Some.place c.in-Some.route c.in-Some.ensures
     c.index_mut.result.now c.index_mut.ensures.value c.in-Receives.rx c.in-Receives.is
-    c.args.pdu.now source c.in-Ok.said c.receive.new.rx (g.C.Cells.state c.receive.new.cells) c.in-Ok.ensures.counted c.in-Ok.ensures.made c.in-Ok.ensures.as_before c.in-Ok.ensures.untouched
+    c.args.pdu.now source c.in-Ok.said c.receive.new.rx (g.C.Cells.state c.receive.new.cells) c.in-Ok.ensures.accepted c.in-Ok.ensures.as_before c.in-Ok.ensures.untouched
     (c.in-Ok.ensures.step (node_in c.self.inside.known) source (has_receiver c.self.inside.known (g.C.Cells.state c.self.inside.cells) c.self.invariant c.if-not-self.false c.args.id c.in-Some.place c.in-Some.route c.in-Some.ensures
     c.index_mut.result.now c.index_mut.ensures.value c.in-Receives.rx c.in-Receives.is))
 
@@ -55,7 +55,7 @@ returns-in-Ok-clause-serves g c =
     record {
       down = not_down c.self.inside.known (g.C.Cells.state c.self.inside.cells) c.if-not-self.false c.args.self.now c.self.view_is Reception (Ok c.in-Ok.said) tt;
       faulted = unless_faulted Reception _ (Ok c.in-Ok.said) tt;
-      faults = c.in-Ok.ensures.faults ∙ ap (λ (s : NodeState). s.store.disk.faults) c.self.view_is;
+      faults = c.in-Ok.ensures.store.faults ∙ ap (λ (s : NodeState). s.store.disk.faults) c.self.view_is;
       layout = (served_from c.args.self.now c.self.view_is (said g c None)).layout;
       runs = (served_from c.args.self.now c.self.view_is (said g c None)).runs;
       fits = (served_from c.args.self.now c.self.view_is (said g c None)).fits;
@@ -66,13 +66,13 @@ pub returns-in-Ok-clause-no_route : goal.returns-in-Ok-clause-no_route
 returns-in-Ok-clause-no_route g c = not_unrouted c.self.inside.known (g.C.Cells.state c.self.inside.cells) c.self.invariant c.if-not-self.false c.args.id Receives c.in-Some.place c.in-Some.route c.in-Some.ensures c.args.self.now c.self.view_is Reception (Ok c.in-Ok.said) tt
 
 pub returns-in-Ok-clause-length : goal.returns-in-Ok-clause-length
-returns-in-Ok-clause-length g c = said_length c.in-Ok.said (length c.args.pdu.now) c.in-Ok.ensures.length
+returns-in-Ok-clause-length g c = said_length c.in-Ok.said c.args.pdu.now c.in-Receives.rx c.receive.new.rx (g.C.Cells.state c.self.inside.cells) (g.C.Cells.state c.receive.new.cells) c.in-Ok.ensures.accepted
 
 pub returns-in-Ok-clause-covered : goal.returns-in-Ok-clause-covered
 returns-in-Ok-clause-covered g c =
     said_covered c.self.inside.known (g.C.Cells.state c.self.inside.cells) c.self.invariant c.if-not-self.false c.args.id c.in-Some.place c.in-Some.route c.in-Some.ensures
     c.index_mut.result.now c.index_mut.ensures.value c.in-Receives.rx c.in-Receives.is
-    c.in-Ok.said c.receive.new.rx (g.C.Cells.state c.receive.new.cells) c.in-Ok.ensures.counted c.in-Ok.ensures.kept c.in-Ok.ensures.covered
+    c.in-Ok.said c.args.pdu.now c.receive.new.rx (g.C.Cells.state c.receive.new.cells) c.in-Ok.ensures.accepted c.in-Ok.ensures.store.kept
 
 pub returns-in-Ok-clause-honest : goal.returns-in-Ok-clause-honest
 returns-in-Ok-clause-honest g c sent source id_is pdu_is in_time fits =
@@ -187,7 +187,7 @@ faulted g c =
     receive_failed c.self.inside.known (g.C.Cells.state c.self.inside.cells) c.self.invariant c.if-not-self.false c.args.id c.in-Some.place c.in-Some.route c.in-Some.ensures
     c.index_mut.result.now c.index_mut.ensures.value c.in-Receives.rx c.in-Receives.is
     c.args.pdu.now c.in-Err-Faulted.bound c.receive.new.rx (g.C.Cells.state c.receive.new.cells) c.fail_at.new.self c.in-Err-Faulted.ensures.as_before
-    (c.in-Err-Faulted.ensures.faulted c.in-Err-Faulted.bound (ap (λ (f : ReceiveFault). Err f) c.in-Err-Faulted.field-0-is)).failed.1
+    (c.in-Err-Faulted.ensures.faulted c.in-Err-Faulted.bound (ap (λ (f : ReceiveFault). Err f) c.in-Err-Faulted.field-0-is)).failed.failed
     (subst (λ (f : ReceiveFault). NodeStep (node_in c.self.inside.known) (receives c.in-Some.route.id c.args.pdu.now) (line_of_receive c.in-Some.route.id c.args.pdu.now None (Err f))
     (after_receive (node_in c.self.inside.known) c.in-Some.route.id (Err f))) c.in-Err-Faulted.field-0-is
     (c.in-Err-Faulted.ensures.step (node_in c.self.inside.known) None (has_receiver c.self.inside.known (g.C.Cells.state c.self.inside.cells) c.self.invariant c.if-not-self.false c.args.id c.in-Some.place c.in-Some.route c.in-Some.ensures
@@ -207,7 +207,7 @@ pub returns-in-Err-Faulted-clause-serves : goal.returns-in-Err-Faulted-clause-se
 returns-in-Err-Faulted-clause-serves g c =
     record {
       down = not_down c.self.inside.known (g.C.Cells.state c.self.inside.cells) c.if-not-self.false c.args.self.now c.self.view_is Reception (Err c.fail_at.result) (past g c);
-      faulted = λ e. subst (λ (s : NodeState). Rose s.store.disk.faults (g.C.Cells.state c.receive.new.cells).disk.faults) c.self.view_is (c.in-Err-Faulted.ensures.rose c.in-Err-Faulted.bound (ap (λ (f : ReceiveFault). Err f) c.in-Err-Faulted.field-0-is));
+      faulted = λ e. subst (λ (s : NodeState). Rose s.store.disk.faults (g.C.Cells.state c.receive.new.cells).disk.faults) c.self.view_is (c.in-Err-Faulted.ensures.faulted c.in-Err-Faulted.bound (ap (λ (f : ReceiveFault). Err f) c.in-Err-Faulted.field-0-is)).failed.rose;
       faults = tt;
       layout = (served_from c.args.self.now c.self.view_is (faulted g c)).layout;
       runs = (served_from c.args.self.now c.self.view_is (faulted g c)).runs;

@@ -38,7 +38,7 @@ sent : (g : Over) (c : goal.In-Ok g)
 sent g c =
     sent_done c.self.inside.known (g.C.Cells.state c.self.inside.cells) c.self.invariant c.if-not-self.false c.args.id c.in-Some.place c.in-Some.route c.in-Some.ensures
     c.index_mut.result.now c.index_mut.ensures.value c.in-Sends.tx c.in-Sends.is
-    c.args.payload.now c.in-Ok.sent c.send.new.out c.send.new.tx (g.C.Cells.state c.send.new.cells) c.in-Ok.ensures.counted c.in-Ok.ensures.next c.in-Ok.ensures.made
+    c.args.payload.now c.in-Ok.sent c.send.new.out c.send.new.tx (g.C.Cells.state c.send.new.cells) c.in-Ok.ensures.moved.counted c.in-Ok.ensures.moved.next c.in-Ok.ensures.moved.made
     (c.in-Ok.ensures.step (node_in c.self.inside.known) (has_sender c.self.inside.known (g.C.Cells.state c.self.inside.cells) c.self.invariant c.if-not-self.false c.args.id c.in-Some.place c.in-Some.route c.in-Some.ensures
     c.index_mut.result.now c.index_mut.ensures.value c.in-Sends.tx c.in-Sends.is))
 
@@ -53,7 +53,7 @@ returns-in-Ok-clause-serves g c =
     record {
       down = not_down c.self.inside.known (g.C.Cells.state c.self.inside.cells) c.if-not-self.false c.args.self.now c.self.view_is Sending (Ok c.in-Ok.sent) tt;
       faulted = unless_faulted Sending _ (Ok c.in-Ok.sent) tt;
-      faults = c.in-Ok.ensures.faults ∙ ap (λ (s : NodeState). s.store.disk.faults) c.self.view_is;
+      faults = c.in-Ok.ensures.store.faults ∙ ap (λ (s : NodeState). s.store.disk.faults) c.self.view_is;
       layout = (served_from c.args.self.now c.self.view_is (sent g c)).layout;
       runs = (served_from c.args.self.now c.self.view_is (sent g c)).runs;
       fits = (served_from c.args.self.now c.self.view_is (sent g c)).fits;
@@ -64,26 +64,26 @@ pub returns-in-Ok-clause-no_route : goal.returns-in-Ok-clause-no_route
 returns-in-Ok-clause-no_route g c = not_unrouted c.self.inside.known (g.C.Cells.state c.self.inside.cells) c.self.invariant c.if-not-self.false c.args.id Sends c.in-Some.place c.in-Some.route c.in-Some.ensures c.args.self.now c.self.view_is Sending (Ok c.in-Ok.sent) tt
 
 pub returns-in-Ok-clause-length : goal.returns-in-Ok-clause-length
-returns-in-Ok-clause-length g c = c.in-Ok.ensures.length
+returns-in-Ok-clause-length g c = c.in-Ok.ensures.sent.as_long
 
 pub returns-in-Ok-clause-within : goal.returns-in-Ok-clause-within
-returns-in-Ok-clause-within g c = fits_a_pdu c.in-Ok.sent.len (length c.args.payload.now) c.in-Ok.ensures.length c.in-Ok.ensures.secured.is_payload
+returns-in-Ok-clause-within g c = fits_a_pdu c.in-Ok.sent.len (length c.args.payload.now) c.in-Ok.ensures.sent.as_long c.in-Ok.ensures.sent.secured.is_payload
 
 pub returns-in-Ok-clause-rest : goal.returns-in-Ok-clause-rest
-returns-in-Ok-clause-rest g c = c.in-Ok.ensures.rest
+returns-in-Ok-clause-rest g c = c.in-Ok.ensures.sent.rest
 
 pub returns-in-Ok-clause-covered : goal.returns-in-Ok-clause-covered
 returns-in-Ok-clause-covered g c =
     sent_covered c.self.inside.known (g.C.Cells.state c.self.inside.cells) c.self.invariant c.if-not-self.false c.args.id c.in-Some.place c.in-Some.route c.in-Some.ensures
     c.index_mut.result.now c.index_mut.ensures.value c.in-Sends.tx c.in-Sends.is
-    c.send.new.tx (g.C.Cells.state c.send.new.cells) c.in-Ok.sent.freshness c.in-Ok.ensures.counted c.in-Ok.ensures.kept c.in-Ok.ensures.covered
+    c.send.new.tx (g.C.Cells.state c.send.new.cells) c.in-Ok.sent.freshness c.in-Ok.ensures.moved.counted c.in-Ok.ensures.store.kept c.in-Ok.ensures.moved.covered
 
 pub returns-in-Ok-clause-others : goal.returns-in-Ok-clause-others
 returns-in-Ok-clause-others g c other v =
     subst (λ (s : NodeState). IsCovered s other Receives v → IsCovered (state_in (with_counter_at c.self.inside.known c.in-Some.place (of_route.Sends c.send.new.tx)) (g.C.Cells.state c.send.new.cells)) other Receives v) c.self.view_is
     (sent_others c.self.inside.known (g.C.Cells.state c.self.inside.cells) c.self.invariant c.if-not-self.false c.args.id c.in-Some.place c.in-Some.route c.in-Some.ensures
     c.index_mut.result.now c.index_mut.ensures.value c.in-Sends.tx c.in-Sends.is
-    c.send.new.tx (g.C.Cells.state c.send.new.cells) c.in-Ok.ensures.made other v)
+    c.send.new.tx (g.C.Cells.state c.send.new.cells) c.in-Ok.ensures.moved.made other v)
 
 -- ---- it was refused
 
@@ -245,7 +245,7 @@ faulted g c =
     send_failed c.self.inside.known (g.C.Cells.state c.self.inside.cells) c.self.invariant c.if-not-self.false c.args.id c.in-Some.place c.in-Some.route c.in-Some.ensures
     c.index_mut.result.now c.index_mut.ensures.value c.in-Sends.tx c.in-Sends.is
     c.args.payload.now c.in-Err-Faulted.bound c.send.new.tx (g.C.Cells.state c.send.new.cells) c.fail_at.new.self c.in-Err-Faulted.ensures.as_before
-    (c.in-Err-Faulted.ensures.failed c.in-Err-Faulted.bound (ap (λ (f : SendFault). Err f) c.in-Err-Faulted.field-0-is))
+    (c.in-Err-Faulted.ensures.faulted c.in-Err-Faulted.bound (ap (λ (f : SendFault). Err f) c.in-Err-Faulted.field-0-is)).failed
     (subst (λ (f : SendFault). NodeStep (node_in c.self.inside.known) (sends c.in-Some.route.id c.args.payload.now) (line_of_send c.in-Some.route.id (Err f) c.send.new.out)
     (after_send (node_in c.self.inside.known) c.in-Some.route.id (Err f))) c.in-Err-Faulted.field-0-is
     (c.in-Err-Faulted.ensures.step (node_in c.self.inside.known) (has_sender c.self.inside.known (g.C.Cells.state c.self.inside.cells) c.self.invariant c.if-not-self.false c.args.id c.in-Some.place c.in-Some.route c.in-Some.ensures
@@ -265,7 +265,7 @@ pub returns-in-Err-Faulted-clause-serves : goal.returns-in-Err-Faulted-clause-se
 returns-in-Err-Faulted-clause-serves g c =
     record {
       down = not_down c.self.inside.known (g.C.Cells.state c.self.inside.cells) c.if-not-self.false c.args.self.now c.self.view_is Sending (Err c.fail_at.result) (past g c);
-      faulted = λ e. subst (λ (s : NodeState). Rose s.store.disk.faults (g.C.Cells.state c.send.new.cells).disk.faults) c.self.view_is (c.in-Err-Faulted.ensures.rose c.in-Err-Faulted.bound (ap (λ (f : SendFault). Err f) c.in-Err-Faulted.field-0-is));
+      faulted = λ e. subst (λ (s : NodeState). Rose s.store.disk.faults (g.C.Cells.state c.send.new.cells).disk.faults) c.self.view_is (c.in-Err-Faulted.ensures.faulted c.in-Err-Faulted.bound (ap (λ (f : SendFault). Err f) c.in-Err-Faulted.field-0-is)).rose;
       faults = tt;
       layout = (served_from c.args.self.now c.self.view_is (faulted g c)).layout;
       runs = (served_from c.args.self.now c.self.view_is (faulted g c)).runs;
@@ -281,7 +281,7 @@ returns-in-Err-Faulted-clause-others g c other v =
     subst (λ (s : NodeState). IsCovered s other Receives v → IsCovered (state_in c.fail_at.new.self (g.C.Cells.state c.send.new.cells)) other Receives v) c.self.view_is
     (failed_others c.self.inside.known (g.C.Cells.state c.self.inside.cells) c.self.invariant c.if-not-self.false c.args.id c.in-Some.place c.in-Some.route c.in-Some.ensures
     c.index_mut.result.now c.index_mut.ensures.value c.in-Sends.tx c.in-Sends.is
-    c.in-Err-Faulted.bound (g.C.Cells.state c.send.new.cells) c.fail_at.new.self (c.in-Err-Faulted.ensures.failed c.in-Err-Faulted.bound (ap (λ (f : SendFault). Err f) c.in-Err-Faulted.field-0-is))
+    c.in-Err-Faulted.bound (g.C.Cells.state c.send.new.cells) c.fail_at.new.self (c.in-Err-Faulted.ensures.faulted c.in-Err-Faulted.bound (ap (λ (f : SendFault). Err f) c.in-Err-Faulted.field-0-is)).failed
     (ap (λ (k : Known). k.config) c.fail_at.ensures.down) other v)
 
 pub returns-in-Err-Faulted-clause-untouched : goal.returns-in-Err-Faulted-clause-untouched

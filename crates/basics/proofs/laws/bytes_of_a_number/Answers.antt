@@ -1,0 +1,5 @@
+use Rattle.basics.specs.NumberLaws.{IsBytes-bytes_of}
+use Rattle.basics.proofs.laws.bytes_of_a_number.Goals as goal
+
+pub returns : goal.returns
+returns c = IsBytes-bytes_of

@@ -1,0 +1,5 @@
+use Rattle.basics.specs.NumberLaws.{same_bytes}
+use Rattle.basics.proofs.laws.number_is_one_to_one.Goals as goal
+
+pub returns : goal.returns
+returns c = same_bytes

@@ -1,6 +1,0 @@
--- as many disks as turns, all of them blank
-use Rattle.blank_disks.specs.Blank.{AreBlank}
-use Rattle.blank_disks.proofs.blank_disks.Given as goal
-
-abbrev pub invariant-loop-index : goal.invariant-loop-index
-invariant-loop-index l = AreBlank l.index l.size l.disks.items

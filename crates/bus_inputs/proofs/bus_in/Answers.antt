@@ -1,5 +1,0 @@
-use Rattle.bus_inputs.proofs.Finding.{HasBus-refused}
-use Rattle.bus_inputs.proofs.bus_in.Goals as goal
-
-pub returns-in-Err : goal.returns-in-Err
-returns-in-Err c = HasBus-refused c.args.text.now c.in-Err.fault c.config_refusal.result c.in-Err.ensures c.config_refusal.ensures

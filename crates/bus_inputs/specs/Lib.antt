@@ -1,4 +1,0 @@
-pub mod BusFiles
-pub mod Scripts
-pub mod BusFileLaws
-pub mod EventLaws

@@ -1,0 +1,132 @@
+-- Laws of bus files that are offered, and of the sources of a program
+use Rattle.std.specs.Prelude.{◌≡◌, ◌⊎◌, ℕ, ◌+◌, ◌<◌, ◌≤◌, List, Result, Ok, Err}
+use Rattle.std.proofs.Common.{refl, sym, ap, ◌∙◌, subst, arith, inl, inr}
+use Rattle.bus_port.specs.Fault.{last_count}
+use Rattle.bus_port.specs.Source.{SourceState}
+use Rattle.bus_port.specs.Whole.{CameWithin}
+use Rattle.program_edge.specs.Input.{input_limit, input_fault_status}
+use Rattle.program_edge.specs.declared.input.InputFault.{InputFault}
+use Rattle.program_edge.specs.declared.input.InputFault.TheVariants as input
+use Rattle.program_edge.specs.Rows.{Row}
+use Rattle.program_edge.specs.Inputs.{Reading, IsUnread, ReadsWhole, Lacks, Offers, CountsFault, CountsTooMuch}
+use Rattle.program_edge.specs.InputLaws.{Lacks-whole, Offers-whole, Offers-is}
+use Rattle.bus_config.specs.declared.fault.ConfigFault.{ConfigFault}
+use Rattle.bus_config.specs.BusFile.{bus_of}
+use Rattle.bus_nodes.specs.Buses.{NamedBus}
+use Rattle.text_lines.specs.LineRows.{NoLines}
+use Rattle.text_lines.specs.Readings.{Fault}
+use Rattle.bus_programs.specs.BusFiles.{ReadsBus, IsConfigFault, OffersBus}
+use Rattle.bus_programs.specs.Scripts.{LacksLines, no_lines, lines_refused}
+
+-- ---- a bus file that is offered
+
+Ok_not_Err : (r : Result NamedBus ConfigFault) (bus : NamedBus) (fault : ConfigFault) → r ≡ Ok bus → r ≡ Err fault → ⊥
+Ok_not_Err r bus fault ok err = cc
+
+same_Ok : (r : Result NamedBus ConfigFault) (one other : NamedBus) → r ≡ Ok one → r ≡ Ok other → one ≡ other
+same_Ok r one other ok also = cc
+
+-- what was read is what was offered
+pub same_bus : (config : Reading) (one other : NamedBus) → ReadsBus config one → OffersBus config other → one ≡ other
+same_bus config one other (read, whole, is) (file, offers, ok) =
+    same_Ok (bus_of file) one other (sym (ap bus_of (Offers-whole config file read offers whole)) ∙ is) ok
+
+-- it has a bus or a fault
+pub bus_or_fault : (config : Reading) (bus : NamedBus) (file : List ℕ) (fault : ConfigFault) → ReadsBus config bus
+    → Offers config file → bus_of file ≡ Err fault → ⊥
+bus_or_fault config bus file fault (read, whole, is) offers err =
+    Ok_not_Err (bus_of file) bus fault (sym (ap bus_of (Offers-whole config file read offers whole)) ∙ is) err
+
+pub offered_no_fault : (config : Reading) (bus : NamedBus) (fault : ConfigFault) → OffersBus config bus
+    → IsConfigFault config fault → ⊥
+offered_no_fault config bus fault (file, offers, ok) (read, whole, is) =
+    Ok_not_Err (bus_of file) bus fault ok (sym (ap bus_of (Offers-whole config file read offers whole)) ∙ is)
+
+-- a source that is offered gives no input only if memory is out
+pub memory_status : (r : Reading) (text : List ℕ) (fault : InputFault) → Offers r text → Lacks r fault
+    → input_fault_status fault ≡ 7
+memory_status r text fault offers lacks = ap input_fault_status (Offers-is r text fault offers lacks)
+
+-- ---- the sources
+
+-- at most as many bytes as an input may have were counted
+abbrev pub Within : Reading → Type 0
+Within r = r.before.taken + input_limit < last_count → r.after.taken ≤ r.before.taken + input_limit
+
+within_unread : (r : Reading) → IsUnread r → Within r
+within_unread r same below = omega (arith, ap (λ (s : SourceState). s.taken) same)
+
+within_came : (r : Reading) → CameWithin r.before r.after input_limit → Within r
+within_came r came below = omega (arith, came.1, came.2.counted, below)
+
+-- no fault was counted, and no byte too many
+abbrev pub ReadsCalmly : Reading → Type 0
+ReadsCalmly r = (r.after.faults ≡ r.before.faults) × Within r
+
+pub calm_unread : (r : Reading) → IsUnread r → ReadsCalmly r
+calm_unread r same = (ap (λ (s : SourceState). s.faults) same, within_unread r same)
+
+pub calm_whole : (r : Reading) (text : List ℕ) → ReadsWhole r text → ReadsCalmly r
+calm_whole r text whole = (whole.no_fault, within_came r (text, whole.within, whole.came))
+
+-- a row of a source that gave nothing, or no fault was counted and no byte too many
+abbrev pub RowTells : Row → Reading → Reading → Type 0
+RowTells row config script = ((row.status ≡ 5) × (Within config × Within script))
+    ⊎ (((row.status ≡ 8)
+    × ((config.after.faults ≡ config.before.faults) × (script.after.faults ≡ script.before.faults)))
+    ⊎ (ReadsCalmly config × ReadsCalmly script))
+
+lacking : (r : Reading) (fault : InputFault) → Lacks r fault
+    → ((input_fault_status fault ≡ 5) × Within r)
+    ⊎ (((input_fault_status fault ≡ 8) × (r.after.faults ≡ r.before.faults)) ⊎ ReadsCalmly r)
+lacking r input.ReadFault lacks = inl (refl, within_came r lacks.1)
+lacking r input.TooLong lacks = inr (inl (refl, lacks.0))
+lacking r input.Memory lacks = inr (inr (lacks.0, within_came r lacks.1))
+
+pub told_first : (fault : InputFault) (text : List ℕ) (config script : Reading) → Lacks config fault
+    → ReadsCalmly script
+    → RowTells (record { status = input_fault_status fault; text = text }) config script
+told_first fault text config script lacks calm = elim (lacking config fault lacks) [
+  | inl five ↦ inl (five.0, (five.1, calm.1))
+  | inr (inl eight) ↦ inr (inl (eight.0, (eight.1, calm.0)))
+  | inr (inr also) ↦ inr (inr (also, calm))
+]
+
+pub told_second : (fault : InputFault) (text : List ℕ) (config script : Reading) → ReadsCalmly config
+    → Lacks script fault
+    → RowTells (record { status = input_fault_status fault; text = text }) config script
+told_second fault text config script calm lacks = elim (lacking script fault lacks) [
+  | inl five ↦ inl (five.0, (calm.1, five.1))
+  | inr (inl eight) ↦ inr (inl (eight.0, (calm.0, eight.1)))
+  | inr (inr also) ↦ inr (inr (calm, also))
+]
+
+pub told_fault : (row : Row) (config script : Reading) → RowTells row config script
+    → CountsFault config ⊎ CountsFault script → row.status ≡ 5
+told_fault row config script (inl five) rose = five.0
+told_fault row config script (inr (inl eight)) (inl rose) = absurd (let no : ⊥ = omega (arith, eight.1.0, rose) in no)
+told_fault row config script (inr (inl eight)) (inr rose) = absurd (let no : ⊥ = omega (arith, eight.1.1, rose) in no)
+told_fault row config script (inr (inr calm)) (inl rose) = absurd (let no : ⊥ = omega (arith, calm.0.0, rose) in no)
+told_fault row config script (inr (inr calm)) (inr rose) = absurd (let no : ⊥ = omega (arith, calm.1.0, rose) in no)
+
+beyond_within : (r : Reading) → Within r → CountsTooMuch r → ⊥
+beyond_within r within more = omega (arith, within more.0, more.1)
+
+pub told_too_much : (row : Row) (config script : Reading) → RowTells row config script
+    → CountsTooMuch config ⊎ CountsTooMuch script → row.status ≡ 8
+told_too_much row config script (inl five) (inl more) = absurd (beyond_within config five.1.0 more)
+told_too_much row config script (inl five) (inr more) = absurd (beyond_within script five.1.1 more)
+told_too_much row config script (inr (inl eight)) more = eight.0
+told_too_much row config script (inr (inr calm)) (inl more) = absurd (beyond_within config calm.0.1 more)
+told_too_much row config script (inr (inr calm)) (inr more) = absurd (beyond_within script calm.1.1 more)
+
+-- ---- lines
+
+-- lines that were read whole, and have no meaning
+pub LacksLines-read : {A : Type 0} (meaning : List ℕ → Result (List A) Fault) (script : Reading) (text : List ℕ)
+    (row : Row) → ReadsWhole script text
+    → NoLines (meaning text) row → LacksLines meaning script row
+LacksLines-read meaning script text row whole (inl (fault, is, row_is)) =
+    subst (LacksLines meaning script) (sym row_is) (lines_refused fault text whole is)
+LacksLines-read meaning script text row whole (inr memory) =
+    subst (LacksLines meaning script) (sym memory) (no_lines input.Memory (Lacks-whole script text whole))

@@ -1,0 +1,21 @@
+//! Blank disks in memory.
+ghost use Rattle.std.specs.Prelude.{◌≤◌, ◌^◌, IfOk};
+ghost use Rattle.bus_programs.specs.Blank.{AreBlank};
+
+use cut_disk::MemDisk;
+use std::alloc::{AllocError, Global};
+
+/// So many blank disks of so many bytes each, at most 2^24.
+pub fn blank_disks(alloc: Global, count: usize, size: usize) -> Result<Vec<MemDisk>, AllocError>
+    requires { size ≤ 2 ^ 24 }
+    ensures { IfOk result (λ disks. AreBlank count size disks.items) }
+{
+    let mut disks = Vec::new(alloc);
+    for index in 0..count {
+        match MemDisk::new(alloc, size) {
+            Ok(disk) => disks.push(disk)?,
+            Err(_) => return Err(AllocError),
+        }
+    }
+    Ok(disks)
+}

@@ -1,5 +1,0 @@
-pub mod Added
-pub mod Cutting
-pub mod PlainWords
-pub mod ReadBack
-pub mod OneToOne

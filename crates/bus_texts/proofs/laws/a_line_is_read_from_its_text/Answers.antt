@@ -1,5 +1,0 @@
-use Rattle.bus_texts.proofs.OneToOne.{line_apart}
-use Rattle.bus_texts.proofs.laws.a_line_is_read_from_its_text.Goals as goal
-
-pub returns : goal.returns
-returns c = line_apart

@@ -1,4 +1,0 @@
-mod Drawing
-mod TrialLists
-mod TrialValues
-mod Trials

@@ -1,8 +1,0 @@
-use Rattle.std.proofs.Common.{◌≡◌}
-use Rattle.bus_trials.specs.Trials.{keys_of_bus}
-use Rattle.bus_trials.proofs.TrialLists.{events_and_left}
-use Rattle.bus_trials.proofs.trial.events_in.Given as goal
-
--- the events so far, before those that are left, are the whole
-abbrev pub invariant-loop-done : goal.invariant-loop-done
-invariant-loop-done l = events_and_left l.bus.nodes l.count l.done l.events.items l.draws ≡ events_and_left l.bus.nodes l.count 0 (keys_of_bus l.bus.nodes) l.fn.seed

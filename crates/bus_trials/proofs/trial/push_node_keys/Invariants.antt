@@ -1,6 +1,0 @@
-use Rattle.std.proofs.Common.{◌≡◌, ◌++◌}
-use Rattle.bus_trials.proofs.TrialLists.{keys_below}
-use Rattle.bus_trials.proofs.trial.push_node_keys.Given as goal
-
-abbrev pub invariant-loop-slot : goal.invariant-loop-slot
-invariant-loop-slot l = l.events.items ≡ l.initial.events.items ++ keys_below l.bus.nodes l.node l.slot

@@ -1,7 +1,0 @@
-use Rattle.std.proofs.Common.{◌≡◌, ◌++◌, take}
-use Rattle.bus_nodes.specs.Buses.{ids_sent_by}
-use Rattle.bus_trials.specs.Trials.{senders_at}
-use Rattle.bus_trials.proofs.trial.push_senders.Given as goal
-
-abbrev pub invariant-loop-route : goal.invariant-loop-route
-invariant-loop-route l = l.senders.items ≡ l.initial.senders.items ++ senders_at l.node (ids_sent_by (take l.route-index l.routes))

@@ -1,6 +1,0 @@
-use Rattle.std.proofs.Common.{◌≡◌, ◌++◌, drop}
-use Rattle.bus_trials.specs.Trials.{route_ids}
-use Rattle.bus_trials.proofs.trial.route_ids.Given as goal
-
-abbrev pub invariant-loop-node : goal.invariant-loop-node
-invariant-loop-node l = l.ids.items ++ route_ids (drop l.node-index l.nodes) ≡ route_ids l.nodes

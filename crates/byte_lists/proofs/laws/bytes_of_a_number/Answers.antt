@@ -1,5 +1,0 @@
-use Rattle.byte_lists.specs.NumberLaws.{IsBytes-bytes_of}
-use Rattle.byte_lists.proofs.laws.bytes_of_a_number.Goals as goal
-
-pub returns : goal.returns
-returns c = IsBytes-bytes_of

@@ -1,8 +1,0 @@
-use Rattle.byte_lists.specs.NumberLaws.{number_of-bytes_of, number_of-bytes_of-lt}
-use Rattle.byte_lists.proofs.laws.number_of_its_bytes.Goals as goal
-
-pub returns-clause-lowest : goal.returns-clause-lowest
-returns-clause-lowest c = number_of-bytes_of
-
-pub returns-clause-whole : goal.returns-clause-whole
-returns-clause-whole c = number_of-bytes_of-lt

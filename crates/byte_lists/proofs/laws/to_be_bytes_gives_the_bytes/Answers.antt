@@ -1,5 +1,0 @@
-use Rattle.byte_lists.specs.NumberLaws.{to_be_bytes-is}
-use Rattle.byte_lists.proofs.laws.to_be_bytes_gives_the_bytes.Goals as goal
-
-pub returns : goal.returns
-returns c = to_be_bytes-is

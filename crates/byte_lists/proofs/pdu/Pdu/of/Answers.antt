@@ -1,5 +1,0 @@
-use Rattle.byte_lists.proofs.Padding.{padded}
-use Rattle.byte_lists.proofs.pdu.Pdu.of.Goals as goal
-
-pub invariant_of-result : goal.invariant_of-result
-invariant_of-result c = padded c.copy_from_slice.new.self c.args.bytes.now c.copy_from_slice.ensures.after

@@ -1,6 +1,0 @@
-pub mod Bytes
-pub mod Numbers
-pub mod NumberLaws
-pub mod Padded
-pub mod Blocks
-pub mod BlockLaws

@@ -1,2 +1,0 @@
-pub mod WantsMemory
-pub mod TwoWords

@@ -1,0 +1,30 @@
+-- A campaign for whose disk there is no memory
+use Rattle.std.specs.Prelude.{◌≡◌, ◌≢◌, ℕ, List, [], ◌∷◌, None, length}
+use Rattle.std.proofs.Common.{refl, subst, sym}
+use Rattle.bus_port.specs.Sink.{SinkState}
+use Rattle.program_edge.specs.declared.input.InputFault.TheVariants as input
+use Rattle.program_edge.specs.InputLaws.{Lacks-unread}
+use Rattle.program_edge.specs.NamedSources.{missing_source, second_of_two}
+use Rattle.program_edge.specs.Endings.{Ending}
+use Rattle.program_edge.specs.EndingLaws.{EndsInRow-memory}
+use Rattle.campaign_commands.specs.Rows.{CampaignInputs, CampaignDisks, AreTwo, ComesBefore, no_commands, EndsCampaign, in_row}
+use Rattle.campaign_commands.specs.Examples.{Campaigns}
+use Rattle.campaign_commands.proofs.Promises.{RunsCampaign-ends}
+
+-- words of which the second of two is one are two
+pub are_two : (words : List (List ℕ)) → second_of_two words ≢ None → AreTwo words
+are_two [] some = absurd (some refl)
+are_two (a ∷ []) some = absurd (some refl)
+are_two (a ∷ b ∷ []) some = refl
+are_two (a ∷ b ∷ c ∷ words) some = absurd (some refl)
+
+pub wants_disk : (words : List (List ℕ)) (sink : SinkState) → AreTwo words → Campaigns
+    (record { words = words; script = record { before = missing_source 0; after = missing_source 0 } })
+    (record { before = []; after = [] }) (record { before = sink; after = sink; status = 7 })
+wants_disk words sink two =
+    let i : CampaignInputs = record { words = words; script = record { before = missing_source 0; after = missing_source 0 } } in
+    let d : CampaignDisks = record { before = []; after = [] } in
+    let e : Ending = record { before = sink; after = sink; status = 7 } in
+    let ends : EndsCampaign (d.after ≡ d.before) i d e =
+    in_row (EndsInRow-memory (ComesBefore (d.after ≡ d.before) i d) sink (no_commands input.Memory (two, Lacks-unread i.script refl) refl)) in
+    (RunsCampaign-ends (d.after ≡ d.before) i d e refl refl ends, ends)

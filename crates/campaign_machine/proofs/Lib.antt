@@ -1,9 +1,0 @@
-pub mod Places
-pub mod Changes
-pub mod Effects
-pub mod SoundSteps
-pub mod Rising
-pub mod Requests
-pub mod Skipping
-pub mod Replies
-pub mod CallerLemmas

@@ -1,5 +1,0 @@
-use Rattle.campaign_machine.proofs.Skipping.{FewAreSkipped-run}
-use Rattle.campaign_machine.proofs.laws.few_counters_are_skipped.Goals as goal
-
-pub returns : goal.returns
-returns c = λ start ms last begins run. FewAreSkipped-run start ms last begins.sound begins.calm run

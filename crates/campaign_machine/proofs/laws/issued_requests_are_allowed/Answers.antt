@@ -1,5 +1,0 @@
-use Rattle.campaign_machine.proofs.Requests.{Allowed-run}
-use Rattle.campaign_machine.proofs.laws.issued_requests_are_allowed.Goals as goal
-
-pub returns : goal.returns
-returns c = λ start ms last begins run slots good. Allowed-run slots good start ms last run

@@ -1,4 +1,0 @@
-pub mod Entries
-pub mod Campaign
-pub mod Steps
-pub mod Claims

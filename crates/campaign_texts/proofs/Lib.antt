@@ -1,3 +1,0 @@
-pub mod NoWords
-pub mod CommandValues
-pub mod Added

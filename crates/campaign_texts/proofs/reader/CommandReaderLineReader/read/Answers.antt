@@ -1,6 +1,0 @@
-use Rattle.std.proofs.Common.{sym, ◌∙◌}
-use Rattle.campaign_texts.proofs.NoWords.{no_words}
-use Rattle.campaign_texts.proofs.reader.CommandReaderLineReader.read.Goals as goal
-
-pub returns-then-is_empty : goal.returns-then-is_empty
-returns-then-is_empty c = no_words c.args.words.now (sym c.is_empty.ensures ∙ c.if-is_empty.true)

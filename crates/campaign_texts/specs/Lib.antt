@@ -1,4 +1,0 @@
-pub mod CommandKinds
-pub mod CommandForms
-pub mod LedgerTexts
-pub mod ScriptCommands

@@ -1,4 +1,0 @@
-pub mod Arrows
-pub mod Turning
-pub mod Heights
-pub mod Drawing

@@ -1,0 +1,11 @@
+pub mod Arrows
+pub mod Turning
+pub mod Heights
+pub mod Drawing
+pub mod Pieces
+pub mod Contents
+pub mod Joined
+pub mod Elements
+pub mod Told
+pub mod RowElements
+pub mod ChartElements

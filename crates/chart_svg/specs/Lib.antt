@@ -1,0 +1,10 @@
+pub mod Marks
+pub mod Places
+pub mod Lifelines
+pub mod MarkLaws
+pub mod Counts
+pub mod Labels
+pub mod ChartTexts
+pub mod LifeSteps
+pub mod Grammar
+pub mod GrammarLaws

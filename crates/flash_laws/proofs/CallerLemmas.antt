@@ -1,0 +1,4 @@
+-- The lemmas that crates above cite.
+pub use Rattle.flash_laws.proofs.Copies.{after-append, length-copy}
+pub use Rattle.flash_laws.proofs.Reached.{formatted_lives, later_lives, power_up}
+pub use Rattle.flash_laws.proofs.Wear.{next_cases, next_inside}

@@ -1,0 +1,4 @@
+pub mod Going
+pub mod Taking
+pub mod Scanned
+pub mod Stores

@@ -1,0 +1,76 @@
+//! Starts of a store, and what it refuses.
+ghost use Rattle.std.specs.Prelude.{◌≡◌, ◌<◌, IfOk};
+ghost use Rattle.flash_places.specs.MemFlash.{memory_state};
+
+use flash_log::{AttachFault, FlashLog, PutFault, attach, format};
+use flash_places::MemFlash;
+use std::alloc::Global;
+use std::process::Abort;
+use std::test::Fail;
+
+/// A flash of three banks of eight places, with a store of two cells.
+fn fresh_flash(alloc: Global) -> Result<MemFlash, Fail>
+    ensures { IfOk result (λ flash. (memory_state flash).places ≡ 8) }
+{
+    let mut flash = MemFlash::new(alloc, 3, 8)?;
+    match format(&mut flash, &[[1; 32], [2; 32]]) {
+        Ok(()) => Ok(flash),
+        Err(_) => Err(Fail::from("not formatted")),
+    }
+}
+
+/// Attaches the store of two cells, and says what the second one has.
+fn start(flash: &mut MemFlash) -> Result<(FlashLog, [u8; 32]), AttachFault>
+    requires { 3 < (memory_state flash.old).places }
+    ensures { (memory_state flash.new).places ≡ (memory_state flash.old).places }
+{
+    let mut cells = [[0; 32]; 2];
+    let mut scratch = [[0; 32]; 2];
+    let store = attach(flash, &mut cells, &mut scratch)?;
+    Ok((store, cells[1]))
+}
+
+#[test]
+fn a_start_goes_on_only_if_blank_places_are_told(rt: HostRuntime) -> Result<(), Fail> {
+    let mut flash = fresh_flash(rt.alloc())?;
+    flash.answer_by(0, true);
+    let first = start(&mut flash);
+    let second = start(&mut flash);
+    assert_eq!(rt; first, second);
+    flash.answer_by(0, false);
+    let third = start(&mut flash);
+    assert!(rt; third != second);
+    Ok(())
+}
+
+#[test]
+fn a_flash_without_a_log_has_no_store(rt: HostRuntime) -> Result<(), Fail> {
+    let mut flash = MemFlash::new(rt.alloc(), 2, 8)?;
+    assert_eq!(rt; start(&mut flash), Err(AttachFault::NoStore));
+    Ok(())
+}
+
+/// Attaches, and puts while an operation fails, once more, and in a new start.
+fn put_thrice(flash: &mut MemFlash) -> Result<[Result<(), PutFault>; 3], AttachFault>
+    requires { 3 < (memory_state flash.old).places }
+    ensures { (memory_state flash.new).places ≡ (memory_state flash.old).places }
+{
+    let mut cells = [[0; 32]; 2];
+    let mut scratch = [[0; 32]; 2];
+    let mut store = attach(flash, &mut cells, &mut scratch)?;
+    flash.fail_at(1);
+    let failed = store.put(flash, &mut cells, 1, &[7; 32]);
+    let refused = store.put(flash, &mut cells, 1, &[7; 32]);
+    let mut store = attach(flash, &mut cells, &mut scratch)?;
+    let done = store.put(flash, &mut cells, 1, &[8; 32]);
+    Ok([failed, refused, done])
+}
+
+#[test]
+fn a_store_waits_for_a_start_after_a_failed_put(rt: HostRuntime) -> Result<(), Fail> {
+    let mut flash = fresh_flash(rt.alloc())?;
+    let ends = [Err(PutFault::Failed), Err(PutFault::NotReady), Ok(())];
+    assert_eq!(rt; put_thrice(&mut flash), Ok(ends));
+    assert!(rt; start(&mut flash).is_ok_and(|it| it.1 == [8; 32]));
+    Ok(())
+}

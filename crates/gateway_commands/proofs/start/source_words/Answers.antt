@@ -1,0 +1,18 @@
+use Rattle.std.proofs.Common.{◌≡◌, ◌≤◌, refl, false, true, length, map, drop, Some, ap, arith}
+use Rattle.std.specs.Prelude.{string_bytes}
+use Rattle.std.proofs.lemmas.List.{length-map}
+use Rattle.gateway_commands.specs.Named.{first_two, no_source}
+use Rattle.gateway_commands.proofs.Wording.{asks_count}
+use Rattle.gateway_commands.proofs.Naming.{texts_of}
+use Rattle.gateway_commands.proofs.start.source_words.Goals as goal
+
+pub returns-then-not-is_asked : goal.returns-then-not-is_asked
+returns-then-not-is_asked c = no_source (λ asks. let same : false ≡ true = c.if-not-is_asked.ensures.1 asks in cc) refl refl
+
+pub returns : goal.returns
+returns c =
+    let asked = c.if-not-is_asked.ensures.0 refl in
+    let two : 2 ≤ length c.args.words.now = omega (arith, asks_count (map string_bytes c.args.words.now) asked.0 asked.1, length-map c.args.words.now string_bytes) in
+    first_two _ _ (map string_bytes (drop 2 c.args.words.now)) asked
+    (texts_of string_bytes c.args.words.now c.index-words-0.result c.index-words-1.result two c.index-words-0.is c.index-words-1.is)
+    (ap Some c.as_str.ensures.value) (ap Some c.as_str-2.ensures.value)

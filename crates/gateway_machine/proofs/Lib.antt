@@ -1,4 +1,0 @@
-pub mod Stepping
-pub mod Rising
-pub mod Forwarding
-pub mod CallerLemmas

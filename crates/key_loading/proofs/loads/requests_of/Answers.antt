@@ -1,5 +1,0 @@
-use Rattle.key_loading.proofs.SourceLaws.{few_requests}
-use Rattle.key_loading.proofs.loads.requests_of.Goals as goal
-
-pub returns-in-Ok-clause-few : goal.returns-in-Ok-clause-few
-returns-in-Ok-clause-few c = few_requests c.args.text.now c.in-Ok.requests.items c.in-Ok.ensures

@@ -1,9 +1,0 @@
-pub mod Counting
-pub mod Finding
-pub mod LoadTexts
-pub mod Answers
-pub mod Loader
-pub mod Opening
-pub mod Loading
-pub mod Loads
-pub mod Promises

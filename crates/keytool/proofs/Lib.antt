@@ -1,2 +1,0 @@
-pub mod LoadAlone
-pub mod FileNamed

@@ -1,5 +1,0 @@
-use Rattle.life_laws.proofs.Chain.{attached_follow}
-use Rattle.life_laws.proofs.laws.attached_runs_are_next_lives.Goals as goal
-
-pub returns : goal.returns
-returns c = attached_follow c.starts_are_set_up.ensures c.starts_go_on_at_a_first_world.ensures c.turns_are_world_runs.ensures

@@ -1,5 +1,0 @@
-use Rattle.life_laws.proofs.Chain.{next_starts_blame_no_bytes}
-use Rattle.life_laws.proofs.laws.next_starts_blame_no_bytes.Goals as goal
-
-pub returns : goal.returns
-returns c = next_starts_blame_no_bytes

@@ -1,5 +1,0 @@
-use Rattle.life_laws.proofs.Chain.{unfinished_starts_leave_nodes}
-use Rattle.life_laws.proofs.laws.unfinished_starts_leave_nodes.Goals as goal
-
-pub returns : goal.returns
-returns c = unfinished_starts_leave_nodes

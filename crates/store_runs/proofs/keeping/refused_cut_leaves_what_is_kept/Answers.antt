@@ -1,5 +1,0 @@
-use Rattle.store_runs.specs.KeepingLaws.{fits_refused}
-use Rattle.store_runs.proofs.keeping.refused_cut_leaves_what_is_kept.Goals as goal
-
-pub returns : goal.returns
-returns c = λ keeping old new fits cuts tells layout. fits_refused keeping old new fits cuts tells layout

@@ -1,7 +1,0 @@
-use Rattle.std.proofs.Common.{refl}
-use Rattle.store_runs.specs.Keeping.{keeps_cells}
-use Rattle.store_runs.specs.KeepingLaws.{fits_up}
-use Rattle.store_runs.proofs.keeping.store_that_was_read_anew_fits_what_it_holds.Goals as goal
-
-pub returns : goal.returns
-returns c = λ old new cuts tells now. fits_up (keeps_cells new.cells) old new cuts tells now refl

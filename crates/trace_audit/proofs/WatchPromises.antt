@@ -1,0 +1,258 @@
+-- What a run that ends so promises
+use Rattle.std.proofs.Common.{◌≡◌, ◌⊎◌, ℕ, ◌<◌, ◌≤◌, Bool, true, false, List, [], length, inl, inr, refl, sym, ◌∙◌, ap, subst, arith}
+use Rattle.std.specs.Prelude.{Ok, Err, codes, if◌then◌else◌, nat_lt}
+use Rattle.bus_port.specs.Fault.{last_count}
+use Rattle.bus_port.specs.Source.{SourceState, Came}
+use Rattle.text_lines.specs.Readings.{Fault}
+use Rattle.text_lines.specs.Texts.{fault_text_of}
+use Rattle.program_edge.specs.Input.{input_fault_status}
+use Rattle.program_edge.specs.declared.input.InputFault.TheVariants as input
+use Rattle.program_edge.specs.Rows.{Row}
+use Rattle.program_edge.specs.Inputs.{Reading, IsUnread, ReadsWhole, Lacks, SourceFailed, CountsFault, GivesTooMuch, CountsTooMuch, Offers}
+use Rattle.program_edge.specs.InputLaws.{Lacks-whole, CountsFault-is, CountsTooMuch-is, Offers-is, Offers-whole}
+use Rattle.program_edge.specs.Endings.{Ending, PrintsWhole, EndsInRow}
+use Rattle.program_edge.specs.EndingLaws.{EndsInRow-at, EndsInRow-front, EndsInRow-rose, EndsInRow-only, EndsInRow-may, EndsInRow-well}
+use Rattle.trace_audit.specs.declared.map_lines.MapLine.{MapLine}
+use Rattle.trace_audit.specs.Auditing.{Finding}
+use Rattle.trace_audit.specs.Rows.{AuditInputs, NamesInputs}
+use Rattle.trace_audit.specs.WatchMaps.{watch_map_of}
+use Rattle.trace_audit.specs.Watching.{watch_status, failed_in, accepted_in}
+use Rattle.trace_audit.specs.WatchRows.{watch_usage, IsWatchMapFault, done, failed, too_long, Stops, FailsBoth, OverMap, ComesInWatch, no_form, no_map, map_fault, of_log, EndsWatch}
+use Rattle.trace_audit.specs.Watches.{IsAnswer, AnswersLog, HoldsNothingBack, Watches}
+use Rattle.trace_audit.proofs.PrintedRise.{rises}
+
+-- the status at the end of a log is 0, 1 or 3
+two_tests : (a b : Bool) → IsAnswer (if a then 1 else if b then 0 else 3)
+two_tests true b = inr (inl refl)
+two_tests false true = inl refl
+two_tests false false = inr (inr refl)
+
+status_answers : (findings : List Finding) → IsAnswer (watch_status findings)
+status_answers findings = two_tests (nat_lt 0 (failed_in findings)) (nat_lt 0 (accepted_in findings))
+
+not_answer : (status n : ℕ) → IsAnswer status → status ≡ n → (¬ (n ≡ 0)) → (¬ (n ≡ 1)) → (¬ (n ≡ 3)) → ⊥
+not_answer status n (inl zero) is a b c = a (sym is ∙ zero)
+not_answer status n (inr (inl one)) is a b c = b (sym is ∙ one)
+not_answer status n (inr (inr three)) is a b c = c (sym is ∙ three)
+
+module _ (i : AuditInputs) (e : Ending) where
+  -- ---- rows by their status
+
+  answers_row : (row : Row) → ComesInWatch i row → IsAnswer row.status → e.status ≡ row.status → PrintsWhole e row.text → AnswersLog i e
+  answers_row row (no_form other map log) is same prints = absurd (not_answer 2 2 is refl (λ z. omega (arith, z)) (λ z. omega (arith, z)) (λ z. omega (arith, z)))
+  answers_row row (no_map input.ReadFault asks lacks unread) is same prints = absurd (not_answer 5 5 is refl (λ z. omega (arith, z)) (λ z. omega (arith, z)) (λ z. omega (arith, z)))
+  answers_row row (no_map input.TooLong asks lacks unread) is same prints = absurd (not_answer 8 8 is refl (λ z. omega (arith, z)) (λ z. omega (arith, z)) (λ z. omega (arith, z)))
+  answers_row row (no_map input.Memory asks lacks unread) is same prints = absurd (not_answer 7 7 is refl (λ z. omega (arith, z)) (λ z. omega (arith, z)) (λ z. omega (arith, z)))
+  answers_row row (map_fault fault asks is_fault unread) is same prints = absurd (not_answer 4 4 is refl (λ z. omega (arith, z)) (λ z. omega (arith, z)) (λ z. omega (arith, z)))
+  answers_row row (of_log _ (asks, (mapping, reads, done log findings whole finds))) is same prints =
+      (asks, (mapping, reads, (log, findings, whole, finds, same, prints)))
+  answers_row row (of_log _ (asks, (mapping, reads, failed bytes findings came finds fails))) is same prints =
+      absurd (not_answer 5 5 is refl (λ z. omega (arith, z)) (λ z. omega (arith, z)) (λ z. omega (arith, z)))
+  answers_row row (of_log _ (asks, (mapping, reads, too_long bytes findings came finds calm long))) is same prints =
+      absurd (not_answer 8 8 is refl (λ z. omega (arith, z)) (λ z. omega (arith, z)) (λ z. omega (arith, z)))
+
+  -- the status of a row that is none of an answer's
+  other_row : (n : ℕ) (findings : List Finding) → (¬ (n ≡ 0)) → (¬ (n ≡ 1)) → (¬ (n ≡ 3)) → watch_status findings ≡ n → ⊥
+  other_row n findings a b c is = not_answer (watch_status findings) n (status_answers findings) is a b c
+
+  at_2 : (row : Row) → ComesInWatch i row → row.status ≡ 2 → PrintsWhole e row.text
+      → (¬ NamesInputs i.words) × IsUnread i.map × IsUnread i.log × PrintsWhole e watch_usage
+  at_2 row (no_form other map log) two prints = (other, map, log, prints)
+  at_2 row (no_map input.ReadFault asks lacks unread) two prints = absurd (omega (arith, two))
+  at_2 row (no_map input.TooLong asks lacks unread) two prints = absurd (omega (arith, two))
+  at_2 row (no_map input.Memory asks lacks unread) two prints = absurd (omega (arith, two))
+  at_2 row (map_fault fault asks is unread) two prints = absurd (omega (arith, two))
+  at_2 row (of_log _ (asks, (mapping, reads, done log findings whole finds))) two prints =
+      absurd (other_row 2 findings (λ z. omega (arith, z)) (λ z. omega (arith, z)) (λ z. omega (arith, z)) two)
+  at_2 row (of_log _ (asks, (mapping, reads, failed bytes findings came finds fails))) two prints = absurd (omega (arith, two))
+  at_2 row (of_log _ (asks, (mapping, reads, too_long bytes findings came finds calm long))) two prints = absurd (omega (arith, two))
+
+  at_4 : (row : Row) → ComesInWatch i row → row.status ≡ 4 → PrintsWhole e row.text
+      → NamesInputs i.words × IsUnread i.log × ((fault : Fault) × IsWatchMapFault i.map fault × PrintsWhole e (fault_text_of fault))
+  at_4 row (no_form other map log) four prints = absurd (omega (arith, four))
+  at_4 row (no_map input.ReadFault asks lacks unread) four prints = absurd (omega (arith, four))
+  at_4 row (no_map input.TooLong asks lacks unread) four prints = absurd (omega (arith, four))
+  at_4 row (no_map input.Memory asks lacks unread) four prints = absurd (omega (arith, four))
+  at_4 row (map_fault fault asks is unread) four prints = (asks, unread, (fault, is, prints))
+  at_4 row (of_log _ (asks, (mapping, reads, done log findings whole finds))) four prints =
+      absurd (other_row 4 findings (λ z. omega (arith, z)) (λ z. omega (arith, z)) (λ z. omega (arith, z)) four)
+  at_4 row (of_log _ (asks, (mapping, reads, failed bytes findings came finds fails))) four prints = absurd (omega (arith, four))
+  at_4 row (of_log _ (asks, (mapping, reads, too_long bytes findings came finds calm long))) four prints = absurd (omega (arith, four))
+
+  at_5 : (row : Row) → ComesInWatch i row → row.status ≡ 5 → PrintsWhole e row.text → NamesInputs i.words
+      × ((SourceFailed i.map × IsUnread i.log × PrintsWhole e (codes "read fault\n"))
+      ⊎ (SourceFailed i.log × HoldsNothingBack i e (λ bytes. Unit {0}) (codes "read fault\n")))
+  at_5 row (no_form other map log) five prints = absurd (omega (arith, five))
+  at_5 row (no_map input.ReadFault asks lacks unread) five prints = (asks, inl (lacks.0, unread, prints))
+  at_5 row (no_map input.TooLong asks lacks unread) five prints = absurd (omega (arith, five))
+  at_5 row (no_map input.Memory asks lacks unread) five prints = absurd (omega (arith, five))
+  at_5 row (map_fault fault asks is unread) five prints = absurd (omega (arith, five))
+  at_5 row (of_log _ (asks, (mapping, reads, done log findings whole finds))) five prints =
+      absurd (other_row 5 findings (λ z. omega (arith, z)) (λ z. omega (arith, z)) (λ z. omega (arith, z)) five)
+  at_5 row (of_log _ (asks, (mapping, reads, failed bytes findings came finds fails))) five prints =
+      (asks, inr (fails, (asks, (mapping, reads, (bytes, findings, came, tt, finds, prints)))))
+  at_5 row (of_log _ (asks, (mapping, reads, too_long bytes findings came finds calm long))) five prints = absurd (omega (arith, five))
+
+  at_7 : (row : Row) → ComesInWatch i row → row.status ≡ 7 → PrintsWhole e row.text
+      → NamesInputs i.words × Lacks i.map input.Memory × IsUnread i.log × PrintsWhole e []
+  at_7 row (no_form other map log) seven prints = absurd (omega (arith, seven))
+  at_7 row (no_map input.ReadFault asks lacks unread) seven prints = absurd (omega (arith, seven))
+  at_7 row (no_map input.TooLong asks lacks unread) seven prints = absurd (omega (arith, seven))
+  at_7 row (no_map input.Memory asks lacks unread) seven prints = (asks, lacks, unread, prints)
+  at_7 row (map_fault fault asks is unread) seven prints = absurd (omega (arith, seven))
+  at_7 row (of_log _ (asks, (mapping, reads, done log findings whole finds))) seven prints =
+      absurd (other_row 7 findings (λ z. omega (arith, z)) (λ z. omega (arith, z)) (λ z. omega (arith, z)) seven)
+  at_7 row (of_log _ (asks, (mapping, reads, failed bytes findings came finds fails))) seven prints = absurd (omega (arith, seven))
+  at_7 row (of_log _ (asks, (mapping, reads, too_long bytes findings came finds calm long))) seven prints = absurd (omega (arith, seven))
+
+  at_8 : (row : Row) → ComesInWatch i row → row.status ≡ 8 → PrintsWhole e row.text → NamesInputs i.words
+      × ((GivesTooMuch i.map × IsUnread i.log × PrintsWhole e (codes "input too long\n"))
+      ⊎ HoldsNothingBack i e (λ bytes. last_count ≤ length bytes) (codes "input too long\n"))
+  at_8 row (no_form other map log) eight prints = absurd (omega (arith, eight))
+  at_8 row (no_map input.ReadFault asks lacks unread) eight prints = absurd (omega (arith, eight))
+  at_8 row (no_map input.TooLong asks lacks unread) eight prints = (asks, inl (lacks.1, unread, prints))
+  at_8 row (no_map input.Memory asks lacks unread) eight prints = absurd (omega (arith, eight))
+  at_8 row (map_fault fault asks is unread) eight prints = absurd (omega (arith, eight))
+  at_8 row (of_log _ (asks, (mapping, reads, done log findings whole finds))) eight prints =
+      absurd (other_row 8 findings (λ z. omega (arith, z)) (λ z. omega (arith, z)) (λ z. omega (arith, z)) eight)
+  at_8 row (of_log _ (asks, (mapping, reads, failed bytes findings came finds fails))) eight prints = absurd (omega (arith, eight))
+  at_8 row (of_log _ (asks, (mapping, reads, too_long bytes findings came finds calm long))) eight prints =
+      (asks, inr (asks, (mapping, reads, (bytes, findings, came, long, finds, prints))))
+
+  never_6 : (row : Row) → ComesInWatch i row → ¬ (row.status ≡ 6)
+  never_6 row (no_form other map log) = λ six. omega (arith, six)
+  never_6 row (no_map input.ReadFault asks lacks unread) = λ six. omega (arith, six)
+  never_6 row (no_map input.TooLong asks lacks unread) = λ six. omega (arith, six)
+  never_6 row (no_map input.Memory asks lacks unread) = λ six. omega (arith, six)
+  never_6 row (map_fault fault asks is unread) = λ six. omega (arith, six)
+  never_6 row (of_log _ (asks, (mapping, reads, done log findings whole finds))) = λ six.
+      other_row 6 findings (λ z. omega (arith, z)) (λ z. omega (arith, z)) (λ z. omega (arith, z)) six
+  never_6 row (of_log _ (asks, (mapping, reads, failed bytes findings came finds fails))) = λ six. omega (arith, six)
+  never_6 row (of_log _ (asks, (mapping, reads, too_long bytes findings came finds calm long))) = λ six. omega (arith, six)
+
+  -- ---- which rows come
+
+  unread_faults : (r : Reading) → IsUnread r → r.before.faults < r.after.faults → ⊥
+  unread_faults r unread counts = omega (arith, counts, ap (λ (s : SourceState). s.faults) unread)
+
+  ok_is_err : (m : List MapLine) (f : Fault) (read text : List ℕ) → read ≡ text → watch_map_of read ≡ Ok m → watch_map_of text ≡ Err f → ⊥
+  ok_is_err m f read text same ok err = let clash : Ok m ≡ Err f = sym ok ∙ ap watch_map_of same ∙ err in cc
+
+  only_2 : ¬ NamesInputs i.words → (row : Row) → ComesInWatch i row → row.status ≡ 2
+  only_2 other row (no_form free map log) = refl
+  only_2 other row (no_map fault asks lacks unread) = absurd (other asks)
+  only_2 other row (map_fault fault asks is unread) = absurd (other asks)
+  only_2 other row (of_log _ (asks, over)) = absurd (other asks)
+
+  only_4 : (text : List ℕ) (fault : Fault) → NamesInputs i.words → Offers i.map text → watch_map_of text ≡ Err fault → (row : Row) → ComesInWatch i row
+      → (row.status ≡ 4) ⊎ (row.status ≡ 7)
+  only_4 text fault names offers is row (no_form other map log) = absurd (other names)
+  only_4 text fault names offers is row (no_map lack asks lacks unread) = inr (ap input_fault_status (Offers-is i.map text lack offers lacks))
+  only_4 text fault names offers is row (map_fault first asks first_is unread) = inl refl
+  only_4 text fault names offers is row (of_log _ (asks, (mapping, (read, whole, read_is), comes))) =
+      absurd (ok_is_err mapping fault read text (Offers-whole i.map text read offers whole) read_is is)
+
+  map_faults : CountsFault i.map → (row : Row) → ComesInWatch i row → row.status ≡ 5
+  map_faults counts row (no_form other map log) = absurd (unread_faults i.map map counts)
+  map_faults counts row (no_map fault asks lacks unread) = ap input_fault_status (CountsFault-is i.map fault counts lacks)
+  map_faults counts row (map_fault fault asks (text, whole, is) unread) = absurd (omega (arith, counts, whole.no_fault))
+  map_faults counts row (of_log _ (asks, (mapping, (text, whole, is), comes))) = absurd (omega (arith, counts, whole.no_fault))
+
+  log_faults : CountsFault i.log → (row : Row) → ComesInWatch i row → row.status ≡ 5
+  log_faults counts row (no_form other map log) = absurd (unread_faults i.log log counts)
+  log_faults counts row (no_map fault asks lacks unread) = absurd (unread_faults i.log unread counts)
+  log_faults counts row (map_fault fault asks is unread) = absurd (unread_faults i.log unread counts)
+  log_faults counts row (of_log _ (asks, (mapping, reads, done log findings whole finds))) = absurd (omega (arith, counts, whole.no_fault))
+  log_faults counts row (of_log _ (asks, (mapping, reads, failed bytes findings came finds fails))) = refl
+  log_faults counts row (of_log _ (asks, (mapping, reads, too_long bytes findings came finds calm long))) = absurd (omega (arith, counts, calm))
+
+  whole_not_long : (text : List ℕ) → CountsTooMuch i.map → ReadsWhole i.map text → ⊥
+  whole_not_long text counts whole =
+      let clash : input.Memory ≡ input.TooLong = CountsTooMuch-is i.map input.Memory counts (Lacks-whole i.map text whole) in cc
+
+  only_8 : CountsTooMuch i.map → (row : Row) → ComesInWatch i row → row.status ≡ 8
+  only_8 counts row (no_form other map log) = absurd (omega (arith, counts.1, ap (λ (s : SourceState). s.taken) map))
+  only_8 counts row (no_map fault asks lacks unread) = ap input_fault_status (CountsTooMuch-is i.map fault counts lacks)
+  only_8 counts row (map_fault fault asks (text, whole, is) unread) = absurd (whole_not_long text counts whole)
+  only_8 counts row (of_log _ (asks, (mapping, (text, whole, is), comes))) = absurd (whole_not_long text counts whole)
+
+  few_came : (bytes : List ℕ) → Came i.log.before i.log.after bytes → last_count ≤ length bytes → i.log.after.taken < last_count → ⊥
+  few_came bytes came long few = omega (arith, came.counted, long, few)
+
+  completes : (text : List ℕ) (mapping : List MapLine) → NamesInputs i.words → Offers i.map text → watch_map_of text ≡ Ok mapping
+      → ¬ SourceFailed i.log → i.log.after.taken < last_count → (row : Row) → ComesInWatch i row → IsAnswer row.status ⊎ (row.status ≡ 7)
+  completes text mapping names offers is calm few row (no_form other map log) = absurd (other names)
+  completes text mapping names offers is calm few row (no_map lack asks lacks unread) = inr (ap input_fault_status (Offers-is i.map text lack offers lacks))
+  completes text mapping names offers is calm few row (map_fault fault asks (read, whole, read_is) unread) =
+      let same : text ≡ read = sym (Offers-whole i.map text read offers whole) in absurd (ok_is_err mapping fault text read same is read_is)
+  completes text mapping names offers is calm few row (of_log _ (asks, (m, reads, done log findings whole finds))) = inl (status_answers findings)
+  completes text mapping names offers is calm few row (of_log _ (asks, (m, reads, failed bytes findings came finds fails))) = absurd (calm fails)
+  completes text mapping names offers is calm few row (of_log _ (asks, (m, reads, too_long bytes findings came finds still long))) = absurd (few_came bytes came long few)
+
+  -- ---- the promises
+
+  of_answer : EndsInRow (ComesInWatch i) e → IsAnswer e.status → AnswersLog i e
+  of_answer ends (inl zero) = EndsInRow-at ends 0 refl (λ row comes is prints. answers_row row comes (inl is) (zero ∙ sym is) prints) zero
+  of_answer ends (inr (inl one)) = EndsInRow-at ends 1 refl (λ row comes is prints. answers_row row comes (inr (inl is)) (one ∙ sym is) prints) one
+  of_answer ends (inr (inr three)) = EndsInRow-at ends 3 refl (λ row comes is prints. answers_row row comes (inr (inr is)) (three ∙ sym is) prints) three
+
+  same_status : (row : Row) → e.status ≡ row.status → IsAnswer row.status ⊎ (row.status ≡ 7) → IsAnswer e.status ⊎ (e.status ≡ 7)
+  same_status row is (inl answer) = inl (subst IsAnswer (sym is) answer)
+  same_status row is (inr seven) = inr (is ∙ seven)
+
+  -- if both the log and the sink failed, the log did first
+  abbrev LogFirst : Type 0
+  LogFirst = e.status ≡ 6 → CountsFault i.log → OverMap i (λ mapping. FailsBoth mapping i.log e)
+
+  -- a run that ends in a row
+  Watches-row : EndsInRow (ComesInWatch i) e → LogFirst → Watches i e
+  Watches-row ends first = record {
+    ends = inl ends;
+    answered = of_answer ends;
+    rising = rises i e (inl ends);
+    usage = EndsInRow-at ends 2 refl at_2;
+    usage_only = λ other. EndsInRow-only ends 2 (only_2 other);
+    refused = EndsInRow-at ends 4 refl at_4;
+    refused_only = λ text fault names offers is. EndsInRow-may ends 4 (only_4 text fault names offers is);
+    nothing_held_back = EndsInRow-at ends 5 refl at_5;
+    read_fault_only = λ counts. elim counts [
+      | inl map ↦ EndsInRow-only ends 5 (map_faults map)
+      | inr log ↦ EndsInRow-only ends 5 (log_faults log)
+    ];
+    write_fault = λ six. let (fails, front) = EndsInRow-front ends never_6 six in (fails, inl front);
+    write_fault_only = EndsInRow-rose ends;
+    log_fails_first = first;
+    no_memory = EndsInRow-at ends 7 refl at_7;
+    too_long = EndsInRow-at ends 8 refl at_8;
+    too_long_only = λ counts. EndsInRow-only ends 8 (only_8 counts);
+    complete = λ text mapping names offers is calm few well.
+        let (row, comes, status_is, prints) = EndsInRow-well ends well in
+        same_status row status_is (completes text mapping names offers is calm few row comes);
+  }
+
+  -- one whose sink failed before the log ended
+  Watches-stops : OverMap i (λ mapping. Stops mapping i.log e) → LogFirst → Watches i e
+  Watches-stops (asks, (mapping, reads, stops)) first =
+      let six : e.status ≡ 6 = stops.status_is in
+      record {
+        ends = inr (asks, (mapping, reads, stops));
+        answered = λ is. absurd (not_answer e.status 6 is six (λ z. omega (arith, z)) (λ z. omega (arith, z)) (λ z. omega (arith, z)));
+        rising = rises i e (inr (asks, (mapping, reads, stops)));
+        usage = λ two. absurd (omega (arith, two, six));
+        usage_only = λ other. inr six;
+        refused = λ four. absurd (omega (arith, four, six));
+        refused_only = λ text fault names offers is. inr (inl six);
+        nothing_held_back = λ five. absurd (omega (arith, five, six));
+        read_fault_only = λ counts. inr six;
+        write_fault = λ is. (stops.fails, inr (asks, (mapping, reads, stops)));
+        write_fault_only = λ rose. six;
+        log_fails_first = first;
+        no_memory = λ seven. absurd (omega (arith, seven, six));
+        too_long = λ eight. absurd (omega (arith, eight, six));
+        too_long_only = λ counts. inr six;
+        complete = λ text mapping names offers is calm few well. absurd (well stops.fails);
+      }
+
+  pub Watches-ends : EndsWatch i e → LogFirst → Watches i e
+  Watches-ends (inl ends) first = Watches-row ends first
+  Watches-ends (inr stops) first = Watches-stops stops first

@@ -1,0 +1,19 @@
+use Rattle.std.proofs.Common.{◌≡◌, [], ◌∷◌, sym, ap, ◌∙◌, subst}
+use Rattle.basics.specs.FaultCount.{counted}
+use Rattle.trace_audit.specs.States.{WatchState, FindsMore, JudgesLine}
+use Rattle.trace_audit.specs.contracts.watch_state.Watch.{the_view}
+use Rattle.trace_audit.proofs.Going.{Watched-ends, ended, ended_is}
+use Rattle.trace_audit.proofs.watch_state.Watch.end_line.Goals as goal
+
+pub returns-clause-goes_on : goal.returns-clause-goes_on
+returns-clause-goes_on c =
+    let old : WatchState = the_view c.self.inside in
+    let judged : WatchState = c.judge_line-tally.new.self in
+    let counts = c.judge_line-tally.result in
+    let judges : JudgesLine (record old { lines = counted old.lines }) judged counts =
+    subst (λ n. JudgesLine (record old { lines = n }) judged counts) c.saturating_add-self-inside.ensures c.judge_line-tally.ensures.judges in
+    let new_is : record (the_view c.self-2.inside) { line = [] } ≡ ended old judged counts =
+    ap (λ (s : WatchState). record s { line = [] }) (c.self-2.view_is ∙ c.count.ensures) ∙ ended_is old judged counts judges in
+    subst (λ (s : WatchState). FindsMore s (record (the_view c.self-2.inside) { line = c.clear.new.self.items }) (10 ∷ [])) c.self.view_is
+    (subst (λ l. FindsMore old (record (the_view c.self-2.inside) { line = l }) (10 ∷ [])) (sym c.clear.ensures.items)
+    (subst (λ (s : WatchState). FindsMore old s (10 ∷ [])) (sym new_is) (Watched-ends old judged counts judges)))

@@ -1,6 +1,0 @@
-use Rattle.world_runs.proofs.DisksBack.{disks_stay}
-use Rattle.world_runs.proofs.laws.turns_leave_disks.Goals as goal
-
-pub returns : goal.returns
-returns c = λ bus before after events start moments now set_up taken.
-    disks_stay bus before after events start moments now set_up taken

@@ -1,4 +1,0 @@
-pub mod NodeDisks
-pub mod WorldRuns
-pub mod Turns
-pub mod TurnLaws
