@@ -8,7 +8,7 @@
 
 #include "rathonsi_store.h"
 
-enum { DEPTH = 16384, CALLS = 9, TIMES = 20 };
+enum { DEPTH = 16384, CALLS = 10, TIMES = 20 };
 
 static uint8_t image[RATHONSI_STORE_SIZE(2)], payload[8], pdu[64], uid[15], mac[16], text[64];
 static const uint8_t key[16] = {0x2b, 0x7e, 0x15, 0x16, 0x28, 0xae, 0xd2, 0xa6, 0xab, 0xf7, 0x15, 0x88, 0x09, 0xcf, 0x4f, 0x3c};
@@ -19,7 +19,8 @@ static RathonsiRequest request;
 static RathonsiReply reply;
 
 static const char *const names[CALLS] = {"nothing", "aes128_encrypt, a block", "cmac, 16 bytes", "secoc_protect, 8 bytes", "route_send, 8 bytes",
-                                         "route_receive, 8 bytes", "store_check, 2 routes", "slot_load", "slot_confirm"};
+                                         "route_receive, 8 bytes", "store_check, 2 routes", "slot_load", "slot_confirm",
+                                         "aes128_encrypt, two blocks"};
 
 #ifdef SYSTICK
 static volatile uint32_t *const systick = (volatile uint32_t *)0xE000E010;
@@ -40,6 +41,7 @@ static int32_t call(int which) {
     case 6: return rathonsi_store_check(image, sizeof image);
     case 7: memset(&plan, 0, sizeof plan); return rathonsi_slot_load(uid, 0, &request, image, sizeof image, &plan);
     case 8: return rathonsi_slot_confirm(uid, request.m1, image, sizeof image, &reply);
+    case 9: return rathonsi_aes128_encrypt(key, 16, text, 32);
     default: return 0;
     }
 }
@@ -63,7 +65,7 @@ static void set_up(void) {
     update.counter = 1;
     memcpy(update.key, key, 16);
     rathonsi_store_make(image, sizeof image);
-    RathonsiRoute route = {0, 0x1234, 14, 128, 256, 4, RATHONSI_SENDS, 0, {0}};
+    RathonsiRoute route = {0, 0x1234, 14, 128, 256, 4, RATHONSI_SENDS, 0, 0, {0}};
     sender = receiver = route;
     receiver.cell = 15;
     receiver.direction = RATHONSI_RECEIVES;
@@ -74,6 +76,8 @@ static void set_up(void) {
     rathonsi_store_done(image, sizeof image, &plan);
     update.counter = 2;
     rathonsi_she_make_update(key, 16, &update, &request);
+    rathonsi_route_open(&sender, image, sizeof image);
+    rathonsi_route_open(&receiver, image, sizeof image);
     sender.counter = 10;
 }
 
@@ -90,7 +94,7 @@ int main(int count, char **words) {
         uint32_t from = ticks();
         for (int i = 0; i < TIMES; i++) status = call(which);
         uint32_t instructions = (ticks() - from) * 40 / TIMES, stack = stack_of(which, &status);
-        printf("%-24s status %d %7lu instructions %5lu bytes of stack\n", names[which], (int)status, (unsigned long)instructions, (unsigned long)stack);
+        printf("%-26s status %d %7lu instructions %5lu bytes of stack\n", names[which], (int)status, (unsigned long)instructions, (unsigned long)stack);
     }
     return 0;
 }

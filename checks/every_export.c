@@ -9,7 +9,7 @@
 
 #include "rathonsi_store.h"
 
-enum { ROUTES = 3, SIZE = RATHONSI_STORE_SIZE(ROUTES), MORE = 68, SLOTS = 14, STATUSES = 17 };
+enum { ROUTES = 3, SIZE = RATHONSI_STORE_SIZE(ROUTES), MORE = 68, SLOTS = 14, STATUSES = 18 };
 
 static uint8_t image[SIZE + MORE], key[16], uid[15], text[320], pdu[80], payload[80], mac[16], iv[16], keys[SLOTS][16];
 static RathonsiRoute routes[ROUTES];
@@ -87,8 +87,8 @@ static void add_plan(void) {
 }
 
 static void add_route(const RathonsiRoute *it) {
-    const uint64_t numbers[8] = {it->counter, it->data_id, it->cell, it->reserve, it->window, it->slot, it->direction, it->booted};
-    for (int i = 0; i < 8; i++) add_number(numbers[i]);
+    const uint64_t numbers[9] = {it->counter, it->data_id, it->cell, it->reserve, it->window, it->slot, it->direction, it->booted, it->opened};
+    for (int i = 0; i < 9; i++) add_number(numbers[i]);
     add(it->unused, sizeof it->unused);
 }
 
@@ -189,6 +189,7 @@ static void make_store(void) {
         it->slot = (uint8_t)(4 + below(3));
         it->direction = (uint8_t)(1 + i % 2);
         it->booted = (uint8_t)!one_in(4);
+        it->opened = (uint8_t)!one_in(6);
         uint64_t bound = freshness();
         status(rathonsi_route_make(it, bound, image, SIZE));
     }
@@ -207,7 +208,8 @@ static void finish(void) {
 }
 
 static void damage_route(RathonsiRoute *it) {
-    switch (below(7)) {
+    switch (below(8)) {
+    case 6: it->opened = (uint8_t)below(3); break;
     case 0: it->cell = (uint16_t)below(20); break;
     case 1: it->reserve = (uint16_t)below(300); break;
     case 2: it->window = (uint16_t)below(300); break;
@@ -219,7 +221,8 @@ static void damage_route(RathonsiRoute *it) {
 }
 
 static void reserve(const RathonsiRoute *it, uint64_t bound, size_t size) {
-    status(rathonsi_route_reserve(it, bound, image, size, &plan));
+    if (one_in(3)) status(rathonsi_route_advance(it, bound, image, size, &plan));
+    else status(rathonsi_route_reserve(it, bound, image, size, &plan));
     finish();
 }
 
@@ -268,13 +271,27 @@ static void load(size_t size) {
     add(&reply, sizeof reply);
 }
 
+static void tell(const RathonsiRoute *it, size_t size) {
+    RathonsiSlotState slot = {7, 7, 7, {7, 7}};
+    RathonsiRouteState route = {7, 7};
+    status(rathonsi_slot_state((uint8_t)below(one_in(5) ? 40 : SLOTS), image, size, &slot));
+    add_number(slot.counter);
+    add_number(slot.filled);
+    add_number(slot.flags);
+    add(slot.unused, sizeof slot.unused);
+    status(rathonsi_route_state(it, image, size, &route));
+    add_number(route.counter);
+    add_number(route.bound);
+}
+
 static void call_store(void) {
     RathonsiRoute *it = &routes[below(ROUTES)];
     size_t n = one_in(12) ? below(70) : 1 + below(60), size = one_in(60) ? below(SIZE + MORE + 1) : SIZE;
     if (one_in(60)) damage_route(it);
     if (plan.writes[1].length != 0 && one_in(2)) finish();
-    switch (below(8)) {
+    switch (below(9)) {
     case 0: status(rathonsi_route_open(it, image, size)); break;
+    case 8: tell(it, size); break;
     case 1: reserve(it, one_in(3) ? freshness() : it->counter + 1, size); break;
     case 2: case 3: send(it, n, size); break;
     case 4: case 5: receive(it, n, size); break;
@@ -292,6 +309,7 @@ static void call_store(void) {
 int main(int count, char **words) {
     long rounds = count > 1 ? atol(words[1]) : 20000;
     state = count > 2 ? (uint32_t)atol(words[2]) : 88172645u;
+    add_number(rathonsi_version());
     make_store();
     for (long i = 1; i <= rounds; i++) {
         switch (below(8)) {

@@ -31,7 +31,10 @@
  *   - With --target it makes the archive for ARM64.
  *   - With --source it writes rathonsi.c, one file of C99. Compile it with your program. It is for
  *     any processor with pointers of 32 or 64 bits, in either order of bytes. It needs no
- *     alignment, no number of 128 bits and no compiler option.
+ *     alignment, no number of 128 bits and no compiler option. It encrypts over words of 32 bits,
+ *     without a table. With RATHONSI_CIPHER defined as 2 it takes tables: that is three times as
+ *     quick, and reads memory at places that depend on keys and texts. With 0 it takes shuffles of
+ *     bytes, as the archives do. All three give the same. Decryption reads at such places with each.
  * Each of them needs memcpy, memmove and memset, and nothing else. A program without a C library
  * supplies these three.
  *
@@ -61,6 +64,9 @@ extern "C" {
 /* The version of this header and of rathonsi_store.h: major times 65536, plus minor times 256, plus
  * patch. */
 #define RATHONSI_VERSION 0x000d00u
+
+/* The version of the library that is linked, to be compared with RATHONSI_VERSION. */
+uint32_t rathonsi_version(void);
 
 /* The statuses. If several could come, the call returns the first one of this list. */
 

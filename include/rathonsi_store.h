@@ -49,7 +49,7 @@
  *     synced before it is read. Otherwise what a failed write left may be read, relied on, and then
  *     be gone.
  *   - After each power-up the caller opens every route, with RATHONSI_OK, before any other call of
- *     this header except rathonsi_store_check.
+ *     this header except rathonsi_store_check. A route that was zeroed and not opened is refused.
  *
  *   Writes
  *   - The caller does the writes of a plan in their order, each durable before the next begins.
@@ -130,7 +130,7 @@ extern "C" {
 
 /* The image doesn't begin with the header of a store of this size. */
 #define RATHONSI_NO_STORE 7
-/* A cell has no copy that counts, or isn't what the call asks of it. */
+/* A fault of the device: a cell has no copy that counts, or the cell of a slot holds no slot. */
 #define RATHONSI_DAMAGED 8
 /* The plan isn't empty. It is to be done first. */
 #define RATHONSI_BUSY 9
@@ -150,6 +150,10 @@ extern "C" {
 #define RATHONSI_KEY_WRITE_PROTECTED 15
 /* M3, the UID or the counter of the request is refused. */
 #define RATHONSI_KEY_UPDATE_ERROR 16
+/* A fault of the configuration: the image ends before the cell of the route, or the cell holds
+ * something else than a bound of this Data ID and direction. A cell that rathonsi_route_make never
+ * made holds zero bytes. */
+#define RATHONSI_WRONG_CELL 17
 
 /* A store is a twin store of version 1. It has a header, fourteen cells of key slots, and after
  * them a cell for each route, up to 256. */
@@ -172,8 +176,9 @@ typedef struct RathonsiPlan {
 #define RATHONSI_SENDS 1u
 #define RATHONSI_RECEIVES 2u
 
-/* A Data ID in one direction. The caller fills in all fields except the counter. Reserve, window,
- * slot and booted may change at any time. A route may be opened again at any time. */
+/* A Data ID in one direction. The caller fills in all fields except counter and opened, and zeroes
+ * opened. Reserve, window, slot and booted may change at any time. A route may be opened again at
+ * any time. */
 typedef struct RathonsiRoute {
     /* The last freshness that was sent or accepted. rathonsi_route_open sets it to the bound that
      * the image keeps, which is at least that. */
@@ -194,9 +199,30 @@ typedef struct RathonsiRoute {
     uint8_t direction;
     /* 1 after a secure boot that succeeded in this life, else 0. */
     uint8_t booted;
+    /* 1 once rathonsi_route_open has opened the route, which alone sets it. */
+    uint8_t opened;
     /* Not read. */
-    uint8_t unused[5];
+    uint8_t unused[4];
 } RathonsiRoute;
+
+/* What is told of a route. */
+typedef struct RathonsiRouteState {
+    uint64_t counter;
+    /* The bound that the image keeps for the route. */
+    uint64_t bound;
+} RathonsiRouteState;
+
+/* What is told of a key slot. Its key is never told. */
+typedef struct RathonsiSlotState {
+    /* The counter of the last update, below 2^28. 0 if the slot is empty. */
+    uint32_t counter;
+    /* 1 if the slot holds a key, else 0. */
+    uint8_t filled;
+    /* RATHONSI_KEY_USAGE and the other flags of rathonsi.h. 0 if the slot is empty. */
+    uint8_t flags;
+    /* Zero. */
+    uint8_t unused[2];
+} RathonsiSlotState;
 
 /* ---- The store ------------------------------------------------------------------------------- */
 
@@ -229,10 +255,11 @@ int32_t rathonsi_store_done(uint8_t *image, size_t image_length, RathonsiPlan *p
 
 /* ---- Counters -------------------------------------------------------------------------------- */
 
-/* Sets the counter to the bound that the image keeps. That bound is at least every freshness that
- * was sent or accepted before.
+/* Opens the route: sets its counter to the bound that the image keeps. That bound is at least every
+ * freshness that was sent or accepted before.
  * RATHONSI_BAD_VALUE: a number of the route is outside its range.
- * RATHONSI_DAMAGED: its cell holds no bound of this Data ID and direction. */
+ * RATHONSI_WRONG_CELL.
+ * RATHONSI_DAMAGED: no copy of its cell counts. */
 int32_t rathonsi_route_open(RathonsiRoute *route, const uint8_t *image, size_t image_length);
 
 /* Plans the bound that covers this freshness and reserve - 1 more, at most 2^64 - 1. The plan stays
@@ -241,16 +268,34 @@ int32_t rathonsi_route_open(RathonsiRoute *route, const uint8_t *image, size_t i
  * freshness that was reserved last, and then from that freshness on. A freshness that is one higher
  * each time makes a plan each time, and wears the device.
  * RATHONSI_BUSY.
- * RATHONSI_BAD_VALUE, RATHONSI_DAMAGED: as for rathonsi_route_open. */
+ * RATHONSI_BAD_VALUE: a number of the route is outside its range, or the route isn't open.
+ * RATHONSI_WRONG_CELL, RATHONSI_DAMAGED: as for rathonsi_route_open.
+ * RATHONSI_BAD_VALUE, after these: the freshness is over 256 above the bound in the image. Such a
+ * bound is mostly a mistake, and receivers would never accept again. */
 int32_t rathonsi_route_reserve(const RathonsiRoute *route, uint64_t freshness, const uint8_t *image, size_t image_length,
                                RathonsiPlan *plan);
+
+/* Does what rathonsi_route_reserve does, however far ahead the freshness is. A unit that is put in
+ * place of another one goes on above the freshness of that one by this call.
+ * RATHONSI_BUSY.
+ * RATHONSI_BAD_VALUE: a number of the route is outside its range, or the route isn't open.
+ * RATHONSI_WRONG_CELL, RATHONSI_DAMAGED: as for rathonsi_route_open. */
+int32_t rathonsi_route_advance(const RathonsiRoute *route, uint64_t freshness, const uint8_t *image, size_t image_length,
+                               RathonsiPlan *plan);
+
+/* Tells of a route, whether it is open or not.
+ * RATHONSI_BAD_VALUE, RATHONSI_WRONG_CELL, RATHONSI_DAMAGED: as for rathonsi_route_open. */
+int32_t rathonsi_route_state(const RathonsiRoute *route, const uint8_t *image, size_t image_length,
+                             RathonsiRouteState *state);
 
 /* Writes the Secured I-PDU of a payload to the first payload_length + RATHONSI_TRAILER bytes of
  * pdu. The other bytes stay. The freshness of the PDU is counter + 1, and its key is that of the
  * slot. That freshness becomes the counter.
  * RATHONSI_BAD_LENGTH: payload_length is 0 or over 60, or pdu_length is below payload_length + 4.
- * RATHONSI_BAD_VALUE: a number of the route is outside its range, or the route doesn't send.
- * RATHONSI_DAMAGED: its cell holds no bound of the route, or the cell of its slot holds no slot.
+ * RATHONSI_BAD_VALUE: a number of the route is outside its range, or the route doesn't send or isn't
+ * open.
+ * RATHONSI_WRONG_CELL.
+ * RATHONSI_DAMAGED: no copy of its cell counts, or the cell of its slot holds no slot.
  * RATHONSI_KEY_EMPTY, RATHONSI_KEY_INVALID, RATHONSI_KEY_NOT_AVAILABLE.
  * RATHONSI_EXHAUSTED, RATHONSI_RESERVE. */
 int32_t rathonsi_route_send(RathonsiRoute *route, const uint8_t *image, size_t image_length, const uint8_t *payload,
@@ -261,8 +306,9 @@ int32_t rathonsi_route_send(RathonsiRoute *route, const uint8_t *image, size_t i
  * With any other status payload_length and freshness are 0, except the freshness of
  * RATHONSI_RESERVE.
  * RATHONSI_BAD_LENGTH: pdu_length is below 5 or over 64.
- * RATHONSI_BAD_VALUE: a number of the route is outside its range, or the route doesn't receive.
- * RATHONSI_DAMAGED: as for rathonsi_route_send.
+ * RATHONSI_BAD_VALUE: a number of the route is outside its range, or the route doesn't receive or
+ * isn't open.
+ * RATHONSI_WRONG_CELL, RATHONSI_DAMAGED: as for rathonsi_route_send.
  * RATHONSI_KEY_EMPTY, RATHONSI_KEY_INVALID, RATHONSI_KEY_NOT_AVAILABLE: as for rathonsi_route_send.
  * RATHONSI_FRESHNESS_FAILURE, RATHONSI_VERIFICATION_FAILURE.
  * RATHONSI_RESERVE, after all refusals above: the bound in the image doesn't cover the freshness
@@ -293,6 +339,11 @@ int32_t rathonsi_slot_load(const uint8_t uid[15], uint8_t booted, const Rathonsi
  * RATHONSI_KEY_EMPTY. */
 int32_t rathonsi_slot_confirm(const uint8_t uid[15], const uint8_t m1[16], const uint8_t *image, size_t image_length,
                               RathonsiReply *reply);
+
+/* Tells of a slot.
+ * RATHONSI_BAD_VALUE: slot is over 13.
+ * RATHONSI_DAMAGED: its cell holds no slot. */
+int32_t rathonsi_slot_state(uint8_t slot, const uint8_t *image, size_t image_length, RathonsiSlotState *state);
 
 #ifdef __cplusplus
 }

@@ -40,8 +40,9 @@ class Effects:
     """The objects of a function, and what each instruction does with them. An object is a local, what lies behind a parameter (by the
     parameter's name), or all that is reached from there by pointers (the same name and a star)."""
 
-    def __init__(self, function, summaries):
+    def __init__(self, function, summaries, spares=None):
         self.function, self.summaries, self.places = function, summaries, Places(function)
+        self.spares = spares or {}  # of a function the bytes of its result that no caller wants
         self.params = [text for kind, text in function.params if kind == "ptr"]
         self.index = {text: (i, 0) for i, (_, text) in enumerate(function.params) if text in self.params}
         self.index |= {text + "*": (i, 1) for text, (i, _) in self.index.items()}
@@ -156,6 +157,10 @@ class Effects:
                     merge(found, root, Access(EVERY, 0, EVERY))
             for root in given[i, 1]:
                 merge(found, root, Access(EVERY, 0, EVERY))
+        spare = self.spares.get(it.detail)
+        if spare:
+            name, at = self.exact(it.operands[0][1])
+            merge(found, name, Access(0, 0, spare << at))
 
     # -- which bytes are wanted
 
@@ -181,9 +186,11 @@ class Effects:
         return found
 
     def at_end(self, block, wanted):
-        """What is wanted at the end of a block: after a return, what lies behind the parameters."""
+        """What is wanted at the end of a block: after a return, what lies behind the parameters, less what no caller wants of the
+        result."""
         if block.body[-1].op == "ret":
-            return {text: EVERY for text in self.index}
+            spare = self.spares.get(self.function.name)
+            return {text: EVERY & ~(spare if spare and text == self.function.params[0][1] else 0) for text in self.index}
         found = {}
         for label in block.targets():
             for name, bytes_ in wanted[label].items():

@@ -2,10 +2,13 @@
 #include <stdint.h>
 #include <string.h>
 
+/* APART functions would make the stack deeper as parts of their callers. */
 #if defined(__GNUC__)
-#define INLINE static inline __attribute__((unused))
+#define INLINE static inline __attribute__((always_inline, unused))
+#define APART static __attribute__((noinline))
 #else
 #define INLINE static
+#define APART static
 #endif
 
 /* What the proof says is never reached. A program may define it otherwise, as long as it doesn't go on. */

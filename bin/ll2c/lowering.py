@@ -430,7 +430,11 @@ class Lowering:
 
     def prototype(self):
         params = ", ".join(declared(kind, text[1:]) for kind, text in self.function.params) or "void"
-        return f"static {declared(self.function.result, self.names[self.function.name])}({params})"
+        return f"{declared(self.function.result, self.names[self.function.name])}({params})"
+
+    def size(self):
+        """The bytes of its memory, each part of it at a multiple of 8."""
+        return sum(size + -size % 8 for size in self.memories.values())
 
     def write(self):
         """The lines of the function."""

@@ -72,6 +72,18 @@ def fresh_rooms(functions, effects):
     return rooms
 
 
+def spare_bytes(functions, effects, rooms):
+    """Of each function that has a room: the bytes of it that no caller wants after the call. The function may write there, too."""
+    spares = {name: (1 << room) - 1 for name, room in rooms.items() if room is not None and room < 1 << 30}
+    for function in functions:
+        of = effects[function.name]
+        for it, _, wanted in of.after_each():
+            if it.op == "call" and it.detail in spares:
+                name, at = of.exact(it.operands[0][1])
+                spares[it.detail] &= ~(wanted.get(name, 0) >> at)
+    return spares
+
+
 class Sharing:
     """The places of a function's locals in memory."""
 
@@ -149,10 +161,11 @@ def share(functions, apart):
         effects[function.name] = Effects(function, summaries)
         summaries[function.name] = effects[function.name].summary()
     rooms = fresh_rooms(functions, effects)
+    spares = spare_bytes(functions, effects, rooms)
     for function in functions:
-        of = effects[function.name]
+        of = Effects(function, summaries, spares)
         while drop_dead(function, of, set(of.sizes) - set(variables_of(function, of.places)) - of.pinned):
-            of = Effects(function, summaries)
+            of = Effects(function, summaries, spares)
         function.variables = variables_of(function, of.places)
         sharing = Sharing(function, of, function.variables, rooms[function.name])
         sharing.join_copies(function, of)

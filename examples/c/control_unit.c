@@ -5,19 +5,19 @@
  *
  *     control_unit FILE EVENTS [DUTY]
  *
- * With DUTY the unit breaks one of the duties that rathonsi_store.h names, and the program ends well where the harm of it is seen:
+ * With DUTY the unit breaks one of the duties that rathonsi_store.h names, and the program ends well if the harm of it is seen:
  *     says_done_first   says that a plan is done before it is
  *     gate_first        does the writes of a plan in another order
- *     rewrites_pages    its device loses a whole page where power goes within a write
+ *     rewrites_pages    its device loses a whole page if power goes within a write
  *     forgets_done      does a plan, and plans anew without saying that it is done
  *     two_tasks         another task sends with an image, a plan and a route of its own
  *     two_cells         two routes send under one Data ID
- *     drops_begun       drops a plan of which writes are done, and goes on
- *     goes_on           goes on with a plan of which a write failed
- *     loses_writes      its device loses, where power goes, the write before, which was durable
+ *     drops_begun       drops a plan after writes of it are done, and goes on
+ *     goes_on           goes on with a plan after a write of it failed
+ *     loses_writes      its device loses, if power goes, the write before, which was durable
  *     reads_loose       it reads at power-up what a write that was cut has left in a cache, and what is gone in the next life
  *     opens_nothing     it opens no route after a power-up, whose counters are then zero
- *     keeps_plan        its plan outlives a power-up, and is done behind it
+ *     keeps_plan        its plan outlives a power-up, and is done after it
  */
 #include <stdio.h>
 #include <stdlib.h>
@@ -38,7 +38,7 @@ static RathonsiPlan plan;
 static RathonsiRoute routes[ROUTES];
 static FILE *device;
 static enum duty broken;
-static uint8_t other_image[sizeof image]; /* of another task, where there is one */
+static uint8_t other_image[sizeof image]; /* of another task, if there is one */
 static RathonsiPlan other_plan;
 static RathonsiRoute other_route;
 static RathonsiWrite lost;  /* what the last write wrote over */
@@ -152,7 +152,7 @@ static void power_up(void) {
     other_route = routes[0];
 }
 
-/* The key as it is confirmed now: the one that was confirmed last, or, where power went within a load, the one that was loaded. */
+/* The key as it is confirmed now: the one that was confirmed last, or, if power went within a load, the one that was loaded. */
 static void confirm(void) {
     RathonsiRequest request;
     RathonsiReply reply, wanted;
@@ -198,7 +198,7 @@ static int32_t send_on(int which, RathonsiRoute *route, const uint8_t *from) {
     return status;
 }
 
-/* A PDU of the far end, and now and then an old one. The freshness to reserve, where there is one. */
+/* A PDU of the far end, and now and then an old one. The freshness to reserve, if there is one. */
 static int32_t receive_on(int which, uint64_t *wanted) {
     RathonsiRoute *route = &routes[which];
     RathonsiRoute before = *route;

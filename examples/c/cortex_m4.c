@@ -1,6 +1,6 @@
 /*
  * What begins a program on the Cortex-M4 that qemu has (cortex_m4.ld), with newlib over semihosting (--specs=rdimon.specs): memory, the
- * words of the command line, main and exit. With -DTRAP_UNALIGNED each access that isn't aligned is a fault, and memcpy, memmove and
+ * arguments of the command line, main and exit. With -DTRAP_UNALIGNED each access that isn't aligned is a fault, and memcpy, memmove and
  * memset go byte by byte, since newlib's don't keep to that. A fault ends the program with status 1.
  */
 #include <stdint.h>

@@ -1,7 +1,7 @@
 /*
  * A store in a file, as a control unit keeps one on its device and as `keytool load` keeps one: made, shown, and loaded with a key.
  *
- *     store_file make FILE ID:DIRECTION:BOUND..    makes a store with a cell for each route, the first behind the fourteen slots; the file
+ *     store_file make FILE ID:DIRECTION:BOUND..    makes a store with a cell for each route, the first after the fourteen slots; the file
  *                                                  is 65,536 bytes long
  *     store_file show FILE ID:DIRECTION..          checks the store, and prints which slots hold a key and the bound of each route
  *     store_file load FILE UID M1M2M3              loads the update of these 64 bytes, and prints M4 and M5 or the status of the refusal
@@ -45,7 +45,7 @@ static void print_bytes(const void *from, size_t length, char behind) {
     printf("%c", behind);
 }
 
-/* The routes that the words name; -1 where a word names none. */
+/* The routes that the arguments name; -1 if one of them names none. */
 static int read_routes(int count, char **words) {
     if (count > MOST)
         return -1;

@@ -1,7 +1,7 @@
 /*
- * Every status of the calls of rathonsi_store.h, each from one change of a store and a call that answer RATHONSI_OK; where two causes
+ * Every status of the calls of rathonsi_store.h, each from one change of a store and a call that answer RATHONSI_OK; if two causes
  * stand together, the first that the header names. With each status but RATHONSI_OK it looks that nothing was written: image, plan,
- * route, PDU and reply are compared whole. At the end: how far a reserve reaches.
+ * route, PDU, reply and what is told are compared whole. At the end: how far a reserve reaches.
  */
 #include <stdio.h>
 #include <stdlib.h>
@@ -22,6 +22,8 @@ struct unit {
     RathonsiPlan plan;
     RathonsiRequest request;
     RathonsiReply reply;
+    RathonsiRouteState route_state;
+    RathonsiSlotState slot_state;
     uint8_t booted;
     uint64_t freshness;
 };
@@ -41,6 +43,7 @@ static RathonsiRoute route_of(int which) {
     route.slot = SLOT;
     route.direction = which == 0 ? RATHONSI_SENDS : RATHONSI_RECEIVES;
     route.counter = 3;
+    route.opened = 1; /* as rathonsi_route_open leaves it; the counter is one that it had later */
     return route;
 }
 
@@ -104,14 +107,16 @@ static struct unit unit_of(int which) {
     return unit;
 }
 
-enum call { OPEN, RESERVE, SEND, RECEIVE, LOAD, CONFIRM, DONE, CHECK, MAKE, ROUTE_MAKE, CALLS };
-static const char *const names[CALLS] = {"open", "reserve", "send", "receive", "load", "confirm", "done", "check", "make", "route_make"};
+enum call { OPEN, RESERVE, ADVANCE, SEND, RECEIVE, LOAD, CONFIRM, DONE, CHECK, MAKE, ROUTE_MAKE, ROUTE_STATE, SLOT_STATE, CALLS };
+static const char *const names[CALLS] = {"open", "reserve", "advance", "send", "receive", "load", "confirm", "done", "check", "make", "route_make",
+                                         "route_state", "slot_state"};
 
 static int32_t call_on(struct unit *unit, enum call call) {
     RathonsiVerdict verdict;
     switch (call) {
     case OPEN: return rathonsi_route_open(&unit->route, unit->image, unit->image_length);
     case RESERVE: return rathonsi_route_reserve(&unit->route, unit->freshness, unit->image, unit->image_length, &unit->plan);
+    case ADVANCE: return rathonsi_route_advance(&unit->route, unit->freshness, unit->image, unit->image_length, &unit->plan);
     case SEND:
         return rathonsi_route_send(&unit->route, unit->image, unit->image_length, unit->payload, unit->payload_length, unit->pdu,
                                    unit->pdu_length);
@@ -127,7 +132,9 @@ static int32_t call_on(struct unit *unit, enum call call) {
     case DONE: return rathonsi_store_done(unit->image, unit->image_length, &unit->plan);
     case CHECK: return rathonsi_store_check(unit->image, unit->image_length);
     case MAKE: return rathonsi_store_make(unit->image, unit->image_length);
-    default: return rathonsi_route_make(&unit->route, 4, unit->image, unit->image_length);
+    case ROUTE_MAKE: return rathonsi_route_make(&unit->route, 4, unit->image, unit->image_length);
+    case ROUTE_STATE: return rathonsi_route_state(&unit->route, unit->image, unit->image_length, &unit->route_state);
+    default: return rathonsi_slot_state(unit->route.slot, unit->image, unit->image_length, &unit->slot_state);
     }
 }
 
@@ -190,6 +197,11 @@ static void busy_and_wrong(struct unit *unit) {
     low_cell(unit);
     booted_twice(unit);
 }
+static void not_open(struct unit *unit) { unit->route.opened = 0; }
+static void open_twice(struct unit *unit) { unit->route.opened = 2; }
+static void farthest(struct unit *unit) { unit->freshness = 4 + 256; }
+static void too_far(struct unit *unit) { unit->freshness = 4 + 257; }
+static void never_made(struct unit *unit) { memset(unit->image + 32 + 68 * unit->route.cell + 2, 0, 32); }
 static void far_ahead(struct unit *unit) {
     rathonsi_secoc_protect(key, 16, unit->route.data_id, 3 + 17, unit->payload, PAYLOAD, unit->pdu, PDU);
 }
@@ -237,22 +249,37 @@ static const struct {
     {OPEN, 0, high_slot, RATHONSI_BAD_VALUE, "slot 14"},
     {OPEN, 0, third_direction, RATHONSI_BAD_VALUE, "direction 3"},
     {OPEN, 0, booted_twice, RATHONSI_BAD_VALUE, "booted 2"},
-    {OPEN, 0, other_direction, RATHONSI_DAMAGED, "the other direction"},
-    {OPEN, 0, other_id, RATHONSI_DAMAGED, "another Data ID"},
-    {OPEN, 0, far_cell, RATHONSI_DAMAGED, "a cell behind the last"},
+    {OPEN, 0, other_direction, RATHONSI_WRONG_CELL, "the other direction"},
+    {OPEN, 0, other_id, RATHONSI_WRONG_CELL, "another Data ID"},
+    {OPEN, 0, far_cell, RATHONSI_WRONG_CELL, "a cell behind the last"},
     {OPEN, 0, damaged_bound, RATHONSI_DAMAGED, "a damaged cell"},
-    {OPEN, 0, short_image, RATHONSI_DAMAGED, "an image that ends within the cell"},
+    {OPEN, 0, short_image, RATHONSI_WRONG_CELL, "an image that ends within the cell"},
+    {OPEN, 0, never_made, RATHONSI_WRONG_CELL, "a cell of zero bytes"},
+    {OPEN, 0, not_open, RATHONSI_OK, "a route that isn't open"},
     {RESERVE, 0, nothing, RATHONSI_OK, "a bound"},
     {RESERVE, 0, busy, RATHONSI_BUSY, "a plan"},
     {RESERVE, 0, busy_and_wrong, RATHONSI_BUSY, "a plan and cell 13"},
     {RESERVE, 0, low_cell, RATHONSI_BAD_VALUE, "cell 13"},
+    {RESERVE, 0, not_open, RATHONSI_BAD_VALUE, "a route that isn't open"},
+    {RESERVE, 0, other_id, RATHONSI_WRONG_CELL, "another Data ID"},
     {RESERVE, 0, damaged_bound, RATHONSI_DAMAGED, "a damaged cell"},
+    {RESERVE, 0, farthest, RATHONSI_OK, "256 above the bound"},
+    {RESERVE, 0, too_far, RATHONSI_BAD_VALUE, "257 above the bound"},
+    {ADVANCE, 0, too_far, RATHONSI_OK, "257 above the bound"},
+    {ADVANCE, 0, busy_and_wrong, RATHONSI_BUSY, "a plan and cell 13"},
+    {ADVANCE, 0, low_cell, RATHONSI_BAD_VALUE, "cell 13"},
+    {ADVANCE, 0, not_open, RATHONSI_BAD_VALUE, "a route that isn't open"},
+    {ADVANCE, 0, other_id, RATHONSI_WRONG_CELL, "another Data ID"},
+    {ADVANCE, 0, damaged_bound, RATHONSI_DAMAGED, "a damaged cell"},
     {SEND, 0, nothing, RATHONSI_OK, "a payload"},
     {SEND, 0, no_payload, RATHONSI_BAD_LENGTH, "no payload"},
     {SEND, 0, long_payload, RATHONSI_BAD_LENGTH, "61 bytes"},
     {SEND, 0, short_pdu, RATHONSI_BAD_LENGTH, "a buffer of 11 bytes"},
     {SEND, 0, low_cell, RATHONSI_BAD_VALUE, "cell 13"},
     {SEND, 1, nothing, RATHONSI_BAD_VALUE, "a route that receives"},
+    {SEND, 0, not_open, RATHONSI_BAD_VALUE, "a route that isn't open"},
+    {SEND, 0, open_twice, RATHONSI_BAD_VALUE, "opened 2"},
+    {SEND, 0, other_id, RATHONSI_WRONG_CELL, "another Data ID"},
     {SEND, 0, damaged_bound, RATHONSI_DAMAGED, "a damaged bound"},
     {SEND, 0, damaged_slot, RATHONSI_DAMAGED, "a damaged slot"},
     {SEND, 0, empty_slot, RATHONSI_KEY_EMPTY, "an empty slot"},
@@ -265,6 +292,8 @@ static const struct {
     {RECEIVE, 1, nothing, RATHONSI_OK, "a PDU"},
     {RECEIVE, 1, four_bytes, RATHONSI_BAD_LENGTH, "four bytes"},
     {RECEIVE, 0, nothing, RATHONSI_BAD_VALUE, "a route that sends"},
+    {RECEIVE, 1, not_open, RATHONSI_BAD_VALUE, "a route that isn't open"},
+    {RECEIVE, 1, other_id, RATHONSI_WRONG_CELL, "another Data ID"},
     {RECEIVE, 1, damaged_bound, RATHONSI_DAMAGED, "a damaged bound"},
     {RECEIVE, 1, damaged_slot, RATHONSI_DAMAGED, "a damaged slot"},
     {RECEIVE, 1, empty_slot, RATHONSI_KEY_EMPTY, "an empty slot"},
@@ -306,6 +335,14 @@ static const struct {
     {ROUTE_MAKE, 0, odd_image, RATHONSI_BAD_LENGTH, "a byte less"},
     {ROUTE_MAKE, 0, far_cell, RATHONSI_BAD_VALUE, "a cell behind the last"},
     {ROUTE_MAKE, 0, low_slot, RATHONSI_BAD_VALUE, "slot 3"},
+    {ROUTE_STATE, 0, not_open, RATHONSI_OK, "a route that isn't open"},
+    {ROUTE_STATE, 0, low_slot, RATHONSI_BAD_VALUE, "slot 3"},
+    {ROUTE_STATE, 0, other_id, RATHONSI_WRONG_CELL, "another Data ID"},
+    {ROUTE_STATE, 0, damaged_bound, RATHONSI_DAMAGED, "a damaged cell"},
+    {SLOT_STATE, 0, nothing, RATHONSI_OK, "a key"},
+    {SLOT_STATE, 0, empty_slot, RATHONSI_OK, "an empty slot"},
+    {SLOT_STATE, 0, high_slot, RATHONSI_BAD_VALUE, "slot 14"},
+    {SLOT_STATE, 0, damaged_slot, RATHONSI_DAMAGED, "a damaged slot"},
 };
 
 /* From a bound of 4 on, a reserve of 8 from the freshness 6 on covers all up to 13, and no more. */
@@ -331,6 +368,9 @@ int main(void) {
     expect(sizeof(RathonsiWrite), 48, "a write has no padding");
     expect(sizeof(RathonsiPlan), 144, "a plan has no padding");
     expect(sizeof(RathonsiRoute), 24, "a route has no padding");
+    expect(sizeof(RathonsiRouteState), 16, "what is told of a route has no padding");
+    expect(sizeof(RathonsiSlotState), 8, "what is told of a slot has no padding");
+    expect((int32_t)rathonsi_version(), RATHONSI_VERSION, "the version of header and library");
     expect(rathonsi_store_make(made, SIZE), RATHONSI_OK, "make");
     for (int i = 0; i < ROUTES; i++) {
         RathonsiRoute route = route_of(i);

@@ -79,7 +79,7 @@ static void macs(void) {
     }
 }
 
-/* the bytes of payload, the freshness that stands behind them in the text, and the last four bytes of the PDU */
+/* the bytes of payload, the freshness that stands after them in the text, and the last four bytes of the PDU */
 static void pdus(void) {
     static const struct { size_t length; uint64_t freshness; const char *trailer; } rows[3] = {
         {6, UINT64_C(0xe93d7e117393172a), "2a070a16"},

@@ -1,7 +1,7 @@
 /*
  * Calls every export with each wrong length of a key, a text, a payload, a PDU and a buffer, and with each number outside its range, and
  * looks that the status is the one of the header and that no byte of the output has changed. The memory behind each pointer is taken
- * from the heap and is just as long as the call is told, so that valgrind sees a read or a write outside it.
+ * from the heap and is just as long as the call's arguments say, so that valgrind sees a read or a write outside it.
  */
 #include <stdio.h>
 #include <stdlib.h>

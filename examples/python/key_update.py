@@ -1,4 +1,4 @@
-"""A key update end to end: a station makes the request, an engine loads it into its store, the station checks the reply."""
+"""A key update end to end: a station makes the request, an engine loads it, the station checks the reply."""
 
 from pathlib import Path
 from tempfile import TemporaryDirectory

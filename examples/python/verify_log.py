@@ -8,7 +8,7 @@ from tempfile import TemporaryDirectory
 from rathonsi.can import verify_log
 
 HERE = Path(__file__).resolve().parent.parent
-map_file, log_file = sys.argv[1:] or [HERE / "bus_log_map.txt", HERE / "bus_log.txt"]
+map_file, log_file = sys.argv[1:] or [str(HERE / "bus_log_map.txt"), str(HERE / "bus_log.txt")]
 with TemporaryDirectory() as folder:
     if Path(log_file).suffix == ".txt":  # python-can knows candump's format by the suffix .log
         log_file = copy(log_file, Path(folder, "bus.log"))
