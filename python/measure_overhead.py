@@ -1,7 +1,7 @@
 #!/usr/bin/env python3
-"""What the package adds to a send, in one run: microseconds a frame, the least of seven rounds.
+"""What the package adds to a send, in one run: microseconds a frame, the least of fifty rounds.
 
-measure_overhead.py [COUNT]   sends COUNT frames of 8 bytes a round (20,000)
+measure_overhead.py [COUNT]   sends COUNT frames of 8 bytes a round (1,280)
 
 The rows: the call from C (with cc and the archive of bin/build_c); the same call by ctypes, with arguments that are
 made once; the calls of the package over a device in memory; a PDU made with the CMAC of pycryptodome, and of
@@ -25,7 +25,7 @@ from rathonsi import _library
 
 TOP = Path(__file__).resolve().parents[1]
 ARCHIVE = TOP / "crates" / "rathonsi_c" / "out" / "librathonsi.a"
-KEY, PAYLOAD, ROUNDS = bytes(range(16)), bytes(range(8)), 7
+KEY, PAYLOAD, ROUNDS = bytes(range(16)), bytes(range(8)), 50
 SENDER = rathonsi.Route(0x120E, rathonsi.SENDS, 4, reserve=128)
 RECEIVER = rathonsi.Route(0x120E, rathonsi.RECEIVES, 4, reserve=128)
 
@@ -37,7 +37,7 @@ IN_C = """
 int main(int count, char **words) {
     static uint8_t key[16], payload[8], pdu[12];
     double least = 1e9;
-    for (int round = 0; round < 7; round++) {
+    for (int round = 0; round < 50; round++) {
         struct timespec from, to;
         clock_gettime(CLOCK_MONOTONIC, &from);
         for (long n = 0; n < atol(words[1]); n++)
@@ -163,7 +163,7 @@ def show_file(count: int) -> None:
 
 
 def main() -> None:
-    count = int(sys.argv[1]) if len(sys.argv) > 1 else 20000
+    count = int(sys.argv[1]) if len(sys.argv) > 1 else 1280
     print("µs a frame")
     show_c(count)
     show_ctypes(count)

@@ -3,9 +3,13 @@
 import array
 import copy
 import ctypes
+import enum
 import operator
+import os
 import pickle
+import tempfile
 from collections.abc import Callable
+from pathlib import Path
 from typing import Any
 
 import pytest
@@ -13,7 +17,7 @@ from hypothesis import given, settings
 from hypothesis import strategies as st
 
 import rathonsi
-from memories import KEY, UID, Memory, opened
+from memories import KEY, KEYS, ROUTES, UID, Memory, opened
 from rathonsi import _library
 from rathonsi._arguments import PAYLOAD_MOST, PDU_MOST, TRAILER
 
@@ -270,6 +274,14 @@ def test_any_arguments_at_all(row: tuple[Callable[..., Any], list[Any], list[Kin
         pass
 
 
+def hashable(value: object) -> bool:
+    try:
+        hash(value)
+    except Exception:
+        return False
+    return True
+
+
 FUZZED = opened(Memory.made())
 
 
@@ -283,6 +295,50 @@ def test_any_arguments_of_a_store_at_all(row: tuple[str, list[Any], list[Kind]],
     except (TypeError, ValueError, rathonsi.Refused, RuntimeError, ZeroDivisionError, AttributeError):
         pass
     assert FUZZED.counter(0x120E, rathonsi.SENDS) >= 0
+
+
+@given(st.data())
+def test_any_arguments_of_the_openings_and_makings_at_all(data: st.DataObject) -> None:
+    with tempfile.TemporaryDirectory() as folder:
+        path = Path(folder, "unit.store")
+        if data.draw(st.booleans()):
+            rathonsi.make_file_store(path, ROUTES, KEYS)
+        devices = st.just(Memory.made()) | st.just(Memory())
+        paths = anything.filter(lambda it: not isinstance(it, str)) | st.just(path) | st.just(folder) | st.just("a\0b")
+        routes = anything | st.just(ROUTES) | st.lists(st.sampled_from(ROUTES) | anything, max_size=3)
+        keys = anything | st.just(KEYS) | st.dictionaries(st.integers(0, 14) | anything.filter(hashable), anything | st.just(KEY), max_size=3)
+        rows: list[tuple[Callable[..., object], list[Any]]] = [
+            (rathonsi.Store, [devices | anything, routes]),
+            (rathonsi.FileStore, [paths, routes]),
+            (rathonsi.make_store, [devices | anything, routes, keys]),
+            (rathonsi.make_file_store, [paths, routes, keys]),
+        ]
+        call, drawn = data.draw(st.sampled_from(rows))
+        try:
+            call(*(data.draw(it) for it in drawn))
+        except (TypeError, ValueError, rathonsi.Refused, RuntimeError, ZeroDivisionError, OSError):
+            pass
+        assert set(os.listdir(folder)) <= {"unit.store"}
+
+
+def test_numbers_and_bytes_of_other_classes() -> None:
+    class Id(enum.IntEnum):
+        BRAKE = 0x6BC1
+
+    class Index:
+        def __index__(self) -> int:
+            return 0x6BC1
+
+    class Octets(bytes):
+        pass
+
+    wanted = rathonsi.protect(KEY, 0x6BC1, 1, b"brake")
+    ids: list[Any] = [Id.BRAKE, Index()]
+    for data_id in ids:
+        for payload in (Octets(b"brake"), bytearray(b"brake"), memoryview(b"brake"), memoryview(b"brake").cast("b"), memoryview(b"brake").cast("c")):
+            assert rathonsi.protect(KEY, data_id, True + Index().__index__() - 0x6BC1, payload) == wanted
+    route = rathonsi.Route(Id.BRAKE, 1, 4)  # type: ignore[arg-type]
+    assert (type(route.data_id), route.direction) == (int, rathonsi.SENDS)
 
 
 def test_lengths_are_those_of_the_headers() -> None:

@@ -11,6 +11,8 @@ from random import Random
 from typing import Any
 
 import pytest
+from hypothesis import given, settings
+from hypothesis import strategies as st
 
 can = pytest.importorskip("can")
 
@@ -27,6 +29,7 @@ ROUTES = (
     rathonsi.Route(0x0A2F, SENDS, 4),
     rathonsi.Route(0x0A30, RECEIVES, 4),
 )
+FUZZED = opened(Memory.made(ROUTES), ROUTES)
 FRAMES = (
     Frame(0x123, 0x120E, SENDS, 4),
     Frame(0x124, 0x120F, RECEIVES, 4),
@@ -160,6 +163,72 @@ def test_payloads_of_another_length_are_not_sent(wire: Any, secured: SecuredBus)
     assert bytes(wire.recv(1).data) == model.protect(KEY, 0x120E, 1, b"1234")
 
 
+def test_an_identifier_of_29_bits_is_another_one(wire: Any, secured: SecuredBus) -> None:
+    for extended, payload in ((True, b"1234"), (False, model.protect(KEY, 0x120E, 1, b"1234"))):
+        secured.send(can.Message(arbitration_id=0x123, data=b"1234") if extended else frame(0x123, b"1234"))
+        on_wire = wire.recv(1)
+        assert (on_wire.is_extended_id, bytes(on_wire.data)) == (extended, payload)
+
+
+def test_a_poll_looks_at_one_frame(wire: Any) -> None:
+    refused: list[Any] = []
+    with SecuredBus(bus(wire.channel_id), opened(Memory.made(ROUTES), ROUTES), FRAMES, lambda *it: refused.append(it)) as secured:
+        wire.send(frame(0x124, b"forged!!"))
+        wire.send(good(1))
+        assert secured.recv(0) is None and len(refused) == 1
+        assert bytes(received(secured, 0).data) == b"brak"
+
+
+def test_a_bus_that_answers_within_a_send() -> None:
+    sent: list[bytes] = []
+
+    def send(message: Any, timeout: float | None = None) -> None:
+        sent.append(bytes(message.data))
+        if len(sent) < 3:
+            around.send(frame(0x123, b"1234"))
+
+    with bus("answering") as answering:
+        answering.send = send
+        around = SecuredBus(answering, opened(Memory.made(ROUTES), ROUTES), FRAMES)
+        around.send(frame(0x123, b"1234"))
+    assert sent == [model.protect(KEY, 0x120E, n, b"1234") for n in (1, 2, 3)]
+
+
+def test_an_error_within_a_with_block_shuts_the_bus_down_and_leaves_the_store(wire: Any) -> None:
+    store = opened(Memory.made(ROUTES), ROUTES)
+    with pytest.raises(ZeroDivisionError):
+        with SecuredBus(bus(wire.channel_id), store, FRAMES) as secured:
+            secured.send(frame(0x123, b"1234"))
+            raise ZeroDivisionError
+    with pytest.raises(can.CanOperationError):
+        secured.send(frame(0x200))
+    assert store.send(0x120E, b"x") == model.protect(KEY, 0x120E, 2, b"x")
+
+
+def test_a_store_that_ended(wire: Any) -> None:
+    store = opened(Memory.made(ROUTES), ROUTES)
+    with SecuredBus(bus(wire.channel_id), store, FRAMES, lambda *_: None) as secured:
+        store.close()
+        wire.send(good(1))
+        calls: list[Callable[[], Any]] = [
+            lambda: secured.send(frame(0x123, b"1234")), lambda: secured.recv(1), lambda: SecuredBus(wire, store, FRAMES)
+        ]
+        for call in calls:
+            with pytest.raises(rathonsi.Unusable):
+                call()
+        secured.send(frame(0x200, b"as it is"))
+        assert bytes(wire.recv(1).data) == b"as it is" and wire.recv(0) is None
+
+
+def test_data_that_is_none(wire: Any, secured: SecuredBus) -> None:
+    for data in (None, 4, "1234", [1, 2, 3, 4]):
+        message = frame(0x123, b"1234")
+        message.data = data
+        with pytest.raises(TypeError):
+            secured.send(message)
+    assert wire.recv(0) is None
+
+
 def test_filters(wire: Any) -> None:
     inner = bus(wire.channel_id, can_filters=[{"can_id": 0x200, "can_mask": 0x7FF}])
     with SecuredBus(inner, opened(Memory.made(ROUTES), ROUTES), FRAMES) as secured:
@@ -260,6 +329,27 @@ def test_wrong_arguments_of_a_secured_bus(wire: Any) -> None:
     for error, call in rows:
         with pytest.raises(error):
             call()
+
+
+anything = st.none() | st.booleans() | st.integers() | st.floats() | st.text(max_size=3) | st.binary(max_size=20) | st.lists(st.integers(), max_size=2)
+
+
+@settings(max_examples=3 * settings().max_examples)
+@given(st.data())
+def test_any_arguments_of_frames_lines_and_buses_at_all(data: st.DataObject) -> None:
+    numbers = anything | st.integers(0, 300)
+    rows: list[tuple[Callable[..., object], list[Any]]] = [
+        (Frame, [numbers] * 4 + [anything]),
+        (MapLine, [numbers, anything, numbers, anything | st.just(KEY), *[numbers] * 3, anything]),
+        (SecuredBus, [anything, anything | st.just(FUZZED), anything]),
+        (verify_log, [anything.filter(lambda it: not isinstance(it, int)), anything.filter(lambda it: not isinstance(it, str))]),
+        (read_map, [anything.filter(lambda it: not isinstance(it, int))]),
+    ]
+    call, drawn = data.draw(st.sampled_from(rows))
+    try:
+        call(*(data.draw(it) for it in drawn))
+    except (TypeError, ValueError, FileNotFoundError, IsADirectoryError):
+        pass
 
 
 # ---- Two benches, with a forger and a replayer between them
@@ -409,15 +499,46 @@ WRONG_MAPS = {
     "length 0": f"124 120f {KEY.hex()} {0:016x} 0",
     "length in hex": f"124 120f {KEY.hex()} {0:016x} 0x4",
     "window": f"124 120f {KEY.hex()} {0:016x} 4 257",
+    "many digits": f"124 120f {KEY.hex()} {0:016x} {'9' * 5000}",
+    "another blank": f"124 120f {KEY.hex()} {0:016x}\v4",
+    "other letters": f"124 120f {KEY.hex()} {0:016x} \u0664",
+    "a line that no frame reaches": f"321 120f {KEY.hex()} {0:016x} 4 9 can0",
 }
 
 
 @pytest.mark.parametrize("text", WRONG_MAPS.values(), ids=WRONG_MAPS)
 def test_a_map_with_a_malformed_line(tmp_path: Path, log: Path, text: str) -> None:
-    (tmp_path / "map").write_text(f"\n{text}\n")
+    (tmp_path / "map").write_text(f"321 120f {KEY.hex()} {0:016x} 4\n{text}\n")
     with pytest.raises(ValueError, match="line 2") as caught:
         verify_log(log, tmp_path / "map")
     assert KEY.hex() not in str(caught.value)
+
+
+def test_a_map_in_the_forms_that_the_programs_take(tmp_path: Path) -> None:
+    line = f"124\t120f  {KEY.hex()} {0:016x} 4"
+    text = f"# caf\u00e9\r\n\r\n \t{line} 2 can\u00e9\t\r\n{line} 2 can1\n{line}\r"
+    (tmp_path / "map").write_text(text, encoding="utf-8", newline="")
+    assert [(it.channel, it.window) for it in read_map(tmp_path / "map")] == [("can\u00e9", 2), ("can1", 2), (None, 256)]
+    assert read_map(str(tmp_path / "map")) == read_map(tmp_path / "map")
+
+
+def test_lines_of_a_map_that_no_frame_reaches(log: Path) -> None:
+    def line(channel: str | None = None, arbitration_id: int = 0x124, extended: bool = False) -> MapLine:
+        return MapLine(arbitration_id, extended, 0x120F, KEY, 0, 4, 256, channel)
+
+    for lines in ([line(), line()], [line(), line("can0")], [line("can0"), line("can1"), line("can0")]):
+        with pytest.raises(ValueError, match="no frame reaches"):
+            verify_log(log, lines)
+    list(verify_log(log, [line("can0"), line("can1"), line(), line(None, 0x125), line(None, 0x124, True)]))
+
+
+def test_a_malformed_log_raises_when_it_is_read(log: Path) -> None:
+    text = log.read_text(encoding="ascii").splitlines(keepends=True)
+    log.write_text("".join(text[:1]) + "(1.0) can0 zzz#\n", encoding="ascii")
+    verdicts = verify_log(log, EXAMPLES / "bus_log_map.txt")
+    assert row(next(verdicts)) == rows_of_the_example()[0]
+    with pytest.raises(ValueError):
+        next(verdicts)
 
 
 def test_logs_and_maps_that_are_not_there(tmp_path: Path, log: Path) -> None:

@@ -7,10 +7,16 @@ import errno
 import fcntl
 import os
 import random
+import resource
 import select
+import shutil
 import signal
 import stat
+import subprocess
+import sys
+import tempfile
 import time
+import traceback
 from collections.abc import Callable
 from pathlib import Path
 from typing import Any
@@ -21,6 +27,8 @@ import model
 import rathonsi
 from memories import KEY, KEYS, MASTER, ROUTES, UID
 
+EXAMPLES = Path(__file__).resolve().parents[2] / "examples"
+BUS_REPLAY = EXAMPLES.parent / "crates" / "bus_replay" / "out" / "bus_replay"
 KILLS = int(os.environ.get("RATHONSI_KILLS", "60"))
 SENDS, RECEIVES = rathonsi.SENDS, rathonsi.RECEIVES
 
@@ -134,8 +142,211 @@ def test_what_is_no_store_of_this_package(tmp_path: Path, made: Path) -> None:
         rathonsi.FileStore("a\0b", ROUTES)
 
 
+def test_files_of_another_length_kind_and_version_are_left_alone(tmp_path: Path, made: Path) -> None:
+    with rathonsi.FileStore(made, ROUTES) as store:
+        store.send(0x120E, b"x")
+    content = made.read_bytes()
+    second = content[:9] + b"\2" + content[10:32]
+    for other in (content[:-1], content[:100], content[:9], content[:8] + b"\2" + content[9:], content.ljust(32768, b"\0") + second):
+        path = tmp_path / "other"
+        path.write_bytes(other)
+        path.chmod(0o600)
+        with pytest.raises(rathonsi.NoStore, match="another kind|version 2"):
+            rathonsi.FileStore(path, ROUTES)
+        with pytest.raises(FileExistsError):
+            rathonsi.make_file_store(path, ROUTES, KEYS)
+        assert path.read_bytes() == other
+
+
+@pytest.mark.skipif(not BUS_REPLAY.exists(), reason="bus_replay isn't built")
+def test_a_file_of_node_goes_on_here_and_there_until_it_is_moved(tmp_path: Path) -> None:
+    def node(bus: Path) -> int:
+        """The freshness that the pedal sends."""
+        run: list[str | Path] = [BUS_REPLAY, "node", bus, EXAMPLES / "pedal.txt", tmp_path / "disk"]
+        printed = subprocess.run(run, capture_output=True, text=True, check=True).stdout
+        return int(printed.split("sent 6bc1 ")[1].split()[0], 16)
+
+    route = rathonsi.Route(0x6BC1, SENDS, 4, reserve=4)
+    first = node(EXAMPLES / "pedal.toml")
+    with rathonsi.FileStore(tmp_path / "disk", [route]) as store:
+        store.send(0x6BC1, b"x")
+        here = store.counter(0x6BC1, SENDS)
+    there = node(EXAMPLES / "pedal.toml")
+    assert first < here < there
+    (tmp_path / "moved.toml").write_text("version = 2\n" + (EXAMPLES / "pedal.toml").read_text())
+    assert there < node(tmp_path / "moved.toml")
+    with pytest.raises(rathonsi.NoStore, match="version 2"):
+        rathonsi.FileStore(tmp_path / "disk", [route])
+
+
+def test_a_making_that_was_cut_within_its_header_goes_on_whatever_that_holds(made: Path) -> None:
+    whole = made.read_bytes()
+    drawn = random.Random(57)
+    for header in [whole[:11] + bytes([byte]) + whole[12:32] for byte in range(256)] + [drawn.randbytes(32) for _ in range(20)]:
+        if header != whole[:32]:
+            made.write_bytes(header + whole[32:])
+            rathonsi.make_file_store(made, ROUTES, KEYS)
+        assert made.read_bytes() == whole
+    with pytest.raises(FileExistsError):
+        rathonsi.make_file_store(made, ROUTES, KEYS)
+
+
+def test_a_link_to_a_store_and_a_second_name_of_it(made: Path) -> None:
+    made.with_name("link").symlink_to(made.name)
+    made.with_name("name").hardlink_to(made)
+    with rathonsi.FileStore(made.with_name("link"), ROUTES) as store:
+        assert store.send(0x120E, b"x") == model.protect(KEY, 0x120E, 1, b"x")
+        for name in ("unit.store", "name"):
+            with pytest.raises(BlockingIOError):
+                rathonsi.FileStore(made.with_name(name), ROUTES)
+    made.with_name("to_none").symlink_to("new.store")
+    rathonsi.make_file_store(made.with_name("to_none"), ROUTES, KEYS)
+    rathonsi.FileStore(made.with_name("new.store"), ROUTES).close()
+
+
+def test_a_second_process_is_refused_while_the_first_has_the_store(made: Path) -> None:
+    lines = f"import rathonsi; rathonsi.FileStore({str(made)!r}); print('opened')"
+    run = [sys.executable, "-c", lines]
+    env = {**os.environ, "PYTHONPATH": os.pathsep.join(sys.path)}
+    with rathonsi.FileStore(made, ROUTES):
+        refused = subprocess.run(run, capture_output=True, text=True, env=env)
+        assert refused.returncode == 1 and "BlockingIOError" in refused.stderr
+    assert subprocess.run(run, capture_output=True, text=True, env=env, check=True).stdout == "opened\n"
+
+
+ON_A_SMALL_DISK = """
+import errno, pathlib, sys
+import rathonsi
+path = pathlib.Path(sys.argv[1], "unit.store")
+with open(path.with_name("filler"), "wb", buffering=0) as filler:
+    try:
+        while True:
+            filler.write(bytes(4096))
+    except OSError as error:
+        assert error.errno == errno.ENOSPC
+routes = [rathonsi.Route(1, rathonsi.SENDS, 4)]
+try:
+    rathonsi.make_file_store(path, routes, {4: bytes(16)})
+except OSError as error:
+    print(error.strerror)
+path.with_name("filler").unlink()
+rathonsi.make_file_store(path, routes, {4: bytes(16)})
+with rathonsi.FileStore(path, routes) as store:
+    print(store.send(1, b"x") == rathonsi.protect(bytes(16), 1, 1, b"x"))
+"""
+
+
+def test_a_making_on_a_full_disk_goes_on_when_there_is_room(tmp_path: Path) -> None:
+    run = ["unshare", "--map-root-user", "--mount", "sh", "-c"]
+    if shutil.which("unshare") is None or subprocess.run([*run, "mount -t tmpfs none /mnt"], capture_output=True).returncode != 0:
+        pytest.skip("no file system can be mounted here")
+    mounted = 'mount -t tmpfs -o size=64k none "$0" && exec "$1" -c "$2" "$0"'
+    env = {**os.environ, "PYTHONPATH": os.pathsep.join(sys.path)}
+    ended = subprocess.run([*run, mounted, tmp_path, sys.executable, ON_A_SMALL_DISK], capture_output=True, text=True, env=env)
+    assert (ended.returncode, ended.stdout, ended.stderr) == (0, "No space left on device\nTrue\n", "")
+
+
+def in_child(work: Callable[[], None]) -> int:
+    """The status that a forked child ends with, which does this work."""
+    child = os.fork()
+    if child == 0:
+        try:
+            work()
+        except BaseException:
+            traceback.print_exc()
+        finally:
+            os._exit(9)
+    return os.waitstatus_to_exitcode(os.waitpid(child, 0)[1])
+
+
+def test_a_write_for_which_the_system_has_no_room(made: Path) -> None:
+    def work() -> None:
+        store = rathonsi.FileStore(made, ROUTES)
+        resource.setrlimit(resource.RLIMIT_FSIZE, (32 + 68 * 14 + 40, resource.RLIM_INFINITY))
+        with pytest.raises(OSError, match="too large"):
+            store.send(0x120E, b"x")
+        with pytest.raises(rathonsi.Unusable):
+            store.send(0x120E, b"x")
+        os._exit(7)
+
+    assert in_child(work) == 7
+    with rathonsi.FileStore(made, ROUTES) as again:
+        assert again.send(0x120E, b"x") == model.protect(KEY, 0x120E, 1, b"x")
+
+
+@pytest.mark.parametrize("nth", range(4))
+def test_a_process_that_ends_within_any_write(made: Path, monkeypatch: pytest.MonkeyPatch, nth: int) -> None:
+    content, write = made.read_bytes(), os.pwrite
+
+    def send(whole: int) -> None:
+        def stop(fd: int, data: bytes, offset: int) -> int:
+            writes.append(offset)
+            if len(writes) > nth:
+                write(fd, data[:whole], offset)
+                os._exit(7)
+            return write(fd, data, offset)
+
+        writes: list[int] = []
+        store = rathonsi.FileStore(made, ROUTES)
+        monkeypatch.setattr(os, "pwrite", stop)
+        store.send(0x120E, b"x")
+        os._exit(8)
+
+    for whole in range(35):
+        made.write_bytes(content)
+        # a put over a fresh cell has the writes of 33 bytes and of its gate, after one that closes the gate
+        status = in_child(lambda: send(whole))
+        with rathonsi.FileStore(made, ROUTES) as again:
+            counter = again.counter(0x120E, SENDS)
+        assert (status, counter) in ((8, 4), (7, 0), (7, 4)) and (status == 8) == (nth == 3)
+        assert counter == 0 or nth == 3 or nth == 2 and whole
+
+
+def test_an_end_within_a_write_leaves_the_file_to_that_write(made: Path, monkeypatch: pytest.MonkeyPatch) -> None:
+    """As a handler of a signal does it, that closes the store and opens another file, which may get the number."""
+    store, other, write = rathonsi.FileStore(made, ROUTES), made.with_name("other"), os.pwrite
+
+    def close_first(fd: int, data: bytes, offset: int) -> int:
+        store.close()
+        with open(other, "wb"):
+            return write(fd, data, offset)
+
+    monkeypatch.setattr(os, "pwrite", close_first)
+    with pytest.raises(rathonsi.Unusable, match="closed"):
+        store.send(0x120E, b"x")
+    monkeypatch.undo()
+    assert other.read_bytes() == b""
+    rathonsi.FileStore(made, ROUTES).close()
+
+
+def test_folders_and_files_that_may_not_be_written() -> None:
+    def work() -> None:
+        if os.geteuid() == 0:
+            os.setgroups([])
+            os.setgid(65534)
+            os.setuid(65534)
+        path = Path(folder, "unit.store")
+        rathonsi.make_file_store(path, ROUTES, KEYS)
+        path.parent.chmod(0o500)
+        with pytest.raises(PermissionError):
+            rathonsi.make_file_store(path.with_name("new"), ROUTES, KEYS)
+        with rathonsi.FileStore(path, ROUTES) as store:
+            assert store.send(0x120E, b"x") == model.protect(KEY, 0x120E, 1, b"x")
+        for mode in (0o400, 0o000):
+            path.chmod(mode)
+            with pytest.raises(PermissionError):
+                rathonsi.FileStore(path, ROUTES)
+        path.parent.chmod(0o700)
+        os._exit(7)
+
+    with tempfile.TemporaryDirectory() as folder:
+        if os.geteuid() == 0:
+            os.chown(folder, 65534, 65534)
+        assert in_child(work) == 7
+
+
 def test_a_refused_opening_gives_the_lock_back(made: Path) -> None:
-    with pytest.raises(rathonsi.Damaged):
+    with pytest.raises(rathonsi.WrongCell):
         rathonsi.FileStore(made, [rathonsi.Route(1, SENDS, 4)])
     rathonsi.FileStore(made, ROUTES).close()
 

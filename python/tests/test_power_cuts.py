@@ -78,6 +78,24 @@ def test_a_making_that_is_cut_at_any_byte_leaves_no_store_or_the_whole(garbage: 
         assert store.send(0x120E, b"x") == model.protect(KEY, 0x120E, 1, b"x")
 
 
+def test_a_making_that_is_cut_within_its_header_goes_on_whatever_that_holds() -> None:
+    """The device is longer than the store, so a header of another size may stand there."""
+    drawn = random.Random(57)
+    memory = Memory.made()
+    whole = bytes(memory.content)
+    headers = [whole[:at] + bytes([byte]) + bytes(31 - at) for at in (10, 11) for byte in range(256)]
+    headers += [whole[:at] + drawn.randbytes(1) + whole[at + 1 : 32] for at in range(32) for _ in range(4)]
+    headers += [drawn.randbytes(32) for _ in range(20)]
+    for header in headers:
+        if header == whole[:32]:
+            continue
+        memory.content[:] = header + whole[32:]
+        with pytest.raises((rathonsi.NoStore, rathonsi.Damaged)):
+            opened(memory)
+        rathonsi.make_store(memory, ROUTES, KEYS)
+        assert memory.content == whole
+
+
 class World:
     """A unit over a device whose power goes, and what the world has seen of it, which no power cut takes back."""
 

@@ -142,14 +142,14 @@ TestStoreBesideModel = StoreBesideModel.TestCase
 
 def test_there_is_one_class_a_status_and_all_are_below_refused() -> None:
     names = "BadLength BadValue FreshnessFailure VerificationFailure BadId BadMac NoStore Damaged Busy Reserve Exhausted".split()
-    names += "KeyEmpty KeyInvalid KeyNotAvailable KeyWriteProtected KeyUpdateError".split()
+    names += "KeyEmpty KeyInvalid KeyNotAvailable KeyWriteProtected KeyUpdateError WrongCell".split()
     for status, name in enumerate(names, 1):
         refusal = getattr(rathonsi, name)
         assert issubclass(refusal, rathonsi.Refused) and refusal.status == status
         with pytest.raises(refusal) as caught:
             _errors.raise_unless_ok(status)
         assert type(caught.value) is refusal and str(caught.value) == refusal.text != ""
-    assert sorted(_errors.REFUSALS) == list(range(1, 17))
+    assert sorted(_errors.REFUSALS) == list(range(1, 18))
     _errors.raise_unless_ok(0)
     with pytest.raises(rathonsi.Refused):
         _errors.raise_unless_ok(17)
@@ -204,14 +204,14 @@ def test_damaged_stores() -> None:
             opened(memory)
     memory = Memory.made()
     for route in (rathonsi.Route(0x120E, RECEIVES, 4), rathonsi.Route(0x1210, SENDS, 4)):
-        with pytest.raises(rathonsi.Damaged):
+        with pytest.raises(rathonsi.WrongCell):
             opened(memory, (route,))
 
 
-def test_two_cells_of_one_route_are_damaged() -> None:
+def test_two_cells_of_one_route_are_a_wrong_cell() -> None:
     memory = Memory.made()
     memory.content[32 + 68 * 15 : 32 + 68 * 16] = memory.content[32 + 68 * 14 : 32 + 68 * 15]
-    with pytest.raises(rathonsi.Damaged):
+    with pytest.raises(rathonsi.WrongCell):
         opened(memory, ROUTES[:1])
 
 
@@ -344,6 +344,25 @@ def test_a_device_that_calls_its_store_within_a_write_is_refused() -> None:
     memory.store = opened(memory)
     with pytest.raises(rathonsi.Unusable):
         memory.store.send(0x120E, b"x")
+
+
+def test_a_store_that_is_closed_within_a_write_ends_after_it() -> None:
+    class Closing(Memory):
+        store: rathonsi.Store | None = None
+
+        def write(self, offset: int, data: bytes) -> None:
+            super().write(offset, data)
+            if self.store is not None:
+                self.store.close()
+
+    memory = Closing(4000)
+    rathonsi.make_store(memory, ROUTES, KEYS)
+    memory.store, memory.writes = opened(memory), []
+    with pytest.raises(rathonsi.Unusable, match="closed"):
+        memory.store.send(0x120E, b"x")
+    assert len(memory.writes) == 1
+    memory.store = None
+    assert opened(memory).send(0x120E, b"x") == model.protect(KEY, 0x120E, 1, b"x")
 
 
 def test_a_store_is_opened_once() -> None:
@@ -482,6 +501,60 @@ def test_a_device_with_a_store_is_not_made_anew() -> None:
     memory.content[32] = memory.content[66] = 0
     with pytest.raises(ValueError):
         rathonsi.make_store(memory, ROUTES)
+
+
+def test_what_is_no_store_of_this_kind_is_neither_opened_nor_written_over() -> None:
+    memory = Memory.made()
+    store = opened(memory)
+    store.send(0x120E, b"x")
+    store.load(UID, update_of(5, 2))
+    made, size = bytes(memory.content), 32 + 68 * 16
+    rows = {
+        "a log store": made[:8] + b"\2" + made[9:],
+        "a version that isn't known": made[:9] + b"\3" + made[10:],
+        "a header that isn't zero to its end": made[:31] + b"\1" + made[32:],
+        "a store that was cut short": made[: size - 1],
+        "a store moved to version 2": made + bytes(32768 - 4000) + b"SECOCST1\1\2\0\20" + bytes(20),
+        "a store of version 2 alone": bytes(32768) + b"SECOCST1\1\2\0\20" + bytes(20),
+    }
+    for name, content in rows.items():
+        memory = Memory()
+        memory.content = bytearray(content)
+        with pytest.raises(rathonsi.NoStore) as caught:
+            opened(memory)
+        assert str(caught.value) != rathonsi.NoStore.text, name
+        for routes in (ROUTES, ROUTES[:1], ()):
+            with pytest.raises(ValueError):
+                rathonsi.make_store(memory, routes, KEYS)
+        assert memory.content == content, name
+
+
+def test_a_longer_store_is_not_written_over_by_the_first_of_its_routes() -> None:
+    last = rathonsi.Route(0x1210, SENDS, slot=4)
+    memory = Memory.made((*ROUTES, last))
+    opened(memory, (*ROUTES, last)).send(0x1210, b"x")
+    for routes in (ROUTES, (*ROUTES, last)):
+        with pytest.raises(ValueError):
+            rathonsi.make_store(memory, routes, KEYS)
+    assert opened(memory, (*ROUTES, last)).counter(0x1210, SENDS) == 1
+
+
+def test_a_device_over_another_object() -> None:
+    class Remote:
+        """As a proxy of another process is: it has no method of its own."""
+
+        def __init__(self, memory: Memory) -> None:
+            self.memory = memory
+
+        def __getattr__(self, name: str) -> Any:
+            return getattr(self.memory, name)
+
+    device: Any = Remote(Memory.made())
+    assert rathonsi.Store(device, ROUTES).send(0x120E, b"x") == model.protect(KEY, 0x120E, 1, b"x")
+    wrong: list[dict[str, Any]] = [{"read": 5, "write": 5}, {"read": lambda self: b""}, {"write": lambda self, *_: None}]
+    for attributes in wrong:
+        with pytest.raises(TypeError):
+            rathonsi.Store(type("Wrong", (), attributes)(), ROUTES)
 
 
 def test_a_device_longer_than_its_store_and_the_most_routes() -> None:

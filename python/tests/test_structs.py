@@ -50,7 +50,7 @@ def defined() -> dict[str, int]:
 def test_statuses_flags_and_constants() -> None:
     numbers = defined()
     names = {refusal.__name__: status for status, refusal in REFUSALS.items()}
-    assert len(names) == 16
+    assert len(names) == 17
     assert names == {name.title().replace("_", ""): number for name, number in numbers.items() if name.title().replace("_", "") in names}
     for flag in rathonsi.Flags:
         assert flag.name is not None and numbers[flag.name] == flag

@@ -28,6 +28,7 @@ from ._errors import (
     Reserve,
     Unusable,
     VerificationFailure,
+    WrongCell,
 )
 from ._files import FileStore, make_file_store
 from ._pdus import Accepted, protect, verify
@@ -67,6 +68,7 @@ __all__ = [
     "Unusable",
     "Update",
     "VerificationFailure",
+    "WrongCell",
     "__version__",
     "aes128_cbc_decrypt",
     "aes128_cbc_encrypt",

@@ -69,10 +69,10 @@ class NoStore(Refused):
 
 
 class Damaged(Refused):
-    """A cell of the store has no copy that counts, or isn't the one of the route or the slot."""
+    """A fault of the device: a cell of the store has no copy that counts, or the cell of a slot holds no slot."""
 
     status = 8
-    text = "a cell of the store is damaged, or isn't that of the route or the slot"
+    text = "a cell of the store is damaged"
 
 
 class Busy(Refused):
@@ -129,6 +129,13 @@ class KeyUpdateError(Refused):
 
     status = 16
     text = "M3, the UID or the counter of the request is refused"
+
+
+class WrongCell(Refused):
+    """A fault of the configuration: no cell of the store is that of the route, or two are."""
+
+    status = 17
+    text = "no cell of the store is that of the route"
 
 
 class Unusable(RuntimeError):

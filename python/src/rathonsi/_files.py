@@ -8,7 +8,7 @@ import stat
 from collections.abc import Iterable, Mapping
 
 from ._arguments import Bytes
-from ._routes import HEADER, Route, find_store, made_image
+from ._routes import HEADER, Route, made_image, may_be_made
 from ._store import Store, write_new_store
 
 Path = str | os.PathLike[str]
@@ -25,7 +25,8 @@ class _File:
         name = os.fspath(path)
         if not isinstance(name, str):
             raise TypeError(f"path: a str or a path is wanted, not {type(path).__name__}")
-        flags = os.O_RDWR | (os.O_CREAT if making else 0)
+        # a pipe or a device is opened at once, and then refused
+        flags = os.O_RDWR | os.O_NONBLOCK | os.O_NOCTTY | (os.O_CREAT if making else 0)
         self._owner = os.getpid()
         self._file: io.FileIO = open(name, "r+b", buffering=0, opener=lambda at, _: os.open(at, flags, MODE))
         try:
@@ -88,13 +89,15 @@ def _sync_folder(name: str) -> None:
 class FileStore(Store):
     """The store in a file that `make_file_store` made, or a twin store of version 1 that `node`, `keytool` or C made.
 
+    A file whose store was moved to version 2 is refused (`NoStore`): what it still has of version 1 is old.
+
     Calls, routes and refusals are those of `Store`. The file is locked (flock) until `close`, the end of a `with`
     block or a failed write; each write is synced before the next begins. It can be opened again after a kill, a crash
     or a power cut at any moment, if the file system and the disk keep what was synced, and a torn write changes its
     own bytes alone: no freshness is used or accepted twice, and a confirmed key stays.
 
     BlockingIOError: another program or object has it open. PermissionError: others may read or write the file
-    (its mode isn't 600). OSError: what else the system says of the file. `NoStore`, `Damaged`: as of `Store`.
+    (its mode isn't 600). OSError: what else the system says of the file. `NoStore`, `Damaged`, `WrongCell`: as of `Store`.
     """
 
     def __init__(self, path: Path, routes: Iterable[Route] = ()) -> None:
@@ -105,8 +108,7 @@ class FileStore(Store):
             file.close()
             raise
 
-    def _end(self, trouble: str) -> None:
-        super()._end(trouble)
+    def _release(self) -> None:
         if isinstance(self._device, _File):
             self._device.close()
 
@@ -120,6 +122,7 @@ def make_file_store(path: Path, routes: Iterable[Route], keys: Mapping[int, Byte
     image = made_image(routes, {} if keys is None else keys)
     file = _File(path, making=True)
     try:
+        # duty: a store is made before its first power-up alone
         if not _is_left_over(file.read(), image):
             raise FileExistsError(errno.EEXIST, "there is a file already", os.fspath(path))
         write_new_store(file, image)
@@ -129,6 +132,6 @@ def make_file_store(path: Path, routes: Iterable[Route], keys: Mapping[int, Byte
 
 def _is_left_over(content: bytes, image: bytes) -> bool:
     """Whether a file is what was written of this image when its making was cut off: no store was there then."""
-    if find_store(content) is not None or len(content) > len(image):
+    if len(content) > len(image) or not may_be_made(content, image):
         return False
     return not any(content[:HEADER]) or content[HEADER:] == image[HEADER:]

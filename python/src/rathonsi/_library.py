@@ -86,7 +86,8 @@ class RouteStruct(ctypes.Structure):
         ("slot", c_uint8),
         ("direction", c_uint8),
         ("booted", c_uint8),
-        ("unused", c_uint8 * 5),
+        ("opened", c_uint8),
+        ("unused", c_uint8 * 4),
     ]
     counter: int
     data_id: int
@@ -96,10 +97,11 @@ class RouteStruct(ctypes.Structure):
     slot: int
     direction: int
     booted: int
+    opened: int
 
 
 def _found() -> Path:
-    """The shared object: the file that RATHONSI_LIBRARY names, the one beside this module, or else that of the checkout."""
+    """The shared object: what RATHONSI_LIBRARY names, the one beside this module, or else that of the checkout."""
     named = os.environ.get("RATHONSI_LIBRARY")
     beside = Path(__file__).with_name("librathonsi.so")
     if named or beside.exists():
@@ -150,6 +152,7 @@ store_check = _declared("store_check", _status, *_image)
 store_done = _declared("store_done", _status, *_image, _plan)
 route_open = _declared("route_open", _status, _route, *_image)
 route_reserve = _declared("route_reserve", _status, _route, c_uint64, *_image, _plan)
+route_advance = _declared("route_advance", _status, _route, c_uint64, *_image, _plan)
 route_send = _declared("route_send", _status, _route, *_image, *_text, *_text)
 route_receive = _declared("route_receive", VerdictStruct, _route, *_image, *_text)
 slot_load = _declared("slot_load", _status, _octets, c_uint8, _request, *_image, _plan)

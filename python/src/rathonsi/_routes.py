@@ -8,7 +8,7 @@ from typing import Final, SupportsIndex
 
 from . import _library
 from ._arguments import Bytes, data_id_number, freshness_number, key_bytes, number
-from ._errors import OK, Damaged, NoStore, raise_unless_ok
+from ._errors import OK, NoStore, WrongCell, raise_unless_ok
 from ._updates import Flags, Update, make_update, request_struct
 
 SLOT_CELLS: Final = 14
@@ -16,6 +16,9 @@ ROUTES_MOST: Final = 256
 BOOT_MAC: Final = 3
 HEADER: Final = 32
 CELL: Final = 68
+# what the header of a store of any kind and version begins with, and where one of version 2 stands
+MAGIC: Final = b"SECOCST1"
+VERSION_2: Final = 32768
 
 Image = Array[c_char]
 
@@ -112,6 +115,26 @@ def find_store(content: bytes) -> tuple[int, int] | None:
     return None
 
 
+def is_moved(content: bytes) -> bool:
+    """Whether a store of version 2 stands there. What it was moved from, at byte 0, has old bounds and old keys."""
+    return content.startswith(MAGIC, VERSION_2)
+
+
+def may_be_made(content: bytes, image: bytes) -> bool:
+    """Whether a new store with these bytes may be written: no store is there, or only what a cut left of this making.
+
+    A cut within the last write, that of the header, leaves anything in it, also the header of another size. All after
+    it is then as in a store that nobody has used: no bound and no key in use is ever made anew.
+    """
+    if is_moved(content) or content[:HEADER] == image[:HEADER]:
+        return False
+    found = find_store(content)
+    if found is None and not content.startswith(MAGIC):
+        return True
+    is_other = found is not None and found[0] > len(image) and found[1] == OK
+    return not is_other and content[HEADER : len(image)] == image[HEADER:]
+
+
 def made_image(routes: Iterable[Route], keys: Mapping[int, Bytes]) -> bytes:
     """The bytes of a new store: a cell for each route, whose bound is its `start`, and these keys in their slots.
 
@@ -146,7 +169,7 @@ def _put_first_key(image: Image, slot: int, key: bytes) -> None:
 def open_route(struct: _library.RouteStruct, image: Image) -> None:
     """Finds the cell of a route, and sets its counter to the bound there.
 
-    `Damaged`: no cell is the bound of its Data ID and direction, or two are.
+    `WrongCell`: no cell is the bound of its Data ID and direction, or two are.
     """
     cells = []
     for cell in range(SLOT_CELLS, SLOT_CELLS + (len(image) - size_of(0)) // CELL):
@@ -157,7 +180,7 @@ def open_route(struct: _library.RouteStruct, image: Image) -> None:
     if len(cells) != 1:
         which = Direction(struct.direction).name.lower()
         route = f"the route that {which} under Data ID {struct.data_id:04x}"
-        raise Damaged(f"{len(cells)} cells of the store are of {route}, not 1")
+        raise WrongCell(f"{len(cells)} cells of the store are of {route}, not 1")
     struct.cell = cells[0]
     # duty: each route is opened, with OK, before any other call
     raise_unless_ok(_library.route_open(struct, image, len(image)))

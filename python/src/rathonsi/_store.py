@@ -18,6 +18,7 @@ from ._errors import OK, RESERVE, Damaged, NoStore, Unusable, raise_unless_ok
 from ._pdus import Accepted, pdu_bytes
 from ._routes import (
     HEADER,
+    MAGIC,
     RECEIVES,
     SENDS,
     Direction,
@@ -25,7 +26,9 @@ from ._routes import (
     checked_routes,
     direction_of,
     find_store,
+    is_moved,
     made_image,
+    may_be_made,
     open_route,
 )
 from ._updates import Reply, Request, reply_of, request_struct, uid_bytes
@@ -48,11 +51,13 @@ class Device(Protocol):
 
 def checked_device(device: Device) -> Device:
     """TypeError: the object has no `read` or no `write`."""
-    if not isinstance(device, Device):
+    if not (callable(getattr(device, "read", None)) and callable(getattr(device, "write", None))):
         raise TypeError(f"device: read() and write(offset, bytes) are wanted, which {type(device).__name__} hasn't")
     return device
 
 
+_MOVED: Final = "the store was moved to version 2, which this package doesn't open"
+_OTHER: Final = "there is a store of another kind, or one that doesn't end within these bytes"
 _OPENING: Final = "it isn't open"
 _PLANNED: Final = "a write of it is under way"
 _FAILED: Final = "a write of it failed or was interrupted: open a new one"
@@ -69,8 +74,8 @@ class Store:
     the same device goes on. All calls may come from any thread. Without routes it loads and confirms keys alone; a
     route of the device that isn't among `routes` can't be used until the store is opened with it.
 
-    `NoStore`: the device holds no store. `Damaged`: a cell of it is, or a route has none. TypeError, ValueError: a
-    route is none, or two have one Data ID and direction.
+    `NoStore`: the device holds no store, or one of another kind or of version 2. `Damaged`: a cell of it is. `WrongCell`: a
+    route has none, or two. TypeError, ValueError: a route is none, or two have one Data ID and direction.
     """
 
     def __init__(self, device: Device, routes: Iterable[Route] = ()) -> None:
@@ -84,9 +89,12 @@ class Store:
         # duty: one image, one plan and one task at a time for a store: an older Store of this device ends here
         _take_over(device, self)
         content = any_bytes("the device's read()", device.read())
+        # duty: the image is what the device holds: not what a store was moved from
+        if is_moved(content):
+            raise NoStore(_MOVED)
         found = find_store(content)
         if found is None:
-            raise NoStore
+            raise NoStore(_OTHER if content.startswith(MAGIC) else NoStore.text)
         size, status = found
         raise_unless_ok(status)
         # duty: the image is what the device holds: it is read here, and only functions of the library change it
@@ -164,7 +172,7 @@ class Store:
         with self._lock:
             route = self._route(data_id, RECEIVES)
             if freshness > route.counter:
-                self._change(_library.route_reserve, route, freshness)
+                self._change(_library.route_advance, route, freshness)
                 raise_unless_ok(_library.route_open(route, self._image, self._size))
 
     def counter(self, data_id: SupportsIndex, direction: Direction) -> int:
@@ -248,19 +256,18 @@ class Store:
 
     def _change(self, plan: Callable[..., int], *arguments: object) -> None:
         """Has a change planned and does its writes. Whatever interrupts it leaves the object unusable."""
-        if self._trouble is None:
-            self._trouble = _PLANNED
-        else:
-            self._usable()
+        self._usable()
         try:
+            self._trouble = _PLANNED
             status = plan(*arguments, self._image, self._size, self._plan)
             if status == OK:
                 self._do_plan()
+            self._go_on_from(_PLANNED)
         except BaseException:
             # duty: a plan that was begun is done, or the power-up is: no other call comes after a failed write
             self._end(_FAILED)
+            self._release()
             raise
-        self._go_on_from(_PLANNED)
         raise_unless_ok(status)
 
     def _do_plan(self) -> None:
@@ -278,9 +285,14 @@ class Store:
         return self._trouble not in (None, _OPENING, _PLANNED)
 
     def _end(self, trouble: str) -> None:
-        """The object is used no more, for this reason. FileStore gives its file back, too."""
+        """The object is used no more, for this reason. Within a write, the device is given back after it."""
         if not self._has_ended():
-            self._trouble = trouble
+            writes, self._trouble = self._trouble is _PLANNED, trouble
+            if not writes:
+                self._release()
+
+    def _release(self) -> None:
+        """Gives the device back, if it is this object's own."""
 
 
 def _take_over(device: Device, store: Store) -> None:
@@ -302,13 +314,15 @@ def _leave_to_the_parent() -> None:
     for store in list(_live):
         store._lock = threading.RLock()
         store._end("it belongs to the process that this one was forked off from")
+        store._release()
 
 
 os.register_at_fork(after_in_child=_leave_to_the_parent)
 
 
 def write_new_store(device: Device, image: bytes) -> None:
-    """Writes a new store in the order that rathonsi_store.h asks for: until its last write there is none."""
+    """Writes a new store: until its last write there is none."""
+    # duty: the image of a new store is written in this order, each step durable before the next
     device.write(0, bytes(HEADER))
     device.write(HEADER, image[HEADER:])
     device.write(0, image[:HEADER])
@@ -318,12 +332,14 @@ def make_store(device: Device, routes: Iterable[Route], keys: Mapping[int, Bytes
     """Makes a store on a device that holds none, for the production line: a counter for each route, up to 256.
 
     `keys` are the first keys by their slots (1, 2, 4 to 13), each of 16 bytes: for MACs in 4 to 13, with the counter 1.
-    The other slots stay empty. If it is cut off, it can be called again. ValueError: the device holds a store, also
-    a damaged one, or is too small; or a route or a key is outside its range.
+    The other slots stay empty. If it is cut off, it can be called again with the same arguments. ValueError: the
+    device holds a store, also a damaged one and one of another kind, or is too small; or a route or a key is outside
+    its range.
     """
     image = made_image(routes, {} if keys is None else keys)
     content = any_bytes("the device's read()", checked_device(device).read())
-    if find_store(content) is not None:
+    # duty: a store is made before its first power-up alone
+    if not may_be_made(content, image):
         raise ValueError("the device holds a store")
     if len(content) < len(image):
         raise ValueError(f"the device has {len(content)} bytes, and the store {len(image)}")

@@ -1,5 +1,6 @@
 """Secured I-PDUs on a bus of python-can, and in its logs. It needs python-can: `pip install rathonsi[can]`."""
 
+import re
 import threading
 from collections.abc import Callable, Iterable, Iterator
 from dataclasses import dataclass
@@ -92,11 +93,14 @@ class SecuredBus(BusABC):
 
     `send` secures the data frames that `frames` maps to routes that send; `recv` gives those of routes that receive
     with their payload as data, once they are verified. All other frames go through as they are, remote and error
-    frames with mapped identifiers, too. Filters, periodic sending, `can.Notifier` and `with` work as on any bus;
-    `shutdown` shuts the other bus down, and leaves the store open.
+    frames with mapped identifiers, too. An identifier of 11 bits and one of 29 are two: a `can.Message` has 29 unless
+    it says `is_extended_id=False`. Filters, periodic sending, `can.Notifier` and `with` work as on any bus; `shutdown`
+    shuts the other bus down, and leaves the store open. Let one thread receive: of two, one may overtake the other,
+    and the older frame is refused then.
 
     A received frame that is refused raises its `Refused` in `recv`. With `on_refused` it is handed to that, with its
-    reason, and `recv` goes on to the next one: take that with a `can.Notifier`, whose thread ends at an exception.
+    reason, and `recv` goes on to the next one while it has time; `recv(0)` looks at one frame. Take `on_refused` with
+    a `can.Notifier`, whose thread ends at an exception.
 
     ValueError: a frame names a route that the store hasn't, or two frames of one direction have one identifier.
     """
@@ -113,7 +117,8 @@ class SecuredBus(BusABC):
         for frame in frames:
             self._add(frame)
         self._on_refused = on_refused
-        self._sending = threading.Lock()
+        # a bus that answers within `send`, and a handler of a signal, may send again
+        self._sending = threading.RLock()
         self._bus = bus
         super().__init__(channel=None, can_filters=bus.filters)
         self.channel_info = f"secured {bus.channel_info}"
@@ -247,18 +252,28 @@ def read_map(path: str | PathLike[str]) -> list[MapLine]:
     """The lines of a map file of `audit` or `watch`: CANID ID KEY FRESH LEN [WINDOW [CHANNEL]].
 
     CANID has three or eight hexadecimal digits, ID 4, KEY 32, FRESH 16; LEN and WINDOW are decimal; `-` is any
-    channel. Lines that are empty or begin with `#` are skipped. ValueError: a line is malformed; it is named.
+    channel. Lines without words, and those whose first word begins with `#`, are skipped. ValueError: a line is
+    malformed, or no frame would reach it since an earlier line has them all; it is named.
     """
-    lines = []
-    with open(path, encoding="ascii") as text:
+    lines: list[MapLine] = []
+    with open(path, encoding="utf-8", errors="surrogateescape", newline="\n") as text:
         for count, line in enumerate(text, 1):
-            words = line.split()
+            words = [word for word in re.split("[ \t]+", line.removesuffix("\n").removesuffix("\r")) if word]
             if words and not words[0].startswith("#"):
                 try:
-                    lines.append(_map_line(*words))
+                    lines.append(_reached(_map_line(*words), lines))
                 except (ValueError, TypeError) as error:
                     raise ValueError(f"{path}: line {count}: {error}") from None
     return lines
+
+
+def _reached(line: MapLine, before: Iterable[MapLine]) -> MapLine:
+    """The line. ValueError: no frame would reach it, since a line before has its identifier and channel, or all."""
+    for it in before:
+        same = (it.arbitration_id, it.is_extended_id) == (line.arbitration_id, line.is_extended_id)
+        if same and it.channel in (None, line.channel):
+            raise ValueError(f"no frame reaches this line of {line.arbitration_id:x}: an earlier one has them all")
+    return line
 
 
 def _digits(word: str, *lengths: int) -> int:
@@ -297,13 +312,22 @@ def verify_log(
     `path` is a log that `LogReader` reads, by its suffix: candump (.log), ASC, BLF, TRC, CSV, SQLite (.db), also
     with .gz. `map` is a file as of `read_map`, or lines of it; a frame belongs to the first line with its identifier
     and channel. `reader` is passed on to `LogReader`. Each line counts for itself: its counter is `freshness`,
-    and then the freshness that was accepted last. ValueError, OSError: of the map or the log, at the call itself.
+    and then the freshness that was accepted last. ValueError, OSError, at the call itself: of the map, or of a log
+    that can't be opened. What `LogReader` raises of a malformed log comes when its frame is read.
     """
-    lines = read_map(map) if isinstance(map, (str, PathLike)) else list(map)
-    for line in lines:
+    lines = _lines_of(map)
+    return _verdicts(LogReader(path, **reader), lines)
+
+
+def _lines_of(map: str | PathLike[str] | Iterable[MapLine]) -> list[MapLine]:
+    if isinstance(map, (str, PathLike)):
+        return read_map(map)
+    lines: list[MapLine] = []
+    for line in map:
         if not isinstance(line, MapLine):
             raise TypeError(f"map: a MapLine is wanted, not {type(line).__name__}")
-    return _verdicts(LogReader(path, **reader), lines)
+        lines.append(_reached(line, lines))
+    return lines
 
 
 def _verdicts(log: MessageReader, lines: list[MapLine]) -> Iterator[FrameVerdict]:
