@@ -19,8 +19,8 @@
  *
  * More is proved of a caller that keeps what it owes, over all lives with a store of several routes
  * and slots. A life lasts from one power-up to the next. This holds wherever within a write the
- * power goes. The caller may open, send, accept, reserve, load, finish and drop with the calls
- * below. A route may have any key, window, reserve and boot, in this life and the next.
+ * power goes. The caller may open, send, accept, reserve, advance, load, finish and drop with the
+ * calls below. A route may have any key, window, reserve and boot, in this life and the next.
  *   - The freshness sent under a Data ID strictly rises. So does the freshness accepted. Both stay
  *     at most the bound on the device.
  *   - An update that was confirmed stays in its slot, and the same reply confirms it. This lasts
@@ -39,8 +39,8 @@
  *   - rathonsi_store_make and rathonsi_route_make change the image only before the first power-up.
  *   - A store has one image, one plan and one task at a time.
  *   - A Data ID in one direction has one cell and one route. No other route uses the cell.
- *   - A route has the same Data ID, direction and cell in every life. All its other fields may
- *     change.
+ *   - A route has the same Data ID, direction and cell in every life. Slot, window, reserve and
+ *     booted may change. The caller zeroes opened at power-up, and never sets it.
  *
  *   Power-up
  *   - The caller zeroes the plan as each power-up begins, and whenever all begins again as at
@@ -275,8 +275,9 @@ int32_t rathonsi_route_open(RathonsiRoute *route, const uint8_t *image, size_t i
 int32_t rathonsi_route_reserve(const RathonsiRoute *route, uint64_t freshness, const uint8_t *image, size_t image_length,
                                RathonsiPlan *plan);
 
-/* Does what rathonsi_route_reserve does, however far ahead the freshness is. A unit that is put in
- * place of another one goes on above the freshness of that one by this call.
+/* Does what rathonsi_route_reserve does, however far ahead the freshness is. Its plan done, the
+ * caller opens the route anew: rathonsi_route_open moves the counter to the bound. So a unit that
+ * is put in place of another one goes on above the freshness of that one.
  * RATHONSI_BUSY.
  * RATHONSI_BAD_VALUE: a number of the route is outside its range, or the route isn't open.
  * RATHONSI_WRONG_CELL, RATHONSI_DAMAGED: as for rathonsi_route_open. */

@@ -1,5 +1,5 @@
 -- What the words of a chart name, and what comes of them (own)
-use Rattle.std.specs.Prelude.{◌≡◌, ◌⊎◌, ℕ, List, [], Vec}
+use Rattle.std.specs.Prelude.{◌≡◌, ◌≢◌, ◌⊎◌, ℕ, List, [], Vec}
 use Rattle.std.specs.declared.alloc.Global.{Global}
 use Rattle.bus_port.specs.Source.{SourceState}
 use Rattle.cut_disk.specs.declared.mem_disk.MemDisk.{MemDisk}
@@ -36,7 +36,7 @@ pub data ChartOfWords (opens : List ℕ → SourceState → Type 0) (before afte
   -- there are none: the example is drawn, and nothing is opened
   drew_example : words ≡ [] → after ≡ before → ChartsExample e → ChartOfWords opens before after back words e
   -- the sources are those that they name where they are two, each opened once, and no other; they are handed back
-  drew_words : (i : BusInputs) → i.words ≡ words
+  drew_words : words ≢ [] → (i : BusInputs) → i.words ≡ words
       → SourcesAreNamed opens before after (first_of_two words) (second_of_two words) i → AreHandedBack i back
       → ChartsOverMade i e → ChartOfWords opens before after back words e
   -- there was no memory for the disks of a chart, or for the example

@@ -1,6 +1,7 @@
 -- What comes of the words of a gateway says when the usage line comes, and that the disk that is made is enough
-use Rattle.std.specs.Prelude.{◌≡◌, ◌≢◌, ◌⊎◌, ℕ, List, [], Option, Some, None}
-use Rattle.std.proofs.Common.{sym, ◌∙◌, subst, arith, inl, inr}
+use Rattle.std.specs.Prelude.{◌≡◌, ◌≢◌, ◌==◌, ◌⊎◌, ℕ, false, List, [], ◌∷◌, length, map, Option, Some, None}
+use Rattle.std.proofs.Common.{sym, ◌∙◌, ap, subst, arith, inl, inr}
+use Rattle.std.proofs.lemmas.Bool.{true≢false}
 use Rattle.bus_port.specs.Source.{SourceState}
 use Rattle.program_edge.specs.NamedSources.{Openings}
 use Rattle.program_edge.specs.Endings.{Ending}
@@ -46,20 +47,25 @@ wanted_for_named words bus script (no_source other is also) some = absurd (some 
 no_words : (words : List (List ℕ)) → words ≡ [] → AsksNoGateway words
 no_words words none = subst AsksNoGateway (sym none) (λ pairs no. no)
 
+-- some words are some texts
+pub some_words : {A : Type 0} (f : A → List ℕ) (ws : List A) → (length ws == 0) ≡ false → map f ws ≢ []
+some_words f [] some none = absurd (true≢false some)
+some_words f (w ∷ ws) some none = absurd (let empty : length (map f (w ∷ ws)) ≡ 0 = ap length none in omega (arith, empty))
+
 module _ (opens : List ℕ → SourceState → Type 0) (before after : Openings) (back : SourcesBack) (words : List (List ℕ)) (e : Ending) where
   pub words_usage : GatewayOfWords opens before after back words e → e.status ≡ 2 → AsksNoGateway words
   words_usage (ran_example none same run) two = no_words words none
-  words_usage (ran_words bus script names i are named handed over) two = subst AsksNoGateway are (over.runs.usage_told two).0
+  words_usage (ran_words there bus script names i are named handed over) two = subst AsksNoGateway are (over.runs.usage_told two).0
   words_usage (ran_nothing asks wants) two = absurd (let no : ⊥ = omega (arith, wants.status_is, two) in no)
 
   pub words_usage_only : GatewayOfWords opens before after back words e → words ≢ [] → AsksNoGateway words → (e.status ≡ 2) ⊎ (e.status ≡ 6)
   words_usage_only (ran_example none same run) some other = absurd (some none)
-  words_usage_only (ran_words bus script names i are named handed over) some other = over.runs.usage_only (subst AsksNoGateway (sym are) other)
+  words_usage_only (ran_words there bus script names i are named handed over) some other = over.runs.usage_only (subst AsksNoGateway (sym are) other)
   words_usage_only (ran_nothing (inl asks) wants) some other = absurd (other asks.0 asks.1)
   words_usage_only (ran_nothing (inr none) wants) some other = absurd (some none)
 
   pub words_start : GatewayOfWords opens before after back words e → (e.status ≢ 9) × (e.status ≢ 10)
   words_start (ran_example none same (i, is, over)) = over_starts i e over
-  words_start (ran_words bus script names i are named handed over) = over_starts i e over
+  words_start (ran_words there bus script names i are named handed over) = over_starts i e over
   words_start (ran_nothing asks wants) =
       (λ nine. let no : ⊥ = omega (arith, wants.status_is, nine) in no, λ ten. let no : ⊥ = omega (arith, wants.status_is, ten) in no)

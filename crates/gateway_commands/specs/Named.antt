@@ -1,5 +1,5 @@
 -- What the words of a gateway name, and what comes of them
-use Rattle.std.specs.Prelude.{◌≡◌, ◌⊎◌, ℕ, List, [], ◌∷◌, map, Option, Some, None, Vec}
+use Rattle.std.specs.Prelude.{◌≡◌, ◌≢◌, ◌⊎◌, ℕ, List, [], ◌∷◌, map, Option, Some, None, Vec}
 use Rattle.std.specs.declared.alloc.Global.{Global}
 use Rattle.bus_port.specs.Source.{SourceState}
 use Rattle.cut_disk.specs.declared.mem_disk.MemDisk.{MemDisk}
@@ -43,7 +43,7 @@ pub data GatewayOfWords (opens : List ℕ → SourceState → Type 0) (before af
   -- there are none: the example is run, and nothing is opened
   ran_example : words ≡ [] → after ≡ before → RunsExample e → GatewayOfWords opens before after back words e
   -- the sources are those that the words name, each opened once, and no other; they are handed back
-  ran_words : (bus script : Option (List ℕ)) → NameSources words bus script → (i : BusInputs) → i.words ≡ words
+  ran_words : words ≢ [] → (bus script : Option (List ℕ)) → NameSources words bus script → (i : BusInputs) → i.words ≡ words
       → SourcesAreNamed opens before after bus script i → AreHandedBack i back → GatewayOverMade i e
       → GatewayOfWords opens before after back words e
   -- there was no memory for the disk of a gateway, or for the example

@@ -214,8 +214,9 @@ pub extern "C" fn rathonsi_route_reserve(
     raise(route, Kept { direction, bound }, freshness, image, plan)
 }
 
-/// What `rathonsi_route_reserve` does, however far ahead the freshness is: for a sender that is put in the place of
-/// another, whose freshness it goes on above. `BUSY`, `BAD_VALUE`, `WRONG_CELL`, `DAMAGED`: the first that applies.
+/// What `rathonsi_route_reserve` does, however far ahead the freshness is. Its plan done, `rathonsi_route_open` moves
+/// the counter to the bound: so a sender goes on above the freshness of another, which it replaces. `BUSY`,
+/// `BAD_VALUE`, `WRONG_CELL`, `DAMAGED`: the first that applies.
 #[unsafe(no_mangle)]
 pub extern "C" fn rathonsi_route_advance(
     route: &RathonsiRoute,

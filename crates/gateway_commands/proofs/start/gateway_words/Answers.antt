@@ -1,9 +1,9 @@
-use Rattle.std.proofs.Common.{◌≢◌, ℕ, map, refl, sym, subst, inl}
+use Rattle.std.proofs.Common.{◌≢◌, ℕ, map, refl, sym, subst, inl, ◌∙◌}
 use Rattle.std.specs.Prelude.{string_bytes}
 use Rattle.program_edge.specs.NamedSources.{word_source}
 use Rattle.bus_programs.specs.Inputs.{BusInputs, inputs_of}
 use Rattle.gateway_commands.specs.Named.{ran_words, ran_nothing}
-use Rattle.gateway_commands.proofs.OfWords.{example_starts, words_usage_only, words_start, given_to_named, wanted_for_named}
+use Rattle.gateway_commands.proofs.OfWords.{example_starts, some_words, words_usage_only, words_start, given_to_named, wanted_for_named}
 use Rattle.gateway_commands.proofs.start.gateway_words.Goals as goal
 
 pub returns-then-is_empty-clause-starts : goal.returns-then-is_empty-clause-starts
@@ -28,7 +28,7 @@ returns-clause-words g c =
     let state = word_source g.O.Opened.Source.state g.I.Source.state in
     let i : BusInputs = inputs_of (map string_bytes c.args.words.now) (state c.open_both-config.result.0) (state c.run_gateway-status.new.config)
     (state c.open_both-config.result.1) (state c.run_gateway-status.new.script) in
-    ran_words _ _ c.source_words.ensures i refl (record { named = c.open_both-config.ensures.named; left = c.open_both-config.ensures.left })
+    ran_words (some_words string_bytes c.args.words.now (sym c.is_empty.ensures ∙ c.if-is_empty.false)) _ _ c.source_words.ensures i refl (record { named = c.open_both-config.ensures.named; left = c.open_both-config.ensures.left })
     (record { config = refl; script = refl })
     (record {
       made = c.in-Ok.disks;
