@@ -35,8 +35,8 @@ def read_headers(texts):
     structs, functions = {}, {}
     for name, body in re.findall(r"typedef struct (\w+) \{(.*?)\} \w+;", whole, flags=re.S):
         structs[name] = Struct(body, structs)
-    for result, name, params in re.findall(r"\b(int32_t|\w+Verdict)\s+(\w+)\(([^)]*)\)\s*;", whole):
-        functions[name] = (result, [" ".join(it.split()) for it in params.split(",")])
+    for result, name, params in re.findall(r"\b(u?int32_t|\w+Verdict)\s+(\w+)\(([^)]*)\)\s*;", whole):
+        functions[name] = (result, [] if params.strip() == "void" else [" ".join(it.split()) for it in params.split(",")])
     return structs, functions
 
 
@@ -76,11 +76,11 @@ def export(function, called, header, structs):
     if len(params) != len(function.params):
         stop(f"{function.name}: the header and the module differ")
     found = [passed(kind, text, structs) for (kind, _), text in zip(function.params, params)]
-    lines = [f"{result} {function.name}({', '.join(params)}) {{", *(line for _, first, _ in found for line in first),
+    lines = [f"{result} {function.name}({', '.join(params) or 'void'}) {{", *(line for _, first, _ in found for line in first),
              f"    const {declared(function.result, 'r')} = {called}({', '.join(text for text, _, _ in found)});",
              *(line for _, _, last in found for line in last)]
-    if result == "int32_t" and function.result == "i32":
-        return [*lines, "    return (int32_t)r;", "}"]
+    if result in ("int32_t", "uint32_t") and function.result == "i32":
+        return [*lines, f"    return ({result})r;", "}"]
     if function.result not in VERDICT or len(members_of(function.result)) != 2:
         stop(f"{function.name} returns {c_type(function.result)}")
     return [*lines, f"    {result} verdict;", "    verdict.status = (int32_t)(uint32_t)r.e0;",
