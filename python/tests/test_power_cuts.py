@@ -90,7 +90,7 @@ def test_a_making_that_is_cut_within_its_header_goes_on_whatever_that_holds() ->
         if header == whole[:32]:
             continue
         memory.content[:] = header + whole[32:]
-        with pytest.raises((rathonsi.NoStore, rathonsi.Damaged)):
+        with pytest.raises((rathonsi.NoStore, rathonsi.Damaged, rathonsi.WrongCell)):
             opened(memory)
         rathonsi.make_store(memory, ROUTES, KEYS)
         assert memory.content == whole
