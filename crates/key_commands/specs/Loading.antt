@@ -46,7 +46,7 @@ pub record KeepsStore (calls : ℕ) (before after : LoaderState) : Type 0 where
   pub settled : Settled before.store → Settled after.store
   pub besides : Settled before.store → LeavesBesides before.store after.store.disk.told
 
--- these requests were answered so, each in at most six calls of the disk, and none found it failing
+-- these requests were answered so, in at most six calls of the disk a request on the whole, and none found it failing
 pub record AllLoaded (before : LoaderState) (requests : List Request) (lines : List LoadLine)
     (after : LoaderState) : Type 0 where
   pub answers : AnswersEach before.uid before.slots requests lines after.slots

@@ -1,8 +1,8 @@
 -- The words of a tag
 use Rattle.std.proofs.Common.{◌≡◌, ℕ, List, [], ◌∷◌, ◌++◌, refl, ap}
-use Rattle.program_edge.specs.OpenedWords.{note_of, with_byte, noted, oldest_first, words_noted}
+use Rattle.program_edge.specs.OpenedWords.{note_of, with_byte, latest_first, oldest_first, words_noted}
 
-note_stands_first : (word numbers : List ℕ) → noted (note_of word ++ numbers) ≡ word ∷ noted numbers
+note_stands_first : (word numbers : List ℕ) → latest_first (note_of word ++ numbers) ≡ word ∷ latest_first numbers
 note_stands_first [] numbers = refl
 note_stands_first (byte ∷ word) numbers = ap (with_byte byte) (note_stands_first word numbers)
 

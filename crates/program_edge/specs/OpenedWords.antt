@@ -10,11 +10,11 @@ abbrev pub with_byte : ℕ → List (List ℕ) → List (List ℕ)
 with_byte byte [] = []
 with_byte byte (word ∷ words) = (byte ∷ word) ∷ words
 
--- the arguments that such numbers are, the first of them first
-abbrev pub noted : List ℕ → List (List ℕ)
-noted [] = []
-noted (zero ∷ rest) = [] ∷ noted rest
-noted (suc byte ∷ rest) = with_byte byte (noted rest)
+-- the arguments that such numbers are, the latest first
+abbrev pub latest_first : List ℕ → List (List ℕ)
+latest_first [] = []
+latest_first (zero ∷ rest) = [] ∷ latest_first rest
+latest_first (suc byte ∷ rest) = with_byte byte (latest_first rest)
 
 -- the newest of the arguments stands first among the numbers, and last here
 abbrev pub oldest_first : List (List ℕ) → List (List ℕ)
@@ -22,4 +22,4 @@ oldest_first [] = []
 oldest_first (word ∷ words) = oldest_first words ++ word ∷ []
 
 abbrev pub words_noted : List ℕ → List (List ℕ)
-words_noted numbers = oldest_first (noted numbers)
+words_noted numbers = oldest_first (latest_first numbers)

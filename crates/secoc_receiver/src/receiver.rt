@@ -99,7 +99,7 @@ pub fn receive<C: Cells>(
     }
 }
 
-// AcceptsPdu a freshness above the counter, and with it a payload of this length.
+// Accepts a freshness above the counter, and with it a payload of this length.
 fn accept<C: Cells>(
     rx: &mut Rx,
     cells: &mut C,
