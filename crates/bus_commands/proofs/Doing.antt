@@ -7,7 +7,7 @@ use Rattle.program_edge.specs.Rows.{Row}
 use Rattle.program_edge.specs.Endings.{Ending, EndsInRow}
 use Rattle.program_edge.specs.EndingLaws.{EndsInRow-more}
 use Rattle.program_edge.specs.InputLaws.{Lacks-whole}
-use Rattle.bus_nodes.specs.Buses.{NamedBus, IsNamedBus}
+use Rattle.bus_config.specs.Buses.{NamedBus, IsNamedBus}
 use Rattle.bus_machine.specs.declared.events.Event.{Event}
 use Rattle.bus_script.specs.Canon.{canon}
 use Rattle.bus_world.specs.declared.start.Start.{Start}

@@ -4,7 +4,7 @@ use Rattle.program_edge.specs.Endings.{Ending}
 use Rattle.run_driver.specs.declared.printing.Unwritten.{Unwritten}
 use Rattle.bus_machine.specs.declared.events.Event.{Event}
 use Rattle.bus_machine.specs.Bus.{World, Moments}
-use Rattle.bus_nodes.specs.Buses.{NamedBus}
+use Rattle.bus_config.specs.Buses.{NamedBus}
 use Rattle.bus_world.specs.StartAnswers.{DiskStates}
 use Rattle.bus_world.specs.WorldRuns.{WorldRun}
 use Rattle.bus_commands.specs.declared.summary.Summary.{Summary}

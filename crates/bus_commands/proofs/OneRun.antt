@@ -9,7 +9,7 @@ use Rattle.bus_world.specs.declared.start.Start.{Start}
 use Rattle.bus_world.specs.declared.start.Start.TheVariants.{Format, Attach}
 use Rattle.bus_machine.specs.declared.events.Event.{Event}
 use Rattle.bus_machine.specs.Bus.{World, First}
-use Rattle.bus_nodes.specs.Buses.{NamedBus, configs_of}
+use Rattle.bus_config.specs.Buses.{NamedBus, configs_of}
 use Rattle.bus_commands.specs.declared.summary.Summary.{Summary}
 use Rattle.bus_commands.specs.declared.trial_words.TrialWords.{TrialWords}
 use Rattle.bus_commands.specs.declared.words.Command.TheVariants as command

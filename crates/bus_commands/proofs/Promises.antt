@@ -15,7 +15,7 @@ use Rattle.bus_config.specs.declared.fault.ConfigFault.{ConfigFault}
 use Rattle.bus_config.specs.FaultTexts.{config_fault_text}
 use Rattle.cell_store.specs.declared.kinds.Kind.TheVariants.{Twin}
 use Rattle.cell_store.specs.declared.kinds.Version.TheVariants.{One}
-use Rattle.bus_nodes.specs.Buses.{NamedBus, IsNamedBus}
+use Rattle.bus_config.specs.Buses.{NamedBus, IsNamedBus}
 use Rattle.bus_world.specs.declared.start.Start.{Start}
 use Rattle.bus_world.specs.declared.start.Start.TheVariants.{Format, Attach}
 use Rattle.bus_world.specs.Starts.{HasRoom, FindsRoom, Started}

@@ -2,8 +2,8 @@
 use Rattle.std.specs.Prelude.{ℕ, ◌≤◌, List, length, get_or, All}
 use Rattle.std.proofs.Common.{sym, subst, arith}
 use Rattle.bus_machine.specs.declared.events.Event.{Event}
-use Rattle.bus_nodes.specs.declared.nodes.NodeLine.{NodeLine}
-use Rattle.bus_nodes.specs.Buses.{NamedBus}
+use Rattle.bus_config.specs.declared.node_lines.NodeLine.{NodeLine}
+use Rattle.bus_config.specs.Buses.{NamedBus}
 use Rattle.bus_script.specs.ScriptEvents.{IsScriptEvent}
 use Rattle.cut_disk.specs.State.{DiskState}
 use Rattle.bus_world.specs.Worlds.{BusState, IsEventOf, IsReady}

@@ -5,7 +5,7 @@ use Rattle.program_edge.specs.declared.input.InputFault.TheVariants as input
 use Rattle.program_edge.specs.Told.{EndingTold}
 use Rattle.program_edge.specs.Rows.{Row}
 use Rattle.program_edge.specs.Endings.{Ending, EndsInRow}
-use Rattle.bus_nodes.specs.Buses.{NamedBus}
+use Rattle.bus_config.specs.Buses.{NamedBus}
 use Rattle.bus_machine.specs.declared.events.Event.{Event}
 use Rattle.bus_world.specs.StartAnswers.{ComesOfStart}
 use Rattle.bus_world.specs.StartAnswerLaws as start

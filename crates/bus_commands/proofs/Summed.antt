@@ -5,7 +5,7 @@ use Rattle.program_edge.specs.Rows.{Row, row_of}
 use Rattle.program_edge.specs.Endings.{Ending, EndsInRow}
 use Rattle.program_edge.specs.EndingLaws.{EndsInRow-more}
 use Rattle.bus_machine.specs.declared.events.Event.{Event}
-use Rattle.bus_nodes.specs.Buses.{NamedBus}
+use Rattle.bus_config.specs.Buses.{NamedBus}
 use Rattle.bus_world.specs.WorldTurns.{TurnsLeaveDisks, StartsSetUp}
 use Rattle.bus_commands.specs.declared.summary.Summary.{Summary}
 use Rattle.bus_commands.specs.Summaries.{summary_text}

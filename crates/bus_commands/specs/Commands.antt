@@ -39,7 +39,7 @@ use Rattle.bus_world.specs.declared.start.Start.TheVariants.{Format, Attach}
 -- `IsNamedBus`: a bus as bus files have them.
 use Rattle.bus_commands.specs.Inputs.{OverLines, OverReplayOf, OverTrial, OverWorld}
 use Rattle.bus_commands.specs.Tasks.{Task, replay}
-use Rattle.bus_nodes.specs.Buses.{NamedBus, IsNamedBus, configs_of}
+use Rattle.bus_config.specs.Buses.{NamedBus, IsNamedBus, configs_of}
 use Rattle.bus_machine.specs.declared.events.Event.{Event}
 -- `Offers`: the source tells these bytes, at most 1,048,576, and its count of faults neither rose nor is full.
 -- `OffersTask`, `OffersTrial`: it is asked for, and the source of its bus file, if it has one, so tells one with this

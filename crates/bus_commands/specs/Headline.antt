@@ -6,7 +6,7 @@ use Rattle.run_driver.specs.declared.printing.Unwritten.{Unwritten}
 use Rattle.run_driver.specs.Printed.{Written}
 use Rattle.bus_machine.specs.declared.events.Event.{Event}
 use Rattle.bus_machine.specs.Bus.{World, First, Moments}
-use Rattle.bus_nodes.specs.Buses.{NamedBus, configs_of}
+use Rattle.bus_config.specs.Buses.{NamedBus, configs_of}
 use Rattle.bus_script.specs.LineTexts.{line_text}
 use Rattle.bus_world.specs.declared.start.Start.{Start}
 use Rattle.bus_world.specs.declared.start.Start.TheVariants.{Format, Attach}

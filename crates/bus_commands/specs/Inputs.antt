@@ -3,7 +3,7 @@ use Rattle.std.specs.Prelude.{◌≡◌, ℕ, List, Ok}
 use Rattle.bus_port.specs.Source.{SourceState}
 use Rattle.program_edge.specs.declared.input.InputFault.{InputFault}
 use Rattle.program_edge.specs.Inputs.{Reading, IsUnread, ReadsWhole, Lacks}
-use Rattle.bus_nodes.specs.Buses.{NamedBus}
+use Rattle.bus_config.specs.Buses.{NamedBus}
 use Rattle.bus_machine.specs.declared.events.Event.{Event}
 use Rattle.bus_script.specs.EventForms.{events_of}
 use Rattle.bus_script.specs.Trials.{trial_events}

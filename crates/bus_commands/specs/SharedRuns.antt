@@ -2,7 +2,7 @@
 use Rattle.std.specs.Prelude.{List}
 use Rattle.bus_machine.specs.declared.events.Event.{Event}
 use Rattle.bus_machine.specs.Bus.{World, Moments}
-use Rattle.bus_nodes.specs.Buses.{NamedBus}
+use Rattle.bus_config.specs.Buses.{NamedBus}
 use Rattle.bus_world.specs.StartAnswers.{DiskStates}
 use Rattle.bus_world.specs.WorldRuns.{WorldRun}
 use Rattle.bus_commands.specs.Commands.{HeadlineRun}

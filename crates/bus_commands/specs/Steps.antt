@@ -12,7 +12,7 @@ use Rattle.program_edge.specs.Inputs.{Reading, IsUnread}
 use Rattle.program_edge.specs.Endings.{Ending, EndsInRow}
 use Rattle.text_lines.specs.LineRows.{NoLines}
 use Rattle.run_driver.specs.declared.printing.Unwritten.{Unwritten}
-use Rattle.bus_nodes.specs.Buses.{NamedBus, IsNamedBus}
+use Rattle.bus_config.specs.Buses.{NamedBus, IsNamedBus}
 use Rattle.bus_machine.specs.declared.events.Event.{Event}
 use Rattle.bus_script.specs.EventForms.{events_of}
 use Rattle.bus_script.specs.Trials.{trial_events}

@@ -1,5 +1,5 @@
 -- What is done with lines
-use Rattle.bus_nodes.specs.Buses.{NamedBus}
+use Rattle.bus_config.specs.Buses.{NamedBus}
 use Rattle.bus_world.specs.declared.start.Start.{Start}
 
 -- lines of `frame`, of `judge`, or the events of a script over a bus, which are printed again, or replayed from this

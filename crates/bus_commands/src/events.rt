@@ -4,7 +4,7 @@ ghost use Rattle.std.specs.List.{flat_map};
 ghost use Rattle.bus_script.specs.Canon.{canon};
 ghost use Rattle.bus_script.specs.ScriptEvents.{IsScriptEvent};
 
-use bus_nodes::BusConfig;
+use bus_config::BusConfig;
 use bus_script::{Event, Memory, write_event};
 use std::alloc::{AllocError, Global};
 

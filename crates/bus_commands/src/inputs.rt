@@ -5,7 +5,7 @@ ghost use Rattle.bus_commands.specs.Steps.{DrawsEvents};
 
 use crate::questions::{Question, questions};
 use crate::trial_words::TrialWords;
-use bus_nodes::BusConfig;
+use bus_config::BusConfig;
 use bus_port::Source;
 use bus_script::{Event, make_trial, read_script};
 use program_edge::{Refusal, read_input};

@@ -2,7 +2,7 @@
 use crate::events::canonical;
 use crate::questions::answers;
 use crate::words::WorldCommand;
-use bus_nodes::BusConfig;
+use bus_config::BusConfig;
 use bus_script::Event;
 use secoc_words::{FrameLine, JudgeLine};
 use std::alloc::{AllocError, Global};

@@ -6,14 +6,14 @@ ghost use Rattle.bus_commands.specs.Inputs.{inputs_of};
 ghost use Rattle.bus_commands.specs.StartRows.{disks_between};
 ghost use Rattle.bus_commands.specs.Steps.{Prepares, PreparesLines, PreparesWorld, HasFewEvents, FindsEvents};
 ghost use Rattle.bus_commands.specs.Steps.{IsWholeLines, IsWholeWorld, AnswersLines, AnswersWorld};
-ghost use Rattle.bus_nodes.specs.Buses.{NamedBus};
+ghost use Rattle.bus_config.specs.Buses.{NamedBus};
 
 use crate::inputs::{drawn_events, questions_from, script_from};
 use crate::job::{Job, LineJob, WorldJob};
 use crate::replay::replay;
 use crate::trial::trial;
 use crate::words::{Command, LineCommand, WorldCommand, command_of};
-use bus_nodes::BusConfig;
+use bus_config::BusConfig;
 use bus_port::{Sink, Source};
 use bus_programs::bus_from;
 use bus_script::Event;

@@ -1,13 +1,13 @@
 //! A trial: a run of the events that a seed gives, and its summary.
 ghost use Rattle.std.specs.Prelude.{◌≡◌, map};
 ghost use Rattle.program_edge.specs.Endings.{EndsInRow};
-ghost use Rattle.bus_nodes.specs.Buses.{IsNamedBus};
+ghost use Rattle.bus_config.specs.Buses.{IsNamedBus};
 ghost use Rattle.bus_commands.specs.Steps.{AreEvents, AnswersTrial, TellsSummary};
 
 use crate::laws::trials_are_runs;
 use crate::summary::Summary;
 use bus_machine::Event;
-use bus_nodes::BusConfig;
+use bus_config::BusConfig;
 use bus_port::Sink;
 use bus_world::{Start, World, start_refusal, starts_are_set_up, turns_leave_disks};
 use cut_disk::CutDisk;

@@ -3,8 +3,8 @@ use Rattle.std.proofs.Common.{◌≢◌, ◌≤◌, List, [], ◌∷◌, ◌++�
 use Rattle.std.proofs.lemmas.List.Elements.{All-push}
 use Rattle.std.proofs.lemmas.List.Quantifiers.{all_pairs_push}
 use Rattle.cell_store.specs.declared.kinds.Version.{Version}
-use Rattle.bus_nodes.specs.declared.nodes.NodeLine.{NodeLine}
-use Rattle.bus_nodes.specs.Buses.{IsNodeLine, most_routes}
+use Rattle.bus_config.specs.declared.node_lines.NodeLine.{NodeLine}
+use Rattle.bus_config.specs.Buses.{IsNodeLine, most_routes}
 use Rattle.bus_config.specs.Heads.{IsNewNode, AreNewNodes}
 
 pub new_nodes-push : (version : Version) (nodes : List NodeLine) (node : NodeLine) → AreNewNodes version nodes → IsNewNode version nodes node → AreNewNodes version (nodes ++ node ∷ [])

@@ -6,3 +6,8 @@ mod RouteRows
 mod NodeRows
 mod Buses
 mod Documents
+mod Sending
+mod Again
+mod Machine
+pub mod Named
+pub mod CallerLemmas

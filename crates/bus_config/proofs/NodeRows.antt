@@ -5,7 +5,7 @@ use Rattle.toml.specs.declared.value.Value.{Value}
 use Rattle.toml.specs.View.{view}
 use Rattle.cell_store.specs.declared.kinds.Version.{Version}
 use Rattle.text_lines.specs.Readings.{◌>>=◌}
-use Rattle.bus_nodes.specs.declared.nodes.NodeLine.{NodeLine}
+use Rattle.bus_config.specs.declared.node_lines.NodeLine.{NodeLine}
 use Rattle.bus_config.specs.declared.fault.ConfigFault.{ConfigFault}
 use Rattle.bus_config.proofs.RowLists.{rows_left}
 use Rattle.bus_config.specs.BusFile.{next_node, nodes_from}

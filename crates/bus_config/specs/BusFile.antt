@@ -8,8 +8,8 @@ use Rattle.toml.specs.Parse.{parse_document}
 use Rattle.cell_store.specs.declared.kinds.Version.{Version}
 use Rattle.freshness_routes.specs.declared.routes.Route.{Route}
 use Rattle.text_lines.specs.Readings.{◌>>=◌}
-use Rattle.bus_nodes.specs.declared.nodes.NodeLine.{NodeLine}
-use Rattle.bus_nodes.specs.Buses.{NamedBus, sent_again}
+use Rattle.bus_config.specs.declared.node_lines.NodeLine.{NodeLine}
+use Rattle.bus_config.specs.Buses.{NamedBus, sent_again}
 use Rattle.bus_config.specs.declared.fault.ConfigFault.{ConfigFault}
 use Rattle.bus_config.specs.declared.fault.ConfigFault.TheVariants as fault
 use Rattle.bus_config.specs.Rows.{next_route, next_head, root_in}

@@ -3,9 +3,9 @@ use Rattle.std.specs.Prelude.{◌≢◌, ◌≤◌, IsTrue, All, AllPairs, List,
 use Rattle.toml.specs.View.{view}
 use Rattle.cell_store.specs.declared.kinds.Version.{Version}
 use Rattle.memory_update.specs.Identifier.{IsUid}
-use Rattle.bus_nodes.specs.declared.nodes.NodeLine.{NodeLine}
-use Rattle.bus_nodes.specs.Names.{is_name}
-use Rattle.bus_nodes.specs.Buses.{IsNodeLine, most_routes}
+use Rattle.bus_config.specs.declared.node_lines.NodeLine.{NodeLine}
+use Rattle.bus_config.specs.Names.{is_name}
+use Rattle.bus_config.specs.Buses.{IsNodeLine, most_routes}
 use Rattle.bus_config.specs.declared.heads.NodeHead.{NodeHead as HeldHead}
 use Rattle.bus_config.specs.declared.heads.Root.{Root as HeldRoot}
 use Rattle.bus_config.specs.Rows.{NodeHead, Root}

@@ -4,3 +4,6 @@ pub mod BusFile
 pub mod Answers
 pub mod FaultTexts
 pub mod Heads
+pub mod Names
+pub mod Buses
+pub mod Laws

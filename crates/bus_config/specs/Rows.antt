@@ -11,8 +11,8 @@ use Rattle.cell_store.specs.declared.kinds.Version.TheVariants.{One}
 use Rattle.freshness_routes.specs.declared.routes.Direction.{Direction}
 use Rattle.freshness_routes.specs.declared.routes.Direction.TheVariants.{Sends, Receives}
 use Rattle.freshness_routes.specs.declared.routes.Route.{Route}
-use Rattle.bus_nodes.specs.declared.nodes.NodeLine.{NodeLine}
-use Rattle.bus_nodes.specs.Buses.{most_routes, place_named}
+use Rattle.bus_config.specs.declared.node_lines.NodeLine.{NodeLine}
+use Rattle.bus_config.specs.Buses.{most_routes, place_named}
 use Rattle.bus_config.specs.Values.{kind_in, version_in, whole_in, name_in, uid_in, id_in, direction_in, start_in}
 use Rattle.bus_config.specs.Values.{tables_in}
 

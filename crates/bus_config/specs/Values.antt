@@ -13,7 +13,7 @@ use Rattle.freshness_routes.specs.declared.routes.Direction.{Direction}
 use Rattle.freshness_routes.specs.declared.routes.Direction.TheVariants.{Sends, Receives}
 use Rattle.secoc_words.specs.Forms.{data_id_form, fresh_form}
 use Rattle.secoc_words.specs.KeyForms.{engine_uid_form}
-use Rattle.bus_nodes.specs.Names.{is_name}
+use Rattle.bus_config.specs.Names.{is_name}
 
 -- `store`: the text `twin` or `log`
 abbrev pub kind_form : List ℕ → Option Kind

@@ -2,14 +2,16 @@
 
 ghost use Rattle.std.specs.Prelude.{◌≡◌, ◌≤◌, [], map, length, codes, option_map, IfSome};
 ghost use Rattle.toml.specs.View.{view, table_view};
-ghost use Rattle.bus_nodes.specs.Buses.{most_routes as routes_at_most};
+ghost use Rattle.bus_config.specs.Buses.{most_routes as routes_at_most};
 ghost use Rattle.bus_config.specs.Values.{kind_in, version_in, tables_in};
 ghost use Rattle.bus_config.specs.Rows.{optional, node_head as node_head_in, next_head as next_head_in, root_in};
 ghost use Rattle.bus_config.specs.Heads.{head_view, root_view, IsNewHead};
 
+use crate::buses::most_routes;
+use crate::names::Name;
+use crate::node_lines::{NodeLine, place_named};
 use crate::tables::{has_only, member};
 use crate::values;
-use bus_nodes::{Name, NodeLine, most_routes, place_named};
 use cell_store::{Kind, Version};
 use memory_update::Uid;
 use toml::{Table, Value};

@@ -8,8 +8,8 @@ ghost use Rattle.bus_config.specs.Answers.{AnswersAs, AnswersAsList};
 
 use crate::fault::ConfigFault;
 use crate::heads::{NodeHead, next_head};
+use crate::node_lines::NodeLine;
 use crate::routes::read_routes;
-use bus_nodes::NodeLine;
 use cell_store::Version;
 use freshness_routes::NodeConfig;
 use std::alloc::Global;

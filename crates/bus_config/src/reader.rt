@@ -5,10 +5,11 @@ ghost use Rattle.toml.specs.View.{table_view};
 ghost use Rattle.bus_config.specs.BusFile.{bus_in, bus_of};
 ghost use Rattle.bus_config.specs.Answers.{AnswersAs};
 
+use crate::buses::BusConfig;
 use crate::fault::ConfigFault;
 use crate::heads::read_root;
+use crate::node_lines::sent_again;
 use crate::nodes::read_nodes;
-use bus_nodes::{BusConfig, sent_again};
 use std::alloc::Global;
 use toml::Table;
 

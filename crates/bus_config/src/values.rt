@@ -5,7 +5,7 @@ ghost use Rattle.memory_update.specs.Identifier.{IsUid};
 ghost use Rattle.toml.specs.View.{view};
 ghost use Rattle.bus_config.specs.Values.{kind_in, version_in, whole_in, name_in, uid_in, id_in, direction_in, start_in, rows_in, tables_in, are_tables as are_so_many_tables};
 
-use bus_nodes::Name;
+use crate::names::Name;
 use cell_store::{Kind, Version};
 use freshness_routes::Direction;
 use key_slots::SlotId;

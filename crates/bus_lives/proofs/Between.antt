@@ -21,8 +21,8 @@ use Rattle.freshness_routes.specs.Config.{Config}
 use Rattle.bus_machine.specs.Node.{Node, Kept, powered}
 use Rattle.bus_machine.specs.Steps.{PowersUp}
 use Rattle.bus_machine.specs.Bus.{node_at}
-use Rattle.bus_nodes.specs.declared.nodes.NodeLine.{NodeLine}
-use Rattle.bus_nodes.specs.Buses.{NamedBus}
+use Rattle.bus_config.specs.declared.node_lines.NodeLine.{NodeLine}
+use Rattle.bus_config.specs.Buses.{NamedBus}
 use Rattle.secoc_node.proofs.CallerLemmas.{FoundCells, told_before}
 use Rattle.bus_world.proofs.CallerLemmas.{counted_once}
 use Rattle.bus_world.specs.declared.start.Start.TheVariants.{Attach}

@@ -5,8 +5,8 @@ use Rattle.machine_runs.specs.Run.{Run}
 use Rattle.bus_machine.specs.Bus.{World, node_of, Instant, Moments, Step}
 use Rattle.bus_machine.specs.Freshness.{AcceptedRises, Rising, SentRises, Single}
 use Rattle.bus_laws.proofs.CallerLemmas.{AllPairs-Pairwise}
-use Rattle.bus_nodes.specs.declared.nodes.NodeLine.{NodeLine}
-use Rattle.bus_nodes.specs.Buses.{NamedBus}
+use Rattle.bus_config.specs.declared.node_lines.NodeLine.{NodeLine}
+use Rattle.bus_config.specs.Buses.{NamedBus}
 use Rattle.bus_world.specs.declared.start.Start.TheVariants.{Attach}
 use Rattle.bus_world.specs.WorldTurns.{StartsSetUp, StartsGoOnFirst, TurnsAreWorldRuns}
 use Rattle.bus_lives.specs.Lives.{Life, IsLife, Follows, IsFirstLife, LivesBehind, LivesOf, moments_in, Stage}

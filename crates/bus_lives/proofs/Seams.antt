@@ -23,8 +23,8 @@ use Rattle.bus_machine.specs.Node.{Node, Kept, Change, changed, powered}
 use Rattle.bus_machine.specs.Sound.{Sound}
 use Rattle.bus_machine.specs.Steps.{PowersUp}
 use Rattle.bus_machine.specs.Bus.{World, First, node_at, no_config, SoundBus}
-use Rattle.bus_nodes.specs.declared.nodes.NodeLine.{NodeLine}
-use Rattle.bus_nodes.specs.Buses.{NamedBus, configs_of}
+use Rattle.bus_config.specs.declared.node_lines.NodeLine.{NodeLine}
+use Rattle.bus_config.specs.Buses.{NamedBus, configs_of}
 use Rattle.bus_laws.proofs.CallerLemmas.{pending_forward, first_at, Grows-run, Sound-run, as_many_run}
 use Rattle.secoc_node.specs.Cells.{CellsOf}
 use Rattle.secoc_node.specs.Fits.{node_keeping, FitsNode}

@@ -17,8 +17,8 @@ use Rattle.bus_machine.specs.Steps.{PowersUp}
 use Rattle.bus_machine.specs.Bus.{World, First, Instant, Moments, node_at}
 use Rattle.bus_machine.specs.Freshness.{Rising, Single}
 use Rattle.bus_machine.specs.KeysKept.{slot_in, Acknowledges, FailsUpdate, GoesOn}
-use Rattle.bus_nodes.specs.declared.nodes.NodeLine.{NodeLine}
-use Rattle.bus_nodes.specs.Buses.{NamedBus, IsNamedBus, configs_of}
+use Rattle.bus_config.specs.declared.node_lines.NodeLine.{NodeLine}
+use Rattle.bus_config.specs.Buses.{NamedBus, IsNamedBus, configs_of}
 use Rattle.bus_world.specs.declared.start.Start.TheVariants.{Attach}
 use Rattle.bus_world.specs.declared.start.StartFault.{StartFault}
 use Rattle.bus_world.specs.declared.start.StartFault.TheVariants as start_fault

@@ -11,7 +11,7 @@ use Rattle.bus_config.specs.declared.fault.ConfigFault.TheVariants as config
 use Rattle.bus_config.specs.BusFile.{bus_of}
 use Rattle.bus_config.specs.FaultTexts.{config_fault_text}
 use Rattle.bus_config.specs.Answers.{IsFaultOf}
-use Rattle.bus_nodes.specs.Buses.{NamedBus}
+use Rattle.bus_config.specs.Buses.{NamedBus}
 use Rattle.bus_machine.specs.declared.events.Event.{Event}
 use Rattle.bus_programs.specs.BusFileLaws.{LacksLines-read}
 use Rattle.bus_programs.specs.Scripts.{ScriptMeaning, HasScript, FindsScript}

@@ -9,7 +9,7 @@ use Rattle.cut_disk.specs.Memory.{fresh, disk_of}
 use Rattle.cut_disk.specs.MemDisk.{contents}
 use Rattle.cell_store.specs.declared.faults.Reread.TheVariants.{DiskFailed, NotFormatted, Damaged}
 use Rattle.freshness_routes.specs.Config.{Config}
-use Rattle.bus_nodes.specs.Buses.{NamedBus, IsNamedBus}
+use Rattle.bus_config.specs.Buses.{NamedBus, IsNamedBus}
 use Rattle.bus_world.specs.declared.start.Start.TheVariants.{Format}
 use Rattle.bus_world.specs.declared.start.StartFault.{StartFault}
 use Rattle.bus_world.specs.declared.start.StartFault.TheVariants.{TooFew, TooSmall, Store, BadSlot, BadBound, Memory}

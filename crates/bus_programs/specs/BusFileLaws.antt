@@ -12,7 +12,7 @@ use Rattle.program_edge.specs.Inputs.{Reading, IsUnread, ReadsWhole, Lacks, Offe
 use Rattle.program_edge.specs.InputLaws.{Lacks-whole, Offers-whole, Offers-is}
 use Rattle.bus_config.specs.declared.fault.ConfigFault.{ConfigFault}
 use Rattle.bus_config.specs.BusFile.{bus_of}
-use Rattle.bus_nodes.specs.Buses.{NamedBus}
+use Rattle.bus_config.specs.Buses.{NamedBus}
 use Rattle.text_lines.specs.LineRows.{NoLines}
 use Rattle.text_lines.specs.Readings.{Fault}
 use Rattle.bus_programs.specs.BusFiles.{ReadsBus, IsConfigFault, OffersBus}

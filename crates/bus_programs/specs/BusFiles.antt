@@ -6,7 +6,7 @@ use Rattle.program_edge.specs.Inputs.{Reading, ReadsWhole, Lacks, Offers}
 use Rattle.bus_config.specs.declared.fault.ConfigFault.{ConfigFault}
 use Rattle.bus_config.specs.BusFile.{bus_of}
 use Rattle.bus_config.specs.FaultTexts.{config_fault_text}
-use Rattle.bus_nodes.specs.Buses.{NamedBus}
+use Rattle.bus_config.specs.Buses.{NamedBus}
 
 -- the bus file was read whole, and has this bus
 abbrev pub ReadsBus : Reading → NamedBus → Type 0

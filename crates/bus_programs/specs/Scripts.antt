@@ -7,8 +7,8 @@ use Rattle.program_edge.specs.Inputs.{Reading, ReadsWhole, Lacks}
 use Rattle.text_lines.specs.LineRows.{line_row, NoLines}
 use Rattle.text_lines.specs.Readings.{Fault, most_lines}
 use Rattle.bus_machine.specs.declared.events.Event.{Event}
-use Rattle.bus_nodes.specs.declared.nodes.NodeLine.{NodeLine}
-use Rattle.bus_nodes.specs.Buses.{NamedBus}
+use Rattle.bus_config.specs.declared.node_lines.NodeLine.{NodeLine}
+use Rattle.bus_config.specs.Buses.{NamedBus}
 use Rattle.bus_script.specs.ScriptEvents.{IsScriptEvent}
 
 -- why a source gives no lines of this meaning

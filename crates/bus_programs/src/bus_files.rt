@@ -2,7 +2,7 @@
 ghost use Rattle.bus_programs.specs.BusFiles.{FindsBus, HasBus, IsConfigRow};
 
 use bus_config::{ConfigFault, config_fault_text, read_config};
-use bus_nodes::BusConfig;
+use bus_config::BusConfig;
 use bus_port::Source;
 use program_edge::{Refusal, read_input};
 use std::alloc::{AllocError, Global};

@@ -1,11 +1,11 @@
 //! Scripts as an input of a program.
 ghost use Rattle.std.specs.Prelude.{◌<◌, ◌^◌, length, IfOk, List, ℕ, Result};
 ghost use Rattle.bus_machine.specs.declared.events.Event.{Event};
-ghost use Rattle.bus_nodes.specs.declared.nodes.NodeLine.{NodeLine};
+ghost use Rattle.bus_config.specs.declared.node_lines.NodeLine.{NodeLine};
 ghost use Rattle.text_lines.specs.Readings.{Fault, Gives};
 ghost use Rattle.bus_programs.specs.Scripts.{AreEvents, HasScript, FindsScript};
 
-use bus_nodes::BusConfig;
+use bus_config::BusConfig;
 use bus_port::Source;
 use bus_script::{Event, read_own_script, read_script};
 use program_edge::{Refusal, read_input};

@@ -3,7 +3,7 @@ use Rattle.std.specs.Prelude.{◌≡◌, ℕ, List, [], ◌∷◌}
 use Rattle.std.proofs.Common.{refl, subst, arith}
 use Rattle.cut_disk.specs.declared.mem_disk.MemDisk.{MemDisk}
 use Rattle.cut_disk.specs.State.{DiskState}
-use Rattle.bus_nodes.specs.Buses.{IsNamedBus}
+use Rattle.bus_config.specs.Buses.{IsNamedBus}
 use Rattle.bus_world.specs.Starts.{HasRoom, FindsRoom}
 use Rattle.bus_world.specs.StartRows.{LeavesEach, StoreCause}
 use Rattle.bus_world.specs.declared.start.Start.{Start}

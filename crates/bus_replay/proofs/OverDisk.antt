@@ -8,7 +8,7 @@ use Rattle.cut_disk.specs.State.{DiskState}
 use Rattle.file_disk.specs.NamedDisks.{IsOpenedBy, TellsFirmBytes, OpenedByWords}
 use Rattle.run_driver.specs.declared.printing.Unwritten.{Unwritten}
 use Rattle.bus_machine.specs.declared.events.Event.{Event}
-use Rattle.bus_nodes.specs.Buses.{NamedBus}
+use Rattle.bus_config.specs.Buses.{NamedBus}
 use Rattle.bus_world.specs.declared.start.Start.{Start}
 use Rattle.bus_world.specs.declared.start.Start.TheVariants.{Format, Attach}
 use Rattle.bus_world.specs.StartAnswers.{DiskStates}

@@ -19,9 +19,9 @@ use Rattle.text_lines.specs.Readings.{most_lines, nth_word, field, Gives}
 use Rattle.secoc_words.specs.KeyForms.{slot_form, counter_form, flags_form}
 use Rattle.text_lines.specs.Lines.{lines_of}
 use Rattle.text_lines.proofs.CallerLemmas.{number_in_range, bind_ok, field_ok, counted_ok, All-read_from, values_given}
-use Rattle.bus_nodes.specs.declared.nodes.NodeLine.{NodeLine}
-use Rattle.bus_nodes.specs.Buses.{IsNodeLine, place_named}
-use Rattle.bus_nodes.proofs.CallerLemmas.{named_there}
+use Rattle.bus_config.specs.declared.node_lines.NodeLine.{NodeLine}
+use Rattle.bus_config.specs.Buses.{IsNodeLine, place_named}
+use Rattle.bus_config.proofs.CallerLemmas.{named_there}
 use Rattle.bus_machine.specs.declared.events.Event.{Event}
 use Rattle.bus_machine.specs.declared.events.Event.TheVariants as event
 use Rattle.bus_script.specs.declared.kinds.EventKind.{EventKind}

@@ -19,10 +19,10 @@ use Rattle.text_lines.specs.Written.{written, is_word_byte, is_plain_word, is_wr
 use Rattle.secoc_words.proofs.CallerLemmas.{key_form-encode, data_id_form-encode, pair_encode, blocks_word}
 use Rattle.text_lines.proofs.CallerLemmas.{bytes_form-word, hex_bytes_form-encode, plain_word, bytes_word-plain, all_writable, read_from-words}
 use Rattle.text_lines.proofs.CallerLemmas.{words-written}
-use Rattle.bus_nodes.specs.declared.nodes.NodeLine.{NodeLine}
-use Rattle.bus_nodes.specs.Names.{is_name_byte, is_name}
-use Rattle.bus_nodes.specs.Buses.{NamedBus, IsNamedBus, place_named}
-use Rattle.bus_nodes.proofs.CallerLemmas.{own_name_found}
+use Rattle.bus_config.specs.declared.node_lines.NodeLine.{NodeLine}
+use Rattle.bus_config.specs.Names.{is_name_byte, is_name}
+use Rattle.bus_config.specs.Buses.{NamedBus, IsNamedBus, place_named}
+use Rattle.bus_config.proofs.CallerLemmas.{own_name_found}
 use Rattle.bus_machine.specs.declared.events.Event.{Event}
 use Rattle.bus_machine.specs.declared.events.Event.TheVariants as event
 use Rattle.bus_machine.specs.Bus.{node_of}

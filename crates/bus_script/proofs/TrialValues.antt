@@ -11,8 +11,8 @@ use Rattle.cut_disk.specs.declared.Torn.TheVariants.{Keep, Old, Half, Fill}
 use Rattle.freshness_routes.specs.declared.routes.Direction.TheVariants.{Sends}
 use Rattle.freshness_routes.specs.declared.routes.Route.{Route}
 use Rattle.freshness_routes.specs.Config.{IsRoute}
-use Rattle.bus_nodes.specs.declared.nodes.NodeLine.{NodeLine}
-use Rattle.bus_nodes.specs.Buses.{NamedBus, IsNamedBus, IsNodeLine, ids_sent_by}
+use Rattle.bus_config.specs.declared.node_lines.NodeLine.{NodeLine}
+use Rattle.bus_config.specs.Buses.{NamedBus, IsNamedBus, IsNodeLine, ids_sent_by}
 use Rattle.bus_machine.specs.Node.{same_direction}
 use Rattle.bus_machine.specs.declared.events.Event.TheVariants as event
 use Rattle.bus_script.specs.declared.trial.Sender.{Sender}

@@ -1,7 +1,7 @@
 -- The events of a trial are a script.
 use Rattle.std.proofs.Common.{ℕ, ◌≤◌, length, arith}
 use Rattle.text_lines.specs.Readings.{most_lines}
-use Rattle.bus_nodes.specs.Buses.{NamedBus, IsNamedBus}
+use Rattle.bus_config.specs.Buses.{NamedBus, IsNamedBus}
 use Rattle.bus_script.specs.Trials.{trial_events}
 use Rattle.bus_script.specs.TrialLaws.{TrialsAreScripts}
 use Rattle.bus_script.proofs.EventsRead.{events_read}

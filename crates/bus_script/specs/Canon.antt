@@ -8,7 +8,7 @@ use Rattle.cut_disk.specs.declared.Torn.TheVariants.{Keep, Old, Half, Fill}
 use Rattle.memory_update.specs.declared.messages.Update.{Update}
 use Rattle.secoc_words.specs.Written.{load_words, flags_text}
 use Rattle.text_lines.specs.Written.{written, bytes_word}
-use Rattle.bus_nodes.specs.declared.nodes.NodeLine.{NodeLine}
+use Rattle.bus_config.specs.declared.node_lines.NodeLine.{NodeLine}
 use Rattle.bus_machine.specs.declared.events.Event.{Event}
 use Rattle.bus_machine.specs.declared.events.Event.TheVariants as event
 use Rattle.bus_machine.specs.Bus.{node_of}

@@ -2,8 +2,8 @@
 use Rattle.std.specs.Prelude.{ℕ, if◌then◌else◌, List, [], slice_index_or, codes, Option, Some, Result, Ok}
 use Rattle.std.specs.Option.{ok_or}
 use Rattle.std.specs.Str.{bytes_eq}
-use Rattle.bus_nodes.specs.declared.nodes.NodeLine.{NodeLine}
-use Rattle.bus_nodes.specs.Buses.{place_named}
+use Rattle.bus_config.specs.declared.node_lines.NodeLine.{NodeLine}
+use Rattle.bus_config.specs.Buses.{place_named}
 use Rattle.bus_machine.specs.Bus.{no_config}
 use Rattle.bus_machine.specs.declared.events.Event.{Event}
 use Rattle.bus_machine.specs.declared.events.Event.TheVariants as event

@@ -1,6 +1,6 @@
 -- What the steps of making a trial say to one another.
 use Rattle.std.specs.Prelude.{◌≡◌, ℕ, List}
-use Rattle.bus_nodes.specs.declared.nodes.NodeLine.{NodeLine}
+use Rattle.bus_config.specs.declared.node_lines.NodeLine.{NodeLine}
 use Rattle.bus_machine.specs.declared.events.Event.{Event}
 use Rattle.bus_script.specs.declared.trial.Sender.{Sender}
 use Rattle.bus_script.specs.Trials.{Drawn, senders, route_ids}

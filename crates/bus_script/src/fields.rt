@@ -4,7 +4,7 @@ ghost use Rattle.std.specs.Prelude.{◌≡◌, ◌<◌, length};
 ghost use Rattle.text_lines.specs.Forms.{number_form};
 ghost use Rattle.bus_script.specs.EventForms.{uid_at, event_uid_form};
 
-use bus_nodes::BusConfig;
+use bus_config::BusConfig;
 use memory_update::Uid;
 use text_lines::forms;
 

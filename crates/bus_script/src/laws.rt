@@ -3,7 +3,7 @@
 ghost use Rattle.std.specs.Prelude.{◌≡◌, ◌≤◌, ℕ, List, [], ◌∷◌, length, All, Ok};
 ghost use Rattle.std.specs.List.{flat_map};
 ghost use Rattle.text_lines.specs.Readings.{most_lines};
-ghost use Rattle.bus_nodes.specs.Buses.{NamedBus, IsNamedBus};
+ghost use Rattle.bus_config.specs.Buses.{NamedBus, IsNamedBus};
 ghost use Rattle.bus_machine.specs.declared.events.Event.{Event};
 ghost use Rattle.bus_script.specs.EventForms.{events_of};
 ghost use Rattle.bus_script.specs.Canon.{canon};

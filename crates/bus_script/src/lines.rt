@@ -6,7 +6,7 @@ ghost use Rattle.bus_script.specs.EventForms.{send_of, deliver_of, inject_of, lo
 
 use crate::fields::{event_uid, from_one};
 use bus_machine::Event;
-use bus_nodes::BusConfig;
+use bus_config::BusConfig;
 use memory_update::{Request, Update};
 use std::alloc::Global;
 use text_lines::reader::value_at;

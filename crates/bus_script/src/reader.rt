@@ -12,7 +12,7 @@ use crate::lines::{
     read_stop,
 };
 use bus_machine::Event;
-use bus_nodes::BusConfig;
+use bus_config::BusConfig;
 use std::alloc::Global;
 use text_lines::reader::{LineReader, MOST_LINES, expect_count, read_lines};
 use text_lines::words::Words;

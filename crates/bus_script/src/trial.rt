@@ -2,7 +2,7 @@
 
 ghost use Rattle.std.specs.Prelude.{◌≡◌, ℕ, ◌+◌, ◌*◌, ◌<◌, ◌≤◌, ◌++◌, length, All, IfOk, OnOk};
 ghost use Rattle.text_lines.specs.Readings.{most_lines};
-ghost use Rattle.bus_nodes.specs.Buses.{ids_sent_by};
+ghost use Rattle.bus_config.specs.Buses.{ids_sent_by};
 ghost use Rattle.bus_script.specs.ScriptEvents.{IsScriptEvent};
 ghost use Rattle.bus_script.specs.Trials.{senders_at, senders as senders_of, ids_at, route_ids as ids_of, key_for, keys_of_node, keys_of_bus, trial_events};
 
@@ -10,7 +10,7 @@ use crate::drawn_events::draw_event;
 use crate::draws::Draws;
 use basics::Block;
 use bus_machine::Event;
-use bus_nodes::BusConfig;
+use bus_config::BusConfig;
 use freshness_routes::{Direction, Route};
 use key_slots::{Counter28, Flags, SlotId};
 use memory_update::Update;

@@ -13,7 +13,7 @@ use crate::kinds::EventKind;
 use crate::pushing::{push_bytes, push_hex, push_number, push_word};
 use basics::Block;
 use bus_machine::Event;
-use bus_nodes::BusConfig;
+use bus_config::BusConfig;
 use cut_disk::Torn;
 use memory_update::{Request, Update};
 use secoc_words::texts::flags_text;

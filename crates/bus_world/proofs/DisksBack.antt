@@ -14,7 +14,7 @@ use Rattle.bus_machine.specs.declared.events.Event.{Event}
 use Rattle.bus_machine.specs.declared.lines.Line.{Line}
 use Rattle.bus_machine.specs.Node.{first_node}
 use Rattle.bus_machine.specs.Bus.{no_config}
-use Rattle.bus_nodes.specs.Buses.{NamedBus}
+use Rattle.bus_config.specs.Buses.{NamedBus}
 use Rattle.bus_world.specs.Turns.{NodeState}
 use Rattle.bus_world.specs.Worlds.{BusState, world_of, BusTurn, EachFits, TurnsAreRuns}
 use Rattle.bus_world.specs.Starts.{disks_of}

@@ -20,7 +20,7 @@ use Rattle.bus_machine.specs.declared.lines.Refusal.TheVariants.{MemoryFailure}
 use Rattle.bus_machine.specs.Bus.{World, Instant, Moments, Step, state_after, node_of, node_at}
 use Rattle.bus_machine.specs.Honest.{HonestDelivery}
 use Rattle.bus_machine.specs.Past.{mark_of}
-use Rattle.bus_nodes.specs.Buses.{NamedBus}
+use Rattle.bus_config.specs.Buses.{NamedBus}
 use Rattle.bus_laws.specs.Laws.{HonestIsHeard, EventsDetermineLines, NoFailure, NoCut, IsCalm}
 use Rattle.bus_world.specs.NodeDisks.{AreQuiet, mark_at, tells_failure, fails_at}
 use Rattle.bus_world.specs.WorldRuns.{IsFirstOf, EachIsHeard, KeepsPower, OneListOfLines, Honest}

@@ -15,3 +15,6 @@ pub mod Starting
 pub mod Attaching
 pub mod Honesty
 pub mod WholeRun
+mod Finding
+mod Searching
+mod Keeping

@@ -16,8 +16,8 @@ use Rattle.any_cells.specs.Either.{layout}
 use Rattle.freshness_routes.specs.Config.{Config}
 use Rattle.bus_machine.specs.Node.{Kept, first_node}
 use Rattle.bus_machine.specs.Bus.{no_config}
-use Rattle.bus_nodes.specs.declared.nodes.NodeLine.{NodeLine}
-use Rattle.bus_nodes.specs.Buses.{NamedBus}
+use Rattle.bus_config.specs.declared.node_lines.NodeLine.{NodeLine}
+use Rattle.bus_config.specs.Buses.{NamedBus}
 use Rattle.secoc_node.specs.State.{NodeState}
 use Rattle.secoc_node.proofs.CallerLemmas.{told_before}
 use Rattle.bus_world.specs.declared.opening.OpenFault.{OpenFault}

@@ -10,9 +10,9 @@ use Rattle.cell_store.specs.declared.kinds.Version.{Version}
 use Rattle.freshness_routes.specs.Config.{Config}
 use Rattle.bus_machine.specs.Node.{Node, first_node, powered}
 use Rattle.bus_machine.specs.Bus.{World, SentLine, First, no_config}
-use Rattle.bus_nodes.specs.declared.nodes.NodeLine.{NodeLine}
-use Rattle.bus_nodes.specs.Buses.{NamedBus, IsNamedBus, configs_of}
-use Rattle.bus_nodes.specs.Laws.{NamedBusesAreBuses}
+use Rattle.bus_config.specs.declared.node_lines.NodeLine.{NodeLine}
+use Rattle.bus_config.specs.Buses.{NamedBus, IsNamedBus, configs_of}
+use Rattle.bus_config.specs.Laws.{NamedBusesAreBuses}
 use Rattle.bus_laws.specs.Laws.{BusesBeginFirst}
 use Rattle.bus_world.specs.Turns.{NodeState, TellsFitting}
 use Rattle.store_keeping.specs.KeepingLaws.{told_before}

@@ -28,7 +28,7 @@ use Rattle.secoc_node.specs.Causes.{CutCause}
 use Rattle.secoc_node.specs.Powering.{ComesUp, StaysDown}
 use Rattle.secoc_node.specs.Lines.{refusal_of_fault, refusal_of_cut, cut_line, IfLeftAlone}
 use Rattle.secoc_node.specs.State.{NodeState, FitsNow, TellsFitting}
-use Rattle.sent_history.specs.History.{HistoryState, with_line}
+use Rattle.bus_world.specs.History.{HistoryState, with_line}
 use Rattle.bus_world.specs.Turns.{duty, duty_of, TellsFaults, LeavesAlone, NodeTurn}
 use Rattle.bus_machine.specs.Steps.{Act, sends, receives, loads, keys, boots, cuts, arms, hears_nothing, Faults, PowersUp, NodeStep}
 

@@ -9,7 +9,7 @@ use Rattle.bus_machine.specs.declared.lines.Line.{Line}
 use Rattle.bus_machine.specs.Bus.{World, Moments, Step}
 use Rattle.bus_machine.specs.Skips.{SkipsLittle}
 use Rattle.bus_laws.specs.Laws.{IsFirst, RunsAreCovered, RunsRise, RunsAreAuthentic, RunsAreSingle, RunsKeepKeys, CutsSkipLittle, HonestIsHeard, EventsDetermineLines}
-use Rattle.bus_nodes.specs.Buses.{NamedBus}
+use Rattle.bus_config.specs.Buses.{NamedBus}
 use Rattle.bus_world.specs.Worlds.{BusState, world_of, EachFits, TurnsAreRuns}
 use Rattle.bus_world.specs.StartRowLaws.{no_disk}
 use Rattle.bus_world.specs.WorldRuns.{IsFirstOf, EachSkipsLittle, WorldRun}

@@ -12,3 +12,5 @@ pub mod NodeDisks
 pub mod WorldRuns
 pub mod WorldTurns
 pub mod TurnLaws
+pub mod History
+pub mod Records

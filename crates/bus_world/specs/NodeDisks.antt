@@ -13,7 +13,7 @@ use Rattle.bus_machine.specs.declared.lines.Line.TheVariants.{Refused}
 use Rattle.bus_machine.specs.declared.lines.Refusal.TheVariants.{MemoryFailure}
 use Rattle.bus_machine.specs.Bus.{World, Moments, node_of, node_at}
 use Rattle.bus_machine.specs.Past.{mark_of, most_entries, cell_count}
-use Rattle.bus_nodes.specs.Buses.{NamedBus}
+use Rattle.bus_config.specs.Buses.{NamedBus}
 use Rattle.bus_world.specs.Turns.{FitsNode}
 
 -- the disk of each node tells its bytes

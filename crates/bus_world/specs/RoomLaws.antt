@@ -7,7 +7,7 @@ use Rattle.cell_store.specs.declared.kinds.Version.{Version}
 use Rattle.cell_store.specs.declared.kinds.Version.TheVariants.{One, Two}
 use Rattle.cell_store.specs.Store.{store_size}
 use Rattle.any_cells.specs.Either.{layout}
-use Rattle.bus_nodes.specs.Buses.{most_routes}
+use Rattle.bus_config.specs.Buses.{most_routes}
 
 -- the greatest store of a node has 54,564 bytes
 pub size_of_any : (kind : Kind) (version : Version) (routes : ℕ) → routes ≤ most_routes version

@@ -7,7 +7,7 @@ use Rattle.program_edge.specs.Rows.{Row, row_of, memory_row}
 use Rattle.cut_disk.specs.State.{DiskState}
 use Rattle.cell_store.specs.declared.faults.Reread.TheVariants as reread
 use Rattle.freshness_routes.specs.Config.{Config}
-use Rattle.bus_nodes.specs.Buses.{NamedBus}
+use Rattle.bus_config.specs.Buses.{NamedBus}
 use Rattle.bus_world.specs.declared.opening.OpenFault.{OpenFault}
 use Rattle.bus_world.specs.declared.opening.OpenFault.TheVariants as open_fault
 use Rattle.bus_world.specs.declared.start.Start.{Start}

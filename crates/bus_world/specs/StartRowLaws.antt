@@ -12,8 +12,8 @@ use Rattle.cell_store.specs.declared.faults.Reread.TheVariants as reread
 use Rattle.cell_store.proofs.CallerLemmas.{stays_none}
 use Rattle.freshness_routes.specs.Config.{Config}
 use Rattle.bus_machine.specs.Bus.{no_config}
-use Rattle.bus_nodes.specs.declared.nodes.NodeLine.{NodeLine}
-use Rattle.bus_nodes.specs.Buses.{NamedBus}
+use Rattle.bus_config.specs.declared.node_lines.NodeLine.{NodeLine}
+use Rattle.bus_config.specs.Buses.{NamedBus}
 use Rattle.bus_world.specs.declared.start.StartFault.{StartFault}
 use Rattle.bus_world.specs.declared.start.StartFault.TheVariants as fault
 use Rattle.bus_world.specs.declared.opening.OpenFault.{OpenFault}

@@ -8,8 +8,8 @@ use Rattle.cell_store.specs.declared.faults.Reread.TheVariants as reread
 use Rattle.cell_store.specs.Faults.{store_fault}
 use Rattle.any_cells.specs.FaultTexts.{store_fault_text}
 use Rattle.program_edge.specs.Rows.{Row, row_of, memory_row}
-use Rattle.bus_nodes.specs.declared.nodes.NodeLine.{NodeLine}
-use Rattle.bus_nodes.specs.Buses.{NamedBus}
+use Rattle.bus_config.specs.declared.node_lines.NodeLine.{NodeLine}
+use Rattle.bus_config.specs.Buses.{NamedBus}
 use Rattle.bus_world.specs.declared.start.StartFault.{StartFault}
 use Rattle.bus_world.specs.declared.start.StartFault.TheVariants as fault
 use Rattle.cell_store.specs.declared.kinds.Kind.{Kind}

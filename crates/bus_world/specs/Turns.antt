@@ -23,7 +23,7 @@ use Rattle.bus_machine.specs.Sound.{Sound}
 use Rattle.bus_machine.specs.Honest.{IsInTime, IsHeard}
 use Rattle.freshness_routes.specs.declared.routes.Direction.TheVariants.{Receives}
 use Rattle.secure_boot.specs.Booting.{IsImage}
-use Rattle.sent_history.specs.History.{has_values}
+use Rattle.bus_world.specs.History.{has_values}
 use Rattle.secoc_node.specs.declared.faults.CutFault.{CutFault}
 use Rattle.secoc_node.specs.Causes.{CutCause}
 use Rattle.secoc_node.specs.Cells.{CellsOf}

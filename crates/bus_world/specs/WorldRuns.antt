@@ -14,7 +14,7 @@ use Rattle.bus_machine.specs.KeysKept.{KeysKept}
 use Rattle.bus_machine.specs.Skips.{SkipsLittle}
 use Rattle.bus_machine.specs.Honest.{HonestDelivery, IsHeard}
 use Rattle.bus_laws.specs.Laws.{IsFirst, OneSender}
-use Rattle.bus_nodes.specs.Buses.{NamedBus}
+use Rattle.bus_config.specs.Buses.{NamedBus}
 use Rattle.bus_script.specs.LineKinds.{IsLine}
 use Rattle.bus_world.specs.NodeDisks.{AreQuiet, mark_at, tells_failure, fails_at, DisksFollow}
 

@@ -8,7 +8,7 @@ use Rattle.machine_runs.specs.Run.{Moment, Run, seen_as, commands_in}
 use Rattle.bus_machine.specs.declared.events.Event.{Event}
 use Rattle.bus_machine.specs.declared.lines.Line.{Line}
 use Rattle.bus_machine.specs.Bus.{First, Moments}
-use Rattle.bus_nodes.specs.Buses.{NamedBus, IsNamedBus, configs_of}
+use Rattle.bus_config.specs.Buses.{NamedBus, IsNamedBus, configs_of}
 use Rattle.bus_world.specs.Turns.{NodeState}
 use Rattle.bus_world.specs.declared.start.Start.{Start}
 use Rattle.bus_world.specs.declared.start.Start.TheVariants.{Format, Attach}

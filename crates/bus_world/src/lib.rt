@@ -10,14 +10,17 @@
 //! first world over formatted ones, and at what attached ones stood for, if none of their bytes is loose.
 #![tactic(auto)]
 
+mod history;
 mod laws;
 mod opening;
+mod records;
 mod refusing;
 mod run_laws;
 mod start;
 mod turns;
 mod world;
 
+pub use history::{Frame, History};
 pub use laws::{turns_are_runs, turns_are_steps, turns_keep_sound};
 pub use opening::close_nodes;
 pub use refusing::start_refusal;

@@ -2,12 +2,12 @@
 ghost use Rattle.bus_world.specs.WorldTurns.{TurnsLeaveDisks, TurnsAreWorldRuns, StartsSetUp, StartsBeginAtFirst, StartsGoOnFirst};
 
 use crate::turns_are_runs;
+use bus_config::named_buses_are_buses;
 use bus_laws::{
     accepted_freshness_rises, all_freshness_is_covered, buses_begin_first, cuts_skip_little,
     events_determine_lines, honest_pdus_are_accepted, keys_are_kept, no_freshness_is_sent_twice,
     runs_are_authentic,
 };
-use bus_nodes::named_buses_are_buses;
 
 /// Turns over disks of any kind leave each disk in a later state. It still tells what it told of its past, and its
 /// count of faults tells of the failed lines. A quiet disk stays quiet if no event arms it.

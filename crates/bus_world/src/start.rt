@@ -9,16 +9,16 @@ ghost use Rattle.bus_world.specs.Starts.{cells_in, HasRoom, FindsRoom, OpenedFir
 ghost use Rattle.bus_world.specs.Starts.{fault_of_node as fault_numbered};
 ghost use Rattle.bus_world.specs.StartRows.{start_row};
 
+use crate::history::History;
 use crate::opening::{OpenFault, close_nodes, open_node};
 use crate::world::World;
 use any_cells::{AnyCells, put_first, store_size};
-use bus_nodes::BusConfig;
+use bus_config::BusConfig;
 use cell_store::Reread;
 use cut_disk::CutDisk;
 use freshness_routes::NodeConfig;
 use key_slots::SlotId;
 use secoc_node::Node;
-use sent_history::History;
 use std::alloc::Global;
 
 /// What a world makes of its disks when it starts.

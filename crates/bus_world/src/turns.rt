@@ -9,17 +9,17 @@ ghost use Rattle.cut_disk.specs.State.{Cut, Stop, Fail};
 ghost use Rattle.secure_boot.specs.Booting.{IsImage};
 ghost use Rattle.bus_machine.specs.Steps.{sends, receives, loads, keys, boots, cuts, arms};
 ghost use Rattle.secoc_node.specs.Lines.{refusal_of_fault, refusal_of_cut};
-ghost use Rattle.sent_history.specs.History.{has_values, frame_in};
+ghost use Rattle.bus_world.specs.History.{has_values, frame_in};
 ghost use Rattle.bus_world.specs.Turns.{NodeTurn, duty, duty_of, CanBeDone, NamesSourceIn, HearsPdu};
 ghost use Rattle.bus_world.specs.Turns.{HearsBrought};
 
+use crate::history::{Frame, History};
 use basics::{Block, Pdu};
 use bus_machine::{Event, Line, Refusal};
 use cell_store::{Cells, CutCells, Reread};
 use cut_disk::Torn;
 use memory_update::{Request, Update, build};
 use secoc_node::{CutFault, Node, NodeFault, Reception};
-use sent_history::{Frame, History};
 
 /// The place of the event's node in the bus.
 pub(crate) fn node_of(event: &Event) -> u8

@@ -1,6 +1,7 @@
 //! The world of a bus.
 ghost use Rattle.std.specs.Prelude.{◌≡◌};
 
+use crate::history::History;
 use crate::turns::{node_of, take_turn};
 use any_cells::AnyCells;
 use bus_machine::{Event, Line};
@@ -8,7 +9,6 @@ use bus_script::every_line_is_one;
 use cut_disk::CutDisk;
 use run_driver::Machine;
 use secoc_node::Node;
-use sent_history::History;
 use std::marker::Model;
 
 /// The nodes of a bus over their disks, and the lines that were sent on it. Contracts see the states of the nodes and

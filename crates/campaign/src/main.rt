@@ -5,10 +5,9 @@
 //! arguments, the files, standard input and standard output.
 #![tactic(auto)]
 
-use bus_port::{StdSink, StdSource};
 use campaign_commands::campaign_words;
 use file_disk::DiskPaths;
-use program_edge::{NO_MEMORY, Paths, arguments};
+use program_edge::{NO_MEMORY, Paths, StdSink, StdSource, arguments};
 use std::alloc::AllocError;
 use std::process::ExitCode;
 

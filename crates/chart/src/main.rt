@@ -4,9 +4,8 @@
 //! files that they name, standard input and standard output.
 #![tactic(auto)]
 
-use bus_port::{StdSink, StdSource};
 use chart_commands::chart_words;
-use program_edge::{NO_MEMORY, Paths, arguments};
+use program_edge::{NO_MEMORY, Paths, StdSink, StdSource, arguments};
 use std::process::ExitCode;
 
 fn main(rt: HostRuntime) -> ExitCode {

@@ -13,7 +13,7 @@ use Rattle.run_driver.specs.Driven.{TakenUp, Driven}
 use Rattle.run_driver.specs.DrivenLaws.{FirstDone-few}
 use Rattle.bus_machine.specs.declared.events.Event.{Event}
 use Rattle.bus_machine.specs.declared.lines.Line.{Line}
-use Rattle.bus_nodes.specs.Buses.{NamedBus}
+use Rattle.bus_config.specs.Buses.{NamedBus}
 use Rattle.bus_world.specs.Worlds.{BusState, BusTurn}
 use Rattle.bus_world.specs.WorldTurns.{TurnsLeaveDisks, StartsSetUp}
 use Rattle.chart_svg.specs.ChartTexts.{chart_text}

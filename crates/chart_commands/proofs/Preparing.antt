@@ -1,7 +1,7 @@
 -- The first phase, put together
 use Rattle.program_edge.specs.Rows.{Row}
 use Rattle.program_edge.specs.Inputs.{IsUnread}
-use Rattle.bus_nodes.specs.Buses.{NamedBus}
+use Rattle.bus_config.specs.Buses.{NamedBus}
 use Rattle.bus_script.specs.EventForms.{events_of}
 use Rattle.bus_programs.specs.BusFiles.{LacksBus, no_file, file_refused}
 use Rattle.bus_programs.specs.Scripts.{LacksLines, no_lines, lines_refused}

@@ -5,7 +5,7 @@ use Rattle.program_edge.specs.Inputs.{IsUnread, ReadsWhole, Lacks}
 use Rattle.text_lines.specs.Readings.{Fault}
 use Rattle.text_lines.specs.Texts.{line}
 use Rattle.bus_machine.specs.declared.events.Event.{Event}
-use Rattle.bus_nodes.specs.Buses.{NamedBus, IsNamedBus}
+use Rattle.bus_config.specs.Buses.{NamedBus, IsNamedBus}
 use Rattle.bus_script.specs.EventForms.{events_of}
 use Rattle.bus_programs.specs.BusFiles.{ReadsBus, OffersBus}
 use Rattle.bus_programs.specs.Inputs.{BusInputs}

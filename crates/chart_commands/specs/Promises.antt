@@ -12,7 +12,7 @@ use Rattle.bus_config.specs.BusFile.{bus_of}
 use Rattle.bus_config.specs.FaultTexts.{config_fault_text}
 use Rattle.bus_machine.specs.declared.events.Event.{Event}
 use Rattle.bus_machine.specs.declared.lines.Line.{Line}
-use Rattle.bus_nodes.specs.Buses.{NamedBus}
+use Rattle.bus_config.specs.Buses.{NamedBus}
 use Rattle.bus_script.specs.EventForms.{events_of}
 use Rattle.bus_world.specs.declared.start.Start.TheVariants.{Format}
 use Rattle.bus_world.specs.declared.start.StartFault.{StartFault}

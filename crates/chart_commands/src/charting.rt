@@ -1,14 +1,14 @@
 //! A run over disks, and its chart.
 ghost use Rattle.std.specs.Prelude.{◌≡◌, map};
 ghost use Rattle.program_edge.specs.Endings.{EndsInRow};
-ghost use Rattle.bus_nodes.specs.Buses.{IsNamedBus};
+ghost use Rattle.bus_config.specs.Buses.{IsNamedBus};
 ghost use Rattle.bus_programs.specs.Scripts.{AreEvents};
 ghost use Rattle.chart_commands.specs.Steps.{AnswersChart, ToldOfLines, AreOfEvents, kept_lines};
 
 use crate::keeping::lines_of_run;
 use crate::laws::charts_are_runs;
 use bus_machine::{Event, Line};
-use bus_nodes::BusConfig;
+use bus_config::BusConfig;
 use bus_port::Sink;
 use bus_world::{Start, World, start_refusal, starts_are_set_up, turns_leave_disks};
 use chart_svg::chart_of;

@@ -1,5 +1,5 @@
 //! What is to be drawn, once all is read.
-use bus_nodes::BusConfig;
+use bus_config::BusConfig;
 use bus_script::Event;
 
 /// A script over a bus.

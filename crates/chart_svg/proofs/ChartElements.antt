@@ -6,8 +6,8 @@ use Rattle.std.proofs.Common.{refl, sym, ap, ◌∙◌, subst, append_assoc}
 use Rattle.std.proofs.lemmas.List.Elements.{All-head, All-tail}
 use Rattle.bus_machine.specs.declared.events.Event.{Event}
 use Rattle.bus_machine.specs.declared.lines.Line.{Line}
-use Rattle.bus_nodes.specs.declared.nodes.NodeLine.{NodeLine}
-use Rattle.bus_nodes.specs.Buses.{NamedBus, IsNodeLine, IsNamedBus}
+use Rattle.bus_config.specs.declared.node_lines.NodeLine.{NodeLine}
+use Rattle.bus_config.specs.Buses.{NamedBus, IsNodeLine, IsNamedBus}
 use Rattle.bus_script.specs.LineKinds.{IsLine}
 use Rattle.bus_script.specs.ScriptEvents.{IsScriptEvent}
 use Rattle.bus_machine.specs.Tells.{tells_sent, tells_accepted, tells_failed_verdict, tells_keyed, tells_up, tells_refused}

@@ -11,7 +11,7 @@ use Rattle.basics.specs.Bytes.{IsBytes}
 use Rattle.basics.specs.Numbers.{bytes_of}
 use Rattle.basics.specs.NumberLaws.{IsBytes-bytes_of}
 use Rattle.hex.specs.Hex.{encode_with, encode_lower, lower_digits}
-use Rattle.bus_nodes.specs.Names.{is_letter, is_name_byte, is_name}
+use Rattle.bus_config.specs.Names.{is_letter, is_name_byte, is_name}
 use Rattle.text_lines.specs.Spaced.{spaced}
 use Rattle.chart_svg.specs.Grammar.{is_content, is_content_text}
 

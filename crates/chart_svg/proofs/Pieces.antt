@@ -5,7 +5,7 @@ use Rattle.std.proofs.Common.{refl, sym, ap, subst, ◌∙◌, arith, append_ass
 use Rattle.std.proofs.lemmas.List.{drop_more}
 use Rattle.bus_machine.specs.declared.events.Event.{Event}
 use Rattle.bus_machine.specs.declared.lines.Line.{Line}
-use Rattle.bus_nodes.specs.declared.nodes.NodeLine.{NodeLine}
+use Rattle.bus_config.specs.declared.node_lines.NodeLine.{NodeLine}
 use Rattle.chart_svg.specs.declared.lifelines.LifeTurn.{LifeTurn}
 use Rattle.chart_svg.specs.declared.lifelines.Stretch.{Stretch}
 use Rattle.chart_svg.specs.Marks.{row_mark, marks_from}

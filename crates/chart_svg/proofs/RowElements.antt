@@ -6,7 +6,7 @@ use Rattle.std.proofs.Common.{refl, subst, append_assoc}
 use Rattle.std.proofs.lemmas.List.Elements.{All-head, All-tail}
 use Rattle.bus_machine.specs.declared.events.Event.{Event}
 use Rattle.bus_machine.specs.declared.lines.Line.{Line}
-use Rattle.bus_nodes.specs.declared.nodes.NodeLine.{NodeLine}
+use Rattle.bus_config.specs.declared.node_lines.NodeLine.{NodeLine}
 use Rattle.bus_script.specs.LineTexts.{told_words}
 use Rattle.bus_script.specs.LineKinds.{IsLine}
 use Rattle.text_lines.specs.Spaced.{spaced}

@@ -5,8 +5,8 @@ use Rattle.std.specs.Fmt.{decimal}
 use Rattle.std.specs.List.{flat_map, range_with_len}
 use Rattle.bus_machine.specs.declared.events.Event.{Event}
 use Rattle.bus_machine.specs.declared.lines.Line.{Line}
-use Rattle.bus_nodes.specs.declared.nodes.NodeLine.{NodeLine}
-use Rattle.bus_nodes.specs.Buses.{NamedBus}
+use Rattle.bus_config.specs.declared.node_lines.NodeLine.{NodeLine}
+use Rattle.bus_config.specs.Buses.{NamedBus}
 use Rattle.bus_script.specs.LineTexts.{told_words}
 use Rattle.text_lines.specs.Spaced.{spaced}
 use Rattle.bus_machine.specs.Tells.{tells_sent, tells_accepted, tells_failed_verdict, tells_keyed, tells_up}

@@ -6,7 +6,7 @@ ghost use Rattle.chart_svg.specs.ChartTexts.{text_at, box_text, name_box, name_b
 
 use crate::places::{head_count, head_top, lifeline_x};
 use crate::shown::push_shown;
-use bus_nodes::NodeLine;
+use bus_config::NodeLine;
 use std::alloc::{AllocError, Global};
 
 /// Adds the headers of these nodes over so many rows.

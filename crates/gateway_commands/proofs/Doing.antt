@@ -3,7 +3,7 @@ use Rattle.std.specs.Prelude.{ℕ, List}
 use Rattle.program_edge.specs.Endings.{Ending}
 use Rattle.program_edge.specs.EndingLaws.{EndsInRow-more}
 use Rattle.bus_machine.specs.declared.events.Event.{Event}
-use Rattle.bus_nodes.specs.Buses.{NamedBus}
+use Rattle.bus_config.specs.Buses.{NamedBus}
 use Rattle.bus_world.specs.StartAnswers.{DiskStates}
 use Rattle.bus_programs.specs.Inputs.{BusInputs}
 use Rattle.gateway_commands.specs.Inputs.{SetsGateway}

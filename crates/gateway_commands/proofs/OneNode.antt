@@ -8,7 +8,7 @@ use Rattle.freshness_routes.specs.Config.{Config}
 use Rattle.run_driver.specs.declared.printing.Unwritten.{Unwritten}
 use Rattle.bus_machine.specs.Node.{Node}
 use Rattle.bus_machine.specs.declared.events.Event.{Event}
-use Rattle.bus_nodes.specs.Buses.{NamedBus, IsNamedBus}
+use Rattle.bus_config.specs.Buses.{NamedBus, IsNamedBus}
 use Rattle.bus_script.specs.EventForms.{no_node}
 use Rattle.secoc_node.specs.State.{NodeState}
 use Rattle.bus_world.specs.declared.start.Start.TheVariants.{Format}

@@ -18,9 +18,9 @@ use Rattle.bus_machine.specs.Sound.{Sound}
 use Rattle.bus_machine.specs.Bus.{First, SoundBus}
 use Rattle.bus_machine.specs.Past.{mark_of}
 use Rattle.bus_laws.specs.Laws.{BusesBeginFirst}
-use Rattle.bus_nodes.specs.declared.nodes.NodeLine.{NodeLine}
-use Rattle.bus_nodes.specs.Buses.{NamedBus, IsNamedBus, configs_of}
-use Rattle.bus_nodes.specs.Laws.{NamedBusesAreBuses}
+use Rattle.bus_config.specs.declared.node_lines.NodeLine.{NodeLine}
+use Rattle.bus_config.specs.Buses.{NamedBus, IsNamedBus, configs_of}
+use Rattle.bus_config.specs.Laws.{NamedBusesAreBuses}
 use Rattle.bus_script.specs.EventForms.{node_line_at}
 use Rattle.secoc_node.specs.Fits.{FitsNode}
 use Rattle.secoc_node.specs.State.{NodeState, TellsFitting}

@@ -5,8 +5,8 @@ use Rattle.program_edge.specs.declared.input.InputFault.TheVariants as input
 use Rattle.program_edge.specs.Rows.{Row}
 use Rattle.program_edge.specs.Inputs.{IsUnread}
 use Rattle.program_edge.specs.InputLaws.{Lacks-whole, Lacks-unread}
-use Rattle.bus_nodes.specs.declared.nodes.NodeLine.{NodeLine}
-use Rattle.bus_nodes.specs.Buses.{NamedBus}
+use Rattle.bus_config.specs.declared.node_lines.NodeLine.{NodeLine}
+use Rattle.bus_config.specs.Buses.{NamedBus}
 use Rattle.bus_script.specs.EventForms.{node_line_at, own_events_of}
 use Rattle.bus_programs.specs.BusFiles.{ReadsBus, LacksBus, no_file, file_refused}
 use Rattle.bus_programs.specs.Scripts.{LacksLines, no_lines, lines_refused}

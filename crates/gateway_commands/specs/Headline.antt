@@ -11,7 +11,7 @@ use Rattle.freshness_routes.specs.declared.routes.Direction.TheVariants.{Sends, 
 use Rattle.bus_machine.specs.declared.events.Event.{Event}
 use Rattle.bus_machine.specs.Node.{Node}
 use Rattle.bus_machine.specs.Past.{mark_of}
-use Rattle.bus_nodes.specs.Buses.{NamedBus}
+use Rattle.bus_config.specs.Buses.{NamedBus}
 use Rattle.secoc_node.specs.Fits.{FitsNode}
 use Rattle.secoc_gateway.specs.Gateway.{GatewayMoments, GatewayRun}
 use Rattle.secoc_gateway.specs.Claims.{AllForwardRight, FreshnessRises}

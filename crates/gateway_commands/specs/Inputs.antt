@@ -7,7 +7,7 @@ use Rattle.bus_config.specs.FaultTexts.{config_fault_text}
 use Rattle.freshness_routes.specs.Config.{Config}
 use Rattle.bus_machine.specs.declared.events.Event.{Event}
 use Rattle.bus_machine.specs.Node.{Node, first_node}
-use Rattle.bus_nodes.specs.Buses.{NamedBus, IsNamedBus}
+use Rattle.bus_config.specs.Buses.{NamedBus, IsNamedBus}
 use Rattle.bus_script.specs.EventForms.{node_line_at, own_events_of}
 use Rattle.bus_programs.specs.BusFiles.{ReadsBus, IsConfigFault, OffersBus}
 use Rattle.bus_programs.specs.Inputs.{BusInputs}

@@ -8,7 +8,7 @@ use Rattle.bus_port.specs.Sink.{SinkState}
 use Rattle.run_driver.specs.declared.printing.Unwritten.{Unwritten}
 use Rattle.run_driver.specs.Printed.{Printed}
 use Rattle.bus_machine.specs.declared.events.Event.{Event}
-use Rattle.bus_nodes.specs.Buses.{NamedBus, IsNamedBus}
+use Rattle.bus_config.specs.Buses.{NamedBus, IsNamedBus}
 use Rattle.bus_world.specs.declared.start.Start.TheVariants.{Format}
 use Rattle.bus_world.specs.StartAnswers.{DiskStates, ComesUnstarted}
 use Rattle.bus_programs.specs.Scripts.{AreEvents}

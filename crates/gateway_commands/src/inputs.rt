@@ -3,7 +3,7 @@ ghost use Rattle.std.specs.Prelude.{◌≤◌, MatchOption};
 ghost use Rattle.secoc_gateway.specs.Pairs.{AreGood, IsLowestBad};
 ghost use Rattle.gateway_commands.specs.Steps.{IsPairRow, ChecksPairs};
 
-use bus_nodes::BusConfig;
+use bus_config::BusConfig;
 use freshness_routes::NodeConfig;
 use program_edge::Refusal;
 use secoc_gateway::lowest_bad;

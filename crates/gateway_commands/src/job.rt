@@ -1,5 +1,5 @@
 //! What a gateway is to do, once all is read.
-use bus_nodes::BusConfig;
+use bus_config::BusConfig;
 use bus_script::Event;
 
 /// A script over a gateway.

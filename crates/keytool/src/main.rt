@@ -5,10 +5,9 @@
 //! files, standard input and standard output.
 #![tactic(auto)]
 
-use bus_port::{StdSink, StdSource};
 use file_disk::DiskPaths;
 use key_commands::key_words;
-use program_edge::{NO_MEMORY, arguments};
+use program_edge::{NO_MEMORY, StdSink, StdSource, arguments};
 use std::alloc::AllocError;
 use std::process::ExitCode;
 

@@ -5,9 +5,8 @@
 //! (`example`).
 #![tactic(auto)]
 
-use bus_port::{StdSink, StdSource};
 use pdu_collection::pair_words;
-use program_edge::{NO_MEMORY, Paths, arguments};
+use program_edge::{NO_MEMORY, Paths, StdSink, StdSource, arguments};
 use std::alloc::AllocError;
 use std::process::ExitCode;
 

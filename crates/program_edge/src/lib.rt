@@ -19,6 +19,7 @@ mod telling;
 mod word_sources;
 mod words;
 
+pub use bus_port::{StdSink, StdSource};
 pub use input::{InputFault, read_input};
 pub use missing::MissingSource;
 pub use opened::OpenedWords;

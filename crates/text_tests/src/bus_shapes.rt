@@ -1,5 +1,5 @@
 //! Buses of two nodes or three; each route uses slot 4.
-use bus_nodes::{BusConfig, Name, NodeLine};
+use bus_config::{BusConfig, Name, NodeLine};
 use cell_store::{Kind, Version};
 use freshness_routes::{Direction, NodeConfig, Route};
 use key_slots::SlotId;

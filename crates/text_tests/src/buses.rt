@@ -1,6 +1,6 @@
 //! Buses one step within and one step past each of their bounds, and some calls once.
 use crate::comparing::{holds, same};
-use bus_nodes::{BusConfig, Name, NodeLine, place_named, sent_again};
+use bus_config::{BusConfig, Name, NodeLine, place_named, sent_again};
 use cell_store::{Kind, Version};
 use freshness_routes::{Direction, NodeConfig, Route};
 use key_slots::SlotId;

@@ -1,6 +1,6 @@
-//! Tests of lines of text, of named buses, of trials, and of the lines that are printed and looked for. There is
-//! nothing else here: a crate of tests over several libraries has none of them proved a second time. Bus files are rows
-//! of checks/text_rows, and scripts of checks/script_rows and checks/gateway_rows, except the one fault that has no
+//! Tests of lines of text, of named buses, of trials, and of the lines that are printed. There is nothing else here:
+//! a crate of tests over several libraries has none of them proved a second time. Bus files are rows of
+//! checks/text_rows, and scripts of checks/script_rows and checks/gateway_rows, except the one fault that has no
 //! text, and a second node's own events.
 #![tactic(auto)]
 
@@ -12,8 +12,6 @@ mod bus_shapes;
 mod buses;
 #[cfg(test)]
 mod comparing;
-#[cfg(test)]
-mod histories;
 #[cfg(test)]
 mod lines;
 #[cfg(test)]

@@ -4,8 +4,7 @@
 //! files, standard input and standard output.
 #![tactic(auto)]
 
-use bus_port::{StdSink, StdSource};
-use program_edge::{NO_MEMORY, Paths, arguments};
+use program_edge::{NO_MEMORY, Paths, StdSink, StdSource, arguments};
 use std::alloc::AllocError;
 use std::process::ExitCode;
 use trace_audit::watch_words;

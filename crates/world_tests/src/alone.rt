@@ -3,7 +3,7 @@ use crate::bench::{
     Act, NodeRow, RouteRow, Row, Told, are_of, bus_of, can_be_done, disks, event_of, line_is,
 };
 use crate::comparing::same;
-use bus_nodes::BusConfig;
+use bus_config::BusConfig;
 use bus_world::{Start, StartFault, close_nodes, open_nodes, own_turn, start_refusal};
 use cell_store::{CutCells, Kind, Reread, Version};
 use cut_disk::MemDisk;

@@ -4,7 +4,7 @@ use crate::bench::{
 };
 use crate::comparing::same;
 use crate::lives::{have_marks, tapes};
-use bus_nodes::BusConfig;
+use bus_config::BusConfig;
 use bus_world::{Start, StartFault};
 use cell_store::{Kind, Reread, Version};
 use cut_disk::{CutDisk, Disk, MemDisk};

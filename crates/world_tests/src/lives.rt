@@ -2,7 +2,7 @@
 use crate::attached::{ID, PAYLOAD, START};
 use crate::bench::{Act, NodeRow, RouteRow, Row, Told, bus_of, lives};
 use crate::comparing::{holds, same};
-use bus_nodes::BusConfig;
+use bus_config::BusConfig;
 use bus_world::Start;
 use cell_store::{Kind, Version};
 use cut_disk::{CutDisk, Mark, TapeDisk, Torn};

@@ -1,7 +1,7 @@
 //! Starts over disks that are too few, too small or fail.
 use crate::bench::{NodeRow, RouteRow, STORES, are_of, bus_of, disks, starts};
 use crate::comparing::same;
-use bus_nodes::BusConfig;
+use bus_config::BusConfig;
 use bus_world::{Start, StartFault};
 use cell_store::{Kind, Reread, Version};
 use cut_disk::{CutDisk, MemDisk};

@@ -5,7 +5,7 @@ ghost use Rattle.std.specs.Prelude.{◌≤◌};
 use crate::attached::{SIZE, pair};
 use crate::bench::{bytes_at, disks, starts};
 use crate::comparing::{holds, same};
-use bus_nodes::BusConfig;
+use bus_config::BusConfig;
 use bus_world::{Start, StartFault};
 use cell_store::{Kind, Reread, Version};
 use cut_disk::{CutDisk, Disk, MemDisk, Torn};

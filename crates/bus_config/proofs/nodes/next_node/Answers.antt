@@ -1,6 +1,6 @@
 use Rattle.std.proofs.Common.{◌≤◌, length, sym, ap, subst}
 use Rattle.freshness_routes.specs.Config.{IsConfig}
-use Rattle.bus_nodes.specs.Buses.{most_routes}
+use Rattle.bus_config.specs.Buses.{most_routes}
 use Rattle.bus_config.proofs.nodes.next_node.Goals as goal
 
 pub returns-in-Some-new-clause-new : goal.returns-in-Some-new-clause-new

@@ -1,6 +1,6 @@
 use Rattle.std.proofs.Common.{◌≢◌, AllPairs, ap, subst, arith}
 use Rattle.std.specs.Option.{is_some}
-use Rattle.bus_nodes.specs.Buses.{ids_sent}
+use Rattle.bus_config.specs.Buses.{ids_sent}
 use Rattle.bus_config.proofs.reader.read_bus.Goals as goal
 
 pub returns-in-None-new : goal.returns-in-None-new

@@ -1,5 +1,5 @@
 use Rattle.std.proofs.Common.{◌≡◌, ◌+◌, ◌*◌, List, length, sym, ap, ◌∙◌, arith}
-use Rattle.bus_nodes.specs.declared.nodes.NodeLine.{NodeLine}
+use Rattle.bus_config.specs.declared.node_lines.NodeLine.{NodeLine}
 use Rattle.bus_machine.specs.declared.events.Event.{Event}
 use Rattle.bus_script.specs.Trials.{keys_of_bus, trial_events}
 use Rattle.bus_script.proofs.TrialLists.{events_and_left, events_more, events_done, events_first}

@@ -1,5 +1,5 @@
 use Rattle.std.proofs.Common.{◌≡◌, ◌++◌, take}
-use Rattle.bus_nodes.specs.Buses.{ids_sent_by}
+use Rattle.bus_config.specs.Buses.{ids_sent_by}
 use Rattle.bus_script.specs.Trials.{senders_at}
 use Rattle.bus_script.proofs.trial.push_senders.Given as goal
 

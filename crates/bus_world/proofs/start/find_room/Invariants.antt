@@ -2,7 +2,7 @@ use Rattle.std.proofs.Common.{◌<◌, ◌≤◌, ℕ, get_or, map}
 use Rattle.cut_disk.specs.State.{DiskState}
 use Rattle.cell_store.specs.Store.{store_size}
 use Rattle.any_cells.specs.Either.{layout}
-use Rattle.bus_nodes.specs.declared.nodes.NodeLine.{NodeLine}
+use Rattle.bus_config.specs.declared.node_lines.NodeLine.{NodeLine}
 use Rattle.bus_world.specs.Starts.{cells_in}
 use Rattle.bus_world.proofs.start.find_room.Given as goal
 

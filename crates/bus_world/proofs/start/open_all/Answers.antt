@@ -5,7 +5,7 @@ use Rattle.cut_disk.specs.State.{DiskState}
 use Rattle.cell_store.specs.Store.{store_size}
 use Rattle.any_cells.specs.Either.{layout}
 use Rattle.freshness_routes.specs.Config.{IsConfig}
-use Rattle.bus_nodes.specs.declared.nodes.NodeLine.{NodeLine}
+use Rattle.bus_config.specs.declared.node_lines.NodeLine.{NodeLine}
 use Rattle.bus_world.specs.Starts.{cells_in, Opened, NotOpened, fault_of_node}
 use Rattle.bus_world.proofs.OpenLaws.{states_left, first_state, opened_more}
 use Rattle.bus_world.proofs.start.open_all.Goals as goal

@@ -1,7 +1,7 @@
 use Rattle.std.specs.Prelude.{◌≡◌, List, map, Result, Ok, Err, IfErr}
 use Rattle.std.proofs.Common.{subst}
 use Rattle.cut_disk.specs.State.{DiskState}
-use Rattle.bus_nodes.specs.Buses.{NamedBus}
+use Rattle.bus_config.specs.Buses.{NamedBus}
 use Rattle.bus_world.specs.declared.start.Start.{Start}
 use Rattle.bus_world.specs.declared.start.StartFault.{StartFault}
 use Rattle.bus_world.specs.Starts.{HasRoom, NotStarted}

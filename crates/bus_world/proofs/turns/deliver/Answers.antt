@@ -5,7 +5,7 @@ use Rattle.freshness_routes.specs.declared.routes.Direction.TheVariants.{Receive
 use Rattle.bus_machine.specs.Bus.{SentLine}
 use Rattle.bus_machine.specs.Node.{place_of}
 use Rattle.bus_machine.specs.Honest.{IsInTime}
-use Rattle.sent_history.specs.declared.history.Frame.{Frame}
+use Rattle.bus_world.specs.declared.history.Frame.{Frame}
 use Rattle.bus_world.proofs.turns.deliver.Goals as goal
 
 pub returns-in-Some-clause-honest : goal.returns-in-Some-clause-honest

@@ -2,7 +2,7 @@ use Rattle.std.proofs.Common.{refl, subst, sym, map, arith}
 use Rattle.std.proofs.lemmas.List.{length-map}
 use Rattle.std.proofs.lemmas.Result.{err_from_is_err_and}
 use Rattle.std.specs.Prelude.{string_bytes}
-use Rattle.bus_nodes.specs.Buses.{IsNamedBus}
+use Rattle.bus_config.specs.Buses.{IsNamedBus}
 use Rattle.chart_commands.specs.Inputs.{AsksChart}
 use Rattle.chart_commands.specs.Rows.{ChartInputRow, no_form}
 use Rattle.chart_commands.proofs.Preparing.{ChartInputRow-config, ChartInputRow-script}

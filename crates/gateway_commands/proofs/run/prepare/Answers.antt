@@ -1,5 +1,5 @@
 use Rattle.std.proofs.Common.{refl, subst}
-use Rattle.bus_nodes.specs.Buses.{IsNamedBus}
+use Rattle.bus_config.specs.Buses.{IsNamedBus}
 use Rattle.std.proofs.lemmas.Result.{err_from_is_err_and}
 use Rattle.gateway_commands.proofs.Preparing.{RowOf-words, RowOf-config, RowOf-pairs, RowOf-script}
 use Rattle.gateway_commands.proofs.run.prepare.Goals as goal

@@ -3,7 +3,7 @@ use Rattle.std.proofs.Common.{sym, ap, subst, ◌∙◌}
 use Rattle.machine_runs.specs.Members.{MemberSteps}
 use Rattle.bus_machine.specs.Bus.{node_of}
 use Rattle.bus_world.specs.Turns.{duty_of, NodeTurn}
-use Rattle.sent_history.specs.History.{HistoryState}
+use Rattle.bus_world.specs.History.{HistoryState}
 use Rattle.bus_world.specs.Worlds.{BusState, world_of}
 use Rattle.bus_world.proofs.Stepping.{in_time}
 use Rattle.bus_world.proofs.Turning.{turn_is_send, noted_lines, noted_counts}

@@ -1,5 +1,0 @@
-mod Sending
-mod Again
-mod Machine
-pub mod Named
-pub mod CallerLemmas

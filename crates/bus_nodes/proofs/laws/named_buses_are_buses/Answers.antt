@@ -1,6 +1,0 @@
-use Rattle.bus_nodes.proofs.Machine.{is_bus}
-use Rattle.bus_nodes.proofs.laws.named_buses_are_buses.Goals as goal
-
--- src/laws.rt:5:1
-pub returns : goal.returns
-returns c = is_bus

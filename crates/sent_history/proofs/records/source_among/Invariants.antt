@@ -1,7 +1,0 @@
-use Rattle.std.proofs.Common.{ℕ, ◌≡◌, ◌<◌, false, get_or}
-use Rattle.sent_history.specs.declared.records.Record.{Record}
-use Rattle.sent_history.specs.History.{line_of, has_values}
-use Rattle.sent_history.proofs.records.source_among.Given as goal
-
-abbrev pub invariant-loop-record : goal.invariant-loop-record
-invariant-loop-record l = (k : ℕ) (d : Record) → k < l.record-index → has_values l.id l.payload l.freshness (line_of (get_or l.records k d)) ≡ false
