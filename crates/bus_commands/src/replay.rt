@@ -4,8 +4,8 @@ ghost use Rattle.bus_config.specs.Buses.{IsNamedBus};
 ghost use Rattle.bus_commands.specs.Steps.{AreEvents, AnswersReplay};
 
 use crate::laws::replays_are_runs;
-use bus_machine::{Event, Line};
 use bus_config::BusConfig;
+use bus_machine::{Event, Line};
 use bus_port::{Memory, Sink};
 use bus_script::push_line;
 use bus_world::{Start, World, start_refusal, starts_are_set_up, turns_leave_disks};

@@ -6,8 +6,8 @@ ghost use Rattle.bus_commands.specs.Steps.{AreEvents, AnswersTrial, TellsSummary
 
 use crate::laws::trials_are_runs;
 use crate::summary::Summary;
-use bus_machine::Event;
 use bus_config::BusConfig;
+use bus_machine::Event;
 use bus_port::Sink;
 use bus_world::{Start, World, start_refusal, starts_are_set_up, turns_leave_disks};
 use cut_disk::CutDisk;

@@ -1,8 +1,7 @@
 //! The bus file as an input of a program.
 ghost use Rattle.bus_programs.specs.BusFiles.{FindsBus, HasBus, IsConfigRow};
 
-use bus_config::{ConfigFault, config_fault_text, read_config};
-use bus_config::BusConfig;
+use bus_config::{BusConfig, ConfigFault, config_fault_text, read_config};
 use bus_port::Source;
 use program_edge::{Refusal, read_input};
 use std::alloc::{AllocError, Global};

@@ -7,8 +7,8 @@ ghost use Rattle.bus_script.specs.TrialSteps.{IsDrawn, IsTrial};
 use crate::draws::{Draws, draw_bytes};
 use crate::trial::{Sender, Theme, Trial, key_for_slot};
 use basics::{Block, Bytes};
-use bus_machine::Event;
 use bus_config::BusConfig;
+use bus_machine::Event;
 use cut_disk::Torn;
 use std::alloc::{AllocError, Global};
 

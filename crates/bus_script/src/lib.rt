@@ -28,8 +28,8 @@ mod writing;
 
 pub use crate::reader::{read_own_script, read_script};
 pub use crate::writing::write_event;
-pub use bus_machine::Event;
 pub use bus_config::BusConfig;
+pub use bus_machine::Event;
 pub use line_values::every_line_is_one;
 pub use line_writing::{push_line, push_told, write_line};
 pub use text_lines::{Cause, Memory, ScriptFault};

@@ -5,8 +5,8 @@ ghost use Rattle.text_lines.specs.Readings.{GivesLine};
 ghost use Rattle.bus_script.specs.EventForms.{send_of, deliver_of, inject_of, load_event_of, key_event_of, boot_of, cut_of, stop_of, fail_of};
 
 use crate::fields::{event_uid, from_one};
-use bus_machine::Event;
 use bus_config::BusConfig;
+use bus_machine::Event;
 use memory_update::{Request, Update};
 use std::alloc::Global;
 use text_lines::reader::value_at;

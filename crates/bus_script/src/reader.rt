@@ -11,8 +11,8 @@ use crate::lines::{
     read_boot, read_cut, read_deliver, read_fail, read_inject, read_key, read_load, read_send,
     read_stop,
 };
-use bus_machine::Event;
 use bus_config::BusConfig;
+use bus_machine::Event;
 use std::alloc::Global;
 use text_lines::reader::{LineReader, MOST_LINES, expect_count, read_lines};
 use text_lines::words::Words;

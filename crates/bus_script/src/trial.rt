@@ -9,8 +9,8 @@ ghost use Rattle.bus_script.specs.Trials.{senders_at, senders as senders_of, ids
 use crate::drawn_events::draw_event;
 use crate::draws::Draws;
 use basics::Block;
-use bus_machine::Event;
 use bus_config::BusConfig;
+use bus_machine::Event;
 use freshness_routes::{Direction, Route};
 use key_slots::{Counter28, Flags, SlotId};
 use memory_update::Update;

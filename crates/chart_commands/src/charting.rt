@@ -7,8 +7,8 @@ ghost use Rattle.chart_commands.specs.Steps.{AnswersChart, ToldOfLines, AreOfEve
 
 use crate::keeping::lines_of_run;
 use crate::laws::charts_are_runs;
-use bus_machine::{Event, Line};
 use bus_config::BusConfig;
+use bus_machine::{Event, Line};
 use bus_port::Sink;
 use bus_world::{Start, World, start_refusal, starts_are_set_up, turns_leave_disks};
 use chart_svg::chart_of;

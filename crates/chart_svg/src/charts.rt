@@ -10,8 +10,8 @@ use crate::lifeline_paths::push_lifelines;
 use crate::places::{chart_height, chart_width};
 use crate::rows::push_rows;
 use crate::shown::push_shown;
-use bus_machine::{Event, Line};
 use bus_config::BusConfig;
+use bus_machine::{Event, Line};
 use std::alloc::{AllocError, Global};
 
 /// The chart of a bus, of the events of a script over it, and of their lines, one an event. It asks for room for most

@@ -1,8 +1,8 @@
 //! What holds of every gateway over a disk that tells its bytes, put together from the laws of the crates below.
 ghost use Rattle.gateway_commands.specs.Headline.{GatewaysAreRuns};
 
-use bus_laws::buses_begin_first;
 use bus_config::named_buses_are_buses;
+use bus_laws::buses_begin_first;
 use secoc_gateway::{arrivals_rise, departures_rise, forwards_what_arrived, gateway_turns_keep};
 
 /// What was done of a gateway over a disk that tells its bytes is one run of its machine with all of `OneGatewayRun`.

@@ -5,8 +5,8 @@ ghost use Rattle.bus_world.specs.Turns.{CanBeDone};
 
 use crate::comparing::{holds, same};
 use basics::{Block, Bytes, Pdu};
-use bus_machine::{Event, Line, Refusal};
 use bus_config::{BusConfig, Name, NodeLine};
+use bus_machine::{Event, Line, Refusal};
 use bus_world::{Start, StartFault, World};
 use cell_store::{Kind, Version};
 use cut_disk::{CutDisk, Disk, MemDisk, Torn};
