@@ -4,7 +4,7 @@ mod TwoBytes
 mod Uids
 mod RouteRows
 mod NodeRows
-mod Buses
+mod BusReadings
 mod Documents
 mod Sending
 mod Again

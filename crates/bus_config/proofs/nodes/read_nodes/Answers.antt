@@ -4,7 +4,7 @@ use Rattle.toml.specs.View.{view}
 use Rattle.bus_config.specs.BusFile.{next_node}
 use Rattle.bus_config.specs.Heads.{IsNewNode, AreNewNodes}
 use Rattle.bus_config.proofs.NodeRows.{nodes_left, node_kept}
-use Rattle.bus_config.proofs.Buses.{new_nodes-push}
+use Rattle.bus_config.proofs.BusReadings.{new_nodes-push}
 use Rattle.bus_config.proofs.nodes.read_nodes.Goals as goal
 
 pub loop-row-preserved : goal.loop-row-preserved
