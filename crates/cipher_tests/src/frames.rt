@@ -2,7 +2,7 @@
 //! is the example of 16 bytes.
 use crate::blocks::{block, schedule};
 use crate::comparing::holds;
-use secured_pdu::{assemble, build, input_bytes, input_mac, split};
+use secured_pdu::{assemble, build, input_bytes, input_mac, split, sync_answer, sync_counter};
 
 const KEY: u128 = 0x2b7e1516_28aed2a6_abf71588_09cf4f3c;
 
@@ -54,4 +54,28 @@ fn other_lengths_are_refused(rt: HostRuntime) {
     holds(&rt, "a PDU of 0", split(&[]).is_none());
     holds(&rt, "a PDU of 4", split(&PDU[6..]).is_none());
     holds(&rt, "a PDU of 65", split(&[0; 65]).is_none());
+}
+
+const NONCE: [u8; 16] = [0, 1, 2, 3, 4, 5, 6, 7, 8, 9, 10, 11, 12, 13, 14, 15];
+
+/// The answer to this nonce, whose CMAC OpenSSL makes of the 80 bytes of its input.
+const ANSWER: [u8; 24] = [
+    0xe9, 0x3d, 0x7e, 0x11, 0x73, 0x93, 0x17, 0x2a, 0xe3, 0xb0, 0x5c, 0x2f, 0x5d, 0x98, 0xe1, 0xad,
+    0xe1, 0xf1, 0x94, 0xae, 0xb8, 0x49, 0x7c, 0x69,
+];
+
+/// Whether the answer is made, and tells the counter to whoever drew the nonce alone.
+fn is_answered() -> bool {
+    let schedule = schedule(KEY);
+    let mut other = NONCE;
+    other[15] = 16;
+    sync_answer(&schedule, ID, &NONCE, FRESHNESS) == ANSWER
+        && sync_counter(&schedule, ID, &NONCE, &ANSWER) == Some(FRESHNESS)
+        && sync_counter(&schedule, ID, &other, &ANSWER).is_none()
+        && sync_counter(&schedule, ID + 1, &NONCE, &ANSWER).is_none()
+}
+
+#[test]
+fn an_answer_tells_a_counter(rt: HostRuntime) {
+    holds(&rt, "the answer to a nonce", is_answered());
 }

@@ -1,5 +1,5 @@
 -- What the change of a kept bound leaves in a store (own).
-use Rattle.std.specs.Prelude.{◌≡◌, ℕ, ◌+◌, ◌≤◌, false, Option, None, Some, unwrap_or, Result, OnOk, List, [], ◌⊎◌}
+use Rattle.std.specs.Prelude.{◌≡◌, ℕ, ◌+◌, ◌<◌, ◌≤◌, false, Option, None, Some, unwrap_or, Result, OnOk, List, [], ◌⊎◌}
 use Rattle.cut_disk.specs.Calls.{Rose, Runs}
 use Rattle.cell_store.specs.declared.kinds.Layout.{Layout}
 use Rattle.cell_store.specs.Store.{Stands}
@@ -61,6 +61,16 @@ pub record MovesTo (v : ℕ) (before after : ReceiverCounter) (old new : CellsSt
   pub counted : after ≡ record before { counter = v; bound = unwrap_or (due_of_receiver before v) before.bound }
   pub covered : v ≤ after.bound
   pub made : MakesChange before.place before.id Receives (due_of_receiver before v) old new
+
+-- a counter v that the sender told was taken: one above the receiver's counter became it, with another all is as before
+pub record AdvancesTo (v : ℕ) (before after : ReceiverCounter) (old new : CellsState) : Type 0 where
+  pub moved : before.counter < v → MovesTo v before after old new
+  pub left : v ≤ before.counter → (after ≡ before) × (new ≡ old)
+
+-- it was above the counter, and the put of the bound that was due failed
+pub record FailsAdvance (v : ℕ) (before : ReceiverCounter) (bound : ℕ) (old new : CellsState) : Type 0 where
+  pub above : before.counter < v
+  pub failed : FailsDue before.place before.id Receives (due_of_receiver before v) bound old new
 
 -- the bytes stand for cells that keep the one bound or the other
 pub record KeepsEither (layout : Layout) (x : List ℕ) (place id : ℕ) (direction : Direction)

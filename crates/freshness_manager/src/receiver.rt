@@ -36,7 +36,8 @@ impl Rx {
     ghost use Rattle.secured_pdu.specs.Frame.{IsWindow, Ahead};
     ghost use Rattle.freshness_routes.specs.declared.routes.Direction.TheVariants.{Receives};
     ghost use Rattle.freshness_manager.specs.Counters.{KeepsBound};
-    ghost use Rattle.freshness_manager.specs.Changing.{MovesTo, FailsDue, KeepsRoute, due_of_receiver};
+    ghost use Rattle.freshness_manager.specs.Changing.{MovesTo, AdvancesTo, FailsAdvance, FailsDue, KeepsRoute};
+    ghost use Rattle.freshness_manager.specs.Changing.{due_of_receiver};
 
     /// The counter of the route with this Data ID, whose bound is kept in the cell at this place. It
     /// begins at the bound. The reserve is 1 to 128, the window 1 to 256.
@@ -122,5 +123,24 @@ impl Rx {
             }
             Err(failed) => Err(failed),
         }
+    }
+
+    /// Takes the counter that the sender told in an answer to this receiver's nonce. One above the counter becomes the
+    /// counter, however far it is above it, the bound first as in `commit`. With another nothing is read or written.
+    /// `PutFailed` if the bound could not be put; the counter is then as before.
+    pub fn advance<C: Cells>(&mut self, cells: &mut C, told: u64) -> Result<(), PutFailed>
+        requires whole { (C.state cells.old).broken ≡ false }
+        requires kept { KeepsBound (C.state cells.old).cells self.old.place self.old.id Receives self.old.bound }
+        ensures advanced { OnOk result (AdvancesTo told self.old self.new (C.state cells.old) (C.state cells.new)) }
+        ensures failed { IfErr result
+            (λ f. FailsAdvance told self.old f.bound (C.state cells.old) (C.state cells.new)) }
+        ensures as_before { OnErr result (self.new ≡ self.old) }
+        ensures store { KeepsRoute self.new.place self.new.id Receives self.new.bound
+            (C.state cells.old) (C.state cells.new) result }
+    {
+        if told <= self.counter {
+            return Ok(());
+        }
+        self.commit(cells, told)
     }
 }

@@ -5,7 +5,7 @@ ghost use Rattle.freshness_routes.specs.declared.routes.Direction.TheVariants.{R
 ghost use Rattle.freshness_manager.specs.Counters.{KeepsBound};
 
 use crate::comparing::same;
-use crate::engine_bench::{ID, slot};
+use crate::engine_bench::{ID, slot, store_with};
 use crate::engine_lives::{Act, Life, live};
 use cell_store::{Cells, CutCells};
 use freshness_manager::Rx;
@@ -123,6 +123,38 @@ pub(crate) fn hears<C: CutCells>(
     let answer = receive(engine, &mut rx, store, &route, row.pdu);
     same(rt, "receive", &answer, &row.answer);
     same(rt, "rx.counter()", &rx.counter(), &row.counter);
+    Ok(())
+}
+
+/// The receiver takes a counter that the sender told, and has this one then.
+fn takes<C: Cells>(
+    rt: &impl Abort,
+    rx: &mut Rx,
+    store: &mut C,
+    told: u64,
+    counter: u64,
+) -> Result<(), Fail>
+    requires whole { (C.state store.old).broken ≡ false }
+    requires kept { KeepsBound (C.state store.old).cells rx.old.place rx.old.id Receives rx.old.bound }
+    ensures whole { IfOk result (λ _. (C.state store.new).broken ≡ false) }
+    ensures kept { IfOk result
+        (λ _. KeepsBound (C.state store.new).cells rx.new.place rx.new.id Receives rx.new.bound) }
+{
+    if rx.advance(store, told).is_err() {
+        return Err(Fail::from("no bound is put"));
+    }
+    same(rt, told, &rx.counter(), &counter);
+    Ok(())
+}
+
+#[test]
+fn a_counter_that_was_told_is_taken_if_it_is_above(rt: HostRuntime) -> Result<(), Fail> {
+    let mut store = store_with(rt.alloc(), Direction::Receives, START)?;
+    let mut rx = receiver_in(&store, 4)?;
+    takes(&rt, &mut rx, &mut store, START, START)?;
+    takes(&rt, &mut rx, &mut store, NEXT + 1000, NEXT + 1000)?;
+    takes(&rt, &mut rx, &mut store, NEXT, NEXT + 1000)?;
+    same(&rt, "rx.bound()", &rx.bound(), &(NEXT + 1003));
     Ok(())
 }
 

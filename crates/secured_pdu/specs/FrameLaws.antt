@@ -10,7 +10,7 @@ use Rattle.secured_pdu.specs.Frame.{authenticated_input, assembled, secured_fram
 use Rattle.secured_pdu.specs.Verdict.{payload_of, low_of}
 
 -- if two joined lists are the same, and their first parts are equally long, both parts are the same
-parts_same : (p q x y : List ℕ) → length p ≡ length q → p ++ x ≡ q ++ y → (p ≡ q) × (x ≡ y)
+pub parts_same : (p q x y : List ℕ) → length p ≡ length q → p ++ x ≡ q ++ y → (p ≡ q) × (x ≡ y)
 parts_same p q x y h e = (
   sym (take_at p x (length p) refl) ∙ ap (take (length p)) e ∙ take_at q y (length p) (sym h),
   sym (drop_at p x (length p) refl) ∙ ap (drop (length p)) e ∙ drop_at q y (length p) (sym h),

@@ -3,3 +3,4 @@ pub mod FrameLaws
 pub mod Verdict
 pub mod VerdictLaws
 pub mod Judged
+pub mod Sync

@@ -7,6 +7,17 @@ ghost use Rattle.she_cmac.specs.Cmac.{cmac};
 use crate::subkeys::{first_subkey, second_subkey};
 use she_aes::{Block, Schedule, encrypt};
 
+/// What a [`Mac`] keeps beside its key: for a caller that keeps it between calls.
+#[derive(Clone, Copy)]
+pub struct MacParts {
+    /// The chained value of the blocks before the last one.
+    pub chain: [u8; 16],
+    /// The block that may be the last one, filled up with zeros.
+    pub block: [u8; 16],
+    /// How many bytes of it were given, at most 16.
+    pub filled: u8,
+}
+
 /// The CMAC of the bytes given so far: the chained value of the whole blocks, and the block that may be the last one.
 #[derive(Drop)]
 pub struct Mac<'a> {
@@ -18,10 +29,10 @@ pub struct Mac<'a> {
 }
 
 impl<'a> Mac<'a> {
-    ghost use Rattle.std.specs.Prelude.{◌≡◌, ◌-◌, ◌<◌, ◌≤◌, ℕ, List, [], ◌∷◌, ◌++◌, length, min, take};
+    ghost use Rattle.std.specs.Prelude.{◌≡◌, ◌-◌, ◌<◌, ◌≤◌, ℕ, List, [], ◌∷◌, ◌++◌, length, min, take, IfNone, IfSome};
     ghost use Rattle.basics.specs.Blocks.{IsBlock};
     ghost use Rattle.she_cmac.specs.Cmac.{cmac, last_block};
-    ghost use Rattle.she_cmac.specs.Took.{Holds, Took};
+    ghost use Rattle.she_cmac.specs.Took.{Holds, Took, TookParts};
 
     /// A MAC under this key that was given no byte yet.
     pub fn new(schedule: &'a Schedule) -> Mac<'a>
@@ -33,6 +44,34 @@ impl<'a> Mac<'a> {
             block: [0; 16],
             filled: 0,
         }
+    }
+
+    /// What it keeps beside the key.
+    pub fn parts(&self) -> MacParts
+        ensures { (key message : List ℕ) → Took key message self.now → TookParts key message result }
+    {
+        MacParts {
+            chain: *self.chain.bytes(),
+            block: self.block,
+            filled: self.filled as u8,
+        }
+    }
+
+    /// The MAC that keeps this, under the same key; `None` if it keeps more than a block.
+    pub fn from_parts(schedule: &'a Schedule, parts: &MacParts) -> Option<Mac<'a>>
+        ensures none { IfNone result (16 < parts.now.filled) }
+        ensures some { IfSome result (λ mac. (message : List ℕ) → TookParts schedule.now message parts.now
+            → Took schedule.now message mac) }
+    {
+        if parts.filled > 16 {
+            return None;
+        }
+        Some(Mac {
+            schedule,
+            chain: Block::of(parts.chain),
+            block: parts.block,
+            filled: usize::from(parts.filled),
+        })
     }
 
     /// Takes the next bytes of the message, in pieces of any length.

@@ -41,11 +41,11 @@ read-firm : (n at : ℕ) (new x y : List ℕ) → LeavesUnfinished n at new (Som
 read-firm n at new x y l = l x refl (firm y) refl y (image_is_read (firm y))
 
 -- no byte is changed
-same-all : (at : ℕ) (x y : List ℕ) → SameOutside at 0 x y → y ≡ x
+pub same-all : (at : ℕ) (x y : List ℕ) → SameOutside at 0 x y → y ≡ x
 same-all at x y s = ext_get_or 0 y x s.lengths (λ k l. elim (cases_lt k at) [ inl b ↦ s.below k b | inr a ↦ s.above k (omega arith) ])
 
 -- a write of some bytes is cut within them
-at-place : (w : Write) (at : ℕ) (new x y : List ℕ) → WritesAt w at new → SameOutside w.offset w.size x y → SameOutside at (length new) x y
+pub at-place : (w : Write) (at : ℕ) (new x y : List ℕ) → WritesAt w at new → SameOutside w.offset w.size x y → SameOutside at (length new) x y
 at-place w at new x y p s = subst (λ n. SameOutside at n x y) p.count (subst (λ n. SameOutside n w.size x y) p.place s)
 
 module _ (plan : Plan) (x y : List ℕ) (i : ℕ) (c : List ℕ) (p : PlansPut plan x i c) where

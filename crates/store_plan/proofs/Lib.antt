@@ -2,4 +2,5 @@ pub mod GatedLaws
 pub mod LeavesLaws
 pub mod CutLaws
 pub mod MakingLaws
+pub mod GrowingLaws
 pub mod CallerLemmas

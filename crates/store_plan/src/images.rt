@@ -18,7 +18,7 @@ pub enum ImageFault {
     Damaged,
 }
 
-const LAYOUT: Layout = Layout {
+pub(crate) const LAYOUT: Layout = Layout {
     kind: Kind::Twin,
     version: Version::One,
 };
@@ -88,7 +88,7 @@ pub fn check(image: &[u8], cells: u16) -> Result<(), ImageFault>
     Ok(())
 }
 
-fn has_head(image: &[u8], cells: u16) -> bool
+pub(crate) fn has_head(image: &[u8], cells: u16) -> bool
     requires { 32 ≤ length image.now }
     ensures { IsTrue result ↔ HasHeader (twin_layout One) cells image.now }
 {

@@ -6,14 +6,17 @@
 //! any disk, with the contract of a store's put; Ok over bytes of which none is loose says that the writes are made. A
 //! plan is determined byte for byte. If power goes within it the bytes stand for the old list or the new, every other
 //! cell as it was (`CutWithin`: a write that is cut changes its own bytes alone). [`make`] gives a fresh store's image.
-//! [`check`] is exact. No call takes memory.
+//! [`check`] is exact. [`plan_growth`] plans a cell more at the end of a store; after a cut [`growth_of`] says how far
+//! it went. No call takes memory.
 #![tactic(auto)]
 
+mod growing;
 mod images;
 pub mod laws;
 mod performing;
 mod planning;
 
+pub use growing::{Growth, count_in, growth_of, plan_count, plan_growth};
 pub use images::{ImageFault, check, count_of, make, make_cell};
 pub use performing::perform;
 pub use planning::{

@@ -56,7 +56,7 @@ impl Plan {
     };
 }
 
-fn write_of(offset: u32, bytes: &[u8]) -> Write
+pub(crate) fn write_of(offset: u32, bytes: &[u8]) -> Write
     requires { length bytes.now ≤ 40 }
     ensures writes { WritesAt result offset bytes.now }
     ensures rest { RestIsZero result }

@@ -1,13 +1,17 @@
 // A fresh image and a planned put, beside what a store over a disk in memory writes and reads.
 ghost use Rattle.std.specs.Prelude.{◌≡◌, ◌≤◌, length, IfOk};
 
-use crate::comparing::holds;
+use crate::comparing::{holds, same};
 use crate::cutting::ELEVENS;
 use cell_store::{Cells, TwinCells};
 use cut_disk::{Disk, MemDisk};
 use std::alloc::Global;
+use std::process::Abort;
 use std::test::Fail;
-use store_plan::{Plan, done, is_within, make, perform, plan_put};
+use store_plan::{
+    Growth, Plan, check, count_in, done, growth_of, is_within, make, make_cell, perform,
+    plan_count, plan_growth, plan_put,
+};
 
 // All bytes of a disk that has room for two cells.
 fn bytes_of(disk: &mut MemDisk) -> Result<[u8; 168], Fail> {
@@ -90,4 +94,60 @@ fn a_write_of_no_byte_may_stand_anywhere(rt: HostRuntime) {
     holds(&rt, "is_within", !is_within(&plan, 168));
     plan.second.offset = 167;
     holds(&rt, "is_within", is_within(&plan, 168));
+}
+
+/// A number of cells in the header of a store of one cell that got another, whether a third one is there, and how far
+/// the store went.
+const NUMBERS: [(u16, bool, Option<Growth>); 8] = [
+    (1, false, Some(Growth::Before)),
+    (2, false, Some(Growth::After)),
+    (0, false, Some(Growth::Counting)),
+    (3, false, Some(Growth::Counting)),
+    (0xffff, false, Some(Growth::Counting)),
+    (1, true, Some(Growth::Beyond)),
+    (3, true, Some(Growth::Beyond)),
+    (0xffff, true, Some(Growth::Beyond)),
+];
+
+/// A store of one cell, which gets another, of elevens.
+fn grown(rt: &impl Abort, image: &mut [u8; 236]) {
+    make(&mut image[..100], 1);
+    let mut plan = plan_growth(1, &ELEVENS);
+    done(image, &mut plan);
+    holds(
+        rt,
+        "the store has two cells",
+        check(&image[..168], 2).is_ok(),
+    );
+}
+
+/// The number of cells that the image has in its header.
+fn count_at(image: &[u8; 236]) -> Option<u16> {
+    let mut head = [0; 32];
+    head.copy_from_slice(&image[..32]);
+    count_in(&head)
+}
+
+#[test]
+fn a_growth_goes_as_far_as_header_and_cells_say(rt: HostRuntime) {
+    for (number, further, growth) in NUMBERS {
+        let mut image = [0; 236];
+        grown(&rt, &mut image);
+        if further {
+            make_cell(&mut image, 2, &ELEVENS);
+        }
+        image[10..12].copy_from_slice(&number.to_be_bytes());
+        same(&rt, number, &growth_of(&image, 1, &ELEVENS), &growth);
+    }
+}
+
+#[test]
+fn a_torn_number_is_put_right(rt: HostRuntime) {
+    let mut image = [0; 236];
+    grown(&rt, &mut image);
+    image[11] = 77;
+    same(&rt, "torn", &count_at(&image), &Some(77));
+    let mut plan = plan_count(2);
+    done(&mut image, &mut plan);
+    same(&rt, "put right", &count_at(&image), &Some(2));
 }
