@@ -17,7 +17,8 @@ use Rattle.bus_commands.specs.declared.words.WorldCommand.{WorldCommand}
 use Rattle.bus_commands.specs.declared.words.WorldCommand.TheVariants.{Replay, Trial}
 use Rattle.bus_commands.specs.Words.{Asks, IsDefault, NamesCommand, NamesBusCommand, NamesCommandOfFour}
 use Rattle.bus_commands.specs.Tasks.{Task, frame, judge, check, replay}
-use Rattle.bus_commands.specs.Inputs.{BusInputs, NeedsBus, AsksOverBus, SetsTask, OffersTask, SetsWorld}
+use Rattle.bus_programs.specs.Inputs.{BusInputs}
+use Rattle.bus_commands.specs.Inputs.{NeedsBus, AsksOverBus, SetsTask, OffersTask, SetsWorld}
 use Rattle.bus_commands.specs.Steps.{HasFewEvents}
 
 -- ---- the number of events
@@ -92,7 +93,7 @@ named_bus_one word (World (Replay Attach)) d one other = absurd one
 named_bus_one word (World (Trial trial)) d one other = absurd one
 
 -- no word is `node` and `trial`
-node_or_trial : {A : Type 0} (word : List ℕ) → word ≡ codes "node" → word ≡ codes "trial" → A
+pub node_or_trial : {A : Type 0} (word : List ℕ) → word ≡ codes "node" → word ≡ codes "trial" → A
 node_or_trial word node trial = absurd (let no : 110 ≡ 116 = ap (λ (l : List ℕ). get_or l 0 0) (sym node ∙ trial) in omega (arith, no))
 
 named_four_one : (word third fourth : List ℕ) (c d : Command) → NamesCommandOfFour word third fourth c → NamesCommandOfFour word third fourth d → c ≡ d

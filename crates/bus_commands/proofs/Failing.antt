@@ -6,7 +6,8 @@ use Rattle.program_edge.specs.Rows.{Row}
 use Rattle.program_edge.specs.Endings.{Ending, EndsInRow}
 use Rattle.bus_world.specs.StartAnswers.{CountsDiskFault, failed_row}
 use Rattle.bus_world.specs.StartAnswerLaws.{none_counted, failure_told}
-use Rattle.bus_commands.specs.Inputs.{BusInputs, start_of}
+use Rattle.bus_programs.specs.Inputs.{BusInputs}
+use Rattle.bus_commands.specs.Inputs.{start_of}
 use Rattle.bus_commands.specs.StartRows.{CommandDisks}
 use Rattle.bus_commands.specs.Rows.{ComesInRun, without_disks, not_started, tried, tried_without_memory}
 use Rattle.bus_commands.specs.Commands.{DoesEvents}

@@ -7,8 +7,8 @@ pub mod Replaying
 pub mod WholeRun
 pub mod WholeTrial
 pub mod WordTexts
-pub mod Naming
 pub mod Asking
+pub mod AskedWords
 pub mod Preparing
 pub mod Refusing
 pub mod RowFacts
@@ -20,4 +20,4 @@ pub mod Headlines
 pub mod OneRun
 pub mod Doing
 pub mod Summed
-pub mod CallerLemmas
+pub mod OfWords

@@ -15,14 +15,16 @@ use Rattle.bus_commands.specs.declared.trial_words.TrialWords.{TrialWords}
 use Rattle.bus_commands.specs.declared.words.Command.TheVariants as command
 use Rattle.bus_commands.specs.declared.words.WorldCommand.TheVariants.{Replay, Trial}
 use Rattle.bus_commands.specs.Words.{Asks}
-use Rattle.bus_commands.specs.Inputs.{BusInputs, SetsWorld, start_of}
+use Rattle.bus_programs.specs.Inputs.{BusInputs}
+use Rattle.bus_commands.specs.Inputs.{SetsWorld, start_of}
 use Rattle.bus_commands.specs.Headline.{TellFor, ReplayedOver}
 use Rattle.bus_commands.specs.Summaries.{summary_text}
 use Rattle.bus_world.specs.StartAnswers.{DiskStates}
 use Rattle.bus_commands.specs.StartRows.{CommandDisks}
-use Rattle.bus_commands.specs.Rows.{ReplaysScript, TriesEvents, ComesInRun, without_disks, not_started, tried, tried_without_memory}
-use Rattle.bus_commands.specs.Commands.{RunsCommand, ReplayIsRun, WrittenRun, TrialIsRun, LeavesUnstarted, RunsMachine}
+use Rattle.bus_commands.specs.Rows.{ReplaysScript, TriesEvents, ComesInRun, without_disks, not_started, tried, tried_without_memory, RowOrReplay}
+use Rattle.bus_commands.specs.Commands.{RunsCommand, ReplayIsRun, WrittenRun, TrialIsRun, LeavesUnstarted, RunsMachine, RunsBus}
 use Rattle.bus_commands.proofs.Headlines.{written_run, summed_run}
+use Rattle.bus_commands.proofs.Promises.{RunsCommand-ends}
 use Rattle.bus_commands.proofs.Asking.{apart, asks_one, same_start}
 use Rattle.bus_commands.proofs.Unread.{AskedIsDone, done_of}
 use Rattle.bus_world.specs.StartAnswerLaws.{Comes-leaves}
@@ -126,3 +128,9 @@ RunsMachine-command i d e runs = record {
   tried = λ trial asks is. trial_done i d e trial asks (runs.done is);
   tried_untold = trial_untold i d e runs;
 }
+
+-- and the table of answers with it
+pub runs_bus : {V : Type 0} (i : BusInputs) (d : CommandDisks V) (e : Ending) → (d.new ≡ d.old → d.states.after ≡ d.states.before) → RowOrReplay i d e → RunsBus i d e
+runs_bus i d e same ends =
+    let command : RunsCommand i d e = RunsCommand-ends i d e same ends in
+    (command, RunsMachine-command i d e command)

@@ -25,11 +25,12 @@ use Rattle.bus_commands.specs.Tasks.{Task, frame, judge, check, replay}
 use Rattle.bus_commands.specs.Texts.{fault_of}
 use Rattle.bus_programs.specs.BusFileLaws.{LacksLines-read}
 use Rattle.bus_programs.specs.BusFiles.{ReadsBus}
-use Rattle.bus_commands.specs.Inputs.{BusInputs, AsksOverBus, SetsTask}
+use Rattle.bus_programs.specs.Inputs.{BusInputs}
+use Rattle.bus_commands.specs.Inputs.{AsksOverBus, SetsTask}
 use Rattle.bus_commands.specs.Rows.{ComesOfInputs, no_config, config_refused, no_script, script_refused}
 use Rattle.bus_programs.specs.BusFiles.{LacksBus, no_file, file_refused}
-use Rattle.bus_programs.specs.Scripts.{LacksLines, no_lines, lines_refused}
-use Rattle.bus_commands.specs.Steps.{ReadsLines, FindsLines, HasScript, FindsScript, FindsEvents, HasPayload, IsAny, PreparesLines, PreparesWorld}
+use Rattle.bus_programs.specs.Scripts.{LacksLines, no_lines, lines_refused, FindsScript}
+use Rattle.bus_commands.specs.Steps.{ReadsLines, FindsLines, FindsEvents, HasPayload, IsAny, PreparesLines, PreparesWorld}
 
 -- ---- the bus file
 
@@ -45,11 +46,6 @@ pub FindsLines-read : {A : Type 0} (meaning : List ℕ → Result (List A) Fault
     → ReadsWhole script text → ReadsLines P (meaning text) result → FindsLines meaning P script result
 FindsLines-read meaning P script text (Ok lines) whole is = ((text, whole, is.0), is.1)
 FindsLines-read meaning P script text (Err row) whole is = LacksLines-read meaning script text row whole is
-
-pub FindsScript-read : (bus : NamedBus) (script : Reading) (text : List ℕ) (result : Result (Vec Event Global) Row)
-    → ReadsWhole script text → HasScript bus text result → FindsScript bus script result
-FindsScript-read bus script text (Ok events) whole is = ((text, whole, is.0), is.1)
-FindsScript-read bus script text (Err row) whole is = LacksLines-read (events_of bus.nodes) script text row whole is
 
 -- what was set has no lines
 pub Comes-no_lines : {A : Type 0} (i : BusInputs) (task : Task) (meaning : List ℕ → Result (List A) Fault) (row : Row) → SetsTask i task
@@ -97,7 +93,7 @@ judgements_ok asked config script found is unread finds = λ words asks.
     (finds.1, (judge, (asks_as words asked lines.Judge is asks, unread), finds.0))
 
 pub check_ok : (asked : LineCommand) (config script : Reading) (bus : NamedBus) (found : Vec Event Global) → asked ≡ lines.Check → ReadsBus config bus
-    → FindsScript bus script (Ok found) → PreparesLines asked config script (Ok (Events bus found))
+    → FindsScript events_of bus script (Ok found) → PreparesLines asked config script (Ok (Events bus found))
 check_ok asked config script bus found is reads finds = λ words asks.
     (finds.1.0, (check bus, (asks_as words asked lines.Check is asks, reads), (finds.0.0, finds.0.1, (refl, finds.0.2))))
 

@@ -27,7 +27,8 @@ use Rattle.bus_commands.specs.Words.{AsksNothing}
 use Rattle.bus_commands.specs.Tasks.{Task, frame, judge, check, replay}
 use Rattle.bus_commands.specs.Texts.{usage, IsOutput, fault_of}
 use Rattle.bus_programs.specs.BusFiles.{IsConfigFault}
-use Rattle.bus_commands.specs.Inputs.{BusInputs, AsksOverBus, AsksWorld, NoConfig, NoScript, OverLines, OverWorld, OffersTask, OffersTrial, start_of}
+use Rattle.bus_programs.specs.Inputs.{BusInputs}
+use Rattle.bus_commands.specs.Inputs.{AsksOverBus, AsksWorld, NoConfig, NoScript, OverLines, OverWorld, OffersTask, OffersTrial, start_of}
 use Rattle.run_driver.specs.Statuses.{unwritten_status}
 use Rattle.bus_world.specs.StartRows.{start_row, StoreCause, LeavesEach}
 use Rattle.bus_world.specs.StartAnswers.{ComesOfStart, disks_refused, store_refused, start_without_memory, BusHasDisks}

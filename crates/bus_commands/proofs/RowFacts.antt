@@ -23,7 +23,8 @@ use Rattle.bus_commands.specs.Words.{AsksNothing}
 use Rattle.bus_commands.specs.Tasks.{Task, frame, judge, check, replay}
 use Rattle.bus_commands.specs.Texts.{IsOutput, fault_of}
 use Rattle.bus_programs.specs.BusFiles.{OffersBus}
-use Rattle.bus_commands.specs.Inputs.{BusInputs, AsksOverBus, SetsTask, OffersTask, OverLines, HasEvents, SetsWorld, start_of, OffersTrial}
+use Rattle.bus_programs.specs.Inputs.{BusInputs}
+use Rattle.bus_commands.specs.Inputs.{AsksOverBus, SetsTask, OffersTask, OverLines, HasEvents, SetsWorld, start_of, OffersTrial}
 use Rattle.bus_world.specs.StartAnswers.{DiskStates, ComesOfStart}
 use Rattle.bus_commands.specs.StartRows.{CommandDisks}
 use Rattle.bus_commands.specs.Rows.{ComesOfInputs, no_form, no_config, config_refused, no_script, script_refused, done, ComesInRun, without_disks, not_started, tried, tried_without_memory}

@@ -20,7 +20,7 @@ use Rattle.std.specs.Prelude.{◌≡◌, ◌⊎◌, ℕ, ◌<◌, ◌≤◌, Lis
 use Rattle.std.specs.Prelude.{Result, Ok, Err}
 -- ---- what went in
 -- `BusInputs`: the arguments, and the sources of the bus file (`config`) and of the lines (`script`), before and after.
-use Rattle.bus_commands.specs.Inputs.{BusInputs}
+use Rattle.bus_programs.specs.Inputs.{BusInputs}
 -- `Asks words c`: they ask for the command c, and for no other. It is of lines (`frame`, `judge`, `check`), or runs a
 -- world over disks: `Replay Format` is `replay`, `Replay Attach` is `node` (*a replay* is either), `Trial` is `trial`
 -- with its number of events and its seed. `AsksNothing`: they are malformed. `AsksOverBus`: for a command with a bus

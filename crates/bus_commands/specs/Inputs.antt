@@ -1,6 +1,5 @@
 -- What goes into a command, and what of it is read
 use Rattle.std.specs.Prelude.{◌≡◌, ℕ, List, Ok}
-use Rattle.bus_port.specs.Source.{SourceState}
 use Rattle.program_edge.specs.declared.input.InputFault.{InputFault}
 use Rattle.program_edge.specs.Inputs.{Reading, IsUnread, ReadsWhole, Lacks}
 use Rattle.bus_config.specs.Buses.{NamedBus}
@@ -8,6 +7,7 @@ use Rattle.bus_machine.specs.declared.events.Event.{Event}
 use Rattle.bus_script.specs.EventForms.{events_of}
 use Rattle.bus_script.specs.Trials.{trial_events}
 use Rattle.bus_programs.specs.BusFiles.{ReadsBus, OffersBus}
+use Rattle.bus_programs.specs.Inputs.{BusInputs}
 use Rattle.bus_commands.specs.declared.trial_words.TrialWords.{TrialWords}
 use Rattle.bus_commands.specs.declared.words.Command.{Command}
 use Rattle.bus_commands.specs.declared.words.Command.TheVariants.{Lines, World}
@@ -18,20 +18,6 @@ use Rattle.bus_world.specs.declared.start.Start.{Start}
 use Rattle.bus_world.specs.declared.start.Start.TheVariants.{Format}
 use Rattle.bus_commands.specs.Words.{Asks}
 use Rattle.bus_commands.specs.Tasks.{Task, frame, judge, check, replay}
-
--- the arguments, and what was known of the sources of the bus file and of the lines, before and after
-pub record BusInputs : Type 0 where
-  pub words : List (List ℕ)
-  pub config : Reading
-  pub script : Reading
-
--- these arguments, and what was known of the bus file's source before and after, and of the lines'
-abbrev pub inputs_of : List (List ℕ) → SourceState → SourceState → SourceState → SourceState → BusInputs
-inputs_of words config_before config_after script_before script_after = record {
-  words = words;
-  config = record { before = config_before; after = config_after };
-  script = record { before = script_before; after = script_after };
-}
 
 -- ---- the bus file
 

@@ -1,23 +1,100 @@
--- What the arguments of a command name
-use Rattle.std.specs.Prelude.{◌≡◌, ℕ, List, Option, Some, None}
+-- What the arguments of a command name, and what comes of them
+use Rattle.std.specs.Prelude.{◌≡◌, ℕ, List, [], ◌∷◌, ◌++◌, map, Option, Vec, Result}
+use Rattle.std.specs.declared.alloc.Global.{Global}
 use Rattle.bus_port.specs.Source.{SourceState}
-use Rattle.program_edge.specs.NamedSources.{Openings, behind, AreNamed}
-use Rattle.bus_commands.specs.Words.{NamesConfig, NamesScript}
-use Rattle.bus_commands.specs.Inputs.{BusInputs}
+use Rattle.cut_disk.specs.State.{DiskState}
+use Rattle.cut_disk.specs.declared.mem_disk.MemDisk.{MemDisk}
+use Rattle.file_disk.specs.NamedDisks.{IsOpenedBy, OpenedByWords}
+use Rattle.program_edge.specs.NamedSources.{Openings}
+use Rattle.program_edge.specs.Endings.{Ending}
+use Rattle.run_driver.specs.declared.printing.Unwritten.{Unwritten}
+use Rattle.bus_machine.specs.Bus.{World}
+use Rattle.bus_world.specs.declared.start.Start.TheVariants.{Attach}
+use Rattle.bus_world.specs.Starts.{StartsOver}
+use Rattle.bus_world.specs.StartAnswers.{DiskStates}
+use Rattle.bus_programs.specs.Blank.{AreBlank, disk_states}
+use Rattle.bus_programs.specs.Inputs.{BusInputs}
+use Rattle.bus_programs.specs.Named.{SourcesAreNamed, SourcesBack, AreHandedBack, WantsMemory}
+use Rattle.bus_commands.specs.Words.{NamesConfig, NamesScript, NamesDisk, IsTheWord}
+use Rattle.bus_commands.specs.Inputs.{AsksWorld, OverReplayOf}
+use Rattle.bus_commands.specs.StartRows.{CommandDisks, disks_between}
+use Rattle.bus_commands.specs.Rows.{ReplaysScript}
+use Rattle.bus_commands.specs.Commands.{RunsBus, WrittenRun}
 
--- the argument for which this holds, or none, if there is no such one
-abbrev pub IsTheWord : (List ℕ → Type 0) → Option (List ℕ) → Type 0
-IsTheWord names None = (name : List ℕ) → ¬ names name
-IsTheWord names (Some name) = names name
-
--- the sources of a command are those that its arguments name, that of the bus file and that of the lines. A source that
--- no word names is missing. What is left to be opened is what these arguments leave
-pub record InputsAreNamed (opens : List ℕ → SourceState → Type 0) (before after : Openings)
-    (words : List (List ℕ)) (i : BusInputs) : Type 0 where
-  pub words_are : i.words ≡ words
+-- all that a command promises holds of these arguments, over these disks and over the sources that the arguments name.
+-- Each is opened once, and no other. A source that no word names is missing. The sources are handed back
+pub record RunsOver {V : Type 0} (opens : List ℕ → SourceState → Type 0) (before after : Openings) (back : SourcesBack)
+    (words : List (List ℕ)) (d : CommandDisks V) (e : Ending) : Type 0 where
+  pub inputs : BusInputs
+  pub words_are : inputs.words ≡ words
   pub config : Option (List ℕ)
   pub script : Option (List ℕ)
   pub names_config : IsTheWord (NamesConfig words) config
   pub names_script : IsTheWord (NamesScript words) script
-  pub named : AreNamed opens before config script i.config.before i.script.before
-  pub left : after ≡ behind script (behind config before)
+  pub named : SourcesAreNamed opens before after config script inputs
+  pub handed_back : AreHandedBack inputs back
+  pub runs : RunsBus inputs d e
+
+-- ---- disks in memory
+
+-- eight of 65,536 bytes for a replay or a trial, and none for other arguments
+abbrev pub AreGiven : List (List ℕ) → List MemDisk → Type 0
+AreGiven words disks = (AsksWorld words → AreBlank 8 65536 disks) × (¬ AsksWorld words → disks ≡ [])
+
+-- the disks that were made, and these as the command left them
+abbrev pub made_disks : Vec MemDisk Global → Vec MemDisk Global → CommandDisks (Vec MemDisk Global)
+made_disks old new =
+    record { old = old; new = new; states = record { before = disk_states old.items; after = disk_states new.items } }
+
+-- the arguments name no disk: they ran over those that are made for them
+pub record RunsGiven (opens : List ℕ → SourceState → Type 0) (before after : Openings) (back : SourcesBack)
+    (words : List (List ℕ)) (e : Ending) : Type 0 where
+  pub no_disk : (name : List ℕ) → ¬ NamesDisk words name
+  pub made : Vec MemDisk Global
+  pub used : Vec MemDisk Global
+  pub given : AreGiven words made.items
+  pub over : RunsOver opens before after back words (made_disks made used) e
+
+-- ---- the disk that a word names
+
+-- a valid `node` is asked for, and it is one run of the machine. It begins at a world in which the bus goes on where
+-- its disk stands
+abbrev pub NodeIsRun : BusInputs → DiskStates → Ending → Result (Unit {0}) Unwritten → Type 0
+NodeIsRun i d e result = OverReplayOf Attach i (λ bus events. (first : World) × StartsOver bus d.before first
+    × WrittenRun first bus d events e result)
+
+-- `node` ran over the one disk that its last argument opens, once, and it is handed back. That disk tells its bytes,
+-- whatever the argument opens, and a power cut can take none of them away. So all promises over such disks hold, with
+-- the causes of 10 and the headline.
+pub record RunsOpened {D : Type 0} (state : D → DiskState) (opens : List ℕ → SourceState → Type 0)
+    (opens_disk : List ℕ → DiskState → Type 0) (o : OpenedByWords) (back : SourcesBack) (left : Vec D Global)
+    (words : List (List ℕ)) (e : Ending) : Type 0 where
+  pub name : List ℕ
+  pub disk_named : NamesDisk words name
+  pub disks : Vec D Global
+  pub opened : IsOpenedBy opens_disk name (map state disks.items)
+  pub opened_once : o.disks_after ≡ o.disks_before ++ name ∷ []
+  pub over : RunsOver opens o.before o.after back words (disks_between state disks left) e
+  -- at 0, and at 6 or 7 after its start, what it did is one run
+  pub one_run : (result : Result (Unit {0}) Unwritten)
+      → ReplaysScript over.inputs (disks_between state disks left).states e result
+      → NodeIsRun over.inputs (disks_between state disks left).states e result
+
+-- ---- either
+
+-- the arguments ask for a run over disks, for which there was no memory; nothing was written or opened
+pub record WantsDisks (before after : Openings) (back : SourcesBack) (words : List (List ℕ)) (e : Ending) : Type 0 where
+  pub asks : AsksWorld words
+  pub wants : WantsMemory before after back e
+
+-- what comes of the arguments after the program's name; a disk is opened, and handed back, for words that name one
+-- alone
+pub data RunsNamed {D : Type 0} (state : D → DiskState) (opens : List ℕ → SourceState → Type 0)
+    (opens_disk : List ℕ → DiskState → Type 0) (o : OpenedByWords) (back : SourcesBack) (left : Vec D Global)
+    (words : List (List ℕ)) (e : Ending) : Type 0 where
+  ran_in_memory : o.disks_after ≡ o.disks_before → left.items ≡ [] → RunsGiven opens o.before o.after back words e
+      → RunsNamed state opens opens_disk o back left words e
+  ran_over_disk : RunsOpened state opens opens_disk o back left words e
+      → RunsNamed state opens opens_disk o back left words e
+  wanted_disks : o.disks_after ≡ o.disks_before → left.items ≡ [] → WantsDisks o.before o.after back words e
+      → RunsNamed state opens opens_disk o back left words e

@@ -15,7 +15,8 @@ use Rattle.bus_commands.specs.declared.summary.Summary.{Summary}
 use Rattle.bus_commands.specs.Words.{AsksNothing}
 use Rattle.bus_commands.specs.Texts.{usage, IsOutput, fault_of}
 use Rattle.bus_programs.specs.BusFiles.{IsConfigFault}
-use Rattle.bus_commands.specs.Inputs.{BusInputs, AsksOverBus, NoConfig, NoScript, OverLines, OverReplay}
+use Rattle.bus_programs.specs.Inputs.{BusInputs}
+use Rattle.bus_commands.specs.Inputs.{AsksOverBus, NoConfig, NoScript, OverLines, OverReplay}
 use Rattle.bus_commands.specs.Inputs.{OverTrial, OverWorld}
 use Rattle.bus_world.specs.StartAnswers.{DiskStates, ComesOfStart}
 use Rattle.bus_commands.specs.StartRows.{CommandDisks}

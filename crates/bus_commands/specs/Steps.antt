@@ -1,12 +1,12 @@
 -- What the steps of the work say to one another.
-use Rattle.std.specs.Prelude.{◌≡◌, ℕ, ◌≤◌, List, ◌++◌, length, All, Result, Ok, Err, Vec}
+use Rattle.std.specs.Prelude.{◌≡◌, ℕ, ◌≤◌, List, ◌++◌, All, Result, Ok, Err, Vec}
 use Rattle.std.specs.List.{flat_map}
 use Rattle.std.specs.declared.alloc.Global.{Global}
 use Rattle.secured_pdu.specs.Frame.{IsPayload}
 use Rattle.secoc_words.specs.declared.frames.FrameLine.{FrameLine}
 use Rattle.secoc_words.specs.declared.judges.JudgeLine.{JudgeLine}
 use Rattle.secoc_words.specs.Frames.{frames_of, judges_of}
-use Rattle.text_lines.specs.Readings.{most_lines, Fault}
+use Rattle.text_lines.specs.Readings.{Fault}
 use Rattle.program_edge.specs.Rows.{Row, row_of, memory_row}
 use Rattle.program_edge.specs.Inputs.{Reading, IsUnread}
 use Rattle.program_edge.specs.Endings.{Ending, EndsInRow}
@@ -18,7 +18,7 @@ use Rattle.bus_script.specs.EventForms.{events_of}
 use Rattle.bus_script.specs.Trials.{trial_events}
 use Rattle.bus_script.specs.ScriptEvents.{IsScriptEvent}
 use Rattle.bus_script.specs.Canon.{canon}
-use Rattle.bus_programs.specs.Scripts.{LacksLines, ReadsLinesAs}
+use Rattle.bus_programs.specs.Scripts.{LacksLines, ReadsLinesAs, AreEvents, FindsScript}
 use Rattle.bus_commands.specs.declared.trial_words.TrialWords.{TrialWords}
 use Rattle.bus_commands.specs.declared.words.Command.TheVariants as command
 use Rattle.bus_commands.specs.declared.words.LineCommand.{LineCommand}
@@ -33,7 +33,8 @@ use Rattle.bus_commands.specs.declared.summary.Summary.{Summary}
 use Rattle.bus_commands.specs.Tasks.{Task, frame, judge, check}
 use Rattle.bus_commands.specs.Texts.{TellsEach, TellsFrame, TellsJudgement}
 use Rattle.bus_commands.specs.Words.{Asks}
-use Rattle.bus_commands.specs.Inputs.{BusInputs, OverLines, SetsWorld}
+use Rattle.bus_programs.specs.Inputs.{BusInputs}
+use Rattle.bus_commands.specs.Inputs.{OverLines, SetsWorld}
 use Rattle.bus_commands.specs.Summaries.{summary_text}
 use Rattle.bus_world.specs.StartAnswers.{DiskStates, ComesUnstarted}
 use Rattle.bus_world.specs.declared.start.Start.{Start}
@@ -64,20 +65,6 @@ abbrev pub FindsLines : {A : Type 0} → (List ℕ → Result (List A) Fault) �
     → Result (Vec A Global) Row → Type 0
 FindsLines meaning P script (Ok lines) = ReadsLinesAs meaning script lines.items × All P lines.items
 FindsLines meaning P script (Err row) = LacksLines meaning script row
-
--- such as a script over a bus has, at most 65,536 of them
-abbrev pub AreEvents : NamedBus → List Event → Type 0
-AreEvents bus events = All (IsScriptEvent bus.nodes) events × (length events ≤ most_lines)
-
--- the events of a script, or why there are none
-abbrev pub HasScript : NamedBus → List ℕ → Result (Vec Event Global) Row → Type 0
-HasScript bus text (Ok events) = (events_of bus.nodes text ≡ Ok events.items) × AreEvents bus events.items
-HasScript bus text (Err row) = NoLines (events_of bus.nodes text) row
-
--- those of a source that was read whole, or why there are none
-abbrev pub FindsScript : NamedBus → Reading → Result (Vec Event Global) Row → Type 0
-FindsScript bus script (Ok events) = ReadsLinesAs (events_of bus.nodes) script events.items × AreEvents bus events.items
-FindsScript bus script (Err row) = LacksLines (events_of bus.nodes) script row
 
 -- the events that the seed of a trial gives, or out of memory
 abbrev pub DrawsEvents : NamedBus → TrialWords → Result (Vec Event Global) Row → Type 0
@@ -130,7 +117,7 @@ HasFewEvents (Trial trial) = (1 ≤ trial.count) × (trial.count ≤ 60000)
 
 -- the events of a run of this bus, or why there are none; for a trial nothing is read
 abbrev pub FindsEvents : WorldCommand → NamedBus → Reading → Result (Vec Event Global) Row → Type 0
-FindsEvents (Replay start) bus script result = FindsScript bus script result
+FindsEvents (Replay start) bus script result = FindsScript events_of bus script result
 FindsEvents (Trial trial) bus script result = IsUnread script × DrawsEvents bus trial result
 
 -- ---- the second phase

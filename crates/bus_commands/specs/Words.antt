@@ -1,5 +1,5 @@
 -- The arguments of the command line, and what they ask for.
-use Rattle.std.specs.Prelude.{◌≡◌, ℕ, List, [], ◌∷◌, codes}
+use Rattle.std.specs.Prelude.{◌≡◌, ℕ, List, [], ◌∷◌, Option, Some, None, codes}
 use Rattle.bus_world.specs.declared.start.Start.TheVariants.{Format, Attach}
 use Rattle.bus_commands.specs.TrialWords.{NamesTrial}
 use Rattle.bus_commands.specs.declared.words.Command.{Command}
@@ -51,6 +51,11 @@ Asks (word ∷ bus ∷ count ∷ seed ∷ more ∷ words) command = ⊥
 abbrev pub AsksNothing : List (List ℕ) → Type 0
 AsksNothing words = (command : Command) → ¬ Asks words command
 
+-- they ask for this command, or for none
+abbrev pub AsksCommand : List (List ℕ) → Option Command → Type 0
+AsksCommand words (Some command) = Asks words command
+AsksCommand words None = AsksNothing words
+
 -- the arguments are of a form
 abbrev pub AsksSomething : List (List ℕ) → Type 0
 AsksSomething words = (command : Command) × Asks words command
@@ -86,3 +91,16 @@ NamesDisk (word ∷ bus ∷ []) name = ⊥
 NamesDisk (word ∷ bus ∷ file ∷ []) name = ⊥
 NamesDisk (word ∷ bus ∷ file ∷ disk ∷ []) name = (word ≡ codes "node") × (name ≡ disk)
 NamesDisk (word ∷ bus ∷ file ∷ disk ∷ more ∷ words) name = ⊥
+
+-- the argument for which this holds, or none, if there is no such one
+abbrev pub IsTheWord : (List ℕ → Type 0) → Option (List ℕ) → Type 0
+IsTheWord names None = (name : List ℕ) → ¬ names name
+IsTheWord names (Some name) = names name
+
+-- what these arguments ask for, and which of them name the bus file, the lines and a disk
+pub record IsAsked (words : List (List ℕ)) (command : Option Command)
+    (config script disk : Option (List ℕ)) : Type 0 where
+  pub asks : AsksCommand words command
+  pub names_config : IsTheWord (NamesConfig words) config
+  pub names_script : IsTheWord (NamesScript words) script
+  pub names_disk : IsTheWord (NamesDisk words) disk

@@ -1,16 +1,14 @@
 //! What the sources of a command have, or why they have it not.
-ghost use Rattle.std.specs.Prelude.{◌<◌, ◌≤◌, ◌^◌, length};
-ghost use Rattle.bus_commands.specs.Steps.{FindsLines, FindsScript, HasScript};
-ghost use Rattle.bus_commands.specs.Steps.{DrawsEvents};
+ghost use Rattle.std.specs.Prelude.{◌≤◌};
+ghost use Rattle.bus_commands.specs.Steps.{FindsLines, DrawsEvents};
 
 use crate::questions::{Question, questions};
 use crate::trial_words::TrialWords;
 use bus_config::BusConfig;
 use bus_port::Source;
-use bus_script::{Event, make_trial, read_script};
+use bus_script::{Event, make_trial};
 use program_edge::{Refusal, read_input};
 use std::alloc::{AllocError, Global};
-use text_lines::line_refusal;
 
 /// The questions of the lines that a source gives, or the refusal of the source or of a line.
 pub fn questions_from<Q: Question, S: Source>(
@@ -22,29 +20,6 @@ pub fn questions_from<Q: Question, S: Source>(
 {
     let input = read_input(alloc, script)?;
     questions(alloc, input.as_slice())
-}
-
-/// The events of the script that a source gives, over this bus, or the refusal of the source or of a line.
-pub fn script_from<S: Source>(
-    alloc: Global,
-    bus: &BusConfig,
-    script: &mut S,
-) -> Result<Vec<Event>, Refusal>
-    ensures { FindsScript bus.now (record { before = S.state script.old; after = S.state script.new }) result }
-{
-    let input = read_input(alloc, script)?;
-    events_in(alloc, bus, input.as_slice())
-}
-
-/// The events of a script, or the refusal of a line.
-fn events_in(alloc: Global, bus: &BusConfig, text: &[u8]) -> Result<Vec<Event>, Refusal>
-    requires { length text.now < 2 ^ 32 }
-    ensures { HasScript bus.now text.now result }
-{
-    match read_script(alloc, text, bus) {
-        Ok(events) => Ok(events),
-        Err(fault) => Err(line_refusal(alloc, fault)),
-    }
 }
 
 /// The events that the seed of a trial gives, or out of memory.

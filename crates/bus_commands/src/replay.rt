@@ -1,7 +1,8 @@
 //! The replay of a script over disks.
 ghost use Rattle.std.specs.Prelude.{◌≡◌, map};
 ghost use Rattle.bus_config.specs.Buses.{IsNamedBus};
-ghost use Rattle.bus_commands.specs.Steps.{AreEvents, AnswersReplay};
+ghost use Rattle.bus_programs.specs.Scripts.{AreEvents};
+ghost use Rattle.bus_commands.specs.Steps.{AnswersReplay};
 
 use crate::laws::replays_are_runs;
 use bus_config::BusConfig;

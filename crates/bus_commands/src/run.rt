@@ -1,21 +1,22 @@
 //! The commands of the program.
-ghost use Rattle.std.specs.Prelude.{◌≡◌, ◌≤◌, map, string_bytes};
+ghost use Rattle.std.specs.Prelude.{◌≡◌, ◌≤◌, ℕ, List, map, string_bytes};
 ghost use Rattle.program_edge.specs.Endings.{EndsInRow};
-ghost use Rattle.bus_commands.specs.Commands.{RunsCommand, RunsMachine};
-ghost use Rattle.bus_commands.specs.Inputs.{inputs_of};
+ghost use Rattle.bus_commands.specs.Words.{AsksCommand};
+ghost use Rattle.bus_commands.specs.Commands.{RunsCommand, RunsMachine, RunsBus};
+ghost use Rattle.bus_programs.specs.Inputs.{inputs_of};
 ghost use Rattle.bus_commands.specs.StartRows.{disks_between};
 ghost use Rattle.bus_commands.specs.Steps.{Prepares, PreparesLines, PreparesWorld, HasFewEvents, FindsEvents};
 ghost use Rattle.bus_commands.specs.Steps.{IsWholeLines, IsWholeWorld, AnswersLines, AnswersWorld};
 ghost use Rattle.bus_config.specs.Buses.{NamedBus};
 
-use crate::inputs::{drawn_events, questions_from, script_from};
+use crate::inputs::{drawn_events, questions_from};
 use crate::job::{Job, LineJob, WorldJob};
 use crate::replay::replay;
 use crate::trial::trial;
-use crate::words::{Command, LineCommand, WorldCommand, command_of};
+use crate::words::{Command, LineCommand, WorldCommand, asked_of};
 use bus_config::BusConfig;
 use bus_port::{Sink, Source};
-use bus_programs::bus_from;
+use bus_programs::{BusScript, bus_from, script_from};
 use bus_script::Event;
 use cut_disk::CutDisk;
 use program_edge::{DONE, Refusal, tell, tell_refusal};
@@ -68,7 +69,25 @@ pub fn run<S: Source, T: Source, K: Sink, D: CutDisk>(
         (disks_between D.state disks.old disks.new)
         (record { before = K.state sink.old; after = K.state sink.new; status = result }) }
 {
-    match prepare(alloc, words, config, script) {
+    run_asked(alloc, asked_of(words).command, config, script, sink, disks)
+}
+
+/// Runs the command that some words ask for, or tells the usage line, as [`run`] does.
+pub(crate) fn run_asked<S: Source, T: Source, K: Sink, D: CutDisk>(
+    alloc: Global,
+    command: Option<Command>,
+    config: &mut S,
+    script: &mut T,
+    sink: &mut K,
+    disks: &mut Vec<D>,
+) -> u8
+    requires { (words : List (List ℕ)) × AsksCommand words command }
+    ensures { (words : List (List ℕ)) → AsksCommand words command → RunsBus
+        (inputs_of words (S.state config.old) (S.state config.new) (T.state script.old) (T.state script.new))
+        (disks_between D.state disks.old disks.new)
+        (record { before = K.state sink.old; after = K.state sink.new; status = result }) }
+{
+    match prepare(alloc, command, config, script) {
         Ok(Job::Lines(job)) => do_lines(alloc, &job, sink),
         Ok(Job::World(job)) => do_world(alloc, &job, sink, disks),
         Err(refusal) => tell_refusal(sink, &refusal),
@@ -78,22 +97,18 @@ pub fn run<S: Source, T: Source, K: Sink, D: CutDisk>(
 const USAGE: &str =
     "usage: frame F, judge F, check B F, replay B F, trial B N SEED, node B F DISK\n";
 
-/// The first phase: the arguments and the inputs. It ends in a job, or in the first refusal that applies.
+/// The first phase: the inputs of the command. It ends in a job, or in the first refusal that applies.
 fn prepare<S: Source, T: Source>(
     alloc: Global,
-    words: &[String],
+    command: Option<Command>,
     config: &mut S,
     script: &mut T,
 ) -> Result<Job, Refusal>
-    ensures { Prepares
-        (record {
-          words = map string_bytes words.now;
-          config = record { before = S.state config.old; after = S.state config.new };
-          script = record { before = T.state script.old; after = T.state script.new };
-        })
-        result }
+    requires { (words : List (List ℕ)) × AsksCommand words command }
+    ensures { (words : List (List ℕ)) → AsksCommand words command → Prepares
+        (inputs_of words (S.state config.old) (S.state config.new) (T.state script.old) (T.state script.new)) result }
 {
-    match command_of(words) {
+    match command {
         None => Err(Refusal::fixed(2, USAGE)),
         Some(Command::Lines(command)) => match lines_job(alloc, command, config, script) {
             Ok(job) => Ok(Job::Lines(job)),
@@ -128,7 +143,7 @@ fn lines_job<S: Source, T: Source>(
         }
         LineCommand::Check => {
             let bus = bus_from(alloc, config)?;
-            let events = script_from(alloc, &bus, script)?;
+            let events = script_from::<BusScript, T>(alloc, &bus, script)?;
             Ok(LineJob::Events(bus, events))
         }
     }
@@ -166,7 +181,7 @@ fn events_for<T: Source>(
     ensures { FindsEvents command bus.now (record { before = T.state script.old; after = T.state script.new }) result }
 {
     match command {
-        WorldCommand::Replay(_) => script_from(alloc, bus, script),
+        WorldCommand::Replay(_) => script_from::<BusScript, T>(alloc, bus, script),
         WorldCommand::Trial(trial) => drawn_events(alloc, bus, trial),
     }
 }

@@ -2,7 +2,8 @@
 ghost use Rattle.std.specs.Prelude.{◌≡◌, map};
 ghost use Rattle.program_edge.specs.Endings.{EndsInRow};
 ghost use Rattle.bus_config.specs.Buses.{IsNamedBus};
-ghost use Rattle.bus_commands.specs.Steps.{AreEvents, AnswersTrial, TellsSummary};
+ghost use Rattle.bus_programs.specs.Scripts.{AreEvents};
+ghost use Rattle.bus_commands.specs.Steps.{AnswersTrial, TellsSummary};
 
 use crate::laws::trials_are_runs;
 use crate::summary::Summary;

@@ -1,8 +1,11 @@
 //! The arguments of the command line.
-ghost use Rattle.std.specs.Prelude.{◌≡◌, ◌↔◌, ℕ, List, map, string_bytes, codes, IsTrue, IfSome, IfNone};
-ghost use Rattle.bus_commands.specs.Words.{Asks, NamesCommand, NamesBusCommand, NamesCommandOfFour, AsksNothing};
-ghost use Rattle.bus_commands.specs.Words.{NamesConfig, NamesScript, NamesDisk, AreInput};
+ghost use Rattle.std.specs.Prelude.{◌≡◌, ◌↔◌, ◌∷◌, [], None, ℕ, List, map, string_bytes, option_map, codes};
+ghost use Rattle.std.specs.Prelude.{IsTrue, IfSome, IfNone};
+ghost use Rattle.bus_commands.specs.Words.{NamesCommand, NamesBusCommand, NamesCommandOfFour, AreInput};
+ghost use Rattle.bus_commands.specs.Words.{Asks, IsAsked};
 ghost use Rattle.bus_commands.specs.declared.words.Command.{Command};
+ghost use Rattle.bus_commands.specs.declared.words.Command.TheVariants.{World};
+ghost use Rattle.bus_commands.specs.declared.words.WorldCommand.TheVariants.{Replay, Trial};
 
 use crate::trial_words::{TrialWords, trial_of};
 use bus_world::Start;
@@ -37,17 +40,144 @@ pub enum WorldCommand {
     Trial(TrialWords),
 }
 
-/// The command that the arguments ask for, the program's name left out. `B` and `F` may be any text.
-pub fn command_of(words: &[String]) -> Option<Command>
-    ensures found { IfSome result (Asks (map string_bytes words.now)) }
-    ensures none { IfNone result (AsksNothing (map string_bytes words.now)) }
+/// What the arguments ask for, and what they name.
+#[derive(Drop)]
+pub struct Asked<'a> {
+    /// The command. None if the arguments are malformed.
+    pub command: Option<Command>,
+    /// The argument that names the bus file. None if the command reads none, or the arguments are malformed.
+    pub config: Option<&'a str>,
+    /// The argument that names the lines: `-`, standard input, if there are no arguments. It is none for a trial, which
+    /// has no lines, and if the arguments are malformed. It is none, too, if the bus file is standard input and the
+    /// script is to be it as well.
+    pub script: Option<&'a str>,
+    /// The argument that names the file of the disk on which a bus goes on: `-` is a file of that name, too. None for
+    /// other arguments.
+    pub disk: Option<&'a str>,
+}
+
+/// What the arguments ask for, the program's name left out. `B` and `F` may be any text.
+pub fn asked_of(words: &[String]) -> Asked<'_>
+    ensures { IsAsked (map string_bytes words.now) result.command (option_map (λ w. w.now) result.config)
+        (option_map (λ w. w.now) result.script) (option_map (λ w. w.now) result.disk) }
 {
     match words {
-        [] => Some(Command::Lines(LineCommand::Frame)),
-        [name, _file] => over_lines(name.as_str()),
-        [name, _bus, _file] => over_a_bus(name.as_str()),
-        [name, _bus, third, fourth] => of_four(name.as_str(), third.as_str(), fourth.as_str()),
-        _ => None,
+        [] => Asked {
+            command: Some(Command::Lines(LineCommand::Frame)),
+            config: None,
+            script: Some("-"),
+            disk: None,
+        },
+        [name, file] => asked_of_two(name.as_str(), file.as_str()),
+        [name, bus, file] => asked_of_three(name.as_str(), bus.as_str(), file.as_str()),
+        [name, bus, third, fourth] => asked_of_four(
+            name.as_str(),
+            bus.as_str(),
+            third.as_str(),
+            fourth.as_str(),
+        ),
+        _ => nothing(),
+    }
+}
+
+/// What malformed arguments ask for.
+fn nothing<'a>() -> Asked<'a>
+    ensures command { result.command ≡ None }
+    ensures config { option_map (λ w. w.now) result.config ≡ None }
+    ensures script { option_map (λ w. w.now) result.script ≡ None }
+    ensures disk { option_map (λ w. w.now) result.disk ≡ None }
+{
+    Asked {
+        command: None,
+        config: None,
+        script: None,
+        disk: None,
+    }
+}
+
+/// What two arguments ask for: a command's name, and the file of its lines.
+fn asked_of_two<'a>(name: &str, file: &'a str) -> Asked<'a>
+    ensures { IsAsked (name.now ∷ file.now ∷ []) result.command (option_map (λ w. w.now) result.config)
+        (option_map (λ w. w.now) result.script) (option_map (λ w. w.now) result.disk) }
+{
+    match over_lines(name) {
+        None => nothing(),
+        Some(command) => Asked {
+            command: Some(command),
+            config: None,
+            script: Some(file),
+            disk: None,
+        },
+    }
+}
+
+/// What three arguments ask for: a command's name, the bus file and the script.
+fn asked_of_three<'a>(name: &str, bus: &'a str, file: &'a str) -> Asked<'a>
+    ensures { IsAsked (name.now ∷ bus.now ∷ file.now ∷ []) result.command (option_map (λ w. w.now) result.config)
+        (option_map (λ w. w.now) result.script) (option_map (λ w. w.now) result.disk) }
+{
+    match over_a_bus(name) {
+        None => nothing(),
+        Some(command) => Asked {
+            command: Some(command),
+            config: Some(bus),
+            script: beside(bus, file),
+            disk: None,
+        },
+    }
+}
+
+/// What four arguments ask for: a command's name, the bus file, and the script and the disk on which a bus goes on, or a
+/// number of events and a seed.
+fn asked_of_four<'a>(name: &str, bus: &'a str, third: &'a str, fourth: &'a str) -> Asked<'a>
+    ensures { IsAsked (name.now ∷ bus.now ∷ third.now ∷ fourth.now ∷ []) result.command
+        (option_map (λ w. w.now) result.config) (option_map (λ w. w.now) result.script)
+        (option_map (λ w. w.now) result.disk) }
+{
+    match of_four(name, third, fourth) {
+        None => nothing(),
+        Some(command) => with_world(command, bus, third, fourth),
+    }
+}
+
+/// What four arguments ask for, if the first, the third and the fourth ask for this command.
+fn with_world<'a>(command: WorldCommand, bus: &'a str, third: &'a str, fourth: &'a str) -> Asked<'a>
+    ensures { (name : List ℕ) → Asks (name ∷ bus.now ∷ third.now ∷ fourth.now ∷ []) (World command)
+        → IsAsked (name ∷ bus.now ∷ third.now ∷ fourth.now ∷ []) result.command (option_map (λ w. w.now) result.config)
+        (option_map (λ w. w.now) result.script) (option_map (λ w. w.now) result.disk) }
+{
+    match command {
+        WorldCommand::Replay(start) => with_disk(start, bus, third, fourth),
+        WorldCommand::Trial(trial) => with_trial(trial, bus),
+    }
+}
+
+/// What they ask for if a bus goes on over its disk.
+fn with_disk<'a>(start: Start, bus: &'a str, file: &'a str, disk: &'a str) -> Asked<'a>
+    ensures { (name : List ℕ) → Asks (name ∷ bus.now ∷ file.now ∷ disk.now ∷ []) (World (Replay start))
+        → IsAsked (name ∷ bus.now ∷ file.now ∷ disk.now ∷ []) result.command (option_map (λ w. w.now) result.config)
+        (option_map (λ w. w.now) result.script) (option_map (λ w. w.now) result.disk) }
+{
+    let script = beside(bus, file);
+    Asked {
+        command: Some(Command::World(WorldCommand::Replay(start))),
+        config: Some(bus),
+        script,
+        disk: Some(disk),
+    }
+}
+
+/// What they ask for if it is a trial.
+fn with_trial(trial: TrialWords, bus: &str) -> Asked<'_>
+    ensures { (name third fourth : List ℕ) → Asks (name ∷ bus.now ∷ third ∷ fourth ∷ []) (World (Trial trial))
+        → IsAsked (name ∷ bus.now ∷ third ∷ fourth ∷ []) result.command (option_map (λ w. w.now) result.config)
+        (option_map (λ w. w.now) result.script) (option_map (λ w. w.now) result.disk) }
+{
+    Asked {
+        command: Some(Command::World(WorldCommand::Trial(trial))),
+        config: Some(bus),
+        script: None,
+        disk: None,
     }
 }
 
@@ -76,15 +206,15 @@ fn over_a_bus(name: &str) -> Option<Command>
 }
 
 /// The command of this name that reads a bus file, and a script and a disk, or a number of events and a seed.
-fn of_four(name: &str, third: &str, fourth: &str) -> Option<Command>
-    ensures found { IfSome result (NamesCommandOfFour name.now third.now fourth.now) }
+fn of_four(name: &str, third: &str, fourth: &str) -> Option<WorldCommand>
+    ensures found { IfSome result (λ c. NamesCommandOfFour name.now third.now fourth.now (World c)) }
     ensures none { IfNone result ((command : Command) → ¬ NamesCommandOfFour name.now third.now fourth.now command) }
 {
     if is_node(name) {
-        return Some(Command::World(WorldCommand::Replay(Start::Attach)));
+        return Some(WorldCommand::Replay(Start::Attach));
     }
     match trial_of(name, third, fourth) {
-        Some(trial) => Some(Command::World(WorldCommand::Trial(trial))),
+        Some(trial) => Some(WorldCommand::Trial(trial)),
         None => None,
     }
 }
@@ -94,52 +224,6 @@ fn is_node(name: &str) -> bool
     ensures { IsTrue result ↔ (name.now ≡ codes "node") }
 {
     name == "node"
-}
-
-/// The word that names the bus file. None if the command reads none, or the arguments are malformed.
-pub fn config_word(words: &[String]) -> Option<&str>
-    ensures some { IfSome result (λ word. NamesConfig (map string_bytes words.now) word.now) }
-    ensures none { IfNone result ((word : List ℕ) → ¬ NamesConfig (map string_bytes words.now) word) }
-{
-    match words {
-        [name, bus, _file] if over_a_bus(name.as_str()).is_some() => Some(bus.as_str()),
-        [name, bus, third, fourth]
-            if of_four(name.as_str(), third.as_str(), fourth.as_str()).is_some() => {
-            Some(bus.as_str())
-        }
-        _ => None,
-    }
-}
-
-/// The argument that names the lines: `-`, standard input, if there are no arguments. It is none for a trial, which has
-/// no lines, and if the arguments are malformed. It is none, too, if the bus file is standard input and the script is
-/// to be it as well.
-pub fn script_word(words: &[String]) -> Option<&str>
-    ensures some { IfSome result (λ word. NamesScript (map string_bytes words.now) word.now) }
-    ensures none { IfNone result ((word : List ℕ) → ¬ NamesScript (map string_bytes words.now) word) }
-{
-    match words {
-        [] => Some("-"),
-        [name, file] if over_lines(name.as_str()).is_some() => Some(file.as_str()),
-        [name, bus, file] if over_a_bus(name.as_str()).is_some() => beside(
-            bus.as_str(),
-            file.as_str(),
-        ),
-        [name, bus, file, _disk] if is_node(name.as_str()) => beside(bus.as_str(), file.as_str()),
-        _ => None,
-    }
-}
-
-/// The word that names the file of the disk on which a bus goes on: `-` is a file of that name, too. None for other
-/// arguments.
-pub fn disk_word(words: &[String]) -> Option<&str>
-    ensures some { IfSome result (λ word. NamesDisk (map string_bytes words.now) word.now) }
-    ensures none { IfNone result ((word : List ℕ) → ¬ NamesDisk (map string_bytes words.now) word) }
-{
-    match words {
-        [name, _bus, _file, disk] if is_node(name.as_str()) => Some(disk.as_str()),
-        _ => None,
-    }
 }
 
 /// The script's word, unless both words are standard input.

@@ -1,30 +1,75 @@
-use Rattle.std.proofs.Common.{map, string_bytes, refl}
-use Rattle.program_edge.specs.NamedSources.{word_source}
-use Rattle.bus_commands.specs.Words.{NamesConfig, NamesScript}
-use Rattle.bus_commands.specs.Inputs.{BusInputs}
-use Rattle.bus_commands.proofs.Naming.{the_word}
+use Rattle.std.proofs.Common.{map, refl}
+use Rattle.std.specs.Prelude.{string_bytes}
+use Rattle.bus_world.specs.declared.start.Start.TheVariants.{Attach}
+use Rattle.bus_commands.specs.declared.words.WorldCommand.TheVariants.{Replay}
+use Rattle.bus_commands.specs.Named.{ran_in_memory, ran_over_disk, wanted_disks}
+use Rattle.bus_commands.proofs.AskedWords.{names_node}
+use Rattle.bus_commands.proofs.OfWords.{runs_opened, words_usage, words_usage_only, words_start}
 use Rattle.bus_commands.proofs.start.bus_words.Goals as goal
 
-pub returns : goal.returns
-returns g c =
-    let state = word_source g.O.Opened.Source.state g.I.Source.state in
-    let words = map string_bytes c.args.words.now in
-    let i : BusInputs = record {
-      words = words;
-      config = record { before = state c.open_both-config.result.0; after = state c.run-status.new.config };
-      script = record { before = state c.open_both-config.result.1; after = state c.run-status.new.script };
-    } in (
-      i,
-      record {
-        words_are = refl;
-        config = _;
-        script = _;
-        names_config = the_word (λ w. w.now) (NamesConfig words) c.config_word.result c.config_word.ensures.some c.config_word.ensures.none;
-        names_script = the_word (λ w. w.now) (NamesScript words) c.script_word.result c.script_word.ensures.some c.script_word.ensures.none;
-        named = c.open_both-config.ensures.named;
-        left = c.open_both-config.ensures.left;
-      },
-      refl,
-      refl,
-      (c.run-status.ensures.promises, c.run-status.ensures.headline),
-    )
+-- ---- over the disk that a word names
+
+pub returns-in-Ok-clause-words : goal.returns-in-Ok-clause-words
+returns-in-Ok-clause-words g c =
+    ran_over_disk (runs_opened g.P.Opened.Disk.state _ _ _ _ _ _ _ c.in-Some.path.now c.in-Ok.disks (rw c.in-Some.is at c.asked_of-asked.ensures.names_disk) c.in-Ok.ensures.disk
+    c.in-Ok.ensures.noted (c.run_over-status.ensures (map string_bytes c.args.words.now) c.asked_of-asked.ensures))
+
+pub returns-in-Ok-clause-usage : goal.returns-in-Ok-clause-usage
+returns-in-Ok-clause-usage g c = words_usage _ _ _ _ _ _ _ _ (returns-in-Ok-clause-words g c)
+
+pub returns-in-Ok-clause-usage_only : goal.returns-in-Ok-clause-usage_only
+returns-in-Ok-clause-usage_only g c = words_usage_only _ _ _ _ _ _ _ _ (returns-in-Ok-clause-words g c)
+
+pub returns-in-Ok-clause-starts : goal.returns-in-Ok-clause-starts
+returns-in-Ok-clause-starts g c = words_start _ _ _ _ _ _ _ _ (returns-in-Ok-clause-words g c)
+
+pub returns-in-Err-clause-words : goal.returns-in-Err-clause-words
+returns-in-Err-clause-words g c = wanted_disks c.in-Err.ensures.unopened c.without_memory.ensures.disks (record {
+  asks = (Replay Attach, names_node (map string_bytes c.args.words.now) c.in-Some.path.now (rw c.in-Some.is at c.asked_of-asked.ensures.names_disk));
+  wants = record {
+    status_is = c.without_memory.ensures.status;
+    unwritten = refl;
+    unopened = refl;
+    config_missing = c.without_memory.ensures.config;
+    script_missing = c.without_memory.ensures.script;
+  };
+})
+
+pub returns-in-Err-clause-usage_only : goal.returns-in-Err-clause-usage_only
+returns-in-Err-clause-usage_only g c = words_usage_only _ _ _ _ _ _ _ _ (returns-in-Err-clause-words g c)
+
+-- ---- over disks in memory
+
+pub returns-in-Ok-disks_for-clause-words : goal.returns-in-Ok-disks_for-clause-words
+returns-in-Ok-disks_for-clause-words g c = ran_in_memory refl c.new.ensures.items (record {
+  no_disk = rw c.in-None.is at c.asked_of-asked.ensures.names_disk;
+  made = c.in-Ok-disks_for.disks;
+  used = c.run_over-status-in-Ok-disks_for.new.disks;
+  given = c.in-Ok-disks_for.ensures.given (map string_bytes c.args.words.now) c.asked_of-asked.ensures.asks;
+  over = c.run_over-status-in-Ok-disks_for.ensures (map string_bytes c.args.words.now) c.asked_of-asked.ensures;
+})
+
+pub returns-in-Ok-disks_for-clause-usage : goal.returns-in-Ok-disks_for-clause-usage
+returns-in-Ok-disks_for-clause-usage g c = words_usage _ _ _ _ _ _ _ _ (returns-in-Ok-disks_for-clause-words g c)
+
+pub returns-in-Ok-disks_for-clause-usage_only : goal.returns-in-Ok-disks_for-clause-usage_only
+returns-in-Ok-disks_for-clause-usage_only g c = words_usage_only _ _ _ _ _ _ _ _ (returns-in-Ok-disks_for-clause-words g c)
+
+pub returns-in-Ok-disks_for-clause-starts : goal.returns-in-Ok-disks_for-clause-starts
+returns-in-Ok-disks_for-clause-starts g c = words_start _ _ _ _ _ _ _ _ (returns-in-Ok-disks_for-clause-words g c)
+
+pub returns-in-Err-disks_for-clause-words : goal.returns-in-Err-disks_for-clause-words
+returns-in-Err-disks_for-clause-words g c =
+    wanted_disks refl c.without_memory-in-Err-disks_for.ensures.disks (record {
+      asks = c.in-Err-disks_for.ensures.wanted (map string_bytes c.args.words.now) c.asked_of-asked.ensures.asks;
+      wants = record {
+        status_is = c.without_memory-in-Err-disks_for.ensures.status;
+        unwritten = refl;
+        unopened = refl;
+        config_missing = c.without_memory-in-Err-disks_for.ensures.config;
+        script_missing = c.without_memory-in-Err-disks_for.ensures.script;
+      };
+    })
+
+pub returns-in-Err-disks_for-clause-usage_only : goal.returns-in-Err-disks_for-clause-usage_only
+returns-in-Err-disks_for-clause-usage_only g c = words_usage_only _ _ _ _ _ _ _ _ (returns-in-Err-disks_for-clause-words g c)

@@ -1,0 +1,167 @@
+-- What comes of the arguments: the usage line for malformed ones alone, 9 and 10 for `node` alone, and `node` over the
+-- disk that its last argument opens is one run
+use Rattle.std.specs.Prelude.{◌≡◌, ◌⊎◌, ◌≤◌, ℕ, List, [], ◌∷◌, ◌++◌, length, map, Vec, Result}
+use Rattle.std.specs.declared.alloc.Global.{Global}
+use Rattle.std.proofs.Common.{refl, ap, sym, subst, arith, inl, inr}
+use Rattle.bus_port.specs.Source.{SourceState}
+use Rattle.cut_disk.specs.State.{DiskState}
+use Rattle.cut_disk.specs.declared.mem_disk.MemDisk.{MemDisk}
+use Rattle.file_disk.specs.NamedDisks.{IsOpenedBy, TellsFirmBytes, OpenedByWords}
+use Rattle.run_driver.specs.declared.printing.Unwritten.{Unwritten}
+use Rattle.bus_machine.specs.declared.events.Event.{Event}
+use Rattle.bus_config.specs.Buses.{NamedBus, IsNamedBus}
+use Rattle.bus_world.specs.declared.start.Start.{Start}
+use Rattle.bus_world.specs.declared.start.Start.TheVariants.{Format, Attach}
+use Rattle.bus_world.specs.declared.start.StartFault.{StartFault}
+use Rattle.bus_world.specs.Starts.{HasRoom, FindsRoom}
+use Rattle.bus_world.specs.StartAnswers.{DiskStates}
+use Rattle.bus_world.specs.StartRows.{LeavesEach, StoreCause}
+use Rattle.program_edge.specs.Endings.{Ending}
+use Rattle.program_edge.specs.NamedSources.{Openings}
+use Rattle.bus_programs.specs.Blank.{disk_states}
+use Rattle.bus_programs.specs.BlankLaws.{blank_has_room, blank_no_cause}
+use Rattle.bus_programs.specs.Inputs.{BusInputs}
+use Rattle.bus_programs.specs.Named.{SourcesBack}
+use Rattle.bus_commands.specs.declared.words.Command.TheVariants.{World}
+use Rattle.bus_commands.specs.declared.words.WorldCommand.{WorldCommand}
+use Rattle.bus_commands.specs.declared.words.WorldCommand.TheVariants.{Replay, Trial}
+use Rattle.bus_commands.specs.Words.{Asks, AsksNothing, NamesDisk}
+use Rattle.bus_commands.specs.Inputs.{start_of, OverWorld, SetsWorld}
+use Rattle.bus_commands.specs.StartRows.{CommandDisks, disks_between}
+use Rattle.bus_commands.specs.Rows.{DoneReplay, ReplaysScript}
+use Rattle.bus_commands.specs.Commands.{TellFirm, RunsBus}
+use Rattle.bus_commands.specs.Named.{RunsOver, AreGiven, made_disks, RunsGiven, NodeIsRun, RunsOpened}
+use Rattle.bus_commands.specs.Named.{RunsNamed, ran_in_memory, ran_over_disk, wanted_disks}
+use Rattle.bus_commands.proofs.Asking.{asks_one, same_start}
+use Rattle.bus_commands.proofs.AskedWords.{names_node}
+use Rattle.bus_commands.proofs.Headlines.{written_run}
+
+-- ---- the words of `node`
+
+-- words that ask for `node` name a disk
+node_names : (words : List (List ℕ)) → Asks words (World (Replay Attach)) → (name : List ℕ) × NamesDisk words name
+node_names [] asks = absurd asks
+node_names (word ∷ []) asks = absurd asks
+node_names (word ∷ file ∷ []) asks = absurd asks
+node_names (word ∷ bus ∷ file ∷ []) asks = absurd asks
+node_names (word ∷ bus ∷ file ∷ disk ∷ []) asks = (disk, (asks, refl))
+node_names (word ∷ bus ∷ file ∷ disk ∷ more ∷ words) asks = absurd asks
+
+-- so each run over disks that are made formats them
+formats : (words : List (List ℕ)) (c : WorldCommand) → Asks words (World c)
+    → ((name : List ℕ) → ¬ NamesDisk words name) → start_of c ≡ Format
+formats words (Replay Format) asks none = refl
+formats words (Replay Attach) asks none = let node = node_names words asks in absurd (none node.0 node.1)
+formats words (Trial trial) asks none = refl
+
+-- ---- over disks in memory
+
+never_9 : (i : BusInputs) (disks : List MemDisk) (after : List DiskState) (P : StartFault → Type 0)
+    → AreGiven i.words disks
+    → OverWorld i (λ start bus events. IsNamedBus bus × (after ≡ disk_states disks)
+    × ((fault : StartFault) × FindsRoom bus (disk_states disks) fault × P fault)) → ⊥
+never_9 i disks after P given (c, bus, events, set, (is, same, (fault, finds, told))) =
+    blank_has_room 8 65536 disks bus fault is.most (omega arith) (given.0 (c, set.asks)) is finds
+
+never_10 : (i : BusInputs) (disks : List MemDisk) (after : List DiskState) (P : StartFault → Type 0)
+    → AreGiven i.words disks → ((name : List ℕ) → ¬ NamesDisk i.words name)
+    → OverWorld i (λ start bus events. HasRoom bus (disk_states disks)
+    × LeavesEach start bus (disk_states disks) after
+    × ((fault : StartFault) × StoreCause start bus (disk_states disks) after fault × P fault)) → ⊥
+never_10 i disks after P given none (c, bus, events, set, (room, left, (fault, cause, told))) =
+    blank_no_cause 8 65536 disks bus after fault (given.0 (c, set.asks))
+    (subst (λ (s : Start). StoreCause s bus (disk_states disks) after fault) (formats i.words c set.asks none) cause)
+
+given_starts : (opens : List ℕ → SourceState → Type 0) (before after : Openings) (back : SourcesBack)
+    (words : List (List ℕ)) (e : Ending)
+    → RunsGiven opens before after back words e → (e.status ≡ 9) ⊎ (e.status ≡ 10) → ⊥
+given_starts opens before after back words e ran (inl nine) =
+    let given = subst (λ (w : List (List ℕ)). AreGiven w ran.made.items) (sym ran.over.words_are) ran.given in
+    never_9 ran.over.inputs ran.made.items (disk_states ran.used.items) _ given (ran.over.runs.0.disks_refused nine)
+given_starts opens before after back words e ran (inr ten) =
+    let given = subst (λ (w : List (List ℕ)). AreGiven w ran.made.items) (sym ran.over.words_are) ran.given in
+    let none =
+        subst (λ (w : List (List ℕ)). (name : List ℕ) → ¬ NamesDisk w name) (sym ran.over.words_are) ran.no_disk in
+    never_10 ran.over.inputs ran.made.items (disk_states ran.used.items) _ given none
+    (ran.over.runs.0.store_refused ten)
+
+-- ---- over a disk that tells its bytes
+
+-- one disk that tells its bytes serves one node
+one_tells : (bus : NamedBus) (disk : DiskState) → TellsFirmBytes disk → length bus.nodes ≤ 1 → TellFirm bus (disk ∷ [])
+one_tells bus disk tells one i d few =
+    let first : i ≡ 0 = omega (arith, one, few) in
+    rw first (tells.bytes, tells.told)
+
+opened_tell : (bus : NamedBus) (disks : List DiskState) (disk : DiskState) → disks ≡ disk ∷ [] → TellsFirmBytes disk
+    → length bus.nodes ≤ length disks → TellFirm bus disks
+opened_tell bus disks disk one tells enough =
+    let few : length bus.nodes ≤ 1 = omega (arith, enough, ap length one) in
+    subst (λ (ds : List DiskState). TellFirm bus ds) (sym one) (one_tells bus disk tells few)
+
+module _ (i : BusInputs) (d : DiskStates) (e : Ending) (result : Result (Unit {0}) Unwritten) (disk : DiskState)
+    (one : d.before ≡ disk ∷ []) (tells : TellsFirmBytes disk) where
+  done_run : (how : Start) (bus : NamedBus) (events : List Event) → how ≡ Attach
+      → SetsWorld i (Replay how) bus events → DoneReplay how bus events d e result → NodeIsRun i d e result
+  done_run Format bus events is set done = absurd (cc)
+  done_run Attach bus events is set done =
+      let over = done.one_run (opened_tell bus d.before disk one tells done.ran.started.room.enough) in
+      (bus, events, set, (over.first, over.begins, written_run over.first bus d events e result over.replayed))
+
+  node_run : Asks i.words (World (Replay Attach)) → ReplaysScript i d e result → NodeIsRun i d e result
+  node_run asks (how, bus, events, set, done) =
+      let same = asks_one i.words (World (Replay how)) (World (Replay Attach)) set.asks asks in
+      done_run how bus events (same_start how Attach same) set done
+
+module _ {D : Type 0} (state : D → DiskState) (opens : List ℕ → SourceState → Type 0)
+    (opens_disk : List ℕ → DiskState → Type 0) (o : OpenedByWords) (back : SourcesBack) (left : Vec D Global)
+    (words : List (List ℕ)) (e : Ending) where
+  pub runs_opened : (name : List ℕ) (disks : Vec D Global) → NamesDisk words name
+      → IsOpenedBy opens_disk name (map state disks.items) → o.disks_after ≡ o.disks_before ++ name ∷ []
+      → RunsOver opens o.before o.after back words (disks_between state disks left) e
+      → RunsOpened state opens opens_disk o back left words e
+  runs_opened name disks names opened once over = record {
+    name = name;
+    disk_named = names;
+    disks = disks;
+    opened = opened;
+    opened_once = once;
+    over = over;
+    one_run = λ result. node_run over.inputs _ e result opened.disk opened.one opened.tells
+        (subst (λ (w : List (List ℕ)). Asks w (World (Replay Attach))) (sym over.words_are)
+        (names_node words name names));
+  }
+
+  -- ---- either
+
+  usage_of : {V : Type 0} (i : BusInputs) (d : CommandDisks V) → i.words ≡ words → RunsBus i d e → e.status ≡ 2
+      → AsksNothing words
+  usage_of i d are (command, machine) two = subst (λ (w : List (List ℕ)). AsksNothing w) are (command.usage_told two).0
+
+  pub words_usage : RunsNamed state opens opens_disk o back left words e → e.status ≡ 2 → AsksNothing words
+  words_usage (ran_in_memory none empty ran) two =
+      usage_of ran.over.inputs (made_disks ran.made ran.used) ran.over.words_are ran.over.runs two
+  words_usage (ran_over_disk ran) two = usage_of ran.over.inputs _ ran.over.words_are ran.over.runs two
+  words_usage (wanted_disks none empty wants) two =
+      absurd (let no : ⊥ = omega (arith, wants.wants.status_is, two) in no)
+
+  usage_only_of : {V : Type 0} (i : BusInputs) (d : CommandDisks V) → i.words ≡ words → RunsBus i d e
+      → AsksNothing words → (e.status ≡ 2) ⊎ (e.status ≡ 6)
+  usage_only_of i d are (command, machine) nothing =
+      command.usage_only (subst (λ (w : List (List ℕ)). AsksNothing w) (sym are) nothing)
+
+  pub words_usage_only : RunsNamed state opens opens_disk o back left words e → AsksNothing words
+      → (e.status ≡ 2) ⊎ (e.status ≡ 6)
+  words_usage_only (ran_in_memory none empty ran) nothing =
+      usage_only_of ran.over.inputs (made_disks ran.made ran.used) ran.over.words_are ran.over.runs nothing
+  words_usage_only (ran_over_disk ran) nothing =
+      usage_only_of ran.over.inputs _ ran.over.words_are ran.over.runs nothing
+  words_usage_only (wanted_disks none empty wants) nothing = absurd (nothing (World wants.asks.0) wants.asks.1)
+
+  pub words_start : RunsNamed state opens opens_disk o back left words e → (e.status ≡ 9) ⊎ (e.status ≡ 10)
+      → Asks words (World (Replay Attach))
+  words_start (ran_in_memory none empty ran) refused =
+      absurd (given_starts opens o.before o.after back words e ran refused)
+  words_start (ran_over_disk ran) refused = names_node words ran.name ran.disk_named
+  words_start (wanted_disks none empty wants) refused =
+      absurd (let no : ⊥ = omega (arith, wants.wants.status_is, refused) in no)

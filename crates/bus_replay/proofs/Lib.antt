@@ -1,4 +1,0 @@
-pub mod Blanks
-pub mod Wanting
-pub mod Given
-pub mod OverDisk
