@@ -1,6 +1,6 @@
 -- How a gateway ends gives all that it promises
-use Rattle.std.specs.Prelude.{◌≡◌, ◌≢◌, ◌⊎◌, ℕ, List, Result, Ok, Err, codes}
-use Rattle.std.proofs.Common.{refl, subst, arith, inl, inr}
+use Rattle.std.specs.Prelude.{◌≡◌, ◌≢◌, ◌⊎◌, ℕ, List, drop, length, Result, Ok, Err, codes}
+use Rattle.std.proofs.Common.{refl, ap, subst, arith, inl, inr}
 use Rattle.program_edge.specs.Input.{input_fault_status}
 use Rattle.program_edge.specs.Told.{EndingTold}
 use Rattle.program_edge.specs.declared.input.InputFault.{InputFault}
@@ -12,6 +12,7 @@ use Rattle.program_edge.specs.Inputs.{IsUnread, CountsFault, CountsTooMuch, Offe
 use Rattle.program_edge.specs.InputLaws.{Offers-whole}
 use Rattle.program_edge.specs.Endings.{Ending, EndsInRow, PrintsWhole, PrintsFront, SinkFailed, CountsWriteFault}
 use Rattle.program_edge.specs.EndingLaws.{EndsInRow-at, EndsInRow-only, EndsInRow-may, EndsInRow-front, EndsInRow-rose, EndsInRow-done}
+use Rattle.cut_disk.specs.State.{DiskState}
 use Rattle.run_driver.specs.declared.printing.Unwritten.{Unwritten}
 use Rattle.run_driver.specs.declared.printing.Unwritten.TheVariants as unwritten
 use Rattle.bus_config.specs.declared.fault.ConfigFault.{ConfigFault}
@@ -214,6 +215,17 @@ module _ (same : Type 0) (i : BusInputs) (d : DiskStates) (e : Ending) where
   row_done : EndsInRow Comes e → e.status ≡ 0 → Ended (Ok tt)
   row_done ends = EndsInRow-at ends 0 refl (λ row comes is well. absurd (row_not_0 row comes is))
 
+  -- no disk is lost, and all but the first are as before
+  abbrev DisksBack : Type 0
+  DisksBack = (length d.after ≡ length d.before) × (drop 1 d.after ≡ drop 1 d.before)
+
+  row_back : (same → d.after ≡ d.before) → (row : Row) → Comes row → DisksBack
+  row_back states row (without_disks _ comes as_before) =
+      (ap (λ (ds : List DiskState). length ds) (states as_before), ap (λ (ds : List DiskState). drop 1 ds) (states as_before))
+  row_back states row (not_started _ (bus, pairs, events, set, start) nine) =
+      let left = Comes-leaves Format bus d row start in
+      (left.count, subst (λ (n : ℕ). drop n d.after ≡ drop n d.before) set.set.takes.one left.rest)
+
   -- a disk that failed has its row, or events were done
   abbrev FailureTold : ℕ → Type 0
   FailureTold place = EndsInRow (λ row. row ≡ failed_row place) e
@@ -228,6 +240,8 @@ module _ (same : Type 0) (i : BusInputs) (d : DiskStates) (e : Ending) where
   of_row : (same → d.after ≡ d.before) → EndsInRow Comes e → RunsGateway same i d e
   of_row states ends = record {
     ends = in_row ends;
+    as_many = (row_back states ends.row ends.comes).0;
+    further = (row_back states ends.row ends.comes).1;
     disks_unused = unused ends;
     done = row_done ends;
     is_a_run = λ is. one_of (row_done ends is);
@@ -318,9 +332,14 @@ module _ (same : Type 0) (i : BusInputs) (d : DiskStates) (e : Ending) where
       → RefusesPairs bus pairs text → ⊥
   takes result (over, p, events, set, done) pairs bus text asks offers refuses = set_not_refused i bus over pairs p text set.set asks offers refuses
 
+  ran_back : (result : Result (Unit {0}) Unwritten) → Ended result → DisksBack
+  ran_back result (bus, pairs, events, set, done) = (done.stay.count, done.stay.rest)
+
   of_run : (result : Result (Unit {0}) Unwritten) → Ended result → RunsGateway same i d e
   of_run result over = record {
     ends = ran result over;
+    as_many = (ran_back result over).0;
+    further = (ran_back result over).1;
     disks_unused = λ low. absurd (let no : ⊥ = omega (arith, status_of result over, low) in no);
     done = done_0 result over;
     is_a_run = λ is. one_of (done_0 result over is);

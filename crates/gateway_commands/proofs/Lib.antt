@@ -10,3 +10,4 @@ pub mod Wording
 pub mod OneNode
 pub mod Lines
 pub mod Naming
+pub mod ExampleScript

@@ -1,12 +1,14 @@
--- The turns of a gateway over a disk that tells its bytes are a run of its machine, and what holds of it
-use Rattle.std.specs.Prelude.{◌≡◌, ℕ, ◌+◌, ◌≤◌, Some, List, [], ◌∷◌, length, drop, get_or, map, Result}
+-- What the turns of a gateway do to its disks; and those over a disk that tells its bytes are a run of its machine
+use Rattle.std.specs.Prelude.{◌≡◌, ℕ, ◌+◌, ◌≤◌, Bool, Some, List, [], ◌∷◌, length, drop, get_or, map, Result}
 use Rattle.std.proofs.Common.{sym, ap, ◌∙◌, subst, arith}
 use Rattle.std.proofs.lemmas.List.{length-drop}
 use Rattle.bus_port.specs.Sink.{SinkState}
 use Rattle.cut_disk.specs.State.{DiskState, Told, Entry}
+use Rattle.cut_disk.specs.Calls.{Later}
+use Rattle.cut_disk.specs.CallLaws.{later_of_runs, later_join, runs_none}
 use Rattle.cell_store.specs.declared.kinds.Layout.{Layout}
-use Rattle.any_cells.specs.Either.{layout}
-use Rattle.machine_runs.specs.Run.{Moment, Run, seen_as}
+use Rattle.cell_store.specs.Layout.{layout}
+use Rattle.machine_runs.specs.Run.{Moment, Run}
 use Rattle.machine_runs.specs.RunLaws.{Run-seen_as}
 use Rattle.run_driver.specs.declared.printing.Unwritten.{Unwritten}
 use Rattle.store_keeping.specs.DiskTurns.{DiskTurn, OpenedDisk, TellsBytes, TracedSince, FailuresTold}
@@ -29,7 +31,7 @@ use Rattle.bus_world.specs.declared.start.Start.TheVariants.{Format}
 use Rattle.bus_world.specs.Turns.{most_calls}
 use Rattle.bus_world.specs.Starts.{start_calls, Opened}
 use Rattle.secoc_gateway.specs.declared.gateway_lines.GatewayLine.{GatewayLine}
-use Rattle.secoc_gateway.specs.Gateway.{departs_under, EventStep, GatewayStep, GatewayMoments, GatewayRun}
+use Rattle.secoc_gateway.specs.Gateway.{departs_under, EventStep, GatewayStep, GatewayRun}
 use Rattle.secoc_gateway.specs.MachineLaws.{RunsForwardWhatArrived, ArrivalsRise, DeparturesRise}
 use Rattle.secoc_gateway.specs.State.{GatewayState, over}
 use Rattle.secoc_gateway.specs.Turns.{calls_under, most_gateway_calls, tells_gateway_failure, GatewayTurn}
@@ -39,7 +41,7 @@ use Rattle.gateway_commands.specs.Texts.{gateway_text}
 use Rattle.gateway_commands.specs.Inputs.{gate_config, gate_node}
 use Rattle.gateway_commands.specs.Runs.{RanGateway}
 use Rattle.bus_world.specs.StartRowLaws.{no_disk}
-use Rattle.gateway_commands.specs.Headline.{TellsFirst, FailuresAreCounted, OneGatewayRun}
+use Rattle.gateway_commands.specs.Headline.{TellsFirst, OneGatewayRun, GatewayDisksStay, gateway_seen}
 use Rattle.gateway_commands.proofs.Seen.{first_commands, written_as}
 
 -- the laws of the crates below, as their public functions ensure them
@@ -60,6 +62,66 @@ gate_sound (n ∷ ns) one sound = sound 0 (omega arith)
 first_sound : (laws : Laws) (bus : NamedBus) → IsNamedBus bus → length bus.nodes ≡ 1 → Sound (gate_node bus)
 first_sound laws bus is one = gate_sound bus.nodes one (laws.begin_first (configs_of bus) (laws.buses bus is)).0.sound
 
+-- ---- the disks, whether the first tells its bytes or not
+
+abbrev GatewayMoment : Type 0
+GatewayMoment = Moment Event GatewayLine GatewayState
+
+abbrev node_in : GatewayState → Node
+node_in g = g.node
+
+abbrev disk_in : GatewayState → DiskState
+disk_in g = g.store.disk
+
+abbrev fails_with : Event → GatewayLine → Bool
+fails_with e line = tells_gateway_failure line
+
+opened_disk : (bus : NamedBus) (before : DiskState) (n : NodeState) → Opened Format bus.kind bus.version (gate_config bus) before n
+    → OpenedDisk (start_calls Format bus.kind (gate_config bus)) before n.store.disk
+opened_disk bus before n opened = record { runs = opened.runs; grows = opened.grows; faults = opened.faults }
+
+count_back : (disk : DiskState) (before : List DiskState) → 1 ≤ length before → length (disk ∷ drop 1 before) ≡ length before
+count_back disk before some = omega (arith, some, length-drop 1 before)
+
+module _ (keep : GatewayTurnsKeep) (pairs : List (ℕ × ℕ)) where
+  -- the most calls are those of the pairs and of the configuration, which stay
+  same_calls : (s t : GatewayState) (e : Event) → s.pairs ≡ pairs → t.node.config ≡ s.node.config → most_gateway_calls s.pairs s.node e ≡ most_gateway_calls pairs t.node e
+  same_calls s t e same config =
+      ap (λ (ps : List (ℕ × ℕ)). most_gateway_calls ps s.node e) same
+      ∙ ap (λ (c : Config). calls_under (departs_under pairs e) (most_calls (14 + length c.routes) (mark_of e))) (sym config)
+
+  paired_turn : (s : GatewayState) (e : Event) (line : GatewayLine) (t : GatewayState) → s.pairs ≡ pairs → GatewayTurn s e line t
+      → DiskTurn (mark_of e) (most_gateway_calls pairs (node_in t) e) (fails_with e line) (disk_in s) (disk_in t) × (t.pairs ≡ pairs)
+  paired_turn s e line t same turn =
+      let kept = keep s e line t turn in (
+        subst (λ (n : ℕ). DiskTurn (mark_of e) n (tells_gateway_failure line) s.store.disk t.store.disk) (same_calls s t e same kept.config) kept.disk,
+        kept.pairs ∙ same,
+      )
+
+  later_after : (s : GatewayState) (ms : List GatewayMoment) (t : GatewayState) → Run GatewayTurn s ms t → Later (disk_in s) (disk_in t)
+  later_after s [] t run = subst (λ (x : GatewayState). Later (disk_in s) (disk_in x)) (sym run) (later_of_runs (runs_none (disk_in s)))
+  later_after s (m ∷ ms) t run = later_join (later_of_runs (keep s m.command m.line m.after run.0).disk.runs) (later_after m.after ms t run.1)
+
+module _ (keep : GatewayTurnsKeep) (bus : NamedBus) (pairs : List (ℕ × ℕ)) (before after : List DiskState) (events : List Event)
+    (sink_before sink_after : SinkState) (result : Result (Unit {0}) Unwritten)
+    (ran : RanGateway bus pairs before after events sink_before sink_after result) where
+  disk_back : (d : DiskState) → get_or after 0 d ≡ ran.now.store.disk
+  disk_back d = ap (λ (disks : List DiskState). get_or disks 0 d) ran.disks
+
+  pub gateway_stays : GatewayDisksStay before after (gateway_seen ran.printed.moments)
+  gateway_stays = record {
+    later = λ d.
+        subst (λ (disk : DiskState). Later (get_or before 0 d) disk) (sym (disk_back d))
+        (later_join (later_of_runs (ran.opened d).runs) (later_after keep pairs ran.start ran.printed.moments ran.now ran.printed.run));
+    failures = λ d.
+        subst (λ (disk : DiskState). FailuresTold mark_of fails_with (gateway_seen ran.printed.moments) (get_or before 0 d) disk) (sym (disk_back d))
+        (failures_told GatewayTurn node_in disk_in mark_of (most_gateway_calls pairs) fails_with (λ (g : GatewayState). g.pairs ≡ pairs) (paired_turn keep pairs)
+        (start_calls Format bus.kind (gate_config bus)) (get_or before 0 d) ran.start ran.printed.moments ran.now (opened_disk bus (get_or before 0 d) (over ran.start) (ran.opened d))
+        ran.pairs_are ran.printed.run);
+    count = ap (λ (disks : List DiskState). length disks) ran.disks ∙ count_back ran.now.store.disk before (omega (arith, ran.room.enough, ran.takes.one));
+    rest = ap (λ (disks : List DiskState). drop 1 disks) ran.disks;
+  }
+
 -- ---- turns over a disk that tells its bytes
 
 -- what holds of the states that they reach
@@ -67,13 +129,6 @@ record Holds (l : Layout) (pairs : List (ℕ × ℕ)) (g : GatewayState) : Type 
   pub fitting : TellsFitting (over g)
   pub pairs_are : g.pairs ≡ pairs
   pub layout_is : g.store.layout ≡ l
-
-abbrev GatewayMoment : Type 0
-GatewayMoment = Moment Event GatewayLine GatewayState
-
--- the moments as those of the machine
-abbrev seen : List GatewayMoment → GatewayMoments
-seen ms = seen_as (λ (e : Event). e) (λ (g : GatewayState). g.node) ms
 
 module _ (keep : GatewayTurnsKeep) (l : Layout) (pairs : List (ℕ × ℕ)) where
   turn_holds : (s : GatewayState) (e : Event) (line : GatewayLine) (t : GatewayState) → Holds l pairs s → GatewayTurn s e line t → Holds l pairs t
@@ -88,19 +143,9 @@ module _ (keep : GatewayTurnsKeep) (l : Layout) (pairs : List (ℕ × ℕ)) wher
     turn_holds s e line t h turn,
   )
 
-  -- the most calls are those of the pairs and of the configuration, which stay
-  same_calls : (s t : GatewayState) (e : Event) → s.pairs ≡ pairs → t.node.config ≡ s.node.config → most_gateway_calls s.pairs s.node e ≡ most_gateway_calls pairs t.node e
-  same_calls s t e same config =
-      ap (λ (ps : List (ℕ × ℕ)). most_gateway_calls ps s.node e) same
-      ∙ ap (λ (c : Config). calls_under (departs_under pairs e) (most_calls (14 + length c.routes) (mark_of e))) (sym config)
-
   turn_disk : (s : GatewayState) (e : Event) (line : GatewayLine) (t : GatewayState) → Holds l pairs s → GatewayTurn s e line t
-      → DiskTurn (mark_of e) (most_gateway_calls pairs t.node e) (tells_gateway_failure line) s.store.disk t.store.disk × Holds l pairs t
-  turn_disk s e line t h turn =
-      let kept = keep s e line t turn in (
-        subst (λ (n : ℕ). DiskTurn (mark_of e) n (tells_gateway_failure line) s.store.disk t.store.disk) (same_calls s t e h.pairs_are kept.config) kept.disk,
-        turn_holds s e line t h turn,
-      )
+      → DiskTurn (mark_of e) (most_gateway_calls pairs (node_in t) e) (fails_with e line) (disk_in s) (disk_in t) × Holds l pairs t
+  turn_disk s e line t h turn = ((paired_turn keep pairs s e line t h.pairs_are turn).0, turn_holds s e line t h turn)
 
   run_holds : (start : GatewayState) (ms : List GatewayMoment) (now : GatewayState) → Holds l pairs start → Run GatewayTurn start ms now → Holds l pairs now
   run_holds start [] now h run = subst (Holds l pairs) (sym run) h
@@ -115,19 +160,10 @@ module _ (keep : GatewayTurnsKeep) (l : Layout) (pairs : List (ℕ × ℕ)) wher
 
 -- ---- the start
 
-opened_disk : (bus : NamedBus) (before : DiskState) (n : NodeState) → Opened Format bus.kind bus.version (gate_config bus) before n
-    → OpenedDisk (start_calls Format bus.kind (gate_config bus)) before n.store.disk
-opened_disk bus before n opened = record { runs = opened.runs; grows = opened.grows; faults = opened.faults }
-
 opened_fits : (bus : NamedBus) (before : DiskState) (n : NodeState) (t : Told) → Opened Format bus.kind bus.version (gate_config bus) before n → before.told ≡ Some t → TellsFitting n
 opened_fits bus before n t opened is =
     let now = told_before n.store.disk.told before.told (sym opened.runs.tells) t is in
     record { now = now.0; told = now.1; fits = opened.fits now.0 now.1 }
-
--- ---- the disks
-
-count_back : (disk : DiskState) (before : List DiskState) → 1 ≤ length before → length (disk ∷ drop 1 before) ≡ length before
-count_back disk before some = omega (arith, some, length-drop 1 before)
 
 -- ---- all of one run
 
@@ -157,55 +193,50 @@ module _ (laws : Laws) (bus : NamedBus) (pairs : List (ℕ × ℕ)) (before afte
   ends : Holds l pairs ran.now
   ends = run_holds laws.turns l pairs ran.start ms ran.now starts ran.printed.run
 
-  is_run : GatewayRun pairs (gate_node bus) (seen ms) ran.now.node
+  is_run : GatewayRun pairs (gate_node bus) (gateway_seen ms) ran.now.node
   is_run =
-      subst (λ (n : Node). GatewayRun pairs n (seen ms) ran.now.node) starts_first
-      (Run-seen_as GatewayTurn (GatewayStep EventStep pairs) (λ (e : Event). e) (λ (g : GatewayState). g.node) (Holds l pairs) (turn_steps laws.turns l pairs)
+      subst (λ (n : Node). GatewayRun pairs n (gateway_seen ms) ran.now.node) starts_first
+      (Run-seen_as GatewayTurn (GatewayStep EventStep pairs) (λ (e : Event). e) node_in (Holds l pairs) (turn_steps laws.turns l pairs)
       ran.start ms ran.now starts ran.printed.run)
 
   sound : Sound (gate_node bus)
   sound = first_sound laws bus ran.is_bus ran.takes.one
 
-  disk_back : (d : DiskState) → get_or after 0 d ≡ ran.now.store.disk
-  disk_back d = ap (λ (disks : List DiskState). get_or disks 0 d) ran.disks
+  stay : GatewayDisksStay before after (gateway_seen ms)
+  stay = gateway_stays laws.turns bus pairs before after events sink_before sink_after result ran
+
+  back : (d : DiskState) → get_or after 0 d ≡ ran.now.store.disk
+  back = disk_back laws.turns bus pairs before after events sink_before sink_after result ran
 
   fit : (d : DiskState) → (told : Told) × ((get_or after 0 d).told ≡ Some told) × FitsNode l ran.now.node told
   fit d =
       let now = tells_bytes laws.turns l pairs ran.now ends in
-      (now.now, ap (λ (disk : DiskState). disk.told) (disk_back d) ∙ now.told, now.fit)
+      (now.now, ap (λ (disk : DiskState). disk.told) (back d) ∙ now.told, now.fit)
 
   traced : (d : DiskState) (all : List Entry) → (get_or after 0 d).past ≡ Some all
-      → TracedSince mark_of (most_gateway_calls pairs) (FitsNode l) (gate_node bus) (seen ms) (get_or before 0 d) all
+      → TracedSince mark_of (most_gateway_calls pairs) (FitsNode l) (gate_node bus) (gateway_seen ms) (get_or before 0 d) all
   traced d all told =
-      subst (λ (n : Node). TracedSince mark_of (most_gateway_calls pairs) (FitsNode l) n (seen ms) (get_or before 0 d) all) starts_first
-      (traced_since GatewayTurn (λ (g : GatewayState). g.node) (λ (g : GatewayState). g.store.disk) mark_of (most_gateway_calls pairs)
-      (λ (e : Event) (line : GatewayLine). tells_gateway_failure line) (Holds l pairs) (turn_disk laws.turns l pairs) (FitsNode l) (tells_bytes laws.turns l pairs)
+      subst (λ (n : Node). TracedSince mark_of (most_gateway_calls pairs) (FitsNode l) n (gateway_seen ms) (get_or before 0 d) all) starts_first
+      (traced_since GatewayTurn node_in disk_in mark_of (most_gateway_calls pairs)
+      fails_with (Holds l pairs) (turn_disk laws.turns l pairs) (FitsNode l) (tells_bytes laws.turns l pairs)
       (start_calls Format bus.kind (gate_config bus)) (get_or before 0 d) ran.start ms ran.now (opened_disk bus (get_or before 0 d) (over ran.start) (ran.opened d))
-      starts ran.printed.run all (ap (λ (disk : DiskState). disk.past) (sym (disk_back d)) ∙ told))
-
-  failures : FailuresAreCounted before after (seen ms)
-  failures d =
-      subst (λ (disk : DiskState). FailuresTold mark_of (λ (e : Event) (line : GatewayLine). tells_gateway_failure line) (seen ms) (get_or before 0 d) disk) (sym (disk_back d))
-      (failures_told GatewayTurn (λ (g : GatewayState). g.node) (λ (g : GatewayState). g.store.disk) mark_of (most_gateway_calls pairs)
-      (λ (e : Event) (line : GatewayLine). tells_gateway_failure line) (Holds l pairs) (turn_disk laws.turns l pairs)
-      (start_calls Format bus.kind (gate_config bus)) (get_or before 0 d) ran.start ms ran.now (opened_disk bus (get_or before 0 d) (over ran.start) (ran.opened d))
-      starts ran.printed.run)
+      starts ran.printed.run all (ap (λ (disk : DiskState). disk.past) (sym (back d)) ∙ told))
 
   pub one_run : OneGatewayRun bus pairs before after events sink_before sink_after result
   one_run = record {
-    moments = seen ms;
+    moments = gateway_seen ms;
     last = ran.now.node;
     is_a_run = is_run;
-    first = first_commands (λ (g : GatewayState). g.node) ms events ran.printed.first;
-    written = written_as (λ (g : GatewayState). g.node) gateway_text ms events sink_before sink_after result ran.printed.holds;
-    forwards_what_arrived = laws.forwards pairs (gate_node bus) (seen ms) ran.now.node sound is_run;
-    arrivals_rise = laws.arrivals pairs (gate_node bus) (seen ms) ran.now.node sound is_run;
-    departures_rise = laws.departures pairs (gate_node bus) (seen ms) ran.now.node sound is_run;
+    first = first_commands node_in ms events ran.printed.first;
+    written = written_as node_in gateway_text ms events sink_before sink_after result ran.printed.holds;
+    forwards_what_arrived = laws.forwards pairs (gate_node bus) (gateway_seen ms) ran.now.node sound is_run;
+    arrivals_rise = laws.arrivals pairs (gate_node bus) (gateway_seen ms) ran.now.node sound is_run;
+    departures_rise = laws.departures pairs (gate_node bus) (gateway_seen ms) ran.now.node sound is_run;
     disks = record {
       fit = fit;
-      count = ap (λ (disks : List DiskState). length disks) ran.disks ∙ count_back ran.now.store.disk before (omega (arith, ran.room.enough, ran.takes.one));
-      rest = ap (λ (disks : List DiskState). drop 1 disks) ran.disks;
+      count = stay.count;
+      rest = stay.rest;
       traced = traced;
     };
-    failures = failures;
+    failures = stay.failures;
   }

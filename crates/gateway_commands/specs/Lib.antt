@@ -7,3 +7,4 @@ pub mod Rows
 pub mod Promises
 pub mod Named
 pub mod Steps
+pub mod ExampleEvents

@@ -1,5 +1,5 @@
 -- What a gateway promises
-use Rattle.std.specs.Prelude.{◌≡◌, ◌⊎◌, ℕ, List, [], Result, Ok, Err, codes}
+use Rattle.std.specs.Prelude.{◌≡◌, ◌⊎◌, ℕ, List, [], drop, length, Result, Ok, Err, codes}
 use Rattle.program_edge.specs.declared.input.InputFault.TheVariants.{ReadFault, TooLong}
 use Rattle.text_lines.specs.Readings.{Fault}
 use Rattle.text_lines.specs.Texts.{fault_text_of}
@@ -49,6 +49,9 @@ pub data EndsEarly (same : Type 0) (i : BusInputs) (d : DiskStates) (e : Ending)
 pub record RunsGateway (same : Type 0) (i : BusInputs) (d : DiskStates) (e : Ending) : Type 0 where
   -- A row of the table comes; or of valid inputs the first events were done.
   pub ends : EndsGateway same i d e
+  -- No disk is lost, and all but the first are as before at every status.
+  pub as_many : length d.after ≡ length d.before
+  pub further : drop 1 d.after ≡ drop 1 d.before
   -- Every disk is as before at the status 2, 3, 4, 5, 8 and 9.
   pub disks_unused : (e.status ≡ 2) ⊎ (e.status ≡ 3) ⊎ (e.status ≡ 4) ⊎ (e.status ≡ 5) ⊎ (e.status ≡ 8)
       ⊎ (e.status ≡ 9) → same

@@ -20,7 +20,7 @@ use Rattle.bus_programs.specs.Inputs.{BusInputs}
 use Rattle.gateway_commands.specs.Inputs.{NoGatewayConfig, NoGatewayScript, RefusesConfig, SetsPairs}
 use Rattle.gateway_commands.specs.Inputs.{OverGateway}
 use Rattle.gateway_commands.specs.Runs.{RanGateway}
-use Rattle.gateway_commands.specs.Headline.{TellsFirst, OneGatewayRun}
+use Rattle.gateway_commands.specs.Headline.{TellsFirst, OneGatewayRun, GatewayDisksStay, gateway_seen}
 
 -- all was read whole up to the script's last byte, and this is the script's first fault
 pub record ScriptHasFault (i : BusInputs) (fault : Fault) : Type 0 where
@@ -47,12 +47,14 @@ pub data RowOfGateway (same : Type 0) (i : BusInputs) (d : DiskStates) : Row →
   not_started : (row : Row) → OverGateway i (λ bus pairs events. ComesOfStart Format bus d row)
       → (row.status ≡ 9 → same) → RowOfGateway same i d row
 
--- the first events were done, up to the first whose text wasn't written, and the status says so; over a disk that tells
--- its bytes they are one run of the machine, and all of `OneGatewayRun` holds of it
+-- The first events were done, up to the first whose text wasn't written, and the status says so. What the disks keep is
+-- said whether the first tells its bytes or not. Over a disk that tells its bytes they are one run of the machine, and
+-- all of `OneGatewayRun` holds of it.
 pub record DoneGateway (bus : NamedBus) (pairs : List (ℕ × ℕ)) (events : List Event) (d : DiskStates) (e : Ending)
     (result : Result (Unit {0}) Unwritten) : Type 0 where
   pub ran : RanGateway bus pairs d.before d.after events e.before e.after result
   pub status_is : e.status ≡ unwritten_status result
+  pub stay : GatewayDisksStay d.before d.after (gateway_seen ran.printed.moments)
   pub one_run : TellsFirst d.before → OneGatewayRun bus pairs d.before d.after events e.before e.after result
 
 -- how a gateway ends: in a row of the table, which is printed; or it did its first events

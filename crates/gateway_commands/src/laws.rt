@@ -1,4 +1,6 @@
-//! What holds of every gateway over a disk that tells its bytes, put together from the laws of the crates below.
+//! What holds of every gateway over a disk that tells its bytes, put together from the laws of the crates below; and of
+//! the worked example.
+ghost use Rattle.gateway_commands.specs.ExampleEvents.{ExampleReplays};
 ghost use Rattle.gateway_commands.specs.Headline.{GatewaysAreRuns};
 
 use bus_config::named_buses_are_buses;
@@ -16,3 +18,9 @@ pub fn gateways_are_runs()
     departures_rise();
     gateway_turns_keep();
 }
+
+/// The script of the worked example is a key update and one arrival twice. So the answer to its last event is the answer
+/// to a replay, and not to a forgery.
+pub fn example_replays()
+    ensures { ExampleReplays }
+{}

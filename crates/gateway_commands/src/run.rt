@@ -30,9 +30,11 @@ pub fn run_gateway<S: Source, T: Source, K: Sink, D: CutDisk>(
     sink: &mut K,
     disks: &mut Vec<D>,
 ) -> u8
-    // `RunsGateway` of specs/Promises.antt has a member for each promise, in the order of the table of answers. Over a
-    // disk that tells its bytes what was done is one run of the machine, and one record has all that holds of it:
-    // `is_a_run`, `forwards_what_arrived`, `arrivals_rise`, `departures_rise`, `disks` and `failures`.
+    // `RunsGateway` of specs/Promises.antt has a member for each promise, in the order of the table of answers. What is
+    // said of events that were done is `DoneGateway`. Its `stay` says what the disks keep and which lines tell that one
+    // failed, also of disks that don't tell their bytes. Over a disk that tells them what was done is one run of the
+    // machine, and one record has all that holds of it: `is_a_run`, `forwards_what_arrived`, `arrivals_rise`,
+    // `departures_rise`, `disks` and `failures`.
     ensures { RunsGateway (disks.new ≡ disks.old)
         (record {
           words = map string_bytes words.now;

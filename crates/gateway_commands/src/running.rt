@@ -14,7 +14,7 @@ use cell_store::CutCells;
 use cut_disk::CutDisk;
 use program_edge::tell_refusal;
 use run_driver::{Unwritten, print_run, status_of_run};
-use secoc_gateway::Gateway;
+use secoc_gateway::{Gateway, gateway_turns_keep};
 use secoc_node::Node;
 use std::alloc::Global;
 
@@ -32,6 +32,7 @@ pub fn do_job<K: Sink, D: CutDisk>(
         (record { before = K.state sink.old; after = K.state sink.new; status = result }) }
 {
     gateways_are_runs();
+    gateway_turns_keep();
     let GatewayJob { bus, pairs, events } = job;
     let mut nodes = match open_nodes(alloc, &bus, disks, Start::Format) {
         Ok(nodes) => nodes,

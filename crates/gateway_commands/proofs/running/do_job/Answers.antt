@@ -7,6 +7,7 @@ use Rattle.bus_world.specs.StartAnswerLaws.{Comes-unstarted}
 use Rattle.bus_programs.specs.EventLaws.{all_can_be_done}
 use Rattle.gateway_commands.specs.Steps.{refused_start, first_done}
 use Rattle.bus_world.specs.StartRowLaws.{no_disk}
+use Rattle.gateway_commands.proofs.OneRun.{gateway_stays}
 use Rattle.gateway_commands.proofs.OneNode.{last_one, none_left, one_node, good_pairs, ran_gateway}
 use Rattle.gateway_commands.proofs.running.do_job.Goals as goal
 
@@ -43,5 +44,6 @@ returns g c =
     first_done c.print_turns-node.result.1 (record {
       ran = ran;
       status_is = c.status_of_run.ensures;
+      stay = gateway_stays c.gateway_turns_keep.ensures _ _ _ _ _ _ _ _ ran;
       one_run = c.gateways_are_runs.ensures _ _ _ _ _ _ _ _ ran;
     })
