@@ -10,7 +10,7 @@ use Rattle.bus_programs.specs.Inputs.{BusInputs}
 use Rattle.bus_commands.specs.Inputs.{start_of}
 use Rattle.bus_commands.specs.StartRows.{CommandDisks}
 use Rattle.bus_commands.specs.Rows.{ComesInRun, without_disks, not_started, tried, tried_without_memory}
-use Rattle.bus_commands.specs.Commands.{DoesEvents}
+use Rattle.bus_commands.specs.Table.{DoesEvents}
 
 module _ {V : Type 0} (i : BusInputs) (d : CommandDisks V) (e : Ending) (same : d.new ≡ d.old → d.states.after ≡ d.states.before) (place : ℕ)
     (rose : CountsDiskFault d.states place) where

@@ -77,13 +77,13 @@ given_starts : (opens : List ℕ → SourceState → Type 0) (before after : Ope
     → RunsGiven opens before after back words e → (e.status ≡ 9) ⊎ (e.status ≡ 10) → ⊥
 given_starts opens before after back words e ran (inl nine) =
     let given = subst (λ (w : List (List ℕ)). AreGiven w ran.made.items) (sym ran.over.words_are) ran.given in
-    never_9 ran.over.inputs ran.made.items (disk_states ran.used.items) _ given (ran.over.runs.0.disks_refused nine)
+    never_9 ran.over.inputs ran.made.items (disk_states ran.used.items) _ given (ran.over.runs.0.valid.disks_refused nine)
 given_starts opens before after back words e ran (inr ten) =
     let given = subst (λ (w : List (List ℕ)). AreGiven w ran.made.items) (sym ran.over.words_are) ran.given in
     let none =
-        subst (λ (w : List (List ℕ)). (name : List ℕ) → ¬ NamesDisk w name) (sym ran.over.words_are) ran.no_disk in
+    subst (λ (w : List (List ℕ)). (name : List ℕ) → ¬ NamesDisk w name) (sym ran.over.words_are) ran.no_disk in
     never_10 ran.over.inputs ran.made.items (disk_states ran.used.items) _ given none
-    (ran.over.runs.0.store_refused ten)
+    (ran.over.runs.0.valid.store_refused ten)
 
 -- ---- over a disk that tells its bytes
 
@@ -136,7 +136,7 @@ module _ {D : Type 0} (state : D → DiskState) (opens : List ℕ → SourceStat
 
   usage_of : {V : Type 0} (i : BusInputs) (d : CommandDisks V) → i.words ≡ words → RunsBus i d e → e.status ≡ 2
       → AsksNothing words
-  usage_of i d are (command, machine) two = subst (λ (w : List (List ℕ)). AsksNothing w) are (command.usage_told two).0
+  usage_of i d are (command, machine) two = subst (λ (w : List (List ℕ)). AsksNothing w) are (command.inputs.usage_told two).0
 
   pub words_usage : RunsNamed state opens opens_disk o back left words e → e.status ≡ 2 → AsksNothing words
   words_usage (ran_in_memory none empty ran) two =
@@ -148,7 +148,7 @@ module _ {D : Type 0} (state : D → DiskState) (opens : List ℕ → SourceStat
   usage_only_of : {V : Type 0} (i : BusInputs) (d : CommandDisks V) → i.words ≡ words → RunsBus i d e
       → AsksNothing words → (e.status ≡ 2) ⊎ (e.status ≡ 6)
   usage_only_of i d are (command, machine) nothing =
-      command.usage_only (subst (λ (w : List (List ℕ)). AsksNothing w) (sym are) nothing)
+      command.inputs.usage_only (subst (λ (w : List (List ℕ)). AsksNothing w) (sym are) nothing)
 
   pub words_usage_only : RunsNamed state opens opens_disk o back left words e → AsksNothing words
       → (e.status ≡ 2) ⊎ (e.status ≡ 6)

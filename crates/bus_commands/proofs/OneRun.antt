@@ -22,7 +22,8 @@ use Rattle.bus_commands.specs.Summaries.{summary_text}
 use Rattle.bus_world.specs.StartAnswers.{DiskStates}
 use Rattle.bus_commands.specs.StartRows.{CommandDisks}
 use Rattle.bus_commands.specs.Rows.{ReplaysScript, TriesEvents, ComesInRun, without_disks, not_started, tried, tried_without_memory, RowOrReplay}
-use Rattle.bus_commands.specs.Commands.{RunsCommand, ReplayIsRun, WrittenRun, TrialIsRun, LeavesUnstarted, RunsMachine, RunsBus}
+use Rattle.bus_commands.specs.Commands.{ReplayIsRun, WrittenRun, TrialIsRun, LeavesUnstarted, RunsMachine, RunsBus}
+use Rattle.bus_commands.specs.Table.{RunsCommand}
 use Rattle.bus_commands.proofs.Headlines.{written_run, summed_run}
 use Rattle.bus_commands.proofs.Promises.{RunsCommand-ends}
 use Rattle.bus_commands.proofs.Asking.{apart, asks_one, same_start}
@@ -114,18 +115,18 @@ trial_7 i d e trial asks (inr over) = no_replay i d e trial (Err unwritten.Memor
 
 trial_untold : {V : Type 0} (i : BusInputs) (d : CommandDisks V) (e : Ending) → RunsCommand i d e → (trial : TrialWords) → Asks i.words (command.World (Trial trial)) → (e.status ≡ 6) ⊎ (e.status ≡ 7)
     → LeavesUnstarted i d ⊎ ((summary : Summary) × TrialIsRun i d.states summary)
-trial_untold i d e runs trial asks (inl six) = trial_6 i d e trial asks (runs.write_fault six).1
-trial_untold i d e runs trial asks (inr seven) = trial_7 i d e trial asks (runs.no_memory seven)
+trial_untold i d e runs trial asks (inl six) = trial_6 i d e trial asks (runs.ports.write_fault six).1
+trial_untold i d e runs trial asks (inr seven) = trial_7 i d e trial asks (runs.ports.no_memory seven)
 
 -- ---- put together
 
 pub RunsMachine-command : {V : Type 0} (i : BusInputs) (d : CommandDisks V) (e : Ending) → RunsCommand i d e → RunsMachine i d e
 RunsMachine-command i d e runs = record {
-  replayed = λ asks is. replay_done i d e Format asks (runs.done is);
-  attached_run = λ asks is. replay_done i d e Attach asks (runs.done is);
-  early_ends = λ start asks is. replay_6 i d e start asks (runs.write_fault is).1;
-  early_ends_unwritten = λ start asks is. replay_7 i d e start asks (runs.no_memory is);
-  tried = λ trial asks is. trial_done i d e trial asks (runs.done is);
+  replayed = λ asks is. replay_done i d e Format asks (runs.tells.done is);
+  attached_run = λ asks is. replay_done i d e Attach asks (runs.tells.done is);
+  early_ends = λ start asks is. replay_6 i d e start asks (runs.ports.write_fault is).1;
+  early_ends_unwritten = λ start asks is. replay_7 i d e start asks (runs.ports.no_memory is);
+  tried = λ trial asks is. trial_done i d e trial asks (runs.tells.done is);
   tried_untold = trial_untold i d e runs;
 }
 

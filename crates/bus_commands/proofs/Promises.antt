@@ -34,7 +34,7 @@ use Rattle.bus_world.specs.StartRows.{start_row, StoreCause, LeavesEach}
 use Rattle.bus_world.specs.StartAnswers.{ComesOfStart, disks_refused, store_refused, start_without_memory, BusHasDisks}
 use Rattle.bus_commands.specs.StartRows.{CommandDisks, HoldsNoNode}
 use Rattle.bus_commands.specs.Rows.{ReplaysScript, ComesOfInputs, no_form, no_config, config_refused, no_script, script_refused, done, ComesInRun, without_disks, not_started, tried, tried_without_memory, RowOrReplay, in_row, replayed}
-use Rattle.bus_commands.specs.Commands.{by_replay, TaskHasDisks, RunsCommand}
+use Rattle.bus_commands.specs.Table.{by_replay, TaskHasDisks, RunsCommand}
 use Rattle.bus_commands.proofs.Asking.{apart}
 use Rattle.bus_commands.proofs.Unread.{row_config_unread, row_lines_unread, AskedIsDone, answers_done}
 use Rattle.bus_commands.proofs.Statuses.{ends_in_table, replayed_in_table, row_leaves}
@@ -436,72 +436,92 @@ replay_no_trial i d e result over bus (trial, asks, of_bus) = apart i.words (Wor
 
 of_row : {V : Type 0} (i : BusInputs) (d : CommandDisks V) (e : Ending) → (d.new ≡ d.old → d.states.after ≡ d.states.before) → EndsInRow (ComesInRun i d) e → RunsCommand i d e
 of_row i d e same ends = record {
-  ends = in_row ends;
-  statuses = ends_in_table i d e ends;
-  config_unread = row_config_unread i d ends.row ends.comes;
-  lines_unread = λ trial. row_lines_unread i d ends.row trial ends.comes;
-  disks = row_disks i d e ends.row ends.comes;
-  disks_unused = unused i d e ends;
-  leaves = row_leaves i d e ends.row ends.comes ends.told;
-  done = EndsInRow-at ends 0 refl (row_0 i d e);
-  usage_told = EndsInRow-at ends 2 refl (row_2 i d e);
-  usage_only = λ nothing. EndsInRow-only ends 2 (λ row comes. row_asks i d row comes nothing);
-  config_refused = EndsInRow-at ends 3 refl (row_3 i d e);
-  config_refused_only = λ file fault over offers err. EndsInRow-may ends 3 (λ row comes. row_refuses i d row file fault comes over offers err);
-  refused = EndsInRow-at ends 4 refl (row_4 i d e);
-  refused_only = λ task input fault offers lines is.
-      EndsInRow-may ends 4 (λ row comes. refused_of i d e row task input fault is (row_offered i d row task input comes offers lines));
-  read_fault = EndsInRow-at ends 5 refl (row_5 i d e);
-  read_fault_only = λ rose. EndsInRow-only ends 5 (λ row comes. told_fault row i.config i.script (row_tells i d row comes) rose);
-  write_fault = λ six. let at = EndsInRow-front ends (row_not_6 i d e) six in (at.0, inl at.1);
-  write_fault_only = EndsInRow-rose ends;
-  no_memory = λ seven. inl (EndsInRow-at ends 7 refl (row_7 i d e) seven);
-  too_long = EndsInRow-at ends 8 refl (row_8 i d e);
-  too_long_only = λ more. EndsInRow-only ends 8 (λ row comes. told_too_much row i.config i.script (row_tells i d row comes) more);
-  disks_refused = EndsInRow-at ends 9 refl (row_9 i d e);
-  disks_refused_only = λ start bus input offers lines none lacks.
-      EndsInRow-may ends 9 (λ row comes. without_room_of i d e row start bus input none lacks (row_offered i d row (replay start bus) input comes offers lines));
-  trial_disks_refused_only = λ bus offers lacks. EndsInRow-may ends 9 (λ row comes. trial_without_room_of i d e row bus lacks (row_tried i d row bus comes offers));
-  store_refused = EndsInRow-at ends 10 refl (row_10 i d e);
-  store_refused_only = λ bus input offers lines none room holds.
-      EndsInRow-may ends 10 (λ row comes. in_room_of i d e row Attach bus input none room (row_offered i d row (replay Attach bus) input comes offers lines));
-  failed_disk_told = λ place rose. ends_failed i d e same place rose ends;
-  complete = λ task input offers lines none able well.
-      EndsInRow-done ends well 0 (λ row comes. complete_of i d e row task input none able (row_offered i d row task input comes offers lines));
-  trial_complete = λ bus offers able well. EndsInRow-done ends well 0 (λ row comes. trial_complete_of i d e row bus able (row_tried i d row bus comes offers));
+  tells = record {
+    ends = in_row ends;
+    statuses = ends_in_table i d e ends;
+    config_unread = row_config_unread i d ends.row ends.comes;
+    lines_unread = λ trial. row_lines_unread i d ends.row trial ends.comes;
+    done = EndsInRow-at ends 0 refl (row_0 i d e);
+  };
+  inputs = record {
+    usage_told = EndsInRow-at ends 2 refl (row_2 i d e);
+    usage_only = λ nothing. EndsInRow-only ends 2 (λ row comes. row_asks i d row comes nothing);
+    config_refused = EndsInRow-at ends 3 refl (row_3 i d e);
+    config_refused_only = λ file fault over offers err. EndsInRow-may ends 3 (λ row comes. row_refuses i d row file fault comes over offers err);
+    refused = EndsInRow-at ends 4 refl (row_4 i d e);
+    refused_only = λ task input fault offers lines is.
+        EndsInRow-may ends 4 (λ row comes. refused_of i d e row task input fault is (row_offered i d row task input comes offers lines));
+  };
+  ports = record {
+    read_fault = EndsInRow-at ends 5 refl (row_5 i d e);
+    read_fault_only = λ rose. EndsInRow-only ends 5 (λ row comes. told_fault row i.config i.script (row_tells i d row comes) rose);
+    write_fault = λ six. let at = EndsInRow-front ends (row_not_6 i d e) six in (at.0, inl at.1);
+    write_fault_only = EndsInRow-rose ends;
+    no_memory = λ seven. inl (EndsInRow-at ends 7 refl (row_7 i d e) seven);
+    too_long = EndsInRow-at ends 8 refl (row_8 i d e);
+    too_long_only = λ more. EndsInRow-only ends 8 (λ row comes. told_too_much row i.config i.script (row_tells i d row comes) more);
+  };
+  disks = record {
+    disks = row_disks i d e ends.row ends.comes;
+    disks_unused = unused i d e ends;
+    leaves = row_leaves i d e ends.row ends.comes ends.told;
+    failed_disk_told = λ place rose. ends_failed i d e same place rose ends;
+  };
+  valid = record {
+    disks_refused = EndsInRow-at ends 9 refl (row_9 i d e);
+    disks_refused_only = λ start bus input offers lines none lacks.
+        EndsInRow-may ends 9 (λ row comes. without_room_of i d e row start bus input none lacks (row_offered i d row (replay start bus) input comes offers lines));
+    trial_disks_refused_only = λ bus offers lacks. EndsInRow-may ends 9 (λ row comes. trial_without_room_of i d e row bus lacks (row_tried i d row bus comes offers));
+    store_refused = EndsInRow-at ends 10 refl (row_10 i d e);
+    store_refused_only = λ bus input offers lines none room holds.
+        EndsInRow-may ends 10 (λ row comes. in_room_of i d e row Attach bus input none room (row_offered i d row (replay Attach bus) input comes offers lines));
+    complete = λ task input offers lines none able well.
+        EndsInRow-done ends well 0 (λ row comes. complete_of i d e row task input none able (row_offered i d row task input comes offers lines));
+    trial_complete = λ bus offers able well. EndsInRow-done ends well 0 (λ row comes. trial_complete_of i d e row bus able (row_tried i d row bus comes offers));
+  };
 }
 
 of_replay : {V : Type 0} (i : BusInputs) (d : CommandDisks V) (e : Ending) → (result : Result (Unit {0}) Unwritten) → ReplaysScript i d.states e result → RunsCommand i d e
 of_replay i d e result over = record {
-  ends = replayed result over;
-  statuses = replayed_in_table e.status (status_of i d e result over);
-  config_unread = λ lacks. absurd (lacks (World (Replay over.0), over.3.asks, tt));
-  lines_unread = λ trial asks. apart i.words (World (Replay over.0)) (World (Trial trial)) over.3.asks asks (λ x. cc);
-  disks = λ lacks. absurd (lacks (Replay over.0, over.3.asks));
-  disks_unused = λ low. absurd (not_low e.status low (status_of i d e result over));
-  leaves = by_replay result over;
-  done = λ is. (World (Replay over.0), over.3.asks, done_0 i d e result over is);
-  usage_told = λ is. absurd (let no : ⊥ = omega (arith, status_of i d e result over, is) in no);
-  usage_only = λ nothing. absurd (nothing (World (Replay over.0)) over.3.asks);
-  config_refused = λ is. absurd (let no : ⊥ = omega (arith, status_of i d e result over, is) in no);
-  config_refused_only = λ file fault asks offers err. absurd (bus_or_fault i.config over.1 file fault over.3.of_bus offers err);
-  refused = λ is. absurd (let no : ⊥ = omega (arith, status_of i d e result over, is) in no);
-  refused_only = λ task input fault offers lines is. replay_refused i d e result over task input fault offers lines is;
-  read_fault = λ is. absurd (let no : ⊥ = omega (arith, status_of i d e result over, is) in no);
-  read_fault_only = λ rose. absurd (replay_calm i d e result over rose);
-  write_fault = λ six. let at = done_6 i d e result over six in (at.0, inr at.1);
-  write_fault_only = done_writes i d e result over;
-  no_memory = λ seven. inr (done_7 i d e result over seven);
-  too_long = λ is. absurd (let no : ⊥ = omega (arith, status_of i d e result over, is) in no);
-  too_long_only = λ more. absurd (replay_within i d e result over more);
-  disks_refused = λ is. absurd (let no : ⊥ = omega (arith, status_of i d e result over, is) in no);
-  disks_refused_only = λ start bus input offers lines none lacks. absurd (lacks (replay_room i d e result over start bus input offers lines));
-  trial_disks_refused_only = λ bus offers lacks. replay_no_trial i d e result over bus offers;
-  store_refused = λ is. absurd (let no : ⊥ = omega (arith, status_of i d e result over, is) in no);
-  store_refused_only = λ bus input offers lines none room holds. replay_taken i d e result over bus input offers lines holds;
-  failed_disk_told = λ place rose. inr (inl (result, over));
-  complete = λ task input offers lines none able well. done_well i d e result over well;
-  trial_complete = λ bus offers able well. replay_no_trial i d e result over bus offers;
+  tells = record {
+    ends = replayed result over;
+    statuses = replayed_in_table e.status (status_of i d e result over);
+    config_unread = λ lacks. absurd (lacks (World (Replay over.0), over.3.asks, tt));
+    lines_unread = λ trial asks. apart i.words (World (Replay over.0)) (World (Trial trial)) over.3.asks asks (λ x. cc);
+    done = λ is. (World (Replay over.0), over.3.asks, done_0 i d e result over is);
+  };
+  inputs = record {
+    usage_told = λ is. absurd (let no : ⊥ = omega (arith, status_of i d e result over, is) in no);
+    usage_only = λ nothing. absurd (nothing (World (Replay over.0)) over.3.asks);
+    config_refused = λ is. absurd (let no : ⊥ = omega (arith, status_of i d e result over, is) in no);
+    config_refused_only = λ file fault asks offers err. absurd (bus_or_fault i.config over.1 file fault over.3.of_bus offers err);
+    refused = λ is. absurd (let no : ⊥ = omega (arith, status_of i d e result over, is) in no);
+    refused_only = λ task input fault offers lines is. replay_refused i d e result over task input fault offers lines is;
+  };
+  ports = record {
+    read_fault = λ is. absurd (let no : ⊥ = omega (arith, status_of i d e result over, is) in no);
+    read_fault_only = λ rose. absurd (replay_calm i d e result over rose);
+    write_fault = λ six. let at = done_6 i d e result over six in (at.0, inr at.1);
+    write_fault_only = done_writes i d e result over;
+    no_memory = λ seven. inr (done_7 i d e result over seven);
+    too_long = λ is. absurd (let no : ⊥ = omega (arith, status_of i d e result over, is) in no);
+    too_long_only = λ more. absurd (replay_within i d e result over more);
+  };
+  disks = record {
+    disks = λ lacks. absurd (lacks (Replay over.0, over.3.asks));
+    disks_unused = λ low. absurd (not_low e.status low (status_of i d e result over));
+    leaves = by_replay result over;
+    failed_disk_told = λ place rose. inr (inl (result, over));
+  };
+  valid = record {
+    disks_refused = λ is. absurd (let no : ⊥ = omega (arith, status_of i d e result over, is) in no);
+    disks_refused_only = λ start bus input offers lines none lacks. absurd (lacks (replay_room i d e result over start bus input offers lines));
+    trial_disks_refused_only = λ bus offers lacks. replay_no_trial i d e result over bus offers;
+    store_refused = λ is. absurd (let no : ⊥ = omega (arith, status_of i d e result over, is) in no);
+    store_refused_only = λ bus input offers lines none room holds. replay_taken i d e result over bus input offers lines holds;
+    complete = λ task input offers lines none able well. done_well i d e result over well;
+    trial_complete = λ bus offers able well. replay_no_trial i d e result over bus offers;
+  };
 }
 
 -- how a command ends gives all that it promises

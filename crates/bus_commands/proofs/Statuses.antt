@@ -14,7 +14,7 @@ use Rattle.bus_programs.specs.Inputs.{BusInputs}
 use Rattle.bus_commands.specs.Inputs.{SetsWorld, start_of}
 use Rattle.bus_commands.specs.StartRows.{CommandDisks}
 use Rattle.bus_commands.specs.Rows.{ComesOfInputs, no_form, no_config, config_refused, no_script, script_refused, done, ComesInRun, without_disks, not_started, tried, tried_without_memory}
-use Rattle.bus_commands.specs.Commands.{LeavesDisks, as_before, by_unfinished_start, by_trial}
+use Rattle.bus_commands.specs.Table.{LeavesDisks, as_before, by_unfinished_start, by_trial}
 
 -- ---- the status
 

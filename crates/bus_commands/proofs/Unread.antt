@@ -17,7 +17,7 @@ use Rattle.bus_programs.specs.Inputs.{BusInputs}
 use Rattle.bus_commands.specs.Inputs.{AsksOverBus, SetsTask}
 use Rattle.bus_commands.specs.StartRows.{CommandDisks}
 use Rattle.bus_commands.specs.Rows.{ComesOfInputs, no_form, no_config, config_refused, no_script, script_refused, done, ComesInRun, without_disks, not_started, tried, tried_without_memory}
-use Rattle.bus_commands.specs.Commands.{DoesAll}
+use Rattle.bus_commands.specs.Table.{DoesAll}
 use Rattle.bus_commands.proofs.Asking.{apart, asks_one, set_asks, no_trial}
 
 -- ---- the bus file

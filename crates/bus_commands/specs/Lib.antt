@@ -10,6 +10,7 @@ pub mod Replays
 pub mod Headline
 pub mod TrialRuns
 pub mod Rows
+pub mod Table
 pub mod Commands
 pub mod SharedRuns
 pub mod Named

@@ -2,7 +2,8 @@
 ghost use Rattle.std.specs.Prelude.{◌≡◌, ◌≤◌, ℕ, List, map, string_bytes};
 ghost use Rattle.program_edge.specs.Endings.{EndsInRow};
 ghost use Rattle.bus_commands.specs.Words.{AsksCommand};
-ghost use Rattle.bus_commands.specs.Commands.{RunsCommand, RunsMachine, RunsBus};
+ghost use Rattle.bus_commands.specs.Commands.{RunsMachine, RunsBus};
+ghost use Rattle.bus_commands.specs.Table.{RunsCommand};
 ghost use Rattle.bus_programs.specs.Inputs.{inputs_of};
 ghost use Rattle.bus_commands.specs.StartRows.{disks_between};
 ghost use Rattle.bus_commands.specs.Steps.{Prepares, PreparesLines, PreparesWorld, HasFewEvents, FindsEvents};
@@ -25,10 +26,10 @@ use std::alloc::{AllocError, Global};
 /// Runs the command that the arguments ask for, the program's name left out, and gives its status.
 ///
 /// Over disks that tell their bytes, what `replay`, `node` or `trial` did is one run of the machine (clause
-/// `headline`). `HeadlineRun` says what holds of that run. A row of this table is a member of `RunsCommand`, or two:
-/// that the status comes only so, and that its cause brings it (clause `promises`). Other members say what is left of
-/// each disk. No other status comes. Only rows of `checks/` show that all is read before anything is printed, and that
-/// a line is written as soon as its event is done. docs/guarantees.md has all of it.
+/// `headline`). `HeadlineRun` says what holds of that run. A row of this table is a member of a part of `RunsCommand`,
+/// or two: that the status comes only so, and that its cause brings it (clause `promises`). Other members say what is
+/// left of each disk. No other status comes. Only rows of `checks/` show that all is read before anything is printed,
+/// and that a line is written as soon as its event is done. docs/guarantees.md has all of it.
 ///
 /// | Status | Comes |
 /// |---|---|
@@ -50,9 +51,10 @@ pub fn run<S: Source, T: Source, K: Sink, D: CutDisk>(
     sink: &mut K,
     disks: &mut Vec<D>,
 ) -> u8
-    // The table of answers: a member of the record for each promise. Both records stand in specs/Commands.antt, which
-    // tells above its `use` what most names from below mean. `inputs_of`: the arguments, and both sources before and
-    // after. `disks_between`: the disks themselves, and what was known of them, before and after.
+    // The table of answers: five records in one, with a member for each promise. It stands in specs/Table.antt, and the
+    // headline in specs/Commands.antt, which tells above its `use` what most names from below mean. `inputs_of`: the
+    // arguments, and both sources before and after. `disks_between`: the disks themselves, and what was known of them,
+    // before and after.
     ensures promises { RunsCommand
         (inputs_of (map string_bytes words.now)
         (S.state config.old) (S.state config.new) (T.state script.old) (T.state script.new))
