@@ -127,8 +127,8 @@ fn asked_of_three<'a>(name: &str, bus: &'a str, file: &'a str) -> Asked<'a>
     }
 }
 
-/// What four arguments ask for: a command's name, the bus file, and the script and the disk on which a bus goes on, or a
-/// number of events and a seed.
+/// What four arguments ask for: a command's name, the bus file, and the script and the disk on which a bus goes on,
+/// or a number of events and a seed.
 fn asked_of_four<'a>(name: &str, bus: &'a str, third: &'a str, fourth: &'a str) -> Asked<'a>
     ensures { IsAsked (name.now ∷ bus.now ∷ third.now ∷ fourth.now ∷ []) result.command
         (option_map (λ w. w.now) result.config) (option_map (λ w. w.now) result.script)
