@@ -1,8 +1,10 @@
-//! Tests of the store on flash, over a flash in memory. There is nothing else here: a crate of tests over several
+//! Tests of the store on flash, over a flash in memory, and of its lines. There is nothing else here: a crate of tests over several
 //! libraries has none of them proved a second time.
 #![tactic(auto)]
 
 #[cfg(test)]
 mod histories;
+#[cfg(test)]
+mod lines;
 #[cfg(test)]
 mod starts;

@@ -1,0 +1,5 @@
+pub mod CrcSteps
+pub mod LineLaws
+pub mod Written
+pub mod Parts
+pub mod Looking

@@ -1,0 +1,4 @@
+pub mod Crc
+pub mod Lines
+pub mod Reading
+pub mod Units

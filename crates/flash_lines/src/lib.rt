@@ -1,0 +1,16 @@
+//! The lines of a log on NOR flash, as bytes.
+//!
+//! A line is 35 bytes of body, the CRC-64 of the body, zero bytes, and a last byte that is never that of an erased
+//! place. [`UnitSize::line_length`] gives its length: as many of the part's units as a line needs. [`line_bytes`] and
+//! [`read_line`] are inverse, and all other bytes are no line. [`laws`] says which torn lines are none for sure. No
+//! call takes memory or fails.
+#![tactic(auto)]
+
+mod crc;
+pub mod laws;
+mod lines;
+mod units;
+
+pub use crc::crc64;
+pub use lines::{line_bytes, read_line};
+pub use units::UnitSize;
