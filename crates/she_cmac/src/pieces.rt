@@ -60,6 +60,7 @@ impl<'a> Mac<'a> {
     /// The MAC that keeps this, under the same key; `None` if it keeps more than a block.
     pub fn from_parts(schedule: &'a Schedule, parts: &MacParts) -> Option<Mac<'a>>
         ensures none { IfNone result (16 < parts.now.filled) }
+        ensures within { IfSome result (λ _. parts.now.filled ≤ 16) }
         ensures some { IfSome result (λ mac. (message : List ℕ) → TookParts schedule.now message parts.now
             → Took schedule.now message mac) }
     {
