@@ -10,7 +10,7 @@ NotForged content bytes = (line : FlashLine) → HoldsLine bytes line → conten
 
 -- A checked read gives these bytes of a place. If they are a line, it is the content, and the place is firm from then
 -- on. If they are none, the place is blank or not firm, and is as before.
-pub record ReadsBytes (p : FlashPlace) (bytes : List ℕ) (q : FlashPlace) : Type 0 where
+pub record PlaceReads (p : FlashPlace) (bytes : List ℕ) (q : FlashPlace) : Type 0 where
   pub not_forged : NotForged p.content bytes
   pub settled : (line : FlashLine) → HoldsLine bytes line → q ≡ whole_place line
   pub firm : HoldsNoLine bytes → (p ≡ blank_place) ⊎ (p.firm ≡ false)

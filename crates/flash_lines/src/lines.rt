@@ -3,7 +3,7 @@ ghost use Rattle.std.specs.Prelude.{◌≡◌, ◌≤◌, length, IfSome, MatchO
 ghost use Rattle.flash_places.specs.declared.FlashLine.{FlashLine};
 ghost use Rattle.flash_places.specs.Places.{FlashPlace, Looks};
 ghost use Rattle.flash_lines.specs.Lines.{line_body, line_bytes, IsFlashLine, HoldsLine, HoldsNoLine};
-ghost use Rattle.flash_lines.specs.Reading.{ReadsBytes};
+ghost use Rattle.flash_lines.specs.Reading.{PlaceReads};
 
 use crate::crc::crc64;
 use flash_places::FlashLine;
@@ -77,7 +77,7 @@ pub fn read_line(bytes: &[u8]) -> Option<FlashLine>
     requires least { 44 ≤ length bytes.now }
     requires most { length bytes.now ≤ 128 }
     ensures reads { MatchOption result (HoldsNoLine bytes.now) (HoldsLine bytes.now) }
-    ensures looks { (p q : FlashPlace) → ReadsBytes p bytes.now q → Looks p result q }
+    ensures looks { (p q : FlashPlace) → PlaceReads p bytes.now q → Looks p result q }
 {
     let line = line_parts(bytes)?;
     let mut again = [0; 128];
