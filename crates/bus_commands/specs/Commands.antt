@@ -36,7 +36,6 @@ use Rattle.bus_world.specs.declared.start.Start.TheVariants.{Format, Attach}
 -- such a world is asked for, and all that it reads was read whole and is valid. P holds of the bus and the events.
 -- `IsNamedBus`: a bus as bus files have them.
 use Rattle.bus_commands.specs.Inputs.{OverReplayOf, OverTrial, OverWorld}
-use Rattle.bus_commands.specs.Tasks.{replay}
 use Rattle.bus_config.specs.Buses.{NamedBus, configs_of}
 use Rattle.bus_machine.specs.declared.events.Event.{Event}
 -- ---- the disks
@@ -68,13 +67,6 @@ use Rattle.program_edge.specs.Endings.{Ending, PrintsWhole, PrintsFront}
 -- length. `Summary`: how many events there were, and lines of sent, accepted, a failed verdict, keyed, up and refused.
 use Rattle.bus_commands.specs.declared.summary.Summary.{Summary}
 use Rattle.bus_commands.specs.Summaries.{summary_of, summary_text}
--- `ReplaysScript`: a valid replay is asked for, and all that it reads was read whole. Over disks of any kind it was
--- started, `replay` over disks that it formatted and `node` where its disks stand, and did its first events, `Written`
--- so. Each was a turn of its node alone, and a step of the machine. But a cut over a disk that doesn't tell bytes that
--- fit may leave the node up with whatever its store has, or down. The count of its disk rose (or is full) if the line
--- tells that it failed, and rose nowhere else. Nothing is undone: the disks are as the last turn left them, or the
--- start, if no event was done. `TriesEvents`: a valid trial did all its events so, and their lines have this summary.
-use Rattle.bus_commands.specs.Rows.{ReplaysScript, TriesEvents}
 -- `Written .. result moments`: at `Ok` they are all events, and exactly the texts of their lines were written; at an
 -- `Unwritten` those of all but the last, whose event was done, too: of its line a proper prefix was written
 -- (`SinkFailed`), or nothing (`Memory`).

@@ -49,6 +49,12 @@ use Rattle.program_edge.specs.Endings.{CountsWriteFault, SinkFailed}
 use Rattle.bus_commands.specs.Texts.{usage, IsOutput}
 use Rattle.bus_commands.specs.declared.summary.Summary.{Summary}
 use Rattle.bus_commands.specs.Summaries.{summary_text}
+-- `ReplaysScript`: a valid replay is asked for, and all that it reads was read whole. Over disks of any kind it was
+-- started, `replay` over disks that it formatted and `node` where its disks stand, and did its first events, `Written`
+-- so. Each was a turn of its node alone, and a step of the machine. But a cut over a disk that doesn't tell bytes that
+-- fit may leave the node up with whatever its store has, or down. The count of its disk rose (or is full) if the line
+-- tells that it failed, and rose nowhere else. Nothing is undone: the disks are as the last turn left them, or the
+-- start, if no event was done. `TriesEvents`: a valid trial did all its events so, and their lines have this summary.
 use Rattle.bus_commands.specs.Rows.{ReplaysScript, TriesEvents}
 use Rattle.run_driver.specs.declared.printing.Unwritten.{Unwritten}
 use Rattle.run_driver.specs.declared.printing.Unwritten.TheVariants as unwritten
