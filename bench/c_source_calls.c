@@ -31,6 +31,10 @@ static uint32_t ticks(void) { return 0; }
 static void begin(void) {}
 #endif
 
+/* What is set up has to work. */
+static int wrong;
+static void set(int32_t status) { wrong += status != RATHONSI_OK; }
+
 static int32_t call(int which) {
     switch (which) {
     case 1: return rathonsi_aes128_encrypt(key, 16, text, 16);
@@ -64,25 +68,26 @@ static void set_up(void) {
     update.flags = RATHONSI_KEY_USAGE;
     update.counter = 1;
     memcpy(update.key, key, 16);
-    rathonsi_store_make(image, sizeof image);
+    set(rathonsi_store_make(image, sizeof image));
     RathonsiRoute route = {0, 0x1234, 14, 128, 256, 4, RATHONSI_SENDS, 0, 0, {0}};
     sender = receiver = route;
     receiver.cell = 15;
     receiver.direction = RATHONSI_RECEIVES;
-    rathonsi_route_make(&sender, 100000, image, sizeof image);
-    rathonsi_route_make(&receiver, 100000, image, sizeof image);
-    rathonsi_she_make_update(empty, 16, &update, &request);
-    rathonsi_slot_load(uid, 0, &request, image, sizeof image, &plan);
-    rathonsi_store_done(image, sizeof image, &plan);
+    set(rathonsi_route_make(&sender, 100000, image, sizeof image));
+    set(rathonsi_route_make(&receiver, 100000, image, sizeof image));
+    set(rathonsi_she_make_update(empty, 16, &update, &request));
+    set(rathonsi_slot_load(uid, 0, &request, image, sizeof image, &plan));
+    set(rathonsi_store_done(image, sizeof image, &plan));
     update.counter = 2;
-    rathonsi_she_make_update(key, 16, &update, &request);
-    rathonsi_route_open(&sender, image, sizeof image);
-    rathonsi_route_open(&receiver, image, sizeof image);
+    set(rathonsi_she_make_update(key, 16, &update, &request));
+    set(rathonsi_route_open(&sender, image, sizeof image));
+    set(rathonsi_route_open(&receiver, image, sizeof image));
     sender.counter = 10;
 }
 
 int main(int count, char **words) {
     set_up();
+    if (wrong) return 1;
     if (count > 1) { /* a call alone, once or several times, for who counts from outside */
         int which = words[1][0] - '0', times = count > 2 ? words[2][0] - '0' : 1;
         for (int i = 0; i < times; i++) call(which);

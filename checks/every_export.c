@@ -11,7 +11,7 @@
 
 enum { ROUTES = 3, SIZE = RATHONSI_STORE_SIZE(ROUTES), MORE = 68, SLOTS = 14, STATUSES = 18 };
 
-static uint8_t image[SIZE + MORE], key[16], uid[15], text[320], pdu[80], payload[80], mac[16], iv[16], keys[SLOTS][16];
+static uint8_t image[SIZE + 2 * MORE], key[16], uid[15], text[320], pdu[80], payload[80], mac[16], iv[16], keys[SLOTS][16];
 static RathonsiRoute routes[ROUTES];
 static RathonsiPlan plan;
 static RathonsiUpdate update;
@@ -284,14 +284,91 @@ static void tell(const RathonsiRoute *it, size_t size) {
     add_number(route.bound);
 }
 
+/* Room for a cell more, and a route whose cell that is. */
+static void grow(void) {
+    RathonsiRoute it = routes[0];
+    uint8_t head[32];
+    uint32_t told = 7, which = 7;
+    uint16_t cell = 7;
+    RathonsiRoute all[ROUTES];
+    memcpy(all, routes, sizeof routes);
+    status(rathonsi_routes_open(all, ROUTES, image, SIZE, &which));
+    add_number(which);
+    for (int i = 0; i < ROUTES; i++) add_route(&all[i]);
+    status(rathonsi_store_look(image, one_in(9) ? below(SIZE) : SIZE, &cell));
+    add_number(cell);
+    memcpy(head, image, sizeof head);
+    if (one_in(4)) flip(head, sizeof head);
+    status(rathonsi_store_size(head, &told));
+    add_number(told);
+    it.cell = (uint16_t)(RATHONSI_SLOT_CELLS + ROUTES - (one_in(6) ? 1u : 0u));
+    it.data_id++;
+    status(rathonsi_store_grow(&it, freshness(), image, one_in(8) ? SIZE : SIZE + 2 * MORE, &plan));
+    add_plan();
+    if (plan.writes[2].offset == 10) memset(&plan, 0, sizeof plan);
+}
+
+static void answer_nonce(RathonsiRoute *it, size_t size) {
+    uint8_t nonce[16], answer[24];
+    RathonsiRoute other = *it;
+    fill(nonce, sizeof nonce);
+    fill(answer, sizeof answer);
+    status(rathonsi_sync_answer(it, image, size, nonce, answer));
+    add(answer, sizeof answer);
+    if (one_in(3)) flip(answer, sizeof answer);
+    other.counter = freshness();
+    add_verdict(rathonsi_sync_take(&other, image, size, nonce, answer));
+    add_route(&other);
+}
+
+static void step(RathonsiRoute *it, size_t n, size_t size) {
+    RathonsiInput input;
+    memset(&input, 7, sizeof input);
+    fill(payload, n);
+    status(rathonsi_send_input(it, image, size, payload, n, &input));
+    if (one_in(5)) flip(input.bytes, sizeof input.bytes);
+    if (input.length <= 70) status(rathonsi_cmac(keys[4], 16, input.bytes, input.length, mac));
+    status(rathonsi_send_mac(it, image, size, payload, n, &input, mac, pdu, one_in(10) ? below(80) : n + RATHONSI_TRAILER));
+    add(pdu, sizeof pdu);
+    status(rathonsi_receive_input(it, image, size, pdu, n + RATHONSI_TRAILER, &input));
+    add_number(input.freshness);
+    add_number(input.length);
+    add(input.bytes, sizeof input.bytes);
+    add_verdict(rathonsi_receive_mac(it, image, size, pdu, n + RATHONSI_TRAILER, &input, mac));
+}
+
+static void boot(size_t size) {
+    RathonsiBoot booting;
+    RathonsiMac of;
+    uint8_t booted = 7;
+    size_t n = below(300), cut = below((uint32_t)n + 1);
+    memset(&booting, 0, sizeof booting);
+    memset(&of, 0, sizeof of);
+    fill(text, n);
+    status(rathonsi_boot(image, size, text, n, &booted));
+    status(rathonsi_boot_begin(image, size, (uint32_t)n, &booting));
+    status(rathonsi_boot_update(&booting, text, cut));
+    status(rathonsi_boot_finish(&booting, &booted));
+    add_number(booted);
+    status(rathonsi_mac_begin(key, key_length(), &of));
+    status(rathonsi_mac_update(&of, text, cut));
+    status(rathonsi_mac_update(&of, text + cut, n - cut));
+    status(rathonsi_mac_finish(&of, mac));
+    add(mac, sizeof mac);
+}
+
 static void call_store(void) {
     RathonsiRoute *it = &routes[below(ROUTES)];
     size_t n = one_in(12) ? below(70) : 1 + below(60), size = one_in(60) ? below(SIZE + MORE + 1) : SIZE;
     if (one_in(60)) damage_route(it);
     if (plan.writes[1].length != 0 && one_in(2)) finish();
-    switch (below(9)) {
+    switch (below(13)) {
     case 0: status(rathonsi_route_open(it, image, size)); break;
     case 8: tell(it, size); break;
+    case 9: grow(); break;
+    case 10: answer_nonce(it, size); break;
+    case 11: step(it, n, size); break;
+    case 12: boot(size); break;
     case 1: reserve(it, one_in(3) ? freshness() : it->counter + 1, size); break;
     case 2: case 3: send(it, n, size); break;
     case 4: case 5: receive(it, n, size); break;

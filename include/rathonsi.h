@@ -61,9 +61,16 @@
 extern "C" {
 #endif
 
+/* A status that isn't looked at is a mistake: compilers that can warn of it do. */
+#if defined(__GNUC__)
+#define RATHONSI_CHECKED __attribute__((warn_unused_result))
+#else
+#define RATHONSI_CHECKED
+#endif
+
 /* The version of this header and of rathonsi_store.h: major times 65536, plus minor times 256, plus
  * patch. */
-#define RATHONSI_VERSION 0x000d00u
+#define RATHONSI_VERSION 0x000e00u
 
 /* The version of the library that is linked, to be compared with RATHONSI_VERSION. */
 uint32_t rathonsi_version(void);
@@ -90,17 +97,49 @@ uint32_t rathonsi_version(void);
 /* Encrypt and decrypt a text in place, each block by itself (ECB). text_length is a multiple of 16,
  * and may be 0.
  * RATHONSI_BAD_LENGTH: key_length isn't 16, or text_length is no multiple of 16. */
+RATHONSI_CHECKED
 int32_t rathonsi_aes128_encrypt(const uint8_t *key, size_t key_length, uint8_t *text, size_t text_length);
+RATHONSI_CHECKED
 int32_t rathonsi_aes128_decrypt(const uint8_t *key, size_t key_length, uint8_t *text, size_t text_length);
 
 /* The same, chained from an IV of 16 bytes (CBC). */
+RATHONSI_CHECKED
 int32_t rathonsi_aes128_cbc_encrypt(const uint8_t *key, size_t key_length, const uint8_t iv[16], uint8_t *text, size_t text_length);
+RATHONSI_CHECKED
 int32_t rathonsi_aes128_cbc_decrypt(const uint8_t *key, size_t key_length, const uint8_t iv[16], uint8_t *text, size_t text_length);
 
 /* Writes all 16 bytes of the CMAC of a message to mac. The message may have any length. A shorter
  * tag is the first bytes of mac.
  * RATHONSI_BAD_LENGTH: key_length isn't 16. */
+RATHONSI_CHECKED
 int32_t rathonsi_cmac(const uint8_t *key, size_t key_length, const uint8_t *message, size_t message_length, uint8_t mac[16]);
+
+/* The CMAC of a message that comes in pieces. The caller keeps the struct, and only the calls below
+ * change it. It holds the key. A zeroed struct is refused. A copy of it goes on by itself. */
+typedef struct RathonsiMac {
+    uint8_t key[16];
+    uint8_t chain[16];
+    uint8_t block[16];
+    uint8_t filled;
+    uint8_t begun;
+    uint8_t unused[2];
+} RathonsiMac;
+
+/* Begins the CMAC of a message.
+ * RATHONSI_BAD_LENGTH: key_length isn't 16. */
+RATHONSI_CHECKED
+int32_t rathonsi_mac_begin(const uint8_t *key, size_t key_length, RathonsiMac *mac);
+
+/* Takes the next bytes of the message, any number of them.
+ * RATHONSI_BAD_VALUE: rathonsi_mac_begin didn't begin it. */
+RATHONSI_CHECKED
+int32_t rathonsi_mac_update(RathonsiMac *mac, const uint8_t *bytes, size_t bytes_length);
+
+/* Writes all 16 bytes of the CMAC of the bytes given so far to tag. More bytes may be given after
+ * it.
+ * RATHONSI_BAD_VALUE: rathonsi_mac_begin didn't begin it. */
+RATHONSI_CHECKED
+int32_t rathonsi_mac_finish(const RathonsiMac *mac, uint8_t tag[16]);
 
 /* ---- Secured I-PDUs (AUTOSAR SecOC profile 1) ------------------------------------------------ */
 
@@ -115,11 +154,13 @@ int32_t rathonsi_cmac(const uint8_t *key, size_t key_length, const uint8_t *mess
  * bytes stay.
  * RATHONSI_BAD_LENGTH: key_length isn't 16, payload_length is 0 or over 60, or pdu_length is below
  * payload_length + 4. */
+RATHONSI_CHECKED
 int32_t rathonsi_secoc_protect(const uint8_t *key, size_t key_length, uint16_t data_id, uint64_t freshness,
                                const uint8_t *payload, size_t payload_length, uint8_t *pdu, size_t pdu_length);
 
 /* The same for a payload that stands in the first payload_length bytes of pdu. pdu_length is the
  * size of the whole buffer. */
+RATHONSI_CHECKED
 int32_t rathonsi_secoc_protect_in_place(const uint8_t *key, size_t key_length, uint16_t data_id, uint64_t freshness,
                                         uint8_t *pdu, size_t pdu_length, size_t payload_length);
 
@@ -139,6 +180,7 @@ typedef struct RathonsiVerdict {
  * RATHONSI_BAD_LENGTH: key_length isn't 16, or pdu_length is below 5 or over 64.
  * RATHONSI_BAD_VALUE: window is 0 or over 256.
  * RATHONSI_FRESHNESS_FAILURE, RATHONSI_VERIFICATION_FAILURE: as above. */
+RATHONSI_CHECKED
 RathonsiVerdict rathonsi_secoc_verify(const uint8_t *key, size_t key_length, uint16_t data_id, uint64_t counter, uint16_t window,
                                       const uint8_t *pdu, size_t pdu_length);
 
@@ -151,13 +193,20 @@ RathonsiVerdict rathonsi_secoc_verify(const uint8_t *key, size_t key_length, uin
 /* Derives a key from key with this constant, and writes it to derived.
  * RATHONSI_BAD_LENGTH: key_length isn't 16.
  * RATHONSI_BAD_VALUE: the constant is neither of the two. */
+RATHONSI_CHECKED
 int32_t rathonsi_she_derive(const uint8_t *key, size_t key_length, uint32_t constant, uint8_t derived[16]);
 
 /* The flags of a slot */
+/* The slot takes no update any more. */
 #define RATHONSI_WRITE_PROTECTION 16u
+/* The key is used only after a secure boot that succeeded in this life. */
 #define RATHONSI_BOOT_PROTECTION 8u
+/* Kept for a debugger. No call here reads it. */
 #define RATHONSI_DEBUGGER_PROTECTION 4u
+/* Set: the key makes and verifies MACs. A route needs it: without it send and receive answer
+ * RATHONSI_KEY_INVALID. Not set: the key is for encryption. */
 #define RATHONSI_KEY_USAGE 2u
+/* Set: the slot takes no update that is for every engine, with a UID of zero bytes. */
 #define RATHONSI_WILDCARD 1u
 
 /* A key update:
@@ -193,17 +242,20 @@ typedef struct RathonsiReply {
  * authorising key.
  * RATHONSI_BAD_LENGTH: key_length isn't 16.
  * RATHONSI_BAD_VALUE: a number of the update is outside its range. */
+RATHONSI_CHECKED
 int32_t rathonsi_she_make_update(const uint8_t *authkey, size_t key_length, const RathonsiUpdate *update, RathonsiRequest *request);
 
 /* Reads the update that a request carries under the authorising key. It doesn't examine the padding
  * bits of M2. It doesn't ask whether an engine takes the update (its slot, counter, flags and UID).
  * RATHONSI_BAD_LENGTH: key_length isn't 16.
  * RATHONSI_BAD_ID, RATHONSI_BAD_MAC: as above. */
+RATHONSI_CHECKED
 int32_t rathonsi_she_read_update(const uint8_t *authkey, size_t key_length, const RathonsiRequest *request, RathonsiUpdate *update);
 
 /* Writes the reply by which the engine with this UID confirms the update. A station compares it
  * with the reply that came.
  * RATHONSI_BAD_VALUE: a number of the update is outside its range. */
+RATHONSI_CHECKED
 int32_t rathonsi_she_confirm(const RathonsiUpdate *update, const uint8_t uid[15], RathonsiReply *reply);
 
 #ifdef __cplusplus

@@ -14,15 +14,18 @@
  * Each function is an export of the crate rathonsi_c, and its contract is proved:
  *   - A call returns a status exactly if this header says so. If several could come, it returns the
  *     first one that the comment of the call names.
- *   - With a status other than RATHONSI_OK every output is as before, except what
- *     rathonsi_route_receive says of RATHONSI_RESERVE.
+ *   - With a status other than RATHONSI_OK every output is as before, unless the comment of the call
+ *     says otherwise.
  *
  * More is proved of a caller that keeps what it owes, over all lives with a store of several routes
  * and slots. A life lasts from one power-up to the next. This holds wherever within a write the
- * power goes. The caller may open, send, accept, reserve, advance, load, finish and drop with the
- * calls below. A route may have any key, window, reserve and boot, in this life and the next.
+ * power goes. The caller may open, send, accept, take answers, reserve, advance, load, finish and
+ * drop with the calls below. A route may have any key, window, reserve and boot, in this life and
+ * the next.
  *   - The freshness sent under a Data ID strictly rises. So does the freshness accepted. Both stay
- *     at most the bound on the device.
+ *     at most the bound on the device. This holds across a software update that adds a route.
+ *   - After a receiver took an answer of its sender, it accepts what the sender sends after the
+ *     answer, within its window. Without the key nobody moves a counter.
  *   - An update that was confirmed stays in its slot, and the same reply confirms it. This lasts
  *     until another update of the slot is done, or is planned when the power goes or all begins
  *     again.
@@ -37,10 +40,14 @@
  *   - Only the functions below change the image, the plan and the counters of routes. One
  *     exception: the caller zeroes a plan as this list says.
  *   - rathonsi_store_make and rathonsi_route_make change the image only before the first power-up.
- *   - A store has one image, one plan and one task at a time.
+ *   - A store has one image, one plan and one task at a time. Several stores share nothing: each
+ *     has its own.
  *   - A Data ID in one direction has one cell and one route. No other route uses the cell.
+ *     rathonsi_routes_open sees to it.
  *   - A route has the same Data ID, direction and cell in every life. Slot, window, reserve and
  *     booted may change. The caller zeroes opened at power-up, and never sets it.
+ *   - While a plan is pending, routes send and receive as before. A new plan answers RATHONSI_BUSY.
+ *   - A nonce is drawn by the caller, and none is used twice. See rathonsi_sync_take.
  *
  *   Power-up
  *   - The caller zeroes the plan as each power-up begins, and whenever all begins again as at
@@ -49,7 +56,11 @@
  *     synced before it is read. Otherwise what a failed write left may be read, relied on, and then
  *     be gone.
  *   - After each power-up the caller opens every route, with RATHONSI_OK, before any other call of
- *     this header except rathonsi_store_check. A route that was zeroed and not opened is refused.
+ *     this header except rathonsi_store_size, rathonsi_store_check, rathonsi_store_look,
+ *     rathonsi_store_grow and rathonsi_store_done. A route that was zeroed and not opened is
+ *     refused, and so is one whose last opening failed.
+ *   - booted of a route, and of rathonsi_slot_load, is what rathonsi_boot or rathonsi_boot_finish
+ *     said in this life, else 0. It says what a boot loader that the caller trusts gave to it.
  *
  *   Writes
  *   - The caller does the writes of a plan in their order, each durable before the next begins.
@@ -62,10 +73,27 @@
  *     of this header. All begins again as at power-up.
  *   - The caller may drop (zero) a plan if no write of it was begun.
  *
+ * First keys. An empty slot is authorised by itself, and its key counts as sixteen bytes ff. So a
+ * production line loads, each with counter 1 and M1's AuthID as given:
+ *   1. slot 1 (the master key), AuthID 1, under sixteen bytes ff;
+ *   2. slots 2 and 3 (the key of the boot MAC, and the boot MAC), AuthID 1, under the key of slot 1;
+ *   3. slots 4 to 13, AuthID 1, under the key of slot 1. A route's key has RATHONSI_KEY_USAGE.
+ * A slot that is filled is updated with its own key or that of slot 1. Slot 3 is never its own
+ * authority: slot 2 or slot 1 is.
+ *
+ * What the bytes are. A dump of the device is a store file: the programs `node` and `keytool load`
+ * read it and work on it. No cell has a checksum. A bit that flips may take a counter back unseen,
+ * or change a key: the device, or what emulates it, corrects or detects such errors.
+ *
+ * Wear. Each plan of a reserve writes 35 bytes: the gate of a copy twice, and the 33 bytes after it
+ * between. The two copies take turns. docs/units.md has a table of writes a day.
+ *
  * How it is used (examples/c/control_unit.c does all of it):
  *
  *     static uint8_t image[RATHONSI_STORE_SIZE(2)];
  *     static RathonsiPlan plan;
+ *     static RathonsiRoute routes[2]; // filled in, but counter and opened
+ *     static RathonsiRoute *const speed = &routes[0], *const brake = &routes[1];
  *
  *     // at power-up, and when all begins again
  *     void power_up(void) {
@@ -73,8 +101,7 @@
  *         read_device(image, sizeof image);
  *         if (rathonsi_store_check(image, sizeof image) != RATHONSI_OK)
  *             stop();
- *         // and so every other route
- *         if (rathonsi_route_open(&speed, image, sizeof image) != RATHONSI_OK)
+ *         if (rathonsi_routes_open(routes, 2u, image, sizeof image, &which) != RATHONSI_OK)
  *             stop();
  *     }
  *
@@ -84,27 +111,30 @@
  *             if (plan.writes[i].length != 0u)
  *                 write_device(plan.writes[i].offset, plan.writes[i].bytes,
  *                              plan.writes[i].length);
- *         rathonsi_store_done(image, sizeof image, &plan);
+ *         if (rathonsi_store_done(image, sizeof image, &plan) != RATHONSI_OK)
+ *             stop();
  *     }
  *
  *     // send
- *     status = rathonsi_route_send(&speed, image, sizeof image, payload, 8u,
+ *     status = rathonsi_route_send(speed, image, sizeof image, payload, 8u,
  *                                  pdu, sizeof pdu);
  *     // reserve, do the plan, then send again; or reserve ahead, see there
  *     if (status == RATHONSI_RESERVE) {
- *         rathonsi_route_reserve(&speed, speed.counter + 1u, image,
- *                                sizeof image, &plan);
- *         do_plan();
+ *         status = rathonsi_route_reserve(speed, speed->counter + 1u, image,
+ *                                         sizeof image, &plan);
+ *         if (status == RATHONSI_OK)
+ *             do_plan();
  *     }
  *
  *     // receive
- *     verdict = rathonsi_route_receive(&brake, image, sizeof image, pdu,
+ *     verdict = rathonsi_route_receive(brake, image, sizeof image, pdu,
  *                                      pdu_length);
  *     // reserve, do the plan, then receive again
  *     if (verdict.status == RATHONSI_RESERVE) {
- *         rathonsi_route_reserve(&brake, verdict.freshness, image,
- *                                sizeof image, &plan);
- *         do_plan();
+ *         status = rathonsi_route_reserve(brake, verdict.freshness, image,
+ *                                         sizeof image, &plan);
+ *         if (status == RATHONSI_OK)
+ *             do_plan();
  *     }
  *
  *     // load a key, and answer
@@ -155,6 +185,15 @@ extern "C" {
  * made holds zero bytes. */
 #define RATHONSI_WRONG_CELL 17
 
+/* All statuses of both headers, for a table of names: RATHONSI_STATUSES(X) is X(name, number) for
+ * each of them. Of X(name, number) as `case number: return #name;` comes a function that names
+ * them. */
+#define RATHONSI_STATUSES(X) \
+    X(OK, 0) X(BAD_LENGTH, 1) X(BAD_VALUE, 2) X(FRESHNESS_FAILURE, 3) X(VERIFICATION_FAILURE, 4) \
+    X(BAD_ID, 5) X(BAD_MAC, 6) X(NO_STORE, 7) X(DAMAGED, 8) X(BUSY, 9) X(RESERVE, 10) \
+    X(EXHAUSTED, 11) X(KEY_EMPTY, 12) X(KEY_INVALID, 13) X(KEY_NOT_AVAILABLE, 14) \
+    X(KEY_WRITE_PROTECTED, 15) X(KEY_UPDATE_ERROR, 16) X(WRONG_CELL, 17)
+
 /* A store is a twin store of version 1. It has a header, fourteen cells of key slots, and after
  * them a cell for each route, up to 256. */
 #define RATHONSI_SLOT_CELLS 14u
@@ -189,9 +228,11 @@ typedef struct RathonsiRoute {
     /* How far a reserve moves the bound, 1 to 128. A power cut makes a sender skip what is reserved
      * and not sent. It makes a receiver refuse what is reserved and not accepted. */
     uint16_t reserve;
-    /* How far above its counter a receiver accepts freshness, 1 to 256. The window is at least what
-     * its sender may skip at a power cut. Otherwise the receiver may never accept again. It plays
-     * no part for a route that sends. */
+    /* How far above its counter a receiver accepts freshness, 1 to 256. A receiver falls behind by
+     * what its sender sends while it is down (rate times seconds), and by what the sender skips
+     * (its reserve, once for each power cut). If that is more than the window, it accepts nothing
+     * until it takes an answer of the sender: see rathonsi_sync_take. The window plays no part for
+     * a route that sends. */
     uint16_t window;
     /* The slot of its key, 4 to 13. */
     uint8_t slot;
@@ -199,7 +240,8 @@ typedef struct RathonsiRoute {
     uint8_t direction;
     /* 1 after a secure boot that succeeded in this life, else 0. */
     uint8_t booted;
-    /* 1 once rathonsi_route_open has opened the route, which alone sets it. */
+    /* 1 once rathonsi_route_open or rathonsi_routes_open has opened the route. They alone set it, and
+     * zero it if they fail. */
     uint8_t opened;
     /* Not read. */
     uint8_t unused[4];
@@ -229,6 +271,7 @@ typedef struct RathonsiSlotState {
 /* For the production line: makes the image of a store with fourteen empty slots, and a cell of zero
  * bytes for each route.
  * RATHONSI_BAD_LENGTH: image_length isn't RATHONSI_STORE_SIZE of any number of routes up to 256. */
+RATHONSI_CHECKED
 int32_t rathonsi_store_make(uint8_t *image, size_t image_length);
 
 /* For the production line, after rathonsi_store_make: makes the cell of a route hold its first
@@ -239,28 +282,86 @@ int32_t rathonsi_store_make(uint8_t *image, size_t image_length);
  *   3. the first 32 bytes of the image.
  * RATHONSI_BAD_LENGTH: as for rathonsi_store_make.
  * RATHONSI_BAD_VALUE: a number of the route is outside its range, or the image has no such cell. */
+RATHONSI_CHECKED
 int32_t rathonsi_route_make(const RathonsiRoute *route, uint64_t bound, uint8_t *image, size_t image_length);
 
 /* Checks an image that was read from the device.
  * RATHONSI_OK: it has the header of a store of this length, and in every cell a copy that counts.
  * RATHONSI_BAD_LENGTH: as for rathonsi_store_make.
  * RATHONSI_NO_STORE, RATHONSI_DAMAGED. */
+RATHONSI_CHECKED
 int32_t rathonsi_store_check(const uint8_t *image, size_t image_length);
+
+/* Looks at each cell, and names the first that isn't as it should be. The first fourteen cells are
+ * slots. Each later one is a bound, or zero bytes: rathonsi_route_make never made that one.
+ * cell is written with RATHONSI_DAMAGED and RATHONSI_WRONG_CELL, and with no other status.
+ * RATHONSI_BAD_LENGTH, RATHONSI_NO_STORE: as for rathonsi_store_check.
+ * RATHONSI_DAMAGED: no copy of the cell counts. The device is at fault.
+ * RATHONSI_WRONG_CELL: the cell holds something else than its place is for. */
+RATHONSI_CHECKED
+int32_t rathonsi_store_look(const uint8_t *image, size_t image_length, uint16_t *cell);
+
+/* Tells the size in bytes of the store that begins with these 32 bytes. Older software that finds a
+ * larger store takes this many bytes as its image. All calls work in it.
+ * RATHONSI_NO_STORE: they are not the header of a store of up to 256 routes. */
+RATHONSI_CHECKED
+int32_t rathonsi_store_size(const uint8_t head[32], uint32_t *size);
+
+/* For a software update that adds a route: plans the cell of the route as one more at the end of
+ * the store. The cell holds this bound at once, so there is no store in which it counts and is
+ * nobody's. The bound is 0, unless a counter is taken over. The plan's last write is the number of
+ * cells in the header.
+ *
+ * It is called at power-up, before the routes are opened, until the plan stays empty. The plan
+ * stays empty if the store has this cell already. After a power cut the same call, on the bytes
+ * that the device holds, goes on. If the cut left another number of cells, the call finds both
+ * copies of the cell as it wrote them, and plans the number alone. More routes are more calls, in
+ * the order of their cells.
+ *
+ * image is what the device holds, with room for this cell and one more. What lies there after the
+ * store is no cell: zero bytes or ff, say, as in place of bytes that the device hasn't. For if the
+ * cell after this one is there, the store has more cells, or is to get them. Then the call plans
+ * nothing. So the store of newer software stays as it is, and so does one whose number of cells
+ * was cut as a later cell was added.
+ * RATHONSI_BUSY.
+ * RATHONSI_BAD_VALUE: a number of the route is outside its range.
+ * RATHONSI_BAD_LENGTH: image_length is below RATHONSI_STORE_SIZE(cell - RATHONSI_SLOT_CELLS + 2), or
+ * the cell is above 269.
+ * RATHONSI_NO_STORE: the image is no store that ends before this cell, or has it, or would but for
+ * its number of cells.
+ * RATHONSI_WRONG_CELL, RATHONSI_DAMAGED: the store has this cell, and rathonsi_route_open has
+ * these. */
+RATHONSI_CHECKED
+int32_t rathonsi_store_grow(const RathonsiRoute *route, uint64_t bound, const uint8_t *image, size_t image_length,
+                            RathonsiPlan *plan);
 
 /* By this call the caller says that all writes of the plan are durable. The call brings the image
  * up to date, and empties the plan. It does nothing if all bytes of the plan are zero.
  * RATHONSI_BAD_VALUE: a write with a length above 0 reaches beyond the image, or a write has more
  * than 40 bytes. */
+RATHONSI_CHECKED
 int32_t rathonsi_store_done(uint8_t *image, size_t image_length, RathonsiPlan *plan);
 
 /* ---- Counters -------------------------------------------------------------------------------- */
 
 /* Opens the route: sets its counter to the bound that the image keeps. That bound is at least every
- * freshness that was sent or accepted before.
+ * freshness that was sent or accepted before. With any other status the route is closed: opened is
+ * 0.
  * RATHONSI_BAD_VALUE: a number of the route is outside its range.
  * RATHONSI_WRONG_CELL.
  * RATHONSI_DAMAGED: no copy of its cell counts. */
+RATHONSI_CHECKED
 int32_t rathonsi_route_open(RathonsiRoute *route, const uint8_t *image, size_t image_length);
+
+/* Opens all routes of a unit.
+ * RATHONSI_BAD_LENGTH: count is over 256. Nothing is written.
+ * With each of the statuses below all routes are closed: opened is 0. which is then the number of
+ * the first route that fails, from 0 on.
+ * RATHONSI_BAD_VALUE: a number of route which is outside its range, or a route before it has its
+ * cell, or its Data ID and direction.
+ * RATHONSI_WRONG_CELL, RATHONSI_DAMAGED: as for rathonsi_route_open. */
+RATHONSI_CHECKED
+int32_t rathonsi_routes_open(RathonsiRoute *routes, size_t count, const uint8_t *image, size_t image_length, uint32_t *which);
 
 /* Plans the bound that covers this freshness and reserve - 1 more, at most 2^64 - 1. The plan stays
  * empty if the bound in the image is as high already.
@@ -271,21 +372,26 @@ int32_t rathonsi_route_open(RathonsiRoute *route, const uint8_t *image, size_t i
  * RATHONSI_BAD_VALUE: a number of the route is outside its range, or the route isn't open.
  * RATHONSI_WRONG_CELL, RATHONSI_DAMAGED: as for rathonsi_route_open.
  * RATHONSI_BAD_VALUE, after these: the freshness is over 256 above the bound in the image. Such a
- * bound is mostly a mistake, and receivers would never accept again. */
+ * bound is mostly a mistake, and receivers would never accept again. So one reserve moves the bound
+ * by at most 256 + reserve - 1, which is 383 with a reserve of 128. */
+RATHONSI_CHECKED
 int32_t rathonsi_route_reserve(const RathonsiRoute *route, uint64_t freshness, const uint8_t *image, size_t image_length,
                                RathonsiPlan *plan);
 
 /* Does what rathonsi_route_reserve does, however far ahead the freshness is. Its plan done, the
  * caller opens the route anew: rathonsi_route_open moves the counter to the bound. So a unit that
- * is put in place of another one goes on above the freshness of that one.
+ * is put in place of another one goes on above the freshness of that one. So does a receiver after
+ * RATHONSI_RESERVE of rathonsi_sync_take.
  * RATHONSI_BUSY.
  * RATHONSI_BAD_VALUE: a number of the route is outside its range, or the route isn't open.
  * RATHONSI_WRONG_CELL, RATHONSI_DAMAGED: as for rathonsi_route_open. */
+RATHONSI_CHECKED
 int32_t rathonsi_route_advance(const RathonsiRoute *route, uint64_t freshness, const uint8_t *image, size_t image_length,
                                RathonsiPlan *plan);
 
 /* Tells of a route, whether it is open or not.
  * RATHONSI_BAD_VALUE, RATHONSI_WRONG_CELL, RATHONSI_DAMAGED: as for rathonsi_route_open. */
+RATHONSI_CHECKED
 int32_t rathonsi_route_state(const RathonsiRoute *route, const uint8_t *image, size_t image_length,
                              RathonsiRouteState *state);
 
@@ -299,6 +405,7 @@ int32_t rathonsi_route_state(const RathonsiRoute *route, const uint8_t *image, s
  * RATHONSI_DAMAGED: no copy of its cell counts, or the cell of its slot holds no slot.
  * RATHONSI_KEY_EMPTY, RATHONSI_KEY_INVALID, RATHONSI_KEY_NOT_AVAILABLE.
  * RATHONSI_EXHAUSTED, RATHONSI_RESERVE. */
+RATHONSI_CHECKED
 int32_t rathonsi_route_send(RathonsiRoute *route, const uint8_t *image, size_t image_length, const uint8_t *payload,
                             size_t payload_length, uint8_t *pdu, size_t pdu_length);
 
@@ -316,8 +423,144 @@ int32_t rathonsi_route_send(RathonsiRoute *route, const uint8_t *image, size_t i
  * yet. The authenticator of the PDU agrees, so nobody without the key makes the device wear.
  * freshness is the one to reserve. Once it is reserved and the plan is done, the same call accepts
  * the PDU. This is proved. */
+RATHONSI_CHECKED
 RathonsiVerdict rathonsi_route_receive(RathonsiRoute *route, const uint8_t *image, size_t image_length, const uint8_t *pdu,
                                        size_t pdu_length);
+
+/* ---- A receiver that fell behind --------------------------------------------------------------
+ *
+ * A receiver that is more than its window behind accepts nothing, whatever comes. It gets back so:
+ *   1. It draws a nonce of 16 random bytes, and sends it to the unit that sends under the Data ID.
+ *   2. That unit makes the answer by rathonsi_sync_answer, and sends its 24 bytes back.
+ *   3. The receiver takes the answer by rathonsi_sync_take, and forgets the nonce.
+ * How nonce and answer travel is the caller's: plain PDUs will do. examples/c/resync.c does it.
+ *
+ * The library has no random numbers. The caller draws each nonce so that none comes twice. If one
+ * does, an old answer to it is taken again. It moves the counter at most to where the sender was
+ * then, and never down. So no PDU is accepted twice even then. But whoever kept an answer and knows
+ * the next nonce could have made the sender answer before: the receiver is then still behind. */
+
+/* The bytes of a nonce and of an answer. */
+#define RATHONSI_NONCE 16u
+#define RATHONSI_ANSWER 24u
+
+/* For a route that sends: writes the answer to a nonce. It tells the route's counter, with a CMAC
+ * of the nonce, the Data ID and the counter under the route's key. All freshness that the route
+ * sends later, in this life and every other, is above that counter. Nothing is reserved.
+ * RATHONSI_BAD_VALUE, RATHONSI_WRONG_CELL, RATHONSI_DAMAGED, RATHONSI_KEY_EMPTY,
+ * RATHONSI_KEY_INVALID, RATHONSI_KEY_NOT_AVAILABLE: as for rathonsi_route_send. */
+RATHONSI_CHECKED
+int32_t rathonsi_sync_answer(const RathonsiRoute *route, const uint8_t *image, size_t image_length, const uint8_t nonce[16],
+                             uint8_t answer[24]);
+
+/* For a route that receives: takes the answer to this nonce. The nonce is one that this receiver
+ * drew for this route and sent, and whose answer wasn't taken yet.
+ * RATHONSI_OK: the counter that the answer tells became the counter of the route. payload_length is
+ * 0, and freshness is that counter. PDUs that were sent after the answer are accepted, within the
+ * window.
+ * RATHONSI_BAD_VALUE, RATHONSI_WRONG_CELL, RATHONSI_DAMAGED, RATHONSI_KEY_EMPTY,
+ * RATHONSI_KEY_INVALID, RATHONSI_KEY_NOT_AVAILABLE: as for rathonsi_route_receive.
+ * RATHONSI_VERIFICATION_FAILURE: it is no answer to this nonce under this key and Data ID.
+ * RATHONSI_FRESHNESS_FAILURE: it is, and its counter isn't above the route's. The receiver isn't
+ * behind.
+ * RATHONSI_RESERVE: it is, and the bound in the image doesn't cover its counter yet. freshness is
+ * that counter. Reserve it by rathonsi_route_advance, since it may be further ahead than
+ * rathonsi_route_reserve plans. Do the plan, and make the same call again. */
+RATHONSI_CHECKED
+RathonsiVerdict rathonsi_sync_take(RathonsiRoute *route, const uint8_t *image, size_t image_length, const uint8_t nonce[16],
+                                   const uint8_t answer[24]);
+
+/* ---- Keys outside the store -------------------------------------------------------------------
+ *
+ * A unit whose keys lie in a hardware SHE or HSM sends and receives in two steps. The library tells
+ * the input of the MAC, the unit has its hardware make the MAC, and gives it back. Bounds and
+ * counters are kept as ever; slots of the image aren't read. What is promised of PDUs then speaks
+ * of the MACs that came: that they are the key's is the caller's word. rathonsi_route_send and
+ * rathonsi_route_receive are these two steps with the library's own CMAC. */
+
+/* What the MAC of a PDU covers: length bytes, 11 to 70. */
+typedef struct RathonsiInput {
+    uint64_t freshness;
+    uint16_t length;
+    uint8_t bytes[70];
+} RathonsiInput;
+
+/* Tells the input of the next PDU of a route with this payload. Nothing is sent yet.
+ * RATHONSI_BAD_LENGTH: payload_length is 0 or over 60.
+ * RATHONSI_BAD_VALUE, RATHONSI_WRONG_CELL, RATHONSI_EXHAUSTED, RATHONSI_RESERVE: as for
+ * rathonsi_route_send.
+ * RATHONSI_DAMAGED: no copy of its cell counts. */
+RATHONSI_CHECKED
+int32_t rathonsi_send_input(const RathonsiRoute *route, const uint8_t *image, size_t image_length, const uint8_t *payload,
+                            size_t payload_length, RathonsiInput *input);
+
+/* Writes the PDU with this payload and this MAC, as rathonsi_route_send does. mac is the MAC of the
+ * input's bytes under the key of the route: all 16 bytes.
+ * RATHONSI_BAD_LENGTH: as for rathonsi_route_send.
+ * RATHONSI_BAD_VALUE, RATHONSI_WRONG_CELL, RATHONSI_DAMAGED, RATHONSI_EXHAUSTED, RATHONSI_RESERVE:
+ * as for rathonsi_send_input.
+ * RATHONSI_BAD_VALUE, after these: the input isn't that of the next PDU with this payload. */
+RATHONSI_CHECKED
+int32_t rathonsi_send_mac(RathonsiRoute *route, const uint8_t *image, size_t image_length, const uint8_t *payload,
+                          size_t payload_length, const RathonsiInput *input, const uint8_t mac[16], uint8_t *pdu,
+                          size_t pdu_length);
+
+/* Tells the input of a PDU that came: what its MAC covers if it is authentic.
+ * RATHONSI_BAD_LENGTH, RATHONSI_BAD_VALUE, RATHONSI_WRONG_CELL: as for rathonsi_route_receive.
+ * RATHONSI_DAMAGED: no copy of its cell counts.
+ * RATHONSI_FRESHNESS_FAILURE. */
+RATHONSI_CHECKED
+int32_t rathonsi_receive_input(const RathonsiRoute *route, const uint8_t *image, size_t image_length, const uint8_t *pdu,
+                               size_t pdu_length, RathonsiInput *input);
+
+/* The verdict of a receiver on the PDU by this MAC, as rathonsi_route_receive gives it. mac is the
+ * MAC of the input's bytes under the key of the route: all 16 bytes.
+ * RATHONSI_BAD_LENGTH, RATHONSI_BAD_VALUE, RATHONSI_WRONG_CELL, RATHONSI_DAMAGED,
+ * RATHONSI_FRESHNESS_FAILURE: as for rathonsi_receive_input.
+ * RATHONSI_BAD_VALUE, after these: the input isn't that of this PDU.
+ * RATHONSI_VERIFICATION_FAILURE.
+ * RATHONSI_RESERVE, after all refusals above: as for rathonsi_route_receive. */
+RATHONSI_CHECKED
+RathonsiVerdict rathonsi_receive_mac(RathonsiRoute *route, const uint8_t *image, size_t image_length, const uint8_t *pdu,
+                                     size_t pdu_length, const RathonsiInput *input, const uint8_t mac[16]);
+
+/* ---- Secure boot ------------------------------------------------------------------------------
+ *
+ * As SHE has it: slot 2 holds the key of the boot MAC, and slot 3 the boot MAC. The boot MAC is the
+ * CMAC of 12 zero bytes, the length of the program in bits in four bytes, and the program. `keytool
+ * bootmac` makes it. Flags of the two slots play no part. */
+
+/* Says whether the secure boot of a program succeeds: booted is 1 or 0.
+ * RATHONSI_BAD_LENGTH: program_length is 0, or 2^29 or more.
+ * RATHONSI_DAMAGED: the cell of slot 2 or 3 holds no slot.
+ * RATHONSI_KEY_EMPTY: slot 2 or 3 holds no key. There is no secure boot. */
+RATHONSI_CHECKED
+int32_t rathonsi_boot(const uint8_t *image, size_t image_length, const uint8_t *program, size_t program_length, uint8_t *booted);
+
+/* The same of a program that comes in pieces. The caller keeps the struct, and only the calls below
+ * change it. It holds the key. A zeroed struct is refused. */
+typedef struct RathonsiBoot {
+    RathonsiMac mac;
+    uint8_t wanted[16];
+    uint32_t left;
+} RathonsiBoot;
+
+/* Begins the boot of a program of so many bytes.
+ * RATHONSI_BAD_LENGTH, RATHONSI_DAMAGED, RATHONSI_KEY_EMPTY: as for rathonsi_boot. */
+RATHONSI_CHECKED
+int32_t rathonsi_boot_begin(const uint8_t *image, size_t image_length, uint32_t program_length, RathonsiBoot *boot);
+
+/* Takes the next bytes of the program.
+ * RATHONSI_BAD_VALUE: rathonsi_boot_begin didn't begin it.
+ * RATHONSI_BAD_LENGTH: they are more than are still to come. */
+RATHONSI_CHECKED
+int32_t rathonsi_boot_update(RathonsiBoot *boot, const uint8_t *bytes, size_t bytes_length);
+
+/* Says whether the program has the boot MAC: booted is 1 or 0.
+ * RATHONSI_BAD_VALUE: rathonsi_boot_begin didn't begin it.
+ * RATHONSI_BAD_LENGTH: bytes of the program are still to come. */
+RATHONSI_CHECKED
+int32_t rathonsi_boot_finish(const RathonsiBoot *boot, uint8_t *booted);
 
 /* ---- Keys ------------------------------------------------------------------------------------ */
 
@@ -325,10 +568,11 @@ RathonsiVerdict rathonsi_route_receive(RathonsiRoute *route, const uint8_t *imag
  * secure boot that succeeded in this life, else 0.
  * RATHONSI_BUSY.
  * RATHONSI_BAD_VALUE: booted is neither.
- * RATHONSI_DAMAGED: the cell of one of the fourteen slots holds no slot.
+ * RATHONSI_DAMAGED: the cell of a slot that M1 names holds no slot.
  * After these, the first of the five refusals of a load: RATHONSI_KEY_INVALID,
  * RATHONSI_KEY_WRITE_PROTECTED, RATHONSI_KEY_EMPTY, RATHONSI_KEY_NOT_AVAILABLE,
  * RATHONSI_KEY_UPDATE_ERROR. */
+RATHONSI_CHECKED
 int32_t rathonsi_slot_load(const uint8_t uid[15], uint8_t booted, const RathonsiRequest *request, const uint8_t *image,
                            size_t image_length, RathonsiPlan *plan);
 
@@ -338,12 +582,14 @@ int32_t rathonsi_slot_load(const uint8_t uid[15], uint8_t booted, const Rathonsi
  * RATHONSI_BAD_ID: ID or AuthID of M1 is over 13.
  * RATHONSI_DAMAGED: the cell of the slot holds no slot.
  * RATHONSI_KEY_EMPTY. */
+RATHONSI_CHECKED
 int32_t rathonsi_slot_confirm(const uint8_t uid[15], const uint8_t m1[16], const uint8_t *image, size_t image_length,
                               RathonsiReply *reply);
 
 /* Tells of a slot.
  * RATHONSI_BAD_VALUE: slot is over 13.
  * RATHONSI_DAMAGED: its cell holds no slot. */
+RATHONSI_CHECKED
 int32_t rathonsi_slot_state(uint8_t slot, const uint8_t *image, size_t image_length, RathonsiSlotState *state);
 
 #ifdef __cplusplus

@@ -56,14 +56,21 @@ def layouts(structs):
     return [*lines, "#endif"]
 
 
-def passed(kind, text, structs):
-    """A parameter: what is passed for it, and the lines before and after the call."""
+def passed(kind, text, after, structs):
+    """A parameter, and the text of the one after it: what is passed for it, and the lines before and after the call. A pointer to a
+    number of several bytes is turned round like a struct; structs with a count are turned round where they are."""
     name = re.sub(r"\[.*\]", "", text).split()[-1].lstrip("*")
     struct = text.replace("const ", "").split()[0].rstrip("*")
     if kind != "ptr":
         return f"({C_TYPES[kind]}){name}", [], []
+    if WIDTHS.get(struct, 1) > 1:
+        turned = ["#if RATHONSI_BIG_ENDIAN", f"    turn((uint8_t *){name}, {WIDTHS[struct]}u);", "#endif"]
+        return f"(uint8_t *){name}", turned, turned
     if struct not in structs or not structs[struct].numbers:
         return f"(uint8_t *){name}", [], []
+    if after.startswith("size_t "):
+        turned = ["#if RATHONSI_BIG_ENDIAN", f"    for (size_t i = 0; i < {after.split()[-1]}; i++) turn_{struct}((uint8_t *)({name} + i));", "#endif"]
+        return f"(uint8_t *){name}", turned, turned
     first = ["#if RATHONSI_BIG_ENDIAN", f"    uint8_t of_{name}[sizeof *{name}];", f"    memcpy(of_{name}, {name}, sizeof *{name});",
              f"    turn_{struct}(of_{name});", "#else", f"    uint8_t *const of_{name} = (uint8_t *){name};", "#endif"]
     last = ["#if RATHONSI_BIG_ENDIAN", f"    turn_{struct}(of_{name});", f"    memcpy({name}, of_{name}, sizeof *{name});", "#endif"]
@@ -75,7 +82,7 @@ def export(function, called, header, structs):
     result, params = header
     if len(params) != len(function.params):
         stop(f"{function.name}: the header and the module differ")
-    found = [passed(kind, text, structs) for (kind, _), text in zip(function.params, params)]
+    found = [passed(kind, text, after, structs) for (kind, _), text, after in zip(function.params, params, [*params[1:], ""])]
     lines = [f"{result} {function.name}({', '.join(params) or 'void'}) {{", *(line for _, first, _ in found for line in first),
              f"    const {declared(function.result, 'r')} = {called}({', '.join(text for text, _, _ in found)});",
              *(line for _, _, last in found for line in last)]

@@ -5,7 +5,8 @@
  *
  *     control_unit FILE EVENTS [DUTY]
  *
- * With DUTY the unit breaks one of the duties that rathonsi_store.h names, and the program ends well if the harm of it is seen:
+ * With DUTY the unit breaks one of the duties that rathonsi_store.h names, and the program ends well if the harm of it is seen, or if a
+ * call refuses it, as with two_cells and opens_nothing:
  *     says_done_first   says that a plan is done before it is
  *     gate_first        does the writes of a plan in another order
  *     rewrites_pages    its device loses a whole page if power goes within a write
@@ -16,7 +17,7 @@
  *     goes_on           goes on with a plan after a write of it failed
  *     loses_writes      its device loses, if power goes, the write before, which was durable
  *     reads_loose       it reads at power-up what a write that was cut has left in a cache, and what is gone in the next life
- *     opens_nothing     it opens no route after a power-up, whose counters are then zero
+ *     opens_nothing     it opens no route after a power-up, and its routes are then zero but for what it fills in
  *     keeps_plan        its plan outlives a power-up, and is done after it
  */
 #include <stdio.h>
@@ -134,6 +135,19 @@ static void open_route(int which) {
         far_end[which] = routes[which].counter;
 }
 
+/* All routes, or none if two of them are one. */
+static void open_routes(void) {
+    uint32_t which = 0;
+    int32_t status = rathonsi_routes_open(routes, ROUTES, image, sizeof image, &which);
+    expect(status != RATHONSI_BAD_VALUE, "two routes of one Data ID are refused");
+    expect(status == RATHONSI_OK, "a bound is damaged");
+}
+
+/* A call on a route that isn't open is refused. */
+static void look_open(int32_t status) {
+    expect(status != RATHONSI_BAD_VALUE, "a route that isn't open is refused");
+}
+
 static void power_up(void) {
     read_file(0, image, sizeof image);
     if (broken != KEEPS_PLAN || cuts == 0)
@@ -142,9 +156,12 @@ static void power_up(void) {
     for (int i = 0; i < ROUTES; i++) {
         routes[i].reserve = (uint16_t)(i == 0 ? 1 : 1 + draw(128)); /* another one in each life */
         routes[i].booted = (uint8_t)draw(2);
-        if (broken == OPENS_NOTHING && cuts > 0)
-            routes[i].counter = 0;
-        else
+        routes[i].counter = 0;
+        routes[i].opened = 0;
+    }
+    if (broken != OPENS_NOTHING || cuts == 0) {
+        open_routes();
+        for (int i = 0; i < ROUTES; i++)
             open_route(i);
     }
     memcpy(other_image, image, sizeof image);
@@ -156,15 +173,15 @@ static void power_up(void) {
 static void confirm(void) {
     RathonsiRequest request;
     RathonsiReply reply, wanted;
-    rathonsi_she_make_update(master, sizeof master, &confirmed, &request);
+    expect(rathonsi_she_make_update(master, sizeof master, &confirmed, &request) == RATHONSI_OK, "no request is made");
     expect(rathonsi_slot_confirm(uid, request.m1, image, sizeof image, &reply) == RATHONSI_OK, "the slot is empty or damaged");
-    rathonsi_she_confirm(&loading, uid, &wanted);
+    expect(rathonsi_she_confirm(&loading, uid, &wanted) == RATHONSI_OK, "no reply is made");
     if (is_loading && memcmp(&reply, &wanted, sizeof reply) == 0) {
         confirmed = loading;
         loaded_by_cut++;
     }
     is_loading = 0;
-    rathonsi_she_confirm(&confirmed, uid, &wanted);
+    expect(rathonsi_she_confirm(&confirmed, uid, &wanted) == RATHONSI_OK, "no reply is made");
     expect(memcmp(&reply, &wanted, sizeof reply) == 0, "a confirmed key is lost");
 }
 
@@ -185,6 +202,7 @@ static int32_t send_on(int which, RathonsiRoute *route, const uint8_t *from) {
     for (size_t i = 0; i < length; i++)
         payload[i] = (uint8_t)draw(256);
     int32_t status = rathonsi_route_send(route, from, sizeof image, payload, length, pdu, sizeof pdu);
+    look_open(status);
     if (status != RATHONSI_OK) {
         expect(memcmp(&before, route, sizeof before) == 0, "a refused call changed its route");
         return status;
@@ -208,8 +226,10 @@ static int32_t receive_on(int which, uint64_t *wanted) {
     if (old)
         freshness = highest[which] - draw((uint32_t)(highest[which] < 60 ? highest[which] + 1 : 60));
     pdu_in_length = sizeof payload + RATHONSI_TRAILER;
-    rathonsi_secoc_protect(confirmed.key, 16, route->data_id, freshness, payload, sizeof payload, pdu_in, sizeof pdu_in);
+    expect(rathonsi_secoc_protect(confirmed.key, 16, route->data_id, freshness, payload, sizeof payload, pdu_in, sizeof pdu_in) == RATHONSI_OK,
+           "no PDU is made");
     RathonsiVerdict verdict = rathonsi_route_receive(route, image, sizeof image, pdu_in, pdu_in_length);
+    look_open(verdict.status);
     *wanted = verdict.freshness;
     if (verdict.status != RATHONSI_OK)
         expect(memcmp(&before, route, sizeof before) == 0, "a refused call changed its route");
@@ -247,7 +267,7 @@ static enum outcome do_plan(void) {
     const int *order = broken == GATE_FIRST ? gate_before : in_order;
     RathonsiPlan todo = plan;
     if (broken == SAYS_DONE_FIRST) {
-        rathonsi_store_done(image, sizeof image, &plan);
+        expect(rathonsi_store_done(image, sizeof image, &plan) == RATHONSI_OK, "a plan reaches beyond the image");
         send_on(0, &routes[0], image);
     }
     if (broken != SAYS_DONE_FIRST && draw(50) == 0) {
@@ -300,6 +320,7 @@ static enum outcome reserve(int which, uint64_t freshness) {
     if (broken == KEEPS_PLAN && do_kept_plan())
         return POWER_WENT;
     int32_t status = rathonsi_route_reserve(&routes[which], freshness, image, sizeof image, &plan);
+    look_open(status);
     expect(status == RATHONSI_OK, "a bound isn't planned");
     if (plan.writes[1].length == 0)
         return DONE;
@@ -313,10 +334,11 @@ static enum outcome reserve(int which, uint64_t freshness) {
 static void do_other_task(void) {
     if (send_on(0, &other_route, other_image) != RATHONSI_RESERVE)
         return;
-    rathonsi_route_reserve(&other_route, other_route.counter + 1, other_image, sizeof other_image, &other_plan);
+    expect(rathonsi_route_reserve(&other_route, other_route.counter + 1, other_image, sizeof other_image, &other_plan) == RATHONSI_OK,
+           "a bound isn't planned");
     for (int i = 0; i < 3; i++)
         write_file(other_plan.writes[i].offset, other_plan.writes[i].bytes, other_plan.writes[i].length);
-    rathonsi_store_done(other_image, sizeof other_image, &other_plan);
+    expect(rathonsi_store_done(other_image, sizeof other_image, &other_plan) == RATHONSI_OK, "a plan reaches beyond the image");
 }
 
 static void load_key(void) {
@@ -328,13 +350,13 @@ static void load_key(void) {
     loading.counter++;
     for (int i = 0; i < 16; i++)
         loading.key[i] = (uint8_t)draw(256);
-    rathonsi_she_make_update(master, sizeof master, &loading, &request);
-    rathonsi_she_confirm(&loading, uid, &wanted);
+    expect(rathonsi_she_make_update(master, sizeof master, &loading, &request) == RATHONSI_OK, "no request is made");
+    expect(rathonsi_she_confirm(&loading, uid, &wanted) == RATHONSI_OK, "no reply is made");
     if (rathonsi_slot_load(uid, 0, &request, image, sizeof image, &plan) != RATHONSI_OK) {
         expect(0, "a key isn't planned");
         return;
     }
-    rathonsi_slot_confirm(uid, request.m1, image, sizeof image, &reply);
+    expect(rathonsi_slot_confirm(uid, request.m1, image, sizeof image, &reply) == RATHONSI_OK, "the slot is empty or damaged");
     expect(memcmp(&reply, &wanted, sizeof reply) != 0, "a key is confirmed before it is durable");
     is_loading = 1;
     enum outcome outcome = do_plan();
@@ -343,7 +365,7 @@ static void load_key(void) {
     is_loading = 0;
     if (outcome != DONE)
         return;
-    rathonsi_slot_confirm(uid, request.m1, image, sizeof image, &reply);
+    expect(rathonsi_slot_confirm(uid, request.m1, image, sizeof image, &reply) == RATHONSI_OK, "the slot is empty or damaged");
     expect(memcmp(&reply, &wanted, sizeof reply) == 0, "a key that was loaded isn't confirmed");
     confirmed = loading;
     loaded++;
@@ -369,9 +391,9 @@ static void put_first_key(const RathonsiUpdate *update) {
     uint8_t empty[16];
     RathonsiRequest request;
     memset(empty, 0xff, sizeof empty);
-    rathonsi_she_make_update(empty, sizeof empty, update, &request);
+    expect(rathonsi_she_make_update(empty, sizeof empty, update, &request) == RATHONSI_OK, "no request is made");
     expect(rathonsi_slot_load(uid, 0, &request, image, sizeof image, &plan) == RATHONSI_OK, "a first key isn't taken");
-    rathonsi_store_done(image, sizeof image, &plan);
+    expect(rathonsi_store_done(image, sizeof image, &plan) == RATHONSI_OK, "a plan reaches beyond the image");
 }
 
 static void make_store(void) {

@@ -74,7 +74,7 @@ static void put_key(uint8_t *image, uint8_t slot, const uint8_t *value, uint8_t 
     RathonsiPlan plan;
     memset(empty, 0xff, sizeof empty);
     memset(&plan, 0, sizeof plan);
-    rathonsi_she_make_update(empty, sizeof empty, &update, &request);
+    expect(rathonsi_she_make_update(empty, sizeof empty, &update, &request), RATHONSI_OK, "a request");
     expect(rathonsi_slot_load(uid, 0, &request, image, SIZE, &plan), RATHONSI_OK, "a first key");
     expect(rathonsi_store_done(image, SIZE, &plan), RATHONSI_OK, "done");
 }
@@ -101,9 +101,9 @@ static struct unit unit_of(int which) {
     unit.pdu = copy_of(zeros, PDU);
     unit.route = route_of(which);
     unit.freshness = 4;
-    rathonsi_she_make_update(master, 16, &update, &unit.request);
+    expect(rathonsi_she_make_update(master, 16, &update, &unit.request), RATHONSI_OK, "a request");
     if (which == 1)
-        rathonsi_secoc_protect(key, 16, unit.route.data_id, 4, unit.payload, PAYLOAD, unit.pdu, PDU);
+        expect(rathonsi_secoc_protect(key, 16, unit.route.data_id, 4, unit.payload, PAYLOAD, unit.pdu, PDU), RATHONSI_OK, "a PDU");
     return unit;
 }
 
@@ -171,6 +171,8 @@ static void other_direction(struct unit *unit) { unit->route.direction ^= 3; }
 static void booted_twice(struct unit *unit) { unit->route.booted = unit->booted = 2; }
 static void damaged_bound(struct unit *unit) { gates_closed(unit, unit->route.cell); }
 static void damaged_slot(struct unit *unit) { gates_closed(unit, SLOT); }
+static void damaged_authority(struct unit *unit) { gates_closed(unit, 1); }
+static void four_cells(struct unit *unit) { unit->image_length = 32 + 68 * 4; }
 static void damaged_last_slot(struct unit *unit) { gates_closed(unit, 13); }
 static void other_id(struct unit *unit) { unit->route.data_id++; }
 static void short_image(struct unit *unit) { unit->image_length = RATHONSI_STORE_SIZE(0) + 67; }
@@ -203,10 +205,10 @@ static void farthest(struct unit *unit) { unit->freshness = 4 + 256; }
 static void too_far(struct unit *unit) { unit->freshness = 4 + 257; }
 static void never_made(struct unit *unit) { memset(unit->image + 32 + 68 * unit->route.cell + 2, 0, 32); }
 static void far_ahead(struct unit *unit) {
-    rathonsi_secoc_protect(key, 16, unit->route.data_id, 3 + 17, unit->payload, PAYLOAD, unit->pdu, PDU);
+    expect(rathonsi_secoc_protect(key, 16, unit->route.data_id, 3 + 17, unit->payload, PAYLOAD, unit->pdu, PDU), RATHONSI_OK, "a PDU");
 }
 static void above_bound(struct unit *unit) {
-    rathonsi_secoc_protect(key, 16, unit->route.data_id, 5, unit->payload, PAYLOAD, unit->pdu, PDU);
+    expect(rathonsi_secoc_protect(key, 16, unit->route.data_id, 5, unit->payload, PAYLOAD, unit->pdu, PDU), RATHONSI_OK, "a PDU");
 }
 static void other_tag(struct unit *unit) { unit->pdu[PDU - 1] ^= 1; }
 static void above_bound_other_tag(struct unit *unit) {
@@ -215,7 +217,7 @@ static void above_bound_other_tag(struct unit *unit) {
 }
 static void request_of(struct unit *unit, uint8_t slot, uint8_t auth, const uint8_t *authkey, uint32_t counter) {
     RathonsiUpdate update = update_of(slot, auth, key, RATHONSI_KEY_USAGE, counter);
-    rathonsi_she_make_update(authkey, 16, &update, &unit->request);
+    expect(rathonsi_she_make_update(authkey, 16, &update, &unit->request), RATHONSI_OK, "a request");
 }
 static void no_pair(struct unit *unit) { request_of(unit, SLOT, 5, key, 2); }
 static void protected_slot(struct unit *unit) { request_of(unit, 7, 1, master, 2); }
@@ -307,8 +309,10 @@ static const struct {
     {LOAD, 0, nothing, RATHONSI_OK, "an update"},
     {LOAD, 0, busy_and_wrong, RATHONSI_BUSY, "a plan, and booted 2"},
     {LOAD, 0, booted_twice, RATHONSI_BAD_VALUE, "booted 2"},
-    {LOAD, 0, damaged_last_slot, RATHONSI_DAMAGED, "a damaged slot"},
-    {LOAD, 0, shorter_image, RATHONSI_DAMAGED, "an image without its last slots"},
+    {LOAD, 0, damaged_slot, RATHONSI_DAMAGED, "a damaged slot"},
+    {LOAD, 0, damaged_authority, RATHONSI_DAMAGED, "a damaged authorising slot"},
+    {LOAD, 0, damaged_last_slot, RATHONSI_OK, "another slot that is damaged"},
+    {LOAD, 0, four_cells, RATHONSI_DAMAGED, "an image without its slot"},
     {LOAD, 0, no_slots, RATHONSI_KEY_INVALID, "ID 14"},
     {LOAD, 0, no_pair, RATHONSI_KEY_INVALID, "no pair of slots"},
     {LOAD, 0, protected_slot, RATHONSI_KEY_WRITE_PROTECTED, "a protected slot"},

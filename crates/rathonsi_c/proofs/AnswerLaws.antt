@@ -1,5 +1,5 @@
 -- From the refusals of the code to the answers of the calls.
-use Rattle.std.proofs.Common.{ℤ, ◌≡◌, inl, inr, ℕ, ◌+◌, ◌≤◌, List, refl, sym, ap, subst, ◌∙◌, arith}
+use Rattle.std.proofs.Common.{ℤ, pos, negsuc, ◌≡◌, ◌≢◌, inl, inr, ℕ, ◌+◌, ◌≤◌, List, refl, sym, ap, subst, ◌∙◌, arith}
 use Rattle.std.proofs.lemmas.Option.{none-some}
 use Rattle.std.proofs.lemmas.Bool.{true≢false}
 use Rattle.key_slots.specs.declared.memory.Slot.{Slot}
@@ -23,6 +23,14 @@ use Rattle.rathonsi_c.specs.Refused.{route_status, RouteRefused, SendRefused}
 use Rattle.rathonsi_c.specs.Routes.{RouteReady, is_booted, RouteAnswers, CounterAnswers, status_alone, no_verdict, bounded_answer, JudgesPdu, ReceiveAnswers}
 use Rattle.rathonsi_c.specs.Stores.{IsSize}
 use Rattle.rathonsi_c.proofs.ImageLaws.{slot_once, bound_once}
+
+abbrev number_of : ℤ → ℕ
+number_of (pos n) = n
+number_of (negsuc n) = 0
+
+-- another status
+pub other_status : (a b : ℤ) → number_of a ≢ number_of b → a ≡ b → ⊥
+other_status a b differ e = differ (ap number_of e)
 
 -- a cell that is damaged keeps no bound
 pub damaged_keeps_none : (image : List ℕ) (place id : ℕ) (direction : Direction) (bound : ℕ) → DamagedCell image place → ImageBound image place id direction bound → ⊥

@@ -12,10 +12,10 @@ use Rattle.cell_store.proofs.CallerLemmas.{part-part, stands-held, held-stands}
 use Rattle.rathonsi_c.specs.Stores.{IsWhole}
 
 -- a part of the beginning of a list
-front-part : (x : List ℕ) (size at n : ℕ) → at + n ≤ size → size ≤ length x → part at n (take size x) ≡ part at n x
+pub front-part : (x : List ℕ) (size at n : ℕ) → at + n ≤ size → size ≤ length x → part at n (take size x) ≡ part at n x
 front-part x size at n inside long = sym (part-part 0 size at n x inside (omega arith)) ∙ ap (λ m. part m n x) (zero-add at)
 
-front-cell : (x : List ℕ) (n i : ℕ) → i < n → twin_size n ≤ length x → cell_at (take (twin_size n) x) i ≡ cell_at x i
+pub front-cell : (x : List ℕ) (n i : ℕ) → i < n → twin_size n ≤ length x → cell_at (take (twin_size n) x) i ≡ cell_at x i
 unfolding cell_at
 front-cell x n i below long =
     ap (λ c. cell_of c (part (second_at i) 34 (take (twin_size n) x))) (front-part x (twin_size n) (first_at i) 34 (omega arith) long)

@@ -3,16 +3,14 @@ use Rattle.std.proofs.Common.{◌≡◌, ℕ, ◌^◌, ◌<◌, Some, List, leng
 use Rattle.std.proofs.lemmas.Option.{same_Some}
 use Rattle.cell_store.specs.Twin.{cell_at}
 use Rattle.key_slots.specs.declared.memory.Slot.{Slot}
-use Rattle.key_slots.specs.Slots.{slot_at}
-use Rattle.key_slots.specs.SlotsLaws.{IsSlot-slot_at}
-use Rattle.slot_disk.specs.Cell.{HoldsSlot, slot_cell}
+use Rattle.slot_disk.specs.Cell.{HoldsSlot}
 use Rattle.slot_disk.proofs.CallerLemmas.{one_slot}
 use Rattle.freshness_routes.specs.declared.routes.Direction.{Direction}
 use Rattle.freshness_routes.specs.declared.routes.Direction.TheVariants.{Sends, Receives}
 use Rattle.freshness_store.specs.Bound.{direction_number, bound_cell, HoldsBound}
 use Rattle.freshness_store.proofs.CallerLemmas.{one_bound}
 use Rattle.rathonsi_c.specs.declared.route.RathonsiRoute.{RathonsiRoute}
-use Rattle.rathonsi_c.specs.Images.{ImageBound, ImageSlot, ImageSlots}
+use Rattle.rathonsi_c.specs.Images.{ImageBound, ImageSlot}
 use Rattle.rathonsi_c.specs.Routes.{InRanges}
 
 pub bound_once : (image : List ℕ) (place id : ℕ) (direction : Direction) (a b : ℕ) → ImageBound image place id direction a → ImageBound image place id direction b → a ≡ b
@@ -56,12 +54,3 @@ renewed_bound x y place id d bound to l fits e h = record {
 
 pub moved_slot : (x y : List ℕ) (place : ℕ) (slot : Slot) → length y ≡ length x → cell_at y place ≡ cell_at x place → ImageSlot x place slot → ImageSlot y place slot
 moved_slot x y place slot l e h = record { room = (let r = h.room in omega arith); bytes = h.bytes; is = e ∙ h.is; holds = h.holds }
-
--- each of the fourteen slots
-pub slot_of_slots : (image : List ℕ) (slots : List Slot) (i : ℕ) → ImageSlots image slots → i < 14 → ImageSlot image i (slot_at slots i)
-slot_of_slots image slots i held below = record {
-  room = (let r = held.room in omega arith);
-  bytes = slot_cell (slot_at slots i);
-  is = held.cells i below;
-  holds = record { is_slot = IsSlot-slot_at slots i held.are_slots.slots_are; cell_is = refl };
-}

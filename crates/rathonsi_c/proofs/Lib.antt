@@ -6,3 +6,12 @@ pub mod KeyLaws
 pub mod WholeLaws
 pub mod ReservedLaws
 pub mod DiskLaws
+pub mod SyncLaws
+pub mod PieceLaws
+pub mod StepLaws
+pub mod GrowthLaws
+pub mod OpeningLaws
+pub mod LookLaws
+pub mod SlotLaws
+pub mod BoundLaws
+pub mod InputLaws

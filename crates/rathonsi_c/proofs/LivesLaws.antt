@@ -9,7 +9,7 @@ use Rattle.store_plan.proofs.CallerLemmas.{applied-cell, applied-others, applied
 use Rattle.rathonsi_c.specs.declared.route.RathonsiRoute.{RathonsiRoute}
 use Rattle.rathonsi_c.specs.Images.{ImageBound}
 use Rattle.rathonsi_c.specs.Routes.{InRanges, at_counter, opened_at, wanted, Opens, RouteAdvances, Reserves}
-use Rattle.rathonsi_c.specs.Lives.{Memory, Deed, sends, accepts, opens, sets, reserves, loads, drops, finishes, powers_up, SameRoute, OpensFilled, ChangesRoute, GivesOut, OpensRoute, SetsFields, PlansBound, PlansUpdate, DropsPlan, FinishesPlan, PowerBack, SameRoutes, DoesDeed, Lives, PoweredUp, given_out, RisesTo, CounterCovered}
+use Rattle.rathonsi_c.specs.Lives.{Memory, Deed, sends, accepts, takes, opens, sets, reserves, loads, drops, finishes, powers_up, SameRoute, OpensFilled, ChangesRoute, GivesOut, OpensRoute, SetsFields, PlansBound, PlansUpdate, DropsPlan, FinishesPlan, PowerBack, SameRoutes, DoesDeed, Lives, PoweredUp, given_out, RisesTo, CounterCovered}
 use Rattle.rathonsi_c.proofs.ImageLaws.{bound_once, same_direction, one_direction, moved_bound, renewed_bound}
 
 -- what is planned: a higher bound of this route, or another cell
@@ -59,7 +59,7 @@ after-finish image plan r h = elim h.planned [
   ]
 ]
 
-after-cut : (image : List ℕ) (plan : Plan) (r : RathonsiRoute) (y : List ℕ) → CutWithin plan image y → (h : Holds image plan r) → AtLeast h.bound y r h.direction
+pub after-cut : (image : List ℕ) (plan : Plan) (r : RathonsiRoute) (y : List ℕ) → CutWithin plan image y → (h : Holds image plan r) → AtLeast h.bound y r h.direction
 after-cut image plan r y cut h = elim h.planned [
   | inl none ↦ record { bound = h.bound; kept = subst (λ (z : List ℕ). ImageBound z r.cell r.data_id h.direction h.bound) (sym (cut-none plan image y none cut)) h.kept; least = omega arith }
   | inr some ↦ elim some [
@@ -239,7 +239,7 @@ refilled image plan r s d same ranges h below =
     }
 
 -- it is opened, filled in anew
-opened_anew : (image : List ℕ) (plan : Plan) (r s : RathonsiRoute) → OpensFilled r image s → Holds image plan r → Goes image plan r s
+pub opened_anew : (image : List ℕ) (plan : Plan) (r s : RathonsiRoute) → OpensFilled r image s → Holds image plan r → Goes image plan r s
 opened_anew image plan r s o h =
     let f = o.filled in
     let q = o.is_opened in
@@ -344,6 +344,7 @@ power_back n a b s p = record {
 moves : (n : ℕ) (deed : Deed) (a b : Memory) → Sound n a → DoesDeed n deed a b → Moves n a b
 moves n (sends k freshness) a b s d = gives _ n k freshness a b s d
 moves n (accepts k freshness) a b s d = gives _ n k freshness a b s d
+moves n (takes k counter) a b s d = gives _ n k counter a b s d
 moves n (opens k) a b s d = opens_route n k a b s d
 moves n (sets k) a b s d = sets_fields n k a b s d
 moves n (reserves k) a b s d = plans_bound n k a b s d
@@ -379,12 +380,14 @@ given_rises n j k freshness end d deeds a b x s g rest = elim (cases_eq j k) [
       (rises_from _ _ end (given_out k deeds) ((gives d n j freshness a b s g).goes k x).later rest)
 ]
 
-rises : (n k : ℕ) (deeds : List Deed) (a c : Memory) → k < n → Sound n a → Lives n deeds a c → RisesTo (a.routes k).counter (given_out k deeds) (c.routes k).counter
+pub rises : (n k : ℕ) (deeds : List Deed) (a c : Memory) → k < n → Sound n a → Lives n deeds a c → RisesTo (a.routes k).counter (given_out k deeds) (c.routes k).counter
 rises n k [] a c x s lives = (let e : (c.routes k).counter ≡ (a.routes k).counter = ap (λ (m : Memory). (m.routes k).counter) lives in omega arith)
 rises n k (sends j freshness ∷ deeds) a c x s (b, (d, rest)) =
     given_rises n j k freshness (c.routes k).counter _ deeds a b x s d (rises n k deeds b c x (sound-then n a b s (moves n (sends j freshness) a b s d)) rest)
 rises n k (accepts j freshness ∷ deeds) a c x s (b, (d, rest)) =
     given_rises n j k freshness (c.routes k).counter _ deeds a b x s d (rises n k deeds b c x (sound-then n a b s (moves n (accepts j freshness) a b s d)) rest)
+rises n k (takes j counter ∷ deeds) a c x s (b, (d, rest)) =
+    let m = moves n (takes j counter) a b s d in rises_from _ _ _ (given_out k deeds) (m.goes k x).later (rises n k deeds b c x (sound-then n a b s m) rest)
 rises n k (opens j ∷ deeds) a c x s (b, (d, rest)) =
     let m = moves n (opens j) a b s d in rises_from _ _ _ (given_out k deeds) (m.goes k x).later (rises n k deeds b c x (sound-then n a b s m) rest)
 rises n k (sets j ∷ deeds) a c x s (b, (d, rest)) =

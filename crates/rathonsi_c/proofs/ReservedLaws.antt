@@ -24,25 +24,17 @@ use Rattle.rathonsi_c.specs.Images.{ImageBound, ImageSlot, ImageKey}
 use Rattle.rathonsi_c.specs.Routes.{RouteReady, is_booted, wanted, Reserves, bounded_answer, no_verdict, JudgesPdu, ReceiveAnswers}
 use Rattle.rathonsi_c.specs.Lives.{PlanDone}
 use Rattle.rathonsi_c.proofs.ImageLaws.{bound_once, slot_once, one_direction, renewed_bound, moved_slot}
-use Rattle.rathonsi_c.proofs.AnswerLaws.{may-not-refused, damaged_keeps_none}
-
-abbrev number_of : ℤ → ℕ
-number_of (pos n) = n
-number_of (negsuc n) = 0
-
--- another status
-other : (a b : ℤ) → number_of a ≢ number_of b → a ≡ b → ⊥
-other a b differ e = differ (ap number_of e)
+use Rattle.rathonsi_c.proofs.AnswerLaws.{other_status, may-not-refused, damaged_keeps_none}
 
 -- no refusal of a key is a status to reserve
 erc-other : (refusal : Erc) → erc_status refusal ≡ RESERVE → ⊥
-erc-other KeyEmpty e = other (erc_status KeyEmpty) RESERVE (λ x. omega arith) e
-erc-other KeyInvalid e = other (erc_status KeyInvalid) RESERVE (λ x. omega arith) e
-erc-other KeyNotAvailable e = other (erc_status KeyNotAvailable) RESERVE (λ x. omega arith) e
-erc-other KeyWriteProtected e = other (erc_status KeyWriteProtected) RESERVE (λ x. omega arith) e
-erc-other KeyUpdateError e = other (erc_status KeyUpdateError) RESERVE (λ x. omega arith) e
-erc-other NoSecureBoot e = other (erc_status NoSecureBoot) RESERVE (λ x. omega arith) e
-erc-other SequenceError e = other (erc_status SequenceError) RESERVE (λ x. omega arith) e
+erc-other KeyEmpty e = other_status (erc_status KeyEmpty) RESERVE (λ x. omega arith) e
+erc-other KeyInvalid e = other_status (erc_status KeyInvalid) RESERVE (λ x. omega arith) e
+erc-other KeyNotAvailable e = other_status (erc_status KeyNotAvailable) RESERVE (λ x. omega arith) e
+erc-other KeyWriteProtected e = other_status (erc_status KeyWriteProtected) RESERVE (λ x. omega arith) e
+erc-other KeyUpdateError e = other_status (erc_status KeyUpdateError) RESERVE (λ x. omega arith) e
+erc-other NoSecureBoot e = other_status (erc_status NoSecureBoot) RESERVE (λ x. omega arith) e
+erc-other SequenceError e = other_status (erc_status SequenceError) RESERVE (λ x. omega arith) e
 
 -- the status of a verdict that tells a status alone
 told : (v : RathonsiVerdict) (status : ℤ) → v ≡ no_verdict status → v.status ≡ RESERVE → status ≡ RESERVE
@@ -51,13 +43,13 @@ told v status e is = sym (ap (λ (u : RathonsiVerdict). u.status) e) ∙ is
 -- so the PDU was judged
 pub judged : (r : RathonsiRoute) (image pdu : List ℕ) (v : RathonsiVerdict) → ReceiveAnswers r image pdu v → v.status ≡ RESERVE → JudgesPdu r image pdu v
 judged r image pdu v answers is = elim answers [
-  | inl (short, e) ↦ absurd (other _ RESERVE (λ x. omega arith) (told v _ e is))
+  | inl (short, e) ↦ absurd (other_status _ RESERVE (λ x. omega arith) (told v _ e is))
   | inr (_, framed) ↦ elim framed [
-    | inl (out, e) ↦ absurd (other _ RESERVE (λ x. omega arith) (told v _ e is))
+    | inl (out, e) ↦ absurd (other_status _ RESERVE (λ x. omega arith) (told v _ e is))
     | inr (_, ranged) ↦ elim ranged [
-      | inl (elsewhere, e) ↦ absurd (other _ RESERVE (λ x. omega arith) (told v _ e is))
+      | inl (elsewhere, e) ↦ absurd (other_status _ RESERVE (λ x. omega arith) (told v _ e is))
       | inr (_, own) ↦ elim own [
-        | inl (none, e) ↦ absurd (other _ RESERVE (λ x. omega arith) (told v _ e is))
+        | inl (none, e) ↦ absurd (other_status _ RESERVE (λ x. omega arith) (told v _ e is))
         | inr (_, kept) ↦ elim kept [
           | inl (refusal, (refuses, e)) ↦ absurd (erc-other refusal (told v _ e is))
           | inr (_, says) ↦ says
@@ -71,7 +63,7 @@ judged r image pdu v answers is = elim answers [
 pub framed : (r : RathonsiRoute) (image pdu : List ℕ) (v w : RathonsiVerdict) (next : List ℕ) (key : List ℕ) (bound : ℕ) → ReceiveAnswers r image pdu v → v.status ≡ RESERVE → RouteReady r Receives next key bound → ReceiveAnswers r next pdu w → JudgesPdu r next pdu w
 framed r image pdu v w next key bound first is ready second = elim second [
   | inl (short, e) ↦ elim first [
-    | inl (_, f) ↦ absurd (other _ RESERVE (λ x. omega arith) (told v _ f is))
+    | inl (_, f) ↦ absurd (other_status _ RESERVE (λ x. omega arith) (told v _ f is))
     | inr (not_short, _) ↦ absurd (not_short short)
   ]
   | inr (_, rest) ↦ elim rest [
@@ -109,10 +101,10 @@ above_bound bound (Accepted payload freshness) e = elim (cases_Bool (nat_lt boun
     above = ltb-true bound freshness low;
     is_told = ap (λ (v : RathonsiVerdict). v.freshness) (cond-true _ _ _ low);
   }
-  | inr high ↦ absurd (other OK RESERVE (λ x. omega arith) (sym (ap (λ (v : RathonsiVerdict). v.status) (cond-false _ _ _ high)) ∙ e))
+  | inr high ↦ absurd (other_status OK RESERVE (λ x. omega arith) (sym (ap (λ (v : RathonsiVerdict). v.status) (cond-false _ _ _ high)) ∙ e))
 ]
-above_bound bound FreshnessFailure e = absurd (other FRESHNESS_FAILURE RESERVE (λ x. omega arith) e)
-above_bound bound VerificationFailure e = absurd (other VERIFICATION_FAILURE RESERVE (λ x. omega arith) e)
+above_bound bound FreshnessFailure e = absurd (other_status FRESHNESS_FAILURE RESERVE (λ x. omega arith) e)
+above_bound bound VerificationFailure e = absurd (other_status VERIFICATION_FAILURE RESERVE (λ x. omega arith) e)
 
 module _ (r : RathonsiRoute) (image next pdu : List ℕ) (v w : RathonsiVerdict) (old plan after : Plan) (first : ReceiveAnswers r image pdu v) (is : v.status ≡ RESERVE) (reserved : Reserves r image v.freshness old plan) (done : PlanDone image plan next after) (second : ReceiveAnswers r next pdu w) where
   abbrev j : JudgesPdu r image pdu v

@@ -12,7 +12,7 @@ use Rattle.store_plan.proofs.CallerLemmas.{applied-cell, applied-others, applied
 use Rattle.store_plan.proofs.CallerLemmas.{cut-none, applied-none}
 use Rattle.rathonsi_c.specs.Routes.{wanted}
 use Rattle.rathonsi_c.specs.Stores.{IsWhole}
-use Rattle.rathonsi_c.specs.Lives.{Memory, Deed, sends, accepts, opens, sets, reserves, loads, drops, finishes, powers_up, Lives, DoesDeed}
+use Rattle.rathonsi_c.specs.Lives.{Memory, Deed, sends, accepts, takes, opens, sets, reserves, loads, drops, finishes, powers_up, Lives, DoesDeed}
 
 -- another image with the same header, and a copy that counts in each cell
 moved_whole : (x y : List ℕ) → length y ≡ length x → part 0 32 y ≡ part 0 32 x → ((i : ℕ) → IsSome (cell_at x i) → IsSome (cell_at y i)) → IsWhole x → IsWhole y
@@ -69,6 +69,7 @@ whole-same a b image plan h = record {
 whole-does : (n : ℕ) (deed : Deed) (a b : Memory) → StaysWhole a → DoesDeed n deed a b → StaysWhole b
 whole-does n (sends k freshness) a b h d = whole-same a b d.changes.image d.changes.plan h
 whole-does n (accepts k freshness) a b h d = whole-same a b d.changes.image d.changes.plan h
+whole-does n (takes k counter) a b h d = whole-same a b d.changes.image d.changes.plan h
 whole-does n (opens k) a b h d = whole-same a b d.changes.image d.changes.plan h
 whole-does n (sets k) a b h d = whole-same a b d.changes.image d.changes.plan h
 whole-does n (reserves k) a b h d = record {

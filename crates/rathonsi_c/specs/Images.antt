@@ -1,5 +1,5 @@
 -- What the image of a store keeps of a route and of a key slot: cells with both copies within it.
-use Rattle.std.specs.Prelude.{◌≡◌, ℕ, ◌+◌, ◌<◌, ◌≤◌, Bool, Some, None, List, length}
+use Rattle.std.specs.Prelude.{◌≡◌, ℕ, ◌+◌, ◌≤◌, ◌⊎◌, Bool, Some, None, List, length}
 use Rattle.cell_store.specs.Twin.{twin_size, cell_at}
 use Rattle.key_slots.specs.declared.memory.Flags.{Flags}
 use Rattle.key_slots.specs.declared.memory.Slot.{Slot}
@@ -8,7 +8,8 @@ use Rattle.key_slots.specs.declared.refusals.Erc.{Erc}
 use Rattle.key_slots.specs.declared.usage.Purpose.TheVariants.{Mac}
 use Rattle.key_slots.specs.Slots.{IsSlots, slot_at}
 use Rattle.key_slots.specs.Usage.{slot_refusals, first_applying}
-use Rattle.slot_disk.specs.Cell.{HoldsSlot, slot_cell}
+use Rattle.slot_disk.specs.Cell.{HoldsSlot}
+use Rattle.memory_update.specs.Messages.{HasSlots, id_of, auth_of}
 use Rattle.freshness_routes.specs.declared.routes.Direction.{Direction}
 use Rattle.freshness_store.specs.Bound.{HoldsBound}
 
@@ -56,11 +57,12 @@ pub record SlotRefuses (image : List ℕ) (place : ℕ) (booted : Bool) (refusal
   pub held : ImageSlot image place slot
   pub first : first_applying (slot_refusals slot booted Mac) ≡ Some refusal
 
--- the first fourteen cells of the image are those of these slots, in order
-pub record ImageSlots (image : List ℕ) (slots : List Slot) : Type 0 where
-  pub room : twin_size 14 ≤ length image
+-- these are fourteen slots, and the two that M1 names are as the image keeps them; an update asks for no other
+pub record ReadsSlots (image m1 : List ℕ) (slots : List Slot) : Type 0 where
   pub are_slots : IsSlots slots
-  pub cells : (i : ℕ) → i < 14 → cell_at image i ≡ Some (slot_cell (slot_at slots i))
+  pub target : HasSlots m1 → ImageSlot image (id_of m1) (slot_at slots (id_of m1))
+  pub authority : HasSlots m1 → ImageSlot image (auth_of m1) (slot_at slots (auth_of m1))
 
-abbrev pub NoSlots : List ℕ → Type 0
-NoSlots image = (slots : List Slot) → ¬ ImageSlots image slots
+-- the image keeps no slot in the cell of one of the two
+abbrev pub MissesSlot : List ℕ → List ℕ → Type 0
+MissesSlot image m1 = HasSlots m1 × (NoSlot image (id_of m1) ⊎ NoSlot image (auth_of m1))

@@ -8,3 +8,10 @@ pub mod Slots
 pub mod Stores
 pub mod Lives
 pub mod States
+pub mod Opening
+pub mod Looking
+pub mod Steps
+pub mod Syncing
+pub mod Growing
+pub mod Pieces
+pub mod Booting

@@ -13,7 +13,7 @@ use Rattle.store_plan.specs.declared.planning.Plan.{Plan}
 use Rattle.store_plan.specs.Plans.{PlansPut, CutWithin, IsEmptyPlan, applied}
 use Rattle.rathonsi_c.specs.declared.route.RathonsiRoute.{RathonsiRoute}
 use Rattle.rathonsi_c.specs.Images.{ImageBound, ImageSlot}
-use Rattle.rathonsi_c.specs.Routes.{InRanges, Opens, RouteAdvances, Reserves}
+use Rattle.rathonsi_c.specs.Routes.{InRanges, IsOpened, Opens, RouteAdvances, Reserves}
 use Rattle.rathonsi_c.specs.Slots.{LoadsSlot}
 
 -- what the caller holds: the image, the plan, and its routes by their numbers
@@ -22,13 +22,14 @@ pub record Memory : Type 0 where
   pub plan : Plan
   pub routes : ℕ → RathonsiRoute
 
--- What happens. A PDU with this freshness is sent by a route, or accepted; a route is opened again; a field of it that
--- doesn't say which route it is, nor its counter, nor that it is open, is set; a bound is planned for a route, or an
--- update for a slot; a plan is dropped before a write of it was begun; a plan is done, and the caller says so; the power
--- comes back, whenever it went.
+-- What happens. A PDU with this freshness is sent by a route, or accepted; an answer of its sender that tells this
+-- counter is taken by a route; a route is opened again; a field of it that doesn't say which route it is, nor its
+-- counter, nor opens it, is set; a bound is planned for a route, or an update for a slot; a plan is dropped before a
+-- write of it was begun; a plan is done, and the caller says so; the power comes back, whenever it went.
 pub data Deed : Type 0 where
   sends : (route : ℕ) → (freshness : ℕ) → Deed
   accepts : (route : ℕ) → (freshness : ℕ) → Deed
+  takes : (route : ℕ) → (counter : ℕ) → Deed
   opens : (route : ℕ) → Deed
   sets : (route : ℕ) → Deed
   reserves : (route : ℕ) → Deed
@@ -59,7 +60,7 @@ pub record OpensFilled (r : RathonsiRoute) (image : List ℕ) (opened : Rathonsi
   pub same : SameRoute r filled
   pub is_opened : Opens filled image opened
 
--- `rathonsi_route_send` or `rathonsi_route_receive` on route k
+-- `rathonsi_route_send` or `rathonsi_route_receive` on route k, in one step or in two; or `rathonsi_sync_take`
 pub record GivesOut (direction : Direction) (n k freshness : ℕ) (a b : Memory) : Type 0 where
   pub changes : ChangesRoute n k a b
   pub advances : RouteAdvances direction (a.routes k) a.image freshness (b.routes k)
@@ -69,12 +70,12 @@ pub record OpensRoute (n k : ℕ) (a b : Memory) : Type 0 where
   pub changes : ChangesRoute n k a b
   pub opened : OpensFilled (a.routes k) a.image (b.routes k)
 
--- key, window, reserve or boot of route k is another now, within its range
+-- key, window, reserve or boot of route k is another now, within its range; or an opening that failed closed it
 pub record SetsFields (n k : ℕ) (a b : Memory) : Type 0 where
   pub changes : ChangesRoute n k a b
   pub same : SameRoute (a.routes k) (b.routes k)
   pub counter : (b.routes k).counter ≡ (a.routes k).counter
-  pub opened : (b.routes k).opened ≡ (a.routes k).opened
+  pub opened : IsOpened (b.routes k) → IsOpened (a.routes k)
   pub direction : Direction
   pub ranges : InRanges (b.routes k) direction
 
@@ -121,6 +122,7 @@ pub record PowerBack (n : ℕ) (a b : Memory) : Type 0 where
 abbrev pub DoesDeed : ℕ → Deed → Memory → Memory → Type 0
 DoesDeed n (sends k freshness) a b = GivesOut Sends n k freshness a b
 DoesDeed n (accepts k freshness) a b = GivesOut Receives n k freshness a b
+DoesDeed n (takes k counter) a b = GivesOut Receives n k counter a b
 DoesDeed n (opens k) a b = OpensRoute n k a b
 DoesDeed n (sets k) a b = SetsFields n k a b
 DoesDeed n (reserves k) a b = PlansBound n k a b
@@ -151,6 +153,7 @@ abbrev pub given_out : ℕ → List Deed → List ℕ
 given_out k [] = []
 given_out k (sends j freshness ∷ deeds) = if j == k then freshness ∷ given_out k deeds else given_out k deeds
 given_out k (accepts j freshness ∷ deeds) = if j == k then freshness ∷ given_out k deeds else given_out k deeds
+given_out k (takes j counter ∷ deeds) = given_out k deeds
 given_out k (opens j ∷ deeds) = given_out k deeds
 given_out k (sets j ∷ deeds) = given_out k deeds
 given_out k (reserves j ∷ deeds) = given_out k deeds
@@ -197,6 +200,7 @@ PlannedAs slot true a = UpdatePlanned slot a
 abbrev pub planned_behind : ℕ → Bool → Deed → Bool
 planned_behind slot planned (sends k freshness) = planned
 planned_behind slot planned (accepts k freshness) = planned
+planned_behind slot planned (takes k counter) = planned
 planned_behind slot planned (opens k) = planned
 planned_behind slot planned (sets k) = planned
 planned_behind slot planned (reserves k) = planned
@@ -213,6 +217,7 @@ planned_after slot planned (deed ∷ deeds) = planned_after slot (planned_behind
 abbrev pub BeginsNone : Bool → Deed → Type 0
 BeginsNone planned (sends k freshness) = Unit {0}
 BeginsNone planned (accepts k freshness) = Unit {0}
+BeginsNone planned (takes k counter) = Unit {0}
 BeginsNone planned (opens k) = Unit {0}
 BeginsNone planned (sets k) = Unit {0}
 BeginsNone planned (reserves k) = Unit {0}

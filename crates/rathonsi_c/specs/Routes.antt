@@ -51,6 +51,10 @@ at_counter r counter = record r { counter = counter }
 abbrev pub opened_at : RathonsiRoute → ℕ → RathonsiRoute
 opened_at r bound = record r { counter = bound; opened = 1 }
 
+-- the route as an opening that failed leaves it
+abbrev pub closed : RathonsiRoute → RathonsiRoute
+closed r = record r { opened = 0 }
+
 -- the image keeps a bound of the route that is at least this freshness
 pub record BoundCovers (r : RathonsiRoute) (image : List ℕ) (direction : Direction) (freshness : ℕ) : Type 0 where
   pub bound : ℕ

@@ -13,7 +13,7 @@ use Rattle.store_plan.specs.declared.planning.Plan.{Plan}
 use Rattle.store_plan.specs.Plans.{PlansPut, IsEmptyPlan}
 use Rattle.rathonsi_c.specs.declared.TheConstants.{OK, BAD_VALUE, BAD_ID, DAMAGED, BUSY, KEY_EMPTY}
 use Rattle.rathonsi_c.specs.Causes.{IfCause, IsDone, erc_status}
-use Rattle.rathonsi_c.specs.Images.{ImageSlot, NoSlot, ImageSlots, NoSlots}
+use Rattle.rathonsi_c.specs.Images.{ImageSlot, NoSlot, ReadsSlots, MissesSlot}
 
 -- the status of what an engine says of a load
 abbrev pub load_status : Result Update Erc → ℤ
@@ -23,7 +23,7 @@ load_status (Err refusal) = erc_status refusal
 -- what the engine with these slots and this boot allows
 pub record LoadSays (uid : List ℕ) (booted : ℕ) (request : Request) (image : List ℕ) (status : ℤ) : Type 0 where
   pub slots : List Slot
-  pub held : ImageSlots image slots
+  pub held : ReadsSlots image request.m1 slots
   pub says : Result Update Erc
   pub allows : Allows slots (booted == 1) uid request says
   pub is : status ≡ load_status says
@@ -33,13 +33,13 @@ abbrev pub LoadAnswers : List ℕ → ℕ → Request → List ℕ → Plan → 
 LoadAnswers uid booted request image plan status =
     IfCause (¬ IsEmptyPlan plan) BUSY
     (IfCause (1 < booted) BAD_VALUE
-    (IfCause (NoSlots image) DAMAGED (LoadSays uid booted request image))) status
+    (IfCause (MissesSlot image request.m1) DAMAGED (LoadSays uid booted request image))) status
 
 -- into an empty plan comes the update that the engine takes
 pub record LoadsSlot (uid : List ℕ) (booted : ℕ) (request : Request) (image : List ℕ) (old new : Plan) : Type 0 where
   pub empty : IsEmptyPlan old
   pub slots : List Slot
-  pub held : ImageSlots image slots
+  pub held : ReadsSlots image request.m1 slots
   pub update : Update
   pub allowed : Allows slots (booted == 1) uid request (Ok update)
   pub plans : PlansPut new image update.id (slot_cell (slot_of update))

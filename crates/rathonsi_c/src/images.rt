@@ -1,8 +1,10 @@
 // What the image of a store keeps of the key slots.
 ghost use Rattle.std.specs.Prelude.{MatchOption};
-ghost use Rattle.rathonsi_c.specs.Images.{ImageSlot, NoSlot, ImageSlots, NoSlots};
+ghost use Rattle.rathonsi_c.specs.Images.{ImageSlot, NoSlot, ReadsSlots, MissesSlot};
 
-use key_slots::{Slot, SlotId, Slots};
+use basics::Block;
+use key_slots::{Slot, Slots};
+use memory_update::head;
 use slot_disk::slot_in;
 use store_plan::cell_in;
 
@@ -16,16 +18,22 @@ pub fn slot_at(image: &[u8], place: u8) -> Option<Slot>
     }
 }
 
-/// The fourteen slots that the image keeps; none if one of its first fourteen cells is no slot's.
-pub fn slots_in(image: &[u8]) -> Option<Slots>
-    ensures { MatchOption result (NoSlots image.now) (ImageSlots image.now) }
+/// Fourteen slots, of which the two that M1 names are as the image keeps them; none if the cell of one of them holds no
+/// slot. If M1 names none, all are empty.
+pub fn slots_named(image: &[u8], m1: &[u8; 16]) -> Option<Slots>
+    ensures { MatchOption result (MissesSlot image.now m1.now) (ReadsSlots image.now m1.now) }
 {
     let mut slots = Slots::empty();
-    for number in 0..14 {
-        match slot_at(image, number) {
-            Some(slot) => slots.set(SlotId::new(number).unwrap(), slot),
-            None => return None,
-        }
-    }
+    let Some(head) = head(&Block::of(*m1)) else {
+        return Some(slots);
+    };
+    let Some(target) = slot_at(image, head.id.number()) else {
+        return None;
+    };
+    let Some(authority) = slot_at(image, head.auth.number()) else {
+        return None;
+    };
+    slots.set(head.id, target);
+    slots.set(head.auth, authority);
     Some(slots)
 }

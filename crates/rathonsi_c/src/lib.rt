@@ -8,21 +8,38 @@
 #![tactic(auto)]
 
 mod aes;
+mod boot;
+mod growing;
+pub mod growth_laws;
 mod images;
 mod keys;
 pub mod laws;
+mod looking;
+mod macs;
+mod opening;
 mod refusals;
 mod route;
 mod secoc;
 mod she;
 mod slots;
 mod states;
+pub mod step_laws;
+mod steps;
 mod store;
+mod sync;
+pub mod sync_laws;
 
 pub use aes::{
     rathonsi_aes128_cbc_decrypt, rathonsi_aes128_cbc_encrypt, rathonsi_aes128_decrypt,
     rathonsi_aes128_encrypt, rathonsi_cmac,
 };
+pub use boot::{
+    RathonsiBoot, rathonsi_boot, rathonsi_boot_begin, rathonsi_boot_finish, rathonsi_boot_update,
+};
+pub use growing::{rathonsi_store_grow, rathonsi_store_size};
+pub use looking::rathonsi_store_look;
+pub use macs::{RathonsiMac, rathonsi_mac_begin, rathonsi_mac_finish, rathonsi_mac_update};
+pub use opening::rathonsi_routes_open;
 pub use route::{
     RathonsiRoute, rathonsi_route_advance, rathonsi_route_open, rathonsi_route_receive,
     rathonsi_route_reserve, rathonsi_route_send,
@@ -39,9 +56,14 @@ pub use states::{
     RathonsiRouteState, RathonsiSlotState, VERSION, rathonsi_route_state, rathonsi_slot_state,
     rathonsi_version,
 };
+pub use steps::{
+    RathonsiInput, rathonsi_receive_input, rathonsi_receive_mac, rathonsi_send_input,
+    rathonsi_send_mac,
+};
 pub use store::{
     rathonsi_route_make, rathonsi_store_check, rathonsi_store_done, rathonsi_store_make,
 };
+pub use sync::{rathonsi_sync_answer, rathonsi_sync_take};
 
 /// The call did what it says.
 pub const OK: i32 = 0;

@@ -8,7 +8,8 @@ ghost use Rattle.secured_pdu.specs.Judged.{outcome_of};
 ghost use Rattle.store_plan.specs.Plans.{PlanFits, IsEmptyPlan};
 ghost use Rattle.rathonsi_c.specs.Images.{ImageBound, ImageKey};
 ghost use Rattle.rathonsi_c.specs.Refused.{BoundRefused, KeyRefused, RouteRefused, SendRefused};
-ghost use Rattle.rathonsi_c.specs.Routes.{InRanges, OutOfRanges, InUse, BoundCovers, is_booted, RouteReady, Opens};
+ghost use Rattle.rathonsi_c.specs.Routes.{InRanges, OutOfRanges, InUse, BoundCovers, is_booted, RouteReady};
+ghost use Rattle.rathonsi_c.specs.Routes.{Opens, closed};
 ghost use Rattle.rathonsi_c.specs.Routes.{RouteAdvances, Reserves, SentBy, bounded_answer, SendAnswers};
 ghost use Rattle.rathonsi_c.specs.Routes.{ReceiveAnswers, OpenAnswers, IsFarAhead, AdvanceAnswers, ReserveAnswers};
 ghost use Rattle.rathonsi_c.specs.Causes.{IsDone};
@@ -46,7 +47,7 @@ pub struct RathonsiRoute {
     pub direction: u8,
     /// 1 after a secure boot that succeeded, else 0.
     pub booted: u8,
-    /// 1 once `rathonsi_route_open` opened it.
+    /// 1 once `rathonsi_route_open` opened it, with `OK`.
     pub opened: u8,
     /// Fills the struct up; not read.
     pub unused: [u8; 4],
@@ -114,13 +115,13 @@ fn key_of(image: &[u8], slot: u8, booted: bool) -> Result<Block, Refusal>
 
 /// What a route is used with.
 #[derive(Clone, Copy)]
-struct Ready {
-    key: Block,
-    bound: u64,
+pub struct Ready {
+    pub key: Block,
+    pub bound: u64,
 }
 
-// What a route of this direction is used with.
-fn make_ready(route: &RathonsiRoute, wanted: Direction, image: &[u8]) -> Result<Ready, Refusal>
+/// What a route of this direction is used with.
+pub fn make_ready(route: &RathonsiRoute, wanted: Direction, image: &[u8]) -> Result<Ready, Refusal>
     ensures ready { IfOk result (λ r. RouteReady route.now wanted image.now r.key r.bound) }
     ensures refused { IfErr result (RouteRefused route.now wanted image.now) }
 {
@@ -168,15 +169,17 @@ fn may_send(route: &RathonsiRoute, image: &[u8]) -> Result<Sending, Refusal>
     Ok(Sending { key, freshness })
 }
 
-/// Opens the route: its counter is the bound that the image keeps. `BAD_VALUE`: a number of the route is outside its
-/// range. `WRONG_CELL`: the image has no such cell, or it holds something else. `DAMAGED`: no copy of it counts.
+/// Opens the route: its counter is the bound that the image keeps. With any other status it is closed. `BAD_VALUE`: a
+/// number of the route is outside its range. `WRONG_CELL`: the image has no such cell, or it holds something else.
+/// `DAMAGED`: no copy of it counts.
 #[unsafe(no_mangle)]
 pub extern "C" fn rathonsi_route_open(route: &mut RathonsiRoute, image: &[u8]) -> i32
     ensures answer { OpenAnswers route.old image.now result }
     ensures opened { result ≡ OK → Opens route.old image.now route.new }
-    ensures unchanged { result ≢ OK → route.new ≡ route.old }
+    ensures closed { result ≢ OK → route.new ≡ closed route.old }
 {
     let Some(direction) = direction_of(route) else {
+        route.opened = 0;
         return BAD_VALUE;
     };
     match bound_of(route, direction, image) {
@@ -185,7 +188,10 @@ pub extern "C" fn rathonsi_route_open(route: &mut RathonsiRoute, image: &[u8]) -
             route.opened = 1;
             OK
         }
-        Err(refusal) => refusal.status(),
+        Err(refusal) => {
+            route.opened = 0;
+            refusal.status()
+        }
     }
 }
 
@@ -328,8 +334,8 @@ pub extern "C" fn rathonsi_route_send(
     OK
 }
 
-// The judgement on a PDU with this payload, as a receiver with this bound tells it.
-fn answer(judgement: Judgement, bound: u64, payload: &[u8]) -> RathonsiVerdict
+/// The judgement on a PDU with this payload, as a receiver with this bound tells it.
+pub fn answer(judgement: Judgement, bound: u64, payload: &[u8]) -> RathonsiVerdict
     requires { length payload.now ≤ 60 }
     ensures { result ≡ bounded_answer bound (outcome_of payload.now judgement) }
 {

@@ -4,7 +4,7 @@ ghost use Rattle.store_plan.specs.Plans.{PlanFits};
 ghost use Rattle.rathonsi_c.specs.Slots.{LoadAnswers, LoadsSlot, ConfirmAnswers, ConfirmsSlot};
 ghost use Rattle.rathonsi_c.specs.Updates.{as_request, as_reply};
 
-use crate::images::{slot_at, slots_in};
+use crate::images::{slot_at, slots_named};
 use crate::refusals::erc_status;
 use crate::she::{RathonsiReply, RathonsiRequest, read_request, reply_struct};
 use crate::{BAD_ID, BAD_VALUE, BUSY, DAMAGED, KEY_EMPTY, OK};
@@ -16,8 +16,9 @@ use slot_disk::slot_bytes;
 use store_plan::{Plan, is_empty, plan_put};
 
 /// Plans the update that the request carries for the engine with this identifier; `booted` is 1 after a secure boot
-/// that succeeded in this life, else 0. `BUSY`, `BAD_VALUE` (`booted` is neither), `DAMAGED`, and of a load
-/// `KEY_INVALID`, `KEY_WRITE_PROTECTED`, `KEY_EMPTY`, `KEY_NOT_AVAILABLE`, `KEY_UPDATE_ERROR`: the first that applies.
+/// that succeeded in this life, else 0. `BUSY`, `BAD_VALUE` (`booted` is neither), `DAMAGED` (the cell of a slot that
+/// M1 names holds no slot), and of a load `KEY_INVALID`, `KEY_WRITE_PROTECTED`, `KEY_EMPTY`, `KEY_NOT_AVAILABLE`,
+/// `KEY_UPDATE_ERROR`: the first that applies.
 #[unsafe(no_mangle)]
 pub extern "C" fn rathonsi_slot_load(
     uid: &[u8; 15],
@@ -37,7 +38,7 @@ pub extern "C" fn rathonsi_slot_load(
     if booted > 1 {
         return BAD_VALUE;
     }
-    let Some(slots) = slots_in(image) else {
+    let Some(slots) = slots_named(image, &request.m1) else {
         return DAMAGED;
     };
     let update = match allowed(&slots, booted == 1, Uid::of(*uid), &read_request(request)) {

@@ -14,8 +14,8 @@ use crate::{BAD_LENGTH, BAD_VALUE, DAMAGED, NO_STORE, OK};
 use freshness_store::bound_bytes;
 use store_plan::{ImageFault, Plan, check, count_of, done, is_within, make, make_cell};
 
-// The number of cells of an image of this size, if it is one of fourteen slots and up to 256 routes.
-fn cells_of(size: usize) -> Option<u16>
+/// The number of cells of an image of this size, if it is one of fourteen slots and up to 256 routes.
+pub fn cells_of(size: usize) -> Option<u16>
     ensures { MatchOption result (NoSize size) (λ n. IsSize n size) }
 {
     let Some(count) = count_of(size) else {

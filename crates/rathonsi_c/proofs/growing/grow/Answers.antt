@@ -1,0 +1,31 @@
+use Rattle.std.proofs.Common.{◌≡◌, ℕ, ◌⊎◌, inl, inr, List, sym, subst, FitsSigned, w32, rules}
+use Rattle.std.proofs.lemmas.Int.{to_z-of_z}
+use Rattle.freshness_routes.specs.declared.routes.Direction.{Direction}
+use Rattle.freshness_store.specs.Bound.{bound_cell}
+use Rattle.store_plan.specs.declared.growing.Growth.{Growth}
+use Rattle.store_plan.specs.declared.growing.Growth.TheVariants.{After, Beyond}
+use Rattle.store_plan.specs.Growing.{IsGrowth}
+use Rattle.rathonsi_c.specs.declared.route.RathonsiRoute.{RathonsiRoute}
+use Rattle.rathonsi_c.specs.Routes.{InRanges}
+use Rattle.rathonsi_c.specs.Growing.{GoesSo, StateAnswers}
+use Rattle.rathonsi_c.proofs.growing.grow.Goals as goal
+
+-- what was said of the bytes of the new cell
+goes : (r : RathonsiRoute) (bound : ℕ) (image : List ℕ) (direction : Direction) (payload : List ℕ) (growth : Growth) → InRanges r direction → payload ≡ bound_cell r.data_id direction bound → IsGrowth image r.cell payload growth
+    → GoesSo r bound image growth
+goes r bound image direction payload growth ranges is went = record {
+  direction = direction;
+  ranges = ranges;
+  is = subst (λ (p : List ℕ). IsGrowth image r.cell p growth) is went;
+}
+
+pub returns-in-After-clause-answer : goal.returns-in-After-clause-answer
+returns-in-After-clause-answer c =
+    let r = c.args.route.now in
+    let bound = c.args.bound in
+    let image = c.args.image.now in
+    let g = goes r bound image c.args.direction c.bound_bytes-payload.result c.in-Some.growth c.requires.0 c.bound_bytes-payload.ensures c.in-Some.ensures in
+    let which : GoesSo r bound image After ⊎ GoesSo r bound image Beyond = elim c.in-After.is [ inl e ↦ inl (subst (λ (w : Growth). GoesSo r bound image w) e g) | inr e ↦ inr (subst (λ (w : Growth). GoesSo r bound image w) e g) ] in
+    let fits : FitsSigned w32 c.cell_status.result = search rules in
+    subst (λ s. StateAnswers c.args.route.now c.args.bound c.args.image.now s) (sym (to_z-of_z w32 c.cell_status.result fits))
+    (inr ((λ none. none c.in-Some.growth g), inr (which, c.cell_status.ensures.answer)))

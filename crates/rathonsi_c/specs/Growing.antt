@@ -1,0 +1,102 @@
+-- A store that gets the cell of one route more, by a software update; and the size of a store by its first 32 bytes.
+use Rattle.std.specs.Prelude.{ℤ, ◌≡◌, ℕ, ◌+◌, ◌<◌, ◌≤◌, ◌⊎◌, List, ◌++◌, length}
+use Rattle.cell_store.specs.declared.kinds.Version.TheVariants.{One}
+use Rattle.cell_store.specs.Layout.{twin_layout, header}
+use Rattle.cell_store.specs.Twin.{twin_size}
+use Rattle.freshness_routes.specs.declared.routes.Direction.{Direction}
+use Rattle.freshness_store.specs.Bound.{bound_cell}
+use Rattle.store_plan.specs.declared.growing.Growth.{Growth}
+use Rattle.store_plan.specs.declared.growing.Growth.TheVariants.{Before, Counting, After, Beyond}
+use Rattle.store_plan.specs.declared.planning.Plan.{Plan}
+use Rattle.store_plan.specs.Plans.{IsEmptyPlan, CutWithin}
+use Rattle.store_plan.specs.Growing.{IsGrowth, PlansFor, Grew}
+use Rattle.rathonsi_c.specs.declared.TheConstants.{BAD_LENGTH, BAD_VALUE, NO_STORE, BUSY}
+use Rattle.rathonsi_c.specs.declared.route.RathonsiRoute.{RathonsiRoute}
+use Rattle.rathonsi_c.specs.Causes.{IfCause, IsDone}
+use Rattle.rathonsi_c.specs.Images.{ImageBound}
+use Rattle.rathonsi_c.specs.Routes.{InRanges, OutOfRanges, CellAnswers, Opens}
+use Rattle.rathonsi_c.specs.Stores.{IsSize}
+use Rattle.rathonsi_c.specs.Lives.{Memory, OpensFilled, Apart}
+
+-- a store has this cell, and the image has room for it and for a cell after it
+pub record RoomToGrow (cell : ℕ) (image : List ℕ) : Type 0 where
+  pub most : cell < 270
+  pub room : twin_size (cell + 2) ≤ length image
+
+-- how far the image went that gets the cell of this route, with this bound
+pub record GoesSo (r : RathonsiRoute) (bound : ℕ) (image : List ℕ) (growth : Growth) : Type 0 where
+  pub direction : Direction
+  pub ranges : InRanges r direction
+  pub is : IsGrowth image r.cell (bound_cell r.data_id direction bound) growth
+
+-- what a store that has the cell already answers
+abbrev pub HasCellAnswers : RathonsiRoute → ℕ → List ℕ → ℤ → Type 0
+HasCellAnswers r bound image status =
+    ((GoesSo r bound image Before ⊎ GoesSo r bound image Counting) × IsDone status)
+    ⊎ ((GoesSo r bound image After ⊎ GoesSo r bound image Beyond) × CellAnswers r image IsDone status)
+
+-- what it answers by how far the image went
+abbrev pub StateAnswers : RathonsiRoute → ℕ → List ℕ → ℤ → Type 0
+StateAnswers r bound image status =
+    IfCause ((growth : Growth) → ¬ GoesSo r bound image growth) NO_STORE (HasCellAnswers r bound image) status
+
+-- what `rathonsi_store_grow` answers
+abbrev pub GrowAnswers : RathonsiRoute → ℕ → List ℕ → Plan → ℤ → Type 0
+GrowAnswers r bound image plan status =
+    IfCause (¬ IsEmptyPlan plan) BUSY
+    (IfCause (OutOfRanges r) BAD_VALUE
+    (IfCause (¬ RoomToGrow r.cell image) BAD_LENGTH (StateAnswers r bound image))) status
+
+-- the store has the cell, and it keeps a bound of the route: nothing is planned
+abbrev pub PlansNothing : RathonsiRoute → List ℕ → Direction → Plan → Plan → Type 0
+PlansNothing r image direction old new =
+    (new ≡ old) × ((kept : ℕ) × ImageBound image r.cell r.data_id direction kept)
+
+-- into an empty plan comes the cell that holds the route's bound, and the number of cells; or the number alone; or
+-- nothing, if the store has the cell
+pub record PlansCell (r : RathonsiRoute) (bound : ℕ) (image : List ℕ) (old new : Plan) : Type 0 where
+  pub empty : IsEmptyPlan old
+  pub direction : Direction
+  pub ranges : InRanges r direction
+  pub growth : Growth
+  pub is : IsGrowth image r.cell (bound_cell r.data_id direction bound) growth
+  pub plans : PlansFor growth new r.cell (bound_cell r.data_id direction bound)
+      ⊎ ((growth ≡ After ⊎ growth ≡ Beyond) × PlansNothing r image direction old new)
+
+-- what `rathonsi_store_size` answers
+abbrev pub NoHead : List ℕ → Type 0
+NoHead head = (n size : ℕ) → IsSize n size → ¬ (head ≡ header (twin_layout One) n)
+
+abbrev pub SizeAnswers : List ℕ → ℤ → Type 0
+SizeAnswers head status = IfCause (NoHead head) NO_STORE IsDone status
+
+-- the size of the store that begins with these 32 bytes
+pub record GivesSize (head : List ℕ) (size : ℕ) : Type 0 where
+  pub count : ℕ
+  pub is_size : IsSize count size
+  pub head_is : head ≡ header (twin_layout One) count
+
+-- ---- over all lives
+
+-- A software update of a unit with n routes. It begins with what the power left of the image of the older software, and
+-- what the device has after it, with room for two cells. The store grew by the cell of route n, over as many cuts as
+-- there were. Then every route was filled in and opened, and the new one for the first time.
+pub record Updates (n : ℕ) (a b : Memory) : Type 0 where
+  pub left : List ℕ
+  pub cut : CutWithin a.plan a.image left
+  pub room : List ℕ
+  pub route : RathonsiRoute
+  pub direction : Direction
+  pub ranges : InRanges route direction
+  pub first : ℕ
+  pub few : route.cell < 270
+  pub last_cell : length left ≡ twin_size route.cell
+  pub two_cells : 136 ≤ length room
+  pub behind : List ℕ
+  pub cuts : ℕ
+  pub grew : Grew cuts route.cell (bound_cell route.data_id direction first) (left ++ room) (b.image ++ behind)
+  pub one_cell : length b.image ≡ twin_size (route.cell + 1)
+  pub empty : IsEmptyPlan b.plan
+  pub opened : (k : ℕ) → k < n → OpensFilled (a.routes k) b.image (b.routes k)
+  pub opened_new : Opens route b.image (b.routes n)
+  pub apart : Apart (n + 1) b.routes

@@ -1,0 +1,30 @@
+//! What a store keeps as it gets the cell of one route more: the contract of each function is the law, and its body is
+//! empty.
+ghost use Rattle.std.specs.Prelude.{◌+◌, ◌<◌, ◌++◌, ℕ, List};
+ghost use Rattle.memory_update.specs.declared.messages.Reply.{Reply};
+ghost use Rattle.store_plan.specs.Plans.{CutWithin};
+ghost use Rattle.rathonsi_c.specs.Slots.{ConfirmsSlot};
+ghost use Rattle.rathonsi_c.specs.Stores.{IsWhole};
+ghost use Rattle.rathonsi_c.specs.Growing.{Updates};
+ghost use Rattle.rathonsi_c.specs.Lives.{Memory, Deed, PoweredUp, Lives, RisesTo, given_out, SlotFilled};
+
+/// A unit with n routes lives, gets new software with a route more, over whatever cuts, and lives on. The freshness of
+/// each of the old routes rises over both.
+pub fn freshness_rises_across_an_update()
+    ensures rises { (n : ℕ) (before after : List Deed) (first last next end : Memory) → PoweredUp n first
+        → Lives n before first last → Updates n last next → Lives (n + 1) after next end → (k : ℕ) → k < n
+        → RisesTo (first.routes k).counter (given_out k before ++ given_out k after) (end.routes k).counter }
+    ensures powered { (n : ℕ) (before : List Deed) (first last next : Memory) → PoweredUp n first
+        → Lives n before first last → Updates n last next → PoweredUp (n + 1) next }
+{}
+
+/// No filled slot becomes empty by it, a confirmed update of a slot that wasn't planned anew stays, and a store that
+/// `rathonsi_store_check` answers OK for is one of a cell more.
+pub fn keys_are_kept_across_an_update()
+    ensures filled { (n slot : ℕ) (last next : Memory) → Updates n last next → slot < 14
+        → ((left : List ℕ) → CutWithin last.plan last.image left → SlotFilled left slot) → SlotFilled next.image slot }
+    ensures kept { (n : ℕ) (last next : Memory) (uid m1 : List ℕ) (reply : Reply) → Updates n last next
+        → ((left : List ℕ) → CutWithin last.plan last.image left → ConfirmsSlot uid m1 left reply)
+        → ConfirmsSlot uid m1 next.image reply }
+    ensures whole { (n : ℕ) (last next : Memory) → (u : Updates n last next) → IsWhole u.left → IsWhole next.image }
+{}
