@@ -1,8 +1,7 @@
 -- From a bound, or the refusal of one, to the answers of the calls in two steps.
-use Rattle.std.proofs.Common.{ℤ, ◌≡◌, ◌≢◌, ℕ, ◌+◌, ◌^◌, ◌<◌, ◌≤◌, inl, inr, List, refl, sym, ap, arith}
+use Rattle.std.proofs.Common.{ℤ, ◌≡◌, ◌≢◌, ℕ, ◌+◌, ◌^◌, ◌≤◌, inl, inr, List, refl, ap, arith}
 use Rattle.freshness_routes.specs.declared.routes.Direction.{Direction}
-use Rattle.freshness_routes.specs.declared.routes.Direction.TheVariants.{Sends, Receives}
-use Rattle.secured_pdu.specs.Frame.{Ahead}
+use Rattle.freshness_routes.specs.declared.routes.Direction.TheVariants.{Sends}
 use Rattle.rathonsi_c.specs.declared.TheConstants.{OK, EXHAUSTED, RESERVE}
 use Rattle.rathonsi_c.specs.declared.route.RathonsiRoute.{RathonsiRoute}
 use Rattle.rathonsi_c.specs.declared.refusals.Refusal.{Refusal}
@@ -11,7 +10,7 @@ use Rattle.rathonsi_c.specs.Causes.{IfCause}
 use Rattle.rathonsi_c.specs.Images.{ImageBound}
 use Rattle.rathonsi_c.specs.Refused.{route_status, BoundRefused}
 use Rattle.rathonsi_c.specs.Routes.{InUse, BoundBelow, CounterAnswers, status_alone}
-use Rattle.rathonsi_c.specs.Steps.{BoundAnswers, NextRefused}
+use Rattle.rathonsi_c.specs.Steps.{BoundAnswers}
 use Rattle.rathonsi_c.proofs.ImageLaws.{bound_once}
 use Rattle.rathonsi_c.proofs.AnswerLaws.{damaged_keeps_none}
 

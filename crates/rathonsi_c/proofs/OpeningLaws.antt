@@ -1,11 +1,11 @@
 -- What opening all routes of a unit comes to.
-use Rattle.std.proofs.Common.{ℤ, ◌≡◌, ◌≢◌, ℕ, ◌+◌, ◌<◌, ◌≤◌, ◌⊎◌, inl, inr, List, length, take, set, get_or, refl, sym, ap, subst, ◌∙◌, arith}
+use Rattle.std.proofs.Common.{ℤ, ◌≡◌, ◌≢◌, ℕ, ◌+◌, ◌<◌, ◌≤◌, ◌⊎◌, inl, inr, List, length, take, set, get_or, sym, ap, subst, ◌∙◌, arith}
 use Rattle.std.proofs.lemmas.Bool.{cases_lt}
 use Rattle.std.proofs.lemmas.List.{get_or-take, get_or-set_same, get_or-set_other, length-take-le, get_or_default}
 use Rattle.rathonsi_c.specs.declared.TheConstants.{OK, BAD_VALUE, DAMAGED, WRONG_CELL}
 use Rattle.rathonsi_c.specs.declared.route.RathonsiRoute.{RathonsiRoute}
 use Rattle.rathonsi_c.specs.Routes.{OutOfRanges, OpenAnswers, Opens}
-use Rattle.rathonsi_c.specs.Opening.{blank_route, route_of, IsApart, IsApartFrom, RouteOpens, OpensAt, AllOpen, OpensEach}
+use Rattle.rathonsi_c.specs.Opening.{blank_route, route_of, IsApartFrom, RouteOpens, OpensAt, AllOpen, OpensEach}
 use Rattle.rathonsi_c.specs.Lives.{Apart}
 use Rattle.rathonsi_c.proofs.AnswerLaws.{other_status}
 

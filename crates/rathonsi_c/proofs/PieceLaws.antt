@@ -1,13 +1,12 @@
 -- A MAC that comes in pieces, and the boot MAC of a program so.
-use Rattle.std.proofs.Common.{◌≡◌, ◌≢◌, ℕ, ◌+◌, ◌-◌, ◌*◌, ◌<◌, ◌≤◌, List, [], ◌++◌, length, take, drop, replicate, length-take, refl, sym, ap, subst, ◌∙◌, arith}
-use Rattle.std.proofs.lemmas.List.{append_assoc, append-nil, length-append}
+use Rattle.std.proofs.Common.{◌≡◌, ◌≢◌, ℕ, ◌*◌, List, [], ◌++◌, length, drop, replicate, length-take, sym, ap, subst, ◌∙◌, arith}
+use Rattle.std.proofs.lemmas.List.{append_assoc, append-nil}
 use Rattle.basics.specs.Numbers.{bytes_of}
 use Rattle.she_cmac.specs.Cmac.{before_last, block_at, last_piece, cmac}
 use Rattle.secure_boot.specs.Booting.{bootmac}
 use Rattle.rathonsi_c.specs.declared.macs.RathonsiMac.{RathonsiMac}
-use Rattle.rathonsi_c.specs.declared.boot.RathonsiBoot.{RathonsiBoot}
 use Rattle.rathonsi_c.specs.Pieces.{IsBegun, TookPieces}
-use Rattle.rathonsi_c.specs.Booting.{IsProgram, BootTook, SaysBooted}
+use Rattle.rathonsi_c.specs.Booting.{SaysBooted}
 
 -- what took a message was begun
 pub begun_of : (key message : List ℕ) (mac : RathonsiMac) → TookPieces key message mac → IsBegun mac

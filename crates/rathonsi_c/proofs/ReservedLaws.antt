@@ -1,5 +1,5 @@
 -- A PDU that a receiver is to reserve for is accepted once its freshness is reserved.
-use Rattle.std.proofs.Common.{ℤ, pos, negsuc, ◌≡◌, ◌≢◌, ℕ, ◌-◌, ◌^◌, ◌<◌, ◌≤◌, inl, inr, List, length, refl, sym, ap, subst, ◌∙◌, arith, length-take}
+use Rattle.std.proofs.Common.{ℤ, ◌≡◌, ℕ, ◌-◌, ◌^◌, ◌<◌, ◌≤◌, inl, inr, List, length, refl, sym, ap, subst, ◌∙◌, arith, length-take}
 use Rattle.std.specs.Prelude.{nat_lt}
 use Rattle.std.proofs.lemmas.Bool.{cases_Bool, cond-true, cond-false, ltb-true, le-ltb}
 use Rattle.std.proofs.lemmas.Option.{same_Some}

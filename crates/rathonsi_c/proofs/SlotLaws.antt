@@ -1,11 +1,11 @@
 -- The two slots that M1 names.
-use Rattle.std.proofs.Common.{◌≡◌, ◌≢◌, ℕ, ◌<◌, inl, inr, List, length, set, get_or, refl, sym, ap, subst, ◌∙◌, arith}
+use Rattle.std.proofs.Common.{◌≡◌, ℕ, inl, inr, List, set, get_or, sym, ap, subst, ◌∙◌, arith}
 use Rattle.std.proofs.lemmas.Bool.{cases_eq}
 use Rattle.std.proofs.lemmas.List.{get_or-set_same, get_or-set_other}
 use Rattle.key_slots.specs.declared.memory.Slot.{Slot}
 use Rattle.key_slots.specs.declared.memory.Slot.TheVariants.{Empty}
 use Rattle.key_slots.specs.Slots.{IsSlots, slot_at}
-use Rattle.memory_update.specs.Messages.{HeadOf, HasSlots, id_of, auth_of}
+use Rattle.memory_update.specs.Messages.{HeadOf, id_of, auth_of}
 use Rattle.memory_update.specs.MessageLaws.{id_of-head, auth_of-head, HasSlots-head}
 use Rattle.memory_update.specs.declared.messages.Head.{Head}
 use Rattle.rathonsi_c.specs.Images.{ImageSlot, ReadsSlots}

@@ -1,5 +1,5 @@
 -- What an answer to a nonce moves.
-use Rattle.std.proofs.Common.{ℤ, ◌≡◌, ℕ, ◌+◌, ◌^◌, ◌%◌, ◌<◌, ◌≤◌, inl, inr, ◌⊎◌, Option, Some, None, List, refl, sym, ap, subst, ◌∙◌, arith}
+use Rattle.std.proofs.Common.{ℤ, ◌≡◌, ℕ, ◌+◌, ◌^◌, ◌<◌, ◌≤◌, inl, inr, Option, Some, None, List, refl, sym, ap, subst, ◌∙◌, arith}
 use Rattle.std.specs.Prelude.{nat_lt, if◌then◌else◌, IfSome, IfNone}
 use Rattle.std.proofs.lemmas.Bool.{cases_Bool, cond-true, cond-false, ltb-true}
 use Rattle.std.proofs.lemmas.Option.{same_Some}
@@ -15,11 +15,11 @@ use Rattle.secured_pdu.specs.Verdict.{Outcome, Verdict, Accepted}
 use Rattle.secured_pdu.specs.VerdictLaws.{same_from_Verdict, Verdict_of_secured}
 use Rattle.secured_pdu.specs.Sync.{Synced}
 use Rattle.secured_pdu.proofs.CallerLemmas.{one_counter}
-use Rattle.rathonsi_c.specs.declared.TheConstants.{OK, BAD_LENGTH, BAD_VALUE, FRESHNESS_FAILURE, VERIFICATION_FAILURE, DAMAGED, RESERVE, WRONG_CELL}
+use Rattle.rathonsi_c.specs.declared.TheConstants.{OK, BAD_VALUE, FRESHNESS_FAILURE, VERIFICATION_FAILURE, DAMAGED, RESERVE, WRONG_CELL}
 use Rattle.rathonsi_c.specs.declared.secoc.RathonsiVerdict.{RathonsiVerdict}
 use Rattle.rathonsi_c.specs.declared.route.RathonsiRoute.{RathonsiRoute}
 use Rattle.rathonsi_c.specs.Causes.{erc_status}
-use Rattle.rathonsi_c.specs.Images.{ImageBound, ImageSlot, ImageKey}
+use Rattle.rathonsi_c.specs.Images.{ImageKey}
 use Rattle.rathonsi_c.specs.Routes.{RouteReady, RouteAdvances, is_booted, no_verdict, bounded_answer, JudgesPdu, ReceiveAnswers}
 use Rattle.rathonsi_c.specs.Syncing.{AnsweredBy, TellsCounter, JudgesSync, SyncTakeAnswers, TookAnswer, sync_verdict}
 use Rattle.rathonsi_c.specs.Lives.{Memory, Deed, PoweredUp, Lives, RisesTo, given_out}

@@ -1,6 +1,5 @@
 -- What the calls that tell of an image answer: of a slot and of a route.
 use Rattle.std.specs.Prelude.{ℤ, ◌≡◌, ℕ, ◌<◌, List, [], ◌∷◌}
-use Rattle.key_slots.specs.declared.memory.Flags.{Flags}
 use Rattle.key_slots.specs.declared.memory.Slot.{Slot}
 use Rattle.key_slots.specs.declared.memory.Slot.TheVariants.{Empty, Filled}
 use Rattle.key_slots.specs.Flags.{flags_number}

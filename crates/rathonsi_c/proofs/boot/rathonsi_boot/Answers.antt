@@ -1,5 +1,5 @@
-use Rattle.std.proofs.Common.{◌≡◌, [], ◌++◌, length, refl, sym, ◌∙◌}
-use Rattle.rathonsi_c.proofs.PieceLaws.{begun_of, program_head, boot_tag, says_booted, took_next}
+use Rattle.std.proofs.Common.{[], ◌++◌, length, refl, sym, ◌∙◌}
+use Rattle.rathonsi_c.proofs.PieceLaws.{program_head, boot_tag, says_booted, took_next}
 use Rattle.rathonsi_c.proofs.boot.rathonsi_boot.Goals as goal
 
 pub returns-clause-boots : goal.returns-clause-boots

@@ -1,4 +1,4 @@
-use Rattle.std.proofs.Common.{◌≡◌, ◌++◌, length, sym, ap, subst, ◌∙◌, arith}
+use Rattle.std.proofs.Common.{◌≡◌, ◌++◌, length, sym, ◌∙◌, arith}
 use Rattle.rathonsi_c.proofs.PieceLaws.{program_head, boot_tag, says_booted}
 use Rattle.rathonsi_c.proofs.boot.rathonsi_boot_finish.Goals as goal
 

@@ -1,4 +1,4 @@
-use Rattle.std.proofs.Common.{◌++◌, length, inl, inr, refl, arith}
+use Rattle.std.proofs.Common.{◌++◌, arith}
 use Rattle.std.proofs.lemmas.List.{length-append}
 use Rattle.rathonsi_c.proofs.PieceLaws.{program_head, took_next}
 use Rattle.rathonsi_c.proofs.boot.rathonsi_boot_update.Goals as goal

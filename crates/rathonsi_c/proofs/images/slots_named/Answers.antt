@@ -1,5 +1,4 @@
 use Rattle.std.proofs.Common.{◌≡◌, ℕ, inl, inr, List, sym, subst, ◌∙◌}
-use Rattle.key_slots.specs.declared.memory.Slot.{Slot}
 use Rattle.memory_update.specs.Messages.{HeadOf, id_of, auth_of}
 use Rattle.memory_update.specs.MessageLaws.{id_of-head, auth_of-head, HasSlots-head}
 use Rattle.rathonsi_c.specs.Images.{ImageSlot, NoSlot}

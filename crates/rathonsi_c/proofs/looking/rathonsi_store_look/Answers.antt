@@ -1,4 +1,4 @@
-use Rattle.std.proofs.Common.{ℤ, ◌≡◌, inl, inr, refl, sym, subst, ◌∙◌, FitsSigned, w32, rules}
+use Rattle.std.proofs.Common.{inl, inr, refl, sym, subst, ◌∙◌, FitsSigned, w32, rules}
 use Rattle.std.proofs.lemmas.Bool.{true≢false}
 use Rattle.std.proofs.lemmas.Int.{to_z-of_z}
 use Rattle.cell_store.specs.declared.kinds.Version.TheVariants.{One}

@@ -1,7 +1,6 @@
-use Rattle.std.proofs.Common.{◌≡◌, ℕ, ◌≤◌, List, ◌++◌, sym, ap, subst, ◌∙◌, arith}
+use Rattle.std.proofs.Common.{◌≡◌, ℕ, List, ◌++◌, sym, ap, subst, ◌∙◌, arith}
 use Rattle.she_cmac.specs.declared.pieces.MacParts.{MacParts}
 use Rattle.she_cmac.specs.Took.{TookParts}
-use Rattle.rathonsi_c.specs.Pieces.{parts_of}
 use Rattle.rathonsi_c.proofs.macs.updated.Goals as goal
 
 pub returns-in_default-clause-none : goal.returns-in_default-clause-none

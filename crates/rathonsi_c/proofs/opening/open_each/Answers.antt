@@ -1,4 +1,4 @@
-use Rattle.std.proofs.Common.{length, ◌∙◌, arith}
+use Rattle.std.proofs.Common.{◌∙◌, arith}
 use Rattle.std.proofs.lemmas.List.{length-set}
 use Rattle.rathonsi_c.proofs.OpeningLaws.{opens_next, rest_next}
 use Rattle.rathonsi_c.proofs.opening.open_each.Goals as goal

@@ -1,4 +1,4 @@
-use Rattle.std.proofs.Common.{◌≡◌, ℕ, inl, inr, length, refl, sym, ap, subst, ◌∙◌, arith, rules}
+use Rattle.std.proofs.Common.{◌≡◌, ℕ, inl, inr, length, refl, sym, ap, subst, ◌∙◌, rules}
 use Rattle.std.proofs.lemmas.Bool.{true≢false}
 use Rattle.freshness_routes.specs.declared.routes.Direction.TheVariants.{Receives}
 use Rattle.secured_pdu.specs.Judged.{outcome_of}
