@@ -6,3 +6,4 @@ pub mod FreeLaws
 pub mod ScanLaws
 pub mod StoreLaws
 pub mod PutLaws
+pub mod CallerLemmas

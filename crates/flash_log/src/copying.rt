@@ -9,7 +9,7 @@ ghost use Rattle.flash_log.specs.Going.{machine, layout_on, Goes, HoldsCopy, Ren
 use flash_places::{FlashDevice, FlashFailed, FlashLine};
 
 /// The bank that takes the next copy.
-pub(crate) fn next_bank(banks: u8, bank: u8) -> u8
+pub fn next_bank(banks: u8, bank: u8) -> u8
     requires inside { bank < banks }
     ensures is { result ≡ next_bank banks bank }
     ensures below { result < banks }

@@ -10,13 +10,13 @@ ghost use Rattle.flash_log.specs.Taking.{NoLaterHead, latest_head, generation_in
 use flash_places::{Answer, FlashDevice, FlashFailed, FlashLine};
 
 /// The generation of a log, and where it ends.
-#[derive(Clone, Copy, Drop)]
-pub(crate) struct LogEnd {
-    pub(crate) generation: u64,
+#[derive(Clone, Copy, Debug, PartialEq, Eq, Drop)]
+pub struct LogEnd {
+    pub generation: u64,
     /// The place after its last line.
-    pub(crate) next: u32,
+    pub next: u32,
     /// Whether each place from there on is blank for sure.
-    pub(crate) is_free: bool,
+    pub is_free: bool,
 }
 
 /// What was read of a bank.
@@ -68,7 +68,7 @@ fn set_cell(cells: &mut [[u8; 32]], cell: u16, payload: &[u8; 32])
 }
 
 /// Makes of the cells what a line says.
-fn make_line(cells: &mut [[u8; 32]], line: &FlashLine)
+pub fn make_line(cells: &mut [[u8; 32]], line: &FlashLine)
     ensures { cells.new ≡ after_lines (line.now ∷ []) cells.old }
 {
     match line {
@@ -187,7 +187,7 @@ fn read_free<D: FlashDevice>(device: &mut D, bank: u8, end: PutsEnd) -> Result<b
 }
 
 /// The generation that no head of a bank is later than, as its first place was read.
-fn latest_of(head: &Answer) -> u64
+pub fn latest_of(head: &Answer) -> u64
     ensures { result ≡ latest_head head.now }
 {
     match head {
@@ -199,7 +199,7 @@ fn latest_of(head: &Answer) -> u64
 }
 
 /// The generation of a bank's head, as its first place was read.
-fn generation_of(head: &Answer) -> Option<u64>
+pub fn generation_of(head: &Answer) -> Option<u64>
     ensures { result ≡ generation_in head.now }
 {
     match head {

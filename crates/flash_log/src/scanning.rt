@@ -12,18 +12,19 @@ use crate::reading::{LogEnd, read_log};
 use flash_places::{FlashDevice, FlashFailed};
 
 /// A log and its bank.
-#[derive(Clone, Copy, Drop)]
-pub(crate) struct Found {
-    pub(crate) bank: u8,
-    pub(crate) generation: u64,
-    pub(crate) next: u32,
+#[derive(Clone, Copy, Debug, PartialEq, Eq, Drop)]
+pub struct Found {
+    pub bank: u8,
+    pub generation: u64,
+    /// The place after its last line.
+    pub next: u32,
     /// Whether each place of its bank from there on is blank for sure.
-    pub(crate) is_free: bool,
+    pub is_free: bool,
 }
 
 /// The latest log of the banks that were read.
-#[derive(Clone, Copy, Drop)]
-pub(crate) enum Best {
+#[derive(Clone, Copy, Debug, PartialEq, Eq, Drop)]
+pub enum Best {
     NoLog,
     One(Found),
     /// Two logs have this generation.
@@ -39,7 +40,7 @@ struct Judged {
 }
 
 /// The best of some banks and one more, and whether it is the new one.
-fn judge(best: Best, bank: u8, log: LogEnd) -> (Best, bool)
+pub fn judge(best: Best, bank: u8, log: LogEnd) -> (Best, bool)
     ensures best { result.0 ≡ judged best bank log }
     ensures newest { result.1 ≡ is_newest best log }
 {
@@ -116,8 +117,8 @@ fn read_bank<D: FlashDevice>(
     }
 }
 
-/// Notes what was read of a bank.
-fn note(latest: &mut [u64; 16], bank: u8, generation: u64)
+/// Notes which generation no head of a bank is later than.
+pub fn note(latest: &mut [u64; 16], bank: u8, generation: u64)
     requires inside { bank < 16 }
     ensures here { get_or latest.new bank 0 ≡ generation }
     ensures others { (x : ℕ) → x ≢ bank → get_or latest.new x 0 ≡ get_or latest.old x 0 }

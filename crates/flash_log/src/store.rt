@@ -50,7 +50,7 @@ pub struct FlashLog {
 
 /// Whether a start may go on in the log that it found: its bank is free behind it, and the next bank's head was read
 /// and is older.
-fn may_go_on(banks: u8, log: &Found, latest: &[u64; 16]) -> bool
+pub fn may_go_on(banks: u8, log: &Found, latest: &[u64; 16]) -> bool
     requires inside { log.now.bank < banks }
     requires few { banks ≤ 16 }
     ensures free { result ≡ true → log.now.is_free ≡ true }

@@ -1,0 +1,4 @@
+pub mod BankSteps
+pub mod ScanSteps
+pub mod DeedSteps
+pub mod TurnLaws

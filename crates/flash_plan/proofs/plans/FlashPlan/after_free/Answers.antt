@@ -1,0 +1,27 @@
+use Rattle.std.proofs.Common.{Some, length, sym, subst}
+use Rattle.flash_log.specs.declared.reading.LogEnd.{LogEnd}
+use Rattle.flash_plan.specs.Standing.{WithinBank, ReadsBank}
+use Rattle.flash_plan.proofs.BankSteps.{free_is_blank, free_is_none}
+use Rattle.flash_plan.proofs.plans.FlashPlan.after_free.Goals as goal
+
+pub returns-in-Blank-clause-goes : goal.returns-in-Blank-clause-goes
+returns-in-Blank-clause-goes c first f g w d behind =
+    c.after_blank.ensures.goes first g
+    (free_is_blank (length c.args.cells.now) c.args.bank c.args.generation c.args.place first f g c.args.self.now.best c.args.self.now.latest c.args.cells.now c.args.scratch.now c.args.answer d
+    c.args.next w c.in-Blank.is) behind
+
+pub returns-in-Whole-clause-goes : goal.returns-in-Whole-clause-goes
+returns-in-Whole-clause-goes c first f g w d behind =
+    c.leave_bank.ensures.goes first g
+    (subst (λ (e : LogEnd). WithinBank (length c.args.cells.now) c.args.bank first g c.args.self.now.best c.args.self.now.latest c.args.cells.now (ReadsBank (length c.args.cells.now) (Some e) c.args.scratch.now))
+    (sym c.not_free-log.ensures)
+    (free_is_none (length c.args.cells.now) c.args.bank c.args.generation c.args.place first f g c.args.self.now.best c.args.self.now.latest c.args.cells.now c.args.scratch.now c.args.answer d
+    c.args.next w))
+
+pub returns-in-Nothing-clause-goes : goal.returns-in-Nothing-clause-goes
+returns-in-Nothing-clause-goes c first f g w d behind =
+    c.leave_bank-in-Nothing.ensures.goes first g
+    (subst (λ (e : LogEnd). WithinBank (length c.args.cells.now) c.args.bank first g c.args.self.now.best c.args.self.now.latest c.args.cells.now (ReadsBank (length c.args.cells.now) (Some e) c.args.scratch.now))
+    (sym c.not_free-log-in-Nothing.ensures)
+    (free_is_none (length c.args.cells.now) c.args.bank c.args.generation c.args.place first f g c.args.self.now.best c.args.self.now.latest c.args.cells.now c.args.scratch.now c.args.answer d
+    c.args.next w))

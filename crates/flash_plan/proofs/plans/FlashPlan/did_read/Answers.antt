@@ -1,0 +1,31 @@
+use Rattle.std.proofs.Common.{length}
+use Rattle.flash_plan.specs.Standing.{plan_layout}
+use Rattle.flash_plan.proofs.DeedSteps.{head_answered, copied_answered, puts_answered, free_answered, reads_one}
+use Rattle.flash_plan.proofs.plans.FlashPlan.did_read.Goals as goal
+
+pub returns-in-Heading-clause-steps : goal.returns-in-Heading-clause-steps
+returns-in-Heading-clause-steps c at f g h =
+    head_answered (plan_layout c.args.self.now (length c.args.cells.now)) c.args.self.now.best c.args.self.now.latest c.args.cells.now c.args.scratch.now c.args.scratch.now c.after_head.new.cells at f g
+    c.args.self.now.put c.args.self.now.places c.args.answer c.after_head.new.self c.args.self.now.step c.in-Heading.bank c.in-Heading.is h
+    (λ first b d. c.after_head.ensures.goes first f g b d)
+
+pub returns-in-Copied-clause-steps : goal.returns-in-Copied-clause-steps
+returns-in-Copied-clause-steps c at f g h =
+    copied_answered (plan_layout c.args.self.now (length c.args.cells.now)) c.args.self.now.best c.args.self.now.latest c.args.cells.now c.args.scratch.now c.after_copied.new.scratch c.after_copied.new.cells at f g
+    c.args.self.now.put c.args.self.now.places c.args.answer c.after_copied.new.self c.args.self.now.step c.in-Copied.bank c.in-Copied.generation c.in-Copied.done c.in-Copied.is h
+    (λ first w d. c.after_copied.ensures.goes first f g w d)
+
+pub returns-in-Puts-clause-steps : goal.returns-in-Puts-clause-steps
+returns-in-Puts-clause-steps c at f g h =
+    puts_answered (plan_layout c.args.self.now (length c.args.cells.now)) c.args.self.now.best c.args.self.now.latest c.args.cells.now c.args.scratch.now c.after_puts.new.scratch c.after_puts.new.cells at f g
+    c.args.self.now.put c.args.self.now.places c.args.answer c.after_puts.new.self c.args.self.now.step c.in-Puts.bank c.in-Puts.generation c.in-Puts.place c.in-Puts.is h
+    (λ first w p. c.after_puts.ensures.goes first f g w p.does p.behind)
+
+pub returns-in-Free-clause-steps : goal.returns-in-Free-clause-steps
+returns-in-Free-clause-steps c at f g h =
+    free_answered (plan_layout c.args.self.now (length c.args.cells.now)) c.args.self.now.best c.args.self.now.latest c.args.cells.now c.args.scratch.now c.args.scratch.now c.after_free.new.cells at f g
+    c.args.self.now.put c.args.self.now.places c.args.answer c.after_free.new.self c.args.self.now.step c.in-Free.bank c.in-Free.generation c.in-Free.next c.in-Free.place c.in-Free.is h
+    (λ first w p. c.after_free.ensures.goes first f g w p.does p.behind)
+
+pub returns-in_default : goal.returns-in_default
+returns-in_default c = absurd (reads_one c.args.self.now.step c.requires.reads c.in_default.not-Heading c.in_default.not-Copied c.in_default.not-Puts c.in_default.not-Free)

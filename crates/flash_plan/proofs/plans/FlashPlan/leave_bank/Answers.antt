@@ -1,0 +1,17 @@
+use Rattle.std.proofs.Common.{◌≡◌, suc, length, refl, sym, subst}
+use Rattle.flash_laws.specs.Lives.{off}
+use Rattle.flash_log.specs.Going.{machine}
+use Rattle.flash_plan.specs.Standing.{plan_layout, BeforeBank}
+use Rattle.flash_plan.proofs.DeedSteps.{reached, reached_plan}
+use Rattle.flash_plan.proofs.plans.FlashPlan.leave_bank.Goals as goal
+
+pub returns-clause-goes : goal.returns-clause-goes
+returns-clause-goes c first f w =
+    let n' = length c.take_log.new.cells in
+    let same : n' ≡ length c.args.cells.now = c.take_log.auto.cells in
+    let b = c.take_log.ensures.takes first f w in
+    reached_plan (plan_layout c.args.self.now (length c.args.cells.now)) _ c.take_log.new.cells c.args.scratch.now (machine first off) f c.after_bank-self.result refl
+    (reached c.args.self.now.banks c.take_log.new.self.banks (length c.args.cells.now) n' c.take_log.new.self.best c.take_log.new.self.latest c.take_log.new.cells c.args.scratch.now (machine first off) f
+    c.after_bank-self.result c.take_log.ensures.same.banks same
+    (c.after_bank-self.ensures.goes first f c.args.scratch.now
+    (subst (λ k. BeforeBank k (suc c.args.bank) first f c.take_log.new.self.best c.take_log.new.self.latest c.take_log.new.cells) (sym same) b)))

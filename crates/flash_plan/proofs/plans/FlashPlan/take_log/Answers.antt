@@ -1,0 +1,25 @@
+use Rattle.std.proofs.Common.{Option, length, subst}
+use Rattle.flash_log.specs.declared.reading.LogEnd.{LogEnd}
+use Rattle.flash_plan.specs.Standing.{WithinBank, ReadsBank}
+use Rattle.flash_plan.proofs.ScanSteps.{takes_none, takes_not, takes_it}
+use Rattle.flash_plan.proofs.plans.FlashPlan.take_log.Goals as goal
+
+pub returns-in-None-clause-takes : goal.returns-in-None-clause-takes
+returns-in-None-clause-takes c first f w =
+    takes_none (length c.args.cells.now) c.args.bank first f c.args.self.now.best c.args.self.now.latest c.args.cells.now c.args.scratch.now
+    (subst (λ (o : Option LogEnd). WithinBank (length c.args.cells.now) c.args.bank first f c.args.self.now.best c.args.self.now.latest c.args.cells.now (ReadsBank (length c.args.cells.now) o c.args.scratch.now))
+    c.in-None.is w)
+
+pub returns-then-not-is_new-clause-takes : goal.returns-then-not-is_new-clause-takes
+returns-then-not-is_new-clause-takes c first f w =
+    takes_not (length c.args.cells.now) c.args.bank first f c.args.self.now.best c.args.self.now.latest c.args.cells.now c.args.scratch.now
+    c.in-Some.log c.judge-best.result.0 c.judge-best.result.1 c.judge-best.ensures.best c.judge-best.ensures.newest
+    (subst (λ (o : Option LogEnd). WithinBank (length c.args.cells.now) c.args.bank first f c.args.self.now.best c.args.self.now.latest c.args.cells.now (ReadsBank (length c.args.cells.now) o c.args.scratch.now))
+    c.in-Some.is w) c.if-not-is_new.true
+
+pub returns-clause-takes : goal.returns-clause-takes
+returns-clause-takes c first f w =
+    takes_it (length c.args.cells.now) c.args.bank first f c.args.self.now.best c.args.self.now.latest c.args.cells.now c.args.scratch.now
+    c.in-Some.log c.judge-best.result.0 c.judge-best.result.1 c.judge-best.ensures.best c.judge-best.ensures.newest
+    (subst (λ (o : Option LogEnd). WithinBank (length c.args.cells.now) c.args.bank first f c.args.self.now.best c.args.self.now.latest c.args.cells.now (ReadsBank (length c.args.cells.now) o c.args.scratch.now))
+    c.in-Some.is w) c.if-not-is_new.false c.copy_from_slice.new.self c.copy_from_slice.ensures.after

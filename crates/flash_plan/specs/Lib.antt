@@ -1,0 +1,4 @@
+pub mod Performing
+pub mod Plans
+pub mod Standing
+pub mod Turns

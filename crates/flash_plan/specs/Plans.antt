@@ -1,0 +1,182 @@
+-- A plan's sizes, and which operation comes next.
+use Rattle.std.specs.Prelude.{◌≡◌, ◌+◌, ◌^◌, ◌<◌, ◌≤◌, ℕ, suc, Option, Some, None, IfSome, [], length, get_or, nat_lt, if◌then◌else◌}
+use Rattle.flash_places.specs.declared.FlashLine.TheVariants.{Head, Entry}
+use Rattle.flash_laws.specs.Logs.{CellList}
+use Rattle.flash_laws.specs.Lives.{next_bank}
+use Rattle.flash_log.specs.Taking.{last_generation}
+use Rattle.flash_log.specs.declared.scanning.Best.{Best}
+use Rattle.flash_log.specs.declared.scanning.Best.TheVariants.{NoLog, One, Tie}
+use Rattle.flash_plan.specs.declared.operations.Operation.{Operation}
+use Rattle.flash_plan.specs.declared.operations.Operation.TheVariants.{Read, Erase, Program}
+use Rattle.flash_plan.specs.declared.operations.FlashOutcome.{FlashOutcome}
+use Rattle.flash_plan.specs.declared.operations.FlashOutcome.TheVariants.{Answered, Done, Failed}
+use Rattle.flash_plan.specs.declared.plans.PlanEnd.TheVariants.{Failed as end_failed}
+use Rattle.flash_plan.specs.declared.plans.WaitingPut.{WaitingPut}
+use Rattle.flash_plan.specs.declared.plans.PlanStep.{PlanStep}
+use Rattle.flash_plan.specs.declared.plans.PlanStep.TheVariants.{Heading, Copied, Puts, Free, Erasing, Copying, Ready, Ended}
+use Rattle.flash_plan.specs.declared.plans.FlashPlan.{FlashPlan}
+
+-- the numbers of a step are those of a flash of these sizes and a store of n cells
+abbrev pub StepFits : ℕ → ℕ → ℕ → PlanStep → Option WaitingPut → Type 0
+StepFits banks places n (Heading bank) put = (bank < banks) × (put ≡ None)
+StepFits banks places n (Copied bank generation done) put = (bank < banks) × ((done < n) × (put ≡ None))
+StepFits banks places n (Puts bank generation place) put = (bank < banks) × ((place < places) × (put ≡ None))
+StepFits banks places n (Free bank generation next place) put = (bank < banks) × ((place < places) × (put ≡ None))
+StepFits banks places n (Erasing bank generation) put = (bank < banks) × (generation < last_generation)
+StepFits banks places n (Copying bank generation done) put = (bank < banks) × ((generation < last_generation) × (done ≤ n))
+StepFits banks places n (Ready bank generation next) put = (bank < banks) × IfSome put (λ waiting. next < places)
+StepFits banks places n (Ended end) put = Unit {0}
+
+-- the log that was found is one of so many banks
+abbrev pub BestFits : ℕ → Best → Type 0
+BestFits banks NoLog = Unit {0}
+BestFits banks (One log) = log.bank < banks
+BestFits banks (Tie generation) = Unit {0}
+
+-- a plan of a store of n cells
+pub record IsPlanOf (n : ℕ) (plan : FlashPlan) : Type 0 where
+  pub two : 2 ≤ plan.banks
+  pub sixteen : plan.banks ≤ 16
+  pub some : 0 < n
+  pub few : n < 2 ^ 16
+  pub room : n + 1 < plan.places
+  pub step : StepFits plan.banks plan.places n plan.step plan.put
+  pub best : BestFits plan.banks plan.best
+  pub cell : IfSome plan.put (λ waiting. waiting.cell < n)
+
+-- what is read after this cell of a copy
+abbrev pub step_after : ℕ → ℕ → ℕ → ℕ → PlanStep
+step_after bank generation done n =
+    if nat_lt (suc done) n then Copied bank generation (suc done) else Puts bank generation (suc n)
+
+-- what is programmed after this line of a copy
+abbrev pub step_programmed : ℕ → ℕ → ℕ → ℕ → ℕ → PlanStep
+step_programmed banks bank generation done n =
+    if nat_lt done n then Copying bank generation (suc done) else Ready (next_bank banks bank) (suc generation) (suc n)
+
+-- the sizes stay
+pub record SameSizes (old new : FlashPlan) : Type 0 where
+  pub banks : new.banks ≡ old.banks
+  pub places : new.places ≡ old.places
+
+-- the sizes stay, and so does a put that waits
+pub record KeepsPut (old new : FlashPlan) : Type 0 where
+  pub banks : new.banks ≡ old.banks
+  pub places : new.places ≡ old.places
+  pub put : new.put ≡ old.put
+
+-- nothing comes next, and a put may be taken
+abbrev pub IsIdleStep : PlanStep → Type 0
+IsIdleStep (Heading bank) = ⊥
+IsIdleStep (Copied bank generation done) = ⊥
+IsIdleStep (Puts bank generation place) = ⊥
+IsIdleStep (Free bank generation next place) = ⊥
+IsIdleStep (Erasing bank generation) = ⊥
+IsIdleStep (Copying bank generation done) = ⊥
+IsIdleStep (Ready bank generation next) = Unit {0}
+IsIdleStep (Ended end) = ⊥
+
+pub record IsIdle (plan : FlashPlan) : Type 0 where
+  pub step : IsIdleStep plan.step
+  pub none : plan.put ≡ None
+
+-- the bank is full, and its log has the last generation
+pub record IsFullAt (places : ℕ) (step : PlanStep) : Type 0 where
+  pub bank : ℕ
+  pub next : ℕ
+  pub is : step ≡ Ready bank last_generation next
+  pub full : places ≤ next
+
+-- what is programmed next of a copy in this bank: a cell, or, after the last one, the head
+abbrev pub copy_operation : ℕ → ℕ → ℕ → CellList → Operation
+copy_operation bank generation done cells =
+    if nat_lt done (length cells) then Program bank (suc done) (Entry done (get_or cells done []))
+    else Program bank 0 (Head (suc generation))
+
+abbrev pub put_operation : ℕ → ℕ → Option WaitingPut → Option Operation
+put_operation bank next None = None
+put_operation bank next (Some waiting) = Some (Program bank next (Entry waiting.cell waiting.payload))
+
+abbrev pub step_operation : ℕ → PlanStep → Option WaitingPut → CellList → Option Operation
+step_operation banks (Heading bank) put cells = Some (Read bank 0)
+step_operation banks (Copied bank generation done) put cells = Some (Read bank (suc done))
+step_operation banks (Puts bank generation place) put cells = Some (Read bank place)
+step_operation banks (Free bank generation next place) put cells = Some (Read bank place)
+step_operation banks (Erasing bank generation) put cells = Some (Erase (next_bank banks bank))
+step_operation banks (Copying bank generation done) put cells = Some (copy_operation (next_bank banks bank) generation done cells)
+step_operation banks (Ready bank generation next) put cells = put_operation bank next put
+step_operation banks (Ended end) put cells = None
+
+abbrev pub operation_of : FlashPlan → CellList → Option Operation
+operation_of plan cells = step_operation plan.banks plan.step plan.put cells
+
+-- no operation comes next
+abbrev pub IsAtRest : FlashPlan → CellList → Type 0
+IsAtRest plan cells = operation_of plan cells ≡ None
+
+-- the put whose line is programmed next
+abbrev pub put_at : PlanStep → Option WaitingPut → Option WaitingPut
+put_at (Heading bank) put = None
+put_at (Copied bank generation done) put = None
+put_at (Puts bank generation place) put = None
+put_at (Free bank generation next place) put = None
+put_at (Erasing bank generation) put = None
+put_at (Copying bank generation done) put = None
+put_at (Ready bank generation next) put = put
+put_at (Ended end) put = None
+
+abbrev pub put_in : FlashPlan → Option WaitingPut
+put_in plan = put_at plan.step plan.put
+
+-- a plan whose next operation failed
+abbrev pub fails_at : FlashPlan → Option WaitingPut → PlanStep → FlashPlan
+fails_at plan put (Heading bank) = record plan { step = Ended end_failed; put = None }
+fails_at plan put (Copied bank generation done) = record plan { step = Ended end_failed; put = None }
+fails_at plan put (Puts bank generation place) = record plan { step = Ended end_failed; put = None }
+fails_at plan put (Free bank generation next place) = record plan { step = Ended end_failed; put = None }
+fails_at plan put (Erasing bank generation) = record plan { step = Ended end_failed; put = None }
+fails_at plan put (Copying bank generation done) = record plan { step = Ended end_failed; put = None }
+fails_at plan None (Ready bank generation next) = plan
+fails_at plan (Some waiting) (Ready bank generation next) = record plan { step = Ended end_failed; put = None }
+fails_at plan put (Ended end) = plan
+
+abbrev pub failed_plan : FlashPlan → FlashPlan
+failed_plan plan = fails_at plan plan.put plan.step
+
+-- an outcome by which an operation has failed
+abbrev pub Fails : Operation → FlashOutcome → Type 0
+Fails (Read bank place) (Answered answer) = ⊥
+Fails (Read bank place) Done = Unit {0}
+Fails (Read bank place) Failed = Unit {0}
+Fails (Erase bank) (Answered answer) = Unit {0}
+Fails (Erase bank) Done = ⊥
+Fails (Erase bank) Failed = Unit {0}
+Fails (Program bank place line) (Answered answer) = Unit {0}
+Fails (Program bank place line) Done = ⊥
+Fails (Program bank place line) Failed = Unit {0}
+
+abbrev pub IsFailure : Option Operation → FlashOutcome → Type 0
+IsFailure None outcome = ⊥
+IsFailure (Some operation) outcome = Fails operation outcome
+
+-- a read comes next
+abbrev pub ReadsAt : PlanStep → Type 0
+ReadsAt (Heading bank) = Unit {0}
+ReadsAt (Copied bank generation done) = Unit {0}
+ReadsAt (Puts bank generation place) = Unit {0}
+ReadsAt (Free bank generation next place) = Unit {0}
+ReadsAt (Erasing bank generation) = ⊥
+ReadsAt (Copying bank generation done) = ⊥
+ReadsAt (Ready bank generation next) = ⊥
+ReadsAt (Ended end) = ⊥
+
+-- an erase or a program comes next, or nothing and the plan is idle
+abbrev pub WritesAt : PlanStep → Type 0
+WritesAt (Heading bank) = ⊥
+WritesAt (Copied bank generation done) = ⊥
+WritesAt (Puts bank generation place) = ⊥
+WritesAt (Free bank generation next place) = ⊥
+WritesAt (Erasing bank generation) = Unit {0}
+WritesAt (Copying bank generation done) = Unit {0}
+WritesAt (Ready bank generation next) = Unit {0}
+WritesAt (Ended end) = ⊥

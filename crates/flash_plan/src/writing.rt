@@ -1,0 +1,211 @@
+//! What the outcome of an operation leads to.
+ghost use Rattle.std.specs.Prelude.{◌≡◌, ◌≢◌, ◌^◌, ◌<◌, ◌⊎◌, ◌↔◌, length, true, None, IfSome};
+ghost use Rattle.flash_places.specs.Places.{Flash};
+ghost use Rattle.flash_laws.specs.Logs.{CellList};
+ghost use Rattle.flash_laws.specs.Lives.{FlashMachine};
+ghost use Rattle.flash_log.specs.Taking.{last_generation};
+ghost use Rattle.flash_plan.specs.Performing.{Performs};
+ghost use Rattle.flash_plan.specs.Plans.{IsPlanOf, SameSizes, KeepsPut, IsFailure, failed_plan, operation_of, put_in, step_programmed, ReadsAt, WritesAt};
+ghost use Rattle.flash_plan.specs.Standing.{plan_layout, StandsAt, MovesOn};
+ghost use Rattle.flash_plan.specs.declared.operations.FlashOutcome.TheVariants.{Answered, Done};
+ghost use Rattle.flash_plan.specs.declared.plans.PlanEnd.TheVariants.{Failed as end_failed};
+ghost use Rattle.flash_plan.specs.declared.plans.PlanStep.TheVariants.{Ended};
+
+use crate::operations::FlashOutcome;
+use crate::plans::{FlashPlan, PlanEnd, PlanStep};
+use flash_log::next_bank;
+use flash_places::Answer;
+
+impl FlashPlan {
+    /// The operation that comes next failed.
+    fn fail(&mut self)
+        ensures fails { self.new ≡ failed_plan self.old }
+    {
+        match self.step {
+            PlanStep::Ended(_) => return,
+            PlanStep::Ready { .. } => {
+                if self.put.is_none() {
+                    return;
+                }
+            }
+            _ => {}
+        }
+        self.step = PlanStep::Ended(PlanEnd::Failed);
+        self.put = None;
+    }
+
+    /// Whether a read comes next.
+    fn reads(&self) -> bool
+        ensures { result ≡ true ↔ ReadsAt self.now.step }
+    {
+        match self.step {
+            PlanStep::Heading { .. } => true,
+            PlanStep::Copied { .. } => true,
+            PlanStep::Puts { .. } => true,
+            PlanStep::Free { .. } => true,
+            PlanStep::Erasing { .. } => false,
+            PlanStep::Copying { .. } => false,
+            PlanStep::Ready { .. } => false,
+            PlanStep::Ended(_) => false,
+        }
+    }
+
+    /// Whether an erase or a program comes next, or nothing and the plan is idle.
+    fn writes(&self) -> bool
+        ensures { result ≡ true ↔ WritesAt self.now.step }
+    {
+        match self.step {
+            PlanStep::Heading { .. } => false,
+            PlanStep::Copied { .. } => false,
+            PlanStep::Puts { .. } => false,
+            PlanStep::Free { .. } => false,
+            PlanStep::Erasing { .. } => true,
+            PlanStep::Copying { .. } => true,
+            PlanStep::Ready { .. } => true,
+            PlanStep::Ended(_) => false,
+        }
+    }
+
+    /// A read answered.
+    fn did_read(&mut self, cells: &mut [[u8; 32]], scratch: &mut [[u8; 32]], answer: Answer)
+        requires plan { IsPlanOf (length cells.old) self.old }
+        requires alike { length scratch.old ≡ length cells.old }
+        requires reads { ReadsAt self.old.step }
+        ensures plan { IsPlanOf (length cells.old) self.new }
+        ensures same { KeepsPut self.old self.new }
+        ensures not_failed { self.new.step ≢ Ended end_failed }
+        ensures steps { (at : FlashMachine) (f g : Flash)
+            → StandsAt (plan_layout self.old (length cells.old)) self.old cells.old scratch.old at f
+            → IfSome (operation_of self.old cells.old) (λ it. Performs self.old.places it (Answered answer) f g
+            → MovesOn (plan_layout self.old (length cells.old)) (put_in self.old) (Answered answer) self.new cells.new scratch.new at g) }
+    {
+        match self.step {
+            PlanStep::Heading { bank } => self.after_head(cells, scratch, bank, answer),
+            PlanStep::Copied {
+                bank,
+                generation,
+                done,
+            } => self.after_copied(cells, scratch, bank, generation, done, answer),
+            PlanStep::Puts {
+                bank,
+                generation,
+                place,
+            } => self.after_puts(cells, scratch, bank, generation, place, answer),
+            PlanStep::Free {
+                bank,
+                generation,
+                next,
+                place,
+            } => self.after_free(cells, scratch, bank, generation, next, place, answer),
+            _ => {}
+        }
+    }
+
+    /// An erase or a program is done.
+    fn did_change(&mut self, cells: &mut [[u8; 32]])
+        requires plan { IsPlanOf (length cells.old) self.old }
+        requires writes { WritesAt self.old.step }
+        ensures plan { IsPlanOf (length cells.old) self.new }
+        ensures sizes { SameSizes self.old self.new }
+        ensures not_failed { self.new.step ≢ Ended end_failed }
+        ensures none { operation_of self.old cells.old ≡ None → self.new ≡ self.old }
+        ensures waits { put_in self.old ≡ None → self.new.put ≡ self.old.put }
+        ensures taken { put_in self.old ≢ None → self.new.put ≡ None }
+        ensures steps { (scratch : CellList) (at : FlashMachine) (f g : Flash)
+            → StandsAt (plan_layout self.old (length cells.old)) self.old cells.old scratch at f
+            → IfSome (operation_of self.old cells.old) (λ it. Performs self.old.places it (Done) f g
+            → MovesOn (plan_layout self.old (length cells.old)) (put_in self.old) (Done) self.new cells.new scratch at g) }
+    {
+        match self.step {
+            PlanStep::Erasing { bank, generation } => {
+                self.step = PlanStep::Copying {
+                    bank,
+                    generation,
+                    done: 0,
+                };
+            }
+            PlanStep::Copying {
+                bank,
+                generation,
+                done,
+            } => self.step = self.after_program(bank, generation, done, cells.len()),
+            PlanStep::Ready {
+                bank,
+                generation,
+                next,
+            } => {
+                let Some(put) = self.put else {
+                    return;
+                };
+                let payload = put.payload;
+                cells[put.cell as usize] = payload;
+                self.put = None;
+                self.step = PlanStep::Ready {
+                    bank,
+                    generation,
+                    next: next + 1,
+                };
+            }
+            _ => {}
+        }
+    }
+
+    /// What comes after a line of a copy was programmed.
+    fn after_program(&self, bank: u8, generation: u64, done: u16, cells: usize) -> PlanStep
+        requires bank { bank < self.now.banks }
+        requires generation { generation < last_generation }
+        requires few { cells < 2 ^ 16 }
+        ensures is { result ≡ step_programmed self.now.banks bank generation done cells }
+        ensures not_failed { result ≢ Ended end_failed }
+    {
+        if (done as usize) < cells {
+            return PlanStep::Copying {
+                bank,
+                generation,
+                done: done + 1,
+            };
+        }
+        PlanStep::Ready {
+            bank: next_bank(self.banks, bank),
+            generation: generation + 1,
+            next: 1 + cells as u32,
+        }
+    }
+
+    /// Takes the outcome of the operation that [`FlashPlan::next`] says. If it says none, nothing changes.
+    pub fn did(&mut self, cells: &mut [[u8; 32]], scratch: &mut [[u8; 32]], outcome: FlashOutcome)
+        requires plan { IsPlanOf (length cells.old) self.old }
+        requires alike { length scratch.old ≡ length cells.old }
+        ensures plan { IsPlanOf (length cells.old) self.new }
+        ensures sizes { SameSizes self.old self.new }
+        ensures steps { (at : FlashMachine) (f g : Flash)
+            → StandsAt (plan_layout self.old (length cells.old)) self.old cells.old scratch.old at f
+            → IfSome (operation_of self.old cells.old) (λ it. Performs self.old.places it (outcome) f g
+            → MovesOn (plan_layout self.old (length cells.old)) (put_in self.old) (outcome) self.new cells.new scratch.new at g) }
+        ensures none { operation_of self.old cells.old ≡ None → self.new ≡ self.old }
+        ensures failed { self.new.step ≡ Ended end_failed → (self.old.step ≡ Ended end_failed)
+            ⊎ IsFailure (operation_of self.old cells.old) outcome }
+        ensures fails { IsFailure (operation_of self.old cells.old) outcome → self.new ≡ failed_plan self.old }
+        ensures waits { put_in self.old ≡ None → (IsFailure (operation_of self.old cells.old) outcome → ⊥)
+            → self.new.put ≡ self.old.put }
+        ensures taken { put_in self.old ≢ None → self.new.put ≡ None }
+    {
+        match outcome {
+            FlashOutcome::Answered(answer) => {
+                if self.reads() {
+                    self.did_read(cells, scratch, answer);
+                } else {
+                    self.fail();
+                }
+            }
+            FlashOutcome::Done => {
+                if self.writes() {
+                    self.did_change(cells);
+                } else {
+                    self.fail();
+                }
+            }
+            FlashOutcome::Failed => self.fail(),
+        }
+    }
+}
