@@ -19,7 +19,7 @@ pub mod line_laws;
 mod line_values;
 mod line_writing;
 mod lines;
-mod pushing;
+pub mod pushing;
 mod reader;
 mod trial;
 pub mod trial_laws;

@@ -3,15 +3,17 @@
 ghost use Rattle.std.specs.Prelude.{◌≡◌, [], ◌∷◌, ◌++◌, codes, OnOk, OnErr};
 ghost use Rattle.bus_machine.specs.declared.lines.Line.TheVariants.{Sent, Accepted, Loaded, Boot, Refused};
 ghost use Rattle.bus_script.specs.LineTexts.{line_text, told_words, source_word};
+ghost use Rattle.text_lines.specs.Room.{AddsAtMost};
 ghost use Rattle.text_lines.specs.Spaced.{spaced};
 
+use crate::pushing::{push_hex, push_numbered, push_word};
 use crate::words::{push_freshness, push_id, push_refusal};
 use basics::Pdu;
 use bus_machine::{Line, Refusal};
 use memory_update::Reply;
 use std::alloc::{AllocError, Global};
 use text_lines::Memory;
-use text_lines::pushing::{begin_line, end_line, push_digits, push_hex, push_numbered, push_word};
+use text_lines::pushing::{begin_line, end_line, push_digits};
 
 /// Appends the text of the line with this number, from 1: the number in decimal digits, the words of the line with a
 /// space before each, and a line feed.
@@ -37,9 +39,10 @@ pub fn push_line(text: &mut Vec<u8>, number: u32, line: &Line) -> Result<(), All
     end_line(text)
 }
 
-/// Adds the words of a line, as they stand after its number.
+/// Adds the words of a line, as they stand after its number. With room for 250 bytes it takes no memory.
 pub fn push_told(text: &mut Vec<u8>, line: &Line) -> Result<(), AllocError>
-    ensures { OnOk result (text.new.items ≡ text.old.items ++ spaced (told_words line.now)) }
+    ensures added { OnOk result (text.new.items ≡ text.old.items ++ spaced (told_words line.now)) }
+    ensures room { AddsAtMost 250 text.old text.new result }
 {
     match line {
         Line::Sent { id, freshness, pdu } => push_sent(text, *id, *freshness, pdu),
@@ -51,7 +54,7 @@ pub fn push_told(text: &mut Vec<u8>, line: &Line) -> Result<(), AllocError>
         } => push_accepted(text, *id, *freshness, payload, *from),
         Line::FreshnessFailure => push_word(text, b"FRESHNESSFAILURE"),
         Line::VerificationFailure => push_word(text, b"VERIFICATIONFAILURE"),
-        Line::Keyed { slot } => push_numbered(text, b"keyed", u32::from(slot.number())),
+        Line::Keyed { slot } => push_numbered(text, b"keyed", u64::from(slot.number())),
         Line::Loaded { reply } => push_loaded(text, reply),
         Line::Boot { good } => push_boot(text, *good),
         Line::Up => push_word(text, b"up"),
@@ -62,7 +65,9 @@ pub fn push_told(text: &mut Vec<u8>, line: &Line) -> Result<(), AllocError>
 }
 
 fn push_sent(text: &mut Vec<u8>, id: u16, freshness: u64, pdu: &Pdu) -> Result<(), AllocError>
-    ensures { OnOk result (text.new.items ≡ text.old.items ++ spaced (told_words (Sent id freshness pdu.now))) }
+    ensures added { OnOk result
+        (text.new.items ≡ text.old.items ++ spaced (told_words (Sent id freshness pdu.now))) }
+    ensures room { AddsAtMost 156 text.old text.new result }
 {
     push_word(text, b"sent")?;
     push_id(text, id)?;
@@ -78,8 +83,9 @@ fn push_accepted(
     payload: &Pdu,
     from: Option<u32>,
 ) -> Result<(), AllocError>
-    ensures { OnOk result
+    ensures added { OnOk result
         (text.new.items ≡ text.old.items ++ spaced (told_words (Accepted id freshness payload.now from))) }
+    ensures room { AddsAtMost 207 text.old text.new result }
 {
     push_word(text, b"accepted")?;
     push_id(text, id)?;
@@ -90,16 +96,19 @@ fn push_accepted(
 }
 
 fn push_source(text: &mut Vec<u8>, from: Option<u32>) -> Result<(), AllocError>
-    ensures { OnOk result (text.new.items ≡ text.old.items ++ spaced (codes "from" ∷ source_word from ∷ [])) }
+    ensures added { OnOk result
+        (text.new.items ≡ text.old.items ++ spaced (codes "from" ∷ source_word from ∷ [])) }
+    ensures room { AddsAtMost 46 text.old text.new result }
 {
     match from {
-        Some(event) => push_numbered(text, b"from", event),
+        Some(event) => push_numbered(text, b"from", u64::from(event)),
         None => push_word(text, b"from none"),
     }
 }
 
 fn push_loaded(text: &mut Vec<u8>, reply: &Reply) -> Result<(), AllocError>
-    ensures { OnOk result (text.new.items ≡ text.old.items ++ spaced (told_words (Loaded reply.now))) }
+    ensures added { OnOk result (text.new.items ≡ text.old.items ++ spaced (told_words (Loaded reply.now))) }
+    ensures room { AddsAtMost 105 text.old text.new result }
 {
     let [first, second] = &reply.m4;
     push_word(text, b"loaded")?;
@@ -109,7 +118,8 @@ fn push_loaded(text: &mut Vec<u8>, reply: &Reply) -> Result<(), AllocError>
 }
 
 fn push_boot(text: &mut Vec<u8>, good: bool) -> Result<(), AllocError>
-    ensures { OnOk result (text.new.items ≡ text.old.items ++ spaced (told_words (Boot good))) }
+    ensures added { OnOk result (text.new.items ≡ text.old.items ++ spaced (told_words (Boot good))) }
+    ensures room { AddsAtMost 11 text.old text.new result }
 {
     if good {
         push_word(text, b"boot ok")
@@ -119,7 +129,8 @@ fn push_boot(text: &mut Vec<u8>, good: bool) -> Result<(), AllocError>
 }
 
 fn push_refused(text: &mut Vec<u8>, refusal: &Refusal) -> Result<(), AllocError>
-    ensures { OnOk result (text.new.items ≡ text.old.items ++ spaced (told_words (Refused refusal.now))) }
+    ensures added { OnOk result (text.new.items ≡ text.old.items ++ spaced (told_words (Refused refusal.now))) }
+    ensures room { AddsAtMost 58 text.old text.new result }
 {
     push_word(text, b"refused")?;
     push_refusal(text, refusal)

@@ -109,7 +109,7 @@ fn push_fields(alloc: Global, line: &mut Vec<u8>, event: &Event) -> Result<(), A
         Event::Cut { torn, .. } => push_torn(line, *torn),
         Event::Deliver { event: number, .. }
         | Event::Stop { calls: number, .. }
-        | Event::Fail { calls: number, .. } => push_number(alloc, line, *number),
+        | Event::Fail { calls: number, .. } => push_number(line, u64::from(*number)),
     }
 }
 
@@ -144,10 +144,10 @@ fn push_update(
     ensures { OnOk result (AddsWords line.old.items line.new.items (update_words update.now authkey.now)) }
 {
     push_hex(line, update.uid.as_slice())?;
-    push_number(alloc, line, update.id.number() as u32)?;
-    push_number(alloc, line, update.auth.number() as u32)?;
+    push_number(line, update.id.number() as u64)?;
+    push_number(line, update.auth.number() as u64)?;
     push_hex(line, authkey.as_slice())?;
-    push_number(alloc, line, update.counter.number())?;
+    push_number(line, u64::from(update.counter.number()))?;
     push_word(line, flags_text(alloc, update.flags)?.as_bytes())?;
     push_hex(line, update.key.as_slice())
 }

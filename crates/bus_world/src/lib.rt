@@ -29,5 +29,5 @@ pub use run_laws::{
     turns_are_world_runs, turns_leave_disks,
 };
 pub use start::{Start, StartFault, open_nodes};
-pub use turns::{own_turn, refusal_of};
+pub use turns::{boot_turn, load_turn, own_turn, receive_turn, refusal_of, send_turn};
 pub use world::World;

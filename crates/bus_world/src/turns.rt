@@ -64,24 +64,24 @@ pub(crate) fn take_turn<C: CutCells>(
         → HearsBrought world event.now node.old.node result }
 {
     match event {
-        Event::Send { id, payload, .. } => send(node, *id, payload.bytes()),
+        Event::Send { id, payload, .. } => send_turn(node, *id, payload.bytes()),
         Event::Deliver { event, .. } => deliver(node, *event, history),
         Event::Inject { id, pdu, .. } => receive(node, *id, pdu.bytes(), history),
-        Event::Load { request, .. } => load(node, request),
+        Event::Load { request, .. } => load_turn(node, request),
         Event::Key {
             update,
             authkey,
             ..
         } => key(node, update, authkey),
-        Event::Boot { image, .. } => boot(node, image.bytes()),
+        Event::Boot { image, .. } => boot_turn(node, image.bytes()),
         Event::Cut { torn, .. } => cut(node, *torn),
         Event::Stop { calls, .. } => stop(node, *calls),
         Event::Fail { calls, .. } => fail(node, *calls),
     }
 }
 
-/// The node sends a payload.
-fn send<C: Cells>(node: &mut Node<C>, id: u16, payload: &[u8]) -> Line
+/// The node sends a payload. It takes no memory.
+pub fn send_turn<C: Cells>(node: &mut Node<C>, id: u16, payload: &[u8]) -> Line
     ensures { NodeTurn node.old (duty (sends id payload.now) None) result node.new }
 {
     let mut out = [0; 64];
@@ -93,6 +93,15 @@ fn send<C: Cells>(node: &mut Node<C>, id: u16, payload: &[u8]) -> Line
         },
         Err(fault) => Line::Refused(refusal_of(fault)),
     }
+}
+
+/// The node receives a PDU. An accepted line is from none. It takes no memory.
+pub fn receive_turn<C: Cells>(node: &mut Node<C>, id: u16, pdu: &[u8]) -> Line
+    ensures turn { NodeTurn node.old (duty (receives id pdu.now) None) result node.new }
+    ensures source { NamesSource silent_world result }
+    ensures honest { HearsPdu node.old.node id pdu.now result }
+{
+    receive(node, id, pdu, None)
 }
 
 /// The node receives the PDU that the event of this number sent, if it did.
@@ -165,8 +174,8 @@ fn front(bytes: &[u8], len: u8) -> Pdu
     Pdu::of(&bytes[..len]).unwrap()
 }
 
-/// The node's engine gets a request.
-fn load<C: Cells>(node: &mut Node<C>, request: &Request) -> Line
+/// The node's engine gets a request. It takes no memory.
+pub fn load_turn<C: Cells>(node: &mut Node<C>, request: &Request) -> Line
     ensures { NodeTurn node.old (duty (loads request.now) None) result node.new }
 {
     match node.load(request) {
@@ -185,8 +194,8 @@ fn key<C: Cells>(node: &mut Node<C>, update: &Update, authkey: &Block) -> Line
     }
 }
 
-/// The node makes a secure boot.
-fn boot<C: Cells>(node: &mut Node<C>, image: &[u8]) -> Line
+/// The node makes a secure boot with an image of 1 to 65,536 bytes. It takes no memory.
+pub fn boot_turn<C: Cells>(node: &mut Node<C>, image: &[u8]) -> Line
     requires { IsImage image.now }
     ensures { NodeTurn node.old (duty (boots image.now) None) result node.new }
 {

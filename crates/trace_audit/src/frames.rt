@@ -93,7 +93,7 @@ fn frame(word: &[u8]) -> Option<LogFrame>
 }
 
 /// The place of the first `#`, counted from 0; `None` if there is none.
-fn place_of_hash(word: &[u8]) -> Option<usize>
+pub fn place_of_hash(word: &[u8]) -> Option<usize>
     ensures exact { result ≡ position (λ byte. byte == 35) word.now }
     ensures within { IfSome result (λ at. at < length word.now) }
 {

@@ -24,7 +24,7 @@ mod watch_start;
 mod watch_state;
 
 pub use auditing::{Tally, audit_text, counters_of, push_finding};
-pub use frames::{FrameBytes, LogFrame, log_frame};
+pub use frames::{FrameBytes, LogFrame, log_frame, place_of_hash};
 pub use map_lines::{
     CanId, MOST_MAP_LINES, MapLine, PayloadSize, Window, can_id, line_of_words, place_for, place_of,
 };
@@ -33,4 +33,4 @@ pub use run::{names_inputs, run_audit};
 pub use start::audit_words;
 pub use watch_run::run_watch;
 pub use watch_start::watch_words;
-pub use watch_state::Watch;
+pub use watch_state::{PIECE, Watch, add_bytes, until_feed};

@@ -243,7 +243,7 @@ impl Watch {
 
 /// How many bytes stand before the first line feed, or all if there is none.
 #[tactic(auto, using(text_lines::proofs::Stops::first_item_or_length, text_lines::proofs::Pieces::position_or_len_within))]
-fn until_feed(bytes: &[u8]) -> usize
+pub fn until_feed(bytes: &[u8]) -> usize
     ensures exact { result ≡ position_or_len is_line_feed bytes.now }
     ensures within { result ≤ length bytes.now }
 {
@@ -252,7 +252,7 @@ fn until_feed(bytes: &[u8]) -> usize
 }
 
 /// Adds bytes in room that there is. It takes no memory.
-fn add_bytes(text: &mut Vec<u8>, bytes: &[u8])
+pub fn add_bytes(text: &mut Vec<u8>, bytes: &[u8])
     requires { vec_len text.old + length bytes.now ≤ vec_capacity text.old }
     ensures bytes { text.new.items ≡ text.old.items ++ bytes.now }
     ensures len { vec_len text.new ≡ vec_len text.old + length bytes.now }

@@ -7,10 +7,10 @@ use Rattle.text_lines.specs.Spaced.{spaced}
 use Rattle.bus_script.proofs.Added.{five_added}
 use Rattle.bus_script.proofs.line_writing.push_accepted.Goals as goal
 
-pub returns : goal.returns
-returns c =
+pub returns-clause-added : goal.returns-clause-added
+returns-clause-added c =
     five_added c.args.text.now.items (32 ∷ codes "accepted") (32 ∷ encode_lower (bytes_of 2 c.args.id)) (32 ∷ encode_lower (bytes_of 8 c.args.freshness)) (32 ∷ encode_lower c.args.payload.now)
     (spaced (codes "from" ∷ source_word c.args.from ∷ []))
-    _ _ _ _ _ c.in_ok-push_word.ensures c.in_ok-push_id.ensures c.in_ok-push_freshness.ensures
-    (c.in_ok-push_hex.ensures ∙ ap (λ b. c.push_freshness.new.text.items ++ 32 ∷ encode_lower b) c.bytes.ensures.value)
-    c.in_ok-push_source.ensures
+    _ _ _ _ _ c.in_ok-push_word.ensures.added c.in_ok-push_id.ensures.added c.in_ok-push_freshness.ensures.added
+    (c.in_ok-push_hex.ensures.added ∙ ap (λ b. c.push_freshness.new.text.items ++ 32 ∷ encode_lower b) c.bytes.ensures.value)
+    c.in_ok-push_source.ensures.added

@@ -11,5 +11,5 @@ pub returns : goal.returns
 returns c =
     on_ok_weaker c.push_bytes.result
     (λ d. two_words c.args.line.now.items (encode_lower (bytes_of 2 c.args.id)) (bytes_word c.args.bytes.now) _ _
-    (c.in_ok-push_hex.ensures ∙ ap (λ b. c.args.line.now.items ++ 32 ∷ encode_lower b) (c.to_be_bytes.ensures ∙ two_bytes c.args.id)) d)
+    (c.in_ok-push_hex.ensures.added ∙ ap (λ b. c.args.line.now.items ++ 32 ∷ encode_lower b) (c.to_be_bytes.ensures ∙ two_bytes c.args.id)) d)
     c.push_bytes.ensures

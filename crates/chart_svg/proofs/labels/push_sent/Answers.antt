@@ -8,4 +8,4 @@ use Rattle.chart_svg.proofs.labels.push_sent.Goals as goal
 pub returns : goal.returns
 returns c =
     four_added c.args.text.now.items (codes "sent") (32 ∷ encode_lower (bytes_of 2 c.args.id)) (codes " ..") (encode_lower (bytes_of 2 (c.args.freshness % 65536))) _ _ _ _
-    c.in_ok-extend_from_slice.ensures.items c.in_ok-push_id.ensures c.in_ok-extend_from_slice-2.ensures.items c.in_ok-push_low.ensures
+    c.in_ok-extend_from_slice.ensures.items c.in_ok-push_id.ensures.added c.in_ok-extend_from_slice-2.ensures.items c.in_ok-push_low.ensures

@@ -1,0 +1,5 @@
+pub mod Rules
+pub mod Asking
+pub mod Lines
+pub mod Counting
+pub mod Alone
