@@ -28,25 +28,25 @@ counter_more mapping place findings finding =
 
 -- one more other line is counted
 others_more : (findings : List Finding) (finding : Finding) → is_other finding ≡ true → others_in (findings ++ finding ∷ []) ≡ others_in findings + 1
-others_more [] other e = refl
+others_more [] (other k) e = refl
 others_more [] (too_short n p c) e = cc
 others_more [] (verdict n p c o) e = cc
-others_more (other ∷ findings) finding e = omega (arith, others_more findings finding e)
+others_more (other k ∷ findings) finding e = omega (arith, others_more findings finding e)
 others_more (too_short n p c ∷ findings) finding e = others_more findings finding e
 others_more (verdict n p c o ∷ findings) finding e = others_more findings finding e
 
 others_same : (findings : List Finding) (finding : Finding) → is_other finding ≡ false → others_in (findings ++ finding ∷ []) ≡ others_in findings
-others_same [] other e = cc
+others_same [] (other k) e = cc
 others_same [] (too_short n p c) e = refl
 others_same [] (verdict n p c o) e = refl
-others_same (other ∷ findings) finding e = ap suc (others_same findings finding e)
+others_same (other k ∷ findings) finding e = ap suc (others_same findings finding e)
 others_same (too_short n p c ∷ findings) finding e = others_same findings finding e
 others_same (verdict n p c o ∷ findings) finding e = others_same findings finding e
 
 -- what is found depends on the counters of the map's lines alone
 pub AuditsLine-same : (mapping : List MapLine) (f g : ℕ → ℕ) (l : TextLine) (finding : Finding) → ((place : ℕ) → place < length mapping → f place ≡ g place)
     → AuditsLine mapping f l finding → AuditsLine mapping g l finding
-AuditsLine-same mapping f g l other same h = h
+AuditsLine-same mapping f g l (other k) same h = h
 AuditsLine-same mapping f g l (too_short n p c) same h = h
 AuditsLine-same mapping f g l (verdict n p c outcome) same (m, mapped, number_is, place_is, can_is, long, judged) =
     let inside : p < length mapping = subst (λ k. k < length mapping) (sym place_is) (slice_get_within mapping m.place m.entry mapped.3) in
@@ -65,7 +65,7 @@ Audited-none mapping counters text counters_are text_is = record {
 
 -- a line is an other one exactly if it counts as one
 pub other_as : (finding : Finding) → is_other finding ≡ is_other_tally (tally_of finding)
-other_as other = refl
+other_as (other k) = refl
 other_as (too_short n p c) = refl
 other_as (verdict n p c (Accepted payload v)) = refl
 other_as (verdict n p c FreshnessFailure) = refl
@@ -128,6 +128,12 @@ lines_are log [] = refl
 lines_are log (c ∷ cuts) =
     ap (λ (ws : List (List ℕ)). record { number = c.line; words = ws } ∷ map (line_of log) cuts) (sym (texts_of_pieces log c.words))
     ∙ ap (λ (ls : List TextLine). unplaced (line_at log c) ∷ ls) (lines_are log cuts)
+
+-- the numbers of cuts are those of the lines that they stand for
+pub numbers_same : (text : List ℕ) (cuts : List Cut) → map (λ (c : Cut). c.line) cuts ≡ map (λ (l : TextLine). l.number) (map (line_of text) cuts)
+unfolding line_of
+numbers_same text [] = refl
+numbers_same text (c ∷ cuts) = ap (λ (ns : List ℕ). c.line ∷ ns) (numbers_same text cuts)
 
 -- all cuts are all lines of the log
 pub all_lines : (log : List ℕ) (cuts : List Cut) → map (line_at log) cuts ≡ placed_lines_of log → map unplaced (placed_lines_of log) ≡ lines_of log

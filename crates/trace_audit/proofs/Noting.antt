@@ -9,10 +9,11 @@ use Rattle.text_lines.specs.Lines.{TextLine}
 use Rattle.secoc_words.specs.Texts.{outcome_text, bad_length_text}
 use Rattle.trace_audit.specs.declared.map_lines.MapLine.{MapLine}
 use Rattle.trace_audit.specs.declared.frames.LogFrame.{LogFrame}
+use Rattle.trace_audit.specs.declared.frames.OtherLine.{OtherLine}
 use Rattle.trace_audit.specs.declared.auditing.Tally.{Tally}
 use Rattle.trace_audit.specs.declared.auditing.Tally.TheVariants as tally
 use Rattle.trace_audit.specs.MapLines.{place_of_frame}
-use Rattle.trace_audit.specs.Frames.{log_frame_of}
+use Rattle.trace_audit.specs.Frames.{log_frame_of, other_line_of}
 use Rattle.trace_audit.specs.Auditing.{other, too_short, verdict, front_text, channel_of, Mapped, IsUnmapped}
 use Rattle.trace_audit.specs.Findings.{AddsDataVerdict, AddsFinding}
 
@@ -42,9 +43,9 @@ noted counters place p v VerificationFailure inside is =
     put_counter counters place p v (place == p) refl inside ∙ keep counters place p v (place == p) refl is
 
 -- nothing is said of a line that the map has no line for
-pub AddsFinding-other : (mapping : List MapLine) (counters : List ℕ) (l : TextLine) (text : List ℕ) → IsUnmapped mapping l.words
-    → AddsFinding mapping counters counters l text text tally.Other
-AddsFinding-other mapping counters l text unmapped = (other, unmapped, sym (append-nil text), refl, refl, λ p inside. refl)
+pub AddsFinding-other : (mapping : List MapLine) (counters : List ℕ) (l : TextLine) (text : List ℕ) (k : OtherLine) → IsUnmapped mapping l.words
+    → k ≡ other_line_of l.words → AddsFinding mapping counters counters l text text (tally.Other k)
+AddsFinding-other mapping counters l text k unmapped is = (other k, (unmapped, is), sym (append-nil text), refl, refl, λ p inside. refl)
 
 pub Unmapped-none : (mapping : List MapLine) (words : List (List ℕ)) → log_frame_of words ≡ None → IsUnmapped mapping words
 Unmapped-none mapping words none = λ frame some. cc
@@ -58,7 +59,7 @@ Unmapped-place mapping words frame is none = λ frame' some.
 -- a mapped line
 pub AddsFinding-mapped : (mapping : List MapLine) (counters : List ℕ) (l : TextLine) (frame : LogFrame) (place : ℕ) (entry : MapLine) (v : ℕ) (before front after : List ℕ) (counts : Tally)
     → log_frame_of l.words ≡ Some frame → place_of_frame mapping frame.can (channel_of l.words) ≡ Some place → slice_get mapping place ≡ Some entry → place < length counters
-    → front ≡ before ++ front_text l.number entry.can → AddsDataVerdict entry (slice_index counters place) v frame.bytes front after counts
+    → front ≡ before ++ front_text l.number entry.can → AddsDataVerdict entry place (slice_index counters place) v frame.bytes front after counts
     → AddsFinding mapping counters (set counters place v) l before after counts
 AddsFinding-mapped mapping counters l frame place entry v before front after counts frame_is place_is entry_is inside front_is (inl (short, same, after_is, counts_as)) =
     let m : Mapped = record { place = place; entry = entry; bytes = frame.bytes } in (

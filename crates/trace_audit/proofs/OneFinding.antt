@@ -69,13 +69,13 @@ module _ (mapping : List MapLine) (counter : ℕ → ℕ) (l : TextLine) where
 
   -- at most one finding
   pub same_finding : (f g : Finding) → HaveWindows mapping → AuditsLine mapping counter l f → AuditsLine mapping counter l g → f ≡ g
-  same_finding other other windows x y = refl
-  same_finding other (too_short n p c) windows x y = absurd (unmapped_or_mapped mapping l.words y.0 x y.1)
-  same_finding other (verdict n p c o) windows x y = absurd (unmapped_or_mapped mapping l.words y.0 x y.1)
-  same_finding (too_short n p c) other windows x y = absurd (unmapped_or_mapped mapping l.words x.0 y x.1)
+  same_finding (other k) (other j) windows x y = ap other (x.1 ∙ sym y.1)
+  same_finding (other k) (too_short n p c) windows x y = absurd (unmapped_or_mapped mapping l.words y.0 x.0 y.1)
+  same_finding (other k) (verdict n p c o) windows x y = absurd (unmapped_or_mapped mapping l.words y.0 x.0 y.1)
+  same_finding (too_short n p c) (other k) windows x y = absurd (unmapped_or_mapped mapping l.words x.0 y.0 x.1)
   same_finding (too_short n p c) (too_short n2 p2 c2) windows x y = same_short n p c n2 p2 c2 x y
   same_finding (too_short n p c) (verdict n2 p2 c2 o2) windows x y = absurd (short_or_long n p c n2 p2 c2 o2 x y)
-  same_finding (verdict n p c o) other windows x y = absurd (unmapped_or_mapped mapping l.words x.0 y x.1)
+  same_finding (verdict n p c o) (other k) windows x y = absurd (unmapped_or_mapped mapping l.words x.0 y.0 x.1)
   same_finding (verdict n p c o) (too_short n2 p2 c2) windows x y = absurd (short_or_long n2 p2 c2 n p c o y x)
   same_finding (verdict n p c o) (verdict n2 p2 c2 o2) windows x y = same_verdict n p c o n2 p2 c2 o2 windows x y
 

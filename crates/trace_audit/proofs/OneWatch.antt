@@ -14,8 +14,9 @@ use Rattle.trace_audit.specs.MapLines.{line_with, most_map_lines}
 use Rattle.trace_audit.specs.Auditing.{Finding, counter_of_place}
 use Rattle.trace_audit.proofs.Windows.{HaveWindows, line_with-window}
 use Rattle.trace_audit.proofs.OneFinding.{same_finding}
-use Rattle.trace_audit.specs.WatchMaps.{own_channel, own_window, reached_can_form, watch_line_of, watch_map_of}
-use Rattle.trace_audit.specs.Watching.{in_64_bits, WatchesLine, WatchesEach, none, more}
+use Rattle.trace_audit.specs.WatchMaps.{words_told, is_optional, own_count, own_channel, own_window, reached_can_form, watch_line_of, watch_map_of}
+use Rattle.trace_audit.specs.Watching.{WatchesLine, WatchesEach, none, more}
+use Rattle.trace_audit.specs.WatchTotals.{in_64_bits}
 
 -- ---- the windows of a map
 
@@ -26,10 +27,12 @@ chosen_window false word window h = number_in_range 1 256 word window h
 watch_line_of-window : (before : List MapLine) (words : List (List ℕ)) (l : MapLine) → watch_line_of before words ≡ Ok l → IsWindow l.window
 unfolding watch_line_of
 watch_line_of-window before words l h =
-    let can : Option (List ℕ) = reached_can_form before (own_channel words) (nth_word words 1) in
-    chosen_window (nat_lt (length words) 6) (nth_word words 6) l.window
-    (line_with-window can (own_window words) (own_channel words) words l
-    (counted_ok (nat_le 5 (length words) && nat_le (length words) 7) (line_with can (own_window words) (own_channel words) words) l h))
+    let count : ℕ = own_count words in
+    let optional : Bool = is_optional (words_told words) words in
+    let can : Option (List ℕ) = reached_can_form before (own_channel count words) (nth_word words 1) in
+    chosen_window (nat_lt count 6) (nth_word words 6) l.window
+    (line_with-window can (own_window count words) (own_channel count words) optional words l
+    (counted_ok (nat_le 5 count && nat_le count 7) (line_with can (own_window count words) (own_channel count words) optional words) l h))
 
 pub watch_map_of-windows : (text : List ℕ) (mapping : List MapLine) → watch_map_of text ≡ Ok mapping → HaveWindows mapping
 unfolding watch_map_of

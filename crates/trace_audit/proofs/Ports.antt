@@ -14,9 +14,10 @@ use Rattle.program_edge.specs.Told.{AppendedWell, EndingTold}
 use Rattle.program_edge.specs.ToldLaws.{AppendedWell-more}
 use Rattle.program_edge.specs.Rows.{row_of}
 use Rattle.program_edge.specs.Inputs.{Reading}
-use Rattle.trace_audit.specs.declared.map_lines.MapLine.{MapLine}
 use Rattle.trace_audit.specs.Auditing.{Finding, finding_text}
-use Rattle.trace_audit.specs.Watching.{found_text, numbers_text, watch_status, FindsComplete, FindsAll}
+use Rattle.trace_audit.specs.WatchMaps.{NumberedMap}
+use Rattle.trace_audit.specs.Watching.{found_text, FindsComplete, FindsAll}
+use Rattle.trace_audit.specs.WatchTotals.{totals_text, watch_status}
 use Rattle.trace_audit.specs.States.{WatchState, Watched, PutsPiece}
 use Rattle.trace_audit.specs.WatchRows.{done, failed, too_long, FailsBoth, EndsLog}
 use Rattle.trace_audit.specs.WatchSteps.{Ports, SoFar}
@@ -26,7 +27,7 @@ never_counted : {A : Type 0} (first later : SourceState) → later.faults ≡ fi
 never_counted first later still counts = absurd (omega (arith, still, counts))
 
 -- what is found of the complete lines, of a state
-pub complete_of : (watch : WatchState) (bytes : List ℕ) (findings : List Finding) → Watched watch bytes findings → FindsComplete watch.mapping bytes findings
+pub complete_of : (watch : WatchState) (bytes : List ℕ) (findings : List Finding) → Watched watch bytes findings → FindsComplete watch.mapping.lines bytes findings
 complete_of watch bytes findings w = record { lines = w.lines; rest = w.rest; cut = w.cut; finds = w.finds }
 
 -- ---- what is printed after what was printed well
@@ -79,7 +80,7 @@ module _ (first log later : SourceState) (start sink next : SinkState) (old new 
   }
 
   -- a piece came, and the sink failed
-  pub Stops-in : (piece : List ℕ) (more : List Finding) (mapping : List MapLine) → old.mapping ≡ mapping → new.mapping ≡ mapping → SoFar before old bytes findings → Came log later piece → later.faults ≡ log.faults
+  pub Stops-in : (piece : List ℕ) (more : List Finding) (mapping : NumberedMap) → old.mapping ≡ mapping → new.mapping ≡ mapping → SoFar before old bytes findings → Came log later piece → later.faults ≡ log.faults
       → length piece ≤ 4096 → Watched new (bytes ++ piece) (findings ++ more) → Rose sink.faults next.faults → AppendedPart sink next (found_text more)
       → EndsLog mapping reading (record { before = start; after = next; status = 6 })
   Stops-in piece more mapping same_old same_new so_far came calm short watched rose (size, proper, part) = (
@@ -93,8 +94,8 @@ module _ (first log later : SourceState) (start sink next : SinkState) (old new 
       came = Came-more so_far.came came;
       calm = calm ∙ so_far.calm;
       short = short;
-      finds = subst (λ (m : List MapLine). FindsComplete m bytes findings) same_old (complete_of old bytes findings so_far.watched);
-      finds_more = subst (λ (m : List MapLine). FindsComplete m (bytes ++ piece) (findings ++ more)) same_new (complete_of new (bytes ++ piece) (findings ++ more) watched);
+      finds = subst (λ (m : NumberedMap). FindsComplete m.lines bytes findings) same_old (complete_of old bytes findings so_far.watched);
+      finds_more = subst (λ (m : NumberedMap). FindsComplete m.lines (bytes ++ piece) (findings ++ more)) same_new (complete_of new (bytes ++ piece) (findings ++ more) watched);
       size = size;
       proper = proper;
       prints = Appended-more so_far.prints.1 part;
@@ -107,8 +108,8 @@ module _ (first log later : SourceState) (start sink next : SinkState) (old new 
 
   -- nothing came: this was the end of the log
   pub Ends-done : (room left : List ℕ) (more : List Finding) (status : ℕ) → SoFar before old bytes findings → HandsOut log later room left 0 → 0 < length room
-      → FindsAll old.mapping bytes (findings ++ more)
-      → EndingTold sink next (found_text more ++ numbers_text (findings ++ more)) (watch_status (findings ++ more)) status
+      → FindsAll old.mapping.lines bytes (findings ++ more)
+      → EndingTold sink next (found_text more ++ totals_text old.mapping (findings ++ more)) (watch_status old.mapping (findings ++ more)) status
       → EndsLog old.mapping reading (record { before = start; after = next; status = status })
   Ends-done room left more status so_far hands some finds told =
       let all : List Finding = findings ++ more in
@@ -119,15 +120,15 @@ module _ (first log later : SourceState) (start sink next : SinkState) (old new 
       let behind = hands.came.next here.0 here.1 in
       let last : behind.0 ≡ [] = sym behind.2 ∙ gone in
       (sym (here.2 ∙ ap (λ r. bytes ++ r) gone ∙ append-nil bytes), behind.1 ∙ ap Some last) in
-      let text_is : found_text findings ++ (found_text more ++ numbers_text all) ≡ found_text all ++ numbers_text all =
-      sym (append_assoc (found_text findings) (found_text more) (numbers_text all))
-      ∙ ap (λ t. t ++ numbers_text all) (sym (flat_map-append finding_text findings more)) in (
+      let text_is : found_text findings ++ (found_text more ++ totals_text old.mapping all) ≡ found_text all ++ totals_text old.mapping all =
+      sym (append_assoc (found_text findings) (found_text more) (totals_text old.mapping all))
+      ∙ ap (λ t. t ++ totals_text old.mapping all) (sym (flat_map-append finding_text findings more)) in (
         inl (record {
-          row = row_of (watch_status all) (found_text all ++ numbers_text all);
+          row = row_of (watch_status old.mapping all) (found_text all ++ totals_text old.mapping all);
           comes = done bytes all
               (record { came = came_no_more so_far hands.came; within = omega arith; no_fault = hands.no_fault ∙ so_far.calm; whole = whole }) finds;
-          told = subst (λ t. EndingTold start next t (watch_status all) status) text_is
-              (told_more start sink next (found_text findings) (found_text more ++ numbers_text all) (watch_status all) status so_far.prints told);
+          told = subst (λ t. EndingTold start next t (watch_status old.mapping all) status) text_is
+              (told_more start sink next (found_text findings) (found_text more ++ totals_text old.mapping all) (watch_status old.mapping all) status so_far.prints told);
         }),
         λ six counts. never_counted first later (hands.no_fault ∙ so_far.calm) counts,
       )

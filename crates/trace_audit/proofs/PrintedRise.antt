@@ -10,9 +10,11 @@ use Rattle.program_edge.specs.Rows.{Row}
 use Rattle.program_edge.specs.Inputs.{IsUnread}
 use Rattle.program_edge.specs.Endings.{Ending}
 use Rattle.trace_audit.specs.Auditing.{Finding, finding_text}
-use Rattle.trace_audit.specs.Rows.{AuditInputs}
-use Rattle.trace_audit.specs.Watching.{log_lines, found_text, numbers_text}
-use Rattle.trace_audit.specs.WatchRows.{done, failed, too_long, Stops, OverMap, ComesInWatch, no_form, no_map, map_fault, of_log, EndsWatch}
+use Rattle.trace_audit.specs.Rows.{AuditInputs, NamesInputs}
+use Rattle.trace_audit.specs.WatchMaps.{NumberedMap}
+use Rattle.trace_audit.specs.Watching.{log_lines, found_text}
+use Rattle.trace_audit.specs.WatchTotals.{totals_text}
+use Rattle.trace_audit.specs.WatchRows.{ReadsWatchMap, ComesOfLog, done, failed, too_long, Stops, OverMap, ComesInWatch, no_form, no_map, map_fault, of_log, EndsWatch}
 use Rattle.trace_audit.specs.Watches.{PrintsRising}
 use Rattle.trace_audit.proofs.WatchRising.{all_rise}
 
@@ -36,11 +38,9 @@ module _ (i : AuditInputs) (e : Ending) where
   abbrev Rises : Type 0
   Rises = IsUnread i.log ⊎ OverMap i (λ mapping. PrintsRising mapping i.log e)
 
-  rises_row : (row : Row) → ComesInWatch i row → (size : ℕ) → Appended e.before e.after (take size row.text) → Rises
-  rises_row row (no_form other map log) size part = inl log
-  rises_row row (no_map fault asks lacks unread) size part = inl unread
-  rises_row row (map_fault fault asks is unread) size part = inl unread
-  rises_row row (of_log _ (asks, (mapping, reads, done bytes findings whole finds))) size part = inr (
+  of_log_rises : NamesInputs i.words → (mapping : NumberedMap) → ReadsWatchMap i.map mapping → (row : Row) → ComesOfLog mapping i.log row
+      → (size : ℕ) → Appended e.before e.after (take size row.text) → Rises
+  of_log_rises asks mapping reads row (done bytes findings whole finds) size part = inr (
     asks,
     (
       mapping,
@@ -50,15 +50,15 @@ module _ (i : AuditInputs) (e : Ending) where
         findings = findings;
         came = whole.came;
         finds = inr finds;
-        rise = all_rise mapping (log_lines bytes) findings finds;
-        last = numbers_text findings;
+        rise = all_rise mapping.lines (log_lines bytes) findings finds;
+        last = totals_text mapping findings;
         last_is = inl refl;
         size = size;
         prints = part;
       },
     ),
   )
-  rises_row row (of_log _ (asks, (mapping, reads, failed bytes findings came finds fails))) size part = inr (
+  of_log_rises asks mapping reads row (failed bytes findings came finds fails) size part = inr (
     asks,
     (
       mapping,
@@ -68,7 +68,7 @@ module _ (i : AuditInputs) (e : Ending) where
         findings = findings;
         came = came;
         finds = inl finds;
-        rise = all_rise mapping finds.lines findings finds.finds;
+        rise = all_rise mapping.lines finds.lines findings finds.finds;
         last = codes "read fault\n";
         last_is = inr (inl refl);
         size = size;
@@ -76,7 +76,7 @@ module _ (i : AuditInputs) (e : Ending) where
       },
     ),
   )
-  rises_row row (of_log _ (asks, (mapping, reads, too_long bytes findings came finds calm long))) size part = inr (
+  of_log_rises asks mapping reads row (too_long bytes findings came finds calm long) size part = inr (
     asks,
     (
       mapping,
@@ -86,7 +86,7 @@ module _ (i : AuditInputs) (e : Ending) where
         findings = findings;
         came = came;
         finds = inl finds;
-        rise = all_rise mapping finds.lines findings finds.finds;
+        rise = all_rise mapping.lines finds.lines findings finds.finds;
         last = codes "input too long\n";
         last_is = inr (inr (inl refl));
         size = size;
@@ -94,6 +94,12 @@ module _ (i : AuditInputs) (e : Ending) where
       },
     ),
   )
+
+  rises_row : (row : Row) → ComesInWatch i row → (size : ℕ) → Appended e.before e.after (take size row.text) → Rises
+  rises_row row (no_form other map log) size part = inl log
+  rises_row row (no_map fault asks lacks unread) size part = inl unread
+  rises_row row (map_fault fault asks is unread) size part = inl unread
+  rises_row row (of_log _ (asks, (mapping, reads, comes))) size part = of_log_rises asks mapping reads row comes size part
 
   rises_stops : OverMap i (λ mapping. Stops mapping i.log e) → Rises
   rises_stops (asks, (mapping, reads, stops)) = inr (
@@ -106,7 +112,7 @@ module _ (i : AuditInputs) (e : Ending) where
         findings = stops.findings ++ stops.more;
         came = stops.came;
         finds = inl stops.finds_more;
-        rise = all_rise mapping stops.finds_more.lines (stops.findings ++ stops.more) stops.finds_more.finds;
+        rise = all_rise mapping.lines stops.finds_more.lines (stops.findings ++ stops.more) stops.finds_more.finds;
         last = [];
         last_is = inr (inr (inr refl));
         size = length (found_text stops.findings) + stops.size;

@@ -16,7 +16,7 @@ pub above : (mapping : List MapLine) (c : ℕ → ℕ) (l : TextLine) (f : Findi
 above mapping c l (verdict n p can (Accepted payload v)) h = h.6.0.above
 above mapping c l (verdict n p can FreshnessFailure) h = tt
 above mapping c l (verdict n p can VerificationFailure) h = tt
-above mapping c l other h = tt
+above mapping c l (other k) h = tt
 above mapping c l (too_short n p can) h = tt
 
 -- each line of the map keeps its counter

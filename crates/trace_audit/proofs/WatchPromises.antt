@@ -15,9 +15,9 @@ use Rattle.program_edge.specs.EndingLaws.{EndsInRow-at, EndsInRow-front, EndsInR
 use Rattle.trace_audit.specs.declared.map_lines.MapLine.{MapLine}
 use Rattle.trace_audit.specs.Auditing.{Finding}
 use Rattle.trace_audit.specs.Rows.{AuditInputs, NamesInputs}
-use Rattle.trace_audit.specs.WatchMaps.{watch_map_of}
-use Rattle.trace_audit.specs.Watching.{watch_status, failed_in, accepted_in}
-use Rattle.trace_audit.specs.WatchRows.{watch_usage, IsWatchMapFault, done, failed, too_long, Stops, FailsBoth, OverMap, ComesInWatch, no_form, no_map, map_fault, of_log, EndsWatch}
+use Rattle.trace_audit.specs.WatchMaps.{NumberedMap, watch_map_of}
+use Rattle.trace_audit.specs.WatchTotals.{is_failed_tally, is_accepted_at, count_of, are_heard, watch_status}
+use Rattle.trace_audit.specs.WatchRows.{watch_usage, ReadsWatchMap, IsWatchMapFault, ComesOfLog, done, failed, too_long, Stops, FailsBoth, OverMap, ComesInWatch, no_form, no_map, map_fault, of_log, EndsWatch}
 use Rattle.trace_audit.specs.Watches.{IsAnswer, AnswersLog, HoldsNothingBack, Watches}
 use Rattle.trace_audit.proofs.PrintedRise.{rises}
 
@@ -27,8 +27,9 @@ two_tests true b = inr (inl refl)
 two_tests false true = inl refl
 two_tests false false = inr (inr refl)
 
-status_answers : (findings : List Finding) → IsAnswer (watch_status findings)
-status_answers findings = two_tests (nat_lt 0 (failed_in findings)) (nat_lt 0 (accepted_in findings))
+status_answers : (mapping : NumberedMap) (findings : List Finding) → IsAnswer (watch_status mapping findings)
+status_answers mapping findings =
+    two_tests (nat_lt 0 (count_of is_failed_tally findings)) (are_heard mapping (λ place. count_of (is_accepted_at place) findings))
 
 not_answer : (status n : ℕ) → IsAnswer status → status ≡ n → (¬ (n ≡ 0)) → (¬ (n ≡ 1)) → (¬ (n ≡ 3)) → ⊥
 not_answer status n (inl zero) is a b c = a (sym is ∙ zero)
@@ -38,22 +39,32 @@ not_answer status n (inr (inr three)) is a b c = c (sym is ∙ three)
 module _ (i : AuditInputs) (e : Ending) where
   -- ---- rows by their status
 
+  of_log_answers_row : NamesInputs i.words → (mapping : NumberedMap) → ReadsWatchMap i.map mapping → (row : Row) → ComesOfLog mapping i.log row → IsAnswer row.status → e.status ≡ row.status → PrintsWhole e row.text → AnswersLog i e
+  of_log_answers_row asks mapping reads row (done log findings whole finds) is same prints =
+      (asks, (mapping, reads, (log, findings, whole, finds, same, prints)))
+  of_log_answers_row asks mapping reads row (failed bytes findings came finds fails) is same prints =
+      absurd (not_answer 5 5 is refl (λ z. omega (arith, z)) (λ z. omega (arith, z)) (λ z. omega (arith, z)))
+  of_log_answers_row asks mapping reads row (too_long bytes findings came finds calm long) is same prints =
+      absurd (not_answer 8 8 is refl (λ z. omega (arith, z)) (λ z. omega (arith, z)) (λ z. omega (arith, z)))
+
   answers_row : (row : Row) → ComesInWatch i row → IsAnswer row.status → e.status ≡ row.status → PrintsWhole e row.text → AnswersLog i e
   answers_row row (no_form other map log) is same prints = absurd (not_answer 2 2 is refl (λ z. omega (arith, z)) (λ z. omega (arith, z)) (λ z. omega (arith, z)))
   answers_row row (no_map input.ReadFault asks lacks unread) is same prints = absurd (not_answer 5 5 is refl (λ z. omega (arith, z)) (λ z. omega (arith, z)) (λ z. omega (arith, z)))
   answers_row row (no_map input.TooLong asks lacks unread) is same prints = absurd (not_answer 8 8 is refl (λ z. omega (arith, z)) (λ z. omega (arith, z)) (λ z. omega (arith, z)))
   answers_row row (no_map input.Memory asks lacks unread) is same prints = absurd (not_answer 7 7 is refl (λ z. omega (arith, z)) (λ z. omega (arith, z)) (λ z. omega (arith, z)))
   answers_row row (map_fault fault asks is_fault unread) is same prints = absurd (not_answer 4 4 is refl (λ z. omega (arith, z)) (λ z. omega (arith, z)) (λ z. omega (arith, z)))
-  answers_row row (of_log _ (asks, (mapping, reads, done log findings whole finds))) is same prints =
-      (asks, (mapping, reads, (log, findings, whole, finds, same, prints)))
-  answers_row row (of_log _ (asks, (mapping, reads, failed bytes findings came finds fails))) is same prints =
-      absurd (not_answer 5 5 is refl (λ z. omega (arith, z)) (λ z. omega (arith, z)) (λ z. omega (arith, z)))
-  answers_row row (of_log _ (asks, (mapping, reads, too_long bytes findings came finds calm long))) is same prints =
-      absurd (not_answer 8 8 is refl (λ z. omega (arith, z)) (λ z. omega (arith, z)) (λ z. omega (arith, z)))
+  answers_row row (of_log _ (asks, (mapping, reads, comes))) is same prints = of_log_answers_row asks mapping reads row comes is same prints
 
   -- the status of a row that is none of an answer's
-  other_row : (n : ℕ) (findings : List Finding) → (¬ (n ≡ 0)) → (¬ (n ≡ 1)) → (¬ (n ≡ 3)) → watch_status findings ≡ n → ⊥
-  other_row n findings a b c is = not_answer (watch_status findings) n (status_answers findings) is a b c
+  other_row : (n : ℕ) (mapping : NumberedMap) (findings : List Finding) → (¬ (n ≡ 0)) → (¬ (n ≡ 1)) → (¬ (n ≡ 3)) → watch_status mapping findings ≡ n → ⊥
+  other_row n mapping findings a b c is = not_answer (watch_status mapping findings) n (status_answers mapping findings) is a b c
+
+  of_log_at_2 : NamesInputs i.words → (mapping : NumberedMap) → ReadsWatchMap i.map mapping → (row : Row) → ComesOfLog mapping i.log row → row.status ≡ 2 → PrintsWhole e row.text
+      → (¬ NamesInputs i.words) × IsUnread i.map × IsUnread i.log × PrintsWhole e watch_usage
+  of_log_at_2 asks mapping reads row (done log findings whole finds) two prints =
+      absurd (other_row 2 mapping findings (λ z. omega (arith, z)) (λ z. omega (arith, z)) (λ z. omega (arith, z)) two)
+  of_log_at_2 asks mapping reads row (failed bytes findings came finds fails) two prints = absurd (omega (arith, two))
+  of_log_at_2 asks mapping reads row (too_long bytes findings came finds calm long) two prints = absurd (omega (arith, two))
 
   at_2 : (row : Row) → ComesInWatch i row → row.status ≡ 2 → PrintsWhole e row.text
       → (¬ NamesInputs i.words) × IsUnread i.map × IsUnread i.log × PrintsWhole e watch_usage
@@ -62,10 +73,14 @@ module _ (i : AuditInputs) (e : Ending) where
   at_2 row (no_map input.TooLong asks lacks unread) two prints = absurd (omega (arith, two))
   at_2 row (no_map input.Memory asks lacks unread) two prints = absurd (omega (arith, two))
   at_2 row (map_fault fault asks is unread) two prints = absurd (omega (arith, two))
-  at_2 row (of_log _ (asks, (mapping, reads, done log findings whole finds))) two prints =
-      absurd (other_row 2 findings (λ z. omega (arith, z)) (λ z. omega (arith, z)) (λ z. omega (arith, z)) two)
-  at_2 row (of_log _ (asks, (mapping, reads, failed bytes findings came finds fails))) two prints = absurd (omega (arith, two))
-  at_2 row (of_log _ (asks, (mapping, reads, too_long bytes findings came finds calm long))) two prints = absurd (omega (arith, two))
+  at_2 row (of_log _ (asks, (mapping, reads, comes))) two prints = of_log_at_2 asks mapping reads row comes two prints
+
+  of_log_at_4 : NamesInputs i.words → (mapping : NumberedMap) → ReadsWatchMap i.map mapping → (row : Row) → ComesOfLog mapping i.log row → row.status ≡ 4 → PrintsWhole e row.text
+      → NamesInputs i.words × IsUnread i.log × ((fault : Fault) × IsWatchMapFault i.map fault × PrintsWhole e (fault_text_of fault))
+  of_log_at_4 asks mapping reads row (done log findings whole finds) four prints =
+      absurd (other_row 4 mapping findings (λ z. omega (arith, z)) (λ z. omega (arith, z)) (λ z. omega (arith, z)) four)
+  of_log_at_4 asks mapping reads row (failed bytes findings came finds fails) four prints = absurd (omega (arith, four))
+  of_log_at_4 asks mapping reads row (too_long bytes findings came finds calm long) four prints = absurd (omega (arith, four))
 
   at_4 : (row : Row) → ComesInWatch i row → row.status ≡ 4 → PrintsWhole e row.text
       → NamesInputs i.words × IsUnread i.log × ((fault : Fault) × IsWatchMapFault i.map fault × PrintsWhole e (fault_text_of fault))
@@ -74,10 +89,16 @@ module _ (i : AuditInputs) (e : Ending) where
   at_4 row (no_map input.TooLong asks lacks unread) four prints = absurd (omega (arith, four))
   at_4 row (no_map input.Memory asks lacks unread) four prints = absurd (omega (arith, four))
   at_4 row (map_fault fault asks is unread) four prints = (asks, unread, (fault, is, prints))
-  at_4 row (of_log _ (asks, (mapping, reads, done log findings whole finds))) four prints =
-      absurd (other_row 4 findings (λ z. omega (arith, z)) (λ z. omega (arith, z)) (λ z. omega (arith, z)) four)
-  at_4 row (of_log _ (asks, (mapping, reads, failed bytes findings came finds fails))) four prints = absurd (omega (arith, four))
-  at_4 row (of_log _ (asks, (mapping, reads, too_long bytes findings came finds calm long))) four prints = absurd (omega (arith, four))
+  at_4 row (of_log _ (asks, (mapping, reads, comes))) four prints = of_log_at_4 asks mapping reads row comes four prints
+
+  of_log_at_5 : NamesInputs i.words → (mapping : NumberedMap) → ReadsWatchMap i.map mapping → (row : Row) → ComesOfLog mapping i.log row → row.status ≡ 5 → PrintsWhole e row.text → NamesInputs i.words
+      × ((SourceFailed i.map × IsUnread i.log × PrintsWhole e (codes "read fault\n"))
+      ⊎ (SourceFailed i.log × HoldsNothingBack i e (λ bytes. Unit {0}) (codes "read fault\n")))
+  of_log_at_5 asks mapping reads row (done log findings whole finds) five prints =
+      absurd (other_row 5 mapping findings (λ z. omega (arith, z)) (λ z. omega (arith, z)) (λ z. omega (arith, z)) five)
+  of_log_at_5 asks mapping reads row (failed bytes findings came finds fails) five prints =
+      (asks, inr (fails, (asks, (mapping, reads, (bytes, findings, came, tt, finds, prints)))))
+  of_log_at_5 asks mapping reads row (too_long bytes findings came finds calm long) five prints = absurd (omega (arith, five))
 
   at_5 : (row : Row) → ComesInWatch i row → row.status ≡ 5 → PrintsWhole e row.text → NamesInputs i.words
       × ((SourceFailed i.map × IsUnread i.log × PrintsWhole e (codes "read fault\n"))
@@ -87,11 +108,14 @@ module _ (i : AuditInputs) (e : Ending) where
   at_5 row (no_map input.TooLong asks lacks unread) five prints = absurd (omega (arith, five))
   at_5 row (no_map input.Memory asks lacks unread) five prints = absurd (omega (arith, five))
   at_5 row (map_fault fault asks is unread) five prints = absurd (omega (arith, five))
-  at_5 row (of_log _ (asks, (mapping, reads, done log findings whole finds))) five prints =
-      absurd (other_row 5 findings (λ z. omega (arith, z)) (λ z. omega (arith, z)) (λ z. omega (arith, z)) five)
-  at_5 row (of_log _ (asks, (mapping, reads, failed bytes findings came finds fails))) five prints =
-      (asks, inr (fails, (asks, (mapping, reads, (bytes, findings, came, tt, finds, prints)))))
-  at_5 row (of_log _ (asks, (mapping, reads, too_long bytes findings came finds calm long))) five prints = absurd (omega (arith, five))
+  at_5 row (of_log _ (asks, (mapping, reads, comes))) five prints = of_log_at_5 asks mapping reads row comes five prints
+
+  of_log_at_7 : NamesInputs i.words → (mapping : NumberedMap) → ReadsWatchMap i.map mapping → (row : Row) → ComesOfLog mapping i.log row → row.status ≡ 7 → PrintsWhole e row.text
+      → NamesInputs i.words × Lacks i.map input.Memory × IsUnread i.log × PrintsWhole e []
+  of_log_at_7 asks mapping reads row (done log findings whole finds) seven prints =
+      absurd (other_row 7 mapping findings (λ z. omega (arith, z)) (λ z. omega (arith, z)) (λ z. omega (arith, z)) seven)
+  of_log_at_7 asks mapping reads row (failed bytes findings came finds fails) seven prints = absurd (omega (arith, seven))
+  of_log_at_7 asks mapping reads row (too_long bytes findings came finds calm long) seven prints = absurd (omega (arith, seven))
 
   at_7 : (row : Row) → ComesInWatch i row → row.status ≡ 7 → PrintsWhole e row.text
       → NamesInputs i.words × Lacks i.map input.Memory × IsUnread i.log × PrintsWhole e []
@@ -100,10 +124,16 @@ module _ (i : AuditInputs) (e : Ending) where
   at_7 row (no_map input.TooLong asks lacks unread) seven prints = absurd (omega (arith, seven))
   at_7 row (no_map input.Memory asks lacks unread) seven prints = (asks, lacks, unread, prints)
   at_7 row (map_fault fault asks is unread) seven prints = absurd (omega (arith, seven))
-  at_7 row (of_log _ (asks, (mapping, reads, done log findings whole finds))) seven prints =
-      absurd (other_row 7 findings (λ z. omega (arith, z)) (λ z. omega (arith, z)) (λ z. omega (arith, z)) seven)
-  at_7 row (of_log _ (asks, (mapping, reads, failed bytes findings came finds fails))) seven prints = absurd (omega (arith, seven))
-  at_7 row (of_log _ (asks, (mapping, reads, too_long bytes findings came finds calm long))) seven prints = absurd (omega (arith, seven))
+  at_7 row (of_log _ (asks, (mapping, reads, comes))) seven prints = of_log_at_7 asks mapping reads row comes seven prints
+
+  of_log_at_8 : NamesInputs i.words → (mapping : NumberedMap) → ReadsWatchMap i.map mapping → (row : Row) → ComesOfLog mapping i.log row → row.status ≡ 8 → PrintsWhole e row.text → NamesInputs i.words
+      × ((GivesTooMuch i.map × IsUnread i.log × PrintsWhole e (codes "input too long\n"))
+      ⊎ HoldsNothingBack i e (λ bytes. last_count ≤ length bytes) (codes "input too long\n"))
+  of_log_at_8 asks mapping reads row (done log findings whole finds) eight prints =
+      absurd (other_row 8 mapping findings (λ z. omega (arith, z)) (λ z. omega (arith, z)) (λ z. omega (arith, z)) eight)
+  of_log_at_8 asks mapping reads row (failed bytes findings came finds fails) eight prints = absurd (omega (arith, eight))
+  of_log_at_8 asks mapping reads row (too_long bytes findings came finds calm long) eight prints =
+      (asks, inr (asks, (mapping, reads, (bytes, findings, came, long, finds, prints))))
 
   at_8 : (row : Row) → ComesInWatch i row → row.status ≡ 8 → PrintsWhole e row.text → NamesInputs i.words
       × ((GivesTooMuch i.map × IsUnread i.log × PrintsWhole e (codes "input too long\n"))
@@ -113,11 +143,13 @@ module _ (i : AuditInputs) (e : Ending) where
   at_8 row (no_map input.TooLong asks lacks unread) eight prints = (asks, inl (lacks.1, unread, prints))
   at_8 row (no_map input.Memory asks lacks unread) eight prints = absurd (omega (arith, eight))
   at_8 row (map_fault fault asks is unread) eight prints = absurd (omega (arith, eight))
-  at_8 row (of_log _ (asks, (mapping, reads, done log findings whole finds))) eight prints =
-      absurd (other_row 8 findings (λ z. omega (arith, z)) (λ z. omega (arith, z)) (λ z. omega (arith, z)) eight)
-  at_8 row (of_log _ (asks, (mapping, reads, failed bytes findings came finds fails))) eight prints = absurd (omega (arith, eight))
-  at_8 row (of_log _ (asks, (mapping, reads, too_long bytes findings came finds calm long))) eight prints =
-      (asks, inr (asks, (mapping, reads, (bytes, findings, came, long, finds, prints))))
+  at_8 row (of_log _ (asks, (mapping, reads, comes))) eight prints = of_log_at_8 asks mapping reads row comes eight prints
+
+  of_log_never_6 : NamesInputs i.words → (mapping : NumberedMap) → ReadsWatchMap i.map mapping → (row : Row) → ComesOfLog mapping i.log row → ¬ (row.status ≡ 6)
+  of_log_never_6 asks mapping reads row (done log findings whole finds) = λ six.
+      other_row 6 mapping findings (λ z. omega (arith, z)) (λ z. omega (arith, z)) (λ z. omega (arith, z)) six
+  of_log_never_6 asks mapping reads row (failed bytes findings came finds fails) = λ six. omega (arith, six)
+  of_log_never_6 asks mapping reads row (too_long bytes findings came finds calm long) = λ six. omega (arith, six)
 
   never_6 : (row : Row) → ComesInWatch i row → ¬ (row.status ≡ 6)
   never_6 row (no_form other map log) = λ six. omega (arith, six)
@@ -125,10 +157,7 @@ module _ (i : AuditInputs) (e : Ending) where
   never_6 row (no_map input.TooLong asks lacks unread) = λ six. omega (arith, six)
   never_6 row (no_map input.Memory asks lacks unread) = λ six. omega (arith, six)
   never_6 row (map_fault fault asks is unread) = λ six. omega (arith, six)
-  never_6 row (of_log _ (asks, (mapping, reads, done log findings whole finds))) = λ six.
-      other_row 6 findings (λ z. omega (arith, z)) (λ z. omega (arith, z)) (λ z. omega (arith, z)) six
-  never_6 row (of_log _ (asks, (mapping, reads, failed bytes findings came finds fails))) = λ six. omega (arith, six)
-  never_6 row (of_log _ (asks, (mapping, reads, too_long bytes findings came finds calm long))) = λ six. omega (arith, six)
+  never_6 row (of_log _ (asks, (mapping, reads, comes))) = of_log_never_6 asks mapping reads row comes
 
   -- ---- which rows come
 
@@ -150,7 +179,7 @@ module _ (i : AuditInputs) (e : Ending) where
   only_4 text fault names offers is row (no_map lack asks lacks unread) = inr (ap input_fault_status (Offers-is i.map text lack offers lacks))
   only_4 text fault names offers is row (map_fault first asks first_is unread) = inl refl
   only_4 text fault names offers is row (of_log _ (asks, (mapping, (read, whole, read_is), comes))) =
-      absurd (ok_is_err mapping fault read text (Offers-whole i.map text read offers whole) read_is is)
+      absurd (ok_is_err mapping.lines fault read text (Offers-whole i.map text read offers whole) read_is.0 is)
 
   map_faults : CountsFault i.map → (row : Row) → ComesInWatch i row → row.status ≡ 5
   map_faults counts row (no_form other map log) = absurd (unread_faults i.map map counts)
@@ -158,13 +187,16 @@ module _ (i : AuditInputs) (e : Ending) where
   map_faults counts row (map_fault fault asks (text, whole, is) unread) = absurd (omega (arith, counts, whole.no_fault))
   map_faults counts row (of_log _ (asks, (mapping, (text, whole, is), comes))) = absurd (omega (arith, counts, whole.no_fault))
 
+  of_log_log_faults : CountsFault i.log → NamesInputs i.words → (mapping : NumberedMap) → ReadsWatchMap i.map mapping → (row : Row) → ComesOfLog mapping i.log row → row.status ≡ 5
+  of_log_log_faults counts asks mapping reads row (done log findings whole finds) = absurd (omega (arith, counts, whole.no_fault))
+  of_log_log_faults counts asks mapping reads row (failed bytes findings came finds fails) = refl
+  of_log_log_faults counts asks mapping reads row (too_long bytes findings came finds calm long) = absurd (omega (arith, counts, calm))
+
   log_faults : CountsFault i.log → (row : Row) → ComesInWatch i row → row.status ≡ 5
   log_faults counts row (no_form other map log) = absurd (unread_faults i.log log counts)
   log_faults counts row (no_map fault asks lacks unread) = absurd (unread_faults i.log unread counts)
   log_faults counts row (map_fault fault asks is unread) = absurd (unread_faults i.log unread counts)
-  log_faults counts row (of_log _ (asks, (mapping, reads, done log findings whole finds))) = absurd (omega (arith, counts, whole.no_fault))
-  log_faults counts row (of_log _ (asks, (mapping, reads, failed bytes findings came finds fails))) = refl
-  log_faults counts row (of_log _ (asks, (mapping, reads, too_long bytes findings came finds calm long))) = absurd (omega (arith, counts, calm))
+  log_faults counts row (of_log _ (asks, (mapping, reads, comes))) = of_log_log_faults counts asks mapping reads row comes
 
   whole_not_long : (text : List ℕ) → CountsTooMuch i.map → ReadsWhole i.map text → ⊥
   whole_not_long text counts whole =
@@ -179,15 +211,19 @@ module _ (i : AuditInputs) (e : Ending) where
   few_came : (bytes : List ℕ) → Came i.log.before i.log.after bytes → last_count ≤ length bytes → i.log.after.taken < last_count → ⊥
   few_came bytes came long few = omega (arith, came.counted, long, few)
 
+  of_log_completes : (text : List ℕ) (mapping : List MapLine) → NamesInputs i.words → Offers i.map text → watch_map_of text ≡ Ok mapping
+      → ¬ SourceFailed i.log → i.log.after.taken < last_count → NamesInputs i.words → (m : NumberedMap) → ReadsWatchMap i.map m → (row : Row) → ComesOfLog m i.log row → IsAnswer row.status ⊎ (row.status ≡ 7)
+  of_log_completes text mapping names offers is calm few asks m reads row (done log findings whole finds) = inl (status_answers m findings)
+  of_log_completes text mapping names offers is calm few asks m reads row (failed bytes findings came finds fails) = absurd (calm fails)
+  of_log_completes text mapping names offers is calm few asks m reads row (too_long bytes findings came finds still long) = absurd (few_came bytes came long few)
+
   completes : (text : List ℕ) (mapping : List MapLine) → NamesInputs i.words → Offers i.map text → watch_map_of text ≡ Ok mapping
       → ¬ SourceFailed i.log → i.log.after.taken < last_count → (row : Row) → ComesInWatch i row → IsAnswer row.status ⊎ (row.status ≡ 7)
   completes text mapping names offers is calm few row (no_form other map log) = absurd (other names)
   completes text mapping names offers is calm few row (no_map lack asks lacks unread) = inr (ap input_fault_status (Offers-is i.map text lack offers lacks))
   completes text mapping names offers is calm few row (map_fault fault asks (read, whole, read_is) unread) =
       let same : text ≡ read = sym (Offers-whole i.map text read offers whole) in absurd (ok_is_err mapping fault text read same is read_is)
-  completes text mapping names offers is calm few row (of_log _ (asks, (m, reads, done log findings whole finds))) = inl (status_answers findings)
-  completes text mapping names offers is calm few row (of_log _ (asks, (m, reads, failed bytes findings came finds fails))) = absurd (calm fails)
-  completes text mapping names offers is calm few row (of_log _ (asks, (m, reads, too_long bytes findings came finds still long))) = absurd (few_came bytes came long few)
+  completes text mapping names offers is calm few row (of_log _ (asks, (m, reads, comes))) = of_log_completes text mapping names offers is calm few asks m reads row comes
 
   -- ---- the promises
 

@@ -5,15 +5,17 @@ use Rattle.secoc_words.specs.Counting.{AcceptedRise}
 use Rattle.secoc_words.specs.Counting as counting
 use Rattle.secoc_words.specs.CountingLaws.{KeepsCounters-rise}
 use Rattle.trace_audit.specs.declared.map_lines.MapLine.{MapLine}
+use Rattle.trace_audit.specs.declared.frames.OtherLine.TheVariants as kind
 use Rattle.trace_audit.specs.Auditing.{Finding, other, finding_accepts, first_counters, counter_of_place}
 use Rattle.trace_audit.proofs.Rising.{Keeps, keeps_one, above}
-use Rattle.trace_audit.specs.Watching.{in_64_bits, WatchesLine, WatchesEach, none, more}
+use Rattle.trace_audit.specs.Watching.{WatchesLine, WatchesEach, none, more}
+use Rattle.trace_audit.specs.WatchTotals.{in_64_bits}
 
 -- what is found of one more line
 keeps_line : (mapping : List MapLine) (findings : List Finding) (number : ℕ) (bytes : List ℕ) (found : List Finding) → Keeps mapping findings
     → WatchesLine mapping (counter_of_place mapping findings) number bytes found → Keeps mapping (findings ++ found)
 keeps_line mapping findings number bytes found so_far (inl (long, is)) =
-    subst (λ (fs : List Finding). Keeps mapping (findings ++ fs)) (sym is) (keeps_one mapping findings other so_far tt)
+    subst (λ (fs : List Finding). Keeps mapping (findings ++ fs)) (sym is) (keeps_one mapping findings (other kind.Malformed) so_far tt)
 keeps_line mapping findings number bytes found so_far (inr (inl (few, skipped, is))) =
     subst (Keeps mapping) (sym (append-nil findings) ∙ ap (λ (fs : List Finding). findings ++ fs) (sym is)) so_far
 keeps_line mapping findings number bytes found so_far (inr (inr (few, kept, (f, is, finds)))) =

@@ -11,15 +11,16 @@ use Rattle.secoc_words.specs.Texts.{outcome_text, bad_length_text}
 use Rattle.text_lines.specs.Texts.{line}
 use Rattle.trace_audit.specs.declared.map_lines.MapLine.{MapLine}
 use Rattle.trace_audit.specs.declared.frames.LogFrame.{LogFrame}
+use Rattle.trace_audit.specs.declared.frames.OtherLine.{OtherLine}
 use Rattle.trace_audit.specs.declared.auditing.Tally.{Tally}
 use Rattle.trace_audit.specs.declared.auditing.Tally.TheVariants as tally
 use Rattle.trace_audit.specs.MapLines.{place_of_frame}
-use Rattle.trace_audit.specs.Frames.{log_frame_of}
+use Rattle.trace_audit.specs.Frames.{log_frame_of, other_line_of}
 
--- what is found of a line: that the map has no line for it; or the line's number, the place of the map's line, counted
--- from 0, and its CAN identifier, with the verdict, or that the frame is too short
+-- what is found of a line: that no line of the map judges it, and what it is then; or the line's number, the place of
+-- the map's line, counted from 0, and its CAN identifier, with the verdict, or that the frame is too short
 pub data Finding : Type 0 where
-  other : Finding
+  other : (kind : OtherLine) → Finding
   too_short : (number place : ℕ) (can : List ℕ) → Finding
   verdict : (number place : ℕ) (can : List ℕ) (outcome : Outcome) → Finding
 
@@ -29,33 +30,33 @@ front_text number can = decimal number ++ codes " " ++ can ++ codes " "
 
 -- the text of a finding; of other lines only the number is printed
 abbrev pub finding_text : Finding → List ℕ
-finding_text other = []
+finding_text (other kind) = []
 finding_text (too_short number place can) = front_text number can ++ bad_length_text
 finding_text (verdict number place can outcome) = front_text number can ++ outcome_text outcome
 
 abbrev pub is_other : Finding → Bool
-is_other other = true
+is_other (other kind) = true
 is_other (too_short number place can) = false
 is_other (verdict number place can outcome) = false
 
--- what a verdict counts as
-abbrev pub tally_by : Outcome → Tally
-tally_by (Accepted payload freshness) = tally.Accepted
-tally_by FreshnessFailure = tally.Failed
-tally_by VerificationFailure = tally.Failed
+-- what a verdict for the map's line at this place counts as
+abbrev pub tally_by : ℕ → Outcome → Tally
+tally_by place (Accepted payload freshness) = tally.Accepted place
+tally_by place FreshnessFailure = tally.Failed place
+tally_by place VerificationFailure = tally.Failed place
 
 -- what a finding counts as
 abbrev pub tally_of : Finding → Tally
-tally_of other = tally.Other
-tally_of (too_short number place can) = tally.Failed
-tally_of (verdict number place can outcome) = tally_by outcome
+tally_of (other kind) = tally.Other kind
+tally_of (too_short number place can) = tally.Failed place
+tally_of (verdict number place can outcome) = tally_by place outcome
 
 abbrev pub is_other_tally : Tally → Bool
-is_other_tally tally.Other = true
-is_other_tally tally.Accepted = false
-is_other_tally tally.Failed = false
+is_other_tally (tally.Other kind) = true
+is_other_tally (tally.Accepted place) = false
+is_other_tally (tally.Failed place) = false
 
--- how many lines the map has no line for
+-- how many lines no line of the map judges
 abbrev pub others_in : List Finding → ℕ
 others_in findings = length (filter is_other findings)
 
@@ -66,7 +67,7 @@ others_text count = line (codes "other " ++ decimal count)
 
 -- what a finding accepts, if it does, by the place of the map's line
 abbrev pub finding_accepts : Finding → Option Acceptance
-finding_accepts other = None
+finding_accepts (other kind) = None
 finding_accepts (too_short number place can) = None
 finding_accepts (verdict number place can outcome) = accepted_by place outcome
 
@@ -106,7 +107,8 @@ IsUnmapped mapping words =
 -- the first bytes of a mapped frame are judged as a Secured I-PDU with a payload of the map's length, and the rest is
 -- padding. The receiver has the window of the map's line, and the counter that `counter` gives for that line
 abbrev pub AuditsLine : List MapLine → (ℕ → ℕ) → TextLine → Finding → Type 0
-AuditsLine mapping counter text_line other = IsUnmapped mapping text_line.words
+AuditsLine mapping counter text_line (other kind) =
+    IsUnmapped mapping text_line.words × (kind ≡ other_line_of text_line.words)
 AuditsLine mapping counter text_line (too_short number place can) =
     (m : Mapped) × IsMapped mapping text_line.words m
     × (number ≡ text_line.number) × (place ≡ m.place) × (can ≡ m.entry.can)

@@ -11,13 +11,16 @@ use Rattle.trace_audit.specs.declared.auditing.Tally.TheVariants as tally
 use Rattle.trace_audit.specs.Auditing.{Finding, finding_text, tally_by, tally_of, others_in, finding_accepts}
 use Rattle.trace_audit.specs.Auditing.{counter_of_place, AuditsLine, AuditsEach}
 
--- the bad length of the data was added, or the verdict on its beginning, and the answer is what it counts as
-abbrev pub AddsDataVerdict : MapLine → ℕ → ℕ → List ℕ → List ℕ → List ℕ → Tally → Type 0
-AddsDataVerdict entry old new bytes before after counts =
-    ((length bytes < entry.size + 4) × (new ≡ old) × (after ≡ before ++ bad_length_text) × (counts ≡ tally.Failed))
+-- the bad length of the data was added, or the verdict on its beginning, and the answer is what it counts as for the
+-- map's line at this place
+abbrev pub AddsDataVerdict : MapLine → ℕ → ℕ → ℕ → List ℕ → List ℕ → List ℕ → Tally → Type 0
+AddsDataVerdict entry place old new bytes before after counts =
+    ((length bytes < entry.size + 4) × (new ≡ old) × (after ≡ before ++ bad_length_text)
+    × (counts ≡ tally.Failed place))
     ⊎ ((entry.size + 4 ≤ length bytes) × ((outcome : Outcome)
     × Verdict entry.key entry.id old entry.window (take (entry.size + 4) bytes) outcome
-    × (after ≡ before ++ outcome_text outcome) × (new ≡ counter_behind old outcome) × (counts ≡ tally_by outcome)))
+    × (after ≡ before ++ outcome_text outcome) × (new ≡ counter_behind old outcome)
+    × (counts ≡ tally_by place outcome)))
 
 -- what is found of a line was added, each counter is the one after it, and the answer is what it counts as
 abbrev pub AddsFinding : List MapLine → List ℕ → List ℕ → TextLine → List ℕ → List ℕ → Tally → Type 0

@@ -6,6 +6,7 @@ pub mod Rows
 pub mod Audits
 pub mod Steps
 pub mod WatchMaps
+pub mod WatchTotals
 pub mod Watching
 pub mod States
 pub mod WatchRows

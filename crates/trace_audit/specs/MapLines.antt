@@ -1,5 +1,5 @@
 -- The lines of a map: what stands after the CAN identifiers of a bus.
-use Rattle.std.specs.Prelude.{ℕ, ◌==◌, ◌&&◌, ◌||◌, Bool, true, if◌then◌else◌, List, length, map}
+use Rattle.std.specs.Prelude.{ℕ, ◌==◌, ◌&&◌, ◌||◌, Bool, true, false, if◌then◌else◌, List, length, map}
 use Rattle.std.specs.Prelude.{Option, None, Some, option_and_then, is_some, Result, Ok}
 use Rattle.std.specs.List.{list_all, position}
 use Rattle.std.specs.Char.{is_ascii_hexdigit, to_ascii_lowercase}
@@ -41,21 +41,31 @@ new_can_form before word =
     option_and_then (λ can. if is_some (place_of_can before can) then None else Some can) (can_form word)
 
 -- the line of `CANID ID KEY FRESH LEN`, where FRESH is the receiver's counter. Each program says what its CAN
--- identifier and its window are, if they are of their forms, and its channel
-unfoldable pub line_with : Option (List ℕ) → Option ℕ → Option (List ℕ) → List (List ℕ) → Result MapLine Cause
-line_with can window channel words = do
+-- identifier and its window are, if they are of their forms, its channel, and whether it is optional
+unfoldable pub line_with : Option (List ℕ) → Option ℕ → Option (List ℕ) → Bool → List (List ℕ) → Result MapLine Cause
+line_with can window channel optional words = do
   can ← field 1 can
   id ← field 2 (data_id_form (nth_word words 2))
   key ← field 3 (key_form (nth_word words 3))
   counter ← field 4 (fresh_form (nth_word words 4))
   size ← field 5 (number_form 1 60 (nth_word words 5))
   window ← field 6 window
-  Ok (record { can = can; id = id; key = key; counter = counter; size = size; window = window; channel = channel })
+  Ok (record {
+    can = can;
+    id = id;
+    key = key;
+    counter = counter;
+    size = size;
+    window = window;
+    channel = channel;
+    optional = optional;
+  })
 
--- a line of the map of an audit: it has the widest window, and hears every channel
+-- a line of the map of an audit: it has the widest window, and hears every channel. An audit doesn't ask whether it is
+-- optional
 unfoldable pub map_line_of : List MapLine → List (List ℕ) → Result MapLine Cause
 map_line_of before words =
-    with_count 5 words (line_with (new_can_form before (nth_word words 1)) (Some 256) None words)
+    with_count 5 words (line_with (new_can_form before (nth_word words 1)) (Some 256) None false words)
 
 -- the most lines that a map has
 abbrev pub most_map_lines : ℕ

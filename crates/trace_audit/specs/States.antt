@@ -1,45 +1,54 @@
 -- The state between two pieces of a log, and what the steps say to one another
-use Rattle.std.specs.Prelude.{◌≡◌, ℕ, ◌+◌, ◌<◌, Bool, if◌then◌else◌, List, [], ◌∷◌, ◌++◌, length, take, map}
-use Rattle.std.specs.Prelude.{slice_index, codes}
-use Rattle.std.specs.Prelude.{Option, None, Some, Result, MatchResult}
+use Rattle.std.specs.Prelude.{◌≡◌, ℕ, ◌+◌, ◌<◌, nat_lt, Bool, if◌then◌else◌, List, [], ◌∷◌, ◌++◌, length, take, map}
+use Rattle.std.specs.Prelude.{set, slice_index, Option, None, Some, Result, MatchResult}
 use Rattle.bus_port.specs.Fault.{Rose, counted}
 use Rattle.bus_port.specs.Sink.{SinkState}
 use Rattle.bus_port.specs.Whole.{AppendedPart}
 use Rattle.program_edge.specs.Told.{AppendedWell}
-use Rattle.trace_audit.specs.declared.map_lines.MapLine.{MapLine}
 use Rattle.trace_audit.specs.declared.auditing.Tally.{Tally}
+use Rattle.trace_audit.specs.declared.auditing.Tally.TheVariants as tally
+use Rattle.trace_audit.specs.declared.watch_counts.Counts.{Counts}
 use Rattle.secoc_words.specs.Counting.{last_accepted}
-use Rattle.trace_audit.specs.Auditing.{Finding, tally_of, others_in, finding_accepts, counter_of_place}
-use Rattle.trace_audit.specs.Watching.{line_limit, in_64_bits, log_lines, WatchesLine, WatchesEach, found_text}
-use Rattle.trace_audit.specs.Watching.{accepted_in, failed_in, count_line}
+use Rattle.trace_audit.specs.WatchMaps.{NumberedMap}
+use Rattle.trace_audit.specs.Auditing.{Finding, tally_of, finding_accepts, counter_of_place}
+use Rattle.trace_audit.specs.Watching.{line_limit, log_lines, WatchesLine, WatchesEach, found_text}
+use Rattle.trace_audit.specs.WatchTotals.{in_64_bits, counted_of, counts_of, is_accepted_tally, is_failed_tally}
+use Rattle.trace_audit.specs.WatchTotals.{is_accepted_at, is_failed_at, is_other_of, is_unmapped_line, is_other_frame}
+use Rattle.trace_audit.specs.WatchTotals.{is_malformed_line, LineTotals, totals_text_of, are_heard}
 
--- the map and the counter of each of its lines; the line that no line feed has ended, as far as it is kept, and the
--- number of lines before it; how many frames were accepted, how many failed, and how many lines were others; what was
+-- the map; for each of its lines the counter, how many frames it accepted, and how many it didn't; the line that no
+-- line feed has ended, as far as it is kept, and the number of lines before it; the numbers of the log so far; what was
 -- found of the last piece
 pub record WatchState : Type 0 where
-  pub mapping : List MapLine
+  pub mapping : NumberedMap
   pub counters : List ℕ
+  pub accepted : List ℕ
+  pub failed : List ℕ
   pub line : List ℕ
   pub lines : ℕ
-  pub accepted : ℕ
-  pub failed : ℕ
-  pub others : ℕ
+  pub counts : Counts
   pub text : List ℕ
+
+-- for each line of the map the number of findings that pass for it
+abbrev pub AreCounted : (ℕ → Tally → Bool) → NumberedMap → List ℕ → List Finding → Type 0
+AreCounted passes mapping numbers findings =
+    (place : ℕ) → place < length mapping.lines
+    → slice_index numbers place ≡ counted_of (passes place) findings
 
 -- the state after these bytes of a log, of whose complete lines these are found
 pub record Watched (state : WatchState) (bytes : List ℕ) (findings : List Finding) : Type 0 where
   pub lines : List (List ℕ)
   pub rest : List ℕ
   pub cut : log_lines bytes ≡ lines ++ rest ∷ []
-  pub finds : WatchesEach state.mapping lines findings
+  pub finds : WatchesEach state.mapping.lines lines findings
   pub line_is : state.line ≡ take (line_limit + 1) rest
   pub lines_are : state.lines ≡ in_64_bits (length lines)
-  pub as_many : length state.counters ≡ length state.mapping
-  pub counters_are : (place : ℕ) → place < length state.mapping
-      → slice_index state.counters place ≡ counter_of_place state.mapping findings place
-  pub accepted_are : state.accepted ≡ in_64_bits (accepted_in findings)
-  pub failed_are : state.failed ≡ in_64_bits (failed_in findings)
-  pub others_are : state.others ≡ in_64_bits (others_in findings)
+  pub as_many : length state.counters ≡ length state.mapping.lines
+  pub counters_are : (place : ℕ) → place < length state.mapping.lines
+      → slice_index state.counters place ≡ counter_of_place state.mapping.lines findings place
+  pub accepted_are : AreCounted is_accepted_at state.mapping state.accepted findings
+  pub failed_are : AreCounted is_failed_at state.mapping state.failed findings
+  pub counts_are : state.counts ≡ counts_of findings
 
 -- this text was written; or the sink failed, and a proper prefix of it was
 abbrev pub PutsPiece : {A E : Type 0} → SinkState → SinkState → List ℕ → Result A E → Type 0
@@ -62,19 +71,65 @@ tally_found (finding ∷ _) = Some (tally_of finding)
 -- as
 abbrev pub JudgesLine : WatchState → WatchState → Option Tally → Type 0
 JudgesLine old new counts =
-    (found : List Finding) × WatchesLine old.mapping (slice_index old.counters) old.lines old.line found
+    (found : List Finding) × WatchesLine old.mapping.lines (slice_index old.counters) old.lines old.line found
     × (new ≡ record old { counters = new.counters; text = old.text ++ found_text found })
     × (length new.counters ≡ length old.counters) × (counts ≡ tally_found found)
     × ((place : ℕ) → place < length old.counters
     → slice_index new.counters place ≡ last_accepted place (slice_index old.counters place) (map finding_accepts found))
+
+-- a place is one of so many
+abbrev pub IsPlaced : ℕ → Tally → Type 0
+IsPlaced size (tally.Other kind) = Unit {0}
+IsPlaced size (tally.Accepted place) = place < size
+IsPlaced size (tally.Failed place) = place < size
 
 -- one more is counted if a line counts as one that passes
 abbrev pub counts_as : (Tally → Bool) → Option Tally → ℕ → ℕ
 counts_as passes None count = count
 counts_as passes (Some tally) count = if passes tally then counted count else count
 
--- the three numbers of a state
-abbrev pub counts_text : WatchState → List ℕ
-counts_text state =
-    count_line (codes "accepted ") state.accepted ++ count_line (codes "failed ") state.failed
-    ++ count_line (codes "other ") state.others
+-- the numbers of a log after one more line
+abbrev pub counts_after : Option Tally → Counts → Counts
+counts_after tally old = record {
+  accepted = counts_as is_accepted_tally tally old.accepted;
+  failed = counts_as is_failed_tally tally old.failed;
+  unmapped = counts_as (is_other_of is_unmapped_line) tally old.unmapped;
+  other_frames = counts_as (is_other_of is_other_frame) tally old.other_frames;
+  malformed = counts_as (is_other_of is_malformed_line) tally old.malformed;
+}
+
+-- the place of the map's line that accepted a frame, or that didn't
+abbrev pub accepted_place : Option Tally → Option ℕ
+accepted_place None = None
+accepted_place (Some (tally.Other kind)) = None
+accepted_place (Some (tally.Accepted place)) = Some place
+accepted_place (Some (tally.Failed place)) = None
+
+abbrev pub failed_place : Option Tally → Option ℕ
+failed_place None = None
+failed_place (Some (tally.Other kind)) = None
+failed_place (Some (tally.Accepted place)) = None
+failed_place (Some (tally.Failed place)) = Some place
+
+-- one more is counted at a place, if there is one
+abbrev pub raised_at : Option ℕ → List ℕ → List ℕ
+raised_at None numbers = numbers
+raised_at (Some place) numbers = set numbers place (counted (slice_index numbers place))
+
+-- what a state has of the lines of its map
+abbrev pub totals_in : WatchState → LineTotals
+totals_in state = record {
+  accepted = slice_index state.accepted;
+  failed = slice_index state.failed;
+  last = slice_index state.counters;
+}
+
+-- the text and the status at the end of a log, of a state
+abbrev pub end_text : WatchState → List ℕ
+end_text state = totals_text_of state.mapping (totals_in state) state.counts
+
+abbrev pub end_status : WatchState → ℕ
+end_status state =
+    if nat_lt 0 state.counts.failed then 1
+    else if are_heard state.mapping (slice_index state.accepted) then 0
+    else 3

@@ -9,7 +9,14 @@ use Rattle.trace_audit.specs.Auditing.{Finding}
 use Rattle.trace_audit.specs.Rows.{AuditInputs}
 use Rattle.trace_audit.specs.Watching.{found_text}
 use Rattle.trace_audit.specs.States.{WatchState, Watched}
-use Rattle.trace_audit.specs.WatchRows.{EndsLog, OverMap, ComesInWatch}
+use Rattle.trace_audit.specs.Steps.{LacksMap}
+use Rattle.trace_audit.specs.WatchMaps.{NumberedMap, watch_map_of}
+use Rattle.trace_audit.specs.WatchRows.{ReadsWatchMap, EndsLog, OverMap, ComesInWatch}
+
+-- the whole map with the numbers of its lines, or why there is none
+abbrev pub ReadsWatchSource : Reading → Result NumberedMap Row → Type 0
+ReadsWatchSource map (Ok mapping) = ReadsWatchMap map mapping
+ReadsWatchSource map (Err row) = LacksMap watch_map_of map row
 
 -- how the words and the map end: in the watch of this map before the log, or in a row that comes
 abbrev pub PreparesWatch : AuditInputs → Result WatchState Row → Type 0

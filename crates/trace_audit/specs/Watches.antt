@@ -13,8 +13,9 @@ use Rattle.program_edge.specs.Endings.{SinkFailed, CountsWriteFault}
 use Rattle.trace_audit.specs.declared.map_lines.MapLine.{MapLine}
 use Rattle.trace_audit.specs.Auditing.{Finding, finding_accepts}
 use Rattle.trace_audit.specs.Rows.{AuditInputs, NamesInputs}
-use Rattle.trace_audit.specs.WatchMaps.{watch_map_of}
-use Rattle.trace_audit.specs.Watching.{FindsComplete, FindsAll, found_text, numbers_text, watch_status}
+use Rattle.trace_audit.specs.WatchMaps.{NumberedMap, watch_map_of}
+use Rattle.trace_audit.specs.Watching.{FindsComplete, FindsAll, found_text}
+use Rattle.trace_audit.specs.WatchTotals.{totals_text, watch_status}
 use Rattle.trace_audit.specs.WatchRows.{watch_usage, IsWatchMapFault, ReadsToEnd, HasCome, Stops, FailsBoth}
 use Rattle.trace_audit.specs.WatchRows.{OverMap, ComesInWatch, EndsWatch}
 
@@ -22,35 +23,35 @@ use Rattle.trace_audit.specs.WatchRows.{OverMap, ComesInWatch, EndsWatch}
 abbrev pub IsAnswer : ℕ → Type 0
 IsAnswer status = (status ≡ 0) ⊎ (status ≡ 1) ⊎ (status ≡ 3)
 
--- the whole log was read, exactly what is found of its lines and the three numbers were printed, and these findings
--- give the status
+-- the whole log was read, exactly what is found of its lines and the totals were printed, and these findings give the
+-- status
 abbrev pub AnswersLog : AuditInputs → Ending → Type 0
 AnswersLog i e = OverMap i (λ mapping. (log : List ℕ) × (findings : List Finding) × ReadsToEnd i.log log
-    × FindsAll mapping log findings × (e.status ≡ watch_status findings)
-    × PrintsWhole e (found_text findings ++ numbers_text findings))
+    × FindsAll mapping.lines log findings × (e.status ≡ watch_status mapping findings)
+    × PrintsWhole e (found_text findings ++ totals_text mapping findings))
 
 -- what is found of every complete line of the bytes that came was printed, and then this text
 abbrev pub HoldsNothingBack : AuditInputs → Ending → (List ℕ → Type 0) → List ℕ → Type 0
 HoldsNothingBack i e P last = OverMap i (λ mapping. (bytes : List ℕ) × (findings : List Finding)
-    × HasCome i.log bytes × P bytes × FindsComplete mapping bytes findings
+    × HasCome i.log bytes × P bytes × FindsComplete mapping.lines bytes findings
     × PrintsWhole e (found_text findings ++ last))
 
--- a text that stands after what is found: the three numbers, how the log failed, or nothing if the sink failed before
-abbrev pub StandsBehind : List Finding → List ℕ → Type 0
-StandsBehind findings text = (text ≡ numbers_text findings) ⊎ (text ≡ codes "read fault\n")
+-- a text that stands after what is found: the totals, how the log failed, or nothing if the sink failed before
+abbrev pub StandsBehind : NumberedMap → List Finding → List ℕ → Type 0
+StandsBehind mapping findings text = (text ≡ totals_text mapping findings) ⊎ (text ≡ codes "read fault\n")
     ⊎ (text ≡ codes "input too long\n") ⊎ (text ≡ [])
 
 -- what was printed is a prefix of what is found of all that came of the log, and of a text after that. What is found is
 -- that of its complete lines or of all. Of two frames that the same line of the map accepted, the later has the greater
 -- freshness
-pub record PrintsRising (mapping : List MapLine) (log : Reading) (e : Ending) : Type 0 where
+pub record PrintsRising (mapping : NumberedMap) (log : Reading) (e : Ending) : Type 0 where
   pub bytes : List ℕ
   pub findings : List Finding
   pub came : HasCome log bytes
-  pub finds : FindsComplete mapping bytes findings ⊎ FindsAll mapping bytes findings
+  pub finds : FindsComplete mapping.lines bytes findings ⊎ FindsAll mapping.lines bytes findings
   pub rise : AcceptedRise (map finding_accepts findings)
   pub last : List ℕ
-  pub last_is : StandsBehind findings last
+  pub last_is : StandsBehind mapping findings last
   pub size : ℕ
   pub prints : Appended e.before e.after (take size (found_text findings ++ last))
 
@@ -59,8 +60,8 @@ pub record Watches (i : AuditInputs) (e : Ending) : Type 0 where
   -- The program prints a row of the table and ends with its status, or at 6 a prefix of one. Or the sink failed at what
   -- was found of a log that hadn't ended.
   pub ends : EndsWatch i e
-  -- 0, 1 and 3: the log was read to its end, and all that is found of it was printed. 0 if a mapped frame came and
-  -- every one was accepted, 1 if one wasn't, 3 if none came.
+  -- 0, 1 and 3: the log was read to its end, and all that is found of it was printed, with the numbers of each line of
+  -- the map. 1 if a mapped frame wasn't accepted, 3 if a line of the map that isn't optional accepted none, else 0.
   pub answered : IsAnswer e.status → AnswersLog i e
   -- At every status: nothing was asked of the log; or of two frames that the same line of the map accepted in what was
   -- printed, the later has the greater freshness.

@@ -4,7 +4,7 @@ ghost use Rattle.text_lines.specs.Room.{AddsAtMost};
 ghost use Rattle.trace_audit.specs.Auditing.{front_text, others_text, is_other_tally, TellsAudit};
 ghost use Rattle.trace_audit.specs.Findings.{AddsFinding, AddsDataVerdict};
 
-use crate::frames::log_frame;
+use crate::frames::{OtherLine, dataless_line, log_frame, unheard_line};
 use crate::map_lines::{MapLine, place_for};
 use itoa::Buffer;
 use secoc_words::push_verdict;
@@ -19,12 +19,12 @@ use text_lines::words::Words;
 /// What a line of a log counts as.
 #[derive(Clone, Copy, Debug, PartialEq, Eq)]
 pub enum Tally {
-    /// One that the map has no line for.
-    Other,
-    /// A mapped frame that was accepted.
-    Accepted,
-    /// A mapped frame that wasn't: it is too short, or its freshness or verification failed.
-    Failed,
+    /// One that no line of the map judges.
+    Other(OtherLine),
+    /// A frame that was accepted, and the place of the map's line, counted from 0.
+    Accepted(usize),
+    /// A frame that wasn't, and the place of the map's line: it is too short, or its freshness or verification failed.
+    Failed(usize),
 }
 
 impl Tally {
@@ -32,7 +32,7 @@ impl Tally {
     pub fn is_other(self) -> bool
         ensures { result ≡ is_other_tally self }
     {
-        matches!(self, Tally::Other)
+        matches!(self, Tally::Other(_))
     }
 }
 
@@ -88,14 +88,14 @@ pub fn push_finding(
     ensures room { AddsAtMost 208 text.old text.new result }
 {
     let Some(frame) = log_frame(words) else {
-        return Ok(Tally::Other);
+        return Ok(Tally::Other(dataless_line(words)));
     };
     let Some(place) = place_for(map, frame.can.digits(), words.word(2)) else {
-        return Ok(Tally::Other);
+        return Ok(Tally::Other(unheard_line(&frame)));
     };
     let line = &map[place];
     push_front(number, line.can.digits(), text)?;
-    push_data_verdict(line, &mut counters[place], frame.bytes.bytes(), text)
+    push_data_verdict(line, place, &mut counters[place], frame.bytes.bytes(), text)
 }
 
 /// Adds the number of a line and the CAN identifier of its frame, each with a space after it.
@@ -112,22 +112,24 @@ fn push_front(number: u64, can: &[u8], text: &mut Vec<u8>) -> Result<(), AllocEr
     Ok(())
 }
 
-/// Adds the verdict on the data of a frame without its padding, or its bad length, and tells what it counts as. If it
-/// is accepted, the counter is its freshness: an accepted frame, and no other, moves it.
+/// Adds the verdict on the data of a frame without its padding, or its bad length, and tells what it counts as for the
+/// map's line at this place. If it is accepted, the counter is its freshness: an accepted frame, and no other, moves
+/// it.
 fn push_data_verdict(
     line: &MapLine,
+    place: usize,
     counter: &mut u64,
     bytes: &[u8],
     text: &mut Vec<u8>,
 ) -> Result<Tally, AllocError>
-    ensures verdict { IfOk result (AddsDataVerdict line.now counter.old counter.new bytes.now
+    ensures verdict { IfOk result (AddsDataVerdict line.now place counter.old counter.new bytes.now
         text.old.items text.new.items) }
     ensures room { AddsAtMost 158 text.old text.new result }
 {
     let size = line.size.get() + 4;
     if bytes.len() < size {
         push_bad_length(text)?;
-        return Ok(Tally::Failed);
+        return Ok(Tally::Failed(place));
     }
     let before = *counter;
     push_verdict(
@@ -139,9 +141,9 @@ fn push_data_verdict(
         text,
     )?;
     if *counter == before {
-        return Ok(Tally::Failed);
+        return Ok(Tally::Failed(place));
     }
-    Ok(Tally::Accepted)
+    Ok(Tally::Accepted(place))
 }
 
 /// Adds the number of the lines that the map has no line for.

@@ -1,9 +1,11 @@
 //! The frames of a log, as `candump` of can-utils writes them.
-ghost use Rattle.std.specs.Prelude.{◌≡◌, ◌<◌, ◌≤◌, ◌==◌, length, position, IfSome};
+ghost use Rattle.std.specs.Prelude.{◌≡◌, ◌<◌, ◌≤◌, ◌==◌, length, position, slice_index, IfSome};
 ghost use Rattle.text_lines.specs.Forms.{hex_bytes_form};
 ghost use Rattle.trace_audit.specs.Frames.{is_time as is_time_word, data_form, frame_parts, frame_form, log_frame_of};
+ghost use Rattle.trace_audit.specs.Frames.{is_data_can, is_error_can, unheard_kind, is_dataless as has_no_data};
+ghost use Rattle.trace_audit.specs.Frames.{is_xl, is_remote as is_remote_frame, is_dataless_word, dataless_kind};
 
-use crate::map_lines::{CanId, can_id};
+use crate::map_lines::{CanId, can_id, is_can_id};
 use hex::decode_to_slice;
 use std::marker::Model;
 use text_lines::words::Words;
@@ -18,6 +20,17 @@ pub struct LogFrame {
     pub can: CanId,
     /// The data bytes.
     pub bytes: FrameBytes,
+}
+
+/// A line of a log that no line of a map judges.
+#[derive(Clone, Copy, Debug, PartialEq, Eq)]
+pub enum OtherLine {
+    /// A data frame that no line of the map hears.
+    Unmapped,
+    /// A remote frame, an error frame or a frame of CAN XL.
+    OtherFrame,
+    /// No frame, as `candump` writes one.
+    Malformed,
 }
 
 /// The data bytes of a frame, at most 64. A contract sees the list of them.
@@ -124,4 +137,87 @@ fn data_bytes(rest: &[u8]) -> Option<FrameBytes>
         return None;
     }
     FrameBytes::of_digits(&rest[1..], MOST_BYTES)
+}
+
+/// What a data frame is, if no line of a map hears it.
+pub fn unheard_line(frame: &LogFrame) -> OtherLine
+    ensures { result ≡ unheard_kind frame.now.can }
+{
+    let can = frame.can.digits();
+    if has_data_can(can) {
+        OtherLine::Unmapped
+    } else if has_error_can(can) {
+        OtherLine::OtherFrame
+    } else {
+        OtherLine::Malformed
+    }
+}
+
+/// Whether a data frame can have a CAN identifier of these digits: of 11 bits in three, of 29 in eight.
+pub fn has_data_can(can: &[u8]) -> bool
+    ensures { result ≡ is_data_can can.now }
+{
+    let most = if can.len() == 3 { b'7' } else { b'1' };
+    first_byte(can) <= most
+}
+
+/// Whether an error frame has a CAN identifier of these digits.
+fn has_error_can(can: &[u8]) -> bool
+    ensures { result ≡ is_error_can can.now }
+{
+    let first = first_byte(can);
+    can.len() == 8 && (first == b'2' || first == b'3')
+}
+
+/// The first byte, or 0 if there is none.
+fn first_byte(bytes: &[u8]) -> u8
+    ensures { result ≡ slice_index bytes.now 0 }
+{
+    if bytes.is_empty() { 0 } else { bytes[0] }
+}
+
+/// What a line is that has no data frame.
+#[tactic(auto, unfolding(crate::specs::Frames::dataless_kind))]
+pub fn dataless_line(words: &Words<'_>) -> OtherLine
+    ensures { result ≡ dataless_kind words.now }
+{
+    if words.len() >= 3 && is_time(words.word(1)) && has_dataless_word(words.word(3)) {
+        OtherLine::OtherFrame
+    } else {
+        OtherLine::Malformed
+    }
+}
+
+/// Whether a word is a frame without data.
+fn has_dataless_word(word: &[u8]) -> bool
+    ensures { result ≡ is_dataless_word word.now }
+{
+    match place_of_hash(word) {
+        Some(at) => is_dataless(&word[..at], &word[at + 1..]),
+        None => false,
+    }
+}
+
+/// Whether a frame of CAN XL or a remote frame has this before and this after its first `#`.
+fn is_dataless(can: &[u8], rest: &[u8]) -> bool
+    ensures { result ≡ has_no_data can.now rest.now }
+{
+    is_xl_id(can) || is_remote(can, rest)
+}
+
+/// Whether a word is five hexadecimal digits.
+fn is_xl_id(word: &[u8]) -> bool
+    ensures { result ≡ is_xl word.now }
+{
+    if !word.iter().all(u8::is_ascii_hexdigit) {
+        return false;
+    }
+    word.len() == 5
+}
+
+/// Whether a remote frame has this before and this after its first `#`.
+fn is_remote(can: &[u8], rest: &[u8]) -> bool
+    ensures { result ≡ is_remote_frame can.now rest.now }
+{
+    is_can_id(can) && first_byte(rest) == b'R'
 }

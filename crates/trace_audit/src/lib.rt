@@ -17,6 +17,7 @@ mod map_lines;
 mod map_source;
 mod run;
 mod start;
+mod watch_counts;
 pub mod watch_laws;
 mod watch_maps;
 mod watch_run;
@@ -24,13 +25,14 @@ mod watch_start;
 mod watch_state;
 
 pub use auditing::{Tally, audit_text, counters_of, push_finding};
-pub use frames::{FrameBytes, LogFrame, log_frame, place_of_hash};
+pub use frames::{FrameBytes, LogFrame, OtherLine, log_frame, place_of_hash};
 pub use map_lines::{
     CanId, MOST_MAP_LINES, MapLine, PayloadSize, Window, can_id, line_of_words, place_for, place_of,
 };
 pub use map_source::{read_map, read_map_by};
 pub use run::{names_inputs, run_audit};
 pub use start::audit_words;
+pub use watch_counts::add_bytes;
 pub use watch_run::run_watch;
 pub use watch_start::watch_words;
-pub use watch_state::{PIECE, Watch, add_bytes, until_feed};
+pub use watch_state::{PIECE, Watch, until_feed};

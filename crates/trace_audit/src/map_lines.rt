@@ -34,6 +34,8 @@ pub struct MapLine {
     pub window: Window,
     /// The channel that it hears, as a log names it; every one if there is none.
     pub channel: Option<Bytes>,
+    /// Whether a log without an accepted frame of this line passes all the same.
+    pub optional: bool,
 }
 
 /// A CAN identifier: its three or eight hexadecimal digits, in lower case. A contract sees the list of them.
@@ -158,7 +160,7 @@ fn lower_digits(word: &[u8]) -> ArrayVec<u8, 8>
 }
 
 /// Whether a word is three or eight hexadecimal digits.
-fn is_can_id(word: &[u8]) -> bool
+pub fn is_can_id(word: &[u8]) -> bool
     ensures exact { result ≡ is_can word.now }
     ensures few { result ≡ true → length word.now ≤ 8 }
 {
@@ -207,16 +209,18 @@ fn new_can_id(before: &[MapLine], word: &[u8]) -> Option<CanId>
     Some(can)
 }
 
-/// The line of these words, with its CAN identifier and window, if they are of their forms, and its channel.
+/// The line of these words, with its CAN identifier and window, if they are of their forms, its channel, and whether
+/// it is optional.
 #[tactic(auto, unfolding(crate::specs::MapLines::line_with))]
 pub fn line_of_words(
     words: &Words<'_>,
     can: Option<CanId>,
     window: Option<Window>,
     channel: Option<Bytes>,
+    optional: bool,
 ) -> Result<MapLine, Cause>
     requires { 5 ≤ length words.now }
-    ensures { result ≡ line_with can window channel words.now }
+    ensures { result ≡ line_with can window channel optional words.now }
 {
     let can = value_at(1, can)?;
     let id = value_at(2, secoc_words::data_id(words.word(2)))?;
@@ -232,6 +236,7 @@ pub fn line_of_words(
         size: PayloadSize::of(size as u8),
         window,
         channel,
+        optional,
     })
 }
 
@@ -254,6 +259,7 @@ impl LineReader for MapReader {
     ) -> Result<MapLine, LineFault> {
         expect_count(words, 5)?;
         let can = new_can_id(before, words.word(1));
-        Ok(line_of_words(words, can, Some(Window::of(WIDEST_WINDOW)), None)?)
+        let window = Some(Window::of(WIDEST_WINDOW));
+        Ok(line_of_words(words, can, window, None, false)?)
     }
 }

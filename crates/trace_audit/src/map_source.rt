@@ -28,7 +28,7 @@ pub fn read_map_by<R: LineReader<Item = MapLine>, S: Source>(
 }
 
 /// The lines of a map, or the refusal of the first that isn't one.
-fn lines_by<R: LineReader<Item = MapLine>>(
+pub fn lines_by<R: LineReader<Item = MapLine>>(
     alloc: Global,
     reader: &R,
     text: &[u8],

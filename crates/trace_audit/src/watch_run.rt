@@ -23,8 +23,9 @@ const USAGE: &str = "usage: watch MAP LOG\n";
 /// and every text that is printed ends with a line feed.
 ///
 /// The statuses are looked for in the order 2, then 5, 8 and 4 of the map, and 7. Out of memory prints nothing, and
-/// comes only before the log. At the end of the log the status is 0 if a mapped frame came and each was accepted, 1 if
-/// one wasn't, 3 if none came. A sink that fails makes the status 6, and nothing more is asked of the log.
+/// comes only before the log. At the end of the log the status is 1 if a mapped frame wasn't accepted, 3 if a line of
+/// the map that isn't optional accepted none, else 0. A sink that fails makes the status 6, and nothing more is asked
+/// of the log.
 pub fn run_watch<S: Source, T: Source, K: Sink>(
     alloc: Global,
     words: &[String],

@@ -1,17 +1,19 @@
 //! The state between two pieces of a log.
-ghost use Rattle.std.specs.Prelude.{◌≡◌, ◌+◌, ◌<◌, ◌≤◌, ◌++◌, [], ◌∷◌, length, take, codes, List, ℕ, IfOk};
-ghost use Rattle.std.specs.Prelude.{vec_len, vec_capacity};
+ghost use Rattle.std.specs.Prelude.{◌≡◌, ◌+◌, ◌<◌, ◌≤◌, ◌++◌, [], ◌∷◌, length, take, replicate, slice_index};
+ghost use Rattle.std.specs.Prelude.{List, ℕ, IfOk, IfSome};
 ghost use Rattle.std.specs.List.{position_or_len};
 ghost use Rattle.program_edge.specs.Told.{EndingTold};
 ghost use Rattle.text_lines.specs.Lines.{is_line_feed};
-ghost use Rattle.trace_audit.specs.Auditing.{Finding, is_other_tally};
-ghost use Rattle.trace_audit.specs.Watching.{count_line, numbers_text, watch_status, found_text, FindsAll};
-ghost use Rattle.trace_audit.specs.Watching.{is_accepted_tally, is_failed_tally};
-ghost use Rattle.trace_audit.specs.States.{Watched, PutsPiece, FindsMore, JudgesLine, counts_as, counts_text};
+ghost use Rattle.trace_audit.specs.Auditing.{Finding};
+ghost use Rattle.trace_audit.specs.Watching.{found_text, FindsAll};
+ghost use Rattle.trace_audit.specs.WatchTotals.{totals_text, watch_status, total_line_at, is_heard_at, are_heard};
+ghost use Rattle.trace_audit.specs.States.{Watched, PutsPiece, FindsMore, JudgesLine, IsPlaced, counts_after};
+ghost use Rattle.trace_audit.specs.States.{raised_at, accepted_place, failed_place, totals_in, end_text, end_status};
 
-use crate::{MapLine, Tally, counters_of, push_finding};
+use crate::watch_counts::{Counts, LineCounts, add_bytes, add_counts, add_line_counts};
+use crate::watch_maps::WatchMap;
+use crate::{OtherLine, Tally, counters_of, push_finding};
 use bus_port::{PortFailed, Sink, write_all};
-use itoa::Buffer;
 use memchr::memchr_iter;
 use program_edge::tell;
 use std::alloc::{AllocError, Global};
@@ -31,18 +33,18 @@ const FINDING_ROOM: usize = 208;
 /// The most bytes that are printed at the end of a log, or for a piece: each of its bytes could end a line.
 const TEXT_ROOM: usize = FINDING_ROOM * (PIECE + 1);
 
-/// What is known of a log after the pieces that were taken: the map, the counter of each of its lines, and the line
-/// that no line feed has ended yet. It counts the lines before that one, the frames that were accepted, those that
-/// failed, and the other lines. All room is taken when it is made.
+/// What is known of a log after the pieces that were taken: the map, and the line that no line feed has ended yet. For
+/// each line of the map it has the counter, how many frames were accepted and how many weren't. It counts the lines
+/// before the unended one, and has the numbers of the log. All room is taken when it is made.
 #[derive(Drop)]
 pub struct Watch {
-    map: Vec<MapLine>,
+    map: WatchMap,
     counters: Vec<u64>,
+    accepted: Vec<u64>,
+    failed: Vec<u64>,
     line: Vec<u8>,
     lines: u64,
-    accepted: u64,
-    failed: u64,
-    others: u64,
+    counts: Counts,
     text: Vec<u8>,
     spans: Vec<Span>,
 }
@@ -56,39 +58,43 @@ impl Model for Watch {
     ghost Value = { WatchState };
 
     ghost view = { λ w. record {
-      mapping = w.map.items;
+      mapping = w.map;
       counters = w.counters.items;
+      accepted = w.accepted.items;
+      failed = w.failed.items;
       line = w.line.items;
       lines = w.lines;
-      accepted = w.accepted;
-      failed = w.failed;
-      others = w.others;
+      counts = w.counts;
       text = w.text.items;
     } };
 
-    ghost invariant = { λ w. (length w.counters.items ≡ length w.map.items) × (vec_len w.line ≤ 4097)
+    ghost invariant = { λ w. (length w.counters.items ≡ length w.map.lines)
+        × (length w.accepted.items ≡ length w.map.lines) × (length w.failed.items ≡ length w.map.lines)
+        × (vec_len w.line ≤ 4097)
         × (position_or_len is_line_feed w.line.items ≡ length w.line.items) × (4097 ≤ vec_capacity w.line)
         × (852176 ≤ vec_capacity w.text) × (4097 ≤ vec_capacity w.spans) };
 }
 
 impl Watch {
     /// Before the log, by the lines of a map.
-    pub fn new(alloc: Global, map: Vec<MapLine>) -> Result<Watch, AllocError>
-        ensures mapping { IfOk result (λ watch. watch.mapping ≡ map.items) }
+    pub fn new(alloc: Global, map: WatchMap) -> Result<Watch, AllocError>
+        ensures mapping { IfOk result (λ watch. watch.mapping ≡ map) }
         ensures before { IfOk result (λ watch. Watched watch [] []) }
     {
-        let counters = counters_of(alloc, map.as_slice())?;
+        let counters = counters_of(alloc, map.lines())?;
+        let accepted = zeros(alloc, map.lines().len())?;
+        let failed = zeros(alloc, map.lines().len())?;
         let line = Vec::with_capacity(alloc, LINE_LIMIT + 1)?;
         let text = Vec::with_capacity(alloc, TEXT_ROOM)?;
         let spans = Vec::with_capacity(alloc, LINE_LIMIT + 1)?;
         Ok(Watch {
             map,
             counters,
+            accepted,
+            failed,
             line,
             lines: 0,
-            accepted: 0,
-            failed: 0,
-            others: 0,
+            counts: Counts::none(),
             text,
             spans,
         })
@@ -109,31 +115,52 @@ impl Watch {
         write_all(sink, self.text.as_slice())
     }
 
-    /// The end of the log: what stands after the last line feed is a line, too. Prints what is found of it and then the
-    /// three numbers, and gives the status that the program ends with. It takes no memory.
+    /// The end of the log: what stands after the last line feed is a line, too. Prints what is found of it, then a line
+    /// for each line of the map and the five numbers, and gives the status that the program ends with. It takes no
+    /// memory.
     pub fn finish<K: Sink>(&mut self, sink: &mut K) -> u8
         ensures mapping { self.new.mapping ≡ self.old.mapping }
         ensures ends { (bytes : List ℕ) (findings : List Finding) → Watched self.old bytes findings
-            → (more : List Finding) × FindsAll self.old.mapping bytes (findings ++ more)
+            → (more : List Finding) × FindsAll self.old.mapping.lines bytes (findings ++ more)
             × EndingTold (K.state sink.old) (K.state sink.new)
-            (found_text more ++ numbers_text (findings ++ more))
-            (watch_status (findings ++ more)) result }
+            (found_text more ++ totals_text self.old.mapping (findings ++ more))
+            (watch_status self.old.mapping (findings ++ more)) result }
     {
         self.text.clear();
         self.end_line();
-        self.push_numbers();
+        self.push_totals();
         tell(sink, self.text.as_slice(), self.status())
     }
 
-    /// The status at the end of the log: 1 if a mapped frame wasn't accepted, 3 if none came, else 0.
+    /// The status at the end of the log: 1 if a mapped frame wasn't accepted, 3 if a line of the map that isn't
+    /// optional accepted none, else 0.
     fn status(&self) -> u8
-        ensures { (bytes : List ℕ) (findings : List Finding) → Watched self.now bytes findings
-            → result ≡ watch_status findings }
+        ensures { result ≡ end_status self.now }
     {
-        if self.failed > 0 {
+        if self.counts.failed > 0 {
             return 1;
         }
-        if self.accepted > 0 { 0 } else { 3 }
+        if self.hears_each() { 0 } else { 3 }
+    }
+
+    /// Whether the map has lines, and each that isn't optional accepted a frame.
+    fn hears_each(&self) -> bool
+        ensures { result ≡ are_heard self.now.mapping (slice_index self.now.accepted) }
+    {
+        let size = self.map.lines().len();
+        let mut each = true;
+        for place in 0..size {
+            each = each && self.hears_at(place);
+        }
+        each && size > 0
+    }
+
+    /// Whether the line of the map at a place is optional, or accepted a frame.
+    fn hears_at(&self, place: usize) -> bool
+        requires { place < length self.now.mapping.lines }
+        ensures { result ≡ is_heard_at self.now.mapping (slice_index self.now.accepted) place }
+    {
+        self.map.lines()[place].optional || self.accepted[place] > 0
     }
 
     /// Adds what is found of each line that is complete with a piece.
@@ -193,17 +220,22 @@ impl Watch {
 
     /// Counts a line by what it counts as.
     fn count(&mut self, tally: Option<Tally>)
+        requires { IfSome tally (IsPlaced (length self.old.mapping.lines)) }
         ensures { self.new ≡ record self.old {
-          accepted = counts_as is_accepted_tally tally self.old.accepted;
-          failed = counts_as is_failed_tally tally self.old.failed;
-          others = counts_as is_other_tally tally self.old.others;
+          accepted = raised_at (accepted_place tally) self.old.accepted;
+          failed = raised_at (failed_place tally) self.old.failed;
+          counts = counts_after tally self.old.counts;
         } }
     {
+        self.counts.count(tally);
         match tally {
-            Some(Tally::Accepted) => self.accepted = self.accepted.saturating_add(1),
-            Some(Tally::Failed) => self.failed = self.failed.saturating_add(1),
-            Some(Tally::Other) => self.others = self.others.saturating_add(1),
-            None => (),
+            Some(Tally::Accepted(place)) => {
+                self.accepted[place] = self.accepted[place].saturating_add(1);
+            }
+            Some(Tally::Failed(place)) => {
+                self.failed[place] = self.failed[place].saturating_add(1);
+            }
+            Some(Tally::Other(_)) | None => (),
         }
     }
 
@@ -212,9 +244,10 @@ impl Watch {
         requires { length self.old.text + 208 ≤ 852176 }
         ensures few { length self.new.text ≤ length self.old.text + 208 }
         ensures judges { JudgesLine self.old self.new result }
+        ensures placed { IfSome result (IsPlaced (length self.old.mapping.lines)) }
     {
         if self.line.len() > LINE_LIMIT {
-            return Some(Tally::Other);
+            return Some(Tally::Other(OtherLine::Malformed));
         }
         put_words(&mut self.spans, self.line.as_slice()).unwrap();
         let words = Words::of(self.line.as_slice(), self.spans.as_slice());
@@ -222,7 +255,7 @@ impl Watch {
             return None;
         }
         let tally = push_finding(
-            self.map.as_slice(),
+            self.map.lines(),
             self.counters.as_mut_slice(),
             self.lines,
             &words,
@@ -232,13 +265,44 @@ impl Watch {
         Some(tally)
     }
 
-    /// Adds the three numbers.
-    fn push_numbers(&mut self)
-        requires { length self.old.text + 208 ≤ 852176 }
-        ensures { self.new ≡ record self.old { text = self.old.text ++ counts_text self.old } }
+    /// Adds a line for each line of the map, and one for each number.
+    fn push_totals(&mut self)
+        requires { length self.old.text ≤ 208 }
+        ensures { self.new ≡ record self.old { text = self.old.text ++ end_text self.old } }
     {
-        add_three(&mut self.text, self.accepted, self.failed, self.others);
+        let size = self.map.lines().len();
+        for place in 0..size {
+            self.push_line_counts(place);
+        }
+        add_counts(&mut self.text, &self.counts);
     }
+
+    /// Adds the line of the map's line at a place.
+    fn push_line_counts(&mut self, place: usize)
+        requires place { place < length self.old.mapping.lines }
+        requires room { length self.old.text + 280 ≤ 852176 }
+        ensures text { self.new ≡ record self.old {
+          text = self.old.text ++ total_line_at self.old.mapping (totals_in self.old) place;
+        } }
+        ensures few { length self.new.text ≤ length self.old.text + 280 }
+    {
+        let counts = LineCounts {
+            number: self.map.numbers()[place],
+            accepted: self.accepted[place],
+            failed: self.failed[place],
+            last: self.counters[place],
+        };
+        add_line_counts(&mut self.text, &self.map.lines()[place], &counts);
+    }
+}
+
+/// As many zeros.
+fn zeros(alloc: Global, count: usize) -> Result<Vec<u64>, AllocError>
+    ensures { IfOk result (λ numbers. numbers.items ≡ replicate count 0) }
+{
+    let mut numbers = Vec::new(alloc);
+    numbers.resize(count, 0)?;
+    Ok(numbers)
 }
 
 /// How many bytes stand before the first line feed, or all if there is none.
@@ -249,40 +313,4 @@ pub fn until_feed(bytes: &[u8]) -> usize
 {
     let mut feeds = memchr_iter(b'\n', bytes);
     feeds.next().unwrap_or(bytes.len())
-}
-
-/// Adds bytes in room that there is. It takes no memory.
-pub fn add_bytes(text: &mut Vec<u8>, bytes: &[u8])
-    requires { vec_len text.old + length bytes.now ≤ vec_capacity text.old }
-    ensures bytes { text.new.items ≡ text.old.items ++ bytes.now }
-    ensures len { vec_len text.new ≡ vec_len text.old + length bytes.now }
-    ensures capacity { vec_capacity text.old ≤ vec_capacity text.new }
-{
-    text.extend_from_slice(bytes).unwrap();
-}
-
-/// Adds a line of a name of at most 9 bytes and a number, in room for 50 bytes. It takes no memory.
-fn add_number(text: &mut Vec<u8>, name: &[u8], number: u64)
-    requires name { length name.now ≤ 9 }
-    requires room { vec_len text.old + 50 ≤ vec_capacity text.old }
-    ensures line { text.new.items ≡ text.old.items ++ count_line name.now number }
-    ensures few { vec_len text.new ≤ vec_len text.old + 50 }
-    ensures capacity { vec_capacity text.old ≤ vec_capacity text.new }
-{
-    let mut digits = Buffer::new();
-    add_bytes(text, name);
-    add_bytes(text, digits.format(number).as_bytes());
-    text.push_reserved(b'\n');
-}
-
-/// Adds the three numbers, in room for 150 bytes. It takes no memory.
-fn add_three(text: &mut Vec<u8>, accepted: u64, failed: u64, others: u64)
-    requires { vec_len text.old + 150 ≤ vec_capacity text.old }
-    ensures lines { text.new.items ≡ text.old.items ++ count_line (codes "accepted ") accepted
-        ++ count_line (codes "failed ") failed ++ count_line (codes "other ") others }
-    ensures capacity { vec_capacity text.old ≤ vec_capacity text.new }
-{
-    add_number(text, b"accepted ", accepted);
-    add_number(text, b"failed ", failed);
-    add_number(text, b"other ", others);
 }

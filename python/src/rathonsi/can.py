@@ -4,6 +4,7 @@ import re
 import threading
 from collections.abc import Callable, Iterable, Iterator
 from dataclasses import dataclass
+from itertools import takewhile
 from os import PathLike
 from typing import Any, Final, Optional, SupportsIndex
 
@@ -249,19 +250,21 @@ class FrameVerdict:
 
 
 def read_map(path: str | PathLike[str]) -> list[MapLine]:
-    """The lines of a map file of `audit` or `watch`: CANID ID KEY FRESH LEN [WINDOW [CHANNEL]].
+    """The lines of a map file of `audit` or `watch`: CANID ID KEY FRESH LEN [WINDOW [CHANNEL]] [optional].
 
     CANID has three or eight hexadecimal digits, ID 4, KEY 32, FRESH 16; LEN and WINDOW are decimal; `-` is any
-    channel. Lines without words, and those whose first word begins with `#`, are skipped. ValueError: a line is
+    channel. `optional` says nothing here. A word that begins with `#` begins a comment. ValueError: a line is
     malformed, or no frame would reach it since an earlier line has them all; it is named.
     """
     lines: list[MapLine] = []
     with open(path, encoding="utf-8", errors="surrogateescape", newline="\n") as text:
         for count, line in enumerate(text, 1):
             words = [word for word in re.split("[ \t]+", line.removesuffix("\n").removesuffix("\r")) if word]
-            if words and not words[0].startswith("#"):
+            words = list(takewhile(lambda word: not word.startswith("#"), words))
+            if words:
+                own = words[:-1] if words[-1] == "optional" else words
                 try:
-                    lines.append(_reached(_map_line(*words), lines))
+                    lines.append(_reached(_map_line(*own), lines))
                 except (ValueError, TypeError) as error:
                     raise ValueError(f"{path}: line {count}: {error}") from None
     return lines

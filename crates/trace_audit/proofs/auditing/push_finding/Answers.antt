@@ -1,14 +1,14 @@
 use Rattle.std.proofs.Common.{◌≡◌, ◌<◌, ◌++◌, length, List, ℕ, refl, sym, ap, ◌∙◌, subst, arith}
-use Rattle.std.specs.Prelude.{slice_index, Some}
+use Rattle.std.specs.Prelude.{slice_index, None, Some}
 use Rattle.std.proofs.lemmas.List.Quantifiers.{position-Some}
 use Rattle.std.proofs.lemmas.Option.{slice_get_read}
 use Rattle.trace_audit.specs.declared.map_lines.MapLine.{MapLine}
 use Rattle.trace_audit.specs.declared.frames.LogFrame.{LogFrame}
 use Rattle.trace_audit.specs.MapLines.{hears_frame, place_of_frame}
-use Rattle.trace_audit.specs.Frames.{log_frame_of}
+use Rattle.trace_audit.specs.Frames.{log_frame_of, other_line_by}
 use Rattle.trace_audit.specs.Auditing.{front_text, channel_of}
 use Rattle.trace_audit.specs.Findings.{AddsDataVerdict}
-use Rattle.trace_audit.proofs.Noting.{AddsFinding-mapped, if_ok_weaker}
+use Rattle.trace_audit.proofs.Noting.{AddsFinding-other, Unmapped-none, Unmapped-place, AddsFinding-mapped, if_ok_weaker}
 use Rattle.trace_audit.proofs.auditing.push_finding.Goals as goal
 
 pub returns-clause-finds : goal.returns-clause-finds
@@ -31,6 +31,26 @@ returns-clause-finds c =
     (slice_get_read mapping (length mapping) place entry refl inside c.index-map-place.is)
     (omega (arith, inside, c.requires))
     (c.in_ok-push_front.ensures.front ∙ ap (λ can. before ++ front_text c.args.number can) c.digits-2.ensures.value)
-    (subst (λ bytes. AddsDataVerdict entry (slice_index c.args.counters.now place) c.push_data_verdict.new.counter bytes front c.push_data_verdict.new.text.items counts)
+    (subst (λ bytes. AddsDataVerdict entry place (slice_index c.args.counters.now place) c.push_data_verdict.new.counter bytes front c.push_data_verdict.new.text.items counts)
     c.bytes.ensures judged))
     c.push_data_verdict.ensures.verdict
+
+pub returns-in_default-clause-finds : goal.returns-in_default-clause-finds
+returns-in_default-clause-finds c =
+    let words : List (List ℕ) = c.args.words.now in
+    let none : log_frame_of words ≡ None = sym c.in_default.ensures.found in
+    AddsFinding-other c.args.map.now c.args.counters.now (record { number = c.args.number; words = words }) c.args.text.now.items c.dataless_line.result
+    (Unmapped-none c.args.map.now words none) (c.dataless_line.ensures ∙ ap (other_line_by words) (sym none))
+
+pub returns-in_default-place_for-clause-finds : goal.returns-in_default-place_for-clause-finds
+returns-in_default-place_for-clause-finds c =
+    let mapping : List MapLine = c.args.map.now in
+    let words : List (List ℕ) = c.args.words.now in
+    let frame : LogFrame = c.in-Some.frame in
+    let frame_is : log_frame_of words ≡ Some frame = sym c.log_frame.ensures.found ∙ c.in-Some.is in
+    let channel : List ℕ = channel_of words in
+    let place_is : place_of_frame mapping frame.can channel ≡ None =
+    ap (λ can. place_of_frame mapping can channel) (sym c.digits.ensures.value) ∙ ap (place_of_frame mapping c.digits.result.now) (sym c.word.ensures)
+    ∙ sym c.in_default-place_for.ensures in
+    AddsFinding-other mapping c.args.counters.now (record { number = c.args.number; words = words }) c.args.text.now.items c.unheard_line.result
+    (Unmapped-place mapping words frame frame_is place_is) (c.unheard_line.ensures ∙ ap (other_line_by words) (sym frame_is))

@@ -4,7 +4,7 @@ use Rattle.bus_port.specs.Source.{SourceState, HandsOut}
 use Rattle.bus_port.specs.Sink.{SinkState}
 use Rattle.program_edge.specs.Told.{EndingTold}
 use Rattle.program_edge.specs.Rows.{Row}
-use Rattle.trace_audit.specs.declared.map_lines.MapLine.{MapLine}
+use Rattle.trace_audit.specs.WatchMaps.{NumberedMap}
 use Rattle.trace_audit.specs.WatchRows.{EndsLog}
 use Rattle.trace_audit.proofs.Ports.{SoFar-more, Stops-in, Ends-done, Ends-failed}
 use Rattle.trace_audit.proofs.watch_run.next_piece.Goals as goal
@@ -28,7 +28,7 @@ returns-then-count-eq0-clause-turns g c = λ first start bytes findings so_far.
     let (more, finds, told) = c.finish.ensures.ends bytes findings so_far.watched in
     let hands : HandsOut log later c.args.piece.now c.read.new.out 0 =
     subst (λ n. HandsOut log later c.args.piece.now c.read.new.out n) c.if-count-eq0.true c.in-Ok.ensures in
-    subst (λ (m : List MapLine). EndsLog m (record { before = first; after = later }) (record { before = start; after = next; status = c.finish.result })) (sym c.finish.ensures.mapping)
+    subst (λ (m : NumberedMap). EndsLog m (record { before = first; after = later }) (record { before = start; after = next; status = c.finish.result })) (sym c.finish.ensures.mapping)
     (Ends-done first log later start (g.K.Sink.state c.args.sink.now) next c.args.watch.now c.finish.new.self bytes findings
     c.args.piece.now c.read.new.out more c.finish.result so_far hands (omega (arith, c.fits-piece)) finds told)
 

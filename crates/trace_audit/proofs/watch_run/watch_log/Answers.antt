@@ -1,10 +1,10 @@
-use Rattle.std.proofs.Common.{List, [], ◌++◌, ◌∙◌, subst, refl, arith}
+use Rattle.std.proofs.Common.{[], ◌++◌, ◌∙◌, subst, refl, arith}
 use Rattle.std.proofs.lemmas.List.{length-append}
 use Rattle.bus_port.specs.Source.{SourceState}
 use Rattle.bus_port.specs.Sink.{SinkState}
 use Rattle.program_edge.specs.Told.{EndingTold}
 use Rattle.program_edge.specs.Rows.{Row}
-use Rattle.trace_audit.specs.declared.map_lines.MapLine.{MapLine}
+use Rattle.trace_audit.specs.WatchMaps.{NumberedMap}
 use Rattle.trace_audit.specs.WatchRows.{EndsLog}
 use Rattle.trace_audit.proofs.Ports.{SoFar-none, Ends-too_long}
 use Rattle.trace_audit.proofs.watch_run.watch_log.Goals as goal
@@ -29,7 +29,7 @@ returns-in-Some g c =
     let first : SourceState = g.T.Source.state c.args.log.now in
     let start : SinkState = g.K.Sink.state c.args.sink.now in
     let (bytes, findings, so_far, enough) = c.loop.invariant.so_far in
-    subst (λ (m : List MapLine). EndsLog m (record { before = first; after = g.T.Source.state c.next_piece.new.log })
+    subst (λ (m : NumberedMap). EndsLog m (record { before = first; after = g.T.Source.state c.next_piece.new.log })
     (record { before = start; after = g.K.Sink.state c.next_piece.new.sink; status = c.in-Some.status })) (c.next_piece.ensures.mapping ∙ c.loop.invariant.mapping)
     (c.in-Some.ensures.turns first start bytes findings so_far)
 
@@ -41,7 +41,7 @@ returns g c =
     let sink : SinkState = g.K.Sink.state c.loop.sink in
     let next : SinkState = g.K.Sink.state c.tell_refusal-2.new.sink in
     let (bytes, findings, so_far, enough) = c.loop.invariant.so_far in
-    subst (λ (m : List MapLine). EndsLog m (record { before = first; after = log })
+    subst (λ (m : NumberedMap). EndsLog m (record { before = first; after = log })
     (record { before = start; after = next; status = c.tell_refusal-2.result })) c.loop.invariant.mapping
     (Ends-too_long first log start sink next c.loop.watch bytes findings c.tell_refusal-2.result so_far (omega (arith, enough, c.loop-test.false))
     (subst (λ (row : Row). EndingTold sink next row.text row.status c.tell_refusal-2.result) c.from.ensures c.tell_refusal-2.ensures))

@@ -1,6 +1,8 @@
-use Rattle.std.proofs.Common.{◌≡◌, [], ◌∷◌, sym, ap, ◌∙◌, subst}
+use Rattle.std.proofs.Common.{◌≡◌, [], ◌∷◌, length, sym, ap, ◌∙◌, subst}
+use Rattle.std.specs.Prelude.{IfSome}
 use Rattle.basics.specs.FaultCount.{counted}
-use Rattle.trace_audit.specs.States.{WatchState, FindsMore, JudgesLine}
+use Rattle.trace_audit.specs.WatchMaps.{NumberedMap}
+use Rattle.trace_audit.specs.States.{WatchState, FindsMore, JudgesLine, IsPlaced}
 use Rattle.trace_audit.specs.contracts.watch_state.Watch.{the_view}
 use Rattle.trace_audit.proofs.Going.{Watched-ends, ended, ended_is}
 use Rattle.trace_audit.proofs.watch_state.Watch.end_line.Goals as goal
@@ -16,4 +18,9 @@ returns-clause-goes_on c =
     ap (λ (s : WatchState). record s { line = [] }) (c.self-2.view_is ∙ c.count.ensures) ∙ ended_is old judged counts judges in
     subst (λ (s : WatchState). FindsMore s (record (the_view c.self-2.inside) { line = c.clear.new.self.items }) (10 ∷ [])) c.self.view_is
     (subst (λ l. FindsMore old (record (the_view c.self-2.inside) { line = l }) (10 ∷ [])) (sym c.clear.ensures.items)
-    (subst (λ (s : WatchState). FindsMore old s (10 ∷ [])) (sym new_is) (Watched-ends old judged counts judges)))
+    (subst (λ (s : WatchState). FindsMore old s (10 ∷ [])) (sym new_is) (Watched-ends old judged counts c.self.invariant.1 c.self.invariant.2 judges)))
+
+pub count-requires : goal.count-requires
+count-requires c =
+    let same : c.judge_line-tally.new.self.mapping ≡ c.self.inside.map = ap (λ (s : WatchState). s.mapping) c.judge_line-tally.ensures.judges.2 in
+    subst (λ (m : NumberedMap). IfSome c.judge_line-tally.result (IsPlaced (length m.lines))) (sym same) c.judge_line-tally.ensures.placed

@@ -4,6 +4,7 @@ use Rattle.std.proofs.lemmas.Result.{IfOk-at_ok}
 use Rattle.text_lines.specs.Lines.{words_of, is_skipped}
 use Rattle.text_lines.specs.Spans.{word_at}
 use Rattle.trace_audit.specs.declared.map_lines.MapLine.{MapLine}
+use Rattle.trace_audit.specs.declared.frames.OtherLine.TheVariants as kind
 use Rattle.trace_audit.specs.declared.auditing.Tally.{Tally}
 use Rattle.trace_audit.specs.declared.auditing.Tally.TheVariants as tally
 use Rattle.trace_audit.specs.Findings.{AddsFinding}
@@ -15,7 +16,7 @@ use Rattle.trace_audit.proofs.watch_state.Watch.judge_line.Goals as goal
 
 pub returns-then-len-gt-LINE_LIMIT-clause-judges : goal.returns-then-len-gt-LINE_LIMIT-clause-judges
 returns-then-len-gt-LINE_LIMIT-clause-judges c =
-    subst (λ (s : WatchState). JudgesLine s s (Some tally.Other)) c.self.view_is (JudgesLine-long (the_view c.self.inside) (omega (arith, c.self.inside.line.ok.0)))
+    subst (λ (s : WatchState). JudgesLine s s (Some (tally.Other kind.Malformed))) c.self.view_is (JudgesLine-long (the_view c.self.inside) (omega (arith, c.self.inside.line.ok.0)))
 
 pub returns-clause-judges : goal.returns-clause-judges
 returns-clause-judges c =
@@ -30,11 +31,11 @@ returns-clause-judges c =
     ∙ ap (map (word_at line)) c.as_slice-3.ensures.value
     ∙ ap (λ l. map (word_at l) c.put_words.new.spans.items) (sym c.as_slice.ensures.value) ∙ put ∙ ap words_of c.as_slice.ensures.value in
     let kept : is_skipped (words_of line) ≡ false = ap is_skipped (sym words_are) ∙ sym c.is_skipped.ensures ∙ c.if-is_skipped.false in
-    let finds : AddsFinding old.mapping old.counters new (record { number = old.lines; words = words_of line }) old.text text c.unwrap-tally.result =
-    subst (λ (m : List MapLine). AddsFinding m old.counters new (record { number = old.lines; words = words_of line }) old.text text c.unwrap-tally.result) c.as_slice-4.ensures.value
-    (subst (λ cs. AddsFinding c.as_slice-4.result.now cs new (record { number = old.lines; words = words_of line }) old.text text c.unwrap-tally.result) c.as_mut_slice.ensures.value
-    (subst (λ (ws : List (List ℕ)). AddsFinding c.as_slice-4.result.now c.as_mut_slice.result.now new (record { number = old.lines; words = ws }) old.text text c.unwrap-tally.result) words_are
-    (IfOk-at_ok (λ (t : Tally). AddsFinding c.as_slice-4.result.now c.as_mut_slice.result.now new (record { number = old.lines; words = c.of-words.result }) old.text text t)
+    let finds : AddsFinding old.mapping.lines old.counters new (record { number = old.lines; words = words_of line }) old.text text c.unwrap-tally.result =
+    subst (λ (m : List MapLine). AddsFinding m old.counters new (record { number = old.lines; words = words_of line }) old.text text c.unwrap-tally.result) c.lines.ensures.value
+    (subst (λ cs. AddsFinding c.lines.result.now cs new (record { number = old.lines; words = words_of line }) old.text text c.unwrap-tally.result) c.as_mut_slice.ensures.value
+    (subst (λ (ws : List (List ℕ)). AddsFinding c.lines.result.now c.as_mut_slice.result.now new (record { number = old.lines; words = ws }) old.text text c.unwrap-tally.result) words_are
+    (IfOk-at_ok (λ (t : Tally). AddsFinding c.lines.result.now c.as_mut_slice.result.now new (record { number = old.lines; words = c.of-words.result }) old.text text t)
     c.unwrap-tally.ensures c.push_finding.ensures.finds))) in
     let counters_are : take c.self.inside.counters.len (new ++ drop (length new) c.self.inside.counters.items) ≡ new =
     put_back c.self.inside.counters.len c.self.inside.counters.items new (omega (arith, finds.4, c.self.inside.counters.ok.0)) in

@@ -9,13 +9,15 @@ invariant_of-self c =
     let bytes : List ℕ = c.args.bytes.now in
     let new = c.add_bytes.new.text in
     let kept : new.items ≡ take 4097 (line ++ bytes) = c.add_bytes.ensures.bytes ∙ kept_front 4097 c.min.result line bytes (omega arith) (omega arith) in
-    let free : HasNoFeed (line ++ bytes) = no_feed-append line bytes c.self.invariant.2 c.requires in (
+    let free : HasNoFeed (line ++ bytes) = no_feed-append line bytes c.self.invariant.4 c.requires in (
       c.self.invariant.0,
+      c.self.invariant.1,
+      c.self.invariant.2,
       omega (arith, new.ok.0, ap length kept, length-take 4097 (line ++ bytes)),
       subst HasNoFeed (sym kept) (no_feed-take 4097 (line ++ bytes) free),
-      omega (arith, c.add_bytes.ensures.capacity, c.self.invariant.3),
-      c.self.invariant.4,
-      c.self.invariant.5,
+      omega (arith, c.add_bytes.ensures.capacity, c.self.invariant.5),
+      c.self.invariant.6,
+      c.self.invariant.7,
     )
 
 pub returns : goal.returns
