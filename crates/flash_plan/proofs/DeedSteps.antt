@@ -20,9 +20,9 @@ use Rattle.flash_plan.specs.declared.plans.PlanEnd.TheVariants.{NoStore, Exhaust
 use Rattle.flash_plan.specs.declared.plans.PlanStep.{PlanStep}
 use Rattle.flash_plan.specs.declared.plans.PlanStep.TheVariants.{Heading, Copied, Puts, Free, Erasing, Copying, Ready, Ended}
 use Rattle.flash_plan.specs.declared.plans.FlashPlan.{FlashPlan}
-use Rattle.flash_plan.specs.Performing.{Performs, Does, MayBegin}
-use Rattle.flash_plan.specs.Plans.{put_operation, step_operation, put_in, put_at, step_after, step_programmed, IsFailure, Fails, failed_plan, fails_at, ReadsAt, WritesAt}
-use Rattle.flash_plan.specs.Standing.{BeforeBank, WithinBank, ReadsCopy, ReadsPuts, ReadsFree, IsUpAt, IsCopyingAt, IsReadyAt, StepAt, EndsAt, StandsAt, Reaches, ReachesStep, MovesOn, MovesBy}
+use Rattle.flash_plan.specs.Performing.{Performs, DoesOperation, MayBegin}
+use Rattle.flash_plan.specs.Plans.{put_operation, step_operation, put_in, put_at, step_after, step_programmed, IsFailure, Fails, failed_plan, fails_in_step, ReadsAt, ChangesAt}
+use Rattle.flash_plan.specs.Standing.{BeforeBank, WithinBank, ReadsCopy, ReadsPuts, ReadsFree, IsUpAt, IsCopyingAt, IsReadyAt, StepAt, EndsAt, StandsAt, Reaches, ReachesStep, PlanMovesOn, MovesBy}
 use Rattle.flash_plan.proofs.BankSteps.{within_map, copy_whole}
 use Rattle.flash_plan.proofs.ScanSteps.{before_off, within_off, same_off}
 
@@ -74,17 +74,17 @@ step_may l best latest cells scratch at f put (Ended end) h = tt
 
 -- ---- an operation failed
 
-read_failed : (bank place : ℕ) (outcome : FlashOutcome) (f g : Flash) → Does (Read bank place) outcome f g → Fails (Read bank place) outcome → SameFlash f g
+read_failed : (bank place : ℕ) (outcome : FlashOutcome) (f g : Flash) → DoesOperation (Read bank place) outcome f g → Fails (Read bank place) outcome → SameFlash f g
 read_failed bank place (Answered a) f g d x = absurd x
 read_failed bank place Done f g d x = d
 read_failed bank place Failed f g d x = d
 
-erase_failed : (bank : ℕ) (outcome : FlashOutcome) (f g : Flash) → Does (Erase bank) outcome f g → Fails (Erase bank) outcome → CutsErase bank f g
+erase_failed : (bank : ℕ) (outcome : FlashOutcome) (f g : Flash) → DoesOperation (Erase bank) outcome f g → Fails (Erase bank) outcome → CutsErase bank f g
 erase_failed bank (Answered a) f g d x = d
 erase_failed bank Done f g d x = absurd x
 erase_failed bank Failed f g d x = d
 
-program_failed : (bank place : ℕ) (line : FlashLine) (outcome : FlashOutcome) (f g : Flash) → Does (Program bank place line) outcome f g → Fails (Program bank place line) outcome
+program_failed : (bank place : ℕ) (line : FlashLine) (outcome : FlashOutcome) (f g : Flash) → DoesOperation (Program bank place line) outcome f g → Fails (Program bank place line) outcome
     → CutsProgram bank place line f g
 program_failed bank place line (Answered a) f g d x = d
 program_failed bank place line Done f g d x = absurd x
@@ -92,7 +92,7 @@ program_failed bank place line Failed f g d x = d
 
 copy_failed : (l : FlashLayout) (bank generation done : ℕ) (cells : CellList) (f g : Flash) (outcome : FlashOutcome) → done ≤ length cells
     → (b : Bool) → nat_lt done (length cells) ≡ b
-    → Does (if b then Program (next_bank l.banks bank) (suc done) (Entry done (get_or cells done [])) else Program (next_bank l.banks bank) 0 (Head (suc generation))) outcome f g
+    → DoesOperation (if b then Program (next_bank l.banks bank) (suc done) (Entry done (get_or cells done [])) else Program (next_bank l.banks bank) 0 (Head (suc generation))) outcome f g
     → Fails (if b then Program (next_bank l.banks bank) (suc done) (Entry done (get_or cells done [])) else Program (next_bank l.banks bank) 0 (Head (suc generation))) outcome
     → Goes l (machine f (copying bank generation cells done)) (machine g off)
 copy_failed l bank generation done cells f g outcome most true e d x = goes_one l cuts_copy _ _ (λ old new h. h, tt) (record {
@@ -115,7 +115,7 @@ copy_failed l bank generation done cells f g outcome most false e d x = goes_one
 })
 
 put_failed : (l : FlashLayout) (bank generation next : ℕ) (cells : CellList) (f g : Flash) (put : WaitingPut) (outcome : FlashOutcome)
-    → Does (Program bank next (Entry put.cell put.payload)) outcome f g → Fails (Program bank next (Entry put.cell put.payload)) outcome
+    → DoesOperation (Program bank next (Entry put.cell put.payload)) outcome f g → Fails (Program bank next (Entry put.cell put.payload)) outcome
     → MovesBy l (Some put) outcome (machine f (ready bank generation cells next)) (machine g off)
 put_failed l bank generation next cells f g put (Answered a) d x = record { bank = bank; generation = generation; cells = cells; next = next; was = refl; does = d; now = refl }
 put_failed l bank generation next cells f g put Done d x = absurd x
@@ -123,9 +123,9 @@ put_failed l bank generation next cells f g put Failed d x = record { bank = ban
 
 module _ (l : FlashLayout) (best : Best) (latest : List ℕ) (cells scratch : CellList) (at : FlashMachine) (f g : Flash) (outcome : FlashOutcome) where
   abbrev pub Broken : Option WaitingPut → PlanStep → Type 0
-  Broken put step = IfSome (step_operation l.banks step put cells) (λ it. Does it outcome f g → Fails it outcome → MovesBy l (put_at step put) outcome at (machine g off))
+  Broken put step = IfSome (step_operation l.banks step put cells) (λ it. DoesOperation it outcome f g → Fails it outcome → MovesBy l (put_at step put) outcome at (machine g off))
 
-  read_broken : (step : PlanStep) (bank place : ℕ) → StepAt l best latest cells scratch at f step → Does (Read bank place) outcome f g → Fails (Read bank place) outcome
+  read_broken : (step : PlanStep) (bank place : ℕ) → StepAt l best latest cells scratch at f step → DoesOperation (Read bank place) outcome f g → Fails (Read bank place) outcome
       → Goes l at (machine g off)
   read_broken step bank place h d x = goes_then l at (machine f off) (machine g off) (step_off l best latest cells scratch at f step h)
       (same_off l f g off (read_failed bank place outcome f g d x))
@@ -158,8 +158,8 @@ module _ (l : FlashLayout) (best : Best) (latest : List ℕ) (cells scratch : Ce
 -- the plan has ended then
 module _ (l : FlashLayout) (plan : FlashPlan) (cells scratch : CellList) (at : FlashMachine) (f g : Flash) (outcome : FlashOutcome) where
   abbrev pub FailsOn : Option WaitingPut → PlanStep → Type 0
-  FailsOn put step = IfSome (step_operation l.banks step put cells) (λ it. Does it outcome f g → Fails it outcome
-      → MovesOn l (put_at step put) outcome (fails_at plan put step) cells scratch at g)
+  FailsOn put step = IfSome (step_operation l.banks step put cells) (λ it. DoesOperation it outcome f g → Fails it outcome
+      → PlanMovesOn l (put_at step put) outcome (fails_in_step plan put step) cells scratch at g)
 
   fails_ready : (bank generation next : ℕ) (put : Option WaitingPut) → IsReadyAt bank generation next cells at f → FailsOn put (Ready bank generation next)
   fails_ready bank generation next None h = tt
@@ -184,15 +184,15 @@ module _ (l : FlashLayout) (plan : FlashPlan) (cells scratch : CellList) (at : F
 
 -- an operation that counts as failed by this outcome, whatever it is
 counts_failed : (o : Option Operation) (outcome : FlashOutcome) (places : ℕ) (f g : Flash) (M : Type 0) → IfSome o (λ it. Fails it outcome)
-    → IfSome o (λ it. Does it outcome f g → Fails it outcome → M) → IfSome o (λ it. Performs places it outcome f g → M)
+    → IfSome o (λ it. DoesOperation it outcome f g → Fails it outcome → M) → IfSome o (λ it. Performs places it outcome f g → M)
 counts_failed None outcome places f g M x h = tt
 counts_failed (Some it) outcome places f g M x h = λ p. h p.does x
 
 pub plan_fails : (l : FlashLayout) (plan new : FlashPlan) (cells scratch : CellList) (at : FlashMachine) (f g : Flash) (outcome : FlashOutcome) (places : ℕ)
     → new ≡ failed_plan plan → IfSome (step_operation l.banks plan.step plan.put cells) (λ it. Fails it outcome) → StandsAt l plan cells scratch at f
-    → IfSome (step_operation l.banks plan.step plan.put cells) (λ it. Performs places it outcome f g → MovesOn l (put_in plan) outcome new cells scratch at g)
+    → IfSome (step_operation l.banks plan.step plan.put cells) (λ it. Performs places it outcome f g → PlanMovesOn l (put_in plan) outcome new cells scratch at g)
 plan_fails l plan new cells scratch at f g outcome places is x h =
-    subst (λ (p : FlashPlan). IfSome (step_operation l.banks plan.step plan.put cells) (λ it. Performs places it outcome f g → MovesOn l (put_in plan) outcome p cells scratch at g)) (sym is)
+    subst (λ (p : FlashPlan). IfSome (step_operation l.banks plan.step plan.put cells) (λ it. Performs places it outcome f g → PlanMovesOn l (put_in plan) outcome p cells scratch at g)) (sym is)
     (counts_failed _ outcome places f g _ x (fails_on l plan cells scratch at f g outcome plan.put plan.step h))
 
 copy_counts : (bank generation done : ℕ) (cells : CellList) (a : Answer) (b : Bool)
@@ -216,7 +216,7 @@ not_read banks put cells a (Copying bank generation done) other = copy_counts (n
 not_read banks put cells a (Ready bank generation next) other = put_counts bank next put a
 not_read banks put cells a (Ended end) other = tt
 
-pub not_written : (banks : ℕ) (put : Option WaitingPut) (cells : CellList) (step : PlanStep) → (WritesAt step → ⊥)
+pub not_written : (banks : ℕ) (put : Option WaitingPut) (cells : CellList) (step : PlanStep) → (ChangesAt step → ⊥)
     → IfSome (step_operation banks step put cells) (λ it. Fails it Done)
 not_written banks put cells (Heading bank) other = tt
 not_written banks put cells (Copied bank generation done) other = tt
@@ -257,7 +257,7 @@ put_fine : (bank next : ℕ) (put : Option WaitingPut) → IsFailure (put_operat
 put_fine bank next None x = x
 put_fine bank next (Some put) x = x
 
-pub written_fine : (banks : ℕ) (put : Option WaitingPut) (cells : CellList) (step : PlanStep) → WritesAt step → IsFailure (step_operation banks step put cells) Done → ⊥
+pub written_fine : (banks : ℕ) (put : Option WaitingPut) (cells : CellList) (step : PlanStep) → ChangesAt step → IsFailure (step_operation banks step put cells) Done → ⊥
 written_fine banks put cells (Heading bank) writes x = writes
 written_fine banks put cells (Copied bank generation done) writes x = writes
 written_fine banks put cells (Puts bank generation place) writes x = writes
@@ -279,7 +279,7 @@ reads_one (Copying bank generation done) reads a b c d = reads
 reads_one (Ready bank generation next) reads a b c d = reads
 reads_one (Ended end) reads a b c d = reads
 
-pub writes_one : (step : PlanStep) → WritesAt step → ((bank generation : ℕ) → step ≡ Erasing bank generation → ⊥) → ((bank generation done : ℕ) → step ≡ Copying bank generation done → ⊥)
+pub writes_one : (step : PlanStep) → ChangesAt step → ((bank generation : ℕ) → step ≡ Erasing bank generation → ⊥) → ((bank generation done : ℕ) → step ≡ Copying bank generation done → ⊥)
     → ((bank generation next : ℕ) → step ≡ Ready bank generation next → ⊥) → ⊥
 writes_one (Heading bank) writes a b c = writes
 writes_one (Copied bank generation done) writes a b c = writes
@@ -298,7 +298,7 @@ any_failed (Some (Program bank place line)) = tt
 
 pub plan_failed : (l : FlashLayout) (plan new : FlashPlan) (cells scratch : CellList) (at : FlashMachine) (f g : Flash) (places : ℕ) → new ≡ failed_plan plan
     → StandsAt l plan cells scratch at f
-    → IfSome (step_operation l.banks plan.step plan.put cells) (λ it. Performs places it Failed f g → MovesOn l (put_in plan) Failed new cells scratch at g)
+    → IfSome (step_operation l.banks plan.step plan.put cells) (λ it. Performs places it Failed f g → PlanMovesOn l (put_in plan) Failed new cells scratch at g)
 plan_failed l plan new cells scratch at f g places is h = plan_fails l plan new cells scratch at f g Failed places is (any_failed _) h
 
 -- ---- a read answered
@@ -306,19 +306,19 @@ plan_failed l plan new cells scratch at f g places is h = plan_fails l plan new 
 module _ (l : FlashLayout) (best : Best) (latest : List ℕ) (cells scratch now cells_now : CellList) (at : FlashMachine) (f g : Flash) (put : Option WaitingPut) (places : ℕ)
     (a : Answer) (new : FlashPlan) (step : PlanStep) where
   abbrev pub MovesThen : PlanStep → Type 0
-  MovesThen s = IfSome (step_operation l.banks s put cells) (λ it. Performs places it (Answered a) f g → MovesOn l (put_at s put) (Answered a) new cells_now now at g)
+  MovesThen s = IfSome (step_operation l.banks s put cells) (λ it. Performs places it (Answered a) f g → PlanMovesOn l (put_at s put) (Answered a) new cells_now now at g)
 
-  moved : (first : Flash) → at ≡ machine first off → Reaches l new cells_now now (machine first off) g → MovesOn l None (Answered a) new cells_now now at g
+  moved : (first : Flash) → at ≡ machine first off → Reaches l new cells_now now (machine first off) g → PlanMovesOn l None (Answered a) new cells_now now at g
   moved first is r = record { at = r.at; moves = subst (λ (m : FlashMachine). Goes l m r.at) (sym is) r.goes; stands = r.stands }
 
   pub head_answered : (bank : ℕ) → step ≡ Heading bank → StepAt l best latest cells scratch at f step
-      → ((first : Flash) → BeforeBank l.cells bank first f best latest cells → Does (Read bank 0) (Answered a) f g → Reaches l new cells_now now (machine first off) g)
+      → ((first : Flash) → BeforeBank l.cells bank first f best latest cells → DoesOperation (Read bank 0) (Answered a) f g → Reaches l new cells_now now (machine first off) g)
       → MovesThen step
   head_answered bank is h reads = subst (λ (s : PlanStep). StepAt l best latest cells scratch at f s → MovesThen s) (sym is)
       (λ s p. moved s.first s.is (reads s.first s.reads p.does)) h
 
   pub copied_answered : (bank generation done : ℕ) → step ≡ Copied bank generation done → StepAt l best latest cells scratch at f step
-      → ((first : Flash) → WithinBank l.cells bank first f best latest cells (ReadsCopy generation done scratch) → Does (Read bank (suc done)) (Answered a) f g
+      → ((first : Flash) → WithinBank l.cells bank first f best latest cells (ReadsCopy generation done scratch) → DoesOperation (Read bank (suc done)) (Answered a) f g
       → Reaches l new cells_now now (machine first off) g)
       → MovesThen step
   copied_answered bank generation done is h reads = subst (λ (s : PlanStep). StepAt l best latest cells scratch at f s → MovesThen s) (sym is)
@@ -343,7 +343,7 @@ module _ (l : FlashLayout) (best : Best) (latest : List ℕ) (cells scratch now 
 module _ (l : FlashLayout) (best : Best) (latest : List ℕ) (cells scratch : CellList) (at : FlashMachine) (f g : Flash) (put : Option WaitingPut) (places : ℕ)
     (new : FlashPlan) (step : PlanStep) where
   abbrev pub MovesDone : CellList → PlanStep → Type 0
-  MovesDone now s = IfSome (step_operation l.banks s put cells) (λ it. Performs places it Done f g → MovesOn l (put_at s put) Done new now scratch at g)
+  MovesDone now s = IfSome (step_operation l.banks s put cells) (λ it. Performs places it Done f g → PlanMovesOn l (put_at s put) Done new now scratch at g)
 
   pub erase_done : (bank generation : ℕ) → step ≡ Erasing bank generation → new.step ≡ Copying bank generation 0 → StepAt l best latest cells scratch at f step → MovesDone cells step
   erase_done bank generation is next h = subst (λ (s : PlanStep). StepAt l best latest cells scratch at f s → MovesDone cells s) (sym is) (λ s p. record {
@@ -368,8 +368,8 @@ module _ (l : FlashLayout) (best : Best) (latest : List ℕ) (cells scratch : Ce
 
   copy_moves : (bank generation done : ℕ) → IsCopyingAt l bank generation done cells at f → (b : Bool) → nat_lt done (length cells) ≡ b
       → new.step ≡ (if b then Copying bank generation (suc done) else Ready (next_bank l.banks bank) (suc generation) (suc (length cells)))
-      → Does (if b then Program (next_bank l.banks bank) (suc done) (Entry done (get_or cells done [])) else Program (next_bank l.banks bank) 0 (Head (suc generation))) Done f g
-      → MovesOn l None Done new cells scratch at g
+      → DoesOperation (if b then Program (next_bank l.banks bank) (suc done) (Entry done (get_or cells done [])) else Program (next_bank l.banks bank) 0 (Head (suc generation))) Done f g
+      → PlanMovesOn l None Done new cells scratch at g
   copy_moves bank generation done s true below next does = record {
     at = machine g (copying bank generation cells (suc done));
     moves = subst (λ (m : FlashMachine). Goes l m (machine g (copying bank generation cells (suc done)))) (sym s.is)
@@ -417,7 +417,7 @@ module _ (l : FlashLayout) (best : Best) (latest : List ℕ) (cells scratch : Ce
 
   put_moves : (bank generation next later : ℕ) (waiting : WaitingPut) → IsReadyAt bank generation next cells at f → later ≡ suc next → new.step ≡ Ready bank generation later
       → (now : CellList) → now ≡ set cells waiting.cell waiting.payload → Programs bank next (Entry waiting.cell waiting.payload) f g
-      → MovesOn l (Some waiting) Done new now scratch at g
+      → PlanMovesOn l (Some waiting) Done new now scratch at g
   put_moves bank generation next later waiting s more is now made does = record {
     at = machine g (ready bank generation now later);
     moves = subst (λ (m : FlashMachine). DoesFlashDeed l (puts waiting.cell waiting.payload) m (machine g (ready bank generation now later))) (sym s.is) (record {
@@ -439,7 +439,7 @@ module _ (l : FlashLayout) (best : Best) (latest : List ℕ) (cells scratch : Ce
       → (now : CellList) → now ≡ set cells waiting.cell waiting.payload → StepAt l best latest cells scratch at f step → MovesDone now step
   put_done bank generation next later waiting is waits more next_is now made h =
       subst (λ (s : PlanStep). StepAt l best latest cells scratch at f s → MovesDone now s) (sym is) (λ s.
-      subst (λ (w : Option WaitingPut). IfSome (put_operation bank next w) (λ it. Performs places it Done f g → MovesOn l w Done new now scratch at g)) (sym waits)
+      subst (λ (w : Option WaitingPut). IfSome (put_operation bank next w) (λ it. Performs places it Done f g → PlanMovesOn l w Done new now scratch at g)) (sym waits)
       (λ p. put_moves bank generation next later waiting s more next_is now made p.does)) h
 
 -- ---- the same point, named otherwise
@@ -497,13 +497,13 @@ cell_read l bank generation done n first g plan cells scratch sized all is w =
 
 ready_waits : (plan : FlashPlan) (outcome : FlashOutcome) (bank generation next : ℕ) (put : Option WaitingPut) → put ≡ plan.put
     → IfSome (put_operation bank next put) (λ it. Fails it outcome) → (IsFailure (put_operation bank next put) outcome → ⊥)
-    → (fails_at plan put (Ready bank generation next)).put ≡ plan.put
+    → (fails_in_step plan put (Ready bank generation next)).put ≡ plan.put
 ready_waits plan outcome bank generation next None is x no_failure = refl
 ready_waits plan outcome bank generation next (Some put) is x no_failure = absurd (no_failure x)
 
 pub fail_waits : (banks : ℕ) (plan : FlashPlan) (outcome : FlashOutcome) (put : Option WaitingPut) (cells : CellList) (step : PlanStep) → put ≡ plan.put
     → IfSome (step_operation banks step put cells) (λ it. Fails it outcome) → (IsFailure (step_operation banks step put cells) outcome → ⊥)
-    → (fails_at plan put step).put ≡ plan.put
+    → (fails_in_step plan put step).put ≡ plan.put
 fail_waits banks plan outcome put cells (Heading bank) is x no_failure = absurd (no_failure x)
 fail_waits banks plan outcome put cells (Copied bank generation done) is x no_failure = absurd (no_failure x)
 fail_waits banks plan outcome put cells (Puts bank generation place) is x no_failure = absurd (no_failure x)
@@ -513,11 +513,11 @@ fail_waits banks plan outcome put cells (Copying bank generation done) is x no_f
 fail_waits banks plan outcome put cells (Ready bank generation next) is x no_failure = ready_waits plan outcome bank generation next put is x no_failure
 fail_waits banks plan outcome put cells (Ended end) is x no_failure = refl
 
-ready_taken : (plan : FlashPlan) (bank generation next : ℕ) (put : Option WaitingPut) → put ≢ None → (fails_at plan put (Ready bank generation next)).put ≡ None
+ready_taken : (plan : FlashPlan) (bank generation next : ℕ) (put : Option WaitingPut) → put ≢ None → (fails_in_step plan put (Ready bank generation next)).put ≡ None
 ready_taken plan bank generation next None ne = absurd (ne refl)
 ready_taken plan bank generation next (Some put) ne = refl
 
-pub fail_taken : (plan : FlashPlan) (put : Option WaitingPut) (step : PlanStep) → put_at step put ≢ None → (fails_at plan put step).put ≡ None
+pub fail_taken : (plan : FlashPlan) (put : Option WaitingPut) (step : PlanStep) → put_at step put ≢ None → (fails_in_step plan put step).put ≡ None
 fail_taken plan put (Heading bank) ne = absurd (ne refl)
 fail_taken plan put (Copied bank generation done) ne = absurd (ne refl)
 fail_taken plan put (Puts bank generation place) ne = absurd (ne refl)

@@ -14,10 +14,10 @@ use Rattle.flash_plan.specs.declared.plans.PlanStep.TheVariants.{Heading, Copied
 use Rattle.flash_plan.specs.declared.plans.PlanEnd.TheVariants.{NoStore}
 use Rattle.flash_plan.specs.declared.plans.FlashPlan.{FlashPlan}
 use Rattle.flash_plan.specs.declared.operations.Operation.{Operation}
-use Rattle.flash_plan.specs.Performing.{Performs, IsInside}
+use Rattle.flash_plan.specs.Performing.{Performs, IsWithinFlash}
 use Rattle.flash_plan.specs.Plans.{IsIdleStep, put_in}
-use Rattle.flash_plan.specs.Standing.{MovesBy, MovesOn, StepAt, StandsAt}
-use Rattle.flash_plan.specs.Turns.{Turn, Turns, deed_in, puts_in, IsLived, TurnsTo}
+use Rattle.flash_plan.specs.Standing.{MovesBy, PlanMovesOn, StepAt, StandsAt}
+use Rattle.flash_plan.specs.Turns.{Turn, PlanTurns, deed_in, puts_in, IsLived, TurnsTo}
 
 -- deeds that change no cell, before others
 possible_quiet : (ds es : List FlashDeed) (a c : CellList) → ChangesNoCell ds → Possible (ds ++ es) a c → Possible es a c
@@ -49,7 +49,7 @@ record AllLived (l : FlashLayout) (turns : List Turn) (a b : FlashMachine) : Typ
   lives : FlashLives l deeds a b
   same : (x z : CellList) → Possible deeds x z → Possible (puts_in turns) x z
 
-all_lived : (l : FlashLayout) (turns : List Turn) (a b : FlashMachine) → Turns l turns a b → AllLived l turns a b
+all_lived : (l : FlashLayout) (turns : List Turn) (a b : FlashMachine) → PlanTurns l turns a b → AllLived l turns a b
 all_lived l [] a b is = record { deeds = []; lives = is; same = λ x z p. p }
 all_lived l (turn ∷ turns) a b t =
     let one = turn_lived l [] turn.put turn.outcome a t.0 t.1.0 in
@@ -60,16 +60,16 @@ all_lived l (turn ∷ turns) a b t =
       same = λ x z p. possible_deed turn.put turn.outcome rest.deeds (puts_in turns) rest.same x z (one.same rest.deeds x z p);
     }
 
-pub turns_lived : (l : FlashLayout) (turns : List Turn) (a b : FlashMachine) → Turns l turns a b → IsLived l a b
+pub turns_lived : (l : FlashLayout) (turns : List Turn) (a b : FlashMachine) → PlanTurns l turns a b → IsLived l a b
 turns_lived l turns a b t = let all = all_lived l turns a b t in record { deeds = all.deeds; lives = all.lives }
 
-pub turns_formatted : (l : FlashLayout) (turns : List Turn) (cells now : CellList) (a b : FlashMachine) → FlashFormatted l cells a → Turns l turns a b → IsReadyFlash b now
+pub turns_formatted : (l : FlashLayout) (turns : List Turn) (cells now : CellList) (a b : FlashMachine) → FlashFormatted l cells a → PlanTurns l turns a b → IsReadyFlash b now
     → Possible (puts_in turns) cells now
 turns_formatted l turns cells now a b formatted t is =
     let all = all_lived l turns a b t in all.same cells now (formatted_lives l all.deeds cells now a b formatted all.lives is)
 
 pub turns_later : (l : FlashLayout) (earlier turns : List Turn) (first cells now : CellList) (start a b : FlashMachine) → FlashFormatted l first start
-    → Turns l earlier start a → IsReadyFlash a cells → Turns l turns a b → IsReadyFlash b now → Possible (puts_in turns) cells now
+    → PlanTurns l earlier start a → IsReadyFlash a cells → PlanTurns l turns a b → IsReadyFlash b now → Possible (puts_in turns) cells now
 turns_later l earlier turns first cells now start a b formatted before is t later =
     let old = all_lived l earlier start a before in
     let all = all_lived l turns a b t in
@@ -92,7 +92,7 @@ pub idle_ready : (l : FlashLayout) (plan : FlashPlan) (cells scratch : CellList)
 idle_ready l plan cells scratch at f idle h = idle_step l plan cells scratch at f plan.step idle h
 
 pub has_store : (l : FlashLayout) (turns : List Turn) (first : CellList) (start : FlashMachine) (plan : FlashPlan) (cells scratch : CellList) (at : FlashMachine) (f : Flash)
-    → FlashFormatted l first start → Turns l turns start at → StandsAt l plan cells scratch at f → plan.step ≡ Ended NoStore → ⊥
+    → FlashFormatted l first start → PlanTurns l turns start at → StandsAt l plan cells scratch at f → plan.step ≡ Ended NoStore → ⊥
 has_store l turns first start plan cells scratch at f formatted t h is =
     let none = subst (λ (s : PlanStep). StepAt l plan.best plan.latest cells scratch at f s) is h in
     let all = all_lived l turns start at t in
@@ -100,8 +100,8 @@ has_store l turns first start plan cells scratch at f formatted t h is =
 
 -- ---- one turn more
 
-turns_snoc : (l : FlashLayout) (turns : List Turn) (put : Option WaitingPut) (outcome : FlashOutcome) (a b c : FlashMachine) → Turns l turns a b → MovesBy l put outcome b c
-    → Turns l (turns ++ record { put = put; outcome = outcome } ∷ []) a c
+turns_snoc : (l : FlashLayout) (turns : List Turn) (put : Option WaitingPut) (outcome : FlashOutcome) (a b c : FlashMachine) → PlanTurns l turns a b → MovesBy l put outcome b c
+    → PlanTurns l (turns ++ record { put = put; outcome = outcome } ∷ []) a c
 turns_snoc l [] put outcome a b c is m = (c, (subst (λ (x : FlashMachine). MovesBy l put outcome x c) is m, refl))
 turns_snoc l (turn ∷ turns) put outcome a b c t m = (t.0, (t.1.0, turns_snoc l turns put outcome t.0 b c t.1.1 m))
 
@@ -114,9 +114,9 @@ stands_as banks banks' n n' plan cells scratch at f e h s =
     subst (λ z. StandsAt (layout z n') plan cells scratch at f) (sym e) (subst (λ z. StandsAt (layout banks z) plan cells scratch at f) (sym h) s)
 
 moves_as : (banks banks' n n' : ℕ) (put : Option WaitingPut) (outcome : FlashOutcome) (plan : FlashPlan) (cells scratch : CellList) (at : FlashMachine) (f : Flash) → banks' ≡ banks → n' ≡ n
-    → MovesOn (layout banks' n') put outcome plan cells scratch at f → MovesOn (layout banks n) put outcome plan cells scratch at f
+    → PlanMovesOn (layout banks' n') put outcome plan cells scratch at f → PlanMovesOn (layout banks n) put outcome plan cells scratch at f
 moves_as banks banks' n n' put outcome plan cells scratch at f e h m =
-    subst (λ z. MovesOn (layout z n) put outcome plan cells scratch at f) e (subst (λ z. MovesOn (layout banks' z) put outcome plan cells scratch at f) h m)
+    subst (λ z. PlanMovesOn (layout z n) put outcome plan cells scratch at f) e (subst (λ z. PlanMovesOn (layout banks' z) put outcome plan cells scratch at f) h m)
 
 pub if_some : (o : Option Operation) (P : Operation → Type 0) (operation : Operation) → o ≡ Some operation → IfSome o P → P operation
 if_some o P operation is h = subst (λ (z : Option Operation). IfSome z P) is h
@@ -124,11 +124,11 @@ if_some o P operation is h = subst (λ (z : Option Operation). IfSome z P) is h
 module _ (banks banks' n n' places : ℕ) (plan new : FlashPlan) (cells scratch now rest : CellList) (f g : Flash) (outcome : FlashOutcome) (o : Option Operation) (operation : Operation)
     (e : banks' ≡ banks) (h : n' ≡ n) (is : o ≡ Some operation) (p : Performs places operation outcome f g)
     (steps : (at : FlashMachine) (f g : Flash) → StandsAt (layout banks' n') plan cells scratch at f
-    → IfSome o (λ it. Performs places it outcome f g → MovesOn (layout banks' n') (put_in plan) outcome new now rest at g)) where
+    → IfSome o (λ it. Performs places it outcome f g → PlanMovesOn (layout banks' n') (put_in plan) outcome new now rest at g)) where
   pub turns_more : (from : FlashMachine) → TurnsTo (layout banks n) plan cells scratch from f → TurnsTo (layout banks n) new now rest from g
   turns_more from t =
       let m = moves_as banks banks' n n' (put_in plan) outcome new now rest t.at g e h
-      (if_some o (λ it. Performs places it outcome f g → MovesOn (layout banks' n') (put_in plan) outcome new now rest t.at g) operation is
+      (if_some o (λ it. Performs places it outcome f g → PlanMovesOn (layout banks' n') (put_in plan) outcome new now rest t.at g) operation is
       (steps t.at f g (stands_as banks banks' n n' plan cells scratch t.at f e h t.stands)) p) in
       record {
         turns = t.turns ++ record { put = put_in plan; outcome = outcome } ∷ [];
@@ -137,5 +137,5 @@ module _ (banks banks' n n' places : ℕ) (plan new : FlashPlan) (cells scratch 
         stands = m.stands;
       }
 
-pub inside_as : (banks banks' places places' : ℕ) (operation : Operation) → banks' ≡ banks → places' ≡ places → IsInside banks' places' operation → IsInside banks places operation
-inside_as banks banks' places places' operation e h i = subst (λ z. IsInside z places operation) e (subst (λ z. IsInside banks' z operation) h i)
+pub inside_as : (banks banks' places places' : ℕ) (operation : Operation) → banks' ≡ banks → places' ≡ places → IsWithinFlash banks' places' operation → IsWithinFlash banks places operation
+inside_as banks banks' places places' operation e h i = subst (λ z. IsWithinFlash z places operation) e (subst (λ z. IsWithinFlash banks' z operation) h i)

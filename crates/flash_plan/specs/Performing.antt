@@ -8,27 +8,27 @@ use Rattle.flash_plan.specs.declared.operations.FlashOutcome.{FlashOutcome}
 use Rattle.flash_plan.specs.declared.operations.FlashOutcome.TheVariants.{Answered, Done, Failed}
 
 -- An outcome that is none of the operation's own counts as a failure.
-abbrev pub Does : Operation → FlashOutcome → Flash → Flash → Type 0
-Does (Read bank place) (Answered answer) f g = LooksAt bank place answer f g
-Does (Read bank place) Done f g = SameFlash f g
-Does (Read bank place) Failed f g = SameFlash f g
-Does (Erase bank) (Answered answer) f g = CutsErase bank f g
-Does (Erase bank) Done f g = Erases bank f g
-Does (Erase bank) Failed f g = CutsErase bank f g
-Does (Program bank place line) (Answered answer) f g = CutsProgram bank place line f g
-Does (Program bank place line) Done f g = Programs bank place line f g
-Does (Program bank place line) Failed f g = CutsProgram bank place line f g
+abbrev pub DoesOperation : Operation → FlashOutcome → Flash → Flash → Type 0
+DoesOperation (Read bank place) (Answered answer) f g = LooksAt bank place answer f g
+DoesOperation (Read bank place) Done f g = SameFlash f g
+DoesOperation (Read bank place) Failed f g = SameFlash f g
+DoesOperation (Erase bank) (Answered answer) f g = CutsErase bank f g
+DoesOperation (Erase bank) Done f g = Erases bank f g
+DoesOperation (Erase bank) Failed f g = CutsErase bank f g
+DoesOperation (Program bank place line) (Answered answer) f g = CutsProgram bank place line f g
+DoesOperation (Program bank place line) Done f g = Programs bank place line f g
+DoesOperation (Program bank place line) Failed f g = CutsProgram bank place line f g
 
 -- the flash has so many places in a bank
 pub record Performs (places : ℕ) (operation : Operation) (outcome : FlashOutcome) (f g : Flash) : Type 0 where
-  pub does : Does operation outcome f g
+  pub does : DoesOperation operation outcome f g
   pub behind : BlankBehind places g
 
 -- it is one of a flash of these sizes
-abbrev pub IsInside : ℕ → ℕ → Operation → Type 0
-IsInside banks places (Read bank place) = (bank < banks) × (place < places)
-IsInside banks places (Erase bank) = bank < banks
-IsInside banks places (Program bank place line) = (bank < banks) × (place < places)
+abbrev pub IsWithinFlash : ℕ → ℕ → Operation → Type 0
+IsWithinFlash banks places (Read bank place) = (bank < banks) × (place < places)
+IsWithinFlash banks places (Erase bank) = bank < banks
+IsWithinFlash banks places (Program bank place line) = (bank < banks) × (place < places)
 
 -- only a blank place is programmed
 abbrev pub MayBegin : Operation → Flash → Type 0

@@ -129,19 +129,19 @@ abbrev pub put_in : FlashPlan → Option WaitingPut
 put_in plan = put_at plan.step plan.put
 
 -- a plan whose next operation failed
-abbrev pub fails_at : FlashPlan → Option WaitingPut → PlanStep → FlashPlan
-fails_at plan put (Heading bank) = record plan { step = Ended end_failed; put = None }
-fails_at plan put (Copied bank generation done) = record plan { step = Ended end_failed; put = None }
-fails_at plan put (Puts bank generation place) = record plan { step = Ended end_failed; put = None }
-fails_at plan put (Free bank generation next place) = record plan { step = Ended end_failed; put = None }
-fails_at plan put (Erasing bank generation) = record plan { step = Ended end_failed; put = None }
-fails_at plan put (Copying bank generation done) = record plan { step = Ended end_failed; put = None }
-fails_at plan None (Ready bank generation next) = plan
-fails_at plan (Some waiting) (Ready bank generation next) = record plan { step = Ended end_failed; put = None }
-fails_at plan put (Ended end) = plan
+abbrev pub fails_in_step : FlashPlan → Option WaitingPut → PlanStep → FlashPlan
+fails_in_step plan put (Heading bank) = record plan { step = Ended end_failed; put = None }
+fails_in_step plan put (Copied bank generation done) = record plan { step = Ended end_failed; put = None }
+fails_in_step plan put (Puts bank generation place) = record plan { step = Ended end_failed; put = None }
+fails_in_step plan put (Free bank generation next place) = record plan { step = Ended end_failed; put = None }
+fails_in_step plan put (Erasing bank generation) = record plan { step = Ended end_failed; put = None }
+fails_in_step plan put (Copying bank generation done) = record plan { step = Ended end_failed; put = None }
+fails_in_step plan None (Ready bank generation next) = plan
+fails_in_step plan (Some waiting) (Ready bank generation next) = record plan { step = Ended end_failed; put = None }
+fails_in_step plan put (Ended end) = plan
 
 abbrev pub failed_plan : FlashPlan → FlashPlan
-failed_plan plan = fails_at plan plan.put plan.step
+failed_plan plan = fails_in_step plan plan.put plan.step
 
 -- an outcome by which an operation has failed
 abbrev pub Fails : Operation → FlashOutcome → Type 0
@@ -171,12 +171,12 @@ ReadsAt (Ready bank generation next) = ⊥
 ReadsAt (Ended end) = ⊥
 
 -- an erase or a program comes next, or nothing and the plan is idle
-abbrev pub WritesAt : PlanStep → Type 0
-WritesAt (Heading bank) = ⊥
-WritesAt (Copied bank generation done) = ⊥
-WritesAt (Puts bank generation place) = ⊥
-WritesAt (Free bank generation next place) = ⊥
-WritesAt (Erasing bank generation) = Unit {0}
-WritesAt (Copying bank generation done) = Unit {0}
-WritesAt (Ready bank generation next) = Unit {0}
-WritesAt (Ended end) = ⊥
+abbrev pub ChangesAt : PlanStep → Type 0
+ChangesAt (Heading bank) = ⊥
+ChangesAt (Copied bank generation done) = ⊥
+ChangesAt (Puts bank generation place) = ⊥
+ChangesAt (Free bank generation next place) = ⊥
+ChangesAt (Erasing bank generation) = Unit {0}
+ChangesAt (Copying bank generation done) = Unit {0}
+ChangesAt (Ready bank generation next) = Unit {0}
+ChangesAt (Ended end) = ⊥

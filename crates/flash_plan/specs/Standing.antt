@@ -142,7 +142,7 @@ MovesBy l (Some put) Done a b = DoesFlashDeed l (puts put.cell put.payload) a b
 MovesBy l (Some put) Failed a b = DoesFlashDeed l (cuts_put put.cell put.payload) a b
 
 -- the plan stands at a point that is reached so
-pub record MovesOn (l : FlashLayout) (put : Option WaitingPut) (outcome : FlashOutcome) (plan : FlashPlan)
+pub record PlanMovesOn (l : FlashLayout) (put : Option WaitingPut) (outcome : FlashOutcome) (plan : FlashPlan)
     (cells scratch : CellList) (from : FlashMachine) (g : Flash) : Type 0 where
   pub at : FlashMachine
   pub moves : MovesBy l put outcome from at

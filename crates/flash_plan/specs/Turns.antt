@@ -15,9 +15,9 @@ pub record Turn : Type 0 where
   pub put : Option WaitingPut
   pub outcome : FlashOutcome
 
-abbrev pub Turns : FlashLayout → List Turn → FlashMachine → FlashMachine → Type 0
-Turns l [] a c = c ≡ a
-Turns l (turn ∷ turns) a c = (b : FlashMachine) × (MovesBy l turn.put turn.outcome a b × Turns l turns b c)
+abbrev pub PlanTurns : FlashLayout → List Turn → FlashMachine → FlashMachine → Type 0
+PlanTurns l [] a c = c ≡ a
+PlanTurns l (turn ∷ turns) a c = (b : FlashMachine) × (MovesBy l turn.put turn.outcome a b × PlanTurns l turns b c)
 
 -- the puts that were programmed in these turns, done or cut
 abbrev pub deed_in : Option WaitingPut → FlashOutcome → List FlashDeed
@@ -44,5 +44,5 @@ pub record IsStanding (l : FlashLayout) (plan : FlashPlan) (cells scratch : Cell
 pub record TurnsTo (l : FlashLayout) (plan : FlashPlan) (cells scratch : CellList) (from : FlashMachine) (g : Flash) : Type 0 where
   pub turns : List Turn
   pub at : FlashMachine
-  pub run : Turns l turns from at
+  pub run : PlanTurns l turns from at
   pub stands : StandsAt l plan cells scratch at g

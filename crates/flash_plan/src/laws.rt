@@ -12,10 +12,10 @@ ghost use Rattle.flash_plan.specs.declared.operations.FlashOutcome.{FlashOutcome
 ghost use Rattle.flash_plan.specs.declared.plans.FlashPlan.{FlashPlan};
 ghost use Rattle.flash_plan.specs.declared.plans.PlanEnd.TheVariants.{NoStore};
 ghost use Rattle.flash_plan.specs.declared.plans.PlanStep.TheVariants.{Ended};
-ghost use Rattle.flash_plan.specs.Performing.{Does};
+ghost use Rattle.flash_plan.specs.Performing.{DoesOperation};
 ghost use Rattle.flash_plan.specs.Plans.{IsIdle, Fails, operation_of, put_in};
 ghost use Rattle.flash_plan.specs.Standing.{plan_layout, StandsAt, MovesBy};
-ghost use Rattle.flash_plan.specs.Turns.{Turn, Turns, puts_in, IsLived};
+ghost use Rattle.flash_plan.specs.Turns.{Turn, PlanTurns, puts_in, IsLived};
 
 /// If the power goes between two operations, or within one, the machine is off at a point that it reaches: a put whose
 /// line was being programmed is cut, and nothing else changes a cell. A new plan then stands where the machine is off.
@@ -24,13 +24,13 @@ pub fn the_power_may_go()
         → StandsAt (plan_layout plan n) plan cells scratch at f → Goes (plan_layout plan n) at (machine f off) }
     ensures within { (n : ℕ) (plan : FlashPlan) (cells scratch : CellList) (at : FlashMachine) (f g : Flash)
         (outcome : FlashOutcome) → StandsAt (plan_layout plan n) plan cells scratch at f
-        → IfSome (operation_of plan cells) (λ it. Does it outcome f g → Fails it outcome
+        → IfSome (operation_of plan cells) (λ it. DoesOperation it outcome f g → Fails it outcome
         → MovesBy (plan_layout plan n) (put_in plan) outcome at (machine g off)) }
 {}
 
 /// A caller lives a life of `flash_laws`, over any number of power losses.
 pub fn a_caller_lives()
-    ensures { (l : FlashLayout) (turns : List Turn) (a b : FlashMachine) → Turns l turns a b → IsLived l a b }
+    ensures { (l : FlashLayout) (turns : List Turn) (a b : FlashMachine) → PlanTurns l turns a b → IsLived l a b }
 {}
 
 /// A put is there whole or not at all over all lives. The cells of an idle plan are what the puts that were done made
@@ -38,11 +38,11 @@ pub fn a_caller_lives()
 pub fn an_idle_plan_has_its_cells()
     ensures formatted { (n : ℕ) (turns : List Turn) (first : CellList) (start at : FlashMachine) (plan : FlashPlan)
         (cells scratch : CellList) (f : Flash) → FlashFormatted (plan_layout plan n) first start
-        → Turns (plan_layout plan n) turns start at → StandsAt (plan_layout plan n) plan cells scratch at f
+        → PlanTurns (plan_layout plan n) turns start at → StandsAt (plan_layout plan n) plan cells scratch at f
         → IsIdle plan → Possible (puts_in turns) first cells }
     ensures later { (n : ℕ) (earlier turns : List Turn) (first olds : CellList) (start a at : FlashMachine)
         (plan : FlashPlan) (cells scratch : CellList) (f : Flash) → FlashFormatted (plan_layout plan n) first start
-        → Turns (plan_layout plan n) earlier start a → IsReadyFlash a olds → Turns (plan_layout plan n) turns a at
+        → PlanTurns (plan_layout plan n) earlier start a → IsReadyFlash a olds → PlanTurns (plan_layout plan n) turns a at
         → StandsAt (plan_layout plan n) plan cells scratch at f → IsIdle plan → Possible (puts_in turns) olds cells }
 {}
 
@@ -50,6 +50,6 @@ pub fn an_idle_plan_has_its_cells()
 pub fn a_formatted_flash_has_a_store()
     ensures { (n : ℕ) (turns : List Turn) (first : CellList) (start at : FlashMachine) (plan : FlashPlan)
         (cells scratch : CellList) (f : Flash) → FlashFormatted (plan_layout plan n) first start
-        → Turns (plan_layout plan n) turns start at → StandsAt (plan_layout plan n) plan cells scratch at f
+        → PlanTurns (plan_layout plan n) turns start at → StandsAt (plan_layout plan n) plan cells scratch at f
         → plan.step ≡ Ended NoStore → ⊥ }
 {}

@@ -1,7 +1,7 @@
 //! Operations on a flash, and their outcomes.
 ghost use Rattle.std.specs.Prelude.{◌≡◌, ◌<◌};
 ghost use Rattle.flash_places.specs.State.{FlashRuns};
-ghost use Rattle.flash_plan.specs.Performing.{Performs, IsInside, MayBegin};
+ghost use Rattle.flash_plan.specs.Performing.{Performs, IsWithinFlash, MayBegin};
 
 use flash_places::{Answer, FlashDevice, FlashLine};
 
@@ -29,7 +29,7 @@ pub enum FlashOutcome {
 
 /// Performs an operation on a flash.
 pub fn perform<D: FlashDevice>(device: &mut D, operation: &Operation) -> FlashOutcome
-    requires inside { IsInside (D.state device.old).banks (D.state device.old).places operation.now }
+    requires inside { IsWithinFlash (D.state device.old).banks (D.state device.old).places operation.now }
     requires blank { MayBegin operation.now (D.state device.old).flash }
     ensures runs { FlashRuns (D.state device.old) (D.state device.new) }
     ensures performs { Performs (D.state device.old).places operation.now result (D.state device.old).flash

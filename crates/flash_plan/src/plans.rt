@@ -5,7 +5,7 @@ ghost use Rattle.flash_laws.specs.Logs.{CellList};
 ghost use Rattle.flash_laws.specs.Lives.{FlashMachine, off};
 ghost use Rattle.flash_log.specs.Going.{machine};
 ghost use Rattle.flash_log.specs.Taking.{last_generation};
-ghost use Rattle.flash_plan.specs.Performing.{IsInside, MayBegin};
+ghost use Rattle.flash_plan.specs.Performing.{IsWithinFlash, MayBegin};
 ghost use Rattle.flash_plan.specs.Plans.{IsPlanOf, StepFits, BestFits, IsIdle, IsFullAt, SameSizes, copy_operation, operation_of};
 ghost use Rattle.flash_plan.specs.Standing.{plan_layout, StandsAt};
 ghost use Rattle.flash_plan.specs.declared.plans.PlanPutFault.TheVariants.{NotIdle, Exhausted as put_exhausted};
@@ -190,7 +190,7 @@ impl FlashPlan {
     pub fn next(&self, cells: &[[u8; 32]]) -> Option<Operation>
         requires plan { IsPlanOf (length cells.now) self.now }
         ensures is { result ≡ operation_of self.now cells.now }
-        ensures inside { IfSome result (λ it. IsInside self.now.banks self.now.places it) }
+        ensures inside { IfSome result (λ it. IsWithinFlash self.now.banks self.now.places it) }
         ensures blank { (scratch : CellList) (at : FlashMachine) (f : Flash)
             → StandsAt (plan_layout self.now (length cells.now)) self.now cells.now scratch at f
             → IfSome result (λ it. MayBegin it f) }

@@ -5,8 +5,8 @@ ghost use Rattle.flash_laws.specs.Logs.{CellList};
 ghost use Rattle.flash_laws.specs.Lives.{FlashMachine};
 ghost use Rattle.flash_log.specs.Taking.{last_generation};
 ghost use Rattle.flash_plan.specs.Performing.{Performs};
-ghost use Rattle.flash_plan.specs.Plans.{IsPlanOf, SameSizes, KeepsPut, IsFailure, failed_plan, operation_of, put_in, step_programmed, ReadsAt, WritesAt};
-ghost use Rattle.flash_plan.specs.Standing.{plan_layout, StandsAt, MovesOn};
+ghost use Rattle.flash_plan.specs.Plans.{IsPlanOf, SameSizes, KeepsPut, IsFailure, failed_plan, operation_of, put_in, step_programmed, ReadsAt, ChangesAt};
+ghost use Rattle.flash_plan.specs.Standing.{plan_layout, StandsAt, PlanMovesOn};
 ghost use Rattle.flash_plan.specs.declared.operations.FlashOutcome.TheVariants.{Answered, Done};
 ghost use Rattle.flash_plan.specs.declared.plans.PlanEnd.TheVariants.{Failed as end_failed};
 ghost use Rattle.flash_plan.specs.declared.plans.PlanStep.TheVariants.{Ended};
@@ -52,7 +52,7 @@ impl FlashPlan {
 
     /// Whether an erase or a program comes next, or nothing and the plan is idle.
     fn writes(&self) -> bool
-        ensures { result ≡ true ↔ WritesAt self.now.step }
+        ensures { result ≡ true ↔ ChangesAt self.now.step }
     {
         match self.step {
             PlanStep::Heading { .. } => false,
@@ -77,7 +77,7 @@ impl FlashPlan {
         ensures steps { (at : FlashMachine) (f g : Flash)
             → StandsAt (plan_layout self.old (length cells.old)) self.old cells.old scratch.old at f
             → IfSome (operation_of self.old cells.old) (λ it. Performs self.old.places it (Answered answer) f g
-            → MovesOn (plan_layout self.old (length cells.old)) (put_in self.old) (Answered answer) self.new cells.new scratch.new at g) }
+            → PlanMovesOn (plan_layout self.old (length cells.old)) (put_in self.old) (Answered answer) self.new cells.new scratch.new at g) }
     {
         match self.step {
             PlanStep::Heading { bank } => self.after_head(cells, scratch, bank, answer),
@@ -104,7 +104,7 @@ impl FlashPlan {
     /// An erase or a program is done.
     fn did_change(&mut self, cells: &mut [[u8; 32]])
         requires plan { IsPlanOf (length cells.old) self.old }
-        requires writes { WritesAt self.old.step }
+        requires writes { ChangesAt self.old.step }
         ensures plan { IsPlanOf (length cells.old) self.new }
         ensures sizes { SameSizes self.old self.new }
         ensures not_failed { self.new.step ≢ Ended end_failed }
@@ -114,7 +114,7 @@ impl FlashPlan {
         ensures steps { (scratch : CellList) (at : FlashMachine) (f g : Flash)
             → StandsAt (plan_layout self.old (length cells.old)) self.old cells.old scratch at f
             → IfSome (operation_of self.old cells.old) (λ it. Performs self.old.places it (Done) f g
-            → MovesOn (plan_layout self.old (length cells.old)) (put_in self.old) (Done) self.new cells.new scratch at g) }
+            → PlanMovesOn (plan_layout self.old (length cells.old)) (put_in self.old) (Done) self.new cells.new scratch at g) }
     {
         match self.step {
             PlanStep::Erasing { bank, generation } => {
@@ -181,7 +181,7 @@ impl FlashPlan {
         ensures steps { (at : FlashMachine) (f g : Flash)
             → StandsAt (plan_layout self.old (length cells.old)) self.old cells.old scratch.old at f
             → IfSome (operation_of self.old cells.old) (λ it. Performs self.old.places it (outcome) f g
-            → MovesOn (plan_layout self.old (length cells.old)) (put_in self.old) (outcome) self.new cells.new scratch.new at g) }
+            → PlanMovesOn (plan_layout self.old (length cells.old)) (put_in self.old) (outcome) self.new cells.new scratch.new at g) }
         ensures none { operation_of self.old cells.old ≡ None → self.new ≡ self.old }
         ensures failed { self.new.step ≡ Ended end_failed → (self.old.step ≡ Ended end_failed)
             ⊎ IsFailure (operation_of self.old cells.old) outcome }

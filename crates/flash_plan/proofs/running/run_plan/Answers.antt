@@ -1,5 +1,5 @@
 use Rattle.std.proofs.Common.{[], length, refl, sym, subst, ◌∙◌, arith}
-use Rattle.flash_plan.specs.Performing.{Performs, IsInside, MayBegin}
+use Rattle.flash_plan.specs.Performing.{Performs, IsWithinFlash, MayBegin}
 use Rattle.flash_plan.specs.Plans.{IsPlanOf, operation_of}
 use Rattle.flash_plan.proofs.TurnLaws.{turns_more, inside_as, stands_as, if_some}
 use Rattle.flash_plan.proofs.running.run_plan.Goals as goal
@@ -24,7 +24,7 @@ perform-outcome-requires g c =
     record {
       inside = inside_as (g.D.FlashDevice.state c.loop.device).banks c.loop.plan.banks (g.D.FlashDevice.state c.loop.device).places c.loop.plan.places c.in-Some.operation
           (v.sizes.banks ∙ (c.requires.banks ∙ sym v.runs.banks)) (v.sizes.places ∙ (c.requires.places ∙ sym v.runs.places))
-          (if_some c.next.result (λ it. IsInside c.loop.plan.banks c.loop.plan.places it) c.in-Some.operation c.in-Some.is c.next.ensures.inside);
+          (if_some c.next.result (λ it. IsWithinFlash c.loop.plan.banks c.loop.plan.places it) c.in-Some.operation c.in-Some.is c.next.ensures.inside);
       blank = if_some c.next.result (λ it. MayBegin it (g.D.FlashDevice.state c.loop.device).flash) c.in-Some.operation c.in-Some.is
           (c.next.ensures.blank c.loop.scratch t.at (g.D.FlashDevice.state c.loop.device).flash
           (stands_as c.args.plan.now.banks c.loop.plan.banks (length c.args.cells.now) (length c.loop.cells) c.loop.plan c.loop.cells c.loop.scratch t.at (g.D.FlashDevice.state c.loop.device).flash
