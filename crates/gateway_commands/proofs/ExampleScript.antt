@@ -1,5 +1,5 @@
 -- The events of the worked example, computed
-use Rattle.std.specs.Prelude.{◌≡◌, ℕ, true, false, List, [], ◌∷◌, Option, None, Some, Result, Ok, Err, codes, replicate}
+use Rattle.std.specs.Prelude.{◌≡◌, ℕ, true, false, List, [], ◌∷◌, Option, None, Some, Result, Ok, codes, replicate}
 use Rattle.std.proofs.Common.{refl, sym, ◌∙◌, subst}
 use Rattle.basics.specs.Numbers.{number_of}
 use Rattle.hex.specs.Hex.{decode_pairs}
@@ -13,13 +13,10 @@ use Rattle.secoc_words.specs.KeyForms.{uid_form, flags_form}
 use Rattle.bus_machine.specs.declared.events.Event.{Event}
 use Rattle.bus_machine.specs.declared.events.Event.TheVariants.{Key, Inject}
 use Rattle.bus_config.specs.declared.node_lines.NodeLine.{NodeLine}
-use Rattle.bus_config.specs.Buses.{NamedBus, place_named}
+use Rattle.bus_config.specs.Buses.{place_named}
 use Rattle.bus_script.specs.EventKinds.{kind_of}
 use Rattle.bus_script.specs.EventForms.{own_events_of, uid_at, events_among, event_among, inject_of, key_event_of, event_uid_form}
-use Rattle.bus_programs.specs.Inputs.{BusInputs}
 use Rattle.gateway_commands.specs.declared.example.TheConstants.{SCRIPT}
-use Rattle.gateway_commands.specs.Inputs.{SetsGateway}
-use Rattle.gateway_commands.specs.Named.{IsExampleGateway}
 use Rattle.gateway_commands.specs.ExampleEvents.{AreReplay, ExampleReplays}
 
 -- the update, for a node at this place
