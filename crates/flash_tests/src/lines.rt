@@ -50,22 +50,28 @@ const LINES: [LineRow; 4] = [
     },
 ];
 
-/// Whether the line takes so many bytes, is written as these, and is read back; and whether it is none as soon as one
-/// of its bytes is another.
+/// Whether these bytes are those of the row, and are read as its line.
+fn is_row(row: &LineRow, bytes: &[u8]) -> bool
+    requires least { 44 ≤ length bytes.now }
+    requires most { length bytes.now ≤ 128 }
+{
+    let last = bytes.len() - 1;
+    bytes.len() == row.size
+        && &bytes[..43] == row.first
+        && bytes[43..last].iter().all(|byte| *byte == 0)
+        && bytes[last] == 0x96
+        && read_line(bytes) == Some(row.line)
+}
+
+/// Whether the line is written as these bytes, read back, and none as soon as one of its bits is another.
 fn agrees(row: &LineRow) -> bool {
     let Some(unit) = UnitSize::of(row.unit) else {
         return false;
     };
-    let size = unit.line_length();
     let mut room = [1; 128];
-    let bytes = &mut room[..size];
+    let bytes = &mut room[..unit.line_length()];
     line_bytes(&row.line, bytes);
-    size == row.size
-        && &bytes[..43] == row.first
-        && bytes[43..size - 1].iter().all(|byte| *byte == 0)
-        && bytes[size - 1] == 0x96
-        && read_line(bytes) == Some(row.line)
-        && is_none_if_changed(bytes)
+    is_row(row, bytes) && is_none_if_changed(bytes)
 }
 
 /// Whether no line is read if one bit of one byte is another.
