@@ -48,7 +48,7 @@ const ROWS: &[Row] = &[
         "123 6bc1 2b7e151628aed2a6abf7158809cf4f3c e93d7e1173931729 6 16 can0\n",
         LOG,
         "1 123 VERIFICATIONSUCCESS e93d7e117393172a bee22e409f96
-line 1 123 6bc1 accepted 1 failed 0 missed 16 last e93d7e117393172a
+line 1 123 6bc1 accepted 1 failed 0 missed 0 last e93d7e117393172a
 accepted 1
 failed 0
 unmapped 0
