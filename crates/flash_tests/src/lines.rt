@@ -57,7 +57,7 @@ fn is_row(row: &LineRow, bytes: &[u8]) -> bool
 {
     let last = bytes.len() - 1;
     bytes.len() == row.size
-        && &bytes[..43] == row.first
+        && bytes.starts_with(row.first)
         && bytes[43..last].iter().all(|byte| *byte == 0)
         && bytes[last] == 0x96
         && read_line(bytes) == Some(row.line)
