@@ -17,7 +17,6 @@ use Rattle.any_cells.specs.declared.looking.Found.{Found}
 use Rattle.any_cells.specs.declared.looking.Found.TheVariants.{Blank, Standing, Older, Foreign}
 use Rattle.any_cells.specs.Looking.{IsBlank, IsFound}
 use Rattle.any_cells.proofs.CallerLemmas.{found-once}
-use Rattle.store_keeping.specs.Keeping.{MayKeep}
 use Rattle.freshness_routes.specs.Config.{Config}
 use Rattle.bus_machine.specs.Node.{Node, Kept, Change, changed, powered}
 use Rattle.bus_machine.specs.Sound.{Sound}
@@ -168,7 +167,8 @@ mapped : {A B : Type 0} (f : A → B) (o : Option A) (y : B) → option_map f o 
 mapped f None y is = absurd (none-some y is)
 mapped f (Some x) y is = (x, refl, same_Some y (f x) (sym is))
 
-pub may_keep : (node : Node) (cells : List (List ℕ)) → MayKeep (node_keeping node) cells → FoundCells node cells
+pub may_keep : (node : Node) (cells : List (List ℕ)) → (cells ≡ (node_keeping node).cells) ⊎ ((node_keeping node).pending ≡ Some cells)
+    → FoundCells node cells
 may_keep node cells (inl as_before) = inl as_before
 may_keep node cells (inr made) = inr (mapped (λ (change : Change). CellsOf node.config (changed change node.kept)) node.pending cells made)
 

@@ -19,7 +19,7 @@ use Rattle.text_lines.proofs.CallerLemmas.{number_in_range, bind_ok, ok_some, fi
 use Rattle.hex.specs.Hex as hex
 use Rattle.hex.specs.Hex.{decode_sized}
 use Rattle.hex.proofs.HexLemmas.{decode_of-ok, decode_sized-ok, decode_sized-twice}
-use Rattle.basics.specs.Bytes.{IsBytes}
+use Rattle.memory_update.specs.Identifier.{IsUid}
 use Rattle.key_campaign.specs.declared.commands.LedgerCommand.{LedgerCommand}
 use Rattle.key_campaign.specs.declared.commands.LedgerCommand.TheVariants as command
 use Rattle.key_campaign.specs.Entries.{IsUnit}
@@ -36,17 +36,17 @@ each_byte : (bytes : List ℕ) → hex.IsBytes bytes → All (λ b. b < 256) byt
 each_byte [] h = All-nil (λ b. b < 256)
 each_byte (b ∷ bytes) h = All-cons (λ b. b < 256) b bytes (h 0) (each_byte bytes (λ i. h (suc i)))
 
--- what decodes to so many bytes is that many
-so_many_bytes : (n : ℕ) (word bytes : List ℕ) → result_ok (decode_sized word n) ≡ Some bytes → IsBytes n bytes
-so_many_bytes n word bytes h =
-    let is = ok_some (decode_sized word n) bytes h in
-    let len = decode_sized-ok word n bytes is in
-    let ok = decode_of-ok word bytes (sym (decode_sized-twice word n len) ∙ is) in
+-- what decodes to 15 bytes is an identifier
+decodes_to_uid : (word bytes : List ℕ) → result_ok (decode_sized word 15) ≡ Some bytes → IsUid bytes
+decodes_to_uid word bytes h =
+    let is = ok_some (decode_sized word 15) bytes h in
+    let len = decode_sized-ok word 15 bytes is in
+    let ok = decode_of-ok word bytes (sym (decode_sized-twice word 15 len) ∙ is) in
     let twice = ok.2 in
     record { size = omega arith; bytes = each_byte bytes ok.3 }
 
 -- an identifier that isn't zero
-some_unit : (o : Option (List ℕ)) (uid : List ℕ) → ((u : List ℕ) → o ≡ Some u → IsBytes 15 u) → option_and_then unless_zero o ≡ Some uid → IsUnit uid
+some_unit : (o : Option (List ℕ)) (uid : List ℕ) → ((u : List ℕ) → o ≡ Some u → IsUid u) → option_and_then unless_zero o ≡ Some uid → IsUnit uid
 some_unit None uid bytes h = cc h
 some_unit (Some u) uid bytes h = elim (cases_Bool (bytes_eq u (replicate 15 0))) [
   | inl zero ↦ absurd (let no : None ≡ Some uid = sym (ap (λ b. cond b None (Some u)) zero) ∙ h in cc)
@@ -61,7 +61,7 @@ some_unit (Some u) uid bytes h = elim (cases_Bool (bytes_eq u (replicate 15 0)))
 
 unit_of : (word uid : List ℕ) → engine_uid_form word ≡ Some uid → IsUnit uid
 unfolding engine_uid_form uid_form
-unit_of word uid h = some_unit (result_ok (decode_sized word 15)) uid (λ u is. so_many_bytes 15 word u is) h
+unit_of word uid h = some_unit (result_ok (decode_sized word 15)) uid (λ u is. decodes_to_uid word u is) h
 
 -- ---- the commands
 

@@ -7,8 +7,6 @@ use Rattle.key_slots.specs.declared.refusals.Erc.{Erc}
 use Rattle.key_slots.specs.declared.memory.Slot.{Slot}
 use Rattle.key_slots.specs.declared.usage.Purpose.TheVariants.{Mac}
 use Rattle.key_slots.specs.Usage.{usable}
-use Rattle.memory_update.specs.declared.messages.Request.{Request}
-use Rattle.secure_boot.specs.Booting.{is_good}
 use Rattle.freshness_routes.specs.declared.routes.Route.{Route}
 use Rattle.freshness_routes.specs.declared.routes.Direction.TheVariants.{Sends, Receives}
 use Rattle.freshness_routes.specs.Changes.{last_freshness}
@@ -65,7 +63,7 @@ send_harmless node id payload refusal e =
     let k : ℕ = place_of node id Sends in
     first_harmless
     (when (not node.up) Down ∷ when (not (has_route node id Sends)) NoRoute
-    ∷ sender_refusals node.kept.slots (is_good node.boot) (route_at node k) (counter_at node k) payload)
+    ∷ sender_refusals node.kept.slots _ (route_at node k) (counter_at node k) payload)
     refusal (
       when_harmless (not node.up) Down refl,
       (
@@ -73,7 +71,7 @@ send_harmless node id payload refusal e =
         (
           when_harmless (not (has_length 1 60 payload)) BadLength refl,
           (
-            mac_harmless node.kept.slots (is_good node.boot) (route_at node k),
+            mac_harmless node.kept.slots _ (route_at node k),
             (when_harmless (counter_at node k == last_freshness) Exhausted refl, tt),
           ),
         ),
@@ -86,20 +84,20 @@ receive_harmless node id pdu refusal e =
     let k : ℕ = place_of node id Receives in
     first_harmless
     (when (not node.up) Down ∷ when (not (has_route node id Receives)) NoRoute
-    ∷ receiver_refusals node.kept.slots (is_good node.boot) (route_at node k) pdu)
+    ∷ receiver_refusals node.kept.slots _ (route_at node k) pdu)
     refusal (
       when_harmless (not node.up) Down refl,
       (
         when_harmless (not (has_route node id Receives)) NoRoute refl,
         (
           when_harmless (not (has_length 5 64 pdu)) BadLength refl,
-          (mac_harmless node.kept.slots (is_good node.boot) (route_at node k), tt),
+          (mac_harmless node.kept.slots _ (route_at node k), tt),
         ),
       ),
     )
     e
 
-update_harmless : (node : Node) (request : Request) (refusal : Refusal) → RefusesUpdate node request refusal → refusal_turn refusal ≡ None
+update_harmless : (node : Node) (request : _) (refusal : Refusal) → RefusesUpdate node request refusal → refusal_turn refusal ≡ None
 update_harmless node request Down step = refl
 update_harmless node request (Key erc) step = refl
 update_harmless node request _ step = absurd step

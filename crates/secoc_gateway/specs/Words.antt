@@ -1,7 +1,6 @@
 -- The words in which the contracts of a gateway are written, from below and of this crate
 pub use Rattle.cut_disk.specs.Armed.{ArmsStop, ArmsFail}
 pub use Rattle.cell_store.specs.Reading.{CutAndRead}
-pub use Rattle.secure_boot.specs.Booting.{IsImage}
 pub use Rattle.memory_update.specs.declared.messages.Update.{Update}
 pub use Rattle.memory_update.specs.Messages.{Builds}
 pub use Rattle.freshness_routes.specs.declared.routes.Direction.TheVariants.{Sends, Receives}
@@ -11,6 +10,7 @@ pub use Rattle.bus_machine.specs.Sound.{Sound}
 pub use Rattle.bus_machine.specs.Steps.{receives, loads, keys, boots, cuts, NodeStep}
 pub use Rattle.bus_machine.specs.Bus.{SentLine}
 pub use Rattle.bus_machine.specs.Honest.{IsInTime, IsHeard}
+pub use Rattle.secoc_node.specs.Words.{IsImage}
 pub use Rattle.secoc_node.specs.State.{FitsNow, TellsFitting, IsCovered, Served}
 pub use Rattle.secoc_node.specs.Powering.{ComesUp, StaysDown}
 pub use Rattle.secoc_node.specs.Lines.{received_line, loaded_line, keyed_line, boot_line, cut_line}
