@@ -2,8 +2,7 @@
 //! pieces.
 use crate::blocks::{block, schedule};
 use crate::comparing::holds;
-use basics::Block;
-use she_cmac::{Mac, cmac, cmac_of_parts};
+use she_cmac::{Block, Mac, cmac, cmac_of_parts};
 
 const KEY: u128 = 0x2b7e1516_28aed2a6_abf71588_09cf4f3c;
 

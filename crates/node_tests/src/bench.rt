@@ -5,11 +5,10 @@ ghost use Rattle.any_cells.specs.Either.{any_state};
 
 use crate::comparing::{holds, same};
 use any_cells::AnyCells;
-use basics::Block;
 use cell_store::{Cells, CutCells, Kind, Version};
 use cut_disk::{MemDisk, Torn};
 use freshness_manager::{Direction, NodeConfig, Route};
-use key_slots::{Counter28, Flags, SlotId};
+use key_slots::{Block, Counter28, Flags, SlotId};
 use memory_update::{Request, Uid, Update, build};
 use secoc_node::{Node, NodeFault, first_cells};
 use secoc_receiver::Reception;

@@ -4,12 +4,11 @@ ghost use Rattle.cell_store.specs.Store.{FewCells};
 ghost use Rattle.any_cells.specs.Either.{any_state};
 
 use any_cells::AnyCells;
-use basics::Block;
 use cell_store::{Kind, Version};
 use cut_disk::MemDisk;
-use freshness_routes::Direction;
+use freshness_manager::Direction;
 use freshness_store::bound_bytes;
-use key_slots::{Counter28, Flags, Slot, SlotId};
+use key_slots::{Block, Counter28, Flags, Slot, SlotId};
 use slot_disk::slot_bytes;
 use std::alloc::Global;
 use std::test::Fail;

@@ -4,7 +4,7 @@ ghost use Rattle.std.specs.Prelude.{◌≡◌, length, false};
 use crate::engine_bench::{UID, store_with};
 use crate::{engines, receptions, sends, slots};
 use cell_store::CutCells;
-use freshness_routes::Direction;
+use freshness_manager::Direction;
 use memory_update::Uid;
 use she_engine::Engine;
 use std::alloc::Global;

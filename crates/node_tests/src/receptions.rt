@@ -1,15 +1,14 @@
 // One reception over a twin store in memory: a PDU that is accepted, and the bound that a fault tells. The PDUs were
 // made by OpenSSL's CMAC.
 ghost use Rattle.std.specs.Prelude.{◌≡◌, false, length, IfOk};
-ghost use Rattle.freshness_routes.specs.declared.routes.Direction.TheVariants.{Receives};
+ghost use Rattle.secoc_receiver.specs.Words.{Receives};
 ghost use Rattle.freshness_manager.specs.Counters.{KeepsBound};
 
 use crate::comparing::same;
 use crate::engine_bench::{ID, slot, store_with};
 use crate::engine_lives::{Act, Life, live};
 use cell_store::{Cells, CutCells};
-use freshness_manager::Rx;
-use freshness_routes::{Direction, Route};
+use freshness_manager::{Direction, Route, Rx};
 use freshness_store::read_bound;
 use secoc_receiver::*;
 use she_engine::Engine;

@@ -1,15 +1,14 @@
 // One send over a twin store in memory: a PDU that OpenSSL's CMAC made, a route that no bus file has, and the bound
 // that a fault tells.
 ghost use Rattle.std.specs.Prelude.{◌≡◌, false, length, IfOk};
-ghost use Rattle.freshness_routes.specs.declared.routes.Direction.TheVariants.{Sends};
+ghost use Rattle.secoc_node.specs.Words.{Sends};
 ghost use Rattle.freshness_manager.specs.Counters.{KeepsBound};
 
 use crate::comparing::same;
 use crate::engine_bench::{ID, slot};
 use crate::engine_lives::{Act, Life, live};
 use cell_store::{Cells, CutCells};
-use freshness_manager::Tx;
-use freshness_routes::{Direction, Route};
+use freshness_manager::{Direction, Route, Tx};
 use freshness_store::read_bound;
 use key_slots::Erc;
 use secoc_sender::*;

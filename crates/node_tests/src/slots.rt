@@ -6,7 +6,7 @@ use crate::comparing::holds;
 use crate::engine_bench::{filled, slot};
 use crate::engine_lives::{Act, Life, live};
 use cell_store::Cells;
-use freshness_routes::Direction;
+use freshness_manager::Direction;
 use key_slots::Slot;
 use slot_disk::*;
 use std::process::Abort;

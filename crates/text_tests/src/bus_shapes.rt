@@ -2,8 +2,7 @@
 use bus_config::{BusConfig, Name, NodeLine};
 use cell_store::{Kind, Version};
 use freshness_routes::{Direction, NodeConfig, Route};
-use key_slots::SlotId;
-use memory_update::Uid;
+use memory_update::{SlotId, Uid};
 use std::alloc::Global;
 
 fn routes_of(alloc: Global, routes: &[(u16, Direction)]) -> Option<Vec<Route>> {

@@ -4,7 +4,7 @@ use crate::comparing::holds;
 use basics::Pdu;
 use bus_machine::{Line, Refusal};
 use bus_script::write_line;
-use key_slots::SlotId;
+use memory_update::SlotId;
 use std::alloc::Global;
 
 /// Whether the text of a line is added.

@@ -1,7 +1,7 @@
 //! Pairs that a gateway doesn't take.
 use crate::comparing::holds;
 use crate::gateway_bench::{SHAPES, Way, node};
-use freshness_manager::Direction;
+use freshness_routes::Direction;
 use secoc_gateway::Gateway;
 use std::alloc::Global;
 use std::test::Fail;

@@ -1,7 +1,7 @@
 //! Worked runs of gateways.
 use crate::gateway_bench::{Act, Answer, EMPTY, KEY, Row, SHAPES, Way, plays};
 use cut_disk::Torn;
-use freshness_manager::Direction;
+use freshness_routes::Direction;
 use key_slots::Erc;
 use secoc_node::NodeFault;
 use std::test::Fail;
