@@ -106,7 +106,8 @@ class Pointers:
         for to, to_at in self.to(function, it.operands[0][1]):
             for source, at in self.to(function, it.operands[1][1]):
                 for low, found in list(self.fields.get(source, {}).items()):
-                    if size is None or at[1] or low[1] or at[0] <= low[0] < at[0] + size:
+                    # of unknown size it may reach any byte behind its source, and none before it
+                    if at[1] or low[1] or (at[0] <= low[0] and (size is None or low[0] < at[0] + size)):
                         self.hold(to, moved(moved(to_at, low[0] - at[0], low[1]), 0, at[1]), set(found))
 
     def call(self, function, it, callee):
