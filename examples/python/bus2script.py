@@ -9,12 +9,29 @@ A bus has at most ten keys: a map with more is a ValueError. A script has at mos
 """
 import re
 import sys
+from collections.abc import Iterator
+from dataclasses import dataclass
 
 FRAME = re.compile(r"([0-9A-Fa-f]{3}|[0-9A-Fa-f]{8})#(?:#[0-9A-Fa-f])?((?:[0-9A-Fa-f]{2})*)")
 AUTHORISES_AN_EMPTY_SLOT = "f" * 32
 
 
-def words_before_comments(path):
+@dataclass
+class MapLine:
+    """A line of the map, with its node and the slot of its key."""
+
+    can: str
+    data_id: str
+    key: str
+    start: str
+    size: int
+    window: str
+    channel: str
+    node: str
+    slot: int
+
+
+def words_before_comments(path: str) -> Iterator[tuple[int, list[str]]]:
     """The number and the words of each line that has some."""
     with open(path, encoding="utf-8", errors="surrogateescape") as text:
         for number, line in enumerate(text, 1):
@@ -24,41 +41,40 @@ def words_before_comments(path):
                 yield number, words[:kept]
 
 
-def read_map(path):
-    """The lines of a map, each with its node and the slot of its key."""
-    lines, slots = [], {}
+def read_map(path: str) -> list[MapLine]:
+    """The lines of a map."""
+    lines: list[MapLine] = []
+    slots: dict[str, int] = {}
     for _, words in words_before_comments(path):
         if words[-1] == "optional":
             del words[-1]
         can, data_id, key, fresh, length, window, channel = (words + ["256", "-"][len(words) - 5 :])[:7]
         data_id, key = data_id.lower(), key.lower()
-        node = sum(line["id"] == data_id for line in lines)
+        node = sum(line.data_id == data_id for line in lines)
         slot = slots.setdefault(key, len(slots) + 4)
         if slot > 13:
             raise ValueError(f"{path}: more than ten keys")
-        lines.append(
-            {"can": can.lower(), "id": data_id, "key": key, "start": fresh.lower(), "size": int(length),
-             "window": window, "channel": channel, "node": f"bench{node + 1}", "slot": slot}
-        )
+        name = f"bench{node + 1}"
+        lines.append(MapLine(can.lower(), data_id, key, fresh.lower(), int(length), window, channel, name, slot))
     return lines
 
 
-def write_bus(lines, path):
+def write_bus(lines: list[MapLine], path: str) -> None:
     """A bus file with a route for each line of the map."""
-    nodes = list(dict.fromkeys(line["node"] for line in lines))
+    nodes = list(dict.fromkeys(line.node for line in lines))
     with open(path, "w", encoding="utf-8") as bus:
         bus.write('store = "twin"\nversion = 1\n')
         for number, node in enumerate(nodes, 1):
             bus.write(f'\n[[node]]\nname = "{node}"\nuid = "{number:030x}"\n')
-            for line in (line for line in lines if line["node"] == node):
-                bus.write(f'\n[[node.route]]\nid = "{line["id"]}"\ndirection = "receive"\nslot = {line["slot"]}\n')
-                bus.write(f'window = {line["window"]}\nstart = "{line["start"]}"\n')
+            for line in (line for line in lines if line.node == node):
+                bus.write(f'\n[[node.route]]\nid = "{line.data_id}"\ndirection = "receive"\nslot = {line.slot}\n')
+                bus.write(f'window = {line.window}\nstart = "{line.start}"\n')
 
 
-def write_script(lines, log, path):
+def write_script(lines: list[MapLine], log: str, path: str) -> None:
     """The keys, and an event for each mapped frame, under the number of its line in the log."""
     with open(path, "w", encoding="utf-8", errors="surrogateescape") as script:
-        for node, slot, key in dict.fromkeys((line["node"], line["slot"], line["key"]) for line in lines):
+        for node, slot, key in dict.fromkeys((line.node, line.slot, line.key) for line in lines):
             script.write(f"key {node} - {slot} {slot} {AUTHORISES_AN_EMPTY_SLOT} 1 00010 {key}\n")
         for number, words in words_before_comments(log):
             frame = FRAME.fullmatch(words[2]) if len(words) > 2 else None
@@ -67,15 +83,15 @@ def write_script(lines, log, path):
             heard = (
                 line
                 for line in lines
-                if line["can"] == frame[1].lower() and line["channel"] in ("-", words[1])
+                if line.can == frame[1].lower() and line.channel in ("-", words[1])
             )
             line = next(heard, None)
             if line:
-                pdu = frame[2][: 2 * (line["size"] + 4)].lower() or "-"
-                script.write(f"# {number}\ninject {line['node']} {line['id']} {pdu}\n")
+                pdu = frame[2][: 2 * (line.size + 4)].lower() or "-"
+                script.write(f"# {number}\ninject {line.node} {line.data_id} {pdu}\n")
 
 
-def main(words):
+def main(words: list[str]) -> int:
     if len(words) != 4:
         print("usage: bus2script.py MAP LOG BUS SCRIPT", file=sys.stderr)
         return 2
