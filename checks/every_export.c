@@ -303,7 +303,8 @@ static void grow(void) {
     add_number(told);
     it.cell = (uint16_t)(RATHONSI_SLOT_CELLS + ROUTES - (one_in(6) ? 1u : 0u));
     it.data_id++;
-    status(rathonsi_store_grow(&it, freshness(), image, one_in(8) ? SIZE : SIZE + 2 * MORE, &plan));
+    const uint64_t bound = freshness(); /* the arguments of a call are evaluated in any order */
+    status(rathonsi_store_grow(&it, bound, image, one_in(8) ? SIZE : SIZE + 2 * MORE, &plan));
     add_plan();
     if (plan.writes[2].offset == 10) memset(&plan, 0, sizeof plan);
 }
