@@ -25,7 +25,7 @@
  *   - The freshness sent under a Data ID strictly rises. So does the freshness accepted. Both stay
  *     at most the bound on the device. This holds across a software update that adds a route.
  *   - After a receiver took an answer of its sender, it accepts what the sender sends after the
- *     answer, within its window. Without the key nobody moves a counter.
+ *     answer, within its window. An answer that somebody made without the key moves no counter.
  *   - An update that was confirmed stays in its slot, and the same reply confirms it. This lasts
  *     until another update of the slot is done, or is planned when the power goes or all begins
  *     again.
@@ -43,7 +43,8 @@
  *   - A store has one image, one plan and one task at a time. Several stores share nothing: each
  *     has its own.
  *   - A Data ID in one direction has one cell and one route. No other route uses the cell.
- *     rathonsi_routes_open sees to it.
+ *     rathonsi_routes_open sees to it, if one call gets all routes of the store.
+ *   - An open route is not filled in with another Data ID, direction or cell.
  *   - A route has the same Data ID, direction and cell in every life. Slot, window, reserve and
  *     booted may change. The caller zeroes opened at power-up, and never sets it.
  *   - While a plan is pending, routes send and receive as before. A new plan answers RATHONSI_BUSY.
@@ -56,9 +57,9 @@
  *     synced before it is read. Otherwise what a failed write left may be read, relied on, and then
  *     be gone.
  *   - After each power-up the caller opens every route, with RATHONSI_OK, before any other call of
- *     this header except rathonsi_store_size, rathonsi_store_check, rathonsi_store_look,
- *     rathonsi_store_grow and rathonsi_store_done. A route that was zeroed and not opened is
- *     refused, and so is one whose last opening failed.
+ *     this header that takes a route or changes the image. Exceptions are rathonsi_store_grow and
+ *     rathonsi_store_done, the states, the boot, and the loads of a unit that sends nothing yet. A
+ *     route that was zeroed and not opened is refused, and so is one whose last opening failed.
  *   - booted of a route, and of rathonsi_slot_load, is what rathonsi_boot or rathonsi_boot_finish
  *     said in this life, else 0. It says what a boot loader that the caller trusts gave to it.
  *
@@ -229,10 +230,10 @@ typedef struct RathonsiRoute {
      * and not sent. It makes a receiver refuse what is reserved and not accepted. */
     uint16_t reserve;
     /* How far above its counter a receiver accepts freshness, 1 to 256. A receiver falls behind by
-     * what its sender sends while it is down (rate times seconds), and by what the sender skips
-     * (its reserve, once for each power cut). If that is more than the window, it accepts nothing
-     * until it takes an answer of the sender: see rathonsi_sync_take. The window plays no part for
-     * a route that sends. */
+     * what its sender sends while it is down (rate times seconds), and by what the sender skips at
+     * its power cuts (what is reserved and not sent). If that is more than the window, it accepts
+     * nothing until it takes an answer of the sender: see rathonsi_sync_take. The window plays no
+     * part for a route that sends. */
     uint16_t window;
     /* The slot of its key, 4 to 13. */
     uint8_t slot;
@@ -312,24 +313,25 @@ int32_t rathonsi_store_size(const uint8_t head[32], uint32_t *size);
  * nobody's. The bound is 0, unless a counter is taken over. The plan's last write is the number of
  * cells in the header.
  *
- * It is called at power-up, before the routes are opened, until the plan stays empty. The plan
- * stays empty if the store has this cell already. After a power cut the same call, on the bytes
- * that the device holds, goes on. If the cut left another number of cells, the call finds both
- * copies of the cell as it wrote them, and plans the number alone. More routes are more calls, in
- * the order of their cells.
+ * It is called at power-up, before the routes are opened, until the plan stays empty. The caller
+ * asks rathonsi_store_size first: a store that has as many routes as the software, or more, doesn't
+ * grow. The plan stays empty if the store has this cell already. After a power cut the same call,
+ * on the bytes that the device holds, goes on. If the cut left another number of cells, the call
+ * finds both copies of the cell as it wrote them, and plans the number alone. More routes are more
+ * calls, in the order of their cells.
  *
  * image is what the device holds, with room for this cell and one more. What lies there after the
- * store is no cell: zero bytes or ff, say, as in place of bytes that the device hasn't. For if the
- * cell after this one is there, the store has more cells, or is to get them. Then the call plans
- * nothing. So the store of newer software stays as it is, and so does one whose number of cells
- * was cut as a later cell was added.
+ * store is erased: all bytes 00, or all ff, as in place of bytes that the device hasn't. If the 68
+ * bytes after this cell are neither, the store has more cells, or is to get them, or a cell of it
+ * is damaged. Then the call plans nothing. So the store of newer software stays as it is, and so
+ * does one whose number of cells was cut as a later cell was added.
  * RATHONSI_BUSY.
  * RATHONSI_BAD_VALUE: a number of the route is outside its range.
  * RATHONSI_BAD_LENGTH: image_length is below RATHONSI_STORE_SIZE(cell - RATHONSI_SLOT_CELLS + 2), or
  * the cell is above 269.
- * RATHONSI_NO_STORE: the image is no store that ends before this cell, or has it, or would but for
- * its number of cells.
- * RATHONSI_WRONG_CELL, RATHONSI_DAMAGED: the store has this cell, and rathonsi_route_open has
+ * RATHONSI_NO_STORE: the image is no store of this layout. Or its number of cells is wrong, and this
+ * cell isn't as the call wrote it.
+ * RATHONSI_WRONG_CELL, RATHONSI_DAMAGED: nothing is to be planned, and rathonsi_route_open has
  * these. */
 RATHONSI_CHECKED
 int32_t rathonsi_store_grow(const RathonsiRoute *route, uint64_t bound, const uint8_t *image, size_t image_length,
@@ -380,8 +382,8 @@ int32_t rathonsi_route_reserve(const RathonsiRoute *route, uint64_t freshness, c
 
 /* Does what rathonsi_route_reserve does, however far ahead the freshness is. Its plan done, the
  * caller opens the route anew: rathonsi_route_open moves the counter to the bound. So a unit that
- * is put in place of another one goes on above the freshness of that one. So does a receiver after
- * RATHONSI_RESERVE of rathonsi_sync_take.
+ * is put in place of another one goes on above the freshness of that one. A receiver that does this
+ * after RATHONSI_RESERVE of rathonsi_sync_take doesn't open the route anew: it makes that call again.
  * RATHONSI_BUSY.
  * RATHONSI_BAD_VALUE: a number of the route is outside its range, or the route isn't open.
  * RATHONSI_WRONG_CELL, RATHONSI_DAMAGED: as for rathonsi_route_open. */
@@ -476,7 +478,8 @@ RathonsiVerdict rathonsi_sync_take(RathonsiRoute *route, const uint8_t *image, s
  * the input of the MAC, the unit has its hardware make the MAC, and gives it back. Bounds and
  * counters are kept as ever; slots of the image aren't read. What is promised of PDUs then speaks
  * of the MACs that came: that they are the key's is the caller's word. rathonsi_route_send and
- * rathonsi_route_receive are these two steps with the library's own CMAC. */
+ * rathonsi_route_receive are these two steps with the library's own CMAC. Answers to a nonce have no
+ * two steps: rathonsi_sync_answer and rathonsi_sync_take need the key in the store. */
 
 /* What the MAC of a PDU covers: length bytes, 11 to 70. */
 typedef struct RathonsiInput {

@@ -237,6 +237,29 @@ static void torn_counts_of_two(void) {
     expect(wrong, 0, "two: numbers that weren't put right");
 }
 
+/* A store has the cells of two new routes, and the second one's is damaged, in any bit or whole: the first one's growth plans nothing. */
+static void damaged_after_it(void) {
+    RathonsiRoute first = route_of(ROUTES), second = route_of(ROUTES + 1);
+    uint8_t *cell = image + 32 + 68 * second.cell;
+    long wrong = 0;
+    begin();
+    grows(&first, ROOM, RATHONSI_OK, "damaged: a cell");
+    expect(rathonsi_store_done(image, ROOM, &plan), RATHONSI_OK, "damaged: done");
+    grows(&second, ROOM, RATHONSI_OK, "damaged: another cell");
+    expect(rathonsi_store_done(image, ROOM, &plan), RATHONSI_OK, "damaged: done again");
+    for (unsigned bit = 0; bit < 68 * 8; bit++) {
+        cell[bit / 8] ^= (uint8_t)(1u << bit % 8);
+        wrong += rathonsi_store_grow(&first, 6, image, ROOM, &plan) != RATHONSI_OK;
+        wrong += memcmp(&plan, &no_plan, sizeof plan) != 0;
+        cell[bit / 8] ^= (uint8_t)(1u << bit % 8);
+    }
+    expect(wrong, 0, "damaged: a bit");
+    gates_closed(second.cell);
+    grows(&first, ROOM, RATHONSI_OK, "damaged: whole");
+    same(&plan, &no_plan, sizeof plan, "damaged: nothing is planned");
+    grows(&second, ROOM, RATHONSI_DAMAGED, "damaged: it is told");
+}
+
 /* ---- A nonce ---- */
 
 static void answers(int32_t status, const char *what) {
@@ -444,6 +467,7 @@ int main(void) {
     grow();
     torn_counts();
     torn_counts_of_two();
+    damaged_after_it();
     answer_nonce();
     two_steps();
     pieces();

@@ -29,7 +29,7 @@ pub record GoesSo (r : RathonsiRoute) (bound : ℕ) (image : List ℕ) (growth :
   pub ranges : InRanges r direction
   pub is : IsGrowth image r.cell (bound_cell r.data_id direction bound) growth
 
--- what a store that has the cell already answers
+-- what it answers if the cell is to be planned, or its number; and if nothing is
 abbrev pub HasCellAnswers : RathonsiRoute → ℕ → List ℕ → ℤ → Type 0
 HasCellAnswers r bound image status =
     ((GoesSo r bound image Before ⊎ GoesSo r bound image Counting) × IsDone status)
@@ -47,7 +47,7 @@ GrowAnswers r bound image plan status =
     (IfCause (OutOfRanges r) BAD_VALUE
     (IfCause (¬ RoomToGrow r.cell image) BAD_LENGTH (StateAnswers r bound image))) status
 
--- the store has the cell, and it keeps a bound of the route: nothing is planned
+-- the image has the cell, and it keeps a bound of the route: nothing is planned
 abbrev pub PlansNothing : RathonsiRoute → List ℕ → Direction → Plan → Plan → Type 0
 PlansNothing r image direction old new =
     (new ≡ old) × ((kept : ℕ) × ImageBound image r.cell r.data_id direction kept)

@@ -1,5 +1,5 @@
 -- What a growth of a store leaves of its header and its cells, if the power goes within it.
-use Rattle.std.proofs.Common.{◌≡◌, ◌≢◌, ℕ, zero, suc, ◌+◌, ◌≤◌, ◌⊎◌, inl, inr, Some, None, List, length, take, refl, sym, ap, subst, ◌∙◌, arith, rules}
+use Rattle.std.proofs.Common.{◌≡◌, ◌≢◌, ℕ, zero, suc, ◌+◌, ◌≤◌, ◌⊎◌, inl, inr, Some, List, length, take, refl, sym, ap, subst, ◌∙◌, arith, rules}
 use Rattle.std.proofs.lemmas.Bool.{cases_Bool, cases_lt, false≢true}
 use Rattle.std.proofs.lemmas.List.{places, same_lists, ext_get_or}
 use Rattle.std.proofs.lemmas.Slice.Eq.{bytes_eq-Decides}
@@ -17,7 +17,7 @@ use Rattle.store_plan.specs.declared.growing.Growth.{Growth}
 use Rattle.store_plan.specs.declared.growing.Growth.TheVariants.{Before, Counting, After, Beyond}
 use Rattle.store_plan.specs.declared.planning.Plan.{Plan}
 use Rattle.store_plan.specs.Plans.{CutWithin, in_first, in_second, in_third, applied, applied_write}
-use Rattle.store_plan.specs.Growing.{IsGrowth, NoGrowth, PlansGrowth, PlansCount, PlansFor, HasHeadButCount, HasFreshCell, with_number, GrowsTo, Grew}
+use Rattle.store_plan.specs.Growing.{IsGrowth, NoGrowth, PlansGrowth, PlansCount, PlansFor, HasHeadButCount, HasFreshCell, IsErasedAfter, with_number, GrowsTo, Grew}
 use Rattle.store_plan.proofs.GatedLaws.{no_bytes, splice-at, splice-empty}
 use Rattle.store_plan.proofs.CutLaws.{at-place, same-all}
 use Rattle.store_plan.proofs.MakingLaws.{cell_beside}
@@ -59,11 +59,11 @@ none-but-count x i c room not_new not_head Counting h = not_head h.2
 none-but-count x i c room not_new not_head After h = not_new h
 none-but-count x i c room not_new not_head Beyond h = not_head h.1
 
-pub none-there : (x : List ℕ) (i : ℕ) (c : List ℕ) → ¬ Head (i + 1) x → cell_at x (i + 1) ≡ None → ¬ Head i x → ¬ HasFreshCell x i c → NoGrowth x i c
-none-there x i c not_new none not_old not_fresh Before h = not_old h.0
-none-there x i c not_new none not_old not_fresh Counting h = not_fresh h.3
-none-there x i c not_new none not_old not_fresh After h = not_new h
-none-there x i c not_new none not_old not_fresh Beyond h = h.2 none
+pub none-there : (x : List ℕ) (i : ℕ) (c : List ℕ) → ¬ Head (i + 1) x → IsErasedAfter x i → ¬ Head i x → ¬ HasFreshCell x i c → NoGrowth x i c
+none-there x i c not_new erased not_old not_fresh Before h = not_old h.0
+none-there x i c not_new erased not_old not_fresh Counting h = not_fresh h.3
+none-there x i c not_new erased not_old not_fresh After h = not_new h
+none-there x i c not_new erased not_old not_fresh Beyond h = h.2 erased
 
 -- what is written over a place doesn't depend on what stood there
 splice-over : (at : ℕ) (new x y : List ℕ) → at + length new ≤ length x → SameOutside at (length new) x y → splice at new y ≡ splice at new x
@@ -97,6 +97,13 @@ beside_count x y j s =
 fresh-beside_count : (x y : List ℕ) (i : ℕ) (c : List ℕ) → SameOutside 10 2 x y → HasFreshCell x i c → HasFreshCell y i c
 fresh-beside_count x y i c s h = part-same (first_at i) 68 10 2 x y s (inr (omega arith)) ∙ h
 
+-- what is erased stays so
+still-erased : (x y : List ℕ) (i : ℕ) → part (first_at (i + 1)) 68 y ≡ part (first_at (i + 1)) 68 x → IsErasedAfter x i → IsErasedAfter y i
+still-erased x y i same erased = elim erased [ inl zeros ↦ inl (same ∙ zeros) | inr ones ↦ inr (same ∙ ones) ]
+
+erased-beside_count : (x y : List ℕ) (i : ℕ) → SameOutside 10 2 x y → IsErasedAfter x i → IsErasedAfter y i
+erased-beside_count x y i s erased = still-erased x y i (part-same (first_at (i + 1)) 68 10 2 x y s (inr (omega arith))) erased
+
 -- ---- how far it went
 
 -- the old header stands, or the number is another, or the new header stands, with the new cell
@@ -105,22 +112,22 @@ Left y i c = IsGrowth y i c Before ⊎ (IsGrowth y i c Counting ⊎ (IsGrowth y 
 
 module _ (i : ℕ) (c : List ℕ) (sized : length c ≡ 32) where
   -- the new cell is there, and a number
-  sorted : (y : List ℕ) → HasHeadButCount y (i + 1) → HasFreshCell y i c → cell_at y (i + 1) ≡ None → Left y i c
-  sorted y head fresh none =
+  sorted : (y : List ℕ) → HasHeadButCount y (i + 1) → HasFreshCell y i c → IsErasedAfter y i → Left y i c
+  sorted y head fresh erased =
       elim (decide-head (i + 1) y) [
         | inl new ↦ inr (inr (new, cell_at-fresh y i c sized fresh))
-        | inr not_new ↦ elim (decide-head i y) [ inl old ↦ inl (old, none) | inr not_old ↦ inr (inl (not_old, not_new, head, fresh, none)) ]
+        | inr not_new ↦ elim (decide-head i y) [ inl old ↦ inl (old, erased) | inr not_old ↦ inr (inl (not_old, not_new, head, fresh, erased)) ]
       ]
 
   module _ (x : List ℕ) (room : twin_size (i + 1) ≤ length x) where
     -- a change of the new cell alone
     still-before : (y : List ℕ) → SameOutside (first_at i) 68 x y → IsGrowth x i c Before → IsGrowth y i c Before
-    still-before y s h = (head-kept x y (first_at i) 68 i (omega arith) s h.0, cell_beside x y i (i + 1) s (λ e. omega arith) ∙ h.1)
+    still-before y s h = (head-kept x y (first_at i) 68 i (omega arith) s h.0, still-erased x y i (part-same (first_at (i + 1)) 68 (first_at i) 68 x y s (inr (omega arith))) h.1)
 
     -- a change of the number alone
-    sorted-after : (y : List ℕ) → SameOutside 10 2 x y → HasHeadButCount x (i + 1) → HasFreshCell x i c → cell_at x (i + 1) ≡ None → Left y i c
-    sorted-after y s head fresh none =
-        sorted y (but-count (i + 1) x y (omega arith) s head) (fresh-beside_count x y i c s fresh) (beside_count x y (i + 1) s ∙ none)
+    sorted-after : (y : List ℕ) → SameOutside 10 2 x y → HasHeadButCount x (i + 1) → HasFreshCell x i c → IsErasedAfter x i → Left y i c
+    sorted-after y s head fresh erased =
+        sorted y (but-count (i + 1) x y (omega arith) s head) (fresh-beside_count x y i c s fresh) (erased-beside_count x y i s erased)
 
     wide : length (fresh_cell c) ≡ 68
     wide = length-fresh_cell c sized
@@ -178,7 +185,7 @@ module _ (i : ℕ) (c : List ℕ) (sized : length c ≡ 32) where
         | in_second s ↦ inl (still-before y (cut-second y s) h)
         | in_third s ↦ (let b = still-before made made-same h in
             sorted y (but-count (i + 1) made y (let l = made-long in omega arith) (cut-third y s) (head-counted i (i + 1) made (let l = made-long in omega arith) b.0))
-            (fresh-beside_count made y i c (cut-third y s) made-fresh) (beside_count made y (i + 1) (cut-third y s) ∙ b.1))
+            (fresh-beside_count made y i c (cut-third y s) made-fresh) (erased-beside_count made y i (cut-third y s) b.1))
       ]
 
       pub growth-others : (y : List ℕ) → CutWithin plan x y → (j : ℕ) → j ≢ i → cell_at y j ≡ cell_at x j

@@ -1,11 +1,11 @@
 -- A twin store of version 1 that gets a cell more at its end: its two copies are written behind the end, and then the
 -- number of cells in the header.
-use Rattle.std.specs.Prelude.{◌≡◌, ◌≢◌, ℕ, zero, suc, ◌+◌, ◌⊎◌, None, List}
+use Rattle.std.specs.Prelude.{◌≡◌, ℕ, zero, suc, ◌+◌, ◌⊎◌, List, replicate}
 use Rattle.basics.specs.Numbers.{bytes_of}
 use Rattle.cut_disk.specs.Images.{splice}
 use Rattle.cell_store.specs.declared.kinds.Version.TheVariants.{One}
 use Rattle.cell_store.specs.Layout.{twin_layout, part}
-use Rattle.cell_store.specs.Twin.{first_at, second_at, cell_at, live_copy, fresh_cell}
+use Rattle.cell_store.specs.Twin.{first_at, second_at, live_copy, fresh_cell}
 use Rattle.cell_store.specs.Store.{HasHeader}
 use Rattle.store_plan.specs.declared.growing.Growth.{Growth}
 use Rattle.store_plan.specs.declared.growing.Growth.TheVariants.{Before, Counting, After, Beyond}
@@ -28,6 +28,10 @@ HasHeadButCount x n = HasHeader (twin_layout One) n (with_number n x)
 abbrev pub HasFreshCell : List ℕ → ℕ → List ℕ → Type 0
 HasFreshCell x i c = part (first_at i) 68 x ≡ fresh_cell c
 
+-- the bytes of x where a cell after cell i would stand are as an erase leaves them
+abbrev pub IsErasedAfter : List ℕ → ℕ → Type 0
+IsErasedAfter x i = (part (first_at (i + 1)) 68 x ≡ replicate 68 0) ⊎ (part (first_at (i + 1)) 68 x ≡ replicate 68 0xff)
+
 -- what comes of x if it gets cell i, of this payload, at its end
 unfoldable pub grown : ℕ → List ℕ → List ℕ → List ℕ
 grown i c x = with_number (i + 1) (splice (first_at i) (fresh_cell c) x)
@@ -47,15 +51,16 @@ pub record PlansCount (plan : Plan) (n : ℕ) : Type 0 where
   pub rests : RestsAreZero plan
 
 -- How far x went that gets cell i, of this payload. The old header stands, or the new one, or the new cell and a header
--- that is the new one but for its number: and there is no cell after it. If there is one, x went further.
+-- that is the new one but for its number: and what is after the new cell is erased. If it isn't, x went further, or is
+-- damaged.
 abbrev pub IsGrowth : List ℕ → ℕ → List ℕ → Growth → Type 0
-IsGrowth x i c Before = HasHeader (twin_layout One) i x × (cell_at x (i + 1) ≡ None)
+IsGrowth x i c Before = HasHeader (twin_layout One) i x × IsErasedAfter x i
 IsGrowth x i c Counting =
     (¬ HasHeader (twin_layout One) i x) × (¬ HasHeader (twin_layout One) (i + 1) x)
-    × HasHeadButCount x (i + 1) × HasFreshCell x i c × (cell_at x (i + 1) ≡ None)
+    × HasHeadButCount x (i + 1) × HasFreshCell x i c × IsErasedAfter x i
 IsGrowth x i c After = HasHeader (twin_layout One) (i + 1) x
 IsGrowth x i c Beyond =
-    (¬ HasHeader (twin_layout One) (i + 1) x) × HasHeadButCount x (i + 1) × (cell_at x (i + 1) ≢ None)
+    (¬ HasHeader (twin_layout One) (i + 1) x) × HasHeadButCount x (i + 1) × (¬ IsErasedAfter x i)
 
 -- x is none of these
 abbrev pub NoGrowth : List ℕ → ℕ → List ℕ → Type 0

@@ -1,14 +1,15 @@
 // A store that gets a cell more at its end: the plan, and how far an image says that it went.
-ghost use Rattle.std.specs.Prelude.{◌≡◌, ◌≢◌, ◌+◌, ◌<◌, ◌≤◌, ◌↔◌, ℕ, length, None, IsTrue, MatchBool, MatchOption};
+ghost use Rattle.std.specs.Prelude.{◌≡◌, ◌+◌, ◌<◌, ◌≤◌, ◌↔◌, ℕ, length, IsTrue, MatchOption};
 ghost use Rattle.cell_store.specs.declared.kinds.Version.TheVariants.{One};
 ghost use Rattle.cell_store.specs.Layout.{twin_layout, header};
-ghost use Rattle.cell_store.specs.Twin.{twin_size, cell_at};
+ghost use Rattle.cell_store.specs.Twin.{twin_size};
 ghost use Rattle.cell_store.specs.Store.{FewCells};
 ghost use Rattle.store_plan.specs.Plans.{PlanFits};
-ghost use Rattle.store_plan.specs.Growing.{PlansGrowth, PlansCount, HasHeadButCount, HasFreshCell, IsGrowth, NoGrowth};
+ghost use Rattle.store_plan.specs.Growing.{PlansGrowth, PlansCount, HasHeadButCount, HasFreshCell, IsErasedAfter};
+ghost use Rattle.store_plan.specs.Growing.{IsGrowth, NoGrowth};
 
 use crate::images::{LAYOUT, has_head};
-use crate::planning::{Plan, Write, cell_held, write_of};
+use crate::planning::{Plan, Write, write_of};
 use cell_store::{fresh_cell, is_header, pair_place};
 
 /// How far a store went that gets a cell more at its end.
@@ -20,12 +21,13 @@ pub enum Growth {
     Counting,
     /// Its header has the new number of cells.
     After,
-    /// A cell after the new one is there, whatever the number of cells is.
+    /// After the new cell's place the bytes aren't erased: another cell is or was there, whatever the number of cells is.
     Beyond,
 }
 
 /// How far the image is with this cell, which begins with this payload; none if it is no store, or one of other cells.
-/// The image goes on for a cell after it: if that one is there, the store has more cells than this, or is to get them.
+/// The image goes on for a cell after it. If these bytes aren't erased, all 00 or all ff, the store has more cells than
+/// this, or is to get them, also if that cell is damaged.
 pub fn growth_of(image: &[u8], cell: u16, payload: &[u8; 32]) -> Option<Growth>
     requires few { cell < 1024 }
     requires room { twin_size (cell + 2) ≤ length image.now }
@@ -37,7 +39,7 @@ pub fn growth_of(image: &[u8], cell: u16, payload: &[u8; 32]) -> Option<Growth>
     if !has_head_but_count(image, cell + 1) {
         return None;
     }
-    if has_cell(image, cell + 1) {
+    if !is_erased_after(image, cell) {
         return Some(Growth::Beyond);
     }
     if has_head(image, cell) {
@@ -49,12 +51,17 @@ pub fn growth_of(image: &[u8], cell: u16, payload: &[u8; 32]) -> Option<Growth>
     None
 }
 
-// Whether a copy of this cell counts.
-fn has_cell(image: &[u8], cell: u16) -> bool
-    requires { twin_size (cell + 1) ≤ length image.now }
-    ensures { MatchBool result (cell_at image.now cell ≢ None) (cell_at image.now cell ≡ None) }
+// Whether the bytes where a cell after this one would stand are as an erase leaves them: all 00, or all ff.
+fn is_erased_after(image: &[u8], cell: u16) -> bool
+    requires few { cell < 1024 }
+    requires room { twin_size (cell + 2) ≤ length image.now }
+    ensures { IsTrue result ↔ IsErasedAfter image.now cell }
 {
-    cell_held(image, cell).is_ok()
+    let at = pair_place(cell + 1) as usize;
+    if image[at..at + 68] == [0; 68][..] {
+        return true;
+    }
+    image[at..at + 68] == [0xff; 68][..]
 }
 
 // Whether the image has the header of a store of so many cells, but for its count.

@@ -96,18 +96,44 @@ fn a_write_of_no_byte_may_stand_anywhere(rt: HostRuntime) {
     holds(&rt, "is_within", is_within(&plan, 168));
 }
 
-/// A number of cells in the header of a store of one cell that got another, whether a third one is there, and how far
-/// the store went.
-const NUMBERS: [(u16, bool, Option<Growth>); 8] = [
-    (1, false, Some(Growth::Before)),
-    (2, false, Some(Growth::After)),
-    (0, false, Some(Growth::Counting)),
-    (3, false, Some(Growth::Counting)),
-    (0xffff, false, Some(Growth::Counting)),
-    (1, true, Some(Growth::Beyond)),
-    (3, true, Some(Growth::Beyond)),
-    (0xffff, true, Some(Growth::Beyond)),
+/// What is after the second cell of a store.
+#[derive(Clone, Copy)]
+enum Behind {
+    Zeros,
+    Ones,
+    Cell,
+    Damaged,
+}
+
+/// A number of cells in the header of a store of one cell that got another, what is after that one, and how far the
+/// store went.
+const NUMBERS: [(u16, Behind, Option<Growth>); 11] = [
+    (1, Behind::Zeros, Some(Growth::Before)),
+    (2, Behind::Zeros, Some(Growth::After)),
+    (0, Behind::Zeros, Some(Growth::Counting)),
+    (3, Behind::Ones, Some(Growth::Counting)),
+    (0xffff, Behind::Ones, Some(Growth::Counting)),
+    (1, Behind::Ones, Some(Growth::Before)),
+    (1, Behind::Cell, Some(Growth::Beyond)),
+    (3, Behind::Cell, Some(Growth::Beyond)),
+    (0xffff, Behind::Cell, Some(Growth::Beyond)),
+    (3, Behind::Damaged, Some(Growth::Beyond)),
+    (1, Behind::Damaged, Some(Growth::Beyond)),
 ];
+
+/// Puts it there: of the damaged cell no copy counts.
+fn put_behind(image: &mut [u8; 236], behind: Behind) {
+    match behind {
+        Behind::Zeros => (),
+        Behind::Ones => image[168..].fill(0xff),
+        Behind::Cell => make_cell(image, 2, &ELEVENS),
+        Behind::Damaged => {
+            make_cell(image, 2, &ELEVENS);
+            image[168] = 0xa7;
+            image[202] = 0xa7;
+        }
+    }
+}
 
 /// A store of one cell, which gets another, of elevens.
 fn grown(rt: &impl Abort, image: &mut [u8; 236]) {
@@ -130,12 +156,10 @@ fn count_at(image: &[u8; 236]) -> Option<u16> {
 
 #[test]
 fn a_growth_goes_as_far_as_header_and_cells_say(rt: HostRuntime) {
-    for (number, further, growth) in NUMBERS {
+    for (number, behind, growth) in NUMBERS {
         let mut image = [0; 236];
         grown(&rt, &mut image);
-        if further {
-            make_cell(&mut image, 2, &ELEVENS);
-        }
+        put_behind(&mut image, behind);
         image[10..12].copy_from_slice(&number.to_be_bytes());
         same(&rt, number, &growth_of(&image, 1, &ELEVENS), &growth);
     }
