@@ -16,9 +16,9 @@ use Rattle.flash_plan.specs.declared.operations.FlashOutcome.{FlashOutcome}
 use Rattle.flash_plan.specs.declared.operations.FlashOutcome.TheVariants.{Answered, Done, Failed}
 use Rattle.flash_plan.specs.declared.plans.WaitingPut.{WaitingPut}
 use Rattle.flash_plan.specs.declared.plans.PlanEnd.{PlanEnd}
-use Rattle.flash_plan.specs.declared.plans.PlanEnd.TheVariants.{NoStore, Exhausted, Failed as end_failed}
+use Rattle.flash_plan.specs.declared.plans.PlanEnd.TheVariants.{NoStore, Exhausted, Formatted, Failed as end_failed}
 use Rattle.flash_plan.specs.declared.plans.PlanStep.{PlanStep}
-use Rattle.flash_plan.specs.declared.plans.PlanStep.TheVariants.{Heading, Copied, Puts, Free, Erasing, Copying, Ready, Ended}
+use Rattle.flash_plan.specs.declared.plans.PlanStep.TheVariants.{Heading, Copied, Puts, Free, Erasing, Copying, Ready, Clearing, Filling, Ended}
 use Rattle.flash_plan.specs.declared.plans.FlashPlan.{FlashPlan}
 use Rattle.flash_plan.specs.Performing.{Performs, DoesOperation, MayBegin}
 use Rattle.flash_plan.specs.Plans.{put_operation, step_operation, put_in, put_at, step_after, step_programmed, IsFailure, Fails, failed_plan, fails_in_step, ReadsAt, ChangesAt}
@@ -32,6 +32,7 @@ ends_off : (l : FlashLayout) (cells : CellList) (at : FlashMachine) (f : Flash) 
 ends_off l cells at f NoStore h = subst (λ (m : FlashMachine). Goes l m (machine f off)) (sym h.is)
     (goes_one l cuts_scan _ _ (λ old new e. e, tt) (record { was = refl; read = h.reads.read; looks = h.reads.looks; now = refl }))
 ends_off l cells at f Exhausted h = subst (λ (m : FlashMachine). Goes l m (machine f off)) (sym h.is) (same_off l f f _ (λ x k. refl))
+ends_off l cells at f Formatted h = absurd h
 ends_off l cells at f end_failed h = subst (λ (m : FlashMachine). Goes l m (machine f off)) (sym h) (goes_none l (machine f off))
 
 pub step_off : (l : FlashLayout) (best : Best) (latest : List ℕ) (cells scratch : CellList) (at : FlashMachine) (f : Flash) (step : PlanStep)
@@ -47,6 +48,8 @@ step_off l best latest cells scratch at f (Free bank generation next place) h = 
 step_off l best latest cells scratch at f (Erasing bank generation) h = subst (λ (m : FlashMachine). Goes l m (machine f off)) (sym h.is) (same_off l f f _ (λ x k. refl))
 step_off l best latest cells scratch at f (Copying bank generation done) h = subst (λ (m : FlashMachine). Goes l m (machine f off)) (sym h.is) (same_off l f f _ (λ x k. refl))
 step_off l best latest cells scratch at f (Ready bank generation next) h = subst (λ (m : FlashMachine). Goes l m (machine f off)) (sym h.is) (same_off l f f _ (λ x k. refl))
+step_off l best latest cells scratch at f (Clearing bank) h = absurd h
+step_off l best latest cells scratch at f (Filling done) h = absurd h
 step_off l best latest cells scratch at f (Ended end) h = ends_off l cells at f end h
 
 -- ---- what is programmed is blank
@@ -70,6 +73,8 @@ step_may l best latest cells scratch at f put (Free bank generation next place) 
 step_may l best latest cells scratch at f put (Erasing bank generation) h = tt
 step_may l best latest cells scratch at f put (Copying bank generation done) h = copy_may l bank generation done cells at f h (nat_lt done (length cells))
 step_may l best latest cells scratch at f put (Ready bank generation next) h = put_may bank generation next cells at f put h
+step_may l best latest cells scratch at f put (Clearing bank) h = absurd h
+step_may l best latest cells scratch at f put (Filling done) h = absurd h
 step_may l best latest cells scratch at f put (Ended end) h = tt
 
 -- ---- an operation failed
@@ -153,6 +158,8 @@ module _ (l : FlashLayout) (best : Best) (latest : List ℕ) (cells scratch : Ce
   broken put (Copying bank generation done) h = λ d x. subst (λ (m : FlashMachine). Goes l m (machine g off)) (sym h.is)
       (copy_failed l bank generation done cells f g outcome h.most (nat_lt done (length cells)) refl d x)
   broken put (Ready bank generation next) h = ready_broken bank generation next put h
+  broken put (Clearing bank) h = absurd h
+  broken put (Filling done) h = absurd h
   broken put (Ended end) h = tt
 
 -- the plan has ended then
@@ -180,6 +187,8 @@ module _ (l : FlashLayout) (plan : FlashPlan) (cells scratch : CellList) (at : F
   fails_on put (Copying bank generation done) h = λ d x.
       record { at = machine g off; moves = broken l plan.best plan.latest cells scratch at f g outcome put (Copying bank generation done) h d x; stands = refl }
   fails_on put (Ready bank generation next) h = fails_ready bank generation next put h
+  fails_on put (Clearing bank) h = absurd h
+  fails_on put (Filling done) h = absurd h
   fails_on put (Ended end) h = tt
 
 -- an operation that counts as failed by this outcome, whatever it is
@@ -214,6 +223,8 @@ not_read banks put cells a (Free bank generation next place) other = absurd (oth
 not_read banks put cells a (Erasing bank generation) other = tt
 not_read banks put cells a (Copying bank generation done) other = copy_counts (next_bank banks bank) generation done cells a (nat_lt done (length cells))
 not_read banks put cells a (Ready bank generation next) other = put_counts bank next put a
+not_read banks put cells a (Clearing bank) other = tt
+not_read banks put cells a (Filling done) other = copy_counts 0 0 done cells a (nat_lt done (length cells))
 not_read banks put cells a (Ended end) other = tt
 
 pub not_written : (banks : ℕ) (put : Option WaitingPut) (cells : CellList) (step : PlanStep) → (ChangesAt step → ⊥)
@@ -225,6 +236,8 @@ not_written banks put cells (Free bank generation next place) other = tt
 not_written banks put cells (Erasing bank generation) other = absurd (other tt)
 not_written banks put cells (Copying bank generation done) other = absurd (other tt)
 not_written banks put cells (Ready bank generation next) other = absurd (other tt)
+not_written banks put cells (Clearing bank) other = absurd (other tt)
+not_written banks put cells (Filling done) other = absurd (other tt)
 not_written banks put cells (Ended end) other = tt
 
 -- a read that answered, and an erase or a program that is done, haven't failed
@@ -236,6 +249,8 @@ read_comes banks put cells (Free bank generation next place) reads e = cc
 read_comes banks put cells (Erasing bank generation) reads e = reads
 read_comes banks put cells (Copying bank generation done) reads e = reads
 read_comes banks put cells (Ready bank generation next) reads e = reads
+read_comes banks put cells (Clearing bank) reads e = reads
+read_comes banks put cells (Filling done) reads e = reads
 read_comes banks put cells (Ended end) reads e = reads
 
 pub read_fine : (banks : ℕ) (put : Option WaitingPut) (cells : CellList) (a : Answer) (step : PlanStep) → ReadsAt step → IsFailure (step_operation banks step put cells) (Answered a) → ⊥
@@ -246,6 +261,8 @@ read_fine banks put cells a (Free bank generation next place) reads x = x
 read_fine banks put cells a (Erasing bank generation) reads x = reads
 read_fine banks put cells a (Copying bank generation done) reads x = reads
 read_fine banks put cells a (Ready bank generation next) reads x = reads
+read_fine banks put cells a (Clearing bank) reads x = reads
+read_fine banks put cells a (Filling done) reads x = reads
 read_fine banks put cells a (Ended end) reads x = reads
 
 copy_fine : (bank generation done : ℕ) (cells : CellList) (b : Bool)
@@ -265,6 +282,8 @@ written_fine banks put cells (Free bank generation next place) writes x = writes
 written_fine banks put cells (Erasing bank generation) writes x = x
 written_fine banks put cells (Copying bank generation done) writes x = copy_fine (next_bank banks bank) generation done cells (nat_lt done (length cells)) x
 written_fine banks put cells (Ready bank generation next) writes x = put_fine bank next put x
+written_fine banks put cells (Clearing bank) writes x = x
+written_fine banks put cells (Filling done) writes x = copy_fine 0 0 done cells (nat_lt done (length cells)) x
 written_fine banks put cells (Ended end) writes x = writes
 
 -- the steps of one kind are these
@@ -277,20 +296,25 @@ reads_one (Free bank generation next place) reads a b c d = d bank generation ne
 reads_one (Erasing bank generation) reads a b c d = reads
 reads_one (Copying bank generation done) reads a b c d = reads
 reads_one (Ready bank generation next) reads a b c d = reads
+reads_one (Clearing bank) reads a b c d = reads
+reads_one (Filling done) reads a b c d = reads
 reads_one (Ended end) reads a b c d = reads
 
 pub writes_one : (step : PlanStep) → ChangesAt step → ((bank generation : ℕ) → step ≡ Erasing bank generation → ⊥) → ((bank generation done : ℕ) → step ≡ Copying bank generation done → ⊥)
-    → ((bank generation next : ℕ) → step ≡ Ready bank generation next → ⊥) → ⊥
-writes_one (Heading bank) writes a b c = writes
-writes_one (Copied bank generation done) writes a b c = writes
-writes_one (Puts bank generation place) writes a b c = writes
-writes_one (Free bank generation next place) writes a b c = writes
-writes_one (Erasing bank generation) writes a b c = a bank generation refl
-writes_one (Copying bank generation done) writes a b c = b bank generation done refl
-writes_one (Ready bank generation next) writes a b c = c bank generation next refl
-writes_one (Ended end) writes a b c = writes
+    → ((bank generation next : ℕ) → step ≡ Ready bank generation next → ⊥) → ((bank : ℕ) → step ≡ Clearing bank → ⊥)
+    → ((done : ℕ) → step ≡ Filling done → ⊥) → ⊥
+writes_one (Heading bank) writes a b c d e = writes
+writes_one (Copied bank generation done) writes a b c d e = writes
+writes_one (Puts bank generation place) writes a b c d e = writes
+writes_one (Free bank generation next place) writes a b c d e = writes
+writes_one (Erasing bank generation) writes a b c d e = a bank generation refl
+writes_one (Copying bank generation done) writes a b c d e = b bank generation done refl
+writes_one (Ready bank generation next) writes a b c d e = c bank generation next refl
+writes_one (Clearing bank) writes a b c d e = d bank refl
+writes_one (Filling done) writes a b c d e = e done refl
+writes_one (Ended end) writes a b c d e = writes
 
-any_failed : (o : Option Operation) → IfSome o (λ it. Fails it Failed)
+pub any_failed : (o : Option Operation) → IfSome o (λ it. Fails it Failed)
 any_failed None = tt
 any_failed (Some (Read bank place)) = tt
 any_failed (Some (Erase bank)) = tt
@@ -511,6 +535,8 @@ fail_waits banks plan outcome put cells (Free bank generation next place) is x n
 fail_waits banks plan outcome put cells (Erasing bank generation) is x no_failure = absurd (no_failure x)
 fail_waits banks plan outcome put cells (Copying bank generation done) is x no_failure = absurd (no_failure x)
 fail_waits banks plan outcome put cells (Ready bank generation next) is x no_failure = ready_waits plan outcome bank generation next put is x no_failure
+fail_waits banks plan outcome put cells (Clearing bank) is x no_failure = absurd (no_failure x)
+fail_waits banks plan outcome put cells (Filling done) is x no_failure = absurd (no_failure x)
 fail_waits banks plan outcome put cells (Ended end) is x no_failure = refl
 
 ready_taken : (plan : FlashPlan) (bank generation next : ℕ) (put : Option WaitingPut) → put ≢ None → (fails_in_step plan put (Ready bank generation next)).put ≡ None
@@ -525,6 +551,8 @@ fail_taken plan put (Free bank generation next place) ne = absurd (ne refl)
 fail_taken plan put (Erasing bank generation) ne = absurd (ne refl)
 fail_taken plan put (Copying bank generation done) ne = absurd (ne refl)
 fail_taken plan put (Ready bank generation next) ne = ready_taken plan bank generation next put ne
+fail_taken plan put (Clearing bank) ne = absurd (ne refl)
+fail_taken plan put (Filling done) ne = absurd (ne refl)
 fail_taken plan put (Ended end) ne = absurd (ne refl)
 
 pub read_puts_none : (put : Option WaitingPut) (step : PlanStep) → ReadsAt step → put_at step put ≡ None
@@ -535,4 +563,6 @@ read_puts_none put (Free bank generation next place) reads = refl
 read_puts_none put (Erasing bank generation) reads = absurd reads
 read_puts_none put (Copying bank generation done) reads = absurd reads
 read_puts_none put (Ready bank generation next) reads = absurd reads
+read_puts_none put (Clearing bank) reads = absurd reads
+read_puts_none put (Filling done) reads = absurd reads
 read_puts_none put (Ended end) reads = absurd reads

@@ -10,7 +10,7 @@ use Rattle.flash_plan.specs.declared.operations.FlashOutcome.{FlashOutcome}
 use Rattle.flash_plan.specs.declared.operations.FlashOutcome.TheVariants.{Answered, Done, Failed}
 use Rattle.flash_plan.specs.declared.plans.WaitingPut.{WaitingPut}
 use Rattle.flash_plan.specs.declared.plans.PlanStep.{PlanStep}
-use Rattle.flash_plan.specs.declared.plans.PlanStep.TheVariants.{Heading, Copied, Puts, Free, Erasing, Copying, Ready, Ended}
+use Rattle.flash_plan.specs.declared.plans.PlanStep.TheVariants.{Heading, Copied, Puts, Free, Erasing, Copying, Ready, Clearing, Filling, Ended}
 use Rattle.flash_plan.specs.declared.plans.PlanEnd.TheVariants.{NoStore}
 use Rattle.flash_plan.specs.declared.plans.FlashPlan.{FlashPlan}
 use Rattle.flash_plan.specs.declared.operations.Operation.{Operation}
@@ -85,6 +85,8 @@ idle_step l plan cells scratch at f (Free bank generation next place) idle h = a
 idle_step l plan cells scratch at f (Erasing bank generation) idle h = absurd idle
 idle_step l plan cells scratch at f (Copying bank generation done) idle h = absurd idle
 idle_step l plan cells scratch at f (Ready bank generation next) idle h = record { bank = bank; generation = generation; next = next; is = ap (λ (m : FlashMachine). m.stage) h.is }
+idle_step l plan cells scratch at f (Clearing bank) idle h = absurd idle
+idle_step l plan cells scratch at f (Filling done) idle h = absurd idle
 idle_step l plan cells scratch at f (Ended end) idle h = absurd idle
 
 pub idle_ready : (l : FlashLayout) (plan : FlashPlan) (cells scratch : CellList) (at : FlashMachine) (f : Flash) → IsIdleStep plan.step → StandsAt l plan cells scratch at f

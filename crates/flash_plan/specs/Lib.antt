@@ -2,3 +2,4 @@ pub mod Performing
 pub mod Plans
 pub mod Standing
 pub mod Turns
+pub mod Formatting

@@ -1,5 +1,5 @@
 -- A plan's sizes, and which operation comes next.
-use Rattle.std.specs.Prelude.{◌≡◌, ◌+◌, ◌^◌, ◌<◌, ◌≤◌, ℕ, suc, Option, Some, None, IfSome, [], length, get_or, nat_lt, if◌then◌else◌}
+use Rattle.std.specs.Prelude.{◌≡◌, ◌+◌, ◌-◌, ◌*◌, ◌^◌, ◌<◌, ◌≤◌, ℕ, suc, Option, Some, None, IfSome, [], length, get_or, nat_eq, nat_lt, if◌then◌else◌}
 use Rattle.flash_places.specs.declared.FlashLine.TheVariants.{Head, Entry}
 use Rattle.flash_laws.specs.Logs.{CellList}
 use Rattle.flash_laws.specs.Lives.{next_bank}
@@ -10,10 +10,10 @@ use Rattle.flash_plan.specs.declared.operations.Operation.{Operation}
 use Rattle.flash_plan.specs.declared.operations.Operation.TheVariants.{Read, Erase, Program}
 use Rattle.flash_plan.specs.declared.operations.FlashOutcome.{FlashOutcome}
 use Rattle.flash_plan.specs.declared.operations.FlashOutcome.TheVariants.{Answered, Done, Failed}
-use Rattle.flash_plan.specs.declared.plans.PlanEnd.TheVariants.{Failed as end_failed}
+use Rattle.flash_plan.specs.declared.plans.PlanEnd.TheVariants.{Formatted, Failed as end_failed}
 use Rattle.flash_plan.specs.declared.plans.WaitingPut.{WaitingPut}
 use Rattle.flash_plan.specs.declared.plans.PlanStep.{PlanStep}
-use Rattle.flash_plan.specs.declared.plans.PlanStep.TheVariants.{Heading, Copied, Puts, Free, Erasing, Copying, Ready, Ended}
+use Rattle.flash_plan.specs.declared.plans.PlanStep.TheVariants.{Heading, Copied, Puts, Free, Erasing, Copying, Ready, Clearing, Filling, Ended}
 use Rattle.flash_plan.specs.declared.plans.FlashPlan.{FlashPlan}
 
 -- the numbers of a step are those of a flash of these sizes and a store of n cells
@@ -25,6 +25,8 @@ StepFits banks places n (Free bank generation next place) put = (bank < banks) �
 StepFits banks places n (Erasing bank generation) put = (bank < banks) × (generation < last_generation)
 StepFits banks places n (Copying bank generation done) put = (bank < banks) × ((generation < last_generation) × (done ≤ n))
 StepFits banks places n (Ready bank generation next) put = (bank < banks) × IfSome put (λ waiting. next < places)
+StepFits banks places n (Clearing bank) put = (bank < banks) × (put ≡ None)
+StepFits banks places n (Filling done) put = (done ≤ n) × (put ≡ None)
 StepFits banks places n (Ended end) put = Unit {0}
 
 -- the log that was found is one of so many banks
@@ -54,6 +56,14 @@ abbrev pub step_programmed : ℕ → ℕ → ℕ → ℕ → ℕ → PlanStep
 step_programmed banks bank generation done n =
     if nat_lt done n then Copying bank generation (suc done) else Ready (next_bank banks bank) (suc generation) (suc n)
 
+-- what a format does after it erased this bank: bank 0 comes last
+abbrev pub step_cleared : ℕ → ℕ → PlanStep
+step_cleared banks bank = if nat_eq bank 0 then Filling 0 else Clearing (next_bank banks bank)
+
+-- what it does after this line was programmed
+abbrev pub step_filled : ℕ → ℕ → PlanStep
+step_filled done n = if nat_lt done n then Filling (suc done) else Ended Formatted
+
 -- the sizes stay
 pub record SameSizes (old new : FlashPlan) : Type 0 where
   pub banks : new.banks ≡ old.banks
@@ -74,6 +84,8 @@ IsIdleStep (Free bank generation next place) = ⊥
 IsIdleStep (Erasing bank generation) = ⊥
 IsIdleStep (Copying bank generation done) = ⊥
 IsIdleStep (Ready bank generation next) = Unit {0}
+IsIdleStep (Clearing bank) = ⊥
+IsIdleStep (Filling done) = ⊥
 IsIdleStep (Ended end) = ⊥
 
 pub record IsIdle (plan : FlashPlan) : Type 0 where
@@ -105,6 +117,8 @@ step_operation banks (Free bank generation next place) put cells = Some (Read ba
 step_operation banks (Erasing bank generation) put cells = Some (Erase (next_bank banks bank))
 step_operation banks (Copying bank generation done) put cells = Some (copy_operation (next_bank banks bank) generation done cells)
 step_operation banks (Ready bank generation next) put cells = put_operation bank next put
+step_operation banks (Clearing bank) put cells = Some (Erase bank)
+step_operation banks (Filling done) put cells = Some (copy_operation 0 0 done cells)
 step_operation banks (Ended end) put cells = None
 
 abbrev pub operation_of : FlashPlan → CellList → Option Operation
@@ -123,6 +137,8 @@ put_at (Free bank generation next place) put = None
 put_at (Erasing bank generation) put = None
 put_at (Copying bank generation done) put = None
 put_at (Ready bank generation next) put = put
+put_at (Clearing bank) put = None
+put_at (Filling done) put = None
 put_at (Ended end) put = None
 
 abbrev pub put_in : FlashPlan → Option WaitingPut
@@ -136,6 +152,8 @@ fails_in_step plan put (Puts bank generation place) = record plan { step = Ended
 fails_in_step plan put (Free bank generation next place) = record plan { step = Ended end_failed; put = None }
 fails_in_step plan put (Erasing bank generation) = record plan { step = Ended end_failed; put = None }
 fails_in_step plan put (Copying bank generation done) = record plan { step = Ended end_failed; put = None }
+fails_in_step plan put (Clearing bank) = record plan { step = Ended end_failed; put = None }
+fails_in_step plan put (Filling done) = record plan { step = Ended end_failed; put = None }
 fails_in_step plan None (Ready bank generation next) = plan
 fails_in_step plan (Some waiting) (Ready bank generation next) = record plan { step = Ended end_failed; put = None }
 fails_in_step plan put (Ended end) = plan
@@ -168,6 +186,8 @@ ReadsAt (Free bank generation next place) = Unit {0}
 ReadsAt (Erasing bank generation) = ⊥
 ReadsAt (Copying bank generation done) = ⊥
 ReadsAt (Ready bank generation next) = ⊥
+ReadsAt (Clearing bank) = ⊥
+ReadsAt (Filling done) = ⊥
 ReadsAt (Ended end) = ⊥
 
 -- an erase or a program comes next, or nothing and the plan is idle
@@ -179,4 +199,28 @@ ChangesAt (Free bank generation next place) = ⊥
 ChangesAt (Erasing bank generation) = Unit {0}
 ChangesAt (Copying bank generation done) = Unit {0}
 ChangesAt (Ready bank generation next) = Unit {0}
+ChangesAt (Clearing bank) = Unit {0}
+ChangesAt (Filling done) = Unit {0}
 ChangesAt (Ended end) = ⊥
+
+-- a put that waits takes one program
+abbrev pub put_left : Option WaitingPut → ℕ
+put_left None = 0
+put_left (Some waiting) = 1
+
+-- How many operations come at most, until the plan is idle or has ended: what is left to be read, then an erase, a copy
+-- of n cells and its head, and then a put that waits.
+abbrev pub step_left : ℕ → ℕ → ℕ → Option WaitingPut → PlanStep → ℕ
+step_left banks places n put (Heading bank) = (banks - bank) * places + (n + 2)
+step_left banks places n put (Copied bank generation done) = (banks - bank) * places - suc done + (n + 2)
+step_left banks places n put (Puts bank generation place) = (banks - bank) * places - place + (n + 2)
+step_left banks places n put (Free bank generation next place) = (banks - bank) * places - place + (n + 2)
+step_left banks places n put (Erasing bank generation) = n + 2 + put_left put
+step_left banks places n put (Copying bank generation done) = n + 1 - done + put_left put
+step_left banks places n put (Ready bank generation next) = put_left put
+step_left banks places n put (Clearing bank) = (if nat_eq bank 0 then 0 else banks - bank) + (n + 2)
+step_left banks places n put (Filling done) = n + 1 - done
+step_left banks places n put (Ended end) = 0
+
+abbrev pub operations_left : ℕ → FlashPlan → ℕ
+operations_left n plan = step_left plan.banks plan.places n plan.put plan.step

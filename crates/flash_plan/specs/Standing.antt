@@ -14,9 +14,9 @@ use Rattle.flash_plan.specs.declared.operations.FlashOutcome.{FlashOutcome}
 use Rattle.flash_plan.specs.declared.operations.FlashOutcome.TheVariants.{Answered, Done, Failed}
 use Rattle.flash_plan.specs.declared.plans.WaitingPut.{WaitingPut}
 use Rattle.flash_plan.specs.declared.plans.PlanEnd.{PlanEnd}
-use Rattle.flash_plan.specs.declared.plans.PlanEnd.TheVariants.{NoStore, Exhausted, Failed as end_failed}
+use Rattle.flash_plan.specs.declared.plans.PlanEnd.TheVariants.{NoStore, Exhausted, Formatted, Failed as end_failed}
 use Rattle.flash_plan.specs.declared.plans.PlanStep.{PlanStep}
-use Rattle.flash_plan.specs.declared.plans.PlanStep.TheVariants.{Heading, Copied, Puts, Free, Erasing, Copying, Ready, Ended}
+use Rattle.flash_plan.specs.declared.plans.PlanStep.TheVariants.{Heading, Copied, Puts, Free, Erasing, Copying, Ready, Clearing, Filling, Ended}
 use Rattle.flash_plan.specs.declared.plans.FlashPlan.{FlashPlan}
 
 -- the places of a bank
@@ -97,6 +97,7 @@ pub record IsLastAt (cells : CellList) (at : FlashMachine) (f : Flash) : Type 0 
 abbrev pub EndsAt : FlashLayout → CellList → FlashMachine → Flash → PlanEnd → Type 0
 EndsAt l cells at f NoStore = ReadsFrom at (λ first. NoLogCounts l first f)
 EndsAt l cells at f Exhausted = IsLastAt cells at f
+EndsAt l cells at f Formatted = ⊥
 EndsAt l cells at f end_failed = at ≡ machine f off
 
 abbrev pub StepAt : FlashLayout → Best → List ℕ → CellList → CellList → FlashMachine → Flash → PlanStep → Type 0
@@ -111,6 +112,8 @@ StepAt l best latest cells scratch at f (Free bank generation next place) =
 StepAt l best latest cells scratch at f (Erasing bank generation) = IsUpAt bank generation cells at f
 StepAt l best latest cells scratch at f (Copying bank generation done) = IsCopyingAt l bank generation done cells at f
 StepAt l best latest cells scratch at f (Ready bank generation next) = IsReadyAt bank generation next cells at f
+StepAt l best latest cells scratch at f (Clearing bank) = ⊥
+StepAt l best latest cells scratch at f (Filling done) = ⊥
 StepAt l best latest cells scratch at f (Ended end) = EndsAt l cells at f end
 
 abbrev pub plan_layout : FlashPlan → ℕ → FlashLayout

@@ -1,13 +1,14 @@
 //! The plan: its steps, and which operation each asks for.
-ghost use Rattle.std.specs.Prelude.{◌≡◌, ◌+◌, ◌^◌, ◌<◌, ◌≤◌, ◌↔◌, ℕ, length, true, Some, Err, IfSome, OnOk, OnErr};
+ghost use Rattle.std.specs.Prelude.{◌≡◌, ◌+◌, ◌*◌, ◌^◌, ◌<◌, ◌≤◌, ◌↔◌, ℕ, length, true, Some, Err, IfSome, OnOk, OnErr};
 ghost use Rattle.flash_places.specs.Places.{Flash};
 ghost use Rattle.flash_laws.specs.Logs.{CellList};
 ghost use Rattle.flash_laws.specs.Lives.{FlashMachine, off};
 ghost use Rattle.flash_log.specs.Going.{machine};
 ghost use Rattle.flash_log.specs.Taking.{last_generation};
 ghost use Rattle.flash_plan.specs.Performing.{IsWithinFlash, MayBegin};
-ghost use Rattle.flash_plan.specs.Plans.{IsPlanOf, StepFits, BestFits, IsIdle, IsFullAt, SameSizes, copy_operation, operation_of};
+ghost use Rattle.flash_plan.specs.Plans.{IsPlanOf, StepFits, BestFits, IsIdle, IsFullAt, SameSizes, copy_operation, operation_of, operations_left};
 ghost use Rattle.flash_plan.specs.Standing.{plan_layout, StandsAt};
+ghost use Rattle.flash_plan.specs.Formatting.{FormatsAt};
 ghost use Rattle.flash_plan.specs.declared.plans.PlanPutFault.TheVariants.{NotIdle, Exhausted as put_exhausted};
 
 use crate::operations::Operation;
@@ -23,6 +24,8 @@ pub enum PlanEnd {
     Exhausted,
     /// An operation failed. A put that was under way may be there after the next start, or not.
     Failed,
+    /// A store was made of the cells.
+    Formatted,
 }
 
 /// A cell that takes this payload next.
@@ -76,6 +79,14 @@ pub enum PlanStep {
         bank: u8,
         generation: u64,
         next: u32,
+    },
+    /// A format erases this bank. Bank 0 comes last.
+    Clearing {
+        bank: u8,
+    },
+    /// A format has programmed so many cells into bank 0. The next cell is programmed; after the last one, the head.
+    Filling {
+        done: u16,
     },
     /// No operation comes any more.
     Ended(PlanEnd),
@@ -162,6 +173,8 @@ impl FlashPlan {
             PlanStep::Ready { bank, next, .. } => {
                 bank < self.banks && (self.put.is_none() || next < self.places)
             }
+            PlanStep::Clearing { bank } => bank < self.banks && self.put.is_none(),
+            PlanStep::Filling { done } => done as usize <= cells && self.put.is_none(),
             PlanStep::Ended(_) => true,
         }
     }
@@ -173,6 +186,7 @@ impl FlashPlan {
         ensures banks { result.banks ≡ banks }
         ensures places { result.places ≡ places }
         ensures plan { (n : ℕ) → 0 < n → n < 2 ^ 16 → n + 1 < places → IsPlanOf n result }
+        ensures left { (n : ℕ) → operations_left n result ≤ banks * places + (n + 2) }
         ensures stands { (n : ℕ) (cells scratch : CellList) (f : Flash)
             → StandsAt (plan_layout result n) result cells scratch (machine f off) f }
     {
@@ -180,6 +194,26 @@ impl FlashPlan {
             banks,
             places,
             step: PlanStep::Heading { bank: 0 },
+            best: Best::NoLog,
+            latest: [u64::MAX; 16],
+            put: None,
+        }
+    }
+
+    /// A plan that makes a store of the cells, of generation 1, and leaves every other bank blank. It ends in
+    /// [`PlanEnd::Formatted`]; a new plan then starts the store. A power cut within it leaves this store, or none of it.
+    pub fn format(banks: u8, places: u32) -> FlashPlan
+        requires two { 2 ≤ banks }
+        requires sixteen { banks ≤ 16 }
+        ensures banks { result.banks ≡ banks }
+        ensures places { result.places ≡ places }
+        ensures plan { (n : ℕ) → 0 < n → n < 2 ^ 16 → n + 1 < places → IsPlanOf n result }
+        ensures formats { (cells : CellList) (f : Flash) → FormatsAt result cells f }
+    {
+        FlashPlan {
+            banks,
+            places,
+            step: PlanStep::Clearing { bank: 1 },
             best: Best::NoLog,
             latest: [u64::MAX; 16],
             put: None,
@@ -194,6 +228,7 @@ impl FlashPlan {
         ensures blank { (scratch : CellList) (at : FlashMachine) (f : Flash)
             → StandsAt (plan_layout self.now (length cells.now)) self.now cells.now scratch at f
             → IfSome result (λ it. MayBegin it f) }
+        ensures formats { (f : Flash) → FormatsAt self.now cells.now f → IfSome result (λ it. MayBegin it f) }
     {
         match self.step {
             PlanStep::Heading { bank } => Some(Operation::Read(bank, 0)),
@@ -216,6 +251,8 @@ impl FlashPlan {
                 }
                 None => None,
             },
+            PlanStep::Clearing { bank } => Some(Operation::Erase(bank)),
+            PlanStep::Filling { done } => Some(copy_operation(0, 0, done, cells)),
             PlanStep::Ended(_) => None,
         }
     }
@@ -257,6 +294,7 @@ impl FlashPlan {
         ensures not_idle { result ≡ Err NotIdle ↔ (IsIdle self.old → ⊥) }
         ensures exhausted { result ≡ Err put_exhausted → IsFullAt self.old.places self.old.step }
         ensures waits { OnOk result (self.new.put ≡ Some (record { cell = cell; payload = payload.now })) }
+        ensures left { OnOk result (operations_left (length cells.now) self.new ≤ length cells.now + 3) }
         ensures stands { OnOk result ((scratch : CellList) (at : FlashMachine) (f : Flash)
             → StandsAt (plan_layout self.old (length cells.now)) self.old cells.now scratch at f
             → StandsAt (plan_layout self.old (length cells.now)) self.new cells.now scratch at f) }

@@ -1,5 +1,5 @@
 //! What the answer of a read leads to.
-ghost use Rattle.std.specs.Prelude.{◌≡◌, ◌+◌, ◌≢◌, ◌^◌, ◌<◌, ℕ, List, suc, length, None, IfSome, false};
+ghost use Rattle.std.specs.Prelude.{◌≡◌, ◌+◌, ◌-◌, ◌*◌, ◌≤◌, ◌≢◌, ◌^◌, ◌<◌, ℕ, List, suc, length, None, IfSome, false};
 ghost use Rattle.flash_places.specs.declared.Answer.TheVariants.{Whole};
 ghost use Rattle.flash_places.specs.declared.FlashLine.TheVariants.{Entry};
 ghost use Rattle.flash_places.specs.Places.{Flash, LooksAt};
@@ -8,7 +8,7 @@ ghost use Rattle.flash_laws.specs.Logs.{CellList};
 ghost use Rattle.flash_laws.specs.Lives.{off};
 ghost use Rattle.flash_log.specs.Going.{machine};
 ghost use Rattle.flash_log.specs.Taking.{last_generation};
-ghost use Rattle.flash_plan.specs.Plans.{IsPlanOf, StepFits, KeepsPut, step_after};
+ghost use Rattle.flash_plan.specs.Plans.{IsPlanOf, StepFits, KeepsPut, step_after, step_left, operations_left};
 ghost use Rattle.flash_plan.specs.Standing.{plan_layout, StandsAt, BeforeBank, WithinBank, ReadsCopy, ReadsPuts, ReadsBank, ReadsFree, Reaches, ReachesStep};
 ghost use Rattle.flash_plan.specs.declared.plans.PlanEnd.TheVariants.{Exhausted, Failed as end_failed};
 ghost use Rattle.flash_plan.specs.declared.plans.PlanStep.TheVariants.{Erasing, Ended};
@@ -117,6 +117,8 @@ impl FlashPlan {
         requires inside { bank < self.now.banks }
         ensures fits { StepFits self.now.banks self.now.places (length cells.now) result None }
         ensures not_failed { result ≢ Ended end_failed }
+        ensures less { step_left self.now.banks self.now.places (length cells.now) None result
+            ≤ (self.now.banks - suc bank) * self.now.places + (length cells.now + 2) }
         ensures goes { (first f : Flash) (scratch : CellList)
             → BeforeBank (length cells.now) (suc bank) first f self.now.best self.now.latest cells.now
             → ReachesStep (plan_layout self.now (length cells.now)) self.now.best self.now.latest cells.now scratch
@@ -159,6 +161,8 @@ impl FlashPlan {
         ensures plan { IsPlanOf (length cells.old) self.new }
         ensures same { KeepsPut self.old self.new }
         ensures not_failed { self.new.step ≢ Ended end_failed }
+        ensures less { operations_left (length cells.old) self.new
+            ≤ (self.old.banks - suc bank) * self.old.places + (length cells.old + 2) }
         ensures goes { (first f : Flash) → WithinBank (length cells.old) bank first f self.old.best self.old.latest cells.old
             (ReadsBank (length cells.old) log scratch.now)
             → Reaches (plan_layout self.old (length cells.old)) self.new cells.new scratch.now
@@ -183,6 +187,8 @@ impl FlashPlan {
         ensures plan { IsPlanOf (length cells.old) self.new }
         ensures same { KeepsPut self.old self.new }
         ensures not_failed { self.new.step ≢ Ended end_failed }
+        ensures less { operations_left (length cells.old) self.new
+            < (self.old.banks - bank) * self.old.places + (length cells.old + 2) }
         ensures goes { (first f g : Flash)
             → BeforeBank (length cells.old) bank first f self.old.best self.old.latest cells.old
             → LooksAt bank 0 answer f g
@@ -220,6 +226,8 @@ impl FlashPlan {
         ensures plan { IsPlanOf (length cells.old) self.new }
         ensures same { KeepsPut self.old self.new }
         ensures not_failed { self.new.step ≢ Ended end_failed }
+        ensures less { operations_left (length cells.old) self.new
+            < (self.old.banks - bank) * self.old.places - suc done + (length cells.old + 2) }
         ensures goes { (first f g : Flash) → WithinBank (length cells.old) bank first f self.old.best self.old.latest cells.old
             (ReadsCopy generation done scratch.old)
             → LooksAt bank (suc done) answer f g
@@ -253,6 +261,8 @@ impl FlashPlan {
         ensures plan { IsPlanOf (length cells.old) self.new }
         ensures same { KeepsPut self.old self.new }
         ensures not_failed { self.new.step ≢ Ended end_failed }
+        ensures less { operations_left (length cells.old) self.new
+            < (self.old.banks - bank) * self.old.places - place + (length cells.old + 2) }
         ensures goes { (first f : Flash) → WithinBank (length cells.old) bank first f self.old.best self.old.latest cells.old
             (ReadsFree (length cells.old) generation next (suc place) scratch.now)
             → BlankBehind self.old.places f
@@ -295,6 +305,8 @@ impl FlashPlan {
         ensures plan { IsPlanOf (length cells.old) self.new }
         ensures same { KeepsPut self.old self.new }
         ensures not_failed { self.new.step ≢ Ended end_failed }
+        ensures less { operations_left (length cells.old) self.new
+            < (self.old.banks - bank) * self.old.places - place + (length cells.old + 2) }
         ensures goes { (first f g : Flash) → WithinBank (length cells.old) bank first f self.old.best self.old.latest cells.old
             (ReadsPuts (length cells.old) generation place scratch.old)
             → LooksAt bank place answer f g → BlankBehind self.old.places g
@@ -349,6 +361,8 @@ impl FlashPlan {
         ensures plan { IsPlanOf (length cells.old) self.new }
         ensures same { KeepsPut self.old self.new }
         ensures not_failed { self.new.step ≢ Ended end_failed }
+        ensures less { operations_left (length cells.old) self.new
+            < (self.old.banks - bank) * self.old.places - place + (length cells.old + 2) }
         ensures goes { (first f g : Flash) → WithinBank (length cells.old) bank first f self.old.best self.old.latest cells.old
             (ReadsFree (length cells.old) generation next place scratch.now)
             → LooksAt bank place answer f g → BlankBehind self.old.places g

@@ -1,12 +1,13 @@
 //! What the outcome of an operation leads to.
-ghost use Rattle.std.specs.Prelude.{◌≡◌, ◌≢◌, ◌^◌, ◌<◌, ◌⊎◌, ◌↔◌, length, true, None, IfSome};
+ghost use Rattle.std.specs.Prelude.{◌≡◌, ◌≢◌, ◌^◌, ◌<◌, ◌≤◌, ◌⊎◌, ◌↔◌, length, true, None, IfSome};
 ghost use Rattle.flash_places.specs.Places.{Flash};
 ghost use Rattle.flash_laws.specs.Logs.{CellList};
 ghost use Rattle.flash_laws.specs.Lives.{FlashMachine};
 ghost use Rattle.flash_log.specs.Taking.{last_generation};
 ghost use Rattle.flash_plan.specs.Performing.{Performs};
-ghost use Rattle.flash_plan.specs.Plans.{IsPlanOf, SameSizes, KeepsPut, IsFailure, failed_plan, operation_of, put_in, step_programmed, ReadsAt, ChangesAt};
+ghost use Rattle.flash_plan.specs.Plans.{IsPlanOf, SameSizes, KeepsPut, IsFailure, failed_plan, operation_of, put_in, step_programmed, step_cleared, step_filled, ReadsAt, ChangesAt, operations_left};
 ghost use Rattle.flash_plan.specs.Standing.{plan_layout, StandsAt, PlanMovesOn};
+ghost use Rattle.flash_plan.specs.Formatting.{FormatsAt};
 ghost use Rattle.flash_plan.specs.declared.operations.FlashOutcome.TheVariants.{Answered, Done};
 ghost use Rattle.flash_plan.specs.declared.plans.PlanEnd.TheVariants.{Failed as end_failed};
 ghost use Rattle.flash_plan.specs.declared.plans.PlanStep.TheVariants.{Ended};
@@ -15,6 +16,18 @@ use crate::operations::FlashOutcome;
 use crate::plans::{FlashPlan, PlanEnd, PlanStep};
 use flash_log::next_bank;
 use flash_places::Answer;
+
+/// What comes after a line of a format was programmed.
+fn after_filling(done: u16, cells: usize) -> PlanStep
+    requires few { cells < 2 ^ 16 }
+    ensures is { result ≡ step_filled done cells }
+    ensures not_failed { result ≢ Ended end_failed }
+{
+    if done as usize >= cells {
+        return PlanStep::Ended(PlanEnd::Formatted);
+    }
+    PlanStep::Filling { done: done + 1 }
+}
 
 impl FlashPlan {
     /// The operation that comes next failed.
@@ -46,6 +59,8 @@ impl FlashPlan {
             PlanStep::Erasing { .. } => false,
             PlanStep::Copying { .. } => false,
             PlanStep::Ready { .. } => false,
+            PlanStep::Clearing { .. } => false,
+            PlanStep::Filling { .. } => false,
             PlanStep::Ended(_) => false,
         }
     }
@@ -62,6 +77,8 @@ impl FlashPlan {
             PlanStep::Erasing { .. } => true,
             PlanStep::Copying { .. } => true,
             PlanStep::Ready { .. } => true,
+            PlanStep::Clearing { .. } => true,
+            PlanStep::Filling { .. } => true,
             PlanStep::Ended(_) => false,
         }
     }
@@ -74,6 +91,7 @@ impl FlashPlan {
         ensures plan { IsPlanOf (length cells.old) self.new }
         ensures same { KeepsPut self.old self.new }
         ensures not_failed { self.new.step ≢ Ended end_failed }
+        ensures less { operations_left (length cells.old) self.new < operations_left (length cells.old) self.old }
         ensures steps { (at : FlashMachine) (f g : Flash)
             → StandsAt (plan_layout self.old (length cells.old)) self.old cells.old scratch.old at f
             → IfSome (operation_of self.old cells.old) (λ it. Performs self.old.places it (Answered answer) f g
@@ -108,7 +126,12 @@ impl FlashPlan {
         ensures plan { IsPlanOf (length cells.old) self.new }
         ensures sizes { SameSizes self.old self.new }
         ensures not_failed { self.new.step ≢ Ended end_failed }
+        ensures less { (operation_of self.old cells.old ≡ None → ⊥)
+            → operations_left (length cells.old) self.new < operations_left (length cells.old) self.old }
         ensures none { operation_of self.old cells.old ≡ None → self.new ≡ self.old }
+        ensures formats { (f g : Flash) → FormatsAt self.old cells.old f
+            → IfSome (operation_of self.old cells.old) (λ it. Performs self.old.places it Done f g
+            → FormatsAt self.new cells.new g) }
         ensures waits { put_in self.old ≡ None → self.new.put ≡ self.old.put }
         ensures taken { put_in self.old ≢ None → self.new.put ≡ None }
         ensures steps { (scratch : CellList) (at : FlashMachine) (f g : Flash)
@@ -146,7 +169,24 @@ impl FlashPlan {
                     next: next + 1,
                 };
             }
+            PlanStep::Clearing { bank } => self.step = self.after_clearing(bank),
+            PlanStep::Filling { done } => self.step = after_filling(done, cells.len()),
             _ => {}
+        }
+    }
+
+    /// What comes after a format erased this bank: the next one, bank 0 last, and then the copy.
+    fn after_clearing(&self, bank: u8) -> PlanStep
+        requires bank { bank < self.now.banks }
+        requires sixteen { self.now.banks ≤ 16 }
+        ensures is { result ≡ step_cleared self.now.banks bank }
+        ensures not_failed { result ≢ Ended end_failed }
+    {
+        if bank == 0 {
+            return PlanStep::Filling { done: 0 };
+        }
+        PlanStep::Clearing {
+            bank: next_bank(self.banks, bank),
         }
     }
 
@@ -178,10 +218,15 @@ impl FlashPlan {
         requires alike { length scratch.old ≡ length cells.old }
         ensures plan { IsPlanOf (length cells.old) self.new }
         ensures sizes { SameSizes self.old self.new }
+        ensures less { (operation_of self.old cells.old ≡ None → ⊥)
+            → operations_left (length cells.old) self.new < operations_left (length cells.old) self.old }
         ensures steps { (at : FlashMachine) (f g : Flash)
             → StandsAt (plan_layout self.old (length cells.old)) self.old cells.old scratch.old at f
             → IfSome (operation_of self.old cells.old) (λ it. Performs self.old.places it (outcome) f g
             → PlanMovesOn (plan_layout self.old (length cells.old)) (put_in self.old) (outcome) self.new cells.new scratch.new at g) }
+        ensures formats { (f g : Flash) → FormatsAt self.old cells.old f
+            → IfSome (operation_of self.old cells.old) (λ it. Performs self.old.places it outcome f g
+            → FormatsAt self.new cells.new g) }
         ensures none { operation_of self.old cells.old ≡ None → self.new ≡ self.old }
         ensures failed { self.new.step ≡ Ended end_failed → (self.old.step ≡ Ended end_failed)
             ⊎ IsFailure (operation_of self.old cells.old) outcome }

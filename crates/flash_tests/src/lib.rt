@@ -1,10 +1,12 @@
-//! Tests of the store on flash, over a flash in memory, and of its lines. There is nothing else here: a crate of tests over several
-//! libraries has none of them proved a second time.
+//! Tests of the store on flash and of its plans, over a flash in memory, and of its lines. There is nothing else here:
+//! a crate of tests over several libraries has none of them proved a second time.
 #![tactic(auto)]
 
 #[cfg(test)]
 mod histories;
 #[cfg(test)]
 mod lines;
+#[cfg(test)]
+mod plans;
 #[cfg(test)]
 mod starts;

@@ -1,4 +1,4 @@
-use Rattle.std.proofs.Common.{◌≡◌, ◌≢◌, ◌+◌, ◌<◌, inl, inr, ℕ, suc, None, length, sym, subst, arith}
+use Rattle.std.proofs.Common.{◌≡◌, ◌≢◌, ◌+◌, ◌<◌, inl, inr, ℕ, suc, None, length, sym, subst, arith, ◌-◌, ◌*◌}
 use Rattle.std.proofs.lemmas.Bool.{cases_eq}
 use Rattle.flash_laws.specs.Lives.{off}
 use Rattle.flash_log.specs.declared.scanning.Best.{Best}
@@ -11,6 +11,7 @@ use Rattle.flash_plan.specs.declared.plans.PlanEnd.TheVariants.{NoStore, Exhaust
 use Rattle.flash_plan.specs.Plans.{StepFits, BestFits}
 use Rattle.flash_plan.specs.Standing.{plan_layout, BeforeBank, ReachesStep}
 use Rattle.flash_plan.proofs.ScanSteps.{next_heading, ends_none, ends_tie, ends_last, ends_found, ends_ready}
+use Rattle.flash_plan.proofs.LeftSteps.{next_left, renewed_left}
 use Rattle.flash_plan.proofs.plans.FlashPlan.after_bank.Goals as goal
 
 pub returns-then-bank-self-clause-goes : goal.returns-then-bank-self-clause-goes
@@ -65,3 +66,9 @@ returns-in-Tie-clause-goes c first f scratch b =
     → ReachesStep (plan_layout c.args.self.now (length c.args.cells.now)) z c.args.self.now.latest c.args.cells.now scratch (machine first off) f (Ended NoStore))
     (sym c.in-Tie.is)
     (λ s. ends_tie (plan_layout c.args.self.now (length c.args.cells.now)) (suc c.args.bank) first f c.args.self.now.latest c.args.cells.now scratch (omega arith) c.in-Tie.field-0 s) b
+
+pub returns-then-bank-self-clause-less : goal.returns-then-bank-self-clause-less
+returns-then-bank-self-clause-less c = next_left c.args.self.now.banks c.args.self.now.places (length c.args.cells.now) c.args.bank (c.args.bank + 1) (let e : c.args.bank + 1 ≡ suc c.args.bank = omega arith in e)
+
+pub returns-else-may_go_on-clause-less : goal.returns-else-may_go_on-clause-less
+returns-else-may_go_on-clause-less c = renewed_left c.args.self.now.banks c.args.self.now.places (length c.args.cells.now) ((c.args.self.now.banks - suc c.args.bank) * c.args.self.now.places) c.in-One.log.bank c.in-One.log.generation c.renewing.result c.renewing.ensures.last c.renewing.ensures.copied

@@ -1,7 +1,8 @@
-use Rattle.std.proofs.Common.{Some, length, sym, subst}
+use Rattle.std.proofs.Common.{Some, length, sym, subst, ◌+◌}
 use Rattle.flash_log.specs.declared.reading.LogEnd.{LogEnd}
 use Rattle.flash_plan.specs.Standing.{WithinBank, ReadsBank}
 use Rattle.flash_plan.proofs.BankSteps.{free_is_blank, free_is_none}
+use Rattle.flash_plan.proofs.LeftSteps.{leave_left}
 use Rattle.flash_plan.proofs.plans.FlashPlan.after_free.Goals as goal
 
 pub returns-in-Blank-clause-goes : goal.returns-in-Blank-clause-goes
@@ -25,3 +26,9 @@ returns-in-Nothing-clause-goes c first f g w d behind =
     (sym c.not_free-log-in-Nothing.ensures)
     (free_is_none (length c.args.cells.now) c.args.bank c.args.generation c.args.place first f g c.args.self.now.best c.args.self.now.latest c.args.cells.now c.args.scratch.now c.args.answer d
     c.args.next w))
+
+pub returns-in-Whole-clause-less : goal.returns-in-Whole-clause-less
+returns-in-Whole-clause-less c = leave_left c.args.self.now.banks c.args.bank c.args.self.now.places c.args.place ((length c.args.cells.now) + 2) _ c.requires.inside c.requires.place c.leave_bank.ensures.less
+
+pub returns-in-Nothing-clause-less : goal.returns-in-Nothing-clause-less
+returns-in-Nothing-clause-less c = leave_left c.args.self.now.banks c.args.bank c.args.self.now.places c.args.place ((length c.args.cells.now) + 2) _ c.requires.inside c.requires.place c.leave_bank-in-Nothing.ensures.less

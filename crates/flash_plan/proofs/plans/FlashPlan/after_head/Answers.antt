@@ -1,8 +1,9 @@
-use Rattle.std.proofs.Common.{length, refl, sym, ◌∙◌}
+use Rattle.std.proofs.Common.{length, refl, sym, ◌∙◌, arith, ◌+◌}
 use Rattle.flash_plan.specs.declared.plans.PlanStep.TheVariants.{Copied}
 use Rattle.flash_plan.specs.Standing.{plan_layout}
 use Rattle.flash_plan.proofs.BankSteps.{head_is, head_is_none}
 use Rattle.flash_plan.proofs.DeedSteps.{here_reached}
+use Rattle.flash_plan.proofs.LeftSteps.{head_left, leave_head}
 use Rattle.flash_plan.proofs.plans.FlashPlan.after_head.Goals as goal
 
 pub returns-in-Some-clause-goes : goal.returns-in-Some-clause-goes
@@ -20,3 +21,9 @@ returns-in-None-clause-goes c first f g b d =
     c.leave_bank.ensures.goes first g
     (head_is_none (length c.args.cells.now) c.args.bank first f g c.args.self.now.best c.args.self.now.latest c.note.new.latest c.args.cells.now c.args.scratch.now c.args.answer d b
     (c.note.ensures.here ∙ c.latest_of.ensures) c.note.ensures.others (sym c.generation_of.ensures ∙ c.in-None.is))
+
+pub returns-in-Some-clause-less : goal.returns-in-Some-clause-less
+returns-in-Some-clause-less c = head_left c.args.self.now.banks c.args.bank c.args.self.now.places ((length c.args.cells.now) + 2) c.requires.inside (omega arith)
+
+pub returns-in-None-clause-less : goal.returns-in-None-clause-less
+returns-in-None-clause-less c = leave_head c.args.self.now.banks c.args.bank c.args.self.now.places ((length c.args.cells.now) + 2) _ c.requires.inside (omega arith) c.leave_bank.ensures.less

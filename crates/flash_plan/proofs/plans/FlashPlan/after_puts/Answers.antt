@@ -4,6 +4,7 @@ use Rattle.flash_plan.specs.declared.plans.PlanStep.TheVariants.{Puts}
 use Rattle.flash_plan.specs.Standing.{plan_layout, WithinBank, ReadsPuts, ReadsBank}
 use Rattle.flash_plan.proofs.BankSteps.{within_map, put_is, put_is_blank, put_is_nothing, puts_fill}
 use Rattle.flash_plan.proofs.DeedSteps.{here_reached}
+use Rattle.flash_plan.proofs.LeftSteps.{place_left, leave_left}
 use Rattle.flash_plan.proofs.plans.FlashPlan.after_puts.Goals as goal
 
 pub returns-then-place-last-clause-goes : goal.returns-then-place-last-clause-goes
@@ -41,3 +42,12 @@ returns-in-Nothing-clause-goes c first f g w d behind =
     (subst (λ (e : LogEnd). WithinBank (length c.args.cells.now) c.args.bank first g c.args.self.now.best c.args.self.now.latest c.args.cells.now (ReadsBank (length c.args.cells.now) (Some e) c.args.scratch.now))
     (sym c.not_free-log.ensures)
     (put_is_nothing (length c.args.cells.now) c.args.bank c.args.generation c.args.place first f g c.args.self.now.best c.args.self.now.latest c.args.cells.now c.args.scratch.now c.args.answer d w c.in-Nothing.is))
+
+pub returns-then-place-last-clause-less : goal.returns-then-place-last-clause-less
+returns-then-place-last-clause-less c = place_left c.args.self.now.banks c.args.bank c.args.self.now.places c.args.place (c.args.place + 1) ((length c.args.cells.now) + 2) c.requires.inside c.requires.place (omega arith)
+
+pub returns-else-place-last-clause-less : goal.returns-else-place-last-clause-less
+returns-else-place-last-clause-less c = leave_left c.args.self.now.banks c.args.bank c.args.self.now.places c.args.place ((length c.args.cells.now) + 2) _ c.requires.inside c.requires.place c.leave_bank.ensures.less
+
+pub returns-in-Nothing-clause-less : goal.returns-in-Nothing-clause-less
+returns-in-Nothing-clause-less c = leave_left c.args.self.now.banks c.args.bank c.args.self.now.places c.args.place ((length c.args.cells.now) + 2) _ c.requires.inside c.requires.place c.leave_bank-in-Nothing.ensures.less

@@ -1,10 +1,13 @@
-use Rattle.std.proofs.Common.{◌≡◌, true, length, sym, subst, IfSome}
+use Rattle.std.proofs.Common.{◌≡◌, true, length, refl, sym, subst, IfSome}
 use Rattle.flash_plan.specs.declared.operations.FlashOutcome.{FlashOutcome}
-use Rattle.flash_plan.specs.declared.operations.FlashOutcome.TheVariants.{Answered, Done}
+use Rattle.flash_plan.specs.declared.operations.FlashOutcome.TheVariants.{Answered, Done, Failed}
 use Rattle.flash_plan.specs.Performing.{Performs}
 use Rattle.flash_plan.specs.Plans.{operation_of, put_in}
 use Rattle.flash_plan.specs.Standing.{plan_layout, PlanMovesOn}
-use Rattle.flash_plan.proofs.DeedSteps.{plan_fails, plan_failed, not_read, not_written}
+use Rattle.flash_plan.proofs.DeedSteps.{any_failed, plan_fails, plan_failed, not_read, not_written}
+use Rattle.flash_plan.specs.Formatting.{FormatsAt}
+use Rattle.flash_plan.proofs.FormatSteps.{format_reads, plan_format_fails}
+use Rattle.flash_plan.proofs.LeftSteps.{fail_less}
 use Rattle.flash_plan.proofs.plans.FlashPlan.did.Goals as goal
 
 pub returns-else-reads-clause-steps : goal.returns-else-reads-clause-steps
@@ -26,3 +29,37 @@ returns-in-Failed-clause-steps c at f g h =
     subst (λ (o : FlashOutcome). IfSome (operation_of c.args.self.now c.args.cells.now) (λ it. Performs c.args.self.now.places it o f g
     → PlanMovesOn (plan_layout c.args.self.now (length c.args.cells.now)) (put_in c.args.self.now) o c.fail-in-Failed.new.self c.args.cells.now c.args.scratch.now at g)) (sym c.in-Failed.is)
     (plan_failed (plan_layout c.args.self.now (length c.args.cells.now)) c.args.self.now c.fail-in-Failed.new.self c.args.cells.now c.args.scratch.now at f g c.args.self.now.places c.fail-in-Failed.ensures.fails h)
+
+pub returns-then-reads-clause-formats : goal.returns-then-reads-clause-formats
+returns-then-reads-clause-formats c f g h = absurd (format_reads (plan_layout c.args.self.now (length c.args.cells.now)) c.args.cells.now f c.args.self.now.step (c.reads.ensures.0 c.if-reads.true) h)
+
+pub returns-else-reads-clause-formats : goal.returns-else-reads-clause-formats
+returns-else-reads-clause-formats c f g h =
+    subst (λ (o : FlashOutcome). IfSome (operation_of c.args.self.now c.args.cells.now) (λ it. Performs c.args.self.now.places it o f g → FormatsAt c.fail.new.self c.args.cells.now g)) (sym c.in-Answered.is)
+    (plan_format_fails c.args.self.now c.fail.new.self c.args.cells.now c.args.cells.now f g (Answered c.in-Answered.answer) c.args.self.now.places refl c.fail.ensures.fails
+    (not_read c.args.self.now.banks c.args.self.now.put c.args.cells.now c.in-Answered.answer c.args.self.now.step (λ r. let e : c.reads.result ≡ true = c.reads.ensures.1 r in absurd (cc))) h)
+
+pub returns-then-writes-clause-formats : goal.returns-then-writes-clause-formats
+returns-then-writes-clause-formats c f g h =
+    subst (λ (o : FlashOutcome). IfSome (operation_of c.args.self.now c.args.cells.now) (λ it. Performs c.args.self.now.places it o f g → FormatsAt c.did_change.new.self c.did_change.new.cells g)) (sym c.in-Done.is) (c.did_change.ensures.formats f g h)
+
+pub returns-else-writes-clause-formats : goal.returns-else-writes-clause-formats
+returns-else-writes-clause-formats c f g h =
+    subst (λ (o : FlashOutcome). IfSome (operation_of c.args.self.now c.args.cells.now) (λ it. Performs c.args.self.now.places it o f g → FormatsAt c.fail-else-writes.new.self c.args.cells.now g)) (sym c.in-Done.is)
+    (plan_format_fails c.args.self.now c.fail-else-writes.new.self c.args.cells.now c.args.cells.now f g Done c.args.self.now.places refl c.fail-else-writes.ensures.fails
+    (not_written c.args.self.now.banks c.args.self.now.put c.args.cells.now c.args.self.now.step (λ r. let e : c.writes.result ≡ true = c.writes.ensures.1 r in absurd (cc))) h)
+
+pub returns-in-Failed-clause-formats : goal.returns-in-Failed-clause-formats
+returns-in-Failed-clause-formats c f g h =
+    subst (λ (o : FlashOutcome). IfSome (operation_of c.args.self.now c.args.cells.now) (λ it. Performs c.args.self.now.places it o f g → FormatsAt c.fail-in-Failed.new.self c.args.cells.now g)) (sym c.in-Failed.is)
+    (plan_format_fails c.args.self.now c.fail-in-Failed.new.self c.args.cells.now c.args.cells.now f g Failed c.args.self.now.places refl c.fail-in-Failed.ensures.fails
+    (any_failed (operation_of c.args.self.now c.args.cells.now)) h)
+
+pub returns-else-reads-clause-less : goal.returns-else-reads-clause-less
+returns-else-reads-clause-less c comes = fail_less (length c.args.cells.now) c.args.self.now c.fail.new.self c.args.cells.now c.fail.ensures.fails c.requires.plan.step comes
+
+pub returns-else-writes-clause-less : goal.returns-else-writes-clause-less
+returns-else-writes-clause-less c comes = fail_less (length c.args.cells.now) c.args.self.now c.fail-else-writes.new.self c.args.cells.now c.fail-else-writes.ensures.fails c.requires.plan.step comes
+
+pub returns-in-Failed-clause-less : goal.returns-in-Failed-clause-less
+returns-in-Failed-clause-less c comes = fail_less (length c.args.cells.now) c.args.self.now c.fail-in-Failed.new.self c.args.cells.now c.fail-in-Failed.ensures.fails c.requires.plan.step comes

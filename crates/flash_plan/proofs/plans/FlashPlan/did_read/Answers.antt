@@ -1,6 +1,8 @@
-use Rattle.std.proofs.Common.{length}
+use Rattle.std.proofs.Common.{length, ◌<◌, subst, sym}
 use Rattle.flash_plan.specs.Standing.{plan_layout}
 use Rattle.flash_plan.proofs.DeedSteps.{head_answered, copied_answered, puts_answered, free_answered, reads_one}
+use Rattle.flash_plan.specs.declared.plans.PlanStep.{PlanStep}
+use Rattle.flash_plan.specs.Plans.{step_left, operations_left}
 use Rattle.flash_plan.proofs.plans.FlashPlan.did_read.Goals as goal
 
 pub returns-in-Heading-clause-steps : goal.returns-in-Heading-clause-steps
@@ -29,3 +31,15 @@ returns-in-Free-clause-steps c at f g h =
 
 pub returns-in_default : goal.returns-in_default
 returns-in_default c = absurd (reads_one c.args.self.now.step c.requires.reads c.in_default.not-Heading c.in_default.not-Copied c.in_default.not-Puts c.in_default.not-Free)
+
+pub returns-in-Heading-clause-less : goal.returns-in-Heading-clause-less
+returns-in-Heading-clause-less c = subst (λ (s : PlanStep). operations_left (length c.args.cells.now) c.after_head.new.self < step_left c.args.self.now.banks c.args.self.now.places (length c.args.cells.now) c.args.self.now.put s) (sym c.in-Heading.is) c.after_head.ensures.less
+
+pub returns-in-Copied-clause-less : goal.returns-in-Copied-clause-less
+returns-in-Copied-clause-less c = subst (λ (s : PlanStep). operations_left (length c.args.cells.now) c.after_copied.new.self < step_left c.args.self.now.banks c.args.self.now.places (length c.args.cells.now) c.args.self.now.put s) (sym c.in-Copied.is) c.after_copied.ensures.less
+
+pub returns-in-Puts-clause-less : goal.returns-in-Puts-clause-less
+returns-in-Puts-clause-less c = subst (λ (s : PlanStep). operations_left (length c.args.cells.now) c.after_puts.new.self < step_left c.args.self.now.banks c.args.self.now.places (length c.args.cells.now) c.args.self.now.put s) (sym c.in-Puts.is) c.after_puts.ensures.less
+
+pub returns-in-Free-clause-less : goal.returns-in-Free-clause-less
+returns-in-Free-clause-less c = subst (λ (s : PlanStep). operations_left (length c.args.cells.now) c.after_free.new.self < step_left c.args.self.now.banks c.args.self.now.places (length c.args.cells.now) c.args.self.now.put s) (sym c.in-Free.is) c.after_free.ensures.less

@@ -1,8 +1,9 @@
-use Rattle.std.proofs.Common.{◌≡◌, suc, length, refl, sym, subst}
+use Rattle.std.proofs.Common.{◌≡◌, suc, length, refl, sym, subst, ◌∙◌}
 use Rattle.flash_laws.specs.Lives.{off}
 use Rattle.flash_log.specs.Going.{machine}
 use Rattle.flash_plan.specs.Standing.{plan_layout, BeforeBank}
 use Rattle.flash_plan.proofs.DeedSteps.{reached, reached_plan}
+use Rattle.flash_plan.proofs.LeftSteps.{left_as}
 use Rattle.flash_plan.proofs.plans.FlashPlan.leave_bank.Goals as goal
 
 pub returns-clause-goes : goal.returns-clause-goes
@@ -15,3 +16,7 @@ returns-clause-goes c first f w =
     c.after_bank-self.result c.take_log.ensures.same.banks same
     (c.after_bank-self.ensures.goes first f c.args.scratch.now
     (subst (λ k. BeforeBank k (suc c.args.bank) first f c.take_log.new.self.best c.take_log.new.self.latest c.take_log.new.cells) (sym same) b)))
+
+pub returns-clause-less : goal.returns-clause-less
+returns-clause-less c = left_as c.args.self.now.banks c.take_log.new.self.banks c.args.self.now.places c.take_log.new.self.places (length c.args.cells.now) (length c.take_log.new.cells) c.args.bank c.take_log.new.self.put c.after_bank-self.result
+    c.take_log.ensures.same.banks c.take_log.ensures.same.places c.take_log.auto.cells (c.take_log.ensures.same.put ∙ c.requires.reading) c.after_bank-self.ensures.less
