@@ -42,7 +42,8 @@ pub fn an_idle_plan_has_its_cells()
         → IsIdle plan → Possible (puts_in turns) first cells }
     ensures later { (n : ℕ) (earlier turns : List Turn) (first olds : CellList) (start a at : FlashMachine)
         (plan : FlashPlan) (cells scratch : CellList) (f : Flash) → FlashFormatted (plan_layout plan n) first start
-        → PlanTurns (plan_layout plan n) earlier start a → IsReadyFlash a olds → PlanTurns (plan_layout plan n) turns a at
+        → PlanTurns (plan_layout plan n) earlier start a → IsReadyFlash a olds
+        → PlanTurns (plan_layout plan n) turns a at
         → StandsAt (plan_layout plan n) plan cells scratch at f → IsIdle plan → Possible (puts_in turns) olds cells }
 {}
 

@@ -4,10 +4,15 @@
 //! hands its outcome to [`FlashPlan::did`]. If none comes next, the plan is idle or has ended. An idle plan takes a put
 //! by [`FlashPlan::put`]: it is done once the plan is idle again. An operation that fails ends the plan, and only a new
 //! one goes on. The cells, and as many again to read into, are slices of the caller's. No call takes memory.
+//! [`FlashPlan::format`] makes a store of the cells in the same way. [`run_plan`] is such a caller over any flash.
 //!
-//! What the plan and the flash have to do with each other is one relation (`StandsAt`): at which point of the machine of
-//! `flash_laws` a plan stands. Each operation that is performed and reported leads to a point that the machine reaches.
-//! So its laws hold of a caller ([`laws`]).
+//! Each plan comes to rest: `operations_left` falls with each operation. A start reads each place at most once. Then it
+//! erases at most one bank and programs at most one copy. A put is one program, with an erase and a copy before it if
+//! its bank is full.
+//!
+//! One relation (`StandsAt`) says at which point of the machine of `flash_laws` a plan stands over a flash. Each
+//! operation that is performed and reported leads to a point that the machine reaches. So its laws hold of a caller
+//! ([`laws`]).
 #![tactic(auto)]
 
 pub mod laws;

@@ -201,7 +201,8 @@ impl FlashPlan {
     }
 
     /// A plan that makes a store of the cells, of generation 1, and leaves every other bank blank. It ends in
-    /// [`PlanEnd::Formatted`]; a new plan then starts the store. A power cut within it leaves this store, or none of it.
+    /// [`PlanEnd::Formatted`]; a new plan then starts the store. A power cut within it leaves this store, none, or one
+    /// that was there before.
     pub fn format(banks: u8, places: u32) -> FlashPlan
         requires two { 2 ≤ banks }
         requires sixteen { banks ≤ 16 }

@@ -163,7 +163,8 @@ impl FlashPlan {
         ensures not_failed { self.new.step ≢ Ended end_failed }
         ensures less { operations_left (length cells.old) self.new
             ≤ (self.old.banks - suc bank) * self.old.places + (length cells.old + 2) }
-        ensures goes { (first f : Flash) → WithinBank (length cells.old) bank first f self.old.best self.old.latest cells.old
+        ensures goes { (first f : Flash)
+            → WithinBank (length cells.old) bank first f self.old.best self.old.latest cells.old
             (ReadsBank (length cells.old) log scratch.now)
             → Reaches (plan_layout self.old (length cells.old)) self.new cells.new scratch.now
             (machine first off) f }
@@ -228,7 +229,8 @@ impl FlashPlan {
         ensures not_failed { self.new.step ≢ Ended end_failed }
         ensures less { operations_left (length cells.old) self.new
             < (self.old.banks - bank) * self.old.places - suc done + (length cells.old + 2) }
-        ensures goes { (first f g : Flash) → WithinBank (length cells.old) bank first f self.old.best self.old.latest cells.old
+        ensures goes { (first f g : Flash)
+            → WithinBank (length cells.old) bank first f self.old.best self.old.latest cells.old
             (ReadsCopy generation done scratch.old)
             → LooksAt bank (suc done) answer f g
             → Reaches (plan_layout self.old (length cells.old)) self.new cells.new scratch.new
@@ -263,7 +265,8 @@ impl FlashPlan {
         ensures not_failed { self.new.step ≢ Ended end_failed }
         ensures less { operations_left (length cells.old) self.new
             < (self.old.banks - bank) * self.old.places - place + (length cells.old + 2) }
-        ensures goes { (first f : Flash) → WithinBank (length cells.old) bank first f self.old.best self.old.latest cells.old
+        ensures goes { (first f : Flash)
+            → WithinBank (length cells.old) bank first f self.old.best self.old.latest cells.old
             (ReadsFree (length cells.old) generation next (suc place) scratch.now)
             → BlankBehind self.old.places f
             → Reaches (plan_layout self.old (length cells.old)) self.new cells.new scratch.now
@@ -307,7 +310,8 @@ impl FlashPlan {
         ensures not_failed { self.new.step ≢ Ended end_failed }
         ensures less { operations_left (length cells.old) self.new
             < (self.old.banks - bank) * self.old.places - place + (length cells.old + 2) }
-        ensures goes { (first f g : Flash) → WithinBank (length cells.old) bank first f self.old.best self.old.latest cells.old
+        ensures goes { (first f g : Flash)
+            → WithinBank (length cells.old) bank first f self.old.best self.old.latest cells.old
             (ReadsPuts (length cells.old) generation place scratch.old)
             → LooksAt bank place answer f g → BlankBehind self.old.places g
             → Reaches (plan_layout self.old (length cells.old)) self.new cells.new scratch.new
@@ -363,7 +367,8 @@ impl FlashPlan {
         ensures not_failed { self.new.step ≢ Ended end_failed }
         ensures less { operations_left (length cells.old) self.new
             < (self.old.banks - bank) * self.old.places - place + (length cells.old + 2) }
-        ensures goes { (first f g : Flash) → WithinBank (length cells.old) bank first f self.old.best self.old.latest cells.old
+        ensures goes { (first f g : Flash)
+            → WithinBank (length cells.old) bank first f self.old.best self.old.latest cells.old
             (ReadsFree (length cells.old) generation next place scratch.now)
             → LooksAt bank place answer f g → BlankBehind self.old.places g
             → Reaches (plan_layout self.old (length cells.old)) self.new cells.new scratch.now

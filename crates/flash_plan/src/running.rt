@@ -1,5 +1,5 @@
 //! A caller in Rust: it performs what a plan says, and reports it.
-ghost use Rattle.std.specs.Prelude.{◌≡◌, length, true};
+ghost use Rattle.std.specs.Prelude.{◌≡◌, length};
 ghost use Rattle.flash_places.specs.State.{FlashRuns};
 ghost use Rattle.flash_laws.specs.Lives.{FlashMachine};
 ghost use Rattle.flash_plan.specs.Plans.{IsPlanOf, SameSizes, IsAtRest};
@@ -10,15 +10,13 @@ use crate::operations::perform;
 use crate::plans::FlashPlan;
 use flash_places::FlashDevice;
 
-/// Performs what the plan says and reports it, until nothing comes next or so many operations were performed: whether
-/// nothing comes next.
+/// Performs what the plan says and reports it, until nothing comes next: the plan is idle or has ended.
 pub fn run_plan<D: FlashDevice>(
     device: &mut D,
     plan: &mut FlashPlan,
     cells: &mut [[u8; 32]],
     scratch: &mut [[u8; 32]],
-    most: u32,
-) -> bool
+)
     requires plan { IsPlanOf (length cells.old) plan.old }
     requires alike { length scratch.old ≡ length cells.old }
     requires banks { plan.old.banks ≡ (D.state device.old).banks }
@@ -31,19 +29,14 @@ pub fn run_plan<D: FlashDevice>(
     ensures stands { IsStanding (plan_layout plan.old (length cells.old)) plan.new cells.new scratch.new
         (D.state device.new).flash }
     ensures turns { (at : FlashMachine)
-        → StandsAt (plan_layout plan.old (length cells.old)) plan.old cells.old scratch.old at (D.state device.old).flash
+        → StandsAt (plan_layout plan.old (length cells.old)) plan.old cells.old scratch.old at
+        (D.state device.old).flash
         → TurnsTo (plan_layout plan.old (length cells.old)) plan.new cells.new scratch.new at
         (D.state device.new).flash }
-    ensures rests { result ≡ true → IsAtRest plan.new cells.new }
+    ensures rests { IsAtRest plan.new cells.new }
 {
-    for _ in 0..most {
-        match plan.next(cells) {
-            Some(operation) => {
-                let outcome = perform(device, &operation);
-                plan.did(cells, scratch, outcome);
-            }
-            None => return true,
-        }
+    while let Some(operation) = plan.next(cells) {
+        let outcome = perform(device, &operation);
+        plan.did(cells, scratch, outcome);
     }
-    false
 }

@@ -95,7 +95,8 @@ impl FlashPlan {
         ensures steps { (at : FlashMachine) (f g : Flash)
             → StandsAt (plan_layout self.old (length cells.old)) self.old cells.old scratch.old at f
             → IfSome (operation_of self.old cells.old) (λ it. Performs self.old.places it (Answered answer) f g
-            → PlanMovesOn (plan_layout self.old (length cells.old)) (put_in self.old) (Answered answer) self.new cells.new scratch.new at g) }
+            → PlanMovesOn (plan_layout self.old (length cells.old)) (put_in self.old) (Answered answer)
+            self.new cells.new scratch.new at g) }
     {
         match self.step {
             PlanStep::Heading { bank } => self.after_head(cells, scratch, bank, answer),
@@ -136,8 +137,9 @@ impl FlashPlan {
         ensures taken { put_in self.old ≢ None → self.new.put ≡ None }
         ensures steps { (scratch : CellList) (at : FlashMachine) (f g : Flash)
             → StandsAt (plan_layout self.old (length cells.old)) self.old cells.old scratch at f
-            → IfSome (operation_of self.old cells.old) (λ it. Performs self.old.places it (Done) f g
-            → PlanMovesOn (plan_layout self.old (length cells.old)) (put_in self.old) (Done) self.new cells.new scratch at g) }
+            → IfSome (operation_of self.old cells.old) (λ it. Performs self.old.places it Done f g
+            → PlanMovesOn (plan_layout self.old (length cells.old)) (put_in self.old) Done
+            self.new cells.new scratch at g) }
     {
         match self.step {
             PlanStep::Erasing { bank, generation } => {
@@ -222,8 +224,9 @@ impl FlashPlan {
             → operations_left (length cells.old) self.new < operations_left (length cells.old) self.old }
         ensures steps { (at : FlashMachine) (f g : Flash)
             → StandsAt (plan_layout self.old (length cells.old)) self.old cells.old scratch.old at f
-            → IfSome (operation_of self.old cells.old) (λ it. Performs self.old.places it (outcome) f g
-            → PlanMovesOn (plan_layout self.old (length cells.old)) (put_in self.old) (outcome) self.new cells.new scratch.new at g) }
+            → IfSome (operation_of self.old cells.old) (λ it. Performs self.old.places it outcome f g
+            → PlanMovesOn (plan_layout self.old (length cells.old)) (put_in self.old) outcome
+            self.new cells.new scratch.new at g) }
         ensures formats { (f g : Flash) → FormatsAt self.old cells.old f
             → IfSome (operation_of self.old cells.old) (λ it. Performs self.old.places it outcome f g
             → FormatsAt self.new cells.new g) }

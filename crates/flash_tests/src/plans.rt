@@ -49,7 +49,7 @@ fn start(flash: &mut MemFlash, cells: &mut [[u8; 32]], scratch: &mut [[u8; 32]])
         (memory_state flash.new).flash }
 {
     let mut plan = FlashPlan::start(flash.banks(), flash.places());
-    run_plan(flash, &mut plan, cells, scratch, 400);
+    run_plan(flash, &mut plan, cells, scratch);
     plan
 }
 
@@ -79,8 +79,8 @@ fn put(
 {
     match plan.put(cells, cell as u16, &[value; 32]) {
         Ok(()) => {
-            let rests = run_plan(flash, plan, cells, scratch, 400);
-            rests && plan.is_idle() && cells[cell as usize] == [value; 32]
+            run_plan(flash, plan, cells, scratch);
+            plan.is_idle() && cells[cell as usize] == [value; 32]
         }
         Err(_) => false,
     }
