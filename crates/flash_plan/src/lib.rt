@@ -1,18 +1,12 @@
 //! A store on a NOR flash as a machine that touches no flash: it hands out one operation after another.
 //!
-//! A [`FlashPlan`] is made at power-up. [`FlashPlan::next`] says which operation comes next; the caller performs it and
-//! hands its outcome to [`FlashPlan::did`]. If none comes next, the plan is idle or has ended. An idle plan takes a put
-//! by [`FlashPlan::put`]: it is done once the plan is idle again. An operation that fails ends the plan, and only a new
-//! one goes on. The cells, and as many again to read into, are slices of the caller's. No call takes memory.
-//! [`FlashPlan::format`] makes a store of the cells in the same way. [`run_plan`] is such a caller over any flash.
-//!
-//! Each plan comes to rest: `operations_left` falls with each operation. A start reads each place at most once. Then it
-//! erases at most one bank and programs at most one copy. A put is one program, with an erase and a copy before it if
-//! its bank is full.
-//!
-//! One relation (`StandsAt`) says at which point of the machine of `flash_laws` a plan stands over a flash. Each
-//! operation that is performed and reported leads to a point that the machine reaches. So its laws hold of a caller
-//! ([`laws`]).
+//! A [`FlashPlan`] is made at power-up, or by [`FlashPlan::format`]. [`FlashPlan::next`] says which operation comes
+//! next; the caller performs it and hands its outcome to [`FlashPlan::did`]. If none comes next, the plan is idle or
+//! has ended. An idle plan takes a put by [`FlashPlan::put`]: it is done once the plan is idle again. A failed operation
+//! ends the plan, and only a new one goes on. Each plan comes to rest: `operations_left` falls with each operation. The
+//! cells are slices of the caller's; no call takes memory. `StandsAt` says at which point of the machine of `flash_laws`
+//! a plan stands. Each operation that is performed and reported leads to a point that the machine reaches, so its laws
+//! hold of a caller ([`laws`]). [`run_plan`] is such a caller over any flash.
 #![tactic(auto)]
 
 pub mod laws;
