@@ -13,10 +13,17 @@ TOP = os.path.dirname(os.path.dirname(os.path.realpath(__file__)))
 CRATE = os.path.join(TOP, "crates", "rathonsi_c", "src")
 NUMBERS = {"u8": ("uint8_t", 1), "u16": ("uint16_t", 2), "u32": ("uint32_t", 4), "i32": ("int32_t", 4), "u64": ("uint64_t", 8), "usize": ("size_t", 0)}
 # names that the headers have otherwise: of structs, of fields, of parameters, and of what says how long a slice is
-STRUCTS = {"Plan": "RathonsiPlan", "Write": "RathonsiWrite"}
+STRUCTS = {"Plan": "RathonsiPlan", "Write": "RathonsiWrite", "FlashNumbers": "RathonsiFlash", "FlashOperation": "RathonsiFlashOperation"}
 FIELDS = {("Write", "size"): "length", ("RathonsiInput", "size"): "length"}
 PARAMETERS = {"id": "data_id"}
 LENGTHS = {"routes": "count", "authkey": "key_length"}
+# structs of which C knows the size alone, and those within it, of which it knows nothing
+OPAQUE = {"FlashNumbers"}
+WITHIN = {"StepNumbers", "BestNumbers", "PutNumbers"}
+# a slice of cells
+CELL = ("[[u8; 32]]", "RathonsiCell", 32)
+# the sources of structs that other crates have
+OTHERS = ("store_plan/src/planning.rt", "flash_calls/src/numbers.rt", "flash_calls/src/operations.rt")
 # three fields of one type, which are one array for C
 ARRAYS = {"Plan": ("writes", "Write", 3)}
 
@@ -45,7 +52,7 @@ def constants():
 
 def structs():
     """The structs that cross to C: name, its fields with their types."""
-    paths = [*sorted(glob.glob(os.path.join(CRATE, "*.rt"))), os.path.join(TOP, "crates", "store_plan", "src", "planning.rt")]
+    paths = [*sorted(glob.glob(os.path.join(CRATE, "*.rt"))), *(os.path.join(TOP, "crates", it) for it in OTHERS)]
     found = {}
     for path in paths:
         for name, body in re.findall(r"#\[repr\(C\)\]\s*pub struct (\w+) \{(.*?)\}", code_of(path), re.S):
@@ -84,7 +91,11 @@ def places(struct, known):
 
 def struct_lines(struct, known):
     name, (size, _, fields) = named(struct), places(struct, known)
+    if struct in WITHIN:
+        return
     yield f"_Static_assert(sizeof({name}) == {size}, \"the size of {name}\");"
+    if struct in OPAQUE:
+        return
     if struct in ARRAYS:
         field, element, count = ARRAYS[struct]
         fields = [(field, named(element), count, 0, size)]
@@ -114,6 +125,10 @@ def parameters(params, known):
             yield NUMBERS[kind][0] + " ", name, ""
             continue
         const, inner = "" if pointer[1] else "const ", pointer[2].strip()
+        if inner == CELL[0]:
+            yield f"{const}{CELL[1]} *", name, ""
+            yield "size_t ", f"{name}_length", ""
+            continue
         part = re.fullmatch(r"\[([^;]*)\]", inner)
         element, count, _, _ = layout(part[1] if part else inner, known)
         if count:
@@ -126,7 +141,7 @@ def parameters(params, known):
 
 def headers():
     """The prototypes of the headers: name, the names of its parameters."""
-    whole = "".join(read(os.path.join(TOP, "include", name)) for name in ("rathonsi.h", "rathonsi_store.h"))
+    whole = "".join(read(os.path.join(TOP, "include", name)) for name in ("rathonsi.h", "rathonsi_store.h", "rathonsi_flash.h"))
     whole = re.sub(r"^#.*?[^\\]$", "", re.sub(r"/\*.*?\*/", " ", whole, flags=re.S), flags=re.M | re.S)
     return {name: [re.sub(r"\[.*\]", "", it).split()[-1].lstrip("*") for it in params.split(",") if it.strip() != "void"]
             for name, params in re.findall(r"\w+\s+(rathonsi_\w+)\(([^)]*)\)\s*;", whole)}
@@ -153,10 +168,11 @@ def main():
         print(line, file=sys.stderr)
     if wrong:
         sys.exit(1)
-    lines = ["/* checks/c_assertions.py wrote this from the crate rathonsi_c. */", "#include <stddef.h>", '#include "rathonsi_store.h"', ""]
+    lines = ["/* checks/c_assertions.py wrote this from the crate rathonsi_c. */", "#include <stddef.h>", '#include "rathonsi_flash.h"', ""]
     lines += [f'_Static_assert(RATHONSI_{name} == {number}, "{name}");' for name, number in constants().items()]
     lines += ["#define COUNTED(name, number) + (RATHONSI_##name == (number))",
               f'_Static_assert(0 RATHONSI_STATUSES(COUNTED) == {len(constants())}, "RATHONSI_STATUSES");']
+    lines.append(f'_Static_assert(sizeof({CELL[1]}) == {CELL[2]}, "the size of {CELL[1]}");')
     lines += [line for struct in known for line in struct_lines(struct, known)]
     for name, (params, result) in found.items():
         words = ", ".join(f"{before}{word}{after}" for before, word, after in parameters(params, known))

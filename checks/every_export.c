@@ -7,9 +7,10 @@
 #include <stdlib.h>
 #include <string.h>
 
-#include "rathonsi_store.h"
+#include "rathonsi_flash.h"
 
-enum { ROUTES = 3, SIZE = RATHONSI_STORE_SIZE(ROUTES), MORE = 68, SLOTS = 14, STATUSES = 18 };
+enum { ROUTES = 3, SIZE = RATHONSI_STORE_SIZE(ROUTES), MORE = 68, SLOTS = 14, STATUSES = 19 };
+enum { CELLS = RATHONSI_FLASH_CELLS(ROUTES), LINES = CELLS + 6, BANKS = 3 };
 
 static uint8_t image[SIZE + 2 * MORE], key[16], uid[15], text[320], pdu[80], payload[80], mac[16], iv[16], keys[SLOTS][16];
 static RathonsiRoute routes[ROUTES];
@@ -17,6 +18,10 @@ static RathonsiPlan plan;
 static RathonsiUpdate update;
 static RathonsiRequest request;
 static RathonsiReply reply;
+static RathonsiFlash flash;
+static RathonsiFlashOperation operation;
+static RathonsiCell cells[CELLS], scratch[CELLS];
+static uint8_t lines[BANKS][LINES * 48];
 static uint32_t state, loads;
 static unsigned long seen[STATUSES];
 static uint64_t sum = UINT64_C(0xcbf29ce484222325);
@@ -384,13 +389,72 @@ static void call_store(void) {
     add(image, sizeof image);
 }
 
+/* Performs the operation on the lines; now and then it fails, or gives something else. */
+static uint32_t perform_operation(void) {
+    uint8_t *at;
+    if (operation.bank >= BANKS || operation.offset > sizeof lines[0] - 48u || one_in(400)) return below(5);
+    at = lines[operation.bank] + operation.offset;
+    switch (operation.kind) {
+    case RATHONSI_FLASH_READ: memcpy(operation.bytes, at, 48); break;
+    case RATHONSI_FLASH_ERASE: memset(lines[operation.bank], 0xff, sizeof lines[0]); break;
+    default: memcpy(at, operation.bytes, 48); break;
+    }
+    if (one_in(2000)) flip(operation.bytes, 48);
+    return operation.kind == RATHONSI_FLASH_READ && operation.bytes[47] == 0xff ? RATHONSI_FLASH_BLANK : RATHONSI_FLASH_DONE;
+}
+
+/* One operation: what comes next, and its outcome. */
+static int32_t one_operation(size_t n) {
+    int32_t is = status(rathonsi_flash_next(&flash, cells, n, &operation));
+    add_number(operation.kind);
+    add_number(operation.bank);
+    add_number(operation.offset);
+    add_number(operation.length);
+    if (is != RATHONSI_OK || operation.kind == RATHONSI_FLASH_NONE) return is;
+    if (operation.kind == RATHONSI_FLASH_PROGRAM) add(operation.bytes, operation.length);
+    const size_t m = n > 0 && one_in(80) ? n - 1 : n;
+    const uint32_t outcome = perform_operation();
+    status(rathonsi_flash_did(&flash, cells, n, scratch, m, outcome, &operation));
+    return is;
+}
+
+static void begin_flash(size_t n, size_t size) {
+    const uint16_t unit = (uint16_t)(one_in(12) ? below(140) : 8 + 8 * below(2));
+    const uint8_t banks = (uint8_t)(one_in(12) ? below(20) : BANKS);
+    const uint32_t bank_size = one_in(12) ? below(20000) : sizeof lines[0];
+    if (one_in(3))
+        status(rathonsi_flash_take(&flash, unit, banks, bank_size, image, size, cells, n));
+    else
+        status(rathonsi_flash_begin(&flash, unit, banks, bank_size, n));
+}
+
+static void call_flash(void) {
+    const size_t n = one_in(40) ? below(CELLS + 1) : CELLS, size = one_in(40) ? below(SIZE + MORE + 1) : SIZE;
+    uint8_t made[SIZE + MORE];
+    switch (below(6)) {
+    case 0: begin_flash(n, size); break;
+    case 1: status(rathonsi_flash_put(&flash, &plan, cells, n)); break;
+    case 2:
+        memset(made, 0, sizeof made);
+        status(rathonsi_flash_image(&flash, cells, n, made, size));
+        add(made, sizeof made);
+        break;
+    case 3: one_operation(n); break;
+    default:
+        for (int i = 0; i < 200 && one_operation(n) == RATHONSI_OK && operation.kind != RATHONSI_FLASH_NONE; i++) continue;
+        break;
+    }
+    add(cells, sizeof cells);
+}
+
 int main(int count, char **words) {
     long rounds = count > 1 ? atol(words[1]) : 20000;
     state = count > 2 ? (uint32_t)atol(words[2]) : 88172645u;
     add_number(rathonsi_version());
     make_store();
     for (long i = 1; i <= rounds; i++) {
-        switch (below(8)) {
+        switch (below(9)) {
+        case 8: call_flash(); break;
         case 0: call_cipher(); break;
         case 1: call_pdu(); break;
         case 2: call_update(); break;

@@ -185,15 +185,17 @@ extern "C" {
  * something else than a bound of this Data ID and direction. A cell that rathonsi_route_make never
  * made holds zero bytes. */
 #define RATHONSI_WRONG_CELL 17
+/* An operation on the flash failed. Only rathonsi_flash_next answers it. */
+#define RATHONSI_FAILED 18
 
-/* All statuses of both headers, for a table of names: RATHONSI_STATUSES(X) is X(name, number) for
+/* All statuses of all headers, for a table of names: RATHONSI_STATUSES(X) is X(name, number) for
  * each of them. Of X(name, number) as `case number: return #name;` comes a function that names
  * them. */
 #define RATHONSI_STATUSES(X) \
     X(OK, 0) X(BAD_LENGTH, 1) X(BAD_VALUE, 2) X(FRESHNESS_FAILURE, 3) X(VERIFICATION_FAILURE, 4) \
     X(BAD_ID, 5) X(BAD_MAC, 6) X(NO_STORE, 7) X(DAMAGED, 8) X(BUSY, 9) X(RESERVE, 10) \
     X(EXHAUSTED, 11) X(KEY_EMPTY, 12) X(KEY_INVALID, 13) X(KEY_NOT_AVAILABLE, 14) \
-    X(KEY_WRITE_PROTECTED, 15) X(KEY_UPDATE_ERROR, 16) X(WRONG_CELL, 17)
+    X(KEY_WRITE_PROTECTED, 15) X(KEY_UPDATE_ERROR, 16) X(WRONG_CELL, 17) X(FAILED, 18)
 
 /* A store is a twin store of version 1. It has a header, fourteen cells of key slots, and after
  * them a cell for each route, up to 256. */

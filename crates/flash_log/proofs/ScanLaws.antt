@@ -9,7 +9,7 @@ use Rattle.flash_places.specs.Places.{FlashPlace, Flash, SameBank, SameOthers, L
 use Rattle.flash_laws.specs.Logs.{CellList, IsLog}
 use Rattle.flash_laws.specs.Lives.{FlashLayout, ScanFinds, off, found, scans, cuts_scan}
 use Rattle.flash_log.specs.declared.reading.LogEnd.{LogEnd}
-use Rattle.flash_log.specs.declared.scanning.Found.{Found}
+use Rattle.flash_log.specs.declared.scanning.FoundLog.{FoundLog}
 use Rattle.flash_log.specs.declared.scanning.Best.{Best}
 use Rattle.flash_log.specs.declared.scanning.Best.TheVariants.{NoLog, One, Tie}
 use Rattle.flash_log.specs.Going.{machine, Goes, BlankFrom}
@@ -110,13 +110,13 @@ module _ (n i : ℕ) (old : ℕ → ℕ → Option FlashLine) (r : ℕ → Optio
       | inr ne ↦ most x g left end (omega (arith, below, ne)) (to_old x g left end ne that)
     ]
 
-    one_most : (b : Found) (cells : CellList) → HaveOne n old i b cells → (x g : ℕ) (left : CellList) (end : ℕ) → x < i → IsLog n (old x) g left end → g ≤ b.generation
+    one_most : (b : FoundLog) (cells : CellList) → HaveOne n old i b cells → (x g : ℕ) (left : CellList) (end : ℕ) → x < i → IsLog n (old x) g left end → g ≤ b.generation
     one_most b cells h x g left end below that = elim (cases_eq x b.bank) [
       | inl here ↦ (let e = one_generation n (old b.bank) g b.generation left cells end b.next (subst (λ z. IsLog n (old z) g left end) here that) h.is in omega (arith, e))
       | inr ne ↦ (let l = h.wins x g left end below ne that in omega (arith, l))
     ]
 
-    one_stays : (b : Found) (cells : CellList) → HaveOne n old i b cells → log.generation < b.generation → HaveOne n now (suc i) b cells
+    one_stays : (b : FoundLog) (cells : CellList) → HaveOne n old i b cells → log.generation < b.generation → HaveOne n now (suc i) b cells
     one_stays b cells h less = record {
       inside = omega (arith, h.inside);
       is = of_old b.bank b.generation cells b.next (λ e. omega (arith, e, h.inside)) h.is;
@@ -126,7 +126,7 @@ module _ (n i : ℕ) (old : ℕ → ℕ → Option FlashLine) (r : ℕ → Optio
       ];
     }
 
-    one_ties : (b : Found) (cells : CellList) → HaveOne n old i b cells → b.generation ≡ log.generation → HaveTwo n now (suc i) log.generation
+    one_ties : (b : FoundLog) (cells : CellList) → HaveOne n old i b cells → b.generation ≡ log.generation → HaveTwo n now (suc i) log.generation
     one_ties b cells h same = record {
       one = b.bank;
       other = i;
@@ -153,7 +153,7 @@ module _ (n i : ℕ) (old : ℕ → ℕ → Option FlashLine) (r : ℕ → Optio
 
   -- the best of the banks and the new one
   module _ (log : LogEnd) (scratch : CellList) (is : IsLog n r log.generation scratch log.next) where
-    of_one : (b : Found) (cells : CellList) → HaveOne n old i b cells → (less same : Bool) → nat_lt b.generation log.generation ≡ less → nat_eq b.generation log.generation ≡ same
+    of_one : (b : FoundLog) (cells : CellList) → HaveOne n old i b cells → (less same : Bool) → nat_lt b.generation log.generation ≡ less → nat_eq b.generation log.generation ≡ same
         → BestIs n now (suc i) (if less then One (found_at i log) else (if same then Tie log.generation else One b)) (if less then scratch else cells)
     of_one b cells h true same less_is same_is = new_best log scratch is (λ x g left end below that.
         let m = one_most log scratch is b cells h x g left end below that in let l = ltb-true b.generation log.generation less_is in omega (arith, m, l))
@@ -245,7 +245,7 @@ two_count_not l read t h s =
 -- ---- all banks were read
 
 module _ (l : FlashLayout) (count : ℕ) (f g : Flash) (cells : CellList) (all : count ≡ l.banks) where
-  pub scan_found : (log : Found) → ScannedTo l.cells count f g (One log) cells → Goes l (machine f off) (machine g (found log.bank log.generation cells log.next))
+  pub scan_found : (log : FoundLog) → ScannedTo l.cells count f g (One log) cells → Goes l (machine f off) (machine g (found log.bank log.generation cells log.next))
   scan_found log s =
       let h : HaveOne l.cells s.read l.banks log cells = subst (λ k. HaveOne l.cells s.read k log cells) all s.is in
       goes_one l scans _ _ (λ old new e. e, tt) (record {
@@ -275,7 +275,7 @@ module _ (n i : ℕ) (read : ℕ → ℕ → Option FlashLine) (m g : Flash) (ce
   free_same (Tie t) h free = tt
 
   module _ (log : LogEnd) (new : log.is_free ≡ true → BlankFrom g i log.next) where
-    free_one : (old : Found) → BestIs n read i (One old) cells → FreeBest m (One old) → (less same : Bool)
+    free_one : (old : FoundLog) → BestIs n read i (One old) cells → FreeBest m (One old) → (less same : Bool)
         → FreeBest g (if less then One (found_at i log) else (if same then Tie log.generation else One old))
     free_one old h free true same = new
     free_one old h free false true = tt

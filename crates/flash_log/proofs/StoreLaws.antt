@@ -5,7 +5,7 @@ use Rattle.flash_places.specs.Places.{Flash, Programs, CutsProgram}
 use Rattle.flash_laws.specs.Logs.{CellList}
 use Rattle.flash_laws.specs.Lives.{FlashLayout, FlashStage, off, found, ready, resumes, IsUp, was_ready, puts, cuts_put, next_bank}
 use Rattle.flash_log.specs.Going.{machine, Goes, BlankFrom, Renews, CutsRenew}
-use Rattle.flash_log.specs.declared.scanning.Found.{Found}
+use Rattle.flash_log.specs.declared.scanning.FoundLog.{FoundLog}
 use Rattle.flash_log.specs.Taking.{last_generation}
 use Rattle.flash_log.specs.Scanned.{NoLaterHeads}
 use Rattle.flash_log.specs.Stores.{PutsIn, CutsPutIn}
@@ -55,7 +55,7 @@ module _ (l : FlashLayout) (before : FlashStage) (bank g next : ℕ) (cells : Ce
   })
 
 -- a start goes on in the log that it found
-pub goes_on : (l : FlashLayout) (banks : ℕ) (log : Found) (cells : CellList) (f g : Flash) (latest : List ℕ)
+pub goes_on : (l : FlashLayout) (banks : ℕ) (log : FoundLog) (cells : CellList) (f g : Flash) (latest : List ℕ)
     → Goes l (machine f off) (machine g (found log.bank log.generation cells log.next)) → banks ≡ l.banks → 2 ≤ l.banks → log.bank < l.banks
     → BlankFrom g log.bank log.next → NoLaterHeads g l.banks latest → get_or latest (next_bank banks log.bank) 0 < last_generation → get_or latest (next_bank banks log.bank) 0 < log.generation
     → Goes l (machine f off) (machine g (ready log.bank log.generation cells log.next))

@@ -7,12 +7,12 @@ use Rattle.flash_laws.specs.Lives.{FlashLayout, ScanFinds}
 use Rattle.flash_log.specs.Going.{BlankFrom}
 use Rattle.flash_log.specs.Taking.{NoLaterHead}
 use Rattle.flash_log.specs.declared.reading.LogEnd.{LogEnd}
-use Rattle.flash_log.specs.declared.scanning.Found.{Found}
+use Rattle.flash_log.specs.declared.scanning.FoundLog.{FoundLog}
 use Rattle.flash_log.specs.declared.scanning.Best.{Best}
 use Rattle.flash_log.specs.declared.scanning.Best.TheVariants.{NoLog, One, Tie}
 
 -- one bank more has this log: which is the best then
-abbrev pub found_at : ℕ → LogEnd → Found
+abbrev pub found_at : ℕ → LogEnd → FoundLog
 found_at bank log = record { bank = bank; generation = log.generation; next = log.next; is_free = log.is_free }
 
 abbrev pub judged : Best → ℕ → LogEnd → Best
@@ -33,7 +33,7 @@ abbrev pub HaveNone : ℕ → (ℕ → ℕ → Option FlashLine) → ℕ → Typ
 HaveNone n read count = (x g : ℕ) (left : CellList) (end : ℕ) → x < count → IsLog n (read x) g left end → ⊥
 
 -- one of them has this log, and it is later than every other
-pub record HaveOne (n : ℕ) (read : ℕ → ℕ → Option FlashLine) (count : ℕ) (log : Found) (cells : CellList) : Type 0 where
+pub record HaveOne (n : ℕ) (read : ℕ → ℕ → Option FlashLine) (count : ℕ) (log : FoundLog) (cells : CellList) : Type 0 where
   pub inside : log.bank < count
   pub is : IsLog n (read log.bank) log.generation cells log.next
   pub wins : (x g : ℕ) (left : CellList) (end : ℕ) → x < count → x ≢ log.bank → IsLog n (read x) g left end

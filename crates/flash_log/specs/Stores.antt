@@ -1,12 +1,13 @@
 -- A store in memory, beside the machine.
-use Rattle.std.specs.Prelude.{◌≡◌, ◌+◌, ◌-◌, ◌^◌, ◌<◌, ◌⊎◌, ℕ, true, List, length}
+use Rattle.std.specs.Prelude.{◌≡◌, ◌+◌, ◌-◌, ◌^◌, ◌<◌, ◌⊎◌, ℕ, true, false, List, length, set}
+use Rattle.basics.specs.FaultCount.{Rose}
 use Rattle.flash_places.specs.Places.{Flash}
 use Rattle.flash_places.specs.State.{FlashState}
 use Rattle.flash_laws.specs.Logs.{CellList}
 use Rattle.flash_laws.specs.Lives.{FlashLayout, FlashMachine, FlashStage, off, found, ready, puts, cuts_put}
 use Rattle.flash_log.specs.declared.store.FlashLog.{FlashLog}
 use Rattle.flash_log.specs.Taking.{last_generation}
-use Rattle.flash_log.specs.Going.{machine, Goes, GoesAndDoes, BlankFrom}
+use Rattle.flash_log.specs.Going.{machine, layout_on, Goes, GoesAndDoes, BlankFrom}
 
 abbrev pub stage_of : FlashLog → CellList → FlashStage
 stage_of s cells = ready s.bank s.generation cells s.next
@@ -35,3 +36,25 @@ PutsIn l cell payload a b = GoesAndDoes l (puts cell payload) a b
 -- the put wasn't begun, or the power went within it
 abbrev pub CutsPutIn : FlashLayout → ℕ → List ℕ → FlashMachine → FlashMachine → Type 0
 CutsPutIn l cell payload a b = Goes l a b ⊎ GoesAndDoes l (cuts_put cell payload) a b
+
+-- a store in memory with its cells, and the flash below it
+pub record StoreOnFlash : Type 0 where
+  pub store : FlashLog
+  pub cells : CellList
+  pub device : FlashState
+
+-- what a put of these bytes at this cell leaves if it answers Ok
+pub record PutsOnFlash (cell : ℕ) (payload : List ℕ) (old new : StoreOnFlash) : Type 0 where
+  pub count : new.device.faults ≡ old.device.faults
+  pub made : new.cells ≡ set old.cells cell payload
+  pub puts : PutsIn (layout_on old.device (length old.cells)) cell payload
+      (machine old.device.flash (stage_of old.store old.cells))
+      (machine new.device.flash (stage_of new.store new.cells))
+  pub stays : new.store.is_ready ≡ true
+
+-- what it leaves if an operation of the flash failed
+pub record FailsPutOnFlash (cell : ℕ) (payload : List ℕ) (old new : StoreOnFlash) : Type 0 where
+  pub failed : Rose old.device.faults new.device.faults
+  pub cut : CutsPutIn (layout_on old.device (length old.cells)) cell payload
+      (machine old.device.flash (stage_of old.store old.cells)) (machine new.device.flash off)
+  pub broken : new.store.is_ready ≡ false

@@ -80,7 +80,7 @@ pub(crate) fn renew<D: FlashDevice>(
 }
 
 /// Makes a log of these cells in bank 0, of generation 1, and leaves every other bank blank. A power cut within it
-/// leaves no store, or this one.
+/// leaves this store, none, or one that was there before.
 pub fn format<D: FlashDevice>(device: &mut D, cells: &[[u8; 32]]) -> Result<(), FlashFailed>
     requires room { length cells.now < (D.state device.old).places }
     requires few { length cells.now < 2 ^ 16 }

@@ -13,7 +13,7 @@ use flash_places::{FlashDevice, FlashFailed};
 
 /// A log and its bank.
 #[derive(Clone, Copy, Debug, PartialEq, Eq, Drop)]
-pub struct Found {
+pub struct FoundLog {
     pub bank: u8,
     pub generation: u64,
     /// The place after its last line.
@@ -26,7 +26,7 @@ pub struct Found {
 #[derive(Clone, Copy, Debug, PartialEq, Eq, Drop)]
 pub enum Best {
     NoLog,
-    One(Found),
+    One(FoundLog),
     /// Two logs have this generation.
     Tie(u64),
 }
@@ -44,7 +44,7 @@ pub fn judge(best: Best, bank: u8, log: LogEnd) -> (Best, bool)
     ensures best { result.0 ≡ judged best bank log }
     ensures newest { result.1 ≡ is_newest best log }
 {
-    let new = Best::One(Found {
+    let new = Best::One(FoundLog {
         bank,
         generation: log.generation,
         next: log.next,
@@ -132,7 +132,7 @@ pub(crate) fn scan<D: FlashDevice>(
     latest: &mut [u64; 16],
     cells: &mut [[u8; 32]],
     scratch: &mut [[u8; 32]],
-) -> Result<Option<Found>, FlashFailed>
+) -> Result<Option<FoundLog>, FlashFailed>
     requires alike { length scratch.old ≡ length cells.old }
     requires room { length cells.old < (D.state device.old).places }
     requires few { length cells.old < 2 ^ 16 }

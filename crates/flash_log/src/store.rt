@@ -1,5 +1,5 @@
 //! The store.
-ghost use Rattle.std.specs.Prelude.{◌≡◌, ◌≤◌, ◌<◌, length, get_or, slice_set, true, false, Err, IfOk, OnOk, OnErr};
+ghost use Rattle.std.specs.Prelude.{◌≡◌, ◌≤◌, ◌<◌, length, get_or, true, false, Err, IfOk, OnOk, OnErr};
 ghost use Rattle.basics.specs.FaultCount.{Rose};
 ghost use Rattle.flash_places.specs.Places.{SameFlash};
 ghost use Rattle.flash_places.specs.State.{FlashRuns};
@@ -7,12 +7,12 @@ ghost use Rattle.flash_laws.specs.Lives.{off, next_bank};
 ghost use Rattle.flash_log.specs.Going.{machine, layout_on, Goes};
 ghost use Rattle.flash_log.specs.Scanned.{NoLogCounts};
 ghost use Rattle.flash_log.specs.Taking.{last_generation};
-ghost use Rattle.flash_log.specs.Stores.{FitsFlash, FindsLast, IsStoreOf, stage_of, PutsIn, CutsPutIn};
+ghost use Rattle.flash_log.specs.Stores.{FitsFlash, FindsLast, IsStoreOf, stage_of, PutsOnFlash, FailsPutOnFlash};
 ghost use Rattle.flash_log.specs.declared.store.AttachFault.TheVariants.{Failed as attach_failed, NoStore, Exhausted as attach_exhausted};
 ghost use Rattle.flash_log.specs.declared.store.PutFault.TheVariants.{Failed as put_failed, Exhausted as put_exhausted, NotReady};
 
 use crate::copying::{next_bank, renew};
-use crate::scanning::{Found, scan};
+use crate::scanning::{FoundLog, scan};
 use flash_places::{FlashDevice, FlashLine};
 
 /// Why a store isn't attached.
@@ -50,12 +50,14 @@ pub struct FlashLog {
 
 /// Whether a start may go on in the log that it found: its bank is free behind it, and the next bank's head was read
 /// and is older.
-pub fn may_go_on(banks: u8, log: &Found, latest: &[u64; 16]) -> bool
+pub fn may_go_on(banks: u8, log: &FoundLog, latest: &[u64; 16]) -> bool
     requires inside { log.now.bank < banks }
     requires few { banks ≤ 16 }
     ensures free { result ≡ true → log.now.is_free ≡ true }
     ensures read { result ≡ true → get_or latest.now (next_bank banks log.now.bank) 0 < last_generation }
     ensures older { result ≡ true → get_or latest.now (next_bank banks log.now.bank) 0 < log.now.generation }
+    ensures may { log.now.is_free ≡ true → get_or latest.now (next_bank banks log.now.bank) 0 < last_generation
+        → get_or latest.now (next_bank banks log.now.bank) 0 < log.now.generation → result ≡ true }
 {
     let next = next_bank(banks, log.bank);
     let head = latest[next as usize];
@@ -174,22 +176,17 @@ impl FlashLog {
         requires cell { cell < length cells.old }
         requires store { IsStoreOf self.old (length cells.old) (D.state device.old) }
         ensures runs { FlashRuns (D.state device.old) (D.state device.new) }
-        ensures count { OnOk result ((D.state device.new).faults ≡ (D.state device.old).faults) }
-        ensures failed { result ≡ Err put_failed → Rose (D.state device.old).faults (D.state device.new).faults }
+        ensures put { OnOk result (PutsOnFlash cell payload.now
+            (record { store = self.old; cells = cells.old; device = D.state device.old })
+            (record { store = self.new; cells = cells.new; device = D.state device.new })) }
+        ensures failed { result ≡ Err put_failed → FailsPutOnFlash cell payload.now
+            (record { store = self.old; cells = cells.old; device = D.state device.old })
+            (record { store = self.new; cells = cells.new; device = D.state device.new }) }
         ensures exhausted { result ≡ Err put_exhausted → (self.old.generation ≡ last_generation)
             × ((D.state device.old).places ≤ self.old.next) }
         ensures not_ready { result ≡ Err NotReady → self.old.is_ready ≡ false }
-        ensures made { OnOk result (cells.new ≡ slice_set cells.old cell payload.now) }
         ensures kept { OnErr result (cells.new ≡ cells.old) }
-        ensures puts { OnOk result (PutsIn (layout_on (D.state device.old) (length cells.old)) cell payload.now
-            (machine (D.state device.old).flash (stage_of self.old cells.old))
-            (machine (D.state device.new).flash (stage_of self.new cells.new))) }
-        ensures cut { result ≡ Err put_failed → CutsPutIn (layout_on (D.state device.old) (length cells.old)) cell
-            payload.now (machine (D.state device.old).flash (stage_of self.old cells.old))
-            (machine (D.state device.new).flash off) }
         ensures store { IsStoreOf self.new (length cells.old) (D.state device.new) }
-        ensures stays { OnOk result (self.new.is_ready ≡ true) }
-        ensures broken { result ≡ Err put_failed → self.new.is_ready ≡ false }
     {
         if !self.is_ready {
             return Err(PutFault::NotReady);

@@ -5,3 +5,4 @@ pub mod TurnLaws
 pub mod FormatSteps
 pub mod CallerLemmas
 pub mod LeftSteps
+pub mod TellingSteps

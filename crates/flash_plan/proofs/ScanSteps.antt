@@ -4,7 +4,7 @@ use Rattle.flash_places.specs.Places.{Flash, SameFlash}
 use Rattle.flash_laws.specs.Logs.{CellList}
 use Rattle.flash_laws.specs.Lives.{FlashLayout, FlashStage, off, found, ready, cuts, was_found, next_bank}
 use Rattle.flash_log.specs.declared.reading.LogEnd.{LogEnd}
-use Rattle.flash_log.specs.declared.scanning.Found.{Found}
+use Rattle.flash_log.specs.declared.scanning.FoundLog.{FoundLog}
 use Rattle.flash_log.specs.declared.scanning.Best.{Best}
 use Rattle.flash_log.specs.declared.scanning.Best.TheVariants.{NoLog, One, Tie}
 use Rattle.flash_log.specs.Going.{machine, Goes}
@@ -72,7 +72,7 @@ module _ (l : FlashLayout) (count : ℕ) (first f : Flash) (latest : List ℕ) (
     stands = record { first = first; is = refl; reads = scan_tie l count first f cells all t b.scanned };
   }
 
-  module _ (log : Found) (b : BeforeBank l.cells count first f (One log) latest cells) where
+  module _ (log : FoundLog) (b : BeforeBank l.cells count first f (One log) latest cells) where
     is_found : Goes l (machine first off) (machine f (found log.bank log.generation cells log.next))
     is_found = scan_found l count first f cells all log b.scanned
 

@@ -3,3 +3,4 @@ pub mod Plans
 pub mod Standing
 pub mod Turns
 pub mod Formatting
+pub mod Telling

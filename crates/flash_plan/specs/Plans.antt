@@ -1,5 +1,6 @@
 -- A plan's sizes, and which operation comes next.
-use Rattle.std.specs.Prelude.{◌≡◌, ◌+◌, ◌-◌, ◌*◌, ◌^◌, ◌<◌, ◌≤◌, ℕ, suc, Option, Some, None, IfSome, [], length, get_or, nat_eq, nat_lt, if◌then◌else◌}
+use Rattle.std.specs.Prelude.{◌≡◌, ◌+◌, ◌-◌, ◌*◌, ◌^◌, ◌<◌, ◌≤◌, ℕ, suc, Option, Some, None, IfSome, [], length, get_or}
+use Rattle.std.specs.Prelude.{nat_eq, nat_lt, if◌then◌else◌}
 use Rattle.flash_places.specs.declared.FlashLine.TheVariants.{Head, Entry}
 use Rattle.flash_laws.specs.Logs.{CellList}
 use Rattle.flash_laws.specs.Lives.{next_bank}
@@ -13,7 +14,8 @@ use Rattle.flash_plan.specs.declared.operations.FlashOutcome.TheVariants.{Answer
 use Rattle.flash_plan.specs.declared.plans.PlanEnd.TheVariants.{Formatted, Failed as end_failed}
 use Rattle.flash_plan.specs.declared.plans.WaitingPut.{WaitingPut}
 use Rattle.flash_plan.specs.declared.plans.PlanStep.{PlanStep}
-use Rattle.flash_plan.specs.declared.plans.PlanStep.TheVariants.{Heading, Copied, Puts, Free, Erasing, Copying, Ready, Clearing, Filling, Ended}
+use Rattle.flash_plan.specs.declared.plans.PlanStep.TheVariants.{Heading, Copied, Puts, Free, Erasing, Copying, Ready}
+use Rattle.flash_plan.specs.declared.plans.PlanStep.TheVariants.{Clearing, Filling, Ended}
 use Rattle.flash_plan.specs.declared.plans.FlashPlan.{FlashPlan}
 
 -- the numbers of a step are those of a flash of these sizes and a store of n cells
@@ -23,7 +25,8 @@ StepFits banks places n (Copied bank generation done) put = (bank < banks) × ((
 StepFits banks places n (Puts bank generation place) put = (bank < banks) × ((place < places) × (put ≡ None))
 StepFits banks places n (Free bank generation next place) put = (bank < banks) × ((place < places) × (put ≡ None))
 StepFits banks places n (Erasing bank generation) put = (bank < banks) × (generation < last_generation)
-StepFits banks places n (Copying bank generation done) put = (bank < banks) × ((generation < last_generation) × (done ≤ n))
+StepFits banks places n (Copying bank generation done) put =
+    (bank < banks) × ((generation < last_generation) × (done ≤ n))
 StepFits banks places n (Ready bank generation next) put = (bank < banks) × IfSome put (λ waiting. next < places)
 StepFits banks places n (Clearing bank) put = (bank < banks) × (put ≡ None)
 StepFits banks places n (Filling done) put = (done ≤ n) × (put ≡ None)
@@ -115,7 +118,8 @@ step_operation banks (Copied bank generation done) put cells = Some (Read bank (
 step_operation banks (Puts bank generation place) put cells = Some (Read bank place)
 step_operation banks (Free bank generation next place) put cells = Some (Read bank place)
 step_operation banks (Erasing bank generation) put cells = Some (Erase (next_bank banks bank))
-step_operation banks (Copying bank generation done) put cells = Some (copy_operation (next_bank banks bank) generation done cells)
+step_operation banks (Copying bank generation done) put cells =
+    Some (copy_operation (next_bank banks bank) generation done cells)
 step_operation banks (Ready bank generation next) put cells = put_operation bank next put
 step_operation banks (Clearing bank) put cells = Some (Erase bank)
 step_operation banks (Filling done) put cells = Some (copy_operation 0 0 done cells)

@@ -1,10 +1,12 @@
 -- Where a plan stands: at which point of the machine, when the flash is so.
-use Rattle.std.specs.Prelude.{◌≡◌, ◌+◌, ◌<◌, ◌≤◌, ℕ, suc, true, Option, Some, None, IfSome, List, ◌∷◌, ◌++◌, length, take}
+use Rattle.std.specs.Prelude.{◌≡◌, ◌+◌, ◌<◌, ◌≤◌, ℕ, suc, true, Option, Some, None, IfSome, List, ◌∷◌, ◌++◌, length}
+use Rattle.std.specs.Prelude.{take}
 use Rattle.flash_places.specs.declared.FlashLine.{FlashLine}
 use Rattle.flash_places.specs.declared.FlashLine.TheVariants.{Head}
 use Rattle.flash_places.specs.Places.{FlashPlace, Flash, SameOthers, blank_place}
 use Rattle.flash_laws.specs.Logs.{CellList, copy_lines, after_lines}
-use Rattle.flash_laws.specs.Lives.{FlashLayout, FlashMachine, FlashStage, off, found, copying, ready, puts, cuts_put, DoesFlashDeed, IsUp, next_bank}
+use Rattle.flash_laws.specs.Lives.{FlashLayout, FlashMachine, FlashStage, off, found, copying, ready, puts, cuts_put}
+use Rattle.flash_laws.specs.Lives.{DoesFlashDeed, IsUp, next_bank}
 use Rattle.flash_log.specs.Going.{machine, Goes, BlankFrom}
 use Rattle.flash_log.specs.Taking.{Taken, ReadsLog, last_generation}
 use Rattle.flash_log.specs.Scanned.{ScannedTo, NoLogCounts, FreeBest, NoLaterHeads}
@@ -16,7 +18,8 @@ use Rattle.flash_plan.specs.declared.plans.WaitingPut.{WaitingPut}
 use Rattle.flash_plan.specs.declared.plans.PlanEnd.{PlanEnd}
 use Rattle.flash_plan.specs.declared.plans.PlanEnd.TheVariants.{NoStore, Exhausted, Formatted, Failed as end_failed}
 use Rattle.flash_plan.specs.declared.plans.PlanStep.{PlanStep}
-use Rattle.flash_plan.specs.declared.plans.PlanStep.TheVariants.{Heading, Copied, Puts, Free, Erasing, Copying, Ready, Clearing, Filling, Ended}
+use Rattle.flash_plan.specs.declared.plans.PlanStep.TheVariants.{Heading, Copied, Puts, Free, Erasing, Copying, Ready}
+use Rattle.flash_plan.specs.declared.plans.PlanStep.TheVariants.{Clearing, Filling, Ended}
 use Rattle.flash_plan.specs.declared.plans.FlashPlan.{FlashPlan}
 
 -- the places of a bank
@@ -106,9 +109,11 @@ StepAt l best latest cells scratch at f (Heading bank) =
 StepAt l best latest cells scratch at f (Copied bank generation done) =
     ReadsFrom at (λ first. WithinBank l.cells bank first f best latest cells (ReadsCopy generation done scratch))
 StepAt l best latest cells scratch at f (Puts bank generation place) =
-    ReadsFrom at (λ first. WithinBank l.cells bank first f best latest cells (ReadsPuts l.cells generation place scratch))
+    ReadsFrom at (λ first. WithinBank l.cells bank first f best latest cells
+    (ReadsPuts l.cells generation place scratch))
 StepAt l best latest cells scratch at f (Free bank generation next place) =
-    ReadsFrom at (λ first. WithinBank l.cells bank first f best latest cells (ReadsFree l.cells generation next place scratch))
+    ReadsFrom at (λ first. WithinBank l.cells bank first f best latest cells
+    (ReadsFree l.cells generation next place scratch))
 StepAt l best latest cells scratch at f (Erasing bank generation) = IsUpAt bank generation cells at f
 StepAt l best latest cells scratch at f (Copying bank generation done) = IsCopyingAt l bank generation done cells at f
 StepAt l best latest cells scratch at f (Ready bank generation next) = IsReadyAt bank generation next cells at f

@@ -41,7 +41,8 @@ pub record IsStanding (l : FlashLayout) (plan : FlashPlan) (cells scratch : Cell
   pub stands : StandsAt l plan cells scratch at f
 
 -- turns lead from a point to one at which it stands
-pub record TurnsTo (l : FlashLayout) (plan : FlashPlan) (cells scratch : CellList) (from : FlashMachine) (g : Flash) : Type 0 where
+pub record TurnsTo (l : FlashLayout) (plan : FlashPlan) (cells scratch : CellList) (from : FlashMachine) (g : Flash)
+    : Type 0 where
   pub turns : List Turn
   pub at : FlashMachine
   pub run : PlanTurns l turns from at

@@ -3,16 +3,19 @@
 //! A caller makes a plan at power-up, performs each operation that comes next, and reports its outcome. By the contract
 //! of [`FlashPlan::did`](crate::FlashPlan::did) each of these turns leads the machine of `flash_laws` on. The power may
 //! go at any time, and a new plan is made then.
-ghost use Rattle.std.specs.Prelude.{◌≡◌, ℕ, IfSome, List};
+ghost use Rattle.std.specs.Prelude.{◌≡◌, ℕ, Some, None, IfSome, List};
 ghost use Rattle.flash_places.specs.Places.{Flash};
 ghost use Rattle.flash_laws.specs.Logs.{CellList};
-ghost use Rattle.flash_laws.specs.Lives.{FlashLayout, FlashMachine, FlashFormatted, IsReadyFlash, Possible, off};
+ghost use Rattle.flash_laws.specs.Lives.{FlashLayout, FlashMachine, FlashFormatted, IsReadyFlash, Possible, next_bank};
+ghost use Rattle.flash_laws.specs.Lives.{off};
 ghost use Rattle.flash_log.specs.Going.{machine, Goes};
 ghost use Rattle.flash_plan.specs.declared.operations.FlashOutcome.{FlashOutcome};
+ghost use Rattle.flash_plan.specs.declared.operations.Operation.TheVariants.{Erase};
 ghost use Rattle.flash_plan.specs.declared.plans.FlashPlan.{FlashPlan};
 ghost use Rattle.flash_plan.specs.declared.plans.PlanEnd.TheVariants.{NoStore};
 ghost use Rattle.flash_plan.specs.declared.plans.PlanStep.TheVariants.{Ended};
 ghost use Rattle.flash_plan.specs.Performing.{DoesOperation};
+ghost use Rattle.flash_plan.specs.Telling.{PlaceAnswers, MustErase, IsTold};
 ghost use Rattle.flash_plan.specs.Plans.{IsIdle, Fails, operation_of, put_in};
 ghost use Rattle.flash_plan.specs.Standing.{plan_layout, StandsAt, MovesBy};
 ghost use Rattle.flash_plan.specs.Turns.{Turn, PlanTurns, puts_in, IsLived};
@@ -53,4 +56,15 @@ pub fn a_formatted_flash_has_a_store()
         (cells scratch : CellList) (f : Flash) → FlashFormatted (plan_layout plan n) first start
         → PlanTurns (plan_layout plan n) turns start at → StandsAt (plan_layout plan n) plan cells scratch at f
         → plan.step ≡ Ended NoStore → ⊥ }
+{}
+
+/// A start erases only if it must (`MustErase`): some place behind the log that counts wasn't read as blank, or the
+/// next bank's first place was read as nothing, or as a head that is no older. So a start to which all behind the log
+/// is told blank, and which reads that head, goes on in the log and erases nothing. By their contracts
+/// [`FlashPlan::start`](crate::FlashPlan::start) makes a plan that is told so, and
+/// [`FlashPlan::did`](crate::FlashPlan::did) keeps it one, whatever the answers are.
+pub fn a_start_erases_only_if_it_must()
+    ensures { (told : PlaceAnswers) (plan : FlashPlan) (cells : CellList) (target : ℕ) → IsTold told plan
+        → plan.put ≡ None → operation_of plan cells ≡ Some (Erase target) → (bank : ℕ)
+        × ((target ≡ next_bank plan.banks bank) × MustErase told plan.banks plan.places bank plan.best) }
 {}

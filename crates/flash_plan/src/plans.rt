@@ -6,9 +6,11 @@ ghost use Rattle.flash_laws.specs.Lives.{FlashMachine, off};
 ghost use Rattle.flash_log.specs.Going.{machine};
 ghost use Rattle.flash_log.specs.Taking.{last_generation};
 ghost use Rattle.flash_plan.specs.Performing.{IsWithinFlash, MayBegin};
-ghost use Rattle.flash_plan.specs.Plans.{IsPlanOf, StepFits, BestFits, IsIdle, IsFullAt, SameSizes, copy_operation, operation_of, operations_left};
+ghost use Rattle.flash_plan.specs.Plans.{IsPlanOf, StepFits, BestFits, IsIdle, IsFullAt, SameSizes, copy_operation};
+ghost use Rattle.flash_plan.specs.Plans.{operation_of, operations_left};
 ghost use Rattle.flash_plan.specs.Standing.{plan_layout, StandsAt};
 ghost use Rattle.flash_plan.specs.Formatting.{FormatsAt};
+ghost use Rattle.flash_plan.specs.Telling.{PlaceAnswers, IsTold};
 ghost use Rattle.flash_plan.specs.declared.plans.PlanPutFault.TheVariants.{NotIdle, Exhausted as put_exhausted};
 
 use crate::operations::Operation;
@@ -189,6 +191,7 @@ impl FlashPlan {
         ensures left { (n : ℕ) → operations_left n result ≤ banks * places + (n + 2) }
         ensures stands { (n : ℕ) (cells scratch : CellList) (f : Flash)
             → StandsAt (plan_layout result n) result cells scratch (machine f off) f }
+        ensures told { (told : PlaceAnswers) → IsTold told result }
     {
         FlashPlan {
             banks,
@@ -293,7 +296,8 @@ impl FlashPlan {
         ensures sizes { SameSizes self.old self.new }
         ensures kept { OnErr result (self.new ≡ self.old) }
         ensures not_idle { result ≡ Err NotIdle ↔ (IsIdle self.old → ⊥) }
-        ensures exhausted { result ≡ Err put_exhausted → IsFullAt self.old.places self.old.step }
+        ensures exhausted { result ≡ Err put_exhausted
+            ↔ (IsIdle self.old × IsFullAt self.old.places self.old.step) }
         ensures waits { OnOk result (self.new.put ≡ Some (record { cell = cell; payload = payload.now })) }
         ensures left { OnOk result (operations_left (length cells.now) self.new ≤ length cells.now + 3) }
         ensures stands { OnOk result ((scratch : CellList) (at : FlashMachine) (f : Flash)

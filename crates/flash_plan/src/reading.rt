@@ -8,8 +8,10 @@ ghost use Rattle.flash_laws.specs.Logs.{CellList};
 ghost use Rattle.flash_laws.specs.Lives.{off};
 ghost use Rattle.flash_log.specs.Going.{machine};
 ghost use Rattle.flash_log.specs.Taking.{last_generation};
+ghost use Rattle.flash_plan.specs.Telling.{PlaceAnswers, LogTold, StartTold, StepTold, IsTold};
 ghost use Rattle.flash_plan.specs.Plans.{IsPlanOf, StepFits, KeepsPut, step_after, step_left, operations_left};
-ghost use Rattle.flash_plan.specs.Standing.{plan_layout, StandsAt, BeforeBank, WithinBank, ReadsCopy, ReadsPuts, ReadsBank, ReadsFree, Reaches, ReachesStep};
+ghost use Rattle.flash_plan.specs.Standing.{plan_layout, StandsAt, BeforeBank, WithinBank, ReadsCopy, ReadsPuts};
+ghost use Rattle.flash_plan.specs.Standing.{ReadsBank, ReadsFree, Reaches, ReachesStep};
 ghost use Rattle.flash_plan.specs.declared.plans.PlanEnd.TheVariants.{Exhausted, Failed as end_failed};
 ghost use Rattle.flash_plan.specs.declared.plans.PlanStep.TheVariants.{Erasing, Ended};
 
@@ -98,6 +100,9 @@ impl FlashPlan {
         ensures takes { (first f : Flash) → WithinBank (length cells.old) bank first f self.old.best self.old.latest
             cells.old (ReadsBank (length cells.old) log scratch.now)
             → BeforeBank (length cells.old) (suc bank) first f self.new.best self.new.latest cells.new }
+        ensures told { (told : PlaceAnswers) → StartTold told self.old.places (suc bank) self.old.best self.old.latest
+            → LogTold told self.old.places bank log
+            → StartTold told self.old.places (suc bank) self.new.best self.new.latest }
     {
         let log = match log {
             Some(log) => log,
@@ -123,6 +128,8 @@ impl FlashPlan {
             → BeforeBank (length cells.now) (suc bank) first f self.now.best self.now.latest cells.now
             → ReachesStep (plan_layout self.now (length cells.now)) self.now.best self.now.latest cells.now scratch
             (machine first off) f result }
+        ensures told { (told : PlaceAnswers) → StartTold told self.now.places (suc bank) self.now.best self.now.latest
+            → StepTold told self.now.banks self.now.places None self.now.best self.now.latest result }
     {
         if bank + 1 < self.banks {
             return PlanStep::Heading { bank: bank + 1 };
@@ -168,6 +175,8 @@ impl FlashPlan {
             (ReadsBank (length cells.old) log scratch.now)
             → Reaches (plan_layout self.old (length cells.old)) self.new cells.new scratch.now
             (machine first off) f }
+        ensures told { (told : PlaceAnswers) → StartTold told self.old.places (suc bank) self.old.best self.old.latest
+            → LogTold told self.old.places bank log → IsTold told self.new }
     {
         self.take_log(cells, scratch, bank, log);
         self.step = self.after_bank(bank, cells);
@@ -195,6 +204,8 @@ impl FlashPlan {
             → LooksAt bank 0 answer f g
             → Reaches (plan_layout self.old (length cells.old)) self.new cells.new scratch.now
             (machine first off) g }
+        ensures told { (told : PlaceAnswers) → StartTold told self.old.places bank self.old.best self.old.latest
+            → answer ≡ told bank 0 → IsTold told self.new }
     {
         note(&mut self.latest, bank, latest_of(&answer));
         match generation_of(&answer) {
@@ -235,6 +246,8 @@ impl FlashPlan {
             → LooksAt bank (suc done) answer f g
             → Reaches (plan_layout self.old (length cells.old)) self.new cells.new scratch.new
             (machine first off) g }
+        ensures told { (told : PlaceAnswers) → StartTold told self.old.places (suc bank) self.old.best self.old.latest
+            → IsTold told self.new }
     {
         match copied_cell(&answer, done) {
             Some(payload) => {
@@ -271,6 +284,8 @@ impl FlashPlan {
             → BlankBehind self.old.places f
             → Reaches (plan_layout self.old (length cells.old)) self.new cells.new scratch.now
             (machine first off) f }
+        ensures told { (told : PlaceAnswers) → StartTold told self.old.places (suc bank) self.old.best self.old.latest
+            → next ≤ place → IsTold told self.new }
     {
         let last = self.places - 1;
         if place < last {
@@ -316,6 +331,8 @@ impl FlashPlan {
             → LooksAt bank place answer f g → BlankBehind self.old.places g
             → Reaches (plan_layout self.old (length cells.old)) self.new cells.new scratch.new
             (machine first off) g }
+        ensures told { (told : PlaceAnswers) → StartTold told self.old.places (suc bank) self.old.best self.old.latest
+            → answer ≡ told bank place → IsTold told self.new }
     {
         match answer {
             Answer::Whole(line) => {
@@ -373,6 +390,8 @@ impl FlashPlan {
             → LooksAt bank place answer f g → BlankBehind self.old.places g
             → Reaches (plan_layout self.old (length cells.old)) self.new cells.new scratch.now
             (machine first off) g }
+        ensures told { (told : PlaceAnswers) → StartTold told self.old.places (suc bank) self.old.best self.old.latest
+            → next ≤ place → answer ≡ told bank place → IsTold told self.new }
     {
         match answer {
             Answer::Blank => {

@@ -5,9 +5,12 @@ ghost use Rattle.flash_laws.specs.Logs.{CellList};
 ghost use Rattle.flash_laws.specs.Lives.{FlashMachine};
 ghost use Rattle.flash_log.specs.Taking.{last_generation};
 ghost use Rattle.flash_plan.specs.Performing.{Performs};
-ghost use Rattle.flash_plan.specs.Plans.{IsPlanOf, SameSizes, KeepsPut, IsFailure, failed_plan, operation_of, put_in, step_programmed, step_cleared, step_filled, ReadsAt, ChangesAt, operations_left};
+ghost use Rattle.flash_plan.specs.Plans.{IsPlanOf, SameSizes, KeepsPut, IsFailure, failed_plan, operation_of, put_in};
+ghost use Rattle.flash_plan.specs.Plans.{step_programmed, step_cleared, step_filled, ReadsAt, ChangesAt};
+ghost use Rattle.flash_plan.specs.Plans.{operations_left};
 ghost use Rattle.flash_plan.specs.Standing.{plan_layout, StandsAt, PlanMovesOn};
 ghost use Rattle.flash_plan.specs.Formatting.{FormatsAt};
+ghost use Rattle.flash_plan.specs.Telling.{PlaceAnswers, AnswersSo, IsTold};
 ghost use Rattle.flash_plan.specs.declared.operations.FlashOutcome.TheVariants.{Answered, Done};
 ghost use Rattle.flash_plan.specs.declared.plans.PlanEnd.TheVariants.{Failed as end_failed};
 ghost use Rattle.flash_plan.specs.declared.plans.PlanStep.TheVariants.{Ended};
@@ -97,6 +100,8 @@ impl FlashPlan {
             → IfSome (operation_of self.old cells.old) (λ it. Performs self.old.places it (Answered answer) f g
             → PlanMovesOn (plan_layout self.old (length cells.old)) (put_in self.old) (Answered answer)
             self.new cells.new scratch.new at g) }
+        ensures told { (told : PlaceAnswers) → IsTold told self.old → IfSome (operation_of self.old cells.old) (λ it.
+            AnswersSo told it (Answered answer) → IsTold told self.new) }
     {
         match self.step {
             PlanStep::Heading { bank } => self.after_head(cells, scratch, bank, answer),
@@ -135,11 +140,13 @@ impl FlashPlan {
             → FormatsAt self.new cells.new g) }
         ensures waits { put_in self.old ≡ None → self.new.put ≡ self.old.put }
         ensures taken { put_in self.old ≢ None → self.new.put ≡ None }
+        ensures kept { put_in self.old ≡ None → cells.new ≡ cells.old }
         ensures steps { (scratch : CellList) (at : FlashMachine) (f g : Flash)
             → StandsAt (plan_layout self.old (length cells.old)) self.old cells.old scratch at f
             → IfSome (operation_of self.old cells.old) (λ it. Performs self.old.places it Done f g
             → PlanMovesOn (plan_layout self.old (length cells.old)) (put_in self.old) Done
             self.new cells.new scratch at g) }
+        ensures told { (told : PlaceAnswers) → IsTold told self.old → IsTold told self.new }
     {
         match self.step {
             PlanStep::Erasing { bank, generation } => {
@@ -230,6 +237,8 @@ impl FlashPlan {
         ensures formats { (f g : Flash) → FormatsAt self.old cells.old f
             → IfSome (operation_of self.old cells.old) (λ it. Performs self.old.places it outcome f g
             → FormatsAt self.new cells.new g) }
+        ensures told { (told : PlaceAnswers) → IsTold told self.old → IfSome (operation_of self.old cells.old) (λ it.
+            AnswersSo told it outcome → IsTold told self.new) }
         ensures none { operation_of self.old cells.old ≡ None → self.new ≡ self.old }
         ensures failed { self.new.step ≡ Ended end_failed → (self.old.step ≡ Ended end_failed)
             ⊎ IsFailure (operation_of self.old cells.old) outcome }
@@ -237,6 +246,7 @@ impl FlashPlan {
         ensures waits { put_in self.old ≡ None → (IsFailure (operation_of self.old cells.old) outcome → ⊥)
             → self.new.put ≡ self.old.put }
         ensures taken { put_in self.old ≢ None → self.new.put ≡ None }
+        ensures kept { (ReadsAt self.old.step → ⊥) → put_in self.old ≡ None → cells.new ≡ cells.old }
     {
         match outcome {
             FlashOutcome::Answered(answer) => {

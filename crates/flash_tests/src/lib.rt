@@ -1,7 +1,9 @@
-//! Tests of the store on flash and of its plans, over a flash in memory, and of its lines. There is nothing else here:
-//! a crate of tests over several libraries has none of them proved a second time.
+//! Tests of the store on flash, of its plans and its calls, over a flash in memory, and of its lines. There is nothing
+//! else here: a crate of tests over several libraries has none of them proved a second time.
 #![tactic(auto)]
 
+#[cfg(test)]
+mod calls;
 #[cfg(test)]
 mod histories;
 #[cfg(test)]

@@ -217,6 +217,39 @@ fn is_whole_at_all(alloc: Global, banks: u8, tells_blank: bool) -> Result<bool, 
     Ok(true)
 }
 
+/// Formats a flash with two cells: whether a plan says that it is done.
+fn is_formatted(flash: &mut MemFlash, cells: &mut [[u8; 32]], scratch: &mut [[u8; 32]]) -> bool
+    requires two { length cells.old ≡ 2 }
+    requires alike { length scratch.old ≡ length cells.old }
+    requires room { 3 < (memory_state flash.old).places }
+    ensures same { (memory_state flash.new).places ≡ (memory_state flash.old).places }
+{
+    let mut plan = FlashPlan::format(flash.banks(), flash.places());
+    run_plan(flash, &mut plan, cells, scratch);
+    plan.step == PlanStep::Ended(PlanEnd::Formatted)
+}
+
+/// Formats a flash, and starts a store on it: what the cells are.
+fn format_and_start(flash: &mut MemFlash) -> Option<[[u8; 32]; 2]>
+    requires room { 3 < (memory_state flash.old).places }
+{
+    let mut cells = [[1; 32], [2; 32]];
+    let mut scratch = [[0; 32]; 2];
+    if !is_formatted(flash, &mut cells, &mut scratch) {
+        return None;
+    }
+    cells = [[0; 32]; 2];
+    let plan = start(flash, &mut cells, &mut scratch);
+    if plan.is_idle() { Some(cells) } else { None }
+}
+
+#[test]
+fn a_plan_formats_a_flash(rt: HostRuntime) -> Result<(), Fail> {
+    let mut flash = MemFlash::new(rt.alloc(), 3, 8)?;
+    assert_eq!(rt; format_and_start(&mut flash), Some([[1; 32], [2; 32]]));
+    Ok(())
+}
+
 #[test]
 fn no_stop_of_a_plan_loses_a_put_on_two_banks(rt: HostRuntime) -> Result<(), Fail> {
     assert!(rt; is_whole_at_all(rt.alloc(), 2, false)?);

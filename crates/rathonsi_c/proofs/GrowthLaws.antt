@@ -10,7 +10,6 @@ use Rattle.freshness_routes.specs.declared.routes.Direction.{Direction}
 use Rattle.basics.specs.Numbers.{bytes_of}
 use Rattle.freshness_store.specs.Bound.{bound_cell}
 use Rattle.memory_update.specs.declared.messages.Reply.{Reply}
-use Rattle.store_plan.specs.Plans.{CutWithin}
 use Rattle.store_plan.proofs.CallerLemmas.{grew-ends}
 use Rattle.rathonsi_c.specs.Images.{ImageBound, ImageSlot}
 use Rattle.rathonsi_c.specs.Growing.{Updates}
@@ -76,14 +75,12 @@ module _ (n : ℕ) (last next : Memory) (u : Updates n last next) where
       let below : place < u.route.cell = (let r = h.room in let l = u.last_cell in omega arith) in
       record { room = (let l = u.one_cell in omega arith); bytes = h.bytes; is = cell_kept place below ∙ h.is; holds = h.holds }
 
-  pub filled_across : (slot : ℕ) → ((left : List ℕ) → CutWithin last.plan last.image left → SlotFilled left slot) → SlotFilled next.image slot
-  filled_across slot filled =
-      let f = filled u.left u.cut in
+  pub filled_across : (slot : ℕ) → SlotFilled u.left slot → SlotFilled next.image slot
+  filled_across slot f =
       record { key = f.key; counter = f.counter; flags = f.flags; held = slot_kept slot _ f.held }
 
-  pub confirmed_across : (uid m1 : List ℕ) (reply : Reply) → ((left : List ℕ) → CutWithin last.plan last.image left → ConfirmsSlot uid m1 left reply) → ConfirmsSlot uid m1 next.image reply
-  confirmed_across uid m1 reply confirmed =
-      let f = confirmed u.left u.cut in
+  pub confirmed_across : (uid m1 : List ℕ) (reply : Reply) → ConfirmsSlot uid m1 u.left reply → ConfirmsSlot uid m1 next.image reply
+  confirmed_across uid m1 reply f =
       record { update = f.update; named = f.named; held = slot_kept f.update.id _ f.held; confirms = f.confirms }
 
   some-kept : (j : ℕ) → j < u.route.cell → IsSome (cell_at u.left j) → IsSome (cell_at next.image j)

@@ -11,8 +11,9 @@ use Rattle.memory_update.specs.declared.messages.Reply.{Reply}
 use Rattle.memory_update.specs.declared.messages.Update.{Update}
 use Rattle.freshness_store.specs.Bound.{bound_cell}
 use Rattle.store_plan.specs.declared.planning.Plan.{Plan}
-use Rattle.store_plan.specs.Plans.{PlansPut, CutWithin, IsEmptyPlan, applied}
-use Rattle.store_plan.proofs.CallerLemmas.{applied-cell, applied-others, applied-length, cut-cell, cut-others, cut-length, cut-none, applied-none}
+use Rattle.store_plan.specs.Plans.{PlansPut, IsEmptyPlan, applied}
+use Rattle.store_plan.specs.Leaving.{LeavesPut}
+use Rattle.store_plan.proofs.CallerLemmas.{applied-cell, applied-others, applied-length, applied-none}
 use Rattle.rathonsi_c.specs.Images.{ImageSlot}
 use Rattle.rathonsi_c.specs.Routes.{wanted}
 use Rattle.rathonsi_c.specs.Slots.{ConfirmsSlot}
@@ -28,11 +29,12 @@ module _ (place : ℕ) (slot : Slot) (a : Memory) (held : ImageSlot a.image plac
         moved_slot a.image (applied a.plan a.image) place slot (applied-length a.plan a.image far new plans) (applied-others a.plan a.image far new plans place (λ e. apart (sym e))) held
   ]
 
-  pub kept-cut : (y : List ℕ) → CutWithin a.plan a.image y → ImageSlot y place slot
+  pub kept-cut : (y : List ℕ) → LeavesPut a.plan a.image y → ImageSlot y place slot
   kept-cut y cut = elim none [
-    | inl empty ↦ subst (λ (z : List ℕ). ImageSlot z place slot) (sym (cut-none a.plan a.image y empty cut)) held
+    | inl empty ↦ (let s = cut.none empty in moved_slot a.image y place slot s.size (s.cells place) held)
     | inr (far, (new, (apart, plans))) ↦
-        moved_slot a.image y place slot (cut-length a.plan a.image y far new plans cut) (cut-others a.plan a.image y far new plans cut place (λ e. apart (sym e))) held
+        let s = cut.put far new plans in
+        moved_slot a.image y place slot s.size (s.others place (λ e. apart (sym e))) held
   ]
 
 -- what is planned: nothing, another cell, or a key for this slot
@@ -163,14 +165,14 @@ module _ (n : ℕ) (deeds : List Deed) (a c : Memory) (uid m1 : List ℕ) (reply
   pub confirmed_over : ImageSlot c.image k.update.id (slot_of k.update) × ConfirmsSlot uid m1 c.image reply
   confirmed_over = let h = stays in (h.held, confirms-same uid m1 a.image c.image reply k h.held)
 
-  pub confirmed_cut : planned_after k.update.id planned deeds ≡ false → (y : List ℕ) → CutWithin c.plan c.image y → ImageSlot y k.update.id (slot_of k.update) × ConfirmsSlot uid m1 y reply
+  pub confirmed_cut : planned_after k.update.id planned deeds ≡ false → (y : List ℕ) → LeavesPut c.plan c.image y → ImageSlot y k.update.id (slot_of k.update) × ConfirmsSlot uid m1 y reply
   confirmed_cut not y cut =
       let h = stays in
       let held = kept-cut k.update.id (slot_of k.update) c h.held (h.none not) y cut in
       (held, confirms-same uid m1 a.image y reply k held)
 
 module _ (n : ℕ) (deeds : List Deed) (a c : Memory) (uid m1 : List ℕ) (reply : Reply) (planned : Bool) (k : ConfirmsSlot uid m1 a.image reply) (as_told : PlannedAs k.update.id planned a) (free : NoneBegun k.update.id planned deeds) (lives : Lives n deeds a c) where
-  pub either_cut : (y : List ℕ) → CutWithin c.plan c.image y → ImageSlot y k.update.id (slot_of k.update) ⊎ UpdateDone k.update.id c y
+  pub either_cut : (y : List ℕ) → LeavesPut c.plan c.image y → ImageSlot y k.update.id (slot_of k.update) ⊎ UpdateDone k.update.id c y
   either_cut y cut =
       let place = k.update.id in
       let kept = confirmed_over n deeds a c uid m1 reply planned k (none-planned place planned a as_told) free lives in
@@ -178,12 +180,12 @@ module _ (n : ℕ) (deeds : List Deed) (a c : Memory) (uid m1 : List ℕ) (reply
       let some : FilledPlanned place c = planned-over n place deeds a c k.named.is_head.id_fits (filled-planned place planned a as_told) lives in
       elim some [
         | inl other ↦ inl (kept-cut place (slot_of k.update) c held other y cut)
-        | inr (u, (holds, plans)) ↦ elim (cut-cell c.plan c.image y place _ plans cut) [
-          | inl old ↦ inl (moved_slot c.image y place (slot_of k.update) (cut-length c.plan c.image y place _ plans cut) old held)
+        | inr (u, (holds, plans)) ↦ elim (cut.put place _ plans).cell [
+          | inl old ↦ inl (moved_slot c.image y place (slot_of k.update) (cut.put place _ plans).size old held)
           | inr new ↦ inr (record {
             update = u;
             plans = plans;
-            held = record { room = (let r = held.room in let l = cut-length c.plan c.image y place _ plans cut in omega arith); bytes = slot_cell (slot_of u); is = new; holds = holds };
+            held = record { room = (let r = held.room in let l = (cut.put place _ plans).size in omega arith); bytes = slot_cell (slot_of u); is = new; holds = holds };
           })
         ]
       ]
@@ -211,12 +213,12 @@ filled-finish place a h = elim h.planned [
   | inr (u, (holds, plans)) ↦ filled-by place a.image (applied a.plan a.image) u (applied-length a.plan a.image place _ plans) (applied-cell a.plan a.image place _ plans) holds h.filled
 ]
 
-filled-cut : (place : ℕ) (a : Memory) (y : List ℕ) → CutWithin a.plan a.image y → StaysFilled place a → SlotFilled y place
+filled-cut : (place : ℕ) (a : Memory) (y : List ℕ) → LeavesPut a.plan a.image y → StaysFilled place a → SlotFilled y place
 filled-cut place a y cut h = elim h.planned [
   | inl none ↦ record { key = h.filled.key; counter = h.filled.counter; flags = h.filled.flags; held = kept-cut place (Filled h.filled.key h.filled.counter h.filled.flags) a h.filled.held none y cut }
-  | inr (u, (holds, plans)) ↦ elim (cut-cell a.plan a.image y place _ plans cut) [
-    | inl old ↦ filled-from place a.image y (cut-length a.plan a.image y place _ plans cut) old h.filled
-    | inr new ↦ filled-by place a.image y u (cut-length a.plan a.image y place _ plans cut) new holds h.filled
+  | inr (u, (holds, plans)) ↦ elim (cut.put place _ plans).cell [
+    | inl old ↦ filled-from place a.image y (cut.put place _ plans).size old h.filled
+    | inr new ↦ filled-by place a.image y u (cut.put place _ plans).size new holds h.filled
   ]
 ]
 
@@ -239,7 +241,7 @@ filled-over : (n place : ℕ) (deeds : List Deed) (a c : Memory) → place < 14 
 filled-over n place [] a c few h lives = subst (λ (m : Memory). StaysFilled place m) (sym lives) h
 filled-over n place (deed ∷ deeds) a c few h (b, (d, rest)) = filled-over n place deeds b c few (record { filled = filled-does n place deed a b h d; planned = planned-does n place deed a b few h.planned d }) rest
 
-pub filled_over : (n : ℕ) (deeds : List Deed) (a c : Memory) (place : ℕ) → PoweredUp n a → place < 14 → SlotFilled a.image place → Lives n deeds a c → (y : List ℕ) → CutWithin c.plan c.image y → SlotFilled c.image place × SlotFilled y place
+pub filled_over : (n : ℕ) (deeds : List Deed) (a c : Memory) (place : ℕ) → PoweredUp n a → place < 14 → SlotFilled a.image place → Lives n deeds a c → (y : List ℕ) → LeavesPut c.plan c.image y → SlotFilled c.image place × SlotFilled y place
 filled_over n deeds a c place p few filled lives y cut =
     let h = filled-over n place deeds a c few (record { filled = filled; planned = inl (inl p.empty) }) lives in
     (h.filled, filled-cut place c y cut h)

@@ -15,3 +15,4 @@ pub mod LookLaws
 pub mod SlotLaws
 pub mod BoundLaws
 pub mod InputLaws
+pub mod FlashLaws

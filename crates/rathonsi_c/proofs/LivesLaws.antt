@@ -4,8 +4,9 @@ use Rattle.std.proofs.lemmas.Bool.{cases_lt, cases_eq, eq-eqb, ne_eqb}
 use Rattle.freshness_routes.specs.declared.routes.Direction.{Direction}
 use Rattle.freshness_store.specs.Bound.{bound_cell}
 use Rattle.store_plan.specs.declared.planning.Plan.{Plan}
-use Rattle.store_plan.specs.Plans.{PlansPut, CutWithin, IsEmptyPlan, applied}
-use Rattle.store_plan.proofs.CallerLemmas.{applied-cell, applied-others, applied-length, cut-cell, cut-others, cut-length, cut-none, applied-none}
+use Rattle.store_plan.specs.Plans.{PlansPut, IsEmptyPlan, applied}
+use Rattle.store_plan.specs.Leaving.{LeavesPut}
+use Rattle.store_plan.proofs.CallerLemmas.{applied-cell, applied-others, applied-length, applied-none}
 use Rattle.rathonsi_c.specs.declared.route.RathonsiRoute.{RathonsiRoute}
 use Rattle.rathonsi_c.specs.Images.{ImageBound}
 use Rattle.rathonsi_c.specs.Routes.{InRanges, at_counter, opened_at, wanted, Opens, RouteAdvances, Reserves}
@@ -59,25 +60,27 @@ after-finish image plan r h = elim h.planned [
   ]
 ]
 
-pub after-cut : (image : List ℕ) (plan : Plan) (r : RathonsiRoute) (y : List ℕ) → CutWithin plan image y → (h : Holds image plan r) → AtLeast h.bound y r h.direction
+pub after-cut : (image : List ℕ) (plan : Plan) (r : RathonsiRoute) (y : List ℕ) → LeavesPut plan image y → (h : Holds image plan r) → AtLeast h.bound y r h.direction
 after-cut image plan r y cut h = elim h.planned [
-  | inl none ↦ record { bound = h.bound; kept = subst (λ (z : List ℕ). ImageBound z r.cell r.data_id h.direction h.bound) (sym (cut-none plan image y none cut)) h.kept; least = omega arith }
+  | inl none ↦
+      let s = cut.none none in
+      record { bound = h.bound; kept = moved_bound image y r.cell r.data_id h.direction h.bound s.size (s.cells r.cell) h.kept; least = omega arith }
   | inr some ↦ elim some [
-    | inl up ↦ elim (cut-cell plan image y r.cell _ up.plans cut) [
+    | inl up ↦ elim (cut.put r.cell _ up.plans).cell [
       | inl old ↦ record {
         bound = h.bound;
-        kept = moved_bound image y r.cell r.data_id h.direction h.bound (cut-length plan image y r.cell _ up.plans cut) old h.kept;
+        kept = moved_bound image y r.cell r.data_id h.direction h.bound (cut.put r.cell _ up.plans).size old h.kept;
         least = omega arith;
       }
       | inr new ↦ record {
         bound = up.to;
-        kept = renewed_bound image y r.cell r.data_id h.direction h.bound up.to (cut-length plan image y r.cell _ up.plans cut) up.fits new h.kept;
+        kept = renewed_bound image y r.cell r.data_id h.direction h.bound up.to (cut.put r.cell _ up.plans).size up.fits new h.kept;
         least = (let u = up.above in omega arith);
       }
     ]
     | inr far ↦ record {
       bound = h.bound;
-      kept = moved_bound image y r.cell r.data_id h.direction h.bound (cut-length plan image y far.place far.new far.plans cut) (cut-others plan image y far.place far.new far.plans cut r.cell (λ e. far.apart (sym e))) h.kept;
+      kept = moved_bound image y r.cell r.data_id h.direction h.bound (cut.put far.place far.new far.plans).size ((cut.put far.place far.new far.plans).others r.cell (λ e. far.apart (sym e))) h.kept;
       least = omega arith;
     }
   ]
@@ -193,7 +196,7 @@ finished image y plan next r e empty h =
     }
 
 -- so does what the power left
-cut_back : (image y : List ℕ) (plan next : Plan) (r : RathonsiRoute) → CutWithin plan image y → IsEmptyPlan next → Holds image plan r → Holds y next r
+cut_back : (image y : List ℕ) (plan next : Plan) (r : RathonsiRoute) → LeavesPut plan image y → IsEmptyPlan next → Holds image plan r → Holds y next r
 cut_back image y plan next r cut empty h =
     let n = after-cut image plan r y cut h in
     record {
@@ -425,7 +428,7 @@ first_sound n a p = record {
 pub rises_over_lives : (n : ℕ) (deeds : List Deed) (a c : Memory) → PoweredUp n a → Lives n deeds a c → (k : ℕ) → k < n → RisesTo (a.routes k).counter (given_out k deeds) (c.routes k).counter
 rises_over_lives n deeds a c p lives k x = rises n k deeds a c x (first_sound n a p) lives
 
-pub covered_over_lives : (n : ℕ) (deeds : List Deed) (a c : Memory) → PoweredUp n a → Lives n deeds a c → (k : ℕ) → k < n → (y : List ℕ) → CutWithin c.plan c.image y → CounterCovered (c.routes k) y
+pub covered_over_lives : (n : ℕ) (deeds : List Deed) (a c : Memory) → PoweredUp n a → Lives n deeds a c → (k : ℕ) → k < n → (y : List ℕ) → LeavesPut c.plan c.image y → CounterCovered (c.routes k) y
 covered_over_lives n deeds a c p lives k x y cut =
     let h = (lives-sound n deeds a c (first_sound n a p) lives).holds k x in
     let l = after-cut c.image c.plan (c.routes k) y cut h in

@@ -7,9 +7,9 @@ use Rattle.memory_update.specs.Loading.{slot_of}
 use Rattle.slot_disk.specs.Cell.{slot_cell}
 use Rattle.freshness_store.specs.Bound.{bound_cell}
 use Rattle.store_plan.specs.declared.planning.Plan.{Plan}
-use Rattle.store_plan.specs.Plans.{PlansPut, CutWithin, IsEmptyPlan, applied}
-use Rattle.store_plan.proofs.CallerLemmas.{applied-cell, applied-others, applied-length, applied-head, cut-cell, cut-others, cut-length, cut-head}
-use Rattle.store_plan.proofs.CallerLemmas.{cut-none, applied-none}
+use Rattle.store_plan.specs.Plans.{PlansPut, IsEmptyPlan, applied}
+use Rattle.store_plan.specs.Leaving.{LeavesPut}
+use Rattle.store_plan.proofs.CallerLemmas.{applied-cell, applied-others, applied-length, applied-head, applied-none}
 use Rattle.rathonsi_c.specs.Routes.{wanted}
 use Rattle.rathonsi_c.specs.Stores.{IsWhole}
 use Rattle.rathonsi_c.specs.Lives.{Memory, Deed, sends, accepts, takes, opens, sets, reserves, loads, drops, finishes, powers_up, Lives, DoesDeed}
@@ -49,12 +49,14 @@ whole-finish a h = elim h.planned [
       (some_cells a.image (applied a.plan a.image) place new (inr (applied-cell a.plan a.image place new plans)) (applied-others a.plan a.image place new plans)) h.whole
 ]
 
-whole-cut : (a : Memory) (y : List ℕ) → CutWithin a.plan a.image y → StaysWhole a → IsWhole y
+whole-cut : (a : Memory) (y : List ℕ) → LeavesPut a.plan a.image y → StaysWhole a → IsWhole y
 whole-cut a y cut h = elim h.planned [
-  | inl none ↦ subst (λ (z : List ℕ). IsWhole z) (sym (cut-none a.plan a.image y none cut)) h.whole
+  | inl none ↦
+      let s = cut.none none in
+      moved_whole a.image y s.size s.head (λ i some. subst (λ (o : Option (List ℕ)). IsSome o) (sym (s.cells i)) some) h.whole
   | inr (place, (new, plans)) ↦
-      moved_whole a.image y (cut-length a.plan a.image y place new plans cut) (cut-head a.plan a.image y place new plans cut)
-      (some_cells a.image y place new (cut-cell a.plan a.image y place new plans cut) (cut-others a.plan a.image y place new plans cut)) h.whole
+      let s = cut.put place new plans in
+      moved_whole a.image y s.size s.head (some_cells a.image y place new s.cell s.others) h.whole
 ]
 
 whole-same : (a b : Memory) → b.image ≡ a.image → b.plan ≡ a.plan → StaysWhole a → StaysWhole b
@@ -91,7 +93,7 @@ whole-over : (n : ℕ) (deeds : List Deed) (a c : Memory) → StaysWhole a → L
 whole-over n [] a c h lives = subst (λ (m : Memory). StaysWhole m) (sym lives) h
 whole-over n (deed ∷ deeds) a c h (b, (d, rest)) = whole-over n deeds b c (whole-does n deed a b h d) rest
 
-pub whole_over : (n : ℕ) (deeds : List Deed) (a c : Memory) → IsEmptyPlan a.plan → IsWhole a.image → Lives n deeds a c → (y : List ℕ) → CutWithin c.plan c.image y → IsWhole c.image × IsWhole y
+pub whole_over : (n : ℕ) (deeds : List Deed) (a c : Memory) → IsEmptyPlan a.plan → IsWhole a.image → Lives n deeds a c → (y : List ℕ) → LeavesPut c.plan c.image y → IsWhole c.image × IsWhole y
 whole_over n deeds a c empty whole lives y cut =
     let h = whole-over n deeds a c (record { whole = whole; planned = inl empty }) lives in
     (h.whole, whole-cut c y cut h)

@@ -8,7 +8,8 @@ use Rattle.freshness_store.specs.Bound.{bound_cell}
 use Rattle.store_plan.specs.declared.growing.Growth.{Growth}
 use Rattle.store_plan.specs.declared.growing.Growth.TheVariants.{Before, Counting, After, Beyond}
 use Rattle.store_plan.specs.declared.planning.Plan.{Plan}
-use Rattle.store_plan.specs.Plans.{IsEmptyPlan, CutWithin}
+use Rattle.store_plan.specs.Plans.{IsEmptyPlan}
+use Rattle.store_plan.specs.Leaving.{LeavesPut}
 use Rattle.store_plan.specs.Growing.{IsGrowth, PlansFor, Grew}
 use Rattle.rathonsi_c.specs.declared.TheConstants.{BAD_LENGTH, BAD_VALUE, NO_STORE, BUSY}
 use Rattle.rathonsi_c.specs.declared.route.RathonsiRoute.{RathonsiRoute}
@@ -83,7 +84,7 @@ pub record GivesSize (head : List ℕ) (size : ℕ) : Type 0 where
 -- there were. Then every route was filled in and opened, and the new one for the first time.
 pub record Updates (n : ℕ) (a b : Memory) : Type 0 where
   pub left : List ℕ
-  pub cut : CutWithin a.plan a.image left
+  pub cut : LeavesPut a.plan a.image left
   pub room : List ℕ
   pub route : RathonsiRoute
   pub direction : Direction

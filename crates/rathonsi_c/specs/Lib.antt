@@ -15,3 +15,4 @@ pub mod Syncing
 pub mod Growing
 pub mod Pieces
 pub mod Booting
+pub mod Flash

@@ -10,7 +10,8 @@ use Rattle.memory_update.specs.Loading.{slot_of}
 use Rattle.memory_update.specs.declared.messages.Request.{Request}
 use Rattle.memory_update.specs.declared.messages.Update.{Update}
 use Rattle.store_plan.specs.declared.planning.Plan.{Plan}
-use Rattle.store_plan.specs.Plans.{PlansPut, CutWithin, IsEmptyPlan, applied}
+use Rattle.store_plan.specs.Plans.{PlansPut, IsEmptyPlan, applied}
+use Rattle.store_plan.specs.Leaving.{LeavesPut}
 use Rattle.rathonsi_c.specs.declared.route.RathonsiRoute.{RathonsiRoute}
 use Rattle.rathonsi_c.specs.Images.{ImageBound, ImageSlot}
 use Rattle.rathonsi_c.specs.Routes.{InRanges, IsOpened, Opens, RouteAdvances, Reserves}
@@ -111,10 +112,10 @@ pub record FinishesPlan (a b : Memory) : Type 0 where
   pub done : PlanDone a.image a.plan b.image b.plan
   pub routes : SameRoutes a b
 
--- the image is what the power left that went within the plan, the plan is empty, and every route was filled in and
--- opened
+-- The image is what the power left that went within the plan: on a device of bytes, or as a device that keeps cells
+-- makes it anew. The plan is empty, and every route was filled in and opened.
 pub record PowerBack (n : ℕ) (a b : Memory) : Type 0 where
-  pub left : CutWithin a.plan a.image b.image
+  pub left : LeavesPut a.plan a.image b.image
   pub empty : IsEmptyPlan b.plan
   pub opened : (k : ℕ) → k < n → OpensFilled (a.routes k) b.image (b.routes k)
 

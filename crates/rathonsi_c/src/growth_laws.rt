@@ -2,7 +2,6 @@
 //! empty.
 ghost use Rattle.std.specs.Prelude.{◌+◌, ◌<◌, ◌++◌, ℕ, List};
 ghost use Rattle.memory_update.specs.declared.messages.Reply.{Reply};
-ghost use Rattle.store_plan.specs.Plans.{CutWithin};
 ghost use Rattle.rathonsi_c.specs.Slots.{ConfirmsSlot};
 ghost use Rattle.rathonsi_c.specs.Stores.{IsWhole};
 ghost use Rattle.rathonsi_c.specs.Growing.{Updates};
@@ -21,10 +20,9 @@ pub fn freshness_rises_across_an_update()
 /// No filled slot becomes empty by it, a confirmed update of a slot that wasn't planned anew stays, and a store that
 /// `rathonsi_store_check` answers OK for is one of a cell more.
 pub fn keys_are_kept_across_an_update()
-    ensures filled { (n slot : ℕ) (last next : Memory) → Updates n last next → slot < 14
-        → ((left : List ℕ) → CutWithin last.plan last.image left → SlotFilled left slot) → SlotFilled next.image slot }
-    ensures kept { (n : ℕ) (last next : Memory) (uid m1 : List ℕ) (reply : Reply) → Updates n last next
-        → ((left : List ℕ) → CutWithin last.plan last.image left → ConfirmsSlot uid m1 left reply)
-        → ConfirmsSlot uid m1 next.image reply }
+    ensures filled { (n slot : ℕ) (last next : Memory) → (u : Updates n last next) → SlotFilled u.left slot
+        → SlotFilled next.image slot }
+    ensures kept { (n : ℕ) (last next : Memory) (uid m1 : List ℕ) (reply : Reply) → (u : Updates n last next)
+        → ConfirmsSlot uid m1 u.left reply → ConfirmsSlot uid m1 next.image reply }
     ensures whole { (n : ℕ) (last next : Memory) → (u : Updates n last next) → IsWhole u.left → IsWhole next.image }
 {}

@@ -1,5 +1,6 @@
 //! What all lives of a caller say: the contract of each function is the law, and its body is empty.
-ghost use Rattle.std.specs.Prelude.{◌≡◌, ◌-◌, ◌<◌, ◌≤◌, ◌⊎◌, ◌++◌, ℕ, Bool, false, Some, List, [], length, take, get_or};
+ghost use Rattle.std.specs.Prelude.{◌≡◌, ◌-◌, ◌<◌, ◌≤◌, ◌⊎◌, ◌++◌, ℕ, Bool, false, Some, List, [], length, take};
+ghost use Rattle.std.specs.Prelude.{get_or};
 ghost use Rattle.cell_store.specs.declared.kinds.Version.TheVariants.{One};
 ghost use Rattle.cell_store.specs.Layout.{twin_layout};
 ghost use Rattle.cell_store.specs.Store.{Stands};
@@ -8,15 +9,25 @@ ghost use Rattle.memory_update.specs.Loading.{slot_of};
 ghost use Rattle.memory_update.specs.declared.messages.Reply.{Reply};
 ghost use Rattle.store_plan.specs.declared.planning.Plan.{Plan};
 ghost use Rattle.store_plan.specs.Plans.{CutWithin, IsEmptyPlan};
+ghost use Rattle.store_plan.specs.Leaving.{LeavesPut};
 ghost use Rattle.rathonsi_c.specs.Images.{ImageSlot};
 ghost use Rattle.rathonsi_c.specs.Routes.{Reserves, ReceiveAnswers};
 ghost use Rattle.rathonsi_c.specs.Slots.{ConfirmsSlot};
 ghost use Rattle.rathonsi_c.specs.Stores.{IsWhole};
-ghost use Rattle.rathonsi_c.specs.Lives.{Memory, Deed, PoweredUp, Lives, PlanDone, RisesTo, given_out, CounterCovered};
+ghost use Rattle.rathonsi_c.specs.Lives.{Memory, Deed, PoweredUp, Lives, OpensFilled, PowerBack, PlanDone, RisesTo};
+ghost use Rattle.rathonsi_c.specs.Lives.{given_out, CounterCovered};
 ghost use Rattle.rathonsi_c.specs.Lives.{NoUpdatePlanned, PlannedAs, NoneBegun, planned_after, UpdateDone, SlotFilled};
 ghost use Rattle.rathonsi_c.specs.declared.TheConstants.{OK, RESERVE};
 ghost use Rattle.rathonsi_c.specs.declared.route.RathonsiRoute.{RathonsiRoute};
 ghost use Rattle.rathonsi_c.specs.declared.secoc.RathonsiVerdict.{RathonsiVerdict};
+
+/// On a device of bytes the power comes back so after a cut within the plan: each write is durable before the next, and
+/// one that is cut changes its own bytes alone. So the laws over all lives hold of such a device.
+pub fn the_power_comes_back_on_a_device_of_bytes()
+    ensures left { (plan : Plan) (image left : List ℕ) → CutWithin plan image left → LeavesPut plan image left }
+    ensures back { (n : ℕ) (a b : Memory) → CutWithin a.plan a.image b.image → IsEmptyPlan b.plan
+        → ((k : ℕ) → k < n → OpensFilled (a.routes k) b.image (b.routes k)) → PowerBack n a b }
+{}
 
 /// The freshness that a route sends, or accepts, strictly rises over all its lives, whenever the power goes. The caller
 /// keeps its duties, and else does with a store of several routes and slots what it likes. Key, window, reserve and
@@ -26,7 +37,7 @@ pub fn freshness_rises_over_all_lives()
     ensures rises { (n : ℕ) (deeds : List Deed) (first last : Memory) → PoweredUp n first → Lives n deeds first last
         → (k : ℕ) → k < n → RisesTo (first.routes k).counter (given_out k deeds) (last.routes k).counter }
     ensures covered { (n : ℕ) (deeds : List Deed) (first last : Memory) → PoweredUp n first → Lives n deeds first last
-        → (k : ℕ) → k < n → (image : List ℕ) → CutWithin last.plan last.image image
+        → (k : ℕ) → k < n → (image : List ℕ) → LeavesPut last.plan last.image image
         → CounterCovered (last.routes k) image }
 {}
 
@@ -43,17 +54,17 @@ pub fn keys_are_kept_over_all_lives()
     ensures cut { (n : ℕ) (deeds : List Deed) (first last : Memory) (uid m1 : List ℕ) (reply : Reply) (planned : Bool)
         → (c : ConfirmsSlot uid m1 first.image reply) → (planned ≡ false → NoUpdatePlanned c.update.id first)
         → NoneBegun c.update.id planned deeds → Lives n deeds first last
-        → planned_after c.update.id planned deeds ≡ false → (image : List ℕ) → CutWithin last.plan last.image image
+        → planned_after c.update.id planned deeds ≡ false → (image : List ℕ) → LeavesPut last.plan last.image image
         → ImageSlot image c.update.id (slot_of c.update) × ConfirmsSlot uid m1 image reply }
     ensures either { (n : ℕ) (deeds : List Deed) (first last : Memory) (uid m1 : List ℕ) (reply : Reply)
         (planned : Bool)
         → (c : ConfirmsSlot uid m1 first.image reply) → PlannedAs c.update.id planned first
         → NoneBegun c.update.id planned deeds → Lives n deeds first last
-        → (image : List ℕ) → CutWithin last.plan last.image image
+        → (image : List ℕ) → LeavesPut last.plan last.image image
         → ImageSlot image c.update.id (slot_of c.update) ⊎ UpdateDone c.update.id last image }
     ensures filled { (n : ℕ) (deeds : List Deed) (first last : Memory) (slot : ℕ) → PoweredUp n first → slot < 14
         → SlotFilled first.image slot → Lives n deeds first last → (image : List ℕ)
-        → CutWithin last.plan last.image image
+        → LeavesPut last.plan last.image image
         → SlotFilled last.image slot × SlotFilled image slot }
 {}
 
@@ -61,7 +72,7 @@ pub fn keys_are_kept_over_all_lives()
 /// is whatever the power leaves.
 pub fn a_store_stays_whole_over_all_lives()
     ensures { (n : ℕ) (deeds : List Deed) (first last : Memory) → IsEmptyPlan first.plan → IsWhole first.image
-        → Lives n deeds first last → (image : List ℕ) → CutWithin last.plan last.image image
+        → Lives n deeds first last → (image : List ℕ) → LeavesPut last.plan last.image image
         → IsWhole last.image × IsWhole image }
 {}
 

@@ -1,14 +1,15 @@
 //! The library for C: AES-128, its CMAC, the Secured I-PDU (AUTOSAR SecOC, profile 1), key updates (SHE), and
 //! counters and slots of a store over the caller's own device. Each export is a thin call of a proved
 //! library. It answers a status: [`OK`], or why it did nothing, and then nothing was written. A slice is a
-//! pointer and a length in bytes, and an array of a fixed size a pointer alone. `include/rathonsi.h` and
-//! `include/rathonsi_store.h` declare them, with what a caller owes. Nothing here takes memory, keeps a state
-//! or calls back. docs/guarantees.md has the promises: each status by its cause, and [`laws`] of all lives of
-//! a caller.
+//! pointer and a length in bytes, and an array of a fixed size a pointer alone. `include/rathonsi.h`,
+//! `include/rathonsi_store.h` and `include/rathonsi_flash.h` declare them, with what a caller owes. Nothing here
+//! takes memory, keeps a state or calls back. docs/guarantees.md has the promises: each status by its cause, and
+//! [`laws`] of all lives of a caller.
 #![tactic(auto)]
 
 mod aes;
 mod boot;
+mod flash;
 mod growing;
 pub mod growth_laws;
 mod images;
@@ -35,6 +36,10 @@ pub use aes::{
 };
 pub use boot::{
     RathonsiBoot, rathonsi_boot, rathonsi_boot_begin, rathonsi_boot_finish, rathonsi_boot_update,
+};
+pub use flash::{
+    rathonsi_flash_begin, rathonsi_flash_did, rathonsi_flash_image, rathonsi_flash_next,
+    rathonsi_flash_put, rathonsi_flash_take,
 };
 pub use growing::{rathonsi_store_grow, rathonsi_store_size};
 pub use looking::rathonsi_store_look;
@@ -118,3 +123,6 @@ pub const KEY_UPDATE_ERROR: i32 = 16;
 
 /// The image ends before the cell, or the cell is another's: it holds something else than is asked of it.
 pub const WRONG_CELL: i32 = 17;
+
+/// An operation on the flash failed.
+pub const FAILED: i32 = 18;

@@ -1,4 +1,5 @@
 -- The lemmas that crates above cite.
-pub use Rattle.store_plan.proofs.CutLaws.{applied-none, cut-cell, cut-head, cut-length, cut-none, cut-others}
+pub use Rattle.store_plan.proofs.CutLaws.{applied-none}
 pub use Rattle.store_plan.proofs.GatedLaws.{applied-cell, applied-head, applied-length, applied-others}
+pub use Rattle.store_plan.proofs.LeavingLaws.{cut-leaves, image-put, images-put, images-unchanged}
 pub use Rattle.store_plan.proofs.GrowingLaws.{grew-ends}

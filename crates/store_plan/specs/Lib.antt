@@ -1,3 +1,4 @@
 pub mod Plans
+pub mod Leaving
 pub mod Performing
 pub mod Growing

@@ -6,7 +6,8 @@ ghost use Rattle.cell_store.specs.Twin.{twin_size, cell_at};
 ghost use Rattle.cell_store.specs.Store.{Stands, HasHeader};
 ghost use Rattle.store_plan.specs.declared.planning.Plan.{Plan};
 ghost use Rattle.store_plan.specs.declared.growing.Growth.TheVariants.{Before, Counting, After};
-ghost use Rattle.store_plan.specs.Plans.{PlansPut, CutWithin};
+ghost use Rattle.store_plan.specs.Plans.{PlansPut, CutWithin, applied};
+ghost use Rattle.store_plan.specs.Leaving.{LeavesPut, IsImageOf};
 ghost use Rattle.store_plan.specs.Growing.{IsGrowth, PlansGrowth, PlansCount, Grew};
 
 /// If the power goes within a plan, what stands there is the old list or the new one. The device has to keep what is
@@ -27,6 +28,28 @@ pub fn a_cut_within_a_plan_leaves_either_cell()
 pub fn a_cut_within_a_plan_leaves_every_other_cell()
     ensures { (plan : Plan) (x y : List ℕ) (cell other : ℕ) (bytes : List ℕ) → PlansPut plan x cell bytes
         → CutWithin plan x y → other ≢ cell → cell_at y other ≡ cell_at x other }
+{}
+
+/// What a cut within a plan leaves, said of cells (`LeavesPut`): so what is proved of each device for which `LeavesPut`
+/// holds is proved of one of bytes.
+pub fn a_cut_within_a_plan_leaves_a_put()
+    ensures { (plan : Plan) (x y : List ℕ) → CutWithin plan x y → LeavesPut plan x y }
+{}
+
+/// A device that keeps cells, and not the image, may make the image anew at each start. It leaves the same, if its
+/// cells are those before the put or those after it.
+pub fn images_made_anew_leave_a_put()
+    ensures before { (plan : Plan) (x y : List ℕ) (cells : List (List ℕ)) → IsImageOf x cells → IsImageOf y cells
+        → LeavesPut plan x y }
+    ensures after { (plan : Plan) (x y : List ℕ) (cells : List (List ℕ)) (cell : ℕ) (bytes : List ℕ)
+        → IsImageOf x cells → PlansPut plan x cell bytes → IsImageOf y (slice_set cells cell bytes)
+        → LeavesPut plan x y }
+{}
+
+/// A put that is done makes of an image of cells one of the cells after it.
+pub fn a_done_put_keeps_an_image()
+    ensures { (plan : Plan) (x : List ℕ) (cells : List (List ℕ)) (cell : ℕ) (bytes : List ℕ) → IsImageOf x cells
+        → PlansPut plan x cell bytes → IsImageOf (applied plan x) (slice_set cells cell bytes) }
 {}
 
 /// If the power goes within a growth of a store, it has its old cells and the old header, or the new cell too and the

@@ -12,6 +12,9 @@ use Rattle.flash_plan.specs.Plans.{StepFits, BestFits}
 use Rattle.flash_plan.specs.Standing.{plan_layout, BeforeBank, ReachesStep}
 use Rattle.flash_plan.proofs.ScanSteps.{next_heading, ends_none, ends_tie, ends_last, ends_found, ends_ready}
 use Rattle.flash_plan.proofs.LeftSteps.{next_left, renewed_left}
+use Rattle.flash_laws.proofs.CallerLemmas.{next_inside}
+use Rattle.flash_plan.proofs.TellingSteps.{renewed_told}
+use Rattle.flash_plan.specs.Telling.{StartTold, StepTold}
 use Rattle.flash_plan.proofs.plans.FlashPlan.after_bank.Goals as goal
 
 pub returns-then-bank-self-clause-goes : goal.returns-then-bank-self-clause-goes
@@ -72,3 +75,24 @@ returns-then-bank-self-clause-less c = next_left c.args.self.now.banks c.args.se
 
 pub returns-else-may_go_on-clause-less : goal.returns-else-may_go_on-clause-less
 returns-else-may_go_on-clause-less c = renewed_left c.args.self.now.banks c.args.self.now.places (length c.args.cells.now) ((c.args.self.now.banks - suc c.args.bank) * c.args.self.now.places) c.in-One.log.bank c.in-One.log.generation c.renewing.result c.renewing.ensures.last c.renewing.ensures.copied
+
+pub returns-then-bank-self-clause-told : goal.returns-then-bank-self-clause-told
+returns-then-bank-self-clause-told c told s =
+    subst (λ k. StartTold told c.args.self.now.places k c.args.self.now.best c.args.self.now.latest) (let e : suc c.args.bank ≡ c.args.bank + 1 = omega arith in e) s
+
+pub returns-then-may_go_on-clause-told : goal.returns-then-may_go_on-clause-told
+returns-then-may_go_on-clause-told c told s = tt
+
+pub returns-else-may_go_on-clause-told : goal.returns-else-may_go_on-clause-told
+returns-else-may_go_on-clause-told c told s =
+    subst (λ (z : Best). StepTold told c.args.self.now.banks c.args.self.now.places None z c.args.self.now.latest c.renewing.result) (sym c.in-One.is)
+    (renewed_told told c.args.self.now.banks c.args.self.now.places (suc c.args.bank) c.in-One.log c.args.self.now.latest
+    (subst (λ (z : Best). StartTold told c.args.self.now.places (suc c.args.bank) z c.args.self.now.latest) c.in-One.is s) (omega arith)
+    (next_inside c.args.self.now.banks c.in-One.log.bank c.requires.plan.two (subst (λ (z : Best). BestFits c.args.self.now.banks z) c.in-One.is c.requires.plan.best))
+    c.may_go_on.result c.may_go_on.ensures.may c.if-may_go_on.false None c.renewing.result c.renewing.ensures.last c.renewing.ensures.copied)
+
+pub returns-in-NoLog-clause-told : goal.returns-in-NoLog-clause-told
+returns-in-NoLog-clause-told c told s = tt
+
+pub returns-in-Tie-clause-told : goal.returns-in-Tie-clause-told
+returns-in-Tie-clause-told c told s = tt

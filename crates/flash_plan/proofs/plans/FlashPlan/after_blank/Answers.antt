@@ -29,3 +29,9 @@ returns-then-place-last-clause-less c = place_left c.args.self.now.banks c.args.
 
 pub returns-clause-less : goal.returns-clause-less
 returns-clause-less c = leave_left c.args.self.now.banks c.args.bank c.args.self.now.places c.args.place ((length c.args.cells.now) + 2) _ c.requires.inside c.requires.place c.leave_bank.ensures.less
+
+pub returns-then-place-last-clause-told : goal.returns-then-place-last-clause-told
+returns-then-place-last-clause-told c told s below = (s, omega (arith, below))
+
+pub returns-clause-told : goal.returns-clause-told
+returns-clause-told c told s below = c.leave_bank.ensures.told told s (λ taken. absurd (cc))

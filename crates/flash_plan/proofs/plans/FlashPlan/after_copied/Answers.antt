@@ -6,6 +6,7 @@ use Rattle.flash_plan.proofs.DeedSteps.{cell_read}
 use Rattle.flash_plan.specs.declared.plans.WaitingPut.{WaitingPut}
 use Rattle.flash_plan.specs.Plans.{step_left}
 use Rattle.flash_plan.proofs.LeftSteps.{cell_left, leave_left}
+use Rattle.flash_plan.proofs.TellingSteps.{cell_told}
 use Rattle.flash_plan.proofs.plans.FlashPlan.after_copied.Goals as goal
 
 pub returns-in-Some-clause-goes : goal.returns-in-Some-clause-goes
@@ -30,3 +31,11 @@ returns-in-Some-clause-less c =
 
 pub returns-in-None-clause-less : goal.returns-in-None-clause-less
 returns-in-None-clause-less c = leave_left c.args.self.now.banks c.args.bank c.args.self.now.places (suc c.args.done) ((length c.args.cells.now) + 2) _ c.requires.inside (omega arith) c.leave_bank.ensures.less
+
+pub returns-in-Some-clause-told : goal.returns-in-Some-clause-told
+returns-in-Some-clause-told c told s =
+    cell_told told c.args.self.now.banks c.args.self.now.places (length (set c.args.scratch.now c.args.done c.in-Some.payload)) c.args.bank c.args.generation c.args.done c.args.self.now.put c.args.self.now.best c.args.self.now.latest
+    c.after_cell-self.result c.after_cell-self.ensures.is s
+
+pub returns-in-None-clause-told : goal.returns-in-None-clause-told
+returns-in-None-clause-told c told s = c.leave_bank.ensures.told told s tt

@@ -4,6 +4,7 @@ use Rattle.flash_plan.specs.Standing.{plan_layout}
 use Rattle.flash_plan.proofs.BankSteps.{head_is, head_is_none}
 use Rattle.flash_plan.proofs.DeedSteps.{here_reached}
 use Rattle.flash_plan.proofs.LeftSteps.{head_left, leave_head}
+use Rattle.flash_plan.proofs.TellingSteps.{head_told}
 use Rattle.flash_plan.proofs.plans.FlashPlan.after_head.Goals as goal
 
 pub returns-in-Some-clause-goes : goal.returns-in-Some-clause-goes
@@ -27,3 +28,12 @@ returns-in-Some-clause-less c = head_left c.args.self.now.banks c.args.bank c.ar
 
 pub returns-in-None-clause-less : goal.returns-in-None-clause-less
 returns-in-None-clause-less c = leave_head c.args.self.now.banks c.args.bank c.args.self.now.places ((length c.args.cells.now) + 2) _ c.requires.inside (omega arith) c.leave_bank.ensures.less
+
+pub returns-in-Some-clause-told : goal.returns-in-Some-clause-told
+returns-in-Some-clause-told c told s is =
+    head_told told c.args.self.now.places c.args.bank c.args.self.now.best c.args.self.now.latest c.note.new.latest c.args.answer is (c.note.ensures.here ∙ c.latest_of.ensures) c.note.ensures.others s
+
+pub returns-in-None-clause-told : goal.returns-in-None-clause-told
+returns-in-None-clause-told c told s is =
+    c.leave_bank.ensures.told told
+    (head_told told c.args.self.now.places c.args.bank c.args.self.now.best c.args.self.now.latest c.note.new.latest c.args.answer is (c.note.ensures.here ∙ c.latest_of.ensures) c.note.ensures.others s) tt

@@ -1,10 +1,11 @@
-use Rattle.std.proofs.Common.{◌≡◌, ◌+◌, suc, Some, true, length, refl, sym, subst, arith}
+use Rattle.std.proofs.Common.{◌≡◌, ◌+◌, ◌∙◌, suc, Some, true, length, refl, sym, subst, arith}
 use Rattle.flash_log.specs.declared.reading.LogEnd.{LogEnd}
 use Rattle.flash_plan.specs.declared.plans.PlanStep.TheVariants.{Puts}
 use Rattle.flash_plan.specs.Standing.{plan_layout, WithinBank, ReadsPuts, ReadsBank}
 use Rattle.flash_plan.proofs.BankSteps.{within_map, put_is, put_is_blank, put_is_nothing, puts_fill}
 use Rattle.flash_plan.proofs.DeedSteps.{here_reached}
 use Rattle.flash_plan.proofs.LeftSteps.{place_left, leave_left}
+use Rattle.flash_plan.proofs.TellingSteps.{not_free_told}
 use Rattle.flash_plan.proofs.plans.FlashPlan.after_puts.Goals as goal
 
 pub returns-then-place-last-clause-goes : goal.returns-then-place-last-clause-goes
@@ -51,3 +52,18 @@ returns-else-place-last-clause-less c = leave_left c.args.self.now.banks c.args.
 
 pub returns-in-Nothing-clause-less : goal.returns-in-Nothing-clause-less
 returns-in-Nothing-clause-less c = leave_left c.args.self.now.banks c.args.bank c.args.self.now.places c.args.place ((length c.args.cells.now) + 2) _ c.requires.inside c.requires.place c.leave_bank-in-Nothing.ensures.less
+
+pub returns-then-place-last-clause-told : goal.returns-then-place-last-clause-told
+returns-then-place-last-clause-told c told s is = s
+
+pub returns-else-place-last-clause-told : goal.returns-else-place-last-clause-told
+returns-else-place-last-clause-told c told s is = c.leave_bank.ensures.told told s (λ taken. absurd (cc))
+
+pub returns-in-Blank-clause-told : goal.returns-in-Blank-clause-told
+returns-in-Blank-clause-told c told s is = c.after_blank.ensures.told told s (omega arith)
+
+pub returns-in-Nothing-clause-told : goal.returns-in-Nothing-clause-told
+returns-in-Nothing-clause-told c told s is =
+    c.leave_bank-in-Nothing.ensures.told told s
+    (not_free_told told c.args.self.now.places c.args.bank c.args.generation c.args.place c.args.place c.args.answer c.not_free-log.result c.not_free-log.ensures (omega arith) c.requires.place is
+    (λ blank. absurd (let e = sym c.in-Nothing.is ∙ blank in cc)))

@@ -8,6 +8,8 @@ use Rattle.flash_plan.proofs.DeedSteps.{any_failed, plan_fails, plan_failed, not
 use Rattle.flash_plan.specs.Formatting.{FormatsAt}
 use Rattle.flash_plan.proofs.FormatSteps.{format_reads, plan_format_fails}
 use Rattle.flash_plan.proofs.LeftSteps.{fail_less}
+use Rattle.flash_plan.proofs.TellingSteps.{failed_told, if_comes}
+use Rattle.flash_plan.specs.Telling.{AnswersSo, IsTold}
 use Rattle.flash_plan.proofs.plans.FlashPlan.did.Goals as goal
 
 pub returns-else-reads-clause-steps : goal.returns-else-reads-clause-steps
@@ -63,3 +65,23 @@ returns-else-writes-clause-less c comes = fail_less (length c.args.cells.now) c.
 
 pub returns-in-Failed-clause-less : goal.returns-in-Failed-clause-less
 returns-in-Failed-clause-less c comes = fail_less (length c.args.cells.now) c.args.self.now c.fail-in-Failed.new.self c.args.cells.now c.fail-in-Failed.ensures.fails c.requires.plan.step comes
+
+pub returns-then-reads-clause-told : goal.returns-then-reads-clause-told
+returns-then-reads-clause-told c told h =
+    subst (λ (o : FlashOutcome). IfSome (operation_of c.args.self.now c.args.cells.now) (λ it. AnswersSo told it o → IsTold told c.did_read.new.self)) (sym c.in-Answered.is) (c.did_read.ensures.told told h)
+
+pub returns-else-reads-clause-told : goal.returns-else-reads-clause-told
+returns-else-reads-clause-told c told h =
+    if_comes (IsTold told c.fail.new.self) told (operation_of c.args.self.now c.args.cells.now) c.args.outcome (failed_told told c.args.self.now c.fail.new.self c.fail.ensures.fails h)
+
+pub returns-then-writes-clause-told : goal.returns-then-writes-clause-told
+returns-then-writes-clause-told c told h =
+    if_comes (IsTold told c.did_change.new.self) told (operation_of c.args.self.now c.args.cells.now) c.args.outcome (c.did_change.ensures.told told h)
+
+pub returns-else-writes-clause-told : goal.returns-else-writes-clause-told
+returns-else-writes-clause-told c told h =
+    if_comes (IsTold told c.fail-else-writes.new.self) told (operation_of c.args.self.now c.args.cells.now) c.args.outcome (failed_told told c.args.self.now c.fail-else-writes.new.self c.fail-else-writes.ensures.fails h)
+
+pub returns-in-Failed-clause-told : goal.returns-in-Failed-clause-told
+returns-in-Failed-clause-told c told h =
+    if_comes (IsTold told c.fail-in-Failed.new.self) told (operation_of c.args.self.now c.args.cells.now) c.args.outcome (failed_told told c.args.self.now c.fail-in-Failed.new.self c.fail-in-Failed.ensures.fails h)

@@ -7,6 +7,8 @@ use Rattle.flash_plan.proofs.FormatSteps.{clear_done, fill_done, erase_formats, 
 use Rattle.flash_plan.specs.declared.plans.PlanStep.TheVariants.{Copying}
 use Rattle.flash_plan.specs.Plans.{step_left}
 use Rattle.flash_plan.proofs.LeftSteps.{copy_left, clear_left, fill_left}
+use Rattle.flash_plan.proofs.TellingSteps.{programmed_told}
+use Rattle.flash_plan.specs.Telling.{StepTold}
 use Rattle.flash_plan.proofs.plans.FlashPlan.did_change.Goals as goal
 
 pub returns-in-Erasing-clause-steps : goal.returns-in-Erasing-clause-steps
@@ -59,3 +61,16 @@ returns-in-Clearing-clause-less c comes = subst (λ (s : PlanStep). step_left c.
 
 pub returns-in-Filling-clause-less : goal.returns-in-Filling-clause-less
 returns-in-Filling-clause-less c comes = subst (λ (s : PlanStep). step_left c.args.self.now.banks c.args.self.now.places (length c.args.cells.now) c.args.self.now.put c.after_filling-self.result < step_left c.args.self.now.banks c.args.self.now.places (length c.args.cells.now) c.args.self.now.put s) (sym c.in-Filling.is) (fill_left c.args.self.now.banks c.args.self.now.places (length c.args.cells.now) (length c.args.cells.now) c.in-Filling.done c.args.self.now.put c.after_filling-self.result (subst (λ (s : PlanStep). StepFits c.args.self.now.banks c.args.self.now.places (length c.args.cells.now) s c.args.self.now.put) c.in-Filling.is c.requires.plan.step).0 refl c.after_filling-self.ensures.is)
+
+pub returns-in-Copying-clause-told : goal.returns-in-Copying-clause-told
+returns-in-Copying-clause-told c told h =
+    programmed_told told c.args.self.now.banks c.args.self.now.places (length c.args.cells.now) c.in-Copying.bank c.in-Copying.generation c.in-Copying.done c.args.self.now.put c.args.self.now.best c.args.self.now.latest
+    c.after_program-self.result c.after_program-self.ensures.is
+
+pub returns-in-Clearing-clause-told : goal.returns-in-Clearing-clause-told
+returns-in-Clearing-clause-told c told h =
+    absurd (subst (λ (s : PlanStep). StepTold told c.args.self.now.banks c.args.self.now.places c.args.self.now.put c.args.self.now.best c.args.self.now.latest s) c.in-Clearing.is h)
+
+pub returns-in-Filling-clause-told : goal.returns-in-Filling-clause-told
+returns-in-Filling-clause-told c told h =
+    absurd (subst (λ (s : PlanStep). StepTold told c.args.self.now.banks c.args.self.now.places c.args.self.now.put c.args.self.now.best c.args.self.now.latest s) c.in-Filling.is h)

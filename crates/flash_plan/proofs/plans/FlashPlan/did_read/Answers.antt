@@ -3,6 +3,7 @@ use Rattle.flash_plan.specs.Standing.{plan_layout}
 use Rattle.flash_plan.proofs.DeedSteps.{head_answered, copied_answered, puts_answered, free_answered, reads_one}
 use Rattle.flash_plan.specs.declared.plans.PlanStep.{PlanStep}
 use Rattle.flash_plan.specs.Plans.{step_left, operations_left}
+use Rattle.flash_plan.proofs.TellingSteps.{head_tells, copied_tells, puts_tell, free_tells}
 use Rattle.flash_plan.proofs.plans.FlashPlan.did_read.Goals as goal
 
 pub returns-in-Heading-clause-steps : goal.returns-in-Heading-clause-steps
@@ -43,3 +44,23 @@ returns-in-Puts-clause-less c = subst (λ (s : PlanStep). operations_left (lengt
 
 pub returns-in-Free-clause-less : goal.returns-in-Free-clause-less
 returns-in-Free-clause-less c = subst (λ (s : PlanStep). operations_left (length c.args.cells.now) c.after_free.new.self < step_left c.args.self.now.banks c.args.self.now.places (length c.args.cells.now) c.args.self.now.put s) (sym c.in-Free.is) c.after_free.ensures.less
+
+pub returns-in-Heading-clause-told : goal.returns-in-Heading-clause-told
+returns-in-Heading-clause-told c told h =
+    head_tells told c.args.self.now.banks c.args.self.now.places c.args.self.now.put c.args.self.now.best c.args.self.now.latest c.args.cells.now c.args.answer c.after_head.new.self c.args.self.now.step h
+    c.in-Heading.bank c.in-Heading.is (λ s is. c.after_head.ensures.told told s is)
+
+pub returns-in-Copied-clause-told : goal.returns-in-Copied-clause-told
+returns-in-Copied-clause-told c told h =
+    copied_tells told c.args.self.now.banks c.args.self.now.places c.args.self.now.put c.args.self.now.best c.args.self.now.latest c.args.cells.now c.args.answer c.after_copied.new.self c.args.self.now.step h
+    c.in-Copied.bank c.in-Copied.generation c.in-Copied.done c.in-Copied.is (λ s. c.after_copied.ensures.told told s)
+
+pub returns-in-Puts-clause-told : goal.returns-in-Puts-clause-told
+returns-in-Puts-clause-told c told h =
+    puts_tell told c.args.self.now.banks c.args.self.now.places c.args.self.now.put c.args.self.now.best c.args.self.now.latest c.args.cells.now c.args.answer c.after_puts.new.self c.args.self.now.step h
+    c.in-Puts.bank c.in-Puts.generation c.in-Puts.place c.in-Puts.is (λ s is. c.after_puts.ensures.told told s is)
+
+pub returns-in-Free-clause-told : goal.returns-in-Free-clause-told
+returns-in-Free-clause-told c told h =
+    free_tells told c.args.self.now.banks c.args.self.now.places c.args.self.now.put c.args.self.now.best c.args.self.now.latest c.args.cells.now c.args.answer c.after_free.new.self c.args.self.now.step h
+    c.in-Free.bank c.in-Free.generation c.in-Free.next c.in-Free.place c.in-Free.is (λ s below is. c.after_free.ensures.told told s below is)

@@ -1,9 +1,11 @@
-use Rattle.std.proofs.Common.{◌≡◌, suc, length, refl, sym, subst, ◌∙◌}
+use Rattle.std.proofs.Common.{◌≡◌, suc, Option, length, refl, sym, subst, ◌∙◌}
 use Rattle.flash_laws.specs.Lives.{off}
 use Rattle.flash_log.specs.Going.{machine}
 use Rattle.flash_plan.specs.Standing.{plan_layout, BeforeBank}
 use Rattle.flash_plan.proofs.DeedSteps.{reached, reached_plan}
 use Rattle.flash_plan.proofs.LeftSteps.{left_as}
+use Rattle.flash_plan.specs.declared.plans.WaitingPut.{WaitingPut}
+use Rattle.flash_plan.specs.Telling.{StartTold, StepTold}
 use Rattle.flash_plan.proofs.plans.FlashPlan.leave_bank.Goals as goal
 
 pub returns-clause-goes : goal.returns-clause-goes
@@ -20,3 +22,10 @@ returns-clause-goes c first f w =
 pub returns-clause-less : goal.returns-clause-less
 returns-clause-less c = left_as c.args.self.now.banks c.take_log.new.self.banks c.args.self.now.places c.take_log.new.self.places (length c.args.cells.now) (length c.take_log.new.cells) c.args.bank c.take_log.new.self.put c.after_bank-self.result
     c.take_log.ensures.same.banks c.take_log.ensures.same.places c.take_log.auto.cells (c.take_log.ensures.same.put ∙ c.requires.reading) c.after_bank-self.ensures.less
+
+pub returns-clause-told : goal.returns-clause-told
+returns-clause-told c told s l =
+    let t = c.take_log.ensures.told told s l in
+    let step = c.after_bank-self.ensures.told told (subst (λ z. StartTold told z (suc c.args.bank) c.take_log.new.self.best c.take_log.new.self.latest) (sym c.take_log.ensures.same.places) t) in
+    subst (λ (w : Option WaitingPut). StepTold told c.take_log.new.self.banks c.take_log.new.self.places w c.take_log.new.self.best c.take_log.new.self.latest c.after_bank-self.result)
+    (sym (c.take_log.ensures.same.put ∙ c.requires.reading)) step

@@ -8,3 +8,6 @@ returns-clause-stands c n cells scratch f = record {
   is = refl;
   reads = record { scanned = scanned_first n f cells; free = tt; heads = λ x below. absurd (omega (arith, below)) };
 }
+
+pub returns-clause-told : goal.returns-clause-told
+returns-clause-told c told = record { log = tt; heads = λ x below. absurd (omega (arith, below)) }

@@ -1,0 +1,4 @@
+pub mod ReadLaws
+pub mod MoveLaws
+pub mod CallLaws
+pub mod LifeLaws

@@ -1,0 +1,7 @@
+-- The bytes that were read are a line.
+use Rattle.flash_calls.proofs.ReadLaws.{gives_line}
+use Rattle.flash_calls.proofs.operations.answer_of.Goals as goal
+
+pub returns-in-Some : goal.returns-in-Some
+returns-in-Some c bank place f g gave =
+    gives_line bank place c.args.outcome c.args.bytes.now c.in-Some.line f g c.in-0.is c.in-Some.ensures.looks gave

@@ -1,0 +1,122 @@
+-- All lives of a caller that keeps its duties: it performs what the calls say, and reports what came of it. The power
+-- may go at any time.
+use Rattle.std.specs.Prelude.{◌≡◌, ℕ, nat_eq, if◌then◌else◌, Option, Some, List, [], ◌∷◌, ◌++◌, length}
+use Rattle.flash_places.specs.Places.{Flash}
+use Rattle.flash_laws.specs.Logs.{CellList}
+use Rattle.flash_laws.specs.Lives.{FlashLayout, FlashDeed}
+use Rattle.flash_lines.specs.Lines.{line_length}
+use Rattle.flash_plan.specs.declared.operations.Operation.{Operation}
+use Rattle.flash_plan.specs.declared.operations.FlashOutcome.{FlashOutcome}
+use Rattle.flash_plan.specs.declared.operations.FlashOutcome.TheVariants.{Done, Failed}
+use Rattle.flash_plan.specs.declared.plans.WaitingPut.{WaitingPut}
+use Rattle.flash_plan.specs.Performing.{DoesOperation}
+use Rattle.flash_plan.specs.Plans.{Fails, operation_of, put_in}
+use Rattle.flash_plan.specs.Turns.{deed_in}
+use Rattle.flash_calls.specs.declared.numbers.FlashNumbers.{FlashNumbers}
+use Rattle.flash_calls.specs.Numbers.{plan_in}
+use Rattle.flash_calls.specs.Operations.{PerformsBytes}
+use Rattle.flash_calls.specs.Calls.{Begun, FormatBegun, DidMoves, PutTaken}
+
+-- what the caller says of its part in every life: unit and bank_size in bytes, how many banks, how many cells
+pub record FlashSizes : Type 0 where
+  pub unit : ℕ
+  pub banks : ℕ
+  pub bank_size : ℕ
+  pub cells : ℕ
+
+abbrev pub sizes_layout : FlashSizes → FlashLayout
+sizes_layout s = record { banks = s.banks; cells = s.cells }
+
+-- what the caller holds, and its flash
+pub record CallState : Type 0 where
+  pub numbers : FlashNumbers
+  pub cells : CellList
+  pub scratch : CellList
+  pub flash : Flash
+
+-- What happens. The operation that comes next is performed, and its outcome is reported with these bytes; `put` is the
+-- put whose line it programs, if it is one. A put is taken. All begins again: as the caller likes, or since the power
+-- went between two operations. The power goes within the operation that comes next.
+pub data CallDeed : Type 0 where
+  performs : (put : Option WaitingPut) → (outcome : ℕ) → (bytes : List ℕ) → CallDeed
+  takes_put : (cell : ℕ) → (payload : List ℕ) → CallDeed
+  starts : CallDeed
+  is_cut : (put : Option WaitingPut) → CallDeed
+
+-- an operation comes next, and it programs this put, if it is one
+pub record ComesNext (put : Option WaitingPut) (a : CallState) : Type 0 where
+  pub put_is : put_in (plan_in a.numbers) ≡ put
+  pub operation : Operation
+  pub next : operation_of (plan_in a.numbers) a.cells ≡ Some operation
+
+pub record PerformsNext (put : Option WaitingPut) (outcome : ℕ) (bytes : List ℕ) (a b : CallState) : Type 0 where
+  pub comes : ComesNext put a
+  pub performed : PerformsBytes a.numbers.places (line_length a.numbers.unit) comes.operation outcome bytes a.flash
+      b.flash
+  pub reported : DidMoves outcome bytes a.numbers a.cells a.scratch b.numbers b.cells b.scratch
+
+pub record TakesPut (cell : ℕ) (payload : List ℕ) (a b : CallState) : Type 0 where
+  pub taken : PutTaken cell payload a.cells a.numbers b.numbers
+  pub cells : b.cells ≡ a.cells
+  pub scratch : b.scratch ≡ a.scratch
+  pub flash : b.flash ≡ a.flash
+
+-- a plan was begun at power-up; cells and scratch have any bytes
+pub record CallBegun (s : FlashSizes) (a : CallState) : Type 0 where
+  pub begun : Begun s.unit s.banks s.bank_size s.cells a.numbers
+  pub count : length a.cells ≡ s.cells
+
+pub record StartsAgain (s : FlashSizes) (a b : CallState) : Type 0 where
+  pub begun : CallBegun s b
+  pub flash : b.flash ≡ a.flash
+
+-- the operation leaves what a failed one may leave, and then all begins again
+pub record IsCutNext (s : FlashSizes) (put : Option WaitingPut) (a b : CallState) : Type 0 where
+  pub comes : ComesNext put a
+  pub outcome : FlashOutcome
+  pub fails : Fails comes.operation outcome
+  pub leaves : DoesOperation comes.operation outcome a.flash b.flash
+  pub begun : CallBegun s b
+
+abbrev pub DoesCall : FlashSizes → CallDeed → CallState → CallState → Type 0
+DoesCall s (performs put outcome bytes) a b = PerformsNext put outcome bytes a b
+DoesCall s (takes_put cell payload) a b = TakesPut cell payload a b
+DoesCall s starts a b = StartsAgain s a b
+DoesCall s (is_cut put) a b = IsCutNext s put a b
+
+-- one after the other
+abbrev pub CallLives : FlashSizes → List CallDeed → CallState → CallState → Type 0
+CallLives s [] a c = c ≡ a
+CallLives s (deed ∷ deeds) a c = (b : CallState) × (DoesCall s deed a b × CallLives s deeds b c)
+
+-- the outcome of a program, as its number says
+abbrev pub program_outcome : ℕ → FlashOutcome
+program_outcome outcome = if nat_eq outcome 0 then Done else Failed
+
+-- the puts that were programmed: done if the caller reports so, else cut
+abbrev pub call_puts : CallDeed → List FlashDeed
+call_puts (performs put outcome bytes) = deed_in put (program_outcome outcome)
+call_puts (takes_put cell payload) = []
+call_puts starts = []
+call_puts (is_cut put) = deed_in put Failed
+
+abbrev pub puts_made : List CallDeed → List FlashDeed
+puts_made [] = []
+puts_made (deed ∷ deeds) = call_puts deed ++ puts_made deeds
+
+-- a plan that makes a store was begun, of the cells that the caller holds
+pub record CallFormatBegun (s : FlashSizes) (a : CallState) : Type 0 where
+  pub begun : FormatBegun s.unit s.banks s.bank_size s.cells a.numbers
+  pub count : length a.cells ≡ s.cells
+
+-- it is one of the operations of a plan that is performed and reported
+abbrev pub OperationDone : CallDeed → CallState → CallState → Type 0
+OperationDone (performs put outcome bytes) a b = PerformsNext put outcome bytes a b
+OperationDone (takes_put cell payload) a b = ⊥
+OperationDone starts a b = ⊥
+OperationDone (is_cut put) a b = ⊥
+
+-- nothing else happens
+abbrev pub OperationsDone : List CallDeed → CallState → CallState → Type 0
+OperationsDone [] a c = c ≡ a
+OperationsDone (deed ∷ deeds) a c = (b : CallState) × (OperationDone deed a b × OperationsDone deeds b c)

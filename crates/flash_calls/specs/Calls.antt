@@ -1,0 +1,132 @@
+-- What a call does to a plan in numbers, and why it does nothing.
+use Rattle.std.specs.Prelude.{◌≡◌, ◌≢◌, ◌⊎◌, ◌+◌, ◌*◌, ◌/◌, ◌≤◌, ◌<◌, ℕ, Option, Some, None, IfSome, List, length}
+use Rattle.flash_places.specs.Places.{Flash}
+use Rattle.flash_laws.specs.Logs.{CellList}
+use Rattle.flash_laws.specs.Lives.{FlashMachine, off}
+use Rattle.flash_log.specs.Going.{machine}
+use Rattle.flash_lines.specs.Lines.{line_length}
+use Rattle.flash_plan.specs.declared.operations.FlashOutcome.{FlashOutcome}
+use Rattle.flash_plan.specs.declared.plans.PlanEnd.TheVariants.{Formatted as end_formatted, NoStore as end_no_store}
+use Rattle.flash_plan.specs.declared.plans.PlanEnd.TheVariants.{Exhausted as end_exhausted, Failed as end_failed}
+use Rattle.flash_plan.specs.declared.plans.PlanStep.{PlanStep}
+use Rattle.flash_plan.specs.declared.plans.PlanStep.TheVariants.{Heading, Copied, Puts, Free, Erasing, Copying}
+use Rattle.flash_plan.specs.declared.plans.PlanStep.TheVariants.{Ready, Clearing, Filling, Ended}
+use Rattle.flash_plan.specs.Plans.{IsIdle, IsFullAt, operation_of, put_in, operations_left}
+use Rattle.flash_plan.specs.Formatting.{FormatsAt}
+use Rattle.flash_plan.specs.Performing.{IsWithinFlash}
+use Rattle.flash_plan.specs.Standing.{plan_layout, StandsAt, PlanMovesOn}
+use Rattle.flash_calls.specs.declared.calls.FlashRefusal.{FlashRefusal}
+use Rattle.flash_calls.specs.declared.calls.FlashRefusal.TheVariants.{BadLength, BadValue, NoStore, Busy}
+use Rattle.flash_calls.specs.declared.calls.FlashRefusal.TheVariants.{Exhausted, Failed}
+use Rattle.flash_calls.specs.declared.numbers.FlashNumbers.{FlashNumbers}
+use Rattle.flash_calls.specs.declared.operations.FlashOperation.{FlashOperation}
+use Rattle.flash_calls.specs.Numbers.{plan_in}
+use Rattle.flash_calls.specs.Operations.{IsProgramUnit, IsCallOf, FitsPart, SaysOperation, PerformsBytes, Comes}
+
+-- a line of a part of this unit takes so many bytes
+pub record IsLineSize (unit size : ℕ) : Type 0 where
+  pub unit_is : IsProgramUnit unit
+  pub is : size ≡ line_length unit
+  pub least : 44 ≤ size
+  pub most : size ≤ 128
+
+-- a plan at power-up, over a flash of these sizes
+pub record Begun (unit banks bank_size n : ℕ) (new : FlashNumbers) : Type 0 where
+  pub fits : FitsPart unit banks bank_size n
+  pub unit_is : new.unit ≡ unit
+  pub banks_is : new.banks ≡ banks
+  pub places_is : new.places ≡ bank_size / line_length unit
+  pub call : IsCallOf n new
+  pub left : operations_left n (plan_in new) ≤ banks * new.places + (n + 2)
+  pub stands : (cells scratch : CellList) (f : Flash)
+      → StandsAt (plan_layout (plan_in new) n) (plan_in new) cells scratch (machine f off) f
+
+-- a plan that makes a store, over a flash of these sizes
+pub record FormatBegun (unit banks bank_size n : ℕ) (new : FlashNumbers) : Type 0 where
+  pub fits : FitsPart unit banks bank_size n
+  pub unit_is : new.unit ≡ unit
+  pub banks_is : new.banks ≡ banks
+  pub places_is : new.places ≡ bank_size / line_length unit
+  pub call : IsCallOf n new
+  pub formats : (cells : CellList) (f : Flash) → FormatsAt (plan_in new) cells f
+
+-- why nothing comes next of a plan that has ended
+abbrev pub refusal_of : PlanStep → Option FlashRefusal
+refusal_of (Heading bank) = None
+refusal_of (Copied bank generation done) = None
+refusal_of (Puts bank generation place) = None
+refusal_of (Free bank generation next place) = None
+refusal_of (Erasing bank generation) = None
+refusal_of (Copying bank generation done) = None
+refusal_of (Ready bank generation next) = None
+refusal_of (Clearing bank) = None
+refusal_of (Filling done) = None
+refusal_of (Ended end_formatted) = None
+refusal_of (Ended end_no_store) = Some NoStore
+refusal_of (Ended end_exhausted) = Some Exhausted
+refusal_of (Ended end_failed) = Some Failed
+
+-- the numbers are a plan that hasn't ended, and this is said of its next operation
+pub record SaysNext (flash : FlashNumbers) (cells : CellList) (o : FlashOperation) : Type 0 where
+  pub call : IsCallOf (length cells) flash
+  pub goes_on : refusal_of (plan_in flash).step ≡ None
+  pub inside : IfSome (operation_of (plan_in flash) cells) (λ it. IsWithinFlash flash.banks flash.places it)
+  pub says : SaysOperation (line_length flash.unit) (operation_of (plan_in flash) cells) o
+
+-- why none is said
+abbrev pub FlashNextRefused : ℕ → FlashNumbers → FlashRefusal → Type 0
+FlashNextRefused n flash refusal =
+    ((refusal ≡ BadValue) × (IsCallOf n flash → ⊥))
+    ⊎ (IsCallOf n flash × (refusal_of (plan_in flash).step ≡ Some refusal))
+
+-- The caller performed the next operation, and the plan stands where that leads. If none came next, nothing changed. A
+-- plan that makes a store keeps its cells.
+pub record DidMoves (outcome : ℕ) (bytes : List ℕ) (old : FlashNumbers) (cells scratch : CellList) (new : FlashNumbers)
+    (cells' scratch' : CellList) : Type 0 where
+  pub was : IsCallOf (length cells) old
+  pub call : IsCallOf (length cells) new
+  pub alike : length scratch ≡ length cells
+  pub count : length cells' ≡ length cells
+  pub scratch_count : length scratch' ≡ length scratch
+  pub unit_is : new.unit ≡ old.unit
+  pub banks_is : new.banks ≡ old.banks
+  pub places_is : new.places ≡ old.places
+  pub moves : (at : FlashMachine) (f g : Flash)
+      → StandsAt (plan_layout (plan_in old) (length cells)) (plan_in old) cells scratch at f
+      → IfSome (operation_of (plan_in old) cells) (λ it. PerformsBytes old.places (line_length old.unit) it outcome
+      bytes f g → (came : FlashOutcome) × (Comes it outcome came × PlanMovesOn (plan_layout (plan_in old)
+      (length cells)) (put_in (plan_in old)) came (plan_in new) cells' scratch' at g))
+  pub formats : (f g : Flash) → FormatsAt (plan_in old) cells f
+      → IfSome (operation_of (plan_in old) cells) (λ it. PerformsBytes old.places (line_length old.unit) it outcome
+      bytes f g → FormatsAt (plan_in new) cells' g × (cells' ≡ cells))
+  pub less : (operation_of (plan_in old) cells ≡ None → ⊥)
+      → operations_left (length cells) (plan_in new) < operations_left (length cells) (plan_in old)
+  pub none : operation_of (plan_in old) cells ≡ None → (new ≡ old) × ((cells' ≡ cells) × (scratch' ≡ scratch))
+
+-- why it doesn't take the outcome: scratch has m cells
+abbrev pub FlashDidRefused : ℕ → ℕ → FlashNumbers → FlashRefusal → Type 0
+FlashDidRefused n m flash refusal =
+    ((refusal ≡ BadLength) × (m ≢ n)) ⊎ ((refusal ≡ BadValue) × ((m ≡ n) × (IsCallOf n flash → ⊥)))
+
+-- the put waits
+pub record PutTaken (cell : ℕ) (payload : List ℕ) (cells : CellList) (old new : FlashNumbers) : Type 0 where
+  pub was : IsCallOf (length cells) old
+  pub below : cell < length cells
+  pub idle : IsIdle (plan_in old)
+  pub room : IsFullAt old.places (plan_in old).step → ⊥
+  pub call : IsCallOf (length cells) new
+  pub unit_is : new.unit ≡ old.unit
+  pub banks_is : new.banks ≡ old.banks
+  pub places_is : new.places ≡ old.places
+  pub waits : (plan_in new).put ≡ Some (record { cell = cell; payload = payload })
+  pub left : operations_left (length cells) (plan_in new) ≤ length cells + 3
+  pub stands : (scratch : CellList) (at : FlashMachine) (f : Flash)
+      → StandsAt (plan_layout (plan_in old) (length cells)) (plan_in old) cells scratch at f
+      → StandsAt (plan_layout (plan_in old) (length cells)) (plan_in new) cells scratch at f
+
+-- why it isn't taken
+abbrev pub FlashPutRefused : ℕ → ℕ → FlashNumbers → FlashRefusal → Type 0
+FlashPutRefused n cell flash refusal =
+    ((refusal ≡ BadValue) × (IsCallOf n flash → cell < n → ⊥))
+    ⊎ ((IsCallOf n flash × (cell < n)) × (((refusal ≡ Busy) × (IsIdle (plan_in flash) → ⊥))
+    ⊎ ((refusal ≡ Exhausted) × (IsIdle (plan_in flash) × IsFullAt flash.places (plan_in flash).step))))

@@ -1,0 +1,2 @@
+-- The lemmas that crates above cite.
+pub use Rattle.flash_images.proofs.PutLaws.{writes_once}

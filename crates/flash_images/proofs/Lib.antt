@@ -1,0 +1,4 @@
+pub mod PutLaws
+pub mod ImageLaws
+pub mod CallerLemmas
+pub mod LeavingLaws

@@ -1,0 +1,179 @@
+//! The calls of a store on flash as C makes them: over two banks of eighteen lines in memory, which a driver reads,
+//! erases and programs.
+ghost use Rattle.std.specs.Prelude.{◌≡◌, length};
+
+use flash_calls::{
+    FlashNumbers, FlashOperation, FlashRefusal, begin, did, next, numbers_of, put, take,
+};
+use flash_plan::FlashPlan;
+use std::process::Abort;
+use std::test::Fail;
+
+/// How many cells there are, and how many lines in a bank: a head, the copy, and three puts.
+const CELLS: usize = 14;
+
+const LINES: usize = 18;
+
+#[derive(Clone, Copy, Drop)]
+struct Line {
+    bytes: [u8; 48],
+}
+
+/// The lines of two banks, those of bank 0 first.
+#[derive(Clone, Copy, Drop)]
+struct Banks {
+    lines: [Line; 2 * LINES],
+}
+
+/// Unit, banks, bytes of a bank, cells, and whether a store of so many cells fits such a part.
+const PARTS: [(u16, u8, u32, usize, bool); 16] = [
+    (8, 2, 768, 14, true),
+    (8, 2, 767, 14, false),
+    (16, 16, 13_056, 270, true),
+    (16, 16, 13_055, 270, false),
+    (32, 2, 1_024, 14, true),
+    (64, 2, 1_024, 14, true),
+    (64, 2, 1_023, 14, false),
+    (128, 2, 2_048, 14, true),
+    (128, 2, 4_294_967_295, 270, true),
+    (4, 2, 4_096, 14, false),
+    (0, 2, 4_096, 14, false),
+    (24, 2, 4_096, 14, false),
+    (8, 1, 4_096, 14, false),
+    (8, 17, 4_096, 14, false),
+    (8, 2, 65_536, 13, false),
+    (8, 2, 65_536, 271, false),
+];
+
+/// Numbers of some plan.
+fn some_numbers() -> FlashNumbers {
+    numbers_of(&FlashPlan::start(2, 20), 8)
+}
+
+/// A line that was erased.
+fn erased() -> Line {
+    Line { bytes: [0xff; 48] }
+}
+
+/// Two banks of lines of this byte.
+fn banks_of(byte: u8) -> Banks {
+    let lines = [Line { bytes: [byte; 48] }; 2 * LINES];
+    Banks { lines }
+}
+
+/// Performs an operation on the banks: its outcome.
+fn perform(banks: &mut Banks, operation: &mut FlashOperation) -> u32 {
+    let line = operation.offset as usize / 48;
+    if operation.bank >= 2 || line >= LINES {
+        return 3;
+    }
+    let first = operation.bank as usize * LINES;
+    match operation.kind {
+        1 => operation.bytes[..48].copy_from_slice(&banks.lines[first + line].bytes),
+        2 => banks.lines[first..first + LINES].fill(erased()),
+        _ => banks.lines[first + line]
+            .bytes
+            .copy_from_slice(&operation.bytes[..48]),
+    }
+    0
+}
+
+/// Performs operations until none comes: why none does, if the plan has ended.
+fn work(
+    flash: &mut FlashNumbers,
+    cells: &mut [[u8; 32]],
+    scratch: &mut [[u8; 32]],
+    banks: &mut Banks,
+) -> Result<(), FlashRefusal> {
+    let mut operation = FlashOperation {
+        kind: 0,
+        bank: 0,
+        offset: 0,
+        length: 0,
+        bytes: [0; 128],
+    };
+    for _ in 0..100u32 {
+        next(flash, cells, &mut operation)?;
+        if operation.kind == 0 {
+            return Ok(());
+        }
+        let outcome = perform(banks, &mut operation);
+        did(flash, cells, scratch, outcome, &operation.bytes)?;
+    }
+    Err(FlashRefusal::Busy)
+}
+
+/// Starts a store: its cells.
+fn started(banks: &mut Banks) -> Result<[[u8; 32]; CELLS], FlashRefusal> {
+    let mut flash = some_numbers();
+    let mut cells = [[0; 32]; CELLS];
+    let mut scratch = [[0; 32]; CELLS];
+    begin(&mut flash, 8, 2, 864, CELLS)?;
+    work(&mut flash, &mut cells, &mut scratch, banks)?;
+    Ok(cells)
+}
+
+/// Makes a store of cells that are all alike, starts it, and puts into its cells in turn.
+fn made(banks: &mut Banks, puts: u8) -> Result<(), FlashRefusal> {
+    let mut flash = some_numbers();
+    let mut cells = [[1; 32]; CELLS];
+    let mut scratch = [[0; 32]; CELLS];
+    take(&mut flash, 8, 2, 864, CELLS)?;
+    work(&mut flash, &mut cells, &mut scratch, banks)?;
+    begin(&mut flash, 8, 2, 864, CELLS)?;
+    work(&mut flash, &mut cells, &mut scratch, banks)?;
+    for k in 0..puts {
+        put(&mut flash, &cells, k as u16 % 14, &[k; 32])?;
+        work(&mut flash, &mut cells, &mut scratch, banks)?;
+    }
+    Ok(())
+}
+
+/// What an outcome that is reported with `scratch` of another length is answered.
+fn reported_with_other_scratch() -> Result<(), FlashRefusal> {
+    let mut flash = some_numbers();
+    let mut cells = [[0; 32]; CELLS];
+    let mut scratch = [[0; 32]; 13];
+    begin(&mut flash, 8, 2, 864, CELLS)?;
+    did(&mut flash, &mut cells, &mut scratch, 2, &[0; 128])
+}
+
+#[test]
+fn a_part_that_no_store_fits_is_refused(rt: HostRuntime) -> Result<(), Fail> {
+    for (unit, banks, bank_size, cells, fits) in PARTS {
+        let mut flash = some_numbers();
+        let answer = begin(&mut flash, unit, banks, bank_size, cells);
+        assert_eq!(rt; answer.is_ok(), fits);
+        assert_eq!(rt; take(&mut flash, unit, banks, bank_size, cells), answer);
+    }
+    Ok(())
+}
+
+#[test]
+fn puts_through_some_changes_of_banks_are_there_at_the_next_start(
+    rt: HostRuntime,
+) -> Result<(), Fail> {
+    let mut banks = banks_of(0x5a);
+    assert_eq!(rt; made(&mut banks, 12), Ok(()));
+    let mut cells = [[1; 32]; CELLS];
+    for k in 0..12u8 {
+        cells[k as usize] = [k; 32];
+    }
+    assert_eq!(rt; started(&mut banks), Ok(cells));
+    Ok(())
+}
+
+#[test]
+fn bytes_that_are_no_lines_are_no_store(rt: HostRuntime) -> Result<(), Fail> {
+    for byte in [0, 0x5a, 0x96, 0xff] {
+        let mut banks = banks_of(byte);
+        assert_eq!(rt; started(&mut banks), Err(FlashRefusal::NoStore));
+    }
+    Ok(())
+}
+
+#[test]
+fn scratch_of_another_length_is_refused(rt: HostRuntime) -> Result<(), Fail> {
+    assert_eq!(rt; reported_with_other_scratch(), Err(FlashRefusal::BadLength));
+    Ok(())
+}

@@ -1,0 +1,278 @@
+/*
+ * rathonsi_flash.h: the store of rathonsi_store.h on NOR flash, whose units are programmed once
+ * between two erases. A counter or a key is there whole or not at all, wherever the power goes.
+ *
+ * The library touches no flash. It hands out one operation after another: READ, ERASE, PROGRAM. The
+ * caller performs each and reports its outcome. Routes and slots work as rathonsi_store.h says, over
+ * an image in RAM. Only the caller's read_device and write_device change.
+ *
+ * No call waits, calls back or takes memory. All state is the caller's.
+ *
+ * Each function is an export of the crate rathonsi_c, and its contract is proved:
+ *   - A call returns a status exactly if this header says so. If several could come, it returns the
+ *     first one that the comment of the call names.
+ *   - With a status other than RATHONSI_OK every output is as before.
+ *
+ * More is proved of a caller that keeps what it owes, over all lives with a flash on which
+ * rathonsi_flash_take made a store, to its last operation. A life lasts from one power-up to the
+ * next, and the power may go at any time.
+ *   - Once the store is ready, its cells are what the puts that were done made of the first ones. A
+ *     put that the power cut is there whole or not at all, and that stays so.
+ *   - Each start finds the store: RATHONSI_NO_STORE never comes.
+ *   - A line is programmed once between two erases of its bank, and only where all was erased.
+ *   - Each start and each put comes to its end: a start takes at most banks * P + n + 2 operations,
+ *     a put n + 3. P and n are those of "Wear, RAM and time" below.
+ *
+ * The flash is 2 to 16 banks. A bank is erased at once: one sector or several. It holds lines, each
+ * as many program units as 44 bytes need. The first line of a bank is its head, then come all cells,
+ * then a line for each put. A full bank is copied to the next one, so the banks wear alike.
+ *
+ * How it is used (examples/c/control_unit_flash.c does all of it):
+ *
+ *     static RathonsiFlash flash;
+ *     static RathonsiFlashOperation operation;
+ *     static RathonsiCell cells[RATHONSI_FLASH_CELLS(2)], scratch[RATHONSI_FLASH_CELLS(2)];
+ *     static uint8_t image[RATHONSI_STORE_SIZE(2)];
+ *     static const size_t n = RATHONSI_FLASH_CELLS(2);
+ *
+ *     // performs operations until none comes
+ *     int32_t work(void) {
+ *         int32_t status;
+ *         while ((status = rathonsi_flash_next(&flash, cells, n, &operation)) == RATHONSI_OK
+ *                && operation.kind != RATHONSI_FLASH_NONE)
+ *             if (rathonsi_flash_did(&flash, cells, n, scratch, n, perform(&operation), &operation)
+ *                 != RATHONSI_OK)
+ *                 stop();
+ *         return status;
+ *     }
+ *
+ *     // at power-up, and when all begins again: in place of read_device
+ *     if (rathonsi_flash_begin(&flash, 8u, 2u, 4096u, n) != RATHONSI_OK || work() != RATHONSI_OK
+ *         || rathonsi_flash_image(&flash, cells, n, image, sizeof image) != RATHONSI_OK)
+ *         stop();
+ *
+ *     // do_plan: in place of write_device
+ *     if (rathonsi_flash_put(&flash, &plan, cells, n) != RATHONSI_OK || work() != RATHONSI_OK)
+ *         stop();
+ *     if (rathonsi_store_done(image, sizeof image, &plan) != RATHONSI_OK)
+ *         stop();
+ *
+ * stop() is a reset, or all begins again as at power-up.
+ *
+ * What the caller owes, in addition to what rathonsi.h and rathonsi_store.h say. The duties of
+ * rathonsi_store.h on writes don't apply; these take their place.
+ *
+ *   Calls
+ *   - Only the functions below change the flash struct, cells and scratch. They are the same arrays
+ *     at each call.
+ *   - An operation is performed once, in full, before its outcome is reported.
+ *   - unit, banks, bank_size and the number of cells are the same in every life.
+ *   - If rathonsi_flash_next answers another status than RATHONSI_OK, all begins again as at
+ *     power-up.
+ *
+ *   The part: what its driver owes
+ *   - An operation changes no place of another bank and no other line of its own bank.
+ *   - PROGRAM writes the units of a line from the first to the last. Each is done before the next
+ *     begins. DONE says that all of them are whole, and stay so until the next erase.
+ *   - ERASE: DONE says that every byte of the bank is erased, and none is so by half. If it erases
+ *     several sectors, all of them are.
+ *   - No forged line. If the power went within a PROGRAM or an ERASE, or it failed, the bytes of a
+ *     line may be read as anything, anew at each read. READ may then answer DONE with a line only if
+ *     it is the line that was programmed there, or that stood there when the erase began.
+ *     With units of 8 bytes this is proved of a PROGRAM, if all erased bytes are read as one value
+ *     other than 96 hexadecimal. For the rest the check of a line stands: bytes at random pass it
+ *     once in 2^64. Let READ answer NOTHING on an error of the part's ECC.
+ *   - Settled reads. If READ answers DONE with a line, the line stays until the next erase. Read it
+ *     with margin if the part has that, at both margins, or read it several times and answer NOTHING
+ *     if the reads differ. Cells that are programmed by half can otherwise be read today and be gone
+ *     tomorrow. If a part can't do this, the store can lose what a cut PROGRAM left.
+ *   - A line that was programmed whole is always read so. If the part can't read it, that is a fault
+ *     of the part, which nothing here mends.
+ *   - BLANK is believed. Answer it to a READ only if the part's blank check proves that the line was
+ *     erased in full and that no PROGRAM of it was begun since. A part without such a check never
+ *     answers BLANK: each start then erases a bank. Seemingly blank units do no harm then.
+ *   - FAILED if the operation didn't succeed. What it left counts as cut.
+ *
+ *   What to look up in the manual of a part
+ *
+ *   | Look for                                        | It decides                              |
+ *   |-------------------------------------------------|-----------------------------------------|
+ *   | program unit (word, page, phrase), ECC over it  | unit; with less than 8 bytes take 8     |
+ *   | whether a unit may be programmed twice          | nothing: it never is                    |
+ *   | erase unit, and how many there are              | banks, bank_size                        |
+ *   | cycles of erase and program, by temperature     | the wear below                          |
+ *   | time of an erase, of a program                  | the time of a start and of a put        |
+ *   | value of erased bytes, and whether reading them | what READ answers; it may be an error   |
+ *   |   is an ECC error                               |                                         |
+ *   | what an ECC error does: a trap, a flag          | READ must survive it                    |
+ *   | margin reads, user margin, verify commands      | settled reads                           |
+ *   | blank check, and after an erase that was cut    | BLANK, or never                         |
+ *   | suspend of an erase, and what it forbids        | don't suspend, or count it as running   |
+ *   | reading while programming, the same bank, code  | where the driver runs                   |
+ *   | disturb by reads and by neighbours' programs    | whether a line needs an early copy      |
+ *
+ * What isn't covered:
+ *   - A part that loses a line which was whole, by age, by reads or by its neighbours.
+ *   - A DONE that is wrong, as after a drop of the supply that the part doesn't report. Such a part
+ *     needs a supply monitor, or a verify with margin before DONE.
+ *   - A bank that is worn out: its erase fails at each start, and no start ends. The store can still
+ *     be read from a dump, by the layout below.
+ *   - Two callers at once, and a caller that writes the flash otherwise.
+ *
+ * Layout, for who reads a dump. All numbers have their high byte first.
+ *   - A line is 35 bytes of body, their CRC-64 in eight bytes, zeros, and a last byte 96
+ *     hexadecimal. The CRC has the polynomial 42f0e1eba9ea3693, highest bit first; it begins with
+ *     ones, and its bits are inverted at the end. That of the nine digits from 1 on is
+ *     62ec59e3f1a4f00a.
+ *   - The body of a head: 5a, the generation in eight bytes, zeros. That of an entry: a5, the number
+ *     of a cell in two bytes, its 32 bytes.
+ *   - A bank holds a log if its first line is a head and the next n lines are entries of the cells 0
+ *     to n - 1. The lines after these change it in order, up to the first that is none. An entry of a
+ *     number from n on, and a head, change nothing there.
+ *   - The store is the log of the highest generation. If two have it, there is no store.
+ *   - Cell i below 14 is slot i, the others are routes: the 32 bytes are those of the image.
+ *
+ * Wear, RAM and time. n cells; L bytes of a line: 48 with units of 8 or 16, 64 with units of 32 or
+ * 64, 128 with units of 128; places P = bank_size / L; B banks.
+ *   - Puts to a bank: P - n - 1. A put is one PROGRAM. One into a full bank is an ERASE and n + 1
+ *     PROGRAMs more.
+ *   - A start reads each bank to its first line that is none. Without BLANK it is an ERASE and n + 1
+ *     PROGRAMs more. With it, only if the last life was cut within an operation.
+ *   - Erases of a bank over all years, without BLANK:
+ *     (starts + puts / (P - n - 1)) / B. No bank is erased more often than another by more than one and
+ *     the number of times that the power went or an operation failed.
+ *   - RAM: RathonsiFlash 216 bytes, an operation 144, cells and scratch 64 * n, the image
+ *     32 + 68 * n.
+ *
+ *   With 16 cells, 15 years, 10 starts and 200 puts a day, units of 8:
+ *
+ *   | Banks | bank_size | Puts to a bank | Erases of a bank | with BLANK |
+ *   |-------|-----------|----------------|------------------|------------|
+ *   | 2     | 4,096     | 68             | 35,426           | 8,051      |
+ *   | 4     | 4,096     | 68             | 17,713           | 4,026      |
+ *   | 16    | 4,096     | 68             | 4,428            | 1,006      |
+ *   | 2     | 8,192     | 153            | 30,954           | 3,578      |
+ *   | 2     | 16,384    | 324            | 29,065           | 1,690      |
+ */
+#ifndef RATHONSI_FLASH_H
+#define RATHONSI_FLASH_H
+
+#include "rathonsi_store.h"
+
+#ifdef __cplusplus
+extern "C" {
+#endif
+
+/* The number of cells: the slots, and one for each route. */
+#define RATHONSI_FLASH_CELLS(routes) (RATHONSI_SLOT_CELLS + (routes))
+
+/* How many bytes a line takes. */
+#define RATHONSI_FLASH_LINE(unit) ((unit) <= 16u ? 48u : (unit) <= 64u ? 64u : 128u)
+
+/* What an operation is. */
+#define RATHONSI_FLASH_NONE 0u
+#define RATHONSI_FLASH_READ 1u
+#define RATHONSI_FLASH_ERASE 2u
+#define RATHONSI_FLASH_PROGRAM 3u
+
+/* What became of it. */
+/* It was done. A READ has put the bytes of the line into the operation. */
+#define RATHONSI_FLASH_DONE 0u
+/* A READ: the line is blank for sure. */
+#define RATHONSI_FLASH_BLANK 1u
+/* A READ: there is no line that can be read, or the reads differ. */
+#define RATHONSI_FLASH_NOTHING 2u
+/* It failed. */
+#define RATHONSI_FLASH_FAILED 3u
+
+typedef struct RathonsiCell {
+    uint8_t bytes[32];
+} RathonsiCell;
+
+/* An operation: on this bank, from this byte of it on, so many bytes. ERASE is of the whole bank. */
+typedef struct RathonsiFlashOperation {
+    uint32_t kind;
+    uint32_t bank;
+    uint32_t offset;
+    uint32_t length;
+    /* PROGRAM: the bytes of the line. READ: the driver puts them here. */
+    uint8_t bytes[128];
+} RathonsiFlashOperation;
+
+/* The state of the store. It isn't for the caller, and has no meaning on another processor. */
+typedef struct RathonsiFlash {
+    uint64_t state[27];
+} RathonsiFlash;
+
+/* Begins at power-up, over so many banks of bank_size bytes. Its operations read the flash, and make
+ * the store ready.
+ * RATHONSI_BAD_VALUE: unit isn't 8, 16, 32, 64 or 128, banks is outside 2 to 16, cells is outside 14
+ * to 270, or a bank has no room for cells + 2 lines. */
+RATHONSI_CHECKED
+int32_t rathonsi_flash_begin(RathonsiFlash *flash, uint16_t unit, uint8_t banks, uint32_t bank_size,
+                             size_t cells);
+
+/* For the production line, and to move a store from a device of bytes: makes a store on the flash that
+ * has the cells of this image, which rathonsi_store_check answers RATHONSI_OK for. It erases all banks.
+ * Once its operations are done, rathonsi_flash_next answers NONE, and all begins again with
+ * rathonsi_flash_begin. If the power goes before, the flash has this store whole, none, or one that
+ * it had before.
+ * To move, a start does this in order, each step durable before the next:
+ *   1. rathonsi_flash_begin and its operations. If there is a store, go to 4.
+ *   2. Read the image from the old device. rathonsi_store_check answers RATHONSI_OK, or stop.
+ *   3. rathonsi_flash_take and its operations; then 1 again.
+ *   4. Write 32 zero bytes over the first 32 of the old device, unless they are zero.
+ *   5. Go on. The old store isn't used again.
+ * The old store counts until step 3 is done. It may not count once step 4 has begun.
+ * RATHONSI_BAD_LENGTH: image_length isn't the size of a store of cells_length cells, 14 to 270.
+ * RATHONSI_NO_STORE, RATHONSI_DAMAGED: as for rathonsi_store_check.
+ * RATHONSI_BAD_VALUE: as for rathonsi_flash_begin. */
+RATHONSI_CHECKED
+int32_t rathonsi_flash_take(RathonsiFlash *flash, uint16_t unit, uint8_t banks, uint32_t bank_size,
+                            const uint8_t *image, size_t image_length, RathonsiCell *cells,
+                            size_t cells_length);
+
+/* Says which operation comes next; the same until its outcome is reported. kind is
+ * RATHONSI_FLASH_NONE if the store is ready, or is made.
+ * RATHONSI_BAD_VALUE: the numbers of the struct are no plan of a store of so many cells.
+ * RATHONSI_NO_STORE: no bank holds a store of so many cells.
+ * RATHONSI_EXHAUSTED: the generation of the store is 2^64 - 1, so that it can't be copied again.
+ * RATHONSI_FAILED: an operation failed. A put that was under way may be there after the next start, or
+ * not. */
+RATHONSI_CHECKED
+int32_t rathonsi_flash_next(const RathonsiFlash *flash, const RathonsiCell *cells, size_t cells_length,
+                            RathonsiFlashOperation *operation);
+
+/* Reports the outcome of the operation that comes next. Of a READ that is DONE the bytes are those of
+ * the operation. It changes nothing if no operation comes next. Any outcome that the operation can't
+ * have counts as RATHONSI_FLASH_FAILED.
+ * RATHONSI_BAD_LENGTH: scratch has another length than cells.
+ * RATHONSI_BAD_VALUE: as for rathonsi_flash_next. */
+RATHONSI_CHECKED
+int32_t rathonsi_flash_did(RathonsiFlash *flash, RathonsiCell *cells, size_t cells_length,
+                           RathonsiCell *scratch, size_t scratch_length, uint32_t outcome,
+                           const RathonsiFlashOperation *operation);
+
+/* Begins the put of a plan of rathonsi_store.h. It is durable once rathonsi_flash_next answers NONE;
+ * then the caller says so to rathonsi_store_done. An empty plan puts nothing.
+ * RATHONSI_BAD_VALUE: as for rathonsi_flash_next, or the plan is none of a put to one of the cells, as
+ * that of rathonsi_store_grow.
+ * RATHONSI_BUSY: an operation comes next, or the store isn't ready.
+ * RATHONSI_EXHAUSTED: as for rathonsi_flash_next, and the bank is full; the store stays as it is. */
+RATHONSI_CHECKED
+int32_t rathonsi_flash_put(RathonsiFlash *flash, const RathonsiPlan *plan, const RathonsiCell *cells,
+                           size_t cells_length);
+
+/* Makes the image of the store that is ready.
+ * RATHONSI_BAD_LENGTH: image_length isn't the size of a store of cells_length cells, 14 to 270.
+ * RATHONSI_BAD_VALUE: as for rathonsi_flash_next.
+ * RATHONSI_BUSY: the store isn't ready. */
+RATHONSI_CHECKED
+int32_t rathonsi_flash_image(const RathonsiFlash *flash, const RathonsiCell *cells,
+                             size_t cells_length, uint8_t *image, size_t image_length);
+
+#ifdef __cplusplus
+}
+#endif
+
+#endif
