@@ -13,15 +13,16 @@ REMOTE = re.compile(rb"([0-9A-Fa-f]{3}|[0-9A-Fa-f]{8})#R[^#]*|[0-9A-Fa-f]{5}#.*"
 
 
 def map_lines(text):
-    """The number, words and `optional` of each line of a map."""
+    """The number, words, `optional` and head of each line of a map: the head is its name, or its CAN identifier."""
     lines = []
     for number, line in enumerate(text.split(b"\n"), 1):
         words = line.split()
         if not words or words[0].startswith(b"#"):
             continue
         words = words[: next((at for at, word in enumerate(words) if word.startswith(b"#")), len(words))]
-        optional = words[-1] == b"optional"
-        lines.append((number, words[: len(words) - optional], optional))
+        name = next((word[5:] for word in words if word.startswith(b"name=")), words[0].lower())
+        own = [word for word in words if word != b"optional" and not word.startswith(b"name=")]
+        lines.append((number, own, b"optional" in words, name))
     return lines
 
 
@@ -44,7 +45,7 @@ def main(map_file, log_file, answers_file):
     answers = [line.split() for line in open(answers_file, "rb").read().splitlines()]
     answered = {int(words[0]): words for words in answers}
     accepted, failed = [0] * len(mapping), [0] * len(mapping)
-    last = [int(words[3], 16) for _, words, _ in mapping]
+    last = [int(words[3], 16) for _, words, _, _ in mapping]
     others = {"unmapped": 0, "other frames": 0, "malformed": 0}
     for number, line in enumerate(log, 1):
         words = line.rstrip(b"\r").split() if line.endswith(b"\r") else line.split()
@@ -56,8 +57,8 @@ def main(map_file, log_file, answers_file):
             answer = answered[number]
             place = next(
                 at
-                for at, (_, entry, _) in enumerate(mapping)
-                if entry[0].lower() == answer[1] and (len(entry) < 7 or entry[6] in (b"-", words[1]))
+                for at, (_, entry, _, head) in enumerate(mapping)
+                if head == answer[1] and (len(entry) < 7 or entry[6] in (b"-", words[1]))
             )
             if answer[2] == b"VERIFICATIONSUCCESS":
                 accepted[place] += 1
@@ -66,16 +67,16 @@ def main(map_file, log_file, answers_file):
                 failed[place] += 1
         else:
             others[kind(words)] += 1
-    for place, (number, words, _) in enumerate(mapping):
+    for place, (number, words, _, head) in enumerate(mapping):
         missed = last[place] - int(words[3], 16) - accepted[place]
         print(
-            f"line {number} {words[0].decode().lower()} {words[1].decode().lower()} accepted {accepted[place]}"
+            f"line {number} {head.decode()} {words[1].decode().lower()} accepted {accepted[place]}"
             f" failed {failed[place]} missed {missed} last {last[place]:016x}"
         )
     print(f"accepted {sum(accepted)}\nfailed {sum(failed)}")
     for name, count in others.items():
         print(f"{name} {count}")
-    silent = not mapping or any(not optional and not accepted[at] for at, (_, _, optional) in enumerate(mapping))
+    silent = not mapping or any(not optional and not accepted[at] for at, (_, _, optional, _) in enumerate(mapping))
     print(1 if sum(failed) else 3 if silent else 0)
 
 

@@ -11,7 +11,7 @@ use Rattle.text_lines.specs.Lines.{TextLine, lines_of}
 use Rattle.text_lines.specs.Places.{texts_of, unplaced, placed_lines_of}
 use Rattle.text_lines.specs.Spans.{word_at, piece_at, line_at}
 use Rattle.trace_audit.specs.declared.map_lines.MapLine.{MapLine}
-use Rattle.trace_audit.specs.declared.auditing.Tally.{Tally}
+use Rattle.trace_audit.specs.declared.auditing.FrameTally.{FrameTally}
 use Rattle.secoc_words.specs.Counting.{next_counter, last_accepted}
 use Rattle.secoc_words.specs.CountingLaws.{last_accepted-more}
 use Rattle.trace_audit.specs.Auditing.{Finding, other, too_short, verdict, finding_text, is_other, is_other_tally, tally_of, others_in, finding_accepts, first_counters, counter_of_place, AuditsLine, none, more}
@@ -73,7 +73,7 @@ other_as (verdict n p c VerificationFailure) = refl
 
 -- one more line is audited
 module _ (mapping : List MapLine) (lines : List TextLine) (old new : List ℕ) (l : TextLine) (before after : List ℕ) (others : ℕ) where
-  step : (done : Audited mapping lines old before others) (counts : Tally) (notes : AddsFinding mapping old new l before after counts) (count : ℕ)
+  step : (done : Audited mapping lines old before others) (counts : FrameTally) (notes : AddsFinding mapping old new l before after counts) (count : ℕ)
       → count ≡ others_in (done.findings ++ notes.0 ∷ []) → Audited mapping (lines ++ l ∷ []) new after count
   step done counts (finding, finds, after_is, counts_as, same_length, counters) count count_is =
       let here : AuditsLine mapping (counter_of_place mapping done.findings) l finding = AuditsLine-same mapping (slice_index old) (counter_of_place mapping done.findings) l finding done.counters_are finds in
@@ -90,13 +90,13 @@ module _ (mapping : List MapLine) (lines : List TextLine) (old new : List ℕ) (
       }
 
   -- the map has a line for it
-  pub Audited-mapped : (counts : Tally) (count : ℕ) → is_other_tally counts ≡ false → count ≡ others → Audited mapping lines old before others
+  pub Audited-mapped : (counts : FrameTally) (count : ℕ) → is_other_tally counts ≡ false → count ≡ others → Audited mapping lines old before others
       → AddsFinding mapping old new l before after counts → Audited mapping (lines ++ l ∷ []) new after count
   Audited-mapped counts count is count_is done notes = step done counts notes count
       (count_is ∙ done.others_is ∙ sym (others_same done.findings notes.0 (other_as notes.0 ∙ ap is_other_tally (sym notes.3) ∙ is)))
 
   -- it is one of the others
-  pub Audited-other : (counts : Tally) (count : ℕ) → is_other_tally counts ≡ true → count ≡ others + 1 → Audited mapping lines old before others
+  pub Audited-other : (counts : FrameTally) (count : ℕ) → is_other_tally counts ≡ true → count ≡ others + 1 → Audited mapping lines old before others
       → AddsFinding mapping old new l before after counts → Audited mapping (lines ++ l ∷ []) new after count
   Audited-other counts count is count_is done notes = step done counts notes count
       (count_is ∙ ap (λ n. n + 1) done.others_is ∙ sym (others_more done.findings notes.0 (other_as notes.0 ∙ ap is_other_tally (sym notes.3) ∙ is)))

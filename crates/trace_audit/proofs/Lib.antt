@@ -9,13 +9,3 @@ pub mod Promises
 pub mod Example
 pub mod CallerLemmas
 pub mod Cutting
-pub mod Parts
-pub mod TotalVectors
-pub mod Places
-pub mod Going
-pub mod WatchRising
-pub mod OneWatch
-pub mod PrintedRise
-pub mod Ports
-pub mod WatchPhases
-pub mod WatchPromises

@@ -10,9 +10,9 @@ use Rattle.secoc_words.specs.Texts.{outcome_text, bad_length_text}
 use Rattle.trace_audit.specs.declared.map_lines.MapLine.{MapLine}
 use Rattle.trace_audit.specs.declared.frames.LogFrame.{LogFrame}
 use Rattle.trace_audit.specs.declared.frames.OtherLine.{OtherLine}
-use Rattle.trace_audit.specs.declared.auditing.Tally.{Tally}
-use Rattle.trace_audit.specs.declared.auditing.Tally.TheVariants as tally
-use Rattle.trace_audit.specs.MapLines.{place_of_frame}
+use Rattle.trace_audit.specs.declared.auditing.FrameTally.{FrameTally}
+use Rattle.trace_audit.specs.declared.auditing.FrameTally.TheVariants as tally
+use Rattle.trace_audit.specs.MapLines.{row_head, place_of_frame}
 use Rattle.trace_audit.specs.Frames.{log_frame_of, other_line_of}
 use Rattle.trace_audit.specs.Auditing.{other, too_short, verdict, front_text, channel_of, Mapped, IsUnmapped}
 use Rattle.trace_audit.specs.Findings.{AddsDataVerdict, AddsFinding}
@@ -57,24 +57,24 @@ Unmapped-place mapping words frame is none = λ frame' some.
     subst (λ (f : LogFrame). place_of_frame mapping f.can (channel_of words) ≡ None) same none
 
 -- a mapped line
-pub AddsFinding-mapped : (mapping : List MapLine) (counters : List ℕ) (l : TextLine) (frame : LogFrame) (place : ℕ) (entry : MapLine) (v : ℕ) (before front after : List ℕ) (counts : Tally)
+pub AddsFinding-mapped : (mapping : List MapLine) (counters : List ℕ) (l : TextLine) (frame : LogFrame) (place : ℕ) (entry : MapLine) (v : ℕ) (before front after : List ℕ) (counts : FrameTally)
     → log_frame_of l.words ≡ Some frame → place_of_frame mapping frame.can (channel_of l.words) ≡ Some place → slice_get mapping place ≡ Some entry → place < length counters
-    → front ≡ before ++ front_text l.number entry.can → AddsDataVerdict entry place (slice_index counters place) v frame.bytes front after counts
+    → front ≡ before ++ front_text l.number (row_head entry) → AddsDataVerdict entry place (slice_index counters place) v frame.bytes front after counts
     → AddsFinding mapping counters (set counters place v) l before after counts
 AddsFinding-mapped mapping counters l frame place entry v before front after counts frame_is place_is entry_is inside front_is (inl (short, same, after_is, counts_as)) =
     let m : Mapped = record { place = place; entry = entry; bytes = frame.bytes } in (
-      too_short l.number place entry.can,
+      too_short l.number place (row_head entry),
       (m, (frame, frame_is, place_is, entry_is, refl), refl, refl, refl, short),
-      after_is ∙ ap (λ t. t ++ bad_length_text) front_is ∙ append_assoc before (front_text l.number entry.can) bad_length_text,
+      after_is ∙ ap (λ t. t ++ bad_length_text) front_is ∙ append_assoc before (front_text l.number (row_head entry)) bad_length_text,
       counts_as,
       length-set counters place v,
       λ p within. put_counter counters place p v (place == p) refl inside ∙ keep counters place p v (place == p) refl same,
     )
 AddsFinding-mapped mapping counters l frame place entry v before front after counts frame_is place_is entry_is inside front_is (inr (long, (outcome, judged, after_is, new_is, counts_as))) =
     let m : Mapped = record { place = place; entry = entry; bytes = frame.bytes } in (
-      verdict l.number place entry.can outcome,
+      verdict l.number place (row_head entry) outcome,
       (m, (frame, frame_is, place_is, entry_is, refl), refl, refl, refl, long, judged),
-      after_is ∙ ap (λ t. t ++ outcome_text outcome) front_is ∙ append_assoc before (front_text l.number entry.can) (outcome_text outcome),
+      after_is ∙ ap (λ t. t ++ outcome_text outcome) front_is ∙ append_assoc before (front_text l.number (row_head entry)) (outcome_text outcome),
       counts_as,
       length-set counters place v,
       λ p within. noted counters place p v outcome inside new_is,

@@ -8,7 +8,7 @@ use Rattle.secured_pdu.specs.VerdictLaws.{same_from_Verdict}
 use Rattle.text_lines.specs.Lines.{TextLine}
 use Rattle.trace_audit.specs.declared.map_lines.MapLine.{MapLine}
 use Rattle.trace_audit.specs.declared.frames.LogFrame.{LogFrame}
-use Rattle.trace_audit.specs.MapLines.{place_of_frame}
+use Rattle.trace_audit.specs.MapLines.{row_head, place_of_frame}
 use Rattle.trace_audit.specs.Auditing.{Finding, other, too_short, verdict, counter_of_place, Mapped, channel_of, IsMapped, IsUnmapped, AuditsLine, AuditsEach, none, more}
 use Rattle.trace_audit.proofs.Windows.{HaveWindows, window_at}
 
@@ -42,7 +42,7 @@ module _ (mapping : List MapLine) (counter : ℕ → ℕ) (l : TextLine) where
       let same : SameMapped m m2 = same_mapped mapping l.words m m2 mapped mapped2 in
       ap (λ (k : ℕ). too_short k p c) (number_is ∙ sym number_is2)
       ∙ ap (λ (k : ℕ). too_short n2 k c) (place_is ∙ same.place ∙ sym place_is2)
-      ∙ ap (λ (can : List ℕ). too_short n2 p2 can) (can_is ∙ ap (λ (x : MapLine). x.can) same.entry ∙ sym can_is2)
+      ∙ ap (λ (can : List ℕ). too_short n2 p2 can) (can_is ∙ ap row_head same.entry ∙ sym can_is2)
 
   short_or_long : (n p : ℕ) (c : List ℕ) (n2 p2 : ℕ) (c2 : List ℕ) (o : Outcome) → AuditsLine mapping counter l (too_short n p c)
       → AuditsLine mapping counter l (verdict n2 p2 c2 o) → ⊥
@@ -63,7 +63,7 @@ module _ (mapping : List MapLine) (counter : ℕ → ℕ) (l : TextLine) where
       (subst (λ (k : ℕ). Verdict m2.entry.key m2.entry.id (counter k) m2.entry.window (take (m2.entry.size + 4) m2.bytes) o2) (sym places) judged2)) in
       ap (λ (k : ℕ). verdict k p c o) (number_is ∙ sym number_is2)
       ∙ ap (λ (k : ℕ). verdict n2 k c o) places
-      ∙ ap (λ (can : List ℕ). verdict n2 p2 can o) (can_is ∙ ap (λ (x : MapLine). x.can) same.entry ∙ sym can_is2)
+      ∙ ap (λ (can : List ℕ). verdict n2 p2 can o) (can_is ∙ ap row_head same.entry ∙ sym can_is2)
       ∙ ap (λ (x : Outcome). verdict n2 p2 c2 x)
       (same_from_Verdict m.entry.key m.entry.id (counter p) m.entry.window (take (m.entry.size + 4) m.bytes) o o2 (window_at mapping m.place m.entry windows mapped.3) judged here)
 

@@ -1,5 +1,5 @@
 -- The lines of a map have windows
-use Rattle.std.proofs.Common.{◌≡◌, ℕ, Bool, false, All, List, [], length, Option, Some, None, Result, Ok, Err, ap, ◌∙◌, subst, arith}
+use Rattle.std.proofs.Common.{◌≡◌, ℕ, All, List, [], length, Option, Some, None, Result, Ok, Err, ap, ◌∙◌, subst, arith}
 use Rattle.std.specs.Prelude.{◌==◌}
 use Rattle.std.specs.List.{slice_get}
 use Rattle.std.proofs.lemmas.Option.{same_Some, get_or_from_slice_get, slice_get_within}
@@ -28,10 +28,10 @@ window_or (Ok l) = l.window
 window_or (Err cause) = 0
 
 -- the window of a line is the one that it is made with
-pub line_with-window : (can : Option (List ℕ)) (window : Option ℕ) (channel : Option (List ℕ)) (optional : Bool) (words : List (List ℕ)) (l : MapLine)
-    → line_with can window channel optional words ≡ Ok l → window ≡ Some l.window
+pub line_with-window : (can : Option (List ℕ)) (window : Option ℕ) (channel : Option (List ℕ)) (words : List (List ℕ)) (l : MapLine)
+    → line_with can window channel words ≡ Ok l → window ≡ Some l.window
 unfolding line_with
-line_with-window can window channel optional words l h =
+line_with-window can window channel words l h =
     let digits = bind_ok (field 1 can) _ l h in
     let id = bind_ok (field 2 (data_id_form (nth_word words 2))) _ l digits.2 in
     let key = bind_ok (field 3 (key_form (nth_word words 3))) _ l id.2 in
@@ -46,7 +46,7 @@ unfolding map_line_of
 map_line_of-window before words l h =
     let can : Option (List ℕ) = new_can_form before (nth_word words 1) in
     let is : Some 256 ≡ Some l.window =
-    line_with-window can (Some 256) None false words l (counted_ok (length words == 5) (line_with can (Some 256) None false words) l h) in
+    line_with-window can (Some 256) None words l (counted_ok (length words == 5) (line_with can (Some 256) None words) l h) in
     subst IsWindow (same_Some 256 l.window is) (omega arith, omega arith)
 
 pub map_of-windows : (text : List ℕ) (mapping : List MapLine) → map_of text ≡ Ok mapping → HaveWindows mapping

@@ -12,49 +12,54 @@ use Rattle.text_lines.specs.Texts.{line}
 use Rattle.trace_audit.specs.declared.map_lines.MapLine.{MapLine}
 use Rattle.trace_audit.specs.declared.frames.LogFrame.{LogFrame}
 use Rattle.trace_audit.specs.declared.frames.OtherLine.{OtherLine}
-use Rattle.trace_audit.specs.declared.auditing.Tally.{Tally}
-use Rattle.trace_audit.specs.declared.auditing.Tally.TheVariants as tally
-use Rattle.trace_audit.specs.MapLines.{place_of_frame}
+use Rattle.trace_audit.specs.declared.auditing.FrameTally.{FrameTally}
+use Rattle.trace_audit.specs.declared.auditing.FrameTally.TheVariants as tally
+use Rattle.trace_audit.specs.MapLines.{row_head, place_of_frame}
 use Rattle.trace_audit.specs.Frames.{log_frame_of, other_line_of}
 
 -- what is found of a line: that no line of the map judges it, and what it is then; or the line's number, the place of
--- the map's line, counted from 0, and its CAN identifier, with the verdict, or that the frame is too short
+-- the map's line, counted from 0, and what is printed of that line, with the verdict, or that the frame is too short
 pub data Finding : Type 0 where
   other : (kind : OtherLine) → Finding
-  too_short : (number place : ℕ) (can : List ℕ) → Finding
-  verdict : (number place : ℕ) (can : List ℕ) (outcome : Outcome) → Finding
+  too_short : (number place : ℕ) (head : List ℕ) → Finding
+  verdict : (number place : ℕ) (head : List ℕ) (outcome : Outcome) → Finding
 
--- the number of a line and a CAN identifier, each with a space after it
+-- the number of a line of the log and what is printed of the map's line, each with a space after it
 abbrev pub front_text : ℕ → List ℕ → List ℕ
-front_text number can = decimal number ++ codes " " ++ can ++ codes " "
+front_text number head = decimal number ++ codes " " ++ head ++ codes " "
 
 -- the text of a finding; of other lines only the number is printed
 abbrev pub finding_text : Finding → List ℕ
 finding_text (other kind) = []
-finding_text (too_short number place can) = front_text number can ++ bad_length_text
-finding_text (verdict number place can outcome) = front_text number can ++ outcome_text outcome
+finding_text (too_short number place head) = front_text number head ++ bad_length_text
+finding_text (verdict number place head outcome) = front_text number head ++ outcome_text outcome
 
 abbrev pub is_other : Finding → Bool
 is_other (other kind) = true
-is_other (too_short number place can) = false
-is_other (verdict number place can outcome) = false
+is_other (too_short number place head) = false
+is_other (verdict number place head outcome) = false
 
 -- what a verdict for the map's line at this place counts as
-abbrev pub tally_by : ℕ → Outcome → Tally
+abbrev pub tally_by : ℕ → Outcome → FrameTally
 tally_by place (Accepted payload freshness) = tally.Accepted place
 tally_by place FreshnessFailure = tally.Failed place
 tally_by place VerificationFailure = tally.Failed place
 
 -- what a finding counts as
-abbrev pub tally_of : Finding → Tally
+abbrev pub tally_of : Finding → FrameTally
 tally_of (other kind) = tally.Other kind
-tally_of (too_short number place can) = tally.Failed place
-tally_of (verdict number place can outcome) = tally_by place outcome
+tally_of (too_short number place head) = tally.Failed place
+tally_of (verdict number place head outcome) = tally_by place outcome
 
-abbrev pub is_other_tally : Tally → Bool
+abbrev pub is_other_tally : FrameTally → Bool
 is_other_tally (tally.Other kind) = true
 is_other_tally (tally.Accepted place) = false
 is_other_tally (tally.Failed place) = false
+
+abbrev pub is_accepted_tally : FrameTally → Bool
+is_accepted_tally (tally.Other kind) = false
+is_accepted_tally (tally.Accepted place) = true
+is_accepted_tally (tally.Failed place) = false
 
 -- how many lines no line of the map judges
 abbrev pub others_in : List Finding → ℕ
@@ -68,8 +73,8 @@ others_text count = line (codes "other " ++ decimal count)
 -- what a finding accepts, if it does, by the place of the map's line
 abbrev pub finding_accepts : Finding → Option Acceptance
 finding_accepts (other kind) = None
-finding_accepts (too_short number place can) = None
-finding_accepts (verdict number place can outcome) = accepted_by place outcome
+finding_accepts (too_short number place head) = None
+finding_accepts (verdict number place head outcome) = accepted_by place outcome
 
 -- the counters of the map's lines before the log
 abbrev pub first_counters : List MapLine → List ℕ
@@ -109,13 +114,13 @@ IsUnmapped mapping words =
 abbrev pub AuditsLine : List MapLine → (ℕ → ℕ) → TextLine → Finding → Type 0
 AuditsLine mapping counter text_line (other kind) =
     IsUnmapped mapping text_line.words × (kind ≡ other_line_of text_line.words)
-AuditsLine mapping counter text_line (too_short number place can) =
+AuditsLine mapping counter text_line (too_short number place head) =
     (m : Mapped) × IsMapped mapping text_line.words m
-    × (number ≡ text_line.number) × (place ≡ m.place) × (can ≡ m.entry.can)
+    × (number ≡ text_line.number) × (place ≡ m.place) × (head ≡ row_head m.entry)
     × (length m.bytes < m.entry.size + 4)
-AuditsLine mapping counter text_line (verdict number place can outcome) =
+AuditsLine mapping counter text_line (verdict number place head outcome) =
     (m : Mapped) × IsMapped mapping text_line.words m
-    × (number ≡ text_line.number) × (place ≡ m.place) × (can ≡ m.entry.can)
+    × (number ≡ text_line.number) × (place ≡ m.place) × (head ≡ row_head m.entry)
     × (m.entry.size + 4 ≤ length m.bytes)
     × Verdict m.entry.key m.entry.id (counter place) m.entry.window (take (m.entry.size + 4) m.bytes) outcome
 

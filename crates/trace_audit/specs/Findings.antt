@@ -6,14 +6,14 @@ use Rattle.secoc_words.specs.Texts.{outcome_text, bad_length_text}
 use Rattle.secured_pdu.specs.Verdict.{Outcome, Verdict}
 use Rattle.secoc_words.specs.Counting.{counter_behind, next_counter}
 use Rattle.trace_audit.specs.declared.map_lines.MapLine.{MapLine}
-use Rattle.trace_audit.specs.declared.auditing.Tally.{Tally}
-use Rattle.trace_audit.specs.declared.auditing.Tally.TheVariants as tally
+use Rattle.trace_audit.specs.declared.auditing.FrameTally.{FrameTally}
+use Rattle.trace_audit.specs.declared.auditing.FrameTally.TheVariants as tally
 use Rattle.trace_audit.specs.Auditing.{Finding, finding_text, tally_by, tally_of, others_in, finding_accepts}
 use Rattle.trace_audit.specs.Auditing.{counter_of_place, AuditsLine, AuditsEach}
 
 -- the bad length of the data was added, or the verdict on its beginning, and the answer is what it counts as for the
 -- map's line at this place
-abbrev pub AddsDataVerdict : MapLine → ℕ → ℕ → ℕ → List ℕ → List ℕ → List ℕ → Tally → Type 0
+abbrev pub AddsDataVerdict : MapLine → ℕ → ℕ → ℕ → List ℕ → List ℕ → List ℕ → FrameTally → Type 0
 AddsDataVerdict entry place old new bytes before after counts =
     ((length bytes < entry.size + 4) × (new ≡ old) × (after ≡ before ++ bad_length_text)
     × (counts ≡ tally.Failed place))
@@ -23,7 +23,7 @@ AddsDataVerdict entry place old new bytes before after counts =
     × (counts ≡ tally_by place outcome)))
 
 -- what is found of a line was added, each counter is the one after it, and the answer is what it counts as
-abbrev pub AddsFinding : List MapLine → List ℕ → List ℕ → TextLine → List ℕ → List ℕ → Tally → Type 0
+abbrev pub AddsFinding : List MapLine → List ℕ → List ℕ → TextLine → List ℕ → List ℕ → FrameTally → Type 0
 AddsFinding mapping old new text_line before after counts =
     (finding : Finding) × AuditsLine mapping (slice_index old) text_line finding
     × (after ≡ before ++ finding_text finding)

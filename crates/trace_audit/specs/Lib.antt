@@ -5,10 +5,4 @@ pub mod Findings
 pub mod Rows
 pub mod Audits
 pub mod Steps
-pub mod WatchMaps
-pub mod WatchTotals
-pub mod Watching
-pub mod States
-pub mod WatchRows
-pub mod Watches
-pub mod WatchSteps
+pub mod Pieces

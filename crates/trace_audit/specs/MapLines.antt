@@ -1,6 +1,6 @@
 -- The lines of a map: what stands after the CAN identifiers of a bus.
 use Rattle.std.specs.Prelude.{ℕ, ◌==◌, ◌&&◌, ◌||◌, Bool, true, false, if◌then◌else◌, List, length, map}
-use Rattle.std.specs.Prelude.{Option, None, Some, option_and_then, is_some, Result, Ok}
+use Rattle.std.specs.Prelude.{Option, None, Some, option_and_then, is_some, unwrap_or, Result, Ok}
 use Rattle.std.specs.List.{list_all, position}
 use Rattle.std.specs.Char.{is_ascii_hexdigit, to_ascii_lowercase}
 use Rattle.std.specs.Str.{bytes_eq}
@@ -22,6 +22,10 @@ can_form word = if is_can word then Some (map to_ascii_lowercase word) else None
 abbrev pub place_of_can : List MapLine → List ℕ → Option ℕ
 place_of_can mapping can = position (λ l. bytes_eq l.can can) mapping
 
+-- what is printed of a line of a map: its name, or else its CAN identifier
+abbrev pub row_head : MapLine → List ℕ
+row_head l = unwrap_or l.name l.can
+
 -- a line hears a channel: its own, or any if it names none
 abbrev pub hears : Option (List ℕ) → List ℕ → Bool
 hears None channel = true
@@ -41,9 +45,9 @@ new_can_form before word =
     option_and_then (λ can. if is_some (place_of_can before can) then None else Some can) (can_form word)
 
 -- the line of `CANID ID KEY FRESH LEN`, where FRESH is the receiver's counter. Each program says what its CAN
--- identifier and its window are, if they are of their forms, its channel, and whether it is optional
-unfoldable pub line_with : Option (List ℕ) → Option ℕ → Option (List ℕ) → Bool → List (List ℕ) → Result MapLine Cause
-line_with can window channel optional words = do
+-- identifier and its window are, if they are of their forms, and its channel. It isn't optional, and has no name
+unfoldable pub line_with : Option (List ℕ) → Option ℕ → Option (List ℕ) → List (List ℕ) → Result MapLine Cause
+line_with can window channel words = do
   can ← field 1 can
   id ← field 2 (data_id_form (nth_word words 2))
   key ← field 3 (key_form (nth_word words 3))
@@ -58,14 +62,14 @@ line_with can window channel optional words = do
     size = size;
     window = window;
     channel = channel;
-    optional = optional;
+    optional = false;
+    name = None;
   })
 
--- a line of the map of an audit: it has the widest window, and hears every channel. An audit doesn't ask whether it is
--- optional
+-- a line of the map of an audit: it has the widest window, and hears every channel
 unfoldable pub map_line_of : List MapLine → List (List ℕ) → Result MapLine Cause
 map_line_of before words =
-    with_count 5 words (line_with (new_can_form before (nth_word words 1)) (Some 256) None false words)
+    with_count 5 words (line_with (new_can_form before (nth_word words 1)) (Some 256) None words)
 
 -- the most lines that a map has
 abbrev pub most_map_lines : ℕ

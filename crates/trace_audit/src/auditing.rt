@@ -1,7 +1,7 @@
 //! What is found of each line of a log.
 ghost use Rattle.std.specs.Prelude.{◌≡◌, ◌<◌, ◌≤◌, ◌^◌, ◌++◌, length, map as each, OnOk, IfOk};
 ghost use Rattle.text_lines.specs.Room.{AddsAtMost};
-ghost use Rattle.trace_audit.specs.Auditing.{front_text, others_text, is_other_tally, TellsAudit};
+ghost use Rattle.trace_audit.specs.Auditing.{front_text, others_text, is_other_tally, is_accepted_tally, TellsAudit};
 ghost use Rattle.trace_audit.specs.Findings.{AddsFinding, AddsDataVerdict};
 
 use crate::frames::{OtherLine, dataless_line, log_frame, unheard_line};
@@ -18,7 +18,7 @@ use text_lines::words::Words;
 
 /// What a line of a log counts as.
 #[derive(Clone, Copy, Debug, PartialEq, Eq)]
-pub enum Tally {
+pub enum FrameTally {
     /// One that no line of the map judges.
     Other(OtherLine),
     /// A frame that was accepted, and the place of the map's line, counted from 0.
@@ -27,12 +27,19 @@ pub enum Tally {
     Failed(usize),
 }
 
-impl Tally {
+impl FrameTally {
+    /// Whether it is a frame that was accepted.
+    pub fn is_accepted(self) -> bool
+        ensures { result ≡ is_accepted_tally self }
+    {
+        matches!(self, FrameTally::Accepted(_))
+    }
+
     /// Whether the map has no line for it.
     pub fn is_other(self) -> bool
         ensures { result ≡ is_other_tally self }
     {
-        matches!(self, Tally::Other(_))
+        matches!(self, FrameTally::Other(_))
     }
 }
 
@@ -74,40 +81,40 @@ pub fn counters_of(alloc: Global, map: &[MapLine]) -> Result<Vec<u64>, AllocErro
     Ok(counters)
 }
 
-/// Adds what is found of a line of the log, and tells what it counts as. In room for 208 bytes it takes no memory.
+/// Adds what is found of a line of the log, and tells what it counts as. In room for 232 bytes it takes no memory.
 pub fn push_finding(
     map: &[MapLine],
     counters: &mut [u64],
     number: u64,
     words: &Words<'_>,
     text: &mut Vec<u8>,
-) -> Result<Tally, AllocError>
+) -> Result<FrameTally, AllocError>
     requires { length counters.old ≡ length map.now }
     ensures finds { IfOk result (AddsFinding map.now counters.old counters.new
         (record { number = number; words = words.now }) text.old.items text.new.items) }
-    ensures room { AddsAtMost 208 text.old text.new result }
+    ensures room { AddsAtMost 232 text.old text.new result }
 {
     let Some(frame) = log_frame(words) else {
-        return Ok(Tally::Other(dataless_line(words)));
+        return Ok(FrameTally::Other(dataless_line(words)));
     };
     let Some(place) = place_for(map, frame.can.digits(), words.word(2)) else {
-        return Ok(Tally::Other(unheard_line(&frame)));
+        return Ok(FrameTally::Other(unheard_line(&frame)));
     };
     let line = &map[place];
-    push_front(number, line.can.digits(), text)?;
+    push_front(number, line.head(), text)?;
     push_data_verdict(line, place, &mut counters[place], frame.bytes.bytes(), text)
 }
 
-/// Adds the number of a line and the CAN identifier of its frame, each with a space after it.
-fn push_front(number: u64, can: &[u8], text: &mut Vec<u8>) -> Result<(), AllocError>
-    requires { length can.now ≤ 8 }
-    ensures front { OnOk result (text.new.items ≡ text.old.items ++ front_text number can.now) }
-    ensures room { AddsAtMost 50 text.old text.new result }
+/// Adds the number of a line and what is printed of the map's line, each with a space after it.
+pub fn push_front(number: u64, head: &[u8], text: &mut Vec<u8>) -> Result<(), AllocError>
+    requires { length head.now ≤ 32 }
+    ensures front { OnOk result (text.new.items ≡ text.old.items ++ front_text number head.now) }
+    ensures room { AddsAtMost 74 text.old text.new result }
 {
     let mut digits = Buffer::new();
     text.extend_from_slice(digits.format(number).as_bytes())?;
     text.push(b' ')?;
-    text.extend_from_slice(can)?;
+    text.extend_from_slice(head)?;
     text.push(b' ')?;
     Ok(())
 }
@@ -121,7 +128,7 @@ fn push_data_verdict(
     counter: &mut u64,
     bytes: &[u8],
     text: &mut Vec<u8>,
-) -> Result<Tally, AllocError>
+) -> Result<FrameTally, AllocError>
     ensures verdict { IfOk result (AddsDataVerdict line.now place counter.old counter.new bytes.now
         text.old.items text.new.items) }
     ensures room { AddsAtMost 158 text.old text.new result }
@@ -129,7 +136,7 @@ fn push_data_verdict(
     let size = line.size.get() + 4;
     if bytes.len() < size {
         push_bad_length(text)?;
-        return Ok(Tally::Failed(place));
+        return Ok(FrameTally::Failed(place));
     }
     let before = *counter;
     push_verdict(
@@ -141,9 +148,9 @@ fn push_data_verdict(
         text,
     )?;
     if *counter == before {
-        return Ok(Tally::Failed(place));
+        return Ok(FrameTally::Failed(place));
     }
-    Ok(Tally::Accepted(place))
+    Ok(FrameTally::Accepted(place))
 }
 
 /// Adds the number of the lines that the map has no line for.

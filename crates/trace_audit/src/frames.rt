@@ -70,7 +70,8 @@ impl FrameBytes {
 
     /// The bytes in their order.
     pub fn bytes(&self) -> &[u8]
-        ensures { result.now ≡ self.now }
+        ensures value { result.now ≡ self.now }
+        ensures few { length result.now ≤ 64 }
     {
         &self.room[..self.size]
     }

@@ -3,7 +3,7 @@ ghost use Rattle.std.specs.Prelude.{◌≡◌, ◌≤◌, length, map as each, t
 ghost use Rattle.std.specs.Char.{to_ascii_lowercase};
 ghost use Rattle.secured_pdu.specs.Frame.{IsWindow};
 ghost use Rattle.trace_audit.specs.MapLines.{is_can, can_form, new_can_form, line_with, place_of_can};
-ghost use Rattle.trace_audit.specs.MapLines.{hears_frame, place_of_frame};
+ghost use Rattle.trace_audit.specs.MapLines.{hears_frame, place_of_frame, row_head};
 
 use arrayvec::ArrayVec;
 use basics::{Block, Bytes};
@@ -36,6 +36,55 @@ pub struct MapLine {
     pub channel: Option<Bytes>,
     /// Whether a log without an accepted frame of this line passes all the same.
     pub optional: bool,
+    /// What is printed instead of the CAN identifier, if the line has a name.
+    pub name: Option<LineName>,
+}
+
+impl MapLine {
+    /// What is printed of the line: its name, or else its CAN identifier.
+    pub fn head(&self) -> &[u8]
+        ensures value { result.now ≡ row_head self.now }
+        ensures few { length result.now ≤ 32 }
+    {
+        match &self.name {
+            Some(name) => name.bytes(),
+            None => self.can.digits(),
+        }
+    }
+}
+
+/// The name of a line of a map, at most 32 bytes. A contract sees the list of them.
+#[derive(Debug, Drop)]
+pub struct LineName {
+    bytes: Vec<u8>,
+}
+
+impl Model for LineName {
+    ghost use Rattle.std.specs.Prelude.{List, ℕ, ◌≤◌, length};
+
+    ghost Value = { List ℕ };
+
+    ghost view = { λ n. n.bytes.items };
+
+    ghost invariant = { λ n. length n.bytes.items ≤ 32 };
+}
+
+impl LineName {
+    /// The name of these bytes.
+    pub fn of(bytes: Vec<u8>) -> LineName
+        requires { length bytes.items ≤ 32 }
+        ensures { result ≡ bytes.items }
+    {
+        LineName { bytes }
+    }
+
+    /// Its bytes.
+    pub fn bytes(&self) -> &[u8]
+        ensures value { result.now ≡ self.now }
+        ensures few { length result.now ≤ 32 }
+    {
+        self.bytes.as_slice()
+    }
 }
 
 /// A CAN identifier: its three or eight hexadecimal digits, in lower case. A contract sees the list of them.
@@ -209,18 +258,17 @@ fn new_can_id(before: &[MapLine], word: &[u8]) -> Option<CanId>
     Some(can)
 }
 
-/// The line of these words, with its CAN identifier and window, if they are of their forms, its channel, and whether
-/// it is optional.
+/// The line of these words, with its CAN identifier and window, if they are of their forms, and its channel. It isn't
+/// optional, and has no name.
 #[tactic(auto, unfolding(crate::specs::MapLines::line_with))]
 pub fn line_of_words(
     words: &Words<'_>,
     can: Option<CanId>,
     window: Option<Window>,
     channel: Option<Bytes>,
-    optional: bool,
 ) -> Result<MapLine, Cause>
     requires { 5 ≤ length words.now }
-    ensures { result ≡ line_with can window channel optional words.now }
+    ensures { result ≡ line_with can window channel words.now }
 {
     let can = value_at(1, can)?;
     let id = value_at(2, secoc_words::data_id(words.word(2)))?;
@@ -236,7 +284,8 @@ pub fn line_of_words(
         size: PayloadSize::of(size as u8),
         window,
         channel,
-        optional,
+        optional: false,
+        name: None,
     })
 }
 
@@ -260,6 +309,6 @@ impl LineReader for MapReader {
         expect_count(words, 5)?;
         let can = new_can_id(before, words.word(1));
         let window = Some(Window::of(WIDEST_WINDOW));
-        Ok(line_of_words(words, can, window, None, false)?)
+        Ok(line_of_words(words, can, window, None)?)
     }
 }

@@ -30,9 +30,9 @@ returns-clause-finds c =
     c.push_data_verdict.new.counter before front c.push_data_verdict.new.text.items counts frame_is place_is
     (slice_get_read mapping (length mapping) place entry refl inside c.index-map-place.is)
     (omega (arith, inside, c.requires))
-    (c.in_ok-push_front.ensures.front ∙ ap (λ can. before ++ front_text c.args.number can) c.digits-2.ensures.value)
+    (c.in_ok-push_front.ensures.front ∙ ap (λ head. before ++ front_text c.args.number head) c.head.ensures.value)
     (subst (λ bytes. AddsDataVerdict entry place (slice_index c.args.counters.now place) c.push_data_verdict.new.counter bytes front c.push_data_verdict.new.text.items counts)
-    c.bytes.ensures judged))
+    c.bytes.ensures.value judged))
     c.push_data_verdict.ensures.verdict
 
 pub returns-in_default-clause-finds : goal.returns-in_default-clause-finds

@@ -1,5 +1,0 @@
-use Rattle.trace_audit.proofs.WatchRising.{all_rise}
-use Rattle.trace_audit.proofs.watch_laws.accepted_freshness_rises_per_watched_line.Goals as goal
-
-pub returns : goal.returns
-returns c = λ mapping lines findings. all_rise mapping lines findings

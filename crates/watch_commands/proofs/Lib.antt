@@ -1,0 +1,11 @@
+pub mod Parts
+pub mod TotalVectors
+pub mod Places
+pub mod Going
+pub mod WatchRising
+pub mod OneWatch
+pub mod PrintedRise
+pub mod Ports
+pub mod WatchPhases
+pub mod WatchPromises
+pub mod CallerLemmas

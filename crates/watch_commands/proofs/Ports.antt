@@ -1,0 +1,149 @@
+-- What comes of a log, and what is printed of it, from turn to turn
+use Rattle.std.proofs.Common.{◌≡◌, ℕ, ◌+◌, ◌<◌, ◌≤◌, List, [], ◌++◌, length, refl, sym, ◌∙◌, ap, subst, inl, inr, arith, append-nil, append_assoc, length-append}
+use Rattle.std.specs.Prelude.{Some, Result, Ok, Err, OnOk, OnErr}
+use Rattle.std.proofs.lemmas.Grind.{flat_map-append}
+use Rattle.std.proofs.Math.Seq.{take-append-add}
+use Rattle.bus_port.specs.Fault.{Rose}
+use Rattle.basics.specs.CountLaws.{rose_after}
+use Rattle.bus_port.specs.Source.{SourceState, Came, HandsOut, ReadFails}
+use Rattle.bus_port.specs.Sink.{SinkState, Appended}
+use Rattle.bus_port.specs.SourceLaws.{Came-nothing, Came-more}
+use Rattle.bus_port.specs.SinkLaws.{Appended-more, Appended-nothing}
+use Rattle.bus_port.specs.Whole.{AppendedPart}
+use Rattle.program_edge.specs.Told.{AppendedWell, EndingTold}
+use Rattle.program_edge.specs.ToldLaws.{AppendedWell-more}
+use Rattle.program_edge.specs.Rows.{row_of}
+use Rattle.program_edge.specs.Inputs.{Reading}
+use Rattle.trace_audit.specs.Auditing.{Finding}
+use Rattle.watch_commands.specs.WatchMaps.{NumberedMap}
+use Rattle.watch_commands.specs.Watching.{told_text, found_text, FindsComplete, FindsAll}
+use Rattle.watch_commands.specs.WatchTotals.{totals_text, watch_status}
+use Rattle.trace_audit.specs.Pieces.{PutsPiece}
+use Rattle.watch_commands.specs.States.{WatchState, Watched}
+use Rattle.watch_commands.specs.WatchRows.{Writing, done, FailsOfLog, failed, too_long, log_failed_text, log_too_long_text, EndsLog}
+use Rattle.watch_commands.specs.WatchSteps.{Ports, SoFar}
+
+-- if no fault of the log was counted, its count didn't rise
+pub never_counted : {A : Type 0} (first later : SourceState) → later.faults ≡ first.faults → first.faults < later.faults → A
+never_counted first later still counts = absurd (omega (arith, still, counts))
+
+-- what is found of the complete lines, of a state
+pub complete_of : (watch : WatchState) (bytes : List ℕ) (findings : List Finding) → Watched watch bytes findings → FindsComplete watch.mapping.lines bytes findings
+complete_of watch bytes findings w = record { lines = w.lines; rest = w.rest; cut = w.cut; finds = w.finds }
+
+-- ---- what is printed after what was printed well
+
+part_more : (first before after : SinkState) (some more : List ℕ) → Appended first before some → AppendedPart before after more
+    → AppendedPart first after (some ++ more)
+part_more first before after some more one (n, less, two) = (
+  length some + n,
+  omega (arith, less, length-append some more),
+  subst (Appended first after) (sym (take-append-add some more n)) (Appended-more one two),
+)
+
+pub told_more : (first before after : SinkState) (some text : List ℕ) (status answer : ℕ) → AppendedWell first before some
+    → EndingTold before after text status answer → EndingTold first after (some ++ text) status answer
+told_more first before after some text status answer well (inl (is, told)) = inl (is, AppendedWell-more first before after some text well told)
+told_more first before after some text status answer well (inr (six, rose, part)) =
+    inr (six, rose_after first.faults before.faults after.faults well.1.later rose, part_more first before after some text well.1 part)
+
+-- what was written of a text, as it is told
+pub puts : {A E : Type 0} (before after : SinkState) (text : List ℕ) (result : Result A E) → OnOk result (Appended before after text)
+    → OnOk result (after.faults ≡ before.faults) → OnErr result (Rose before.faults after.faults)
+    → OnErr result (AppendedPart before after text) → PutsPiece before after text result
+puts before after text (Ok _) appended calm rose part = (calm, appended)
+puts before after text (Err e) appended calm rose part = (rose, part)
+
+-- ---- a turn
+
+-- before the log
+pub SoFar-none : (log : SourceState) (sink : SinkState) (watch : WatchState) → Watched watch [] []
+    → SoFar (record { log = record { before = log; after = log }; before = sink; after = sink }) watch [] []
+SoFar-none log sink watch w = record { came = Came-nothing log; calm = refl; watched = w; prints = (refl, Appended-nothing sink) }
+
+module _ (first log later : SourceState) (start sink next : SinkState) (old new : WatchState) (bytes : List ℕ) (findings : List Finding) where
+  abbrev before : Ports
+  before = record { log = record { before = first; after = log }; before = start; after = sink }
+
+  abbrev reading : Reading
+  reading = record { before = first; after = later }
+
+  abbrev written : Writing
+  written = record { before = start; after = next }
+
+  -- a piece came and was taken
+  pub SoFar-more : (piece : List ℕ) (more : List Finding) → new.mapping ≡ old.mapping → SoFar before old bytes findings → Came log later piece → later.faults ≡ log.faults
+      → Watched new (bytes ++ piece) (findings ++ more) → AppendedWell sink next (found_text old.mapping more)
+      → SoFar (record { log = reading; before = start; after = next }) new (bytes ++ piece) (findings ++ more)
+  SoFar-more piece more same so_far came calm watched prints = record {
+    came = Came-more so_far.came came;
+    calm = calm ∙ so_far.calm;
+    watched = watched;
+    prints = subst (λ (m : NumberedMap). AppendedWell start next (found_text m (findings ++ more))) (sym same)
+        (subst (AppendedWell start next) (sym (flat_map-append (told_text old.mapping.quiet) findings more))
+        (AppendedWell-more start sink next (found_text old.mapping findings) (found_text old.mapping more) so_far.prints prints));
+  }
+
+  -- a piece came, and the sink failed
+  pub Stops-in : (piece : List ℕ) (more : List Finding) → new.mapping ≡ old.mapping → SoFar before old bytes findings → Came log later piece → later.faults ≡ log.faults
+      → length piece ≤ 4096 → Watched new (bytes ++ piece) (findings ++ more) → Rose sink.faults next.faults → AppendedPart sink next (found_text old.mapping more)
+      → EndsLog old.mapping reading written (Ok 6)
+  Stops-in piece more same so_far came calm short watched rose (size, proper, part) = inr (record {
+    status_is = refl;
+    fails = rose_after start.faults sink.faults next.faults so_far.prints.1.later rose;
+    bytes = bytes;
+    findings = findings;
+    piece = piece;
+    more = more;
+    came = Came-more so_far.came came;
+    calm = calm ∙ so_far.calm;
+    short = short;
+    finds = complete_of old bytes findings so_far.watched;
+    finds_more = subst (λ (m : NumberedMap). FindsComplete m.lines (bytes ++ piece) (findings ++ more)) same (complete_of new (bytes ++ piece) (findings ++ more) watched);
+    size = size;
+    proper = proper;
+    prints = Appended-more so_far.prints.1 part;
+  })
+
+  came_no_more : SoFar before old bytes findings → Came log later [] → Came first later bytes
+  came_no_more so_far nothing = subst (Came first later) (append-nil bytes) (Came-more so_far.came nothing)
+
+  -- nothing came: this was the end of the log
+  pub Ends-done : (room left : List ℕ) (more : List Finding) (status : ℕ) → SoFar before old bytes findings → HandsOut log later room left 0 → 0 < length room
+      → FindsAll old.mapping.lines bytes (findings ++ more)
+      → EndingTold sink next (found_text old.mapping more ++ totals_text old.mapping (findings ++ more)) (watch_status old.mapping (findings ++ more)) status
+      → EndsLog old.mapping reading written (Ok status)
+  Ends-done room left more status so_far hands some finds told =
+      let all : List Finding = findings ++ more in
+      let whole : (text : List ℕ) → first.told ≡ Some text → (bytes ≡ text) × (later.told ≡ Some []) =
+      λ text is_told.
+      let here = so_far.came.next text is_told in
+      let gone : here.0 ≡ [] = (hands.ended some here.0 here.1).0 refl in
+      let behind = hands.came.next here.0 here.1 in
+      let last : behind.0 ≡ [] = sym behind.2 ∙ gone in
+      (sym (here.2 ∙ ap (λ r. bytes ++ r) gone ∙ append-nil bytes), behind.1 ∙ ap Some last) in
+      let text_is : found_text old.mapping findings ++ (found_text old.mapping more ++ totals_text old.mapping all) ≡ found_text old.mapping all ++ totals_text old.mapping all =
+      sym (append_assoc (found_text old.mapping findings) (found_text old.mapping more) (totals_text old.mapping all))
+      ∙ ap (λ t. t ++ totals_text old.mapping all) (sym (flat_map-append (told_text old.mapping.quiet) findings more)) in
+      inl (record {
+        row = row_of (watch_status old.mapping all) (found_text old.mapping all ++ totals_text old.mapping all);
+        comes = done bytes all
+            (record { came = came_no_more so_far hands.came; within = omega arith; no_fault = hands.no_fault ∙ so_far.calm; whole = whole }) finds;
+        told = subst (λ t. EndingTold start next t (watch_status old.mapping all) status) text_is
+            (told_more start sink next (found_text old.mapping findings) (found_text old.mapping more ++ totals_text old.mapping all) (watch_status old.mapping all) status so_far.prints told);
+      })
+
+-- the log failed
+pub Ends-failed : (first log later : SourceState) (start sink : SinkState) (watch : WatchState) (bytes : List ℕ) (findings : List Finding) (room left : List ℕ)
+    → SoFar (record { log = record { before = first; after = log }; before = start; after = sink }) watch bytes findings → ReadFails log later room left
+    → FailsOfLog watch.mapping (record { before = first; after = later }) (record { before = start; after = sink }) (row_of 5 log_failed_text)
+Ends-failed first log later start sink watch bytes findings room left so_far fails =
+    failed bytes findings (subst (Came first later) (append-nil bytes) (Came-more so_far.came fails.nothing)) (complete_of watch bytes findings so_far.watched)
+    (rose_after first.faults log.faults later.faults so_far.came.later fails.rose) so_far.prints
+
+-- 2^64 - 1 bytes came
+pub Ends-too_long : (first log : SourceState) (start sink : SinkState) (watch : WatchState) (bytes : List ℕ) (findings : List Finding)
+    → SoFar (record { log = record { before = first; after = log }; before = start; after = sink }) watch bytes findings → 18446744073709551615 ≤ length bytes
+    → FailsOfLog watch.mapping (record { before = first; after = log }) (record { before = start; after = sink }) (row_of 8 log_too_long_text)
+Ends-too_long first log start sink watch bytes findings so_far long =
+    too_long bytes findings so_far.came (complete_of watch bytes findings so_far.watched) so_far.calm (omega (arith, long)) so_far.prints

@@ -1,0 +1,34 @@
+-- The freshness that a line of the map accepts rises from line to line of a log of any length
+use Rattle.std.proofs.Common.{ℕ, ◌+◌, List, ◌++◌, length, map, sym, ap, ◌∙◌, subst, append-nil, inl, inr}
+use Rattle.std.specs.Prelude.{slice_index}
+use Rattle.secoc_words.specs.Counting.{AcceptedRise}
+use Rattle.secoc_words.specs.Counting as counting
+use Rattle.secoc_words.specs.CountingLaws.{KeepsCounters-rise}
+use Rattle.trace_audit.specs.declared.map_lines.MapLine.{MapLine}
+use Rattle.trace_audit.specs.declared.frames.OtherLine.TheVariants as kind
+use Rattle.trace_audit.specs.Auditing.{Finding, other, finding_accepts, first_counters, counter_of_place}
+use Rattle.trace_audit.proofs.CallerLemmas.{Keeps, keeps_one, above}
+use Rattle.watch_commands.specs.Watching.{WatchesLine, WatchesEach, none, more}
+use Rattle.trace_audit.specs.Pieces.{in_64_bits}
+
+-- what is found of one more line
+keeps_line : (mapping : List MapLine) (findings : List Finding) (number : ℕ) (bytes : List ℕ) (found : List Finding) → Keeps mapping findings
+    → WatchesLine mapping (counter_of_place mapping findings) number bytes found → Keeps mapping (findings ++ found)
+keeps_line mapping findings number bytes found so_far (inl (long, is)) =
+    subst (λ (fs : List Finding). Keeps mapping (findings ++ fs)) (sym is) (keeps_one mapping findings (other kind.Malformed) so_far tt)
+keeps_line mapping findings number bytes found so_far (inr (inl (few, skipped, is))) =
+    subst (Keeps mapping) (sym (append-nil findings) ∙ ap (λ (fs : List Finding). findings ++ fs) (sym is)) so_far
+keeps_line mapping findings number bytes found so_far (inr (inr (few, kept, (f, is, finds)))) =
+    subst (λ (fs : List Finding). Keeps mapping (findings ++ fs)) (sym is)
+    (keeps_one mapping findings f so_far (above mapping (counter_of_place mapping findings) _ f finds))
+
+keeps : (mapping : List MapLine) (lines : List (List ℕ)) (findings : List Finding) → WatchesEach mapping lines findings → Keeps mapping findings
+keeps mapping lines findings none = counting.none
+keeps mapping lines findings (more before so_far bytes found each finds) =
+    keeps_line mapping so_far (in_64_bits (length before + 1)) bytes found (keeps mapping before so_far each) finds
+
+-- of two frames that the same line of the map accepts, the later has the greater freshness
+pub all_rise : (mapping : List MapLine) (lines : List (List ℕ)) (findings : List Finding) → WatchesEach mapping lines findings
+    → AcceptedRise (map finding_accepts findings)
+all_rise mapping lines findings each =
+    KeepsCounters-rise (slice_index (first_counters mapping)) (map finding_accepts findings) (keeps mapping lines findings each)

@@ -1,0 +1,16 @@
+use Rattle.std.proofs.Common.{ℕ, ◌&&◌, Bool, sym, ap, ◌∙◌, slice_index}
+use Rattle.watch_commands.specs.WatchTotals.{is_heard_at}
+use Rattle.watch_commands.proofs.Places.{tests_more}
+use Rattle.watch_commands.proofs.state.Watch.hears_each.Goals as goal
+use Rattle.watch_commands.proofs.state.Watch.hears_each.Goals.{then-each, else-each}
+
+pub loop-place-preserved : goal.loop-place-preserved
+loop-place-preserved c =
+    let place : ℕ = c.loop-place.place in
+    let test : ℕ → Bool = is_heard_at c.args.self.now.mapping (slice_index c.args.self.now.accepted) in
+    elim c.if-each.branch [
+      | then-each w ↦
+          w.each-is ∙ w.hears_at-each.ensures ∙ ap (λ (b : Bool). b && test place) (sym w.if-each.true ∙ c.loop-place.invariant) ∙ sym (tests_more test place)
+      | else-each w ↦
+          w.each-is ∙ w.if-each.false ∙ ap (λ (b : Bool). b && test place) (sym w.if-each.false ∙ c.loop-place.invariant) ∙ sym (tests_more test place)
+    ]

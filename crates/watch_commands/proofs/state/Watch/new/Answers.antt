@@ -1,0 +1,11 @@
+use Rattle.std.proofs.Common.{ℕ, length, ap, ◌∙◌, refl}
+use Rattle.std.specs.Prelude.{replicate}
+use Rattle.trace_audit.specs.Auditing.{first_counters}
+use Rattle.watch_commands.proofs.Going.{Watched-none}
+use Rattle.watch_commands.proofs.state.Watch.new.Goals as goal
+
+pub returns-clause-before : goal.returns-clause-before
+returns-clause-before c =
+    Watched-none _ c.in_ok-line.ensures.items refl (c.in_ok-counters.ensures ∙ ap first_counters c.lines.ensures.value)
+    (c.in_ok-accepted.ensures ∙ ap (λ (n : ℕ). replicate n 0) (ap length c.lines-2.ensures.value))
+    (c.in_ok-failed.ensures ∙ ap (λ (n : ℕ). replicate n 0) (ap length c.lines-3.ensures.value)) c.none.ensures

@@ -1,0 +1,34 @@
+use Rattle.std.proofs.Common.{◌≡◌, ℕ, ◌++◌, List, length, sym, ap, ◌∙◌, arith, append_assoc}
+use Rattle.std.specs.List.{flat_map, range_with_len}
+use Rattle.watch_commands.specs.WatchTotals.{total_line_at, counts_text}
+use Rattle.watch_commands.specs.States.{WatchState, totals_in}
+use Rattle.watch_commands.specs.contracts.state.Watch.{the_view}
+use Rattle.watch_commands.proofs.Places.{texts_more}
+use Rattle.watch_commands.proofs.state.Watch.push_totals.Goals as goal
+
+pub loop-place-preserved : goal.loop-place-preserved
+loop-place-preserved c =
+    let old : WatchState = c.args.self.now in
+    let place : ℕ = c.loop-place.place in
+    let text : ℕ → List ℕ = total_line_at old.mapping (totals_in old) in
+    record {
+      so_far = c.push_line_counts.ensures.text
+          ∙ ap (λ (s : WatchState). record s { text = s.text ++ total_line_at s.mapping (totals_in s) place }) c.loop-place.invariant.so_far
+          ∙ ap (λ (t : List ℕ). record old { text = t })
+          (append_assoc old.text (flat_map text (range_with_len 0 place)) (text place) ∙ ap (λ (t : List ℕ). old.text ++ t) (sym (texts_more text place)));
+      room = omega (arith, c.loop-place.invariant.room, c.push_line_counts.ensures.few);
+    }
+
+pub returns : goal.returns
+returns c =
+    let old : WatchState = c.args.self.now in
+    let place : ℕ = c.loop-place.place in
+    let text : ℕ → List ℕ = total_line_at old.mapping (totals_in old) in
+    let size : length c.lines-size.result.now ≡ length old.mapping.lines =
+    ap length c.lines-size.ensures.value ∙ ap (λ (s : WatchState). length s.mapping.lines) c.self.view_is in
+    let whole : place ≡ length old.mapping.lines = omega (arith, c.loop-place-test.false, c.loop-place.auto.place-end, size) in
+    ap (λ (t : List ℕ). record (the_view c.self-2.inside) { text = t }) c.add_counts.ensures.lines
+    ∙ ap (λ (v : WatchState). record v { text = v.text ++ counts_text v.counts }) (c.self-2.view_is ∙ c.loop-place.invariant.so_far)
+    ∙ ap (λ (t : List ℕ). record old { text = t })
+    (append_assoc old.text (flat_map text (range_with_len 0 place)) (counts_text old.counts)
+    ∙ ap (λ (n : ℕ). old.text ++ (flat_map text (range_with_len 0 n) ++ counts_text old.counts)) whole)

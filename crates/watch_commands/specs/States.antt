@@ -1,0 +1,128 @@
+-- The state between two pieces of a log, and what the steps say to one another
+use Rattle.std.specs.Prelude.{◌≡◌, ℕ, ◌+◌, ◌<◌, nat_lt, Bool, if◌then◌else◌, List, [], ◌∷◌, ◌++◌, length, take, map}
+use Rattle.std.specs.Prelude.{set, slice_index, Option, None, Some}
+use Rattle.bus_port.specs.Fault.{counted}
+use Rattle.trace_audit.specs.declared.auditing.FrameTally.{FrameTally}
+use Rattle.trace_audit.specs.declared.auditing.FrameTally.TheVariants as tally
+use Rattle.watch_commands.specs.declared.counts.WatchCounts.{WatchCounts}
+use Rattle.secoc_words.specs.Counting.{last_accepted}
+use Rattle.watch_commands.specs.WatchMaps.{NumberedMap}
+use Rattle.trace_audit.specs.Auditing.{Finding, tally_of, finding_accepts, counter_of_place, is_accepted_tally}
+use Rattle.trace_audit.specs.Pieces.{line_limit, log_lines, in_64_bits}
+use Rattle.watch_commands.specs.Watching.{WatchesLine, WatchesEach, found_text}
+use Rattle.watch_commands.specs.WatchTotals.{counted_of, counts_of, is_failed_tally}
+use Rattle.watch_commands.specs.WatchTotals.{is_accepted_at, is_failed_at, is_other_of}
+use Rattle.watch_commands.specs.WatchTotals.{is_unmapped_line, is_other_frame}
+use Rattle.watch_commands.specs.WatchTotals.{is_malformed_line, LineTotals, totals_text_of, are_heard}
+
+-- the map; for each of its lines the counter, how many frames it accepted, and how many it didn't; the line that no
+-- line feed has ended, as far as it is kept, and the number of lines before it; the numbers of the log so far; what was
+-- found of the last piece
+pub record WatchState : Type 0 where
+  pub mapping : NumberedMap
+  pub counters : List ℕ
+  pub accepted : List ℕ
+  pub failed : List ℕ
+  pub line : List ℕ
+  pub lines : ℕ
+  pub counts : WatchCounts
+  pub text : List ℕ
+
+-- for each line of the map the number of findings that pass for it
+abbrev pub AreCounted : (ℕ → FrameTally → Bool) → NumberedMap → List ℕ → List Finding → Type 0
+AreCounted passes mapping numbers findings =
+    (place : ℕ) → place < length mapping.lines
+    → slice_index numbers place ≡ counted_of (passes place) findings
+
+-- the state after these bytes of a log, of whose complete lines these are found
+pub record Watched (state : WatchState) (bytes : List ℕ) (findings : List Finding) : Type 0 where
+  pub lines : List (List ℕ)
+  pub rest : List ℕ
+  pub cut : log_lines bytes ≡ lines ++ rest ∷ []
+  pub finds : WatchesEach state.mapping.lines lines findings
+  pub line_is : state.line ≡ take (line_limit + 1) rest
+  pub lines_are : state.lines ≡ in_64_bits (length lines)
+  pub as_many : length state.counters ≡ length state.mapping.lines
+  pub counters_are : (place : ℕ) → place < length state.mapping.lines
+      → slice_index state.counters place ≡ counter_of_place state.mapping.lines findings place
+  pub accepted_are : AreCounted is_accepted_at state.mapping state.accepted findings
+  pub failed_are : AreCounted is_failed_at state.mapping state.failed findings
+  pub counts_are : state.counts ≡ counts_of findings
+
+-- more was found: of these bytes more, and its text was added
+abbrev pub FindsMore : WatchState → WatchState → List ℕ → Type 0
+FindsMore old new piece =
+    (bytes : List ℕ) (findings : List Finding) → Watched old bytes findings → (more : List Finding)
+    × Watched new (bytes ++ piece) (findings ++ more) × (new.text ≡ old.text ++ found_text old.mapping more)
+
+-- what found findings, of one line, count as: nothing if it was skipped
+abbrev pub tally_found : List Finding → Option FrameTally
+tally_found [] = None
+tally_found (finding ∷ _) = Some (tally_of finding)
+
+-- what is found of the line that is kept was added, its counters are those after it, and the answer is what it counts
+-- as
+abbrev pub JudgesLine : WatchState → WatchState → Option FrameTally → Type 0
+JudgesLine old new counts =
+    (found : List Finding) × WatchesLine old.mapping.lines (slice_index old.counters) old.lines old.line found
+    × (new ≡ record old { counters = new.counters; text = old.text ++ found_text old.mapping found })
+    × (length new.counters ≡ length old.counters) × (counts ≡ tally_found found)
+    × ((place : ℕ) → place < length old.counters
+    → slice_index new.counters place ≡ last_accepted place (slice_index old.counters place) (map finding_accepts found))
+
+-- a place is one of so many
+abbrev pub IsPlaced : ℕ → FrameTally → Type 0
+IsPlaced size (tally.Other kind) = Unit {0}
+IsPlaced size (tally.Accepted place) = place < size
+IsPlaced size (tally.Failed place) = place < size
+
+-- one more is counted if a line counts as one that passes
+abbrev pub counts_as : (FrameTally → Bool) → Option FrameTally → ℕ → ℕ
+counts_as passes None count = count
+counts_as passes (Some tally) count = if passes tally then counted count else count
+
+-- the numbers of a log after one more line
+abbrev pub counts_after : Option FrameTally → WatchCounts → WatchCounts
+counts_after tally old = record {
+  accepted = counts_as is_accepted_tally tally old.accepted;
+  failed = counts_as is_failed_tally tally old.failed;
+  unmapped = counts_as (is_other_of is_unmapped_line) tally old.unmapped;
+  other_frames = counts_as (is_other_of is_other_frame) tally old.other_frames;
+  malformed = counts_as (is_other_of is_malformed_line) tally old.malformed;
+}
+
+-- the place of the map's line that accepted a frame, or that didn't
+abbrev pub accepted_place : Option FrameTally → Option ℕ
+accepted_place None = None
+accepted_place (Some (tally.Other kind)) = None
+accepted_place (Some (tally.Accepted place)) = Some place
+accepted_place (Some (tally.Failed place)) = None
+
+abbrev pub failed_place : Option FrameTally → Option ℕ
+failed_place None = None
+failed_place (Some (tally.Other kind)) = None
+failed_place (Some (tally.Accepted place)) = None
+failed_place (Some (tally.Failed place)) = Some place
+
+-- one more is counted at a place, if there is one
+abbrev pub raised_at : Option ℕ → List ℕ → List ℕ
+raised_at None numbers = numbers
+raised_at (Some place) numbers = set numbers place (counted (slice_index numbers place))
+
+-- what a state has of the lines of its map
+abbrev pub totals_in : WatchState → LineTotals
+totals_in state = record {
+  accepted = slice_index state.accepted;
+  failed = slice_index state.failed;
+  last = slice_index state.counters;
+}
+
+-- the text and the status at the end of a log, of a state
+abbrev pub end_text : WatchState → List ℕ
+end_text state = totals_text_of state.mapping (totals_in state) state.counts
+
+abbrev pub end_status : WatchState → ℕ
+end_status state =
+    if nat_lt 0 state.counts.failed then 1
+    else if are_heard state.mapping (slice_index state.accepted) then 0
+    else 3

@@ -1,0 +1,196 @@
+-- The table of answers of `watch`: its rows, and when each comes
+use Rattle.std.specs.Prelude.{◌≡◌, ◌⊎◌, ℕ, ◌<◌, ◌≤◌, Bool, false, if◌then◌else◌, Option, None, Some, Result, Ok, Err}
+use Rattle.std.specs.Prelude.{List, [], ◌∷◌, ◌++◌, length, take, codes, bytes_eq}
+use Rattle.bus_port.specs.Fault.{last_count}
+use Rattle.bus_port.specs.Source.{Came}
+use Rattle.bus_port.specs.Sink.{SinkState, Appended}
+use Rattle.bus_port.specs.Whole.{ReadsAll, AppendedPart}
+use Rattle.text_lines.specs.Readings.{Fault}
+use Rattle.text_lines.specs.Texts.{line}
+use Rattle.program_edge.specs.declared.input.InputFault.{InputFault}
+use Rattle.program_edge.specs.Told.{AppendedWell}
+use Rattle.program_edge.specs.Rows.{Row, row_of}
+use Rattle.program_edge.specs.Inputs.{Reading, IsUnread, ReadsWhole, Lacks, SourceFailed}
+use Rattle.program_edge.specs.Endings.{Ending, EndsInRow, SinkFailed}
+use Rattle.trace_audit.specs.Auditing.{Finding}
+use Rattle.trace_audit.specs.Rows.{AuditInputs, NamesInputs, IsMapFaultBy}
+use Rattle.watch_commands.specs.declared.run.TheConstants.{HELP, VERSION}
+use Rattle.watch_commands.specs.MapFaults.{map_input_row, map_line_row}
+use Rattle.watch_commands.specs.WatchMaps.{NumberedMap, watch_map_of, IsMapOf}
+use Rattle.watch_commands.specs.Watching.{found_text, FindsComplete, FindsAll}
+use Rattle.watch_commands.specs.WatchTotals.{totals_text, watch_status}
+
+-- the line that is printed if the words aren't two
+abbrev pub watch_usage : List ℕ
+watch_usage = line (codes "usage: watch [--quiet] MAP LOG")
+
+-- the first word is `--quiet`
+abbrev pub is_quiet : List (List ℕ) → Bool
+is_quiet [] = false
+is_quiet (first ∷ rest) = bytes_eq first (codes "--quiet")
+
+-- the words behind it
+abbrev pub watch_inputs : List (List ℕ) → List (List ℕ)
+watch_inputs [] = []
+watch_inputs (first ∷ rest) = if bytes_eq first (codes "--quiet") then rest else first ∷ rest
+
+-- two words ask for the watch of the map and the log that they name; `--quiet` may stand before them
+abbrev pub AsksWatch : List (List ℕ) → Type 0
+AsksWatch words = NamesInputs (watch_inputs words)
+
+-- there is one word, and it is this
+abbrev pub is_only_word : List ℕ → List (List ℕ) → Bool
+is_only_word word [] = false
+is_only_word word (only ∷ []) = bytes_eq only word
+is_only_word word (only ∷ next ∷ rest) = false
+
+-- the text that `--help` or `--version` alone ask for
+abbrev pub text_asked : List (List ℕ) → Option (List ℕ)
+text_asked words =
+    if is_only_word (codes "--help") words then Some HELP.now
+    else if is_only_word (codes "--version") words then Some VERSION.now
+    else None
+
+-- the map was read whole, and has these lines with these numbers; accepted frames are left out if the words say so
+abbrev pub ReadsWatchMap : AuditInputs → NumberedMap → Type 0
+ReadsWatchMap i mapping =
+    (text : List ℕ) × ReadsWhole i.map text × IsMapOf (is_quiet i.words) text mapping
+
+-- the map was read whole, and this is its first fault
+abbrev pub IsWatchMapFault : Reading → Fault → Type 0
+IsWatchMapFault map fault = IsMapFaultBy watch_map_of map fault
+
+-- ---- what is written
+
+-- what was known of a sink before and after
+pub record Writing : Type 0 where
+  pub before : SinkState
+  pub after : SinkState
+
+-- nothing was asked of it
+abbrev pub IsUnwritten : Writing → Type 0
+IsUnwritten w = w.after ≡ w.before
+
+-- exactly this text was written to it, and it didn't fail
+abbrev pub WritesWhole : Writing → List ℕ → Type 0
+WritesWhole w text = AppendedWell w.before w.after text
+
+-- an ending with this status, by what was written to a sink
+abbrev pub ending_of : Writing → ℕ → Ending
+ending_of w status = record { before = w.before; after = w.after; status = status }
+
+-- how a run of `watch` ended: what was written to standard output and to standard error, and its status
+pub record WatchEnding : Type 0 where
+  pub output : Writing
+  pub errors : Writing
+  pub status : ℕ
+
+abbrev pub on_output : WatchEnding → Ending
+on_output e = ending_of e.output e.status
+
+abbrev pub on_errors : WatchEnding → Ending
+on_errors e = ending_of e.errors e.status
+
+-- ---- the log
+
+-- these are all bytes of a log up to its end, however many, and no fault was counted
+abbrev pub ReadsToEnd : Reading → List ℕ → Type 0
+ReadsToEnd log bytes = ReadsAll log.before log.after (length bytes) bytes
+
+-- exactly these bytes came of a log
+abbrev pub HasCome : Reading → List ℕ → Type 0
+HasCome log bytes = Came log.before log.after bytes
+
+-- the row of a log that was read to its end: what is found of all its lines, and the totals
+pub data ComesOfLog (mapping : NumberedMap) (log : Reading) : Row → Type 0 where
+  done : (bytes : List ℕ) (findings : List Finding) → ReadsToEnd log bytes → FindsAll mapping.lines bytes findings
+      → ComesOfLog mapping log
+      (row_of (watch_status mapping findings) (found_text mapping findings ++ totals_text mapping findings))
+
+-- what is printed if the log fails, or has too many bytes
+abbrev pub log_failed_text : List ℕ
+log_failed_text = line (codes "log: read fault")
+
+abbrev pub log_too_long_text : List ℕ
+log_too_long_text = line (codes "log: input too long")
+
+-- the rows of a log that failed, or of which 2^64 - 1 bytes and more came: what is found of the complete lines of all
+-- that came stands on standard output
+pub data FailsOfLog (mapping : NumberedMap) (log : Reading) (output : Writing) : Row → Type 0 where
+  failed : (bytes : List ℕ) (findings : List Finding) → HasCome log bytes → FindsComplete mapping.lines bytes findings
+      → SourceFailed log → WritesWhole output (found_text mapping findings)
+      → FailsOfLog mapping log output (row_of 5 log_failed_text)
+  too_long : (bytes : List ℕ) (findings : List Finding) → HasCome log bytes → FindsComplete mapping.lines bytes findings
+      → log.after.faults ≡ log.before.faults → last_count ≤ length bytes
+      → WritesWhole output (found_text mapping findings)
+      → FailsOfLog mapping log output (row_of 8 log_too_long_text)
+
+-- the sink failed before the log ended. What is found of the complete lines of all that came, except for the last
+-- piece, was printed, and a proper prefix of what that piece adds
+pub record Stops (mapping : NumberedMap) (log : Reading) (e : Ending) : Type 0 where
+  pub status_is : e.status ≡ 6
+  pub fails : SinkFailed e
+  pub bytes : List ℕ
+  pub findings : List Finding
+  pub piece : List ℕ
+  pub more : List Finding
+  pub came : HasCome log (bytes ++ piece)
+  pub calm : log.after.faults ≡ log.before.faults
+  pub short : length piece ≤ 4096
+  pub finds : FindsComplete mapping.lines bytes findings
+  pub finds_more : FindsComplete mapping.lines (bytes ++ piece) (findings ++ more)
+  pub size : ℕ
+  pub proper : size < length (found_text mapping more)
+  pub prints : Appended e.before e.after (found_text mapping findings ++ take size (found_text mapping more))
+
+-- how a log ends: in its row, or before, as standard output failed; or in the row of a fault that is to be told
+abbrev pub EndsLog : NumberedMap → Reading → Writing → Result ℕ Row → Type 0
+EndsLog mapping log output (Ok status) =
+    EndsInRow (ComesOfLog mapping log) (ending_of output status) ⊎ Stops mapping log (ending_of output status)
+EndsLog mapping log output (Err row) = FailsOfLog mapping log output row
+
+-- ---- the whole run
+
+-- the words are of the form, and the map has lines; this holds of them
+abbrev pub OverMap : AuditInputs → (NumberedMap → Type 0) → Type 0
+OverMap i P = AsksWatch i.words × ((mapping : NumberedMap) × ReadsWatchMap i mapping × P mapping)
+
+-- the rows on standard output, with nothing on standard error
+pub data ComesOnOutput (i : AuditInputs) : Row → Type 0 where
+  asked : (text : List ℕ) → text_asked i.words ≡ Some text → IsUnread i.map → IsUnread i.log
+      → ComesOnOutput i (row_of 0 text)
+  of_log : (row : Row) → OverMap i (λ mapping. ComesOfLog mapping i.log row) → ComesOnOutput i row
+
+-- the rows on standard error, by what was written to standard output
+pub data ComesOnErrors (i : AuditInputs) (output : Writing) : Row → Type 0 where
+  no_form : ¬ AsksWatch i.words → text_asked i.words ≡ None → IsUnread i.map → IsUnread i.log → IsUnwritten output
+      → ComesOnErrors i output (row_of 2 watch_usage)
+  no_map : (fault : InputFault) → AsksWatch i.words → Lacks i.map fault → IsUnread i.log → IsUnwritten output
+      → ComesOnErrors i output (map_input_row fault)
+  map_fault : (fault : Fault) → AsksWatch i.words → IsWatchMapFault i.map fault → IsUnread i.log → IsUnwritten output
+      → ComesOnErrors i output (map_line_row fault)
+  no_log : (row : Row) → OverMap i (λ mapping. FailsOfLog mapping i.log output row) → ComesOnErrors i output row
+
+-- how a run ends: in a row on standard output, or before, as that failed; or in a row on standard error
+abbrev pub EndsWatch : AuditInputs → WatchEnding → Type 0
+EndsWatch i e =
+    (EndsInRow (ComesOnOutput i) (on_output e) × IsUnwritten e.errors)
+    ⊎ (OverMap i (λ mapping. Stops mapping i.log (on_output e)) × IsUnwritten e.errors)
+    ⊎ EndsInRow (ComesOnErrors i e.output) (on_errors e)
+
+-- the same before a fault is told: a status, or the row that is to be told on standard error
+abbrev pub EndsUntold : AuditInputs → Writing → Result ℕ Row → Type 0
+EndsUntold i output (Ok status) =
+    EndsInRow (ComesOnOutput i) (ending_of output status)
+    ⊎ OverMap i (λ mapping. Stops mapping i.log (ending_of output status))
+EndsUntold i output (Err row) = ComesOnErrors i output row
+
+-- the log failed, and then standard error: what is found of the complete lines of all that came was printed whole, and
+-- a proper prefix of the text that tells it
+pub record FailsBoth (mapping : NumberedMap) (log : Reading) (e : WatchEnding) : Type 0 where
+  pub bytes : List ℕ
+  pub findings : List Finding
+  pub came : HasCome log bytes
+  pub finds : FindsComplete mapping.lines bytes findings
+  pub output : WritesWhole e.output (found_text mapping findings)
+  pub errors : AppendedPart e.errors.before e.errors.after log_failed_text

@@ -1,0 +1,168 @@
+//! How many lines of a log count as what, and how many frames the lines of a map accepted.
+ghost use Rattle.std.specs.Prelude.{◌≡◌, ◌≤◌, ◌+◌, ◌++◌, [], length, vec_len, vec_capacity};
+ghost use Rattle.hex.specs.Hex.{encode_lower};
+ghost use Rattle.watch_commands.specs.States.{counts_after};
+ghost use Rattle.watch_commands.specs.WatchTotals.{counts_of, named, count_line, counts_text};
+ghost use Rattle.watch_commands.specs.WatchTotals.{line_head, last_text, total_line};
+
+use itoa::Buffer;
+use text_lines::pushing::push_digits;
+use trace_audit::{FrameTally, MapLine, OtherLine, add_bytes};
+
+/// The numbers of a log, each in 64 bits.
+#[derive(Clone, Copy)]
+pub struct WatchCounts {
+    /// Mapped frames that were accepted.
+    pub accepted: u64,
+    /// Mapped frames that weren't.
+    pub failed: u64,
+    /// Data frames that no line of the map hears.
+    pub unmapped: u64,
+    /// Remote frames, error frames and frames of CAN XL.
+    pub other_frames: u64,
+    /// All other lines.
+    pub malformed: u64,
+}
+
+impl WatchCounts {
+    /// Before the log.
+    pub fn none() -> WatchCounts
+        ensures { result ≡ counts_of [] }
+    {
+        WatchCounts {
+            accepted: 0,
+            failed: 0,
+            unmapped: 0,
+            other_frames: 0,
+            malformed: 0,
+        }
+    }
+
+    /// Counts a line by what it counts as; `None` if it is skipped.
+    pub fn count(&mut self, tally: Option<FrameTally>)
+        ensures { self.new ≡ counts_after tally self.old }
+    {
+        match tally {
+            Some(FrameTally::Accepted(_)) => self.accepted = self.accepted.saturating_add(1),
+            Some(FrameTally::Failed(_)) => self.failed = self.failed.saturating_add(1),
+            Some(FrameTally::Other(OtherLine::Unmapped)) => {
+                self.unmapped = self.unmapped.saturating_add(1);
+            }
+            Some(FrameTally::Other(OtherLine::OtherFrame)) => {
+                self.other_frames = self.other_frames.saturating_add(1);
+            }
+            Some(FrameTally::Other(OtherLine::Malformed)) => {
+                self.malformed = self.malformed.saturating_add(1);
+            }
+            None => (),
+        }
+    }
+}
+
+/// Adds a name of at most 14 bytes and a number, in room for 54 bytes. It takes no memory.
+fn add_number(text: &mut Vec<u8>, name: &[u8], number: u64)
+    requires name { length name.now ≤ 14 }
+    requires room { vec_len text.old + 54 ≤ vec_capacity text.old }
+    ensures number { text.new.items ≡ text.old.items ++ named name.now number }
+    ensures few { vec_len text.new ≤ vec_len text.old + 54 }
+    ensures capacity { vec_capacity text.old ≤ vec_capacity text.new }
+{
+    let mut digits = Buffer::new();
+    add_bytes(text, name);
+    add_bytes(text, digits.format(number).as_bytes());
+}
+
+/// Adds the digits of at most 8 bytes, two a byte, in room for 16 bytes. It takes no memory.
+fn add_digits(text: &mut Vec<u8>, bytes: &[u8])
+    requires few { length bytes.now ≤ 8 }
+    requires room { vec_len text.old + 16 ≤ vec_capacity text.old }
+    ensures digits { text.new.items ≡ text.old.items ++ encode_lower bytes.now }
+    ensures few { vec_len text.new ≤ vec_len text.old + 16 }
+    ensures capacity { vec_capacity text.old ≤ vec_capacity text.new }
+{
+    push_digits(text, bytes).unwrap();
+}
+
+/// Adds a line of a name and a number, in room for 55 bytes. It takes no memory.
+fn add_count(text: &mut Vec<u8>, name: &[u8], number: u64)
+    requires name { length name.now ≤ 14 }
+    requires room { vec_len text.old + 55 ≤ vec_capacity text.old }
+    ensures line { text.new.items ≡ text.old.items ++ count_line name.now number }
+    ensures few { vec_len text.new ≤ vec_len text.old + 55 }
+    ensures capacity { vec_capacity text.old ≤ vec_capacity text.new }
+{
+    add_number(text, name, number);
+    text.push_reserved(b'\n');
+}
+
+/// Adds a line for each number of a log, in room for 275 bytes. It takes no memory.
+pub fn add_counts(text: &mut Vec<u8>, counts: &WatchCounts)
+    requires { vec_len text.old + 275 ≤ vec_capacity text.old }
+    ensures lines { text.new.items ≡ text.old.items ++ counts_text counts.now }
+    ensures capacity { vec_capacity text.old ≤ vec_capacity text.new }
+{
+    add_count(text, b"accepted ", counts.accepted);
+    add_count(text, b"failed ", counts.failed);
+    add_count(text, b"unmapped ", counts.unmapped);
+    add_count(text, b"other frames ", counts.other_frames);
+    add_count(text, b"malformed ", counts.malformed);
+}
+
+/// The numbers of a line of a map.
+#[derive(Clone, Copy)]
+pub struct LineCounts {
+    /// The number of the line in the map.
+    pub number: u64,
+    /// The frames that it accepted.
+    pub accepted: u64,
+    /// The frames that it didn't accept.
+    pub failed: u64,
+    /// The freshness that it accepted last.
+    pub last: u64,
+}
+
+/// Adds the line of these numbers of a line of a map, in room for 310 bytes. It takes no memory.
+pub fn add_line_counts(text: &mut Vec<u8>, entry: &MapLine, counts: &LineCounts)
+    requires { vec_len text.old + 310 ≤ vec_capacity text.old }
+    ensures line { text.new.items ≡ text.old.items
+        ++ total_line counts.now.number counts.now.accepted counts.now.failed counts.now.last entry.now }
+    ensures few { vec_len text.new ≤ vec_len text.old + 310 }
+    ensures capacity { vec_capacity text.old ≤ vec_capacity text.new }
+{
+    let missed = counts
+        .last
+        .saturating_sub(entry.counter)
+        .saturating_sub(counts.accepted);
+    add_line_head(text, entry, counts.number);
+    add_number(text, b" accepted ", counts.accepted);
+    add_number(text, b" failed ", counts.failed);
+    add_number(text, b" missed ", missed);
+    add_last(text, counts.last);
+}
+
+/// Adds the freshness that was accepted last, in room for 23 bytes. It takes no memory.
+fn add_last(text: &mut Vec<u8>, last: u64)
+    requires { vec_len text.old + 23 ≤ vec_capacity text.old }
+    ensures last { text.new.items ≡ text.old.items ++ last_text last }
+    ensures few { vec_len text.new ≤ vec_len text.old + 23 }
+    ensures capacity { vec_capacity text.old ≤ vec_capacity text.new }
+{
+    add_bytes(text, b" last ");
+    add_digits(text, &last.to_be_bytes());
+    text.push_reserved(b'\n');
+}
+
+/// Adds the number of a line of a map, its name or CAN identifier, and its Data ID, in room for 110 bytes. It takes no
+/// memory.
+fn add_line_head(text: &mut Vec<u8>, entry: &MapLine, number: u64)
+    requires { vec_len text.old + 110 ≤ vec_capacity text.old }
+    ensures head { text.new.items ≡ text.old.items ++ line_head number entry.now }
+    ensures few { vec_len text.new ≤ vec_len text.old + 110 }
+    ensures capacity { vec_capacity text.old ≤ vec_capacity text.new }
+{
+    add_number(text, b"line ", number);
+    add_bytes(text, b" ");
+    add_bytes(text, entry.head());
+    add_bytes(text, b" ");
+    add_digits(text, &entry.id.to_be_bytes());
+}

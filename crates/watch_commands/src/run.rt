@@ -1,0 +1,207 @@
+//! The program's one command.
+ghost use Rattle.std.specs.Prelude.{◌≡◌, [], map as each, List, ℕ, None, string_bytes};
+ghost use Rattle.bus_port.specs.Source.{SourceState};
+ghost use Rattle.bus_port.specs.Sink.{SinkState};
+ghost use Rattle.trace_audit.specs.Auditing.{Finding};
+ghost use Rattle.watch_commands.specs.States.{Watched};
+ghost use Rattle.watch_commands.specs.WatchRows.{EndsLog, EndsUntold, is_quiet, is_only_word, text_asked, watch_inputs};
+ghost use Rattle.watch_commands.specs.Watches.{Watches};
+ghost use Rattle.watch_commands.specs.WatchSteps.{PreparesWatch, SoFar, Turns};
+
+use crate::maps::read_watch_map;
+use crate::state::Watch;
+use bus_port::{PortFailed, Sink, Source};
+use program_edge::{DONE, Refusal, WRITE_FAULT, tell, tell_refusal};
+use std::alloc::{AllocError, Global};
+use trace_audit::{PIECE, names_inputs};
+
+const USAGE: &str = "usage: watch [--quiet] MAP LOG\n";
+
+/// What is printed for `--help`.
+const HELP: &str = "usage: watch [--quiet] MAP LOG
+Says of each frame of LOG that MAP names whether its Secured I-PDU verifies (AUTOSAR SecOC, profile 1).
+LOG is a log of candump -L; - is standard input. --quiet leaves the answers to accepted frames out.
+A line of MAP: CANID ID KEY FRESH LEN [WINDOW [CHANNEL]] [optional] [name=NAME] [# COMMENT]
+Status 0: each mapped frame was accepted, and one at least for each line of MAP that isn't optional.
+1: a mapped frame wasn't accepted. 3: a line of MAP accepted none. 2: usage. 4: MAP. 5, 8: input. 6: output. 7: memory.
+";
+
+/// What is printed for `--version`.
+const VERSION: &str = "watch (Rathonsi) 0.15.0\n";
+
+/// What is printed if the log fails.
+const LOG_FAILED: &str = "log: read fault\n";
+
+/// What is printed if 2^64 - 1 bytes and more came of the log.
+const LOG_TOO_LONG: &str = "log: input too long\n";
+
+/// Judges the frames of a log by a map while they come, and gives the status that the program ends with. Two words,
+/// which name the map and the log and may be any text, are the form of the words, the program's name left out. If
+/// `--quiet` stands before them, no answer to an accepted frame is printed. The map is read whole before the log is
+/// asked for. Each complete line of the log is answered on `sink` before the log is read again. Faults are told on
+/// `errors`. Every text that is printed ends with a line feed. `--help` or `--version` alone print a text, with status
+/// 0.
+///
+/// The statuses are looked for in the order 2, then 5, 8 and 4 of the map, and 7. Out of memory prints nothing, and
+/// comes only before the log. At the end of the log the status is 1 if a mapped frame wasn't accepted, 3 if a line of
+/// the map that isn't optional accepted none, else 0. If `sink` or `errors` fails the status is 6, and nothing more is
+/// asked of the log.
+pub fn run_watch<S: Source, T: Source, K: Sink, E: Sink>(
+    alloc: Global,
+    words: &[String],
+    map: &mut S,
+    log: &mut T,
+    sink: &mut K,
+    errors: &mut E,
+) -> u8
+    // `Watches` of specs/Watches.antt has a member for each promise, in the order of the table of answers.
+    ensures { Watches
+        (record {
+          words = each string_bytes words.now;
+          map = record { before = S.state map.old; after = S.state map.new };
+          log = record { before = T.state log.old; after = T.state log.new };
+        })
+        (record {
+          output = record { before = K.state sink.old; after = K.state sink.new };
+          errors = record { before = E.state errors.old; after = E.state errors.new };
+          status = result;
+        }) }
+{
+    match run_untold(alloc, words, map, log, sink) {
+        Ok(status) => status,
+        Err(refusal) => tell_refusal(errors, &refusal),
+    }
+}
+
+/// The run before a fault is told: its status, or the fault's row.
+fn run_untold<S: Source, T: Source, K: Sink>(
+    alloc: Global,
+    words: &[String],
+    map: &mut S,
+    log: &mut T,
+    sink: &mut K,
+) -> Result<u8, Refusal>
+    ensures { EndsUntold
+        (record {
+          words = each string_bytes words.now;
+          map = record { before = S.state map.old; after = S.state map.new };
+          log = record { before = T.state log.old; after = T.state log.new };
+        })
+        (record { before = K.state sink.old; after = K.state sink.new }) result }
+{
+    if is_only(words, "--help") {
+        return Ok(tell(sink, HELP.as_bytes(), DONE));
+    }
+    if is_only(words, "--version") {
+        return Ok(tell(sink, VERSION.as_bytes(), DONE));
+    }
+    match prepare(alloc, words, map) {
+        Ok(mut watch) => watch_log(&mut watch, log, sink),
+        Err(refusal) => Err(refusal),
+    }
+}
+
+/// Whether there is one word, and it is this.
+fn is_only(words: &[String], word: &str) -> bool
+    ensures { result ≡ is_only_word word.now (each string_bytes words.now) }
+{
+    match words {
+        [only] => only.as_str() == word,
+        _ => false,
+    }
+}
+
+/// The words and the map: the watch before the log, or the first refusal that applies.
+fn prepare<S: Source>(alloc: Global, words: &[String], map: &mut S) -> Result<Watch, Refusal>
+    ensures { (log : SourceState) (sink : SinkState) → text_asked (each string_bytes words.now) ≡ None → PreparesWatch
+        (record {
+          words = each string_bytes words.now;
+          map = record { before = S.state map.old; after = S.state map.new };
+          log = record { before = log; after = log };
+        })
+        (record { before = sink; after = sink })
+        result }
+{
+    if !names_inputs(inputs_of(words)) {
+        return Err(Refusal::fixed(2, USAGE));
+    }
+    let map = read_watch_map(alloc, map, says_quiet(words))?;
+    match Watch::new(alloc, map) {
+        Ok(watch) => Ok(watch),
+        Err(AllocError) => Err(Refusal::no_memory()),
+    }
+}
+
+/// Whether the first word is `--quiet`.
+fn says_quiet(words: &[String]) -> bool
+    ensures { result ≡ is_quiet (each string_bytes words.now) }
+{
+    match words {
+        [first, ..] => first.as_str() == "--quiet",
+        [] => false,
+    }
+}
+
+/// The words behind `--quiet`, or all.
+pub fn inputs_of(words: &[String]) -> &[String]
+    ensures { each string_bytes result.now ≡ watch_inputs (each string_bytes words.now) }
+{
+    if says_quiet(words) {
+        &words[1..]
+    } else {
+        words
+    }
+}
+
+/// Watches a log to its end: its status, or the row of its fault.
+fn watch_log<T: Source, K: Sink>(
+    watch: &mut Watch,
+    log: &mut T,
+    sink: &mut K,
+) -> Result<u8, Refusal>
+    requires { Watched watch.old [] [] }
+    ensures { EndsLog watch.old.mapping (record { before = T.state log.old; after = T.state log.new })
+        (record { before = K.state sink.old; after = K.state sink.new }) result }
+{
+    let mut piece = [0u8; PIECE];
+    for _ in 0..u64::MAX {
+        match next_piece(watch, log, &mut piece, sink) {
+            Some(end) => return end,
+            None => (),
+        }
+    }
+    Err(Refusal::fixed(8, LOG_TOO_LONG))
+}
+
+/// Takes the next piece of the log. A status or a fault's row if it ended, or a port failed.
+fn next_piece<T: Source, K: Sink>(
+    watch: &mut Watch,
+    log: &mut T,
+    piece: &mut [u8; PIECE],
+    sink: &mut K,
+) -> Option<Result<u8, Refusal>>
+    ensures mapping { watch.new.mapping ≡ watch.old.mapping }
+    ensures turns { (first : SourceState) (start : SinkState) (bytes : List ℕ) (findings : List Finding)
+        → SoFar (record {
+          log = record { before = first; after = T.state log.old };
+          before = start;
+          after = K.state sink.old;
+        }) watch.old bytes findings
+        → Turns (record {
+          log = record { before = first; after = T.state log.new };
+          before = start;
+          after = K.state sink.new;
+        }) watch.new bytes findings result }
+{
+    let count = match log.read(piece) {
+        Ok(count) => count,
+        Err(PortFailed) => return Some(Err(Refusal::fixed(5, LOG_FAILED))),
+    };
+    if count == 0 {
+        return Some(Ok(watch.finish(sink)));
+    }
+    match watch.take(&piece[..count], sink) {
+        Ok(()) => None,
+        Err(PortFailed) => Some(Ok(WRITE_FAULT)),
+    }
+}
