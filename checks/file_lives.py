@@ -263,19 +263,21 @@ class Room:
             self.disk.write_bytes(image)
 
     def run(self, script, **preload):
-        """A life: its status, its whole lines, and the last line of its standard error."""
+        """A life of `node`."""
         self.script.write_text(script.text())
+        return self.live([PROGRAM, "node", self.bus, self.script, self.disk], **preload)
+
+    def live(self, words, given=subprocess.DEVNULL, **preload):
+        """A run of a program over the disk: its status, its whole lines, and the last line of its standard error."""
         environment = dict(os.environ)
         if preload:
             environment |= {"LD_PRELOAD": self.library, "FILE_NAME": str(self.disk)} | {name: str(value) for name, value in preload.items()}
-        words = [PROGRAM, "node", str(self.bus), str(self.script), str(self.disk)]
         try:
-            run = subprocess.run(words, stdin=subprocess.DEVNULL, capture_output=True, env=environment, timeout=SECONDS)
+            run = subprocess.run(words, stdin=given, capture_output=True, env=environment, timeout=SECONDS)
         except subprocess.TimeoutExpired:
             return f"none in {SECONDS} seconds", [], ""
-        whole = run.stdout[: run.stdout.rfind(b"\n") + 1].decode()
         said = run.stderr.decode(errors="replace").splitlines()
-        return run.returncode, whole.splitlines(), said[-1] if said else ""
+        return run.returncode, whole_lines(run.stdout), said[-1] if said else ""
 
     def ask(self, printed, torn=False):
         """What the next life over the disk, and the one behind it, take back. Where the first header may be torn and nothing was printed, the disk may be
@@ -585,13 +587,18 @@ def failing_file(room, checks):
             checks.check(f"{name}, {way} {at} ({call})", wrong + room.ask(now))
 
 
-def main(words):
-    name, library = words
+def over_disks(name, library, does):
+    """Makes the checks of this name in a folder in memory, if there is one."""
     checks = Checks(name)
     memory = "/dev/shm" if os.access("/dev/shm", os.W_OK) else None
     with tempfile.TemporaryDirectory(dir=memory) as folder:
-        {"killed_node": killed_node, "cut_file": cut_file, "failing_file": failing_file}[name](Room(folder, library), checks)
+        does(Room(folder, library), checks)
     return checks.end()
+
+
+def main(words):
+    name, library = words
+    return over_disks(name, library, {"killed_node": killed_node, "cut_file": cut_file, "failing_file": failing_file}[name])
 
 
 if __name__ == "__main__":

@@ -14,7 +14,7 @@ use crate::inputs::{drawn_events, questions_from};
 use crate::job::{Job, LineJob, WorldJob};
 use crate::replay::replay;
 use crate::trial::trial;
-use crate::words::{Command, LineCommand, WorldCommand, asked_of};
+use crate::words::{Command, LineCommand, WorldCommand, command_line};
 use bus_config::BusConfig;
 use bus_port::{Sink, Source};
 use bus_programs::{BusScript, bus_from, script_from};
@@ -71,7 +71,14 @@ pub fn run<S: Source, T: Source, K: Sink, D: CutDisk>(
         (disks_between D.state disks.old disks.new)
         (record { before = K.state sink.old; after = K.state sink.new; status = result }) }
 {
-    run_asked(alloc, asked_of(words).command, config, script, sink, disks)
+    run_asked(
+        alloc,
+        command_line(words).command,
+        config,
+        script,
+        sink,
+        disks,
+    )
 }
 
 /// Runs the command that some words ask for, or tells the usage line, as [`run`] does.

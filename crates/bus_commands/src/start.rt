@@ -11,7 +11,7 @@ ghost use Rattle.bus_commands.specs.StartRows.{disks_between};
 ghost use Rattle.bus_commands.specs.Named.{RunsOver, AreGiven, RunsNamed};
 
 use crate::run::run_asked;
-use crate::words::{Asked, Command, asked_of};
+use crate::words::{Command, CommandLine, command_line};
 use bus_port::{Sink, Source};
 use bus_programs::{blank_disks, unopened};
 use cut_disk::{CutDisk, MemDisk};
@@ -61,7 +61,7 @@ pub fn bus_words<O: Opener, P: DiskOpener, I: Source + Drop, K: Sink>(
     // `node` alone.
     ensures starts { (result.0 ≡ 9) ⊎ (result.0 ≡ 10) → Asks (map string_bytes words.now) (World (Replay Attach)) }
 {
-    let asked = asked_of(words);
+    let asked = command_line(words);
     match asked.disk {
         Some(path) => match open_disk(alloc, disk_opener, path) {
             Ok(mut disks) => {
@@ -89,7 +89,7 @@ fn run_over<O: Opener, I: Source + Drop, K: Sink, D: CutDisk>(
     alloc: Global,
     opener: &mut O,
     input: &mut Option<I>,
-    asked: &Asked<'_>,
+    asked: &CommandLine<'_>,
     sink: &mut K,
     disks: &mut Vec<D>,
 ) -> (u8, WordSource<O::Opened, I>, WordSource<O::Opened, I>)

@@ -42,7 +42,7 @@ pub enum WorldCommand {
 
 /// What the arguments ask for, and what they name.
 #[derive(Drop)]
-pub struct Asked<'a> {
+pub struct CommandLine<'a> {
     /// The command. None if the arguments are malformed.
     pub command: Option<Command>,
     /// The argument that names the bus file. None if the command reads none, or the arguments are malformed.
@@ -57,20 +57,20 @@ pub struct Asked<'a> {
 }
 
 /// What the arguments ask for, the program's name left out. `B` and `F` may be any text.
-pub fn asked_of(words: &[String]) -> Asked<'_>
+pub fn command_line(words: &[String]) -> CommandLine<'_>
     ensures { IsAsked (map string_bytes words.now) result.command (option_map (λ w. w.now) result.config)
         (option_map (λ w. w.now) result.script) (option_map (λ w. w.now) result.disk) }
 {
     match words {
-        [] => Asked {
+        [] => CommandLine {
             command: Some(Command::Lines(LineCommand::Frame)),
             config: None,
             script: Some("-"),
             disk: None,
         },
-        [name, file] => asked_of_two(name.as_str(), file.as_str()),
-        [name, bus, file] => asked_of_three(name.as_str(), bus.as_str(), file.as_str()),
-        [name, bus, third, fourth] => asked_of_four(
+        [name, file] => command_line_of_two(name.as_str(), file.as_str()),
+        [name, bus, file] => command_line_of_three(name.as_str(), bus.as_str(), file.as_str()),
+        [name, bus, third, fourth] => command_line_of_four(
             name.as_str(),
             bus.as_str(),
             third.as_str(),
@@ -81,13 +81,13 @@ pub fn asked_of(words: &[String]) -> Asked<'_>
 }
 
 /// What malformed arguments ask for.
-fn nothing<'a>() -> Asked<'a>
+fn nothing<'a>() -> CommandLine<'a>
     ensures command { result.command ≡ None }
     ensures config { option_map (λ w. w.now) result.config ≡ None }
     ensures script { option_map (λ w. w.now) result.script ≡ None }
     ensures disk { option_map (λ w. w.now) result.disk ≡ None }
 {
-    Asked {
+    CommandLine {
         command: None,
         config: None,
         script: None,
@@ -96,13 +96,13 @@ fn nothing<'a>() -> Asked<'a>
 }
 
 /// What two arguments ask for: a command's name, and the file of its lines.
-fn asked_of_two<'a>(name: &str, file: &'a str) -> Asked<'a>
+fn command_line_of_two<'a>(name: &str, file: &'a str) -> CommandLine<'a>
     ensures { IsAsked (name.now ∷ file.now ∷ []) result.command (option_map (λ w. w.now) result.config)
         (option_map (λ w. w.now) result.script) (option_map (λ w. w.now) result.disk) }
 {
     match over_lines(name) {
         None => nothing(),
-        Some(command) => Asked {
+        Some(command) => CommandLine {
             command: Some(command),
             config: None,
             script: Some(file),
@@ -112,13 +112,13 @@ fn asked_of_two<'a>(name: &str, file: &'a str) -> Asked<'a>
 }
 
 /// What three arguments ask for: a command's name, the bus file and the script.
-fn asked_of_three<'a>(name: &str, bus: &'a str, file: &'a str) -> Asked<'a>
+fn command_line_of_three<'a>(name: &str, bus: &'a str, file: &'a str) -> CommandLine<'a>
     ensures { IsAsked (name.now ∷ bus.now ∷ file.now ∷ []) result.command (option_map (λ w. w.now) result.config)
         (option_map (λ w. w.now) result.script) (option_map (λ w. w.now) result.disk) }
 {
     match over_a_bus(name) {
         None => nothing(),
-        Some(command) => Asked {
+        Some(command) => CommandLine {
             command: Some(command),
             config: Some(bus),
             script: beside(bus, file),
@@ -129,7 +129,12 @@ fn asked_of_three<'a>(name: &str, bus: &'a str, file: &'a str) -> Asked<'a>
 
 /// What four arguments ask for: a command's name, the bus file, and the script and the disk on which a bus goes on,
 /// or a number of events and a seed.
-fn asked_of_four<'a>(name: &str, bus: &'a str, third: &'a str, fourth: &'a str) -> Asked<'a>
+fn command_line_of_four<'a>(
+    name: &str,
+    bus: &'a str,
+    third: &'a str,
+    fourth: &'a str,
+) -> CommandLine<'a>
     ensures { IsAsked (name.now ∷ bus.now ∷ third.now ∷ fourth.now ∷ []) result.command
         (option_map (λ w. w.now) result.config) (option_map (λ w. w.now) result.script)
         (option_map (λ w. w.now) result.disk) }
@@ -141,7 +146,12 @@ fn asked_of_four<'a>(name: &str, bus: &'a str, third: &'a str, fourth: &'a str) 
 }
 
 /// What four arguments ask for, if the first, the third and the fourth ask for this command.
-fn with_world<'a>(command: WorldCommand, bus: &'a str, third: &'a str, fourth: &'a str) -> Asked<'a>
+fn with_world<'a>(
+    command: WorldCommand,
+    bus: &'a str,
+    third: &'a str,
+    fourth: &'a str,
+) -> CommandLine<'a>
     ensures { (name : List ℕ) → Asks (name ∷ bus.now ∷ third.now ∷ fourth.now ∷ []) (World command)
         → IsAsked (name ∷ bus.now ∷ third.now ∷ fourth.now ∷ []) result.command (option_map (λ w. w.now) result.config)
         (option_map (λ w. w.now) result.script) (option_map (λ w. w.now) result.disk) }
@@ -153,13 +163,13 @@ fn with_world<'a>(command: WorldCommand, bus: &'a str, third: &'a str, fourth: &
 }
 
 /// What they ask for if a bus goes on over its disk.
-fn with_disk<'a>(start: Start, bus: &'a str, file: &'a str, disk: &'a str) -> Asked<'a>
+fn with_disk<'a>(start: Start, bus: &'a str, file: &'a str, disk: &'a str) -> CommandLine<'a>
     ensures { (name : List ℕ) → Asks (name ∷ bus.now ∷ file.now ∷ disk.now ∷ []) (World (Replay start))
         → IsAsked (name ∷ bus.now ∷ file.now ∷ disk.now ∷ []) result.command (option_map (λ w. w.now) result.config)
         (option_map (λ w. w.now) result.script) (option_map (λ w. w.now) result.disk) }
 {
     let script = beside(bus, file);
-    Asked {
+    CommandLine {
         command: Some(Command::World(WorldCommand::Replay(start))),
         config: Some(bus),
         script,
@@ -168,12 +178,12 @@ fn with_disk<'a>(start: Start, bus: &'a str, file: &'a str, disk: &'a str) -> As
 }
 
 /// What they ask for if it is a trial.
-fn with_trial(trial: TrialWords, bus: &str) -> Asked<'_>
+fn with_trial(trial: TrialWords, bus: &str) -> CommandLine<'_>
     ensures { (name third fourth : List ℕ) → Asks (name ∷ bus.now ∷ third ∷ fourth ∷ []) (World (Trial trial))
         → IsAsked (name ∷ bus.now ∷ third ∷ fourth ∷ []) result.command (option_map (λ w. w.now) result.config)
         (option_map (λ w. w.now) result.script) (option_map (λ w. w.now) result.disk) }
 {
-    Asked {
+    CommandLine {
         command: Some(Command::World(WorldCommand::Trial(trial))),
         config: Some(bus),
         script: None,

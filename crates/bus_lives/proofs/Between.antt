@@ -49,7 +49,7 @@ cut_twice t mid new one cuts =
     let same : two.left ≡ one.left = image_of_firm two.image in
     record { left = one.left; image = one.image; now = two.now ∙ ap (λ (b : List ℕ). Some (firm b)) same }
 
-left_joins : (a b c : DiskState) → LeftToNext a b → LeftToNext b c → LeftToNext a c
+pub left_joins : (a b c : DiskState) → LeftToNext a b → LeftToNext b c → LeftToNext a c
 left_joins a b c (inl same) (inl again) = inl (again ∙ same)
 left_joins a b c (inl same) (inr cuts) = inr (subst (λ (o : Option Told). CutsTo o c.told) same cuts)
 left_joins a b c (inr cuts) (inl again) = inr (subst (λ (o : Option Told). CutsTo a.told o) (sym again) cuts)
@@ -254,7 +254,7 @@ module _ (life : Life) (has : HasConfigs life.bus life.first) (run : IsLife life
     found_to_move : life.bus.version ≡ One → start.bus.version ≡ Two → NoneNewer life.bus start.before
         → LeftToNext (get_or life.after i d) old → StandsFound life.bus.kind (node_at life.last i) old
     found_to_move one two none left =
-        let fit = run.disks.fit i d inside in
+        let fit = run.fit i d inside in
         let found = finds_image (get_or life.after i d) old fit.now fit.told left in
         let x : List ℕ = found.now.bytes in
         let n : ℕ = cells_in (node_at life.last i).config in
@@ -310,7 +310,7 @@ module _ (life : Life) (has : HasConfigs life.bus life.first) (run : IsLife life
       → NoNewer life.bus.kind next.version (cells_in (node_at life.last i).config) t.bytes)
       → AsLeft starts i d (get_or found i d) → FoundNow life.bus.kind (node_at life.last i) (get_or found i d)
   left_now starts next found i d inside as_bus none left =
-      let fit = run.disks.fit i d inside in
+      let fit = run.fit i d inside in
       let image = finds_image (get_or life.after i d) (get_or found i d) fit.now fit.told left.0 in
       let x : List ℕ = image.now.bytes in
       let n : ℕ = cells_in (node_at life.last i).config in

@@ -8,10 +8,12 @@ use Rattle.bus_laws.proofs.CallerLemmas.{AllPairs-Pairwise}
 use Rattle.bus_config.specs.declared.node_lines.NodeLine.{NodeLine}
 use Rattle.bus_config.specs.Buses.{NamedBus}
 use Rattle.bus_world.specs.declared.start.Start.TheVariants.{Attach}
-use Rattle.bus_world.specs.WorldTurns.{StartsSetUp, StartsGoOnFirst, TurnsAreWorldRuns}
+use Rattle.bus_world.specs.Worlds.{world_of}
+use Rattle.bus_world.specs.WorldTurns.{seen, StartsSetUp, StartsGoOnFirst, TurnsAreWorldRuns}
 use Rattle.bus_lives.specs.Lives.{Life, IsLife, Follows, IsFirstLife, LivesBehind, LivesOf, moments_in, Stage}
 use Rattle.bus_lives.specs.Lives.{moment_passes, stages_in, world_behind, EachPowersUp, LivesGoOn, EachLife, LeavesNodes}
 use Rattle.bus_lives.specs.Lives.{StartsLeaveNodes, NextBlamesNoBytes, OutlastsRefusals, AttachedRunsFollow}
+use Rattle.bus_lives.specs.Lives.{WorldRunsAreLives}
 use Rattle.bus_lives.proofs.Stages.{StagesFrom, stages_join, Restarts, Chained}
 use Rattle.bus_lives.proofs.Rising.{moments_of, stages_rise, stages_are_single}
 use Rattle.bus_lives.proofs.Keeping.{slots_outlast, updates_outlast}
@@ -176,11 +178,23 @@ refused_starts_leave_lives = λ bus done life later are.
 
 -- ---- where lives come from
 
+pub world_runs_are_lives : WorldRunsAreLives
+world_runs_are_lives = λ bus before after first events moments last run. record {
+  begins = run.begins;
+  is_a_run = run.is_a_run;
+  of_events = run.of_events;
+  fit = λ i d inside.
+      let there = run.disks.fit i d inside in
+      record { now = there.now; told = there.told; fit = there.fit };
+}
+
 pub attached_follow : StartsSetUp → StartsGoOnFirst → TurnsAreWorldRuns → AttachedRunsFollow
 attached_follow set_up go_on world_runs =
     λ bus life starts most before after events start moments now is run left as_bus firm started taken.
-    let first = go_on bus most before start is started firm in (
+    let first = go_on bus most before start is started firm in
+    let whole = world_runs bus before after events start moments now (set_up Attach bus most before start started)
+    first.fits first.is_first taken in (
       record { starts = starts; disks = left; as_bus = as_bus; goes_on = first.goes_on },
-      world_runs bus before after events start moments now (set_up Attach bus most before start started) first.fits
-          first.is_first taken,
+      world_runs_are_lives bus before after (world_of start) events (seen moments) (world_of now) whole,
+      whole,
     )

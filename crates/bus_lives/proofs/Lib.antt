@@ -4,3 +4,4 @@ pub mod Keeping
 pub mod Seams
 pub mod Between
 pub mod Chain
+pub mod CallerLemmas

@@ -1,7 +1,8 @@
 -- What a life leaves: its disks stand for what its nodes may keep, so that each node is started over them
-use Rattle.std.specs.Prelude.{◌≡◌, ◌⊎◌, ℕ, ◌<◌, Option, None, Some, List, length, option_map, get_or}
+use Rattle.std.specs.Prelude.{◌≡◌, ◌⊎◌, ℕ, ◌<◌, Option, None, Some, List, [], ◌∷◌, length, option_map, get_or, All}
 use Rattle.std.proofs.Common.{refl, sym, ◌∙◌, ap, subst, arith, inl, inr}
 use Rattle.std.proofs.lemmas.List.{length-map, get_or-map}
+use Rattle.std.proofs.lemmas.List.Elements.{All-head}
 use Rattle.std.proofs.lemmas.Option.{same_Some, none-some}
 use Rattle.cut_disk.specs.State.{DiskState, Told}
 use Rattle.cut_disk.specs.Images.{Image, firm}
@@ -17,13 +18,13 @@ use Rattle.any_cells.specs.declared.looking.Found.{Found}
 use Rattle.any_cells.specs.declared.looking.Found.TheVariants.{Blank, Standing, Older, Foreign}
 use Rattle.any_cells.specs.Looking.{IsBlank, IsFound}
 use Rattle.any_cells.proofs.CallerLemmas.{found-once}
-use Rattle.freshness_routes.specs.Config.{Config}
+use Rattle.freshness_routes.specs.Config.{Config, IsConfig}
 use Rattle.bus_machine.specs.Node.{Node, Kept, Change, changed, powered}
 use Rattle.bus_machine.specs.Sound.{Sound}
 use Rattle.bus_machine.specs.Steps.{PowersUp}
 use Rattle.bus_machine.specs.Bus.{World, First, node_at, no_config, SoundBus}
 use Rattle.bus_config.specs.declared.node_lines.NodeLine.{NodeLine}
-use Rattle.bus_config.specs.Buses.{NamedBus, configs_of}
+use Rattle.bus_config.specs.Buses.{NamedBus, IsNodeLine, IsNamedBus, configs_of}
 use Rattle.bus_laws.proofs.CallerLemmas.{pending_forward, first_at, Grows-run, Sound-run, as_many_run}
 use Rattle.secoc_node.specs.Cells.{CellsOf}
 use Rattle.secoc_node.specs.Fits.{node_keeping, FitsNode}
@@ -189,6 +190,14 @@ kept_cells kind next config x cells kept size counted k = elim k.kept_as [
       stood.1 counted
 ]
 
+-- the same for cells that stand in the version of the bus
+pub kept_stands : (kind : Kind) (version : Version) (config : Config) (x : List ℕ) (cells : List (List ℕ)) (kept : Kept)
+    → length cells ≡ cells_in config → Stands (layout kind version) x cells
+    → KeptOn Attach kind version config x kept → CellsOf config kept ≡ cells
+kept_stands kind version config x cells kept size stands k =
+    kept_cells kind version config x cells kept size
+    (as_counted kind version (cells_in config) x cells size stands (kept_no_newer kind version config x kept k)) k
+
 -- and so a node is started over bytes that stand for what is found of a node
 pub can_start : (kind : Kind) (next : Version) (node : Node) (cells : List (List ℕ)) (x : List ℕ) → Sound node
     → FoundCells node cells → StandsAsCounted kind cells x → NoNewer kind next (cells_in node.config) x
@@ -230,6 +239,11 @@ node_powers kind next node after cells x kept s may counted k is =
     (kept_cells kind next node.config x cells kept (found_size node cells s may) counted k) may
 
 -- ---- the bus
+
+-- the configuration of the one node of a bus
+pub config_of_node : (bus : NamedBus) (node : NodeLine) → IsNamedBus bus → bus.nodes ≡ node ∷ [] → IsConfig node.config
+config_of_node bus node is one =
+    (All-head IsNodeLine node [] (subst (λ (nodes : List NodeLine). All IsNodeLine nodes) one is.are_nodes)).config
 
 -- each node has the configuration of its line
 abbrev pub HasConfigs : NamedBus → World → Type 0
@@ -322,7 +336,7 @@ module _ (life : Life) (has : HasConfigs life.bus life.first) (run : IsLife life
   fits_last : (i : ℕ) (d : DiskState) (t : Told) → i < length life.bus.nodes → (get_or life.after i d).told ≡ Some t
       → FitsNode (layout life.bus.kind life.bus.version) (node_at life.last i) t
   fits_last i d t inside told =
-      let fit = run.disks.fit i d inside in
+      let fit = run.fit i d inside in
       subst (λ (u : Told). FitsNode (layout life.bus.kind life.bus.version) (node_at life.last i) u)
       (same_Some fit.now t (sym fit.told ∙ told)) fit.fit
 
@@ -358,7 +372,7 @@ module _ (life : Life) (has : HasConfigs life.bus life.first) (run : IsLife life
       → LeavesDisk Attach life.bus.kind life.bus.version (node_at life.last i).config before after
       → after.told ≡ before.told
   own_start_stays i d before after inside left leaves =
-      let fit = run.disks.fit i d inside in
+      let fit = run.fit i d inside in
       let found = finds_image (get_or life.after i d) before fit.now fit.told left in
       let own = own_stands i d fit.now found.now.bytes inside fit.told found.image in
       own_stays life.bus.kind life.bus.version (node_at life.last i).config before after found.now found.tells

@@ -1,24 +1,28 @@
 -- The lives of a bus: its runs, one after another over the same disks
-use Rattle.std.specs.Prelude.{◌≡◌, ℕ, ◌<◌, ◌⊎◌, Some, List, [], ◌∷◌, ◌++◌, length, map, get_or, AllPairs}
-use Rattle.key_slots.specs.declared.memory.Slot.{Slot}
-use Rattle.cut_disk.specs.State.{DiskState, Told}
-use Rattle.cut_disk.specs.Images.{Image, firm, CutsTo}
+use Rattle.std.specs.Prelude.{◌≡◌, ℕ, ◌<◌, ◌⊎◌, Some, List, [], ◌∷◌, ◌++◌, length, map, take, get_or, AllPairs}
+pub use Rattle.key_slots.specs.declared.memory.Slot.{Slot}
+pub use Rattle.cut_disk.specs.State.{DiskState, Told}
+pub use Rattle.cut_disk.specs.Images.{Image, firm}
+use Rattle.cut_disk.specs.Images.{CutsTo}
 use Rattle.cell_store.specs.declared.kinds.Kind.{Kind}
 use Rattle.cell_store.specs.declared.kinds.Version.{Version}
 use Rattle.cell_store.specs.declared.kinds.Version.TheVariants.{One, Two}
 use Rattle.cell_store.specs.declared.faults.Reread.TheVariants as reread
+use Rattle.cell_store.specs.Layout.{layout}
 use Rattle.cell_store.specs.Moving.{CountsAs}
 use Rattle.any_cells.specs.declared.looking.Found.TheVariants.{Older}
 use Rattle.any_cells.specs.Looking.{IsFound}
-use Rattle.machine_runs.specs.Run.{Moment}
+use Rattle.machine_runs.specs.Run.{Moment, Run, commands_in}
 use Rattle.bus_machine.specs.declared.events.Event.{Event}
 use Rattle.bus_machine.specs.declared.lines.Line.{Line}
+use Rattle.bus_machine.specs.Node.{Node}
 use Rattle.bus_machine.specs.Steps.{PowersUp}
-use Rattle.bus_machine.specs.Bus.{World, First, Instant, Moments, node_at}
+use Rattle.bus_machine.specs.Bus.{World, First, Instant, Moments, Step, node_at}
 use Rattle.bus_machine.specs.Freshness.{Rising, Single}
 use Rattle.bus_machine.specs.KeysKept.{slot_in, Acknowledges, FailsUpdate, GoesOn}
-use Rattle.bus_config.specs.declared.node_lines.NodeLine.{NodeLine}
-use Rattle.bus_config.specs.Buses.{NamedBus, IsNamedBus, configs_of}
+pub use Rattle.bus_config.specs.declared.node_lines.NodeLine.{NodeLine}
+pub use Rattle.bus_config.specs.Buses.{NamedBus, IsNamedBus}
+use Rattle.bus_config.specs.Buses.{configs_of}
 use Rattle.bus_world.specs.declared.start.Start.TheVariants.{Attach}
 use Rattle.bus_world.specs.declared.start.StartFault.{StartFault}
 use Rattle.bus_world.specs.declared.start.StartFault.TheVariants as start_fault
@@ -26,7 +30,8 @@ use Rattle.bus_world.specs.Worlds.{BusState, world_of}
 use Rattle.bus_world.specs.TakingUp.{cells_in}
 use Rattle.bus_world.specs.Starts.{Started, NotStarted, StartsOver}
 use Rattle.bus_world.specs.StartRows.{CanStart}
-use Rattle.bus_world.specs.WorldRuns.{WorldRun}
+use Rattle.bus_world.specs.Turns.{FitsNode}
+use Rattle.bus_world.specs.WorldRuns.{IsFirstOf, WorldRun}
 use Rattle.bus_world.specs.WorldTurns.{seen, TakesTurns, TellFirm}
 
 -- One life of a bus: the bus as it then was, the disks that it found, its first world, its events, its moments, and the
@@ -43,9 +48,23 @@ pub record Life : Type 0 where
   pub last : World
   pub after : List DiskState
 
--- it is a run of the bus over disks that tell their bytes
-abbrev pub IsLife : Life → Type 0
-IsLife life = WorldRun life.first life.bus life.before life.after life.events life.moments life.last
+-- the disk tells bytes that stand, whatever a power cut leaves of them, for what this node of a bus keeps
+pub record TellsNode (bus : NamedBus) (node : Node) (disk : DiskState) : Type 0 where
+  pub now : Told
+  pub told : disk.told ≡ Some now
+  pub fit : FitsNode (layout bus.kind bus.version) node now
+
+-- It is a run of the machine, from a first world of its bus, over disks that tell their bytes. A `WorldRun` is one; so
+-- is a run whose events are so many that no line could tell the number of one.
+pub record IsLife (life : Life) : Type 0 where
+  -- Each node is sound, up and at the bounds that it keeps; a Data ID has one sender.
+  pub begins : IsFirstOf life.bus life.first
+  -- Each moment is a step of the machine; their events are the first of those of the life.
+  pub is_a_run : Run Step life.first life.moments life.last
+  pub of_events : commands_in life.moments ≡ take (length life.moments) life.events
+  -- The disk of each node stands for what the node keeps at last.
+  pub fit : (i : ℕ) (d : DiskState) → i < length life.bus.nodes
+      → TellsNode life.bus (node_at life.last i) (get_or life.after i d)
 
 -- ---- what a life leaves to the next
 
@@ -112,13 +131,17 @@ pub record IsUnfinished (start : UnfinishedStart) : Type 0 where
   pub not_started : NotStarted Attach start.bus start.before start.after start.fault
   pub older_is_firm : OlderIsFirm start.bus start.before
 
--- the disks that are found after a life and these starts, the latest first. Each start found them as the life or the
--- start before it left them, or as a power cut may leave them. It is of the bus as it goes on there
+-- The disks that are found after a bus left these, and after these starts, the latest first. Each start found them as
+-- the bus or the start before it left them, or as a power cut may leave them. It is of the bus as it goes on there.
+abbrev pub FoundBehindStarts : NamedBus → List DiskState → List UnfinishedStart → List DiskState → Type 0
+FoundBehindStarts bus left [] found = EachLeft (length bus.nodes) left found
+FoundBehindStarts bus left (start ∷ earlier) found =
+    FoundBehindStarts bus left earlier start.before × GoesOnAs bus earlier start.bus start.before
+    × IsUnfinished start × EachLeft (length bus.nodes) start.after found
+
+-- those that are found after a life
 abbrev pub LeftBehindStarts : Life → List UnfinishedStart → List DiskState → Type 0
-LeftBehindStarts life [] found = EachLeft (length life.bus.nodes) life.after found
-LeftBehindStarts life (start ∷ earlier) found =
-    LeftBehindStarts life earlier start.before × GoesOnAs life.bus earlier start.bus start.before
-    × IsUnfinished start × EachLeft (length life.bus.nodes) start.after found
+LeftBehindStarts life = FoundBehindStarts life.bus life.after
 
 -- a life goes on over the disks that the one before it left, or starts after it that weren't finished
 pub record Follows (life next : Life) : Type 0 where
@@ -275,21 +298,33 @@ EachLife P =
 
 -- ---- where they come from
 
--- the life of turns of a bus
-abbrev pub life_of : NamedBus → List DiskState → List DiskState → List Event → BusState
-    → List (Moment Event Line BusState) → BusState → Life
-life_of bus before after events start moments now = record {
+-- the life of a run of a bus over these disks
+abbrev pub life_over : NamedBus → List DiskState → List DiskState → World → List Event → Moments → World → Life
+life_over bus before after first events moments last = record {
   bus = bus;
   before = before;
-  first = world_of start;
+  first = first;
   events = events;
-  moments = seen moments;
-  last = world_of now;
+  moments = moments;
+  last = last;
   after = after;
 }
 
--- Turns of a bus that was started over attached disks are a life that follows. The disks are what a life and starts
--- after it left, or what power cuts left of that. No byte of them may be loose; after a power cut none is.
+-- such a run is a life: all that a life needs, `WorldRun` has
+abbrev pub WorldRunsAreLives : Type 0
+WorldRunsAreLives = (bus : NamedBus) (before after : List DiskState) (first : World) (events : List Event)
+    (moments : Moments) (last : World) → WorldRun first bus before after events moments last
+    → IsLife (life_over bus before after first events moments last)
+
+-- the life of turns of a bus
+abbrev pub life_of : NamedBus → List DiskState → List DiskState → List Event → BusState
+    → List (Moment Event Line BusState) → BusState → Life
+life_of bus before after events start moments now =
+    life_over bus before after (world_of start) events (seen moments) (world_of now)
+
+-- Turns of a bus that was started over attached disks are a life that follows, with all that `WorldRun` says. The
+-- disks are what a life and starts after it left, or what power cuts left of that. No byte of them may be loose; after
+-- a power cut none is.
 abbrev pub AttachedRunsFollow : Type 0
 AttachedRunsFollow = (bus : NamedBus) (life : Life) (starts : List UnfinishedStart) (most : ℕ)
     (before after : List DiskState) (events : List Event)
@@ -299,3 +334,4 @@ AttachedRunsFollow = (bus : NamedBus) (life : Life) (starts : List UnfinishedSta
     → Started Attach bus most before start → TakesTurns bus before after events start moments now
     → Follows life (life_of bus before after events start moments now)
     × IsLife (life_of bus before after events start moments now)
+    × WorldRun (world_of start) bus before after events (seen moments) (world_of now)

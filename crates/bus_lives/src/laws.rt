@@ -1,6 +1,6 @@
 //! The laws of the lives of a bus.
 ghost use Rattle.bus_lives.specs.Lives.{AllLivesGoOn, EachLife, LeavesNodes, StartsLeaveNodes};
-ghost use Rattle.bus_lives.specs.Lives.{NextBlamesNoBytes, OutlastsRefusals, AttachedRunsFollow};
+ghost use Rattle.bus_lives.specs.Lives.{NextBlamesNoBytes, OutlastsRefusals, AttachedRunsFollow, WorldRunsAreLives};
 
 use bus_world::{starts_are_set_up, starts_go_on_at_a_first_world, turns_are_world_runs};
 
@@ -33,6 +33,11 @@ pub fn next_starts_blame_no_bytes()
 /// as it found them. This holds for every cause, also a header of version 2 that stands beside a store of version 1.
 pub fn refused_starts_leave_lives()
     ensures { EachLife OutlastsRefusals }
+{}
+
+/// All that holds of a run of a bus makes it a life: of `node`, and of each other program over a bus.
+pub fn world_runs_are_lives()
+    ensures { WorldRunsAreLives }
 {}
 
 /// A run over attached disks is a next life if no byte of them is loose. It follows the life that left these disks,

@@ -13,5 +13,5 @@ mod laws;
 
 pub use laws::{
     attached_runs_are_next_lives, lives_can_go_on, lives_go_on, next_starts_blame_no_bytes,
-    refused_starts_leave_lives, unfinished_starts_leave_nodes,
+    refused_starts_leave_lives, unfinished_starts_leave_nodes, world_runs_are_lives,
 };

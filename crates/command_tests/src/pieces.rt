@@ -6,7 +6,8 @@ use pdu_collection::run_pairs;
 use std::alloc::{AllocError, Global};
 use std::process::Abort;
 use std::test::Fail;
-use trace_audit::{run_audit, run_watch};
+use trace_audit::run_audit;
+use watch_commands::run_watch;
 
 #[derive(Clone, Copy)]
 enum Program {
@@ -80,28 +81,37 @@ fn status_of(
     first: &mut MemSource,
     second: &mut MemSource,
     sink: &mut MemSink,
+    errors: &mut MemSink,
 ) -> u8 {
     match program {
         Program::Pairing => run_pairs(alloc, words, first, sink),
         Program::Audit => run_audit(alloc, words, first, second, sink),
-        Program::Watch => run_watch(alloc, words, first, second, sink),
+        Program::Watch => run_watch(alloc, words, first, second, sink, errors),
     }
 }
 
 /// Runs the program of a row over its sources.
-fn runs(alloc: Global, row: &Row, words: &[String], sink: &mut MemSink) -> Result<u8, AllocError> {
+fn runs(
+    alloc: Global,
+    row: &Row,
+    words: &[String],
+    sink: &mut MemSink,
+    errors: &mut MemSink,
+) -> Result<u8, AllocError> {
     let mut first = source_of(alloc, row.2)?;
     let mut second = source_of(alloc, row.3)?;
-    Ok(status_of(alloc, row.0, words, &mut first, &mut second, sink))
+    Ok(status_of(alloc, row.0, words, &mut first, &mut second, sink, errors))
 }
 
 /// Runs the program of a row over a sink of pieces of 3 bytes, and compares the status and what is written.
 fn check(rt: &impl Abort, alloc: Global, row: &Row) -> Result<(), Fail> {
     let words = words_of(alloc, row.1)?;
     let mut sink = MemSink::new(alloc, 1024, Vec::new(alloc), 3)?;
-    let status = runs(alloc, row, words.as_slice(), &mut sink)?;
+    let mut errors = MemSink::new(alloc, 64, Vec::new(alloc), 3)?;
+    let status = runs(alloc, row, words.as_slice(), &mut sink, &mut errors)?;
     let told = (status, sink.bytes());
     same(rt, row.4, &told, &(0, row.4.as_bytes()));
+    same(rt, "standard error", &errors.bytes().len(), &0);
     Ok(())
 }
 

@@ -6,7 +6,7 @@ use Rattle.bus_machine.specs.declared.lines.Line.{Line}
 use Rattle.bus_machine.specs.declared.lines.Line.TheVariants.{Sent, Accepted}
 use Rattle.endpoint_commands.specs.declared.asking.Asked.{Asked}
 use Rattle.endpoint_commands.specs.declared.asking.Asked.TheVariants.{Other, Frame}
-use Rattle.endpoint_commands.specs.declared.counting.Counts.{Counts}
+use Rattle.endpoint_commands.specs.declared.counting.EndpointCounts.{EndpointCounts}
 use Rattle.endpoint_commands.specs.declared.counting.LineKind.{LineKind}
 use Rattle.endpoint_commands.specs.declared.counting.LineKind.TheVariants as kind
 use Rattle.endpoint_commands.specs.Lines.{comment_text, told_or_bad_length}
@@ -44,7 +44,7 @@ counts_other _ = false
 abbrev pub count_up : Bool → ℕ → ℕ
 count_up passes count = if passes then counted count else count
 
-abbrev pub counts_with : Option LineKind → Counts → Counts
+abbrev pub counts_with : Option LineKind → EndpointCounts → EndpointCounts
 counts_with kind counts = record {
   sent = count_up (counts_sent kind) counts.sent;
   accepted = count_up (counts_accepted kind) counts.accepted;
@@ -53,7 +53,7 @@ counts_with kind counts = record {
 }
 
 -- the line at the end of a log
-abbrev pub counts_line : Counts → List ℕ
+abbrev pub counts_line : EndpointCounts → List ℕ
 counts_line counts =
     comment_text (codes "sent" ∷ decimal counts.sent ∷ codes "accepted" ∷ decimal counts.accepted
     ∷ codes "refused" ∷ decimal counts.refused ∷ codes "other" ∷ decimal counts.others ∷ [])

@@ -3,3 +3,12 @@ pub mod Asking
 pub mod Lines
 pub mod Counting
 pub mod Alone
+pub mod Running
+pub mod States
+pub mod Logs
+pub mod Headline
+pub mod Rows
+pub mod Steps
+pub mod Promises
+pub mod Table
+pub mod Named

@@ -43,7 +43,7 @@ impl LineKind {
 
 /// How many lines count as each kind. A count stands still at its type's end.
 #[derive(Clone, Copy, Debug, PartialEq, Eq)]
-pub struct Counts {
+pub struct EndpointCounts {
     /// Frames that were sent.
     pub sent: u64,
     /// Frames whose payload was accepted.
@@ -54,12 +54,12 @@ pub struct Counts {
     pub others: u64,
 }
 
-impl Counts {
+impl EndpointCounts {
     /// Before the log.
-    pub fn none() -> Counts
+    pub fn none() -> EndpointCounts
         ensures { result ≡ record { sent = 0; accepted = 0; refused = 0; others = 0 } }
     {
-        Counts {
+        EndpointCounts {
             sent: 0,
             accepted: 0,
             refused: 0,
@@ -67,7 +67,7 @@ impl Counts {
         }
     }
 
-    /// Counts a line.
+    /// EndpointCounts a line.
     pub fn count(&mut self, kind: LineKind)
         ensures { self.new ≡ counts_with (Some kind) self.old }
     {

@@ -1,20 +1,31 @@
 //! The command of a live endpoint: a node between the channels of a running bus (AUTOSAR SecOC, profile 1; SHE).
 //!
-//! [`read_rules`] gives the rules of a map over a node's routes, or its first fault, exactly. [`asked_of_words`] tells
-//! what a line of a log asks for by them, and [`frame_turn`] or [`request_turn`] lets the node do it.
-//! [`add_frame_answer`] and [`add_load_comment`] add the line that is printed, and [`Counts`] has the numbers at the
-//! end. With room for them none of these takes memory. The program itself isn't there yet.
+//! [`endpoint_words`] is the program, over the files and the disk that its arguments name. [`run_endpoint`] goes on
+//! with a node over a disk, between the channels of a log of any length. Its table of answers is `RunsEndpoint`. Each
+//! complete line is answered before the log is read again. Over a disk that tells its bytes all that was done is one
+//! run of the machine of the bus ([`endpoints_are_runs`]). [`read_rules`] gives the rules of a map over a node's
+//! routes, or its first fault, exactly. [`Endpoint`] is the state between two pieces of a log: it speaks of the bytes
+//! that came and not of the pieces, and takes no memory.
 #![tactic(auto)]
 
 mod adding;
 mod answering;
 mod asking;
+mod boot;
 mod counting;
+mod endpoint;
+mod inputs;
+mod laws;
 mod rules;
+mod run;
+mod start;
 mod turns;
+mod words_answered;
 
-pub use answering::{add_comment, add_frame_answer, add_load_comment};
 pub use asking::{Asked, asked_of_words};
-pub use counting::{Counts, LineKind};
+pub use counting::{EndpointCounts, LineKind};
+pub use endpoint::{Endpoint, EndpointStop, Room};
+pub use laws::endpoints_are_runs;
 pub use rules::{FrameRule, MOST_RULES, place_of_rule, read_rules};
-pub use turns::{frame_turn, image_turn, request_turn};
+pub use run::{DISK_FAULT, EndpointForm, EndpointJob, form_of, run_endpoint};
+pub use start::{EndpointSources, endpoint_words};

@@ -1,6 +1,6 @@
 //! What a node does for a line of a log.
 ghost use Rattle.std.specs.Prelude.{◌≤◌, length};
-ghost use Rattle.secure_boot.specs.Booting.{IsImage};
+ghost use Rattle.secoc_node.specs.Words.{IsImage};
 ghost use Rattle.bus_machine.specs.declared.events.Event.TheVariants.{Load, Boot};
 ghost use Rattle.endpoint_commands.specs.Alone.{TurnsAlone};
 ghost use Rattle.endpoint_commands.specs.Asking.{frame_event};

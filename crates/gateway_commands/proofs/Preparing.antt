@@ -2,7 +2,7 @@
 use Rattle.std.specs.Prelude.{◌≡◌, ℕ, List, [], ◌∷◌, length, get_or, Err}
 use Rattle.std.proofs.Common.{sym, ap, ◌∙◌, subst, arith, inl, inr}
 use Rattle.program_edge.specs.declared.input.InputFault.TheVariants as input
-use Rattle.program_edge.specs.Rows.{Row}
+use Rattle.program_edge.specs.Rows.{Row, memory_row}
 use Rattle.program_edge.specs.Inputs.{IsUnread}
 use Rattle.program_edge.specs.InputLaws.{Lacks-whole, Lacks-unread}
 use Rattle.bus_config.specs.declared.node_lines.NodeLine.{NodeLine}
@@ -10,19 +10,17 @@ use Rattle.bus_config.specs.Buses.{NamedBus}
 use Rattle.bus_script.specs.EventForms.{node_line_at, own_events_of}
 use Rattle.bus_programs.specs.BusFiles.{ReadsBus, LacksBus, no_file, file_refused}
 use Rattle.bus_programs.specs.Scripts.{LacksLines, no_lines, lines_refused}
-use Rattle.gateway_commands.specs.Words.{AsksGateway}
+use Rattle.gateway_commands.specs.Words.{AsksGateway, AsksSomeGateway}
 use Rattle.bus_programs.specs.Inputs.{BusInputs}
 use Rattle.gateway_commands.specs.Inputs.{of_file, of_bus, SetsPairs}
-use Rattle.gateway_commands.specs.Rows.{RowOfInputs, no_form, no_config, config_refused, no_script, script_refused}
-use Rattle.gateway_commands.specs.Steps.{FindsPairs, ChecksPairs}
+use Rattle.gateway_commands.specs.Rows.{RowOfInputs, no_config, config_refused, no_script, script_refused}
+use Rattle.gateway_commands.specs.Steps.{ChecksPairs}
 
 -- ---- the rows
 
--- the arguments give no pairs
-pub RowOf-words : (i : BusInputs) (row : Row) → FindsPairs i.words (Err row) → IsUnread i.config → IsUnread i.script → RowOfInputs i row
-RowOf-words i row (inl (none, is)) config script = subst (RowOfInputs i) (sym is) (no_form none config script)
-RowOf-words i row (inr (asks, memory)) config script =
-    subst (RowOfInputs i) (sym memory) (no_config input.Memory (asks.0, asks.1, Lacks-unread i.config config, script))
+-- there is no memory for the pairs
+pub RowOf-memory : (i : BusInputs) → AsksSomeGateway i.words → IsUnread i.config → IsUnread i.script → RowOfInputs i memory_row
+RowOf-memory i asks config script = no_config input.Memory (asks.0, asks.1, Lacks-unread i.config config, script)
 
 -- there is no bus
 pub RowOf-config : (i : BusInputs) (pairs : List (ℕ × ℕ)) (row : Row) → AsksGateway i.words pairs → LacksBus i.config row → IsUnread i.script → RowOfInputs i row

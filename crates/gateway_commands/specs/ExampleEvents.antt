@@ -13,8 +13,7 @@ abbrev pub AreReplay : List Event → Type 0
 AreReplay events = (node : ℕ) × (update : Update) × (authkey : List ℕ) × (id : ℕ) × (pdu : List ℕ)
     × (events ≡ Key node update authkey ∷ Inject node id pdu ∷ Inject node id pdu ∷ [])
 
--- the events of the worked example are so, whatever the bus is: what is told of the third event is told of a replay, and
--- not of a forgery
+-- the events of the worked example are so, whatever bus its bus file has. Nothing is said of what is answered
 abbrev pub ExampleReplays : Type 0
 ExampleReplays = (i : BusInputs) (bus : NamedBus) (pairs : List (ℕ × ℕ)) (events : List Event)
     → IsExampleGateway i → SetsGateway i bus pairs events → AreReplay events

@@ -1,5 +1,6 @@
 -- What the steps of the work say to one another
-use Rattle.std.specs.Prelude.{◌≡◌, ◌⊎◌, ℕ, ◌<◌, Bool, true, false, None, Some, List, [], length, slice_index_or}
+use Rattle.std.specs.Prelude.{◌≡◌, ◌⊎◌, ℕ, ◌<◌, Bool, true, false, Option, None, Some, List, [], length}
+use Rattle.std.specs.Prelude.{slice_index_or}
 use Rattle.std.specs.Prelude.{Result, Ok, Err, Vec}
 use Rattle.std.specs.declared.alloc.Global.{Global}
 use Rattle.program_edge.specs.Rows.{Row, row_of, memory_row}
@@ -18,7 +19,7 @@ use Rattle.secoc_gateway.specs.Pairs.{pair_in}
 use Rattle.secoc_gateway.specs.Turns.{GatewayTurn}
 use Rattle.gateway_commands.specs.declared.job.GatewayJob.{GatewayJob}
 use Rattle.gateway_commands.specs.Words.{pair_form, AsksGateway, AsksNoGateway}
-use Rattle.gateway_commands.specs.Texts.{gateway_usage, gateway_text, pair_text}
+use Rattle.gateway_commands.specs.Texts.{gateway_text, pair_text}
 use Rattle.bus_programs.specs.Inputs.{BusInputs}
 use Rattle.gateway_commands.specs.Inputs.{TakesPairs, RefusesPairs, SetsGateway}
 use Rattle.gateway_commands.specs.Rows.{RowOfInputs, DoneGateway}
@@ -30,12 +31,10 @@ abbrev pub HasPairs : List (List ℕ) → List (ℕ × ℕ) → Bool → Type 0
 HasPairs given room true = (k : ℕ) → k < length given → pair_form (slice_index_or given k []) ≡ Some (pair_in room k)
 HasPairs given room false = (k : ℕ) × (k < length given) × (pair_form (slice_index_or given k []) ≡ None)
 
--- the pairs that words give, or why they give none
-abbrev pub FindsPairs : List (List ℕ) → Result (Vec (ℕ × ℕ) Global) Row → Type 0
-FindsPairs words (Ok pairs) = AsksGateway words pairs.items
-FindsPairs words (Err row) =
-    (AsksNoGateway words × (row ≡ row_of 2 gateway_usage))
-    ⊎ (((pairs : List (ℕ × ℕ)) × AsksGateway words pairs) × (row ≡ memory_row))
+-- the words are those of a gateway with these pairs, or are of another form
+abbrev pub AsksPairs : List (List ℕ) → Option (Vec (ℕ × ℕ) Global) → Type 0
+AsksPairs words (Some pairs) = AsksGateway words pairs.items
+AsksPairs words None = AsksNoGateway words
 
 -- ---- the bus
 

@@ -1,5 +1,5 @@
-//! What holds of every gateway over a disk that tells its bytes, put together from the laws of the crates below; and of
-//! the worked example.
+//! What holds of every gateway over a disk that tells its bytes, put together from the laws of the crates below; and
+//! which events the worked example has.
 ghost use Rattle.gateway_commands.specs.ExampleEvents.{ExampleReplays};
 ghost use Rattle.gateway_commands.specs.Headline.{GatewaysAreRuns};
 
@@ -19,8 +19,8 @@ pub fn gateways_are_runs()
     gateway_turns_keep();
 }
 
-/// The script of the worked example is a key update and one arrival twice. So the answer to its last event is the answer
-/// to a replay, and not to a forgery.
+/// The script of the worked example is a key update and one arrival twice. The law says nothing of the answers: that
+/// the gateway forwards the first arrival and refuses the second one is a row of `checks/gateway_rows`.
 pub fn example_replays()
     ensures { ExampleReplays }
 {}

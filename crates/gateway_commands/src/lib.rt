@@ -5,7 +5,7 @@
 //! What was done over a disk that tells its bytes is one run of the gateway's machine, with all of
 //! `OneGatewayRun` (law `gateways_are_runs`). [`gateway_words`] opens the sources that the arguments name,
 //! and runs the example if there are none, over a blank disk of 65,536 bytes in memory. So 9 and 10 don't come of it.
-//! The example shows a replay, and no forgery (law `example_replays`).
+//! The script of the example is a key update and one arrival twice (law `example_replays`).
 #![tactic(auto)]
 
 mod example;

@@ -1,29 +1,30 @@
 //! The arguments of the command line, the program's name left out: a gateway runs over the sources that two of them
 //! name, and without a word the example.
-ghost use Rattle.std.specs.Prelude.{◌≡◌, ◌≢◌, ◌⊎◌, None, [], map, string_bytes, option_map, IfOk, IfErr};
+ghost use Rattle.std.specs.Prelude.{◌≡◌, ◌≢◌, ◌⊎◌, ◌↔◌, None, [], map, string_bytes, option_map, IsTrue, IfOk, IfErr};
 ghost use Rattle.program_edge.specs.NamedSources.{word_source, openings};
 ghost use Rattle.bus_programs.specs.Blank.{AreBlank};
-ghost use Rattle.gateway_commands.specs.Words.{AsksNoGateway};
+ghost use Rattle.gateway_commands.specs.Words.{AsksNoGateway, AsksSomeGateway};
 ghost use Rattle.gateway_commands.specs.Named.{NameSources, GatewayOfWords};
 
 use crate::example::run_example;
-use crate::run::run_gateway;
-use crate::words::is_asked;
+use crate::run::run_asked;
+use crate::words::asked_pairs;
 use bus_port::{Sink, Source};
 use bus_programs::{blank_disks, unopened};
 use cut_disk::MemDisk;
 use program_edge::{NO_MEMORY, Opener, WordSource, open_both};
 use std::alloc::{AllocError, Global};
 
-/// The arguments that name the bus file and the script: the first two, and none of arguments of another form.
-fn source_words(words: &[String]) -> (Option<&str>, Option<&str>)
+/// The arguments that name the bus file and the script: the first two, and none if they ask for no gateway.
+fn source_words(words: &[String], is_asked: bool) -> (Option<&str>, Option<&str>)
+    requires { IsTrue is_asked ↔ AsksSomeGateway (map string_bytes words.now) }
     ensures { NameSources (map string_bytes words.now) (option_map (λ w. w.now) result.0)
         (option_map (λ w. w.now) result.1) }
 {
-    if !is_asked(words) {
-        return (None, None);
+    if is_asked {
+        return (Some(words[0].as_str()), Some(words[1].as_str()));
     }
-    (Some(words[0].as_str()), Some(words[1].as_str()))
+    (None, None)
 }
 
 /// Runs a gateway over the bus file and the script that the first two words name, as [`run_gateway`] does, over a blank
@@ -60,12 +61,15 @@ pub fn gateway_words<O: Opener, I: Source + Drop, K: Sink>(
     if words.is_empty() {
         return unopened(run_example(alloc, sink));
     }
-    let (bus, events) = source_words(words);
+    let Ok(asked) = asked_pairs(alloc, words) else {
+        return unopened(NO_MEMORY);
+    };
+    let (bus, events) = source_words(words, asked.is_some());
     let Ok(mut disks) = disks_for(alloc, bus) else {
         return unopened(NO_MEMORY);
     };
     let (mut config, mut script) = open_both(opener, input, bus, events);
-    let status = run_gateway(alloc, words, &mut config, &mut script, sink, &mut disks);
+    let status = run_asked(alloc, asked, &mut config, &mut script, sink, &mut disks);
     (status, config, script)
 }
 

@@ -1,33 +1,20 @@
 //! The arguments of the command line.
-ghost use Rattle.std.specs.Prelude.{◌≡◌, ◌≤◌, ◌↔◌, length, map, take, string_bytes, IsTrue, MatchOption};
+ghost use Rattle.std.specs.Prelude.{◌≡◌, ◌≤◌, length, map, take, string_bytes, IfOk, IfErr, MatchOption};
 ghost use Rattle.gateway_commands.specs.Words.{pair_form, AsksGateway, AsksNoGateway, AsksSomeGateway};
-ghost use Rattle.gateway_commands.specs.Steps.{HasPairs, FindsPairs};
+ghost use Rattle.gateway_commands.specs.Steps.{HasPairs, AsksPairs};
 
-use program_edge::Refusal;
 use std::alloc::{AllocError, Global};
 
-const USAGE: &str = "usage: gateway B F IN=OUT ..\n";
-
-/// Whether the arguments, the program's name left out, are of the form `B F IN=OUT ..`.
-pub fn is_asked(words: &[String]) -> bool
-    ensures { IsTrue result ↔ AsksSomeGateway (map string_bytes words.now) }
+/// The pairs that the arguments give after the names of the bus file and of the script, the program's name left out.
+/// None, without taking memory, if the arguments are of another form than `B F IN=OUT ..`.
+pub fn asked_pairs(alloc: Global, words: &[String]) -> Result<Option<Vec<(u16, u16)>>, AllocError>
+    ensures asked { IfOk result (AsksPairs (map string_bytes words.now)) }
+    ensures wanted { IfErr result (λ _. AsksSomeGateway (map string_bytes words.now)) }
 {
     let mut room = [(0, 0); 32];
-    read_pairs(words, &mut room).is_some()
-}
-
-/// The pairs that the arguments give after the names of the bus file and of the script, the program's name left out; or
-/// the refusal of arguments of another form, or out of memory.
-pub fn asked_pairs(alloc: Global, words: &[String]) -> Result<Vec<(u16, u16)>, Refusal>
-    ensures { FindsPairs (map string_bytes words.now) result }
-{
-    let mut room = [(0, 0); 32];
-    let Some(count) = read_pairs(words, &mut room) else {
-        return Err(Refusal::fixed(2, USAGE));
-    };
-    match Vec::from_slice(alloc, &room[..count]) {
-        Ok(pairs) => Ok(pairs),
-        Err(AllocError) => Err(Refusal::no_memory()),
+    match read_pairs(words, &mut room) {
+        None => Ok(None),
+        Some(count) => Ok(Some(Vec::from_slice(alloc, &room[..count])?)),
     }
 }
 

@@ -11,8 +11,8 @@ use Rattle.bus_commands.proofs.start.bus_words.Goals as goal
 
 pub returns-in-Ok-clause-words : goal.returns-in-Ok-clause-words
 returns-in-Ok-clause-words g c =
-    ran_over_disk (runs_opened g.P.Opened.Disk.state _ _ _ _ _ _ _ c.in-Some.path.now c.in-Ok.disks (rw c.in-Some.is at c.asked_of-asked.ensures.names_disk) c.in-Ok.ensures.disk
-    c.in-Ok.ensures.noted (c.run_over-status.ensures (map string_bytes c.args.words.now) c.asked_of-asked.ensures))
+    ran_over_disk (runs_opened g.P.Opened.Disk.state _ _ _ _ _ _ _ c.in-Some.path.now c.in-Ok.disks (rw c.in-Some.is at c.command_line-asked.ensures.names_disk) c.in-Ok.ensures.disk
+    c.in-Ok.ensures.noted (c.run_over-status.ensures (map string_bytes c.args.words.now) c.command_line-asked.ensures))
 
 pub returns-in-Ok-clause-usage : goal.returns-in-Ok-clause-usage
 returns-in-Ok-clause-usage g c = words_usage _ _ _ _ _ _ _ _ (returns-in-Ok-clause-words g c)
@@ -25,7 +25,7 @@ returns-in-Ok-clause-starts g c = words_start _ _ _ _ _ _ _ _ (returns-in-Ok-cla
 
 pub returns-in-Err-clause-words : goal.returns-in-Err-clause-words
 returns-in-Err-clause-words g c = wanted_disks c.in-Err.ensures.unopened c.without_memory.ensures.disks (record {
-  asks = (Replay Attach, names_node (map string_bytes c.args.words.now) c.in-Some.path.now (rw c.in-Some.is at c.asked_of-asked.ensures.names_disk));
+  asks = (Replay Attach, names_node (map string_bytes c.args.words.now) c.in-Some.path.now (rw c.in-Some.is at c.command_line-asked.ensures.names_disk));
   wants = record {
     status_is = c.without_memory.ensures.status;
     unwritten = refl;
@@ -42,11 +42,11 @@ returns-in-Err-clause-usage_only g c = words_usage_only _ _ _ _ _ _ _ _ (returns
 
 pub returns-in-Ok-disks_for-clause-words : goal.returns-in-Ok-disks_for-clause-words
 returns-in-Ok-disks_for-clause-words g c = ran_in_memory refl c.new.ensures.items (record {
-  no_disk = rw c.in-None.is at c.asked_of-asked.ensures.names_disk;
+  no_disk = rw c.in-None.is at c.command_line-asked.ensures.names_disk;
   made = c.in-Ok-disks_for.disks;
   used = c.run_over-status-in-Ok-disks_for.new.disks;
-  given = c.in-Ok-disks_for.ensures.given (map string_bytes c.args.words.now) c.asked_of-asked.ensures.asks;
-  over = c.run_over-status-in-Ok-disks_for.ensures (map string_bytes c.args.words.now) c.asked_of-asked.ensures;
+  given = c.in-Ok-disks_for.ensures.given (map string_bytes c.args.words.now) c.command_line-asked.ensures.asks;
+  over = c.run_over-status-in-Ok-disks_for.ensures (map string_bytes c.args.words.now) c.command_line-asked.ensures;
 })
 
 pub returns-in-Ok-disks_for-clause-usage : goal.returns-in-Ok-disks_for-clause-usage
@@ -61,7 +61,7 @@ returns-in-Ok-disks_for-clause-starts g c = words_start _ _ _ _ _ _ _ _ (returns
 pub returns-in-Err-disks_for-clause-words : goal.returns-in-Err-disks_for-clause-words
 returns-in-Err-disks_for-clause-words g c =
     wanted_disks refl c.without_memory-in-Err-disks_for.ensures.disks (record {
-      asks = c.in-Err-disks_for.ensures.wanted (map string_bytes c.args.words.now) c.asked_of-asked.ensures.asks;
+      asks = c.in-Err-disks_for.ensures.wanted (map string_bytes c.args.words.now) c.command_line-asked.ensures.asks;
       wants = record {
         status_is = c.without_memory-in-Err-disks_for.ensures.status;
         unwritten = refl;

@@ -1,33 +1,9 @@
-use Rattle.std.proofs.Common.{refl, subst}
-use Rattle.bus_config.specs.Buses.{IsNamedBus}
-use Rattle.std.proofs.lemmas.Result.{err_from_is_err_and}
-use Rattle.gateway_commands.proofs.Preparing.{RowOf-words, RowOf-config, RowOf-pairs, RowOf-script}
+use Rattle.std.proofs.Common.{refl, subst, sym}
+use Rattle.gateway_commands.specs.Rows.{RowOfInputs, no_form}
 use Rattle.gateway_commands.proofs.run.prepare.Goals as goal
 
-pub returns-in_err-pairs : goal.returns-in_err-pairs
-returns-in_err-pairs g c =
-    let p = err_from_is_err_and c.from_residual.result c.from_residual.ensures.1 in
-    rw (p.1, p.2) (RowOf-words _ _ c.in_err-pairs.ensures refl refl)
+pub returns-in-None : goal.returns-in-None
+returns-in-None g c words asks = subst (RowOfInputs _) (sym c.fixed.ensures) (no_form (rw c.in-None.is at asks) refl refl)
 
-pub returns-in_err-bus : goal.returns-in_err-bus
-returns-in_err-bus g c =
-    let p = err_from_is_err_and c.from_residual-in_err-bus.result c.from_residual-in_err-bus.ensures.1 in
-    rw (p.1, p.2) (RowOf-config _ _ _ c.in_ok-pairs.ensures c.in_err-bus.ensures refl)
-
-pub returns-in_err-check_pairs : goal.returns-in_err-check_pairs
-returns-in_err-check_pairs g c =
-    let p = err_from_is_err_and c.from_residual-in_err-check_pairs.result c.from_residual-in_err-check_pairs.ensures.1 in
-    rw (p.1, p.2) (RowOf-pairs _ _ _ _ c.in_ok-pairs.ensures c.in_ok-bus.ensures (rw c.as_slice.ensures.value at c.in_err-check_pairs.ensures) refl)
-
-pub returns-in_err-events : goal.returns-in_err-events
-returns-in_err-events g c =
-    let p = err_from_is_err_and c.from_residual-in_err-events.result c.from_residual-in_err-events.ensures.1 in
-    rw (p.1, p.2)
-    (RowOf-script _ c.in_ok-bus.bus c.in_ok-pairs.pairs.items _
-    (record {
-      asks = c.in_ok-pairs.ensures;
-      of_bus = c.in_ok-bus.ensures;
-      is_bus = subst IsNamedBus c.bus.view_is c.bus.invariant;
-      takes = rw c.as_slice.ensures.value at c.in_ok-check_pairs.ensures;
-    })
-    c.in_err-events.ensures)
+pub returns-in-Some : goal.returns-in-Some
+returns-in-Some g c words asks = c.read_job.ensures words (rw c.in-Some.is at asks)

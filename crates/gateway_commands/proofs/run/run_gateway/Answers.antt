@@ -1,14 +1,21 @@
-use Rattle.std.proofs.Common.{refl}
-use Rattle.bus_world.specs.StartAnswerLaws.{same_known}
-use Rattle.gateway_commands.specs.Rows.{without_disks, in_row}
-use Rattle.gateway_commands.proofs.Doing.{ends_job}
+use Rattle.std.proofs.Common.{map, refl, subst, sym}
+use Rattle.std.specs.Prelude.{string_bytes}
+use Rattle.gateway_commands.specs.Rows.{RowOfInputs, without_disks, in_row}
 use Rattle.gateway_commands.proofs.Keeping.{RunsGateway-ends}
+use Rattle.gateway_commands.proofs.Preparing.{RowOf-memory}
 use Rattle.gateway_commands.proofs.run.run_gateway.Goals as goal
 
+pub run_asked-requires : goal.run_asked-requires
+run_asked-requires g c = (map string_bytes c.args.words.now, c.in-Ok.ensures.asked)
+
 pub returns-in-Ok : goal.returns-in-Ok
-returns-in-Ok g c = RunsGateway-ends _ _ _ _ (same_known g.D.Disk.state c.args.disks.now c.do_job.new.disks) (ends_job _ _ _ _ _ _ _ c.in-Ok.ensures.1 c.do_job.ensures)
+returns-in-Ok g c = c.run_asked.ensures (map string_bytes c.args.words.now) c.in-Ok.ensures.asked
 
 pub returns-in-Err : goal.returns-in-Err
 returns-in-Err g c =
     RunsGateway-ends _ _ _ _ (λ _. refl)
-    (in_row (record { row = c.in-Err.refusal; comes = without_disks c.in-Err.refusal c.in-Err.ensures refl; told = c.tell_refusal.ensures }))
+    (in_row (record {
+      row = _;
+      comes = without_disks _ (subst (RowOfInputs _) (sym c.no_memory.ensures) (RowOf-memory _ c.in-Err.ensures.wanted refl refl)) refl;
+      told = c.tell_refusal-in-Err.ensures;
+    }))

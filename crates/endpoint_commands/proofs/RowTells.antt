@@ -1,0 +1,118 @@
+-- What a row that comes before the log says, by its status
+use Rattle.std.specs.Prelude.{◌≡◌, ◌⊎◌, ◌≤◌, ℕ, ◌==◌, Bool, true, false, Option, Some, List, codes}
+use Rattle.std.proofs.Common.{refl, subst, arith, inl, inr}
+use Rattle.text_lines.specs.Readings.{Fault}
+use Rattle.text_lines.specs.Texts.{line, fault_text_of}
+use Rattle.program_edge.specs.declared.input.InputFault.TheVariants.{ReadFault, TooLong, Memory}
+use Rattle.program_edge.specs.declared.input.InputFault.{InputFault}
+use Rattle.program_edge.specs.Rows.{Row, input_row, memory_row}
+use Rattle.program_edge.specs.Inputs.{IsUnread}
+use Rattle.bus_config.specs.declared.fault.ConfigFault.{ConfigFault}
+use Rattle.bus_config.specs.FaultTexts.{config_fault_text}
+use Rattle.bus_config.specs.Buses.{NamedBus}
+use Rattle.bus_world.specs.declared.start.Start.TheVariants.{Attach}
+use Rattle.bus_world.specs.declared.start.StartFault.{StartFault}
+use Rattle.bus_world.specs.Starts.{HasRoom, FindsRoom}
+use Rattle.bus_world.specs.StartRows.{start_row, StoreCause, LeavesEach}
+use Rattle.bus_world.specs.StartAnswers.{DiskStates, CountsDiskFault, failed_row, ComesOfStart, disks_refused, store_refused, start_without_memory}
+use Rattle.bus_world.specs.StartAnswerLaws.{start_status, none_counted, failure_told}
+use Rattle.endpoint_commands.specs.declared.rules.FrameRule.{FrameRule}
+use Rattle.endpoint_commands.specs.Rows.{EndpointInputs, AsksEndpoint, endpoint_usage, SetsEndpoint, OverEndpoint, LacksEndpointInput, of_config, of_map, of_image}
+use Rattle.endpoint_commands.specs.Rows.{HasConfigFault, HasOtherNodes, HasMapFault, HasOtherImage, ComesBeforeLog, no_form, no_source, config_fault, other_nodes, map_fault, other_image, no_room}
+use Rattle.endpoint_commands.specs.Promises.{ComesUnlogged, of_inputs, unstarted}
+
+abbrev pub pick : Bool → Type 0 → Type 0 → Type 0
+pick true one other = one
+pick false one other = other
+
+module _ (same : Type 0) (i : EndpointInputs) (d : DiskStates) where
+  abbrev pub Tells2 : Row → Type 0
+  Tells2 row = (row.text ≡ endpoint_usage) × (¬ AsksEndpoint i.words) × (IsUnread i.config × IsUnread i.map × IsUnread i.image × IsUnread i.log) × same
+
+  abbrev pub Tells3 : Row → Type 0
+  Tells3 row = (((fault : ConfigFault) × HasConfigFault i fault × (config_fault_text fault ≡ Some row.text))
+      ⊎ ((HasOtherNodes i × (row.text ≡ line (codes "config: nodes")))
+      ⊎ (HasOtherImage i × (row.text ≡ line (codes "image: length"))))) × same
+
+  abbrev pub Tells4 : Row → Type 0
+  Tells4 row = ((fault : Fault) × HasMapFault i fault × (row.text ≡ fault_text_of fault)) × same
+
+  abbrev pub Tells5 : Row → Type 0
+  Tells5 row = LacksEndpointInput i ReadFault × (row.text ≡ codes "read fault\n")
+
+  abbrev pub Tells7 : Row → Type 0
+  Tells7 row = (row ≡ memory_row) × IsUnread i.log
+
+  abbrev pub Tells8 : Row → Type 0
+  Tells8 row = LacksEndpointInput i TooLong × (row.text ≡ codes "input too long\n")
+
+  abbrev pub Tells9 : Row → Type 0
+  Tells9 row = IsUnread i.log × OverEndpoint i (λ bus rules image.
+      (fault : StartFault) × FindsRoom bus d.before fault × (d.after ≡ d.before) × (row.text ≡ (start_row fault).text)) × same
+
+  abbrev pub Tells10 : Row → Type 0
+  Tells10 row = IsUnread i.log × OverEndpoint i (λ bus rules image.
+      (fault : StartFault) × HasRoom bus d.before × StoreCause Attach bus d.before d.after fault × LeavesEach Attach bus d.before d.after × (row.text ≡ (start_row fault).text))
+
+  abbrev pub TellsAt : ℕ → Row → Type 0
+  TellsAt n row = pick (n == 2) (Tells2 row) (pick (n == 3) (Tells3 row) (pick (n == 4) (Tells4 row) (pick (n == 5) (Tells5 row)
+      (pick (n == 7) (Tells7 row) (pick (n == 8) (Tells8 row) (pick (n == 9) (Tells9 row) (pick (n == 10) (Tells10 row) ⊥)))))))
+
+  -- nothing was asked of the log
+  lacks_unlogged : (fault : InputFault) → LacksEndpointInput i fault → IsUnread i.log
+  lacks_unlogged fault (of_config asks lacks map image log) = log
+  lacks_unlogged fault (of_map over image log) = log
+  lacks_unlogged fault (of_image over log) = log
+
+  input_tells : (row : Row) → ComesBeforeLog i row → same → TellsAt row.status row
+  input_tells _ (no_form other config map image log) before = (refl, other, (config, map, image, log), before)
+  input_tells _ (no_source ReadFault lacks) before = (lacks, refl)
+  input_tells _ (no_source TooLong lacks) before = (lacks, refl)
+  input_tells _ (no_source Memory lacks) before = (refl, lacks_unlogged Memory lacks)
+  input_tells _ (config_fault fault text has told) before = (inl (fault, has, told), before)
+  input_tells _ (other_nodes has) before = (inr (inl (has, refl)), before)
+  input_tells _ (map_fault fault has) before = ((fault, has, refl), before)
+  input_tells _ (other_image has) before = (inr (inr (has, refl)), before)
+  input_tells _ (no_room over log) before = (refl, log)
+
+  start_tells : (bus : NamedBus) (rules : List FrameRule) (image : Option (List ℕ)) → SetsEndpoint i bus rules image → (row : Row) → ComesOfStart Attach bus d row
+      → (row.status ≡ 9 → same) → IsUnread i.log → TellsAt row.status row
+  start_tells bus rules image sets _ (disks_refused fault finds left) nine log = (log, (bus, rules, image, sets, (fault, finds, left, refl)), nine refl)
+  start_tells bus rules image sets _ (store_refused fault room cause leaves) nine log = (log, (bus, rules, image, sets, (fault, room, cause, leaves, refl)))
+  start_tells bus rules image sets _ (start_without_memory fault may refused calm) nine log = (refl, log)
+
+  pub row_tells : (row : Row) → ComesUnlogged same i d row → TellsAt row.status row
+  row_tells row (of_inputs _ comes before) = input_tells row comes before
+  row_tells row (unstarted _ (bus, rules, image, sets, (comes, nine)) log) = start_tells bus rules image sets row comes nine log
+
+  -- of a row with this status
+  pub tells_at : (n : ℕ) (row : Row) → ComesUnlogged same i d row → row.status ≡ n → TellsAt n row
+  tells_at n row comes is = subst (λ (m : ℕ). TellsAt m row) is (row_tells row comes)
+
+  -- ---- the statuses
+
+  fault_range : (fault : InputFault) → (2 ≤ (input_row fault).status) × ((input_row fault).status ≤ 11)
+  fault_range ReadFault = (omega arith, omega arith)
+  fault_range TooLong = (omega arith, omega arith)
+  fault_range Memory = (omega arith, omega arith)
+
+  input_range : (row : Row) → ComesBeforeLog i row → (2 ≤ row.status) × (row.status ≤ 11)
+  input_range _ (no_form other config map image log) = (omega arith, omega arith)
+  input_range _ (no_source fault lacks) = fault_range fault
+  input_range _ (config_fault fault text has told) = (omega arith, omega arith)
+  input_range _ (other_nodes has) = (omega arith, omega arith)
+  input_range _ (map_fault fault has) = (omega arith, omega arith)
+  input_range _ (other_image has) = (omega arith, omega arith)
+  input_range _ (no_room over log) = (omega arith, omega arith)
+
+  pub row_range : (row : Row) → ComesUnlogged same i d row → (2 ≤ row.status) × (row.status ≤ 11)
+  row_range row (of_inputs _ comes before) = input_range row comes
+  row_range row (unstarted _ (bus, rules, image, sets, (comes, nine)) log) =
+      let status = start_status Attach bus d row comes in
+      (omega (arith, status), omega (arith, status))
+
+  -- ---- if the count of the disk rose, the row tells that it failed
+
+  pub row_failure : (same → d.after ≡ d.before) → (row : Row) → ComesUnlogged same i d row → CountsDiskFault d 0 → row ≡ failed_row 0
+  row_failure kept row (of_inputs _ comes before) rose = absurd (none_counted d 0 (kept before) rose)
+  row_failure kept row (unstarted _ (bus, rules, image, sets, (comes, nine)) log) rose = failure_told Attach bus d row 0 comes rose

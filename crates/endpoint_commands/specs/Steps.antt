@@ -1,0 +1,105 @@
+-- What the steps of a run of `endpoint` say to one another
+use Rattle.std.specs.Prelude.{◌≡◌, ◌≢◌, ℕ, ◌<◌, Bool, true, false, Option, None, Some, Result, Ok, Err}
+use Rattle.std.specs.Prelude.{List, ◌++◌, length, codes, Vec}
+use Rattle.std.specs.declared.alloc.Global.{Global}
+use Rattle.bus_port.specs.Source.{Came}
+use Rattle.bus_port.specs.Sink.{SinkState}
+use Rattle.text_lines.specs.LineRows.{NoLines}
+use Rattle.text_lines.specs.Texts.{line}
+use Rattle.program_edge.specs.declared.input.InputFault.{InputFault}
+use Rattle.program_edge.specs.Rows.{Row, row_of, input_row}
+use Rattle.program_edge.specs.Inputs.{Reading, IsUnread, ReadsWhole, Lacks}
+use Rattle.program_edge.specs.Told.{AppendedWell}
+use Rattle.freshness_routes.specs.declared.routes.Route.{Route}
+use Rattle.secoc_node.specs.Words.{IsImage}
+use Rattle.bus_config.specs.Buses.{NamedBus, IsNamedBus}
+use Rattle.secoc_node.specs.State.{NodeState}
+use Rattle.bus_programs.specs.Scripts.{LacksLines, ReadsLinesAs}
+use Rattle.endpoint_commands.specs.declared.rules.FrameRule.{FrameRule}
+use Rattle.endpoint_commands.specs.declared.endpoint.EndpointStop.{EndpointStop}
+use Rattle.endpoint_commands.specs.declared.endpoint.EndpointStop.TheVariants as stop
+use Rattle.endpoint_commands.specs.declared.run.EndpointJob.{EndpointJob}
+use Rattle.endpoint_commands.specs.Rules.{rules_of}
+use Rattle.endpoint_commands.specs.Running.{LineMoment, answers_behind}
+use Rattle.endpoint_commands.specs.States.{EndpointState, LogBehind, HasRoomFor}
+use Rattle.endpoint_commands.specs.Logs.{EndsLines}
+use Rattle.endpoint_commands.specs.Rows.{EndpointInputs, SetsEndpoint, ComesBeforeLog}
+
+-- ---- the inputs
+
+-- the bus has one node, or is refused
+abbrev pub HasOneNode : NamedBus → Result (Unit {0}) Row → Type 0
+HasOneNode bus (Ok _) = length bus.nodes ≡ 1
+HasOneNode bus (Err row) = (length bus.nodes ≢ 1) × (row ≡ row_of 3 (line (codes "config: nodes")))
+
+-- the rules of a map, or why there are none
+abbrev pub HasRules : List Route → List ℕ → Result (Vec FrameRule Global) Row → Type 0
+HasRules routes text (Ok rules) = rules_of routes text ≡ Ok rules.items
+HasRules routes text (Err row) = NoLines (rules_of routes text) row
+
+-- those of a source that was read whole, or why there are none
+abbrev pub FindsRules : List Route → Reading → Result (Vec FrameRule Global) Row → Type 0
+FindsRules routes map (Ok rules) = ReadsLinesAs (rules_of routes) map rules.items
+FindsRules routes map (Err row) = LacksLines (rules_of routes) map row
+
+-- why there is no image that a node boots with
+pub data LacksImage (image : Reading) : Row → Type 0 where
+  unread_image : (fault : InputFault) → Lacks image fault → LacksImage image (input_row fault)
+  other_length : (bytes : List ℕ) → ReadsWhole image bytes → ¬ IsImage bytes
+      → LacksImage image (row_of 3 (line (codes "image: length")))
+
+-- the image of a source, if one is asked for, or why there is none
+abbrev pub FindsImage : Bool → Reading → Result (Option (List ℕ)) Row → Type 0
+FindsImage false image (Ok None) = IsUnread image
+FindsImage true image (Ok (Some bytes)) = ReadsWhole image bytes × IsImage bytes
+FindsImage true image (Err row) = LacksImage image row
+FindsImage _ image result = ⊥
+
+-- the job is over a bus of one node, and has room for the lines of its log and their answers
+pub record IsWholeEndpoint (job : EndpointJob) : Type 0 where
+  pub is_bus : IsNamedBus job.bus
+  pub one : length job.bus.nodes ≡ 1
+  pub room : HasRoomFor job.rules.items job.room
+  pub image : (bytes : List ℕ) → job.image ≡ Some bytes → IsImage bytes
+
+-- how the first phase ends: in a job over inputs that were read whole, or in a row that comes
+abbrev pub PreparesEndpoint : EndpointInputs → Result EndpointJob Row → Type 0
+PreparesEndpoint i (Ok job) =
+    IsWholeEndpoint job × SetsEndpoint i job.bus job.rules.items job.image × IsUnread i.log
+PreparesEndpoint i (Err row) = ComesBeforeLog i row
+
+-- ---- the log
+
+-- the source and the sink of a log before any of it came, and now
+pub record LogPorts : Type 0 where
+  pub log : Reading
+  pub before : SinkState
+  pub after : SinkState
+
+-- these bytes came of the log without a fault, and the answers to their complete lines were printed behind an opening
+pub record AnswersSoFar (ports : LogPorts) (opening : List ℕ) (endpoint : EndpointState) (start : NodeState)
+    (bytes : List ℕ) (moments : List LineMoment) : Type 0 where
+  pub came : Came ports.log.before ports.log.after bytes
+  pub calm : ports.log.after.faults ≡ ports.log.before.faults
+  pub behind : LogBehind endpoint start bytes moments
+  pub prints : AppendedWell ports.before ports.after (opening ++ answers_behind endpoint.rules 0 moments)
+
+-- a log ended so, and these lines were taken
+abbrev pub EndsOverPorts : LogPorts → List ℕ → EndpointState → NodeState → ℕ → Type 0
+EndsOverPorts ports opening endpoint start status =
+    (done : List LineMoment) × EndsLines endpoint.rules start opening ports.log
+    (record { before = ports.before; after = ports.after; status = status }) endpoint.node done
+
+-- what a turn of the loop leaves: one more byte at least came and was taken; or the log ended with a status
+abbrev pub AnswersTurn : LogPorts → List ℕ → EndpointState → NodeState → List ℕ → List LineMoment → Option ℕ → Type 0
+AnswersTurn ports opening endpoint start bytes moments None =
+    (piece : List ℕ) × (more : List LineMoment) × (0 < length piece)
+    × AnswersSoFar ports opening endpoint start (bytes ++ piece) (moments ++ more)
+AnswersTurn ports opening endpoint start bytes moments (Some status) = EndsOverPorts ports opening endpoint start status
+
+-- ---- a stop
+
+-- the status of a run whose sink failed, or whose disk
+abbrev pub IsStop : EndpointStop → ℕ → Type 0
+IsStop stop.SinkFailed status = status ≡ 6
+IsStop stop.DiskFailed status = status ≡ 11

@@ -1,0 +1,173 @@
+-- The table of answers of `endpoint`: what a run promises, by status
+use Rattle.std.specs.Prelude.{◌≡◌, ◌≢◌, ◌⊎◌, ℕ, ◌<◌, ◌≤◌, true, Option, Some, Err, List, [], ◌∷◌, ◌++◌, length, get_or}
+use Rattle.std.specs.Prelude.{codes}
+use Rattle.basics.specs.FaultCount.{last_count, Rose}
+use Rattle.text_lines.specs.Readings.{Fault}
+use Rattle.text_lines.specs.Texts.{line, fault_text_of}
+use Rattle.program_edge.specs.declared.input.InputFault.TheVariants.{ReadFault, TooLong}
+use Rattle.program_edge.specs.Rows.{memory_row}
+use Rattle.program_edge.specs.Inputs.{Reading, IsUnread, Offers, SourceFailed, CountsFault, CountsTooMuch}
+use Rattle.program_edge.specs.Endings.{Ending, EndsIn, MayEndIn, EndsInRow, PrintsWhole, PrintsFront}
+use Rattle.program_edge.specs.Endings.{SinkFailed, CountsWriteFault}
+use Rattle.cut_disk.specs.State.{DiskState, Told}
+use Rattle.secoc_node.specs.Words.{IsImage}
+use Rattle.bus_config.specs.declared.fault.ConfigFault.{ConfigFault}
+use Rattle.bus_config.specs.BusFile.{bus_of}
+use Rattle.bus_config.specs.FaultTexts.{config_fault_text}
+use Rattle.bus_config.specs.Buses.{NamedBus}
+use Rattle.bus_script.specs.EventForms.{node_line_at}
+use Rattle.bus_programs.specs.BusFiles.{OffersBus}
+use Rattle.bus_world.specs.declared.start.Start.TheVariants.{Attach}
+use Rattle.bus_world.specs.declared.start.StartFault.{StartFault}
+use Rattle.bus_world.specs.Starts.{HasRoom, FindsRoom}
+use Rattle.bus_world.specs.StartRows.{start_row, CanStart, StoreCause, LeavesEach}
+use Rattle.bus_world.specs.StartAnswers.{DiskStates, CountsDiskFault, failed_row, BusHasDisks}
+use Rattle.endpoint_commands.specs.declared.rules.FrameRule.{FrameRule}
+use Rattle.endpoint_commands.specs.Rules.{rules_of}
+use Rattle.endpoint_commands.specs.Running.{LineMoment, answers_behind, closing_text, tells_failed_disk}
+use Rattle.endpoint_commands.specs.Logs.{Unfailed, LogRead, LinesRead}
+use Rattle.endpoint_commands.specs.Rows.{EndpointInputs, AsksEndpoint, AsksBoot, endpoint_usage, routes_of}
+use Rattle.endpoint_commands.specs.Rows.{OverEndpoint}
+use Rattle.endpoint_commands.specs.Rows.{LacksEndpointInput, HasConfigFault, HasOtherNodes, HasMapFault, HasOtherImage}
+use Rattle.endpoint_commands.specs.Rows.{OffersNode, OffersRules, OffersEndpoint}
+use Rattle.endpoint_commands.specs.Promises.{opening_of, DidEndpoint, ComesUnlogged, DidLines, EndsEndpoint}
+
+-- ---- how a log was answered
+
+-- its end came: all its lines were answered, and their answers and the counts were printed
+pub record AnswersWholeLog (bus : NamedBus) (rules : List FrameRule) (image : Option (List ℕ)) (log : Reading)
+    (d : DiskStates) (e : Ending) : Type 0 where
+  pub did : DidEndpoint bus rules image log d e
+  pub read : LogRead rules did.ran.booted log did.lines did.ran.now
+  pub unfailed : Unfailed did.lines
+  pub prints : PrintsWhole e (opening_of did.told ++ answers_behind rules 0 did.lines ++ closing_text rules did.lines)
+
+-- of what came of it all complete lines were answered, and their answers and then this text were printed
+pub record AnswersComplete (bus : NamedBus) (rules : List FrameRule) (image : Option (List ℕ)) (log : Reading)
+    (d : DiskStates) (e : Ending) (text : List ℕ) : Type 0 where
+  pub did : DidEndpoint bus rules image log d e
+  pub read : LinesRead rules did.ran.booted log did.lines did.ran.now
+  pub unfailed : Unfailed did.lines
+  pub prints : PrintsWhole e (opening_of did.told ++ answers_behind rules 0 did.lines ++ text)
+
+-- the disk failed at the last line that was taken, and at none before it: all answers were printed
+pub record StopsAtDisk (bus : NamedBus) (rules : List FrameRule) (image : Option (List ℕ)) (log : Reading)
+    (d : DiskStates) (e : Ending) : Type 0 where
+  pub did : DidEndpoint bus rules image log d e
+  pub earlier : List LineMoment
+  pub last : LineMoment
+  pub lines_are : did.lines ≡ earlier ++ last ∷ []
+  pub unfailed : Unfailed earlier
+  pub tells : tells_failed_disk last.line ≡ true
+  pub calm : log.after.faults ≡ log.before.faults
+  pub prints : PrintsWhole e (opening_of did.told ++ answers_behind rules 0 did.lines)
+
+-- ---- the disk
+
+-- the count of faults of the first disk rose, or is full
+abbrev pub FirstDiskFailed : DiskStates → Type 0
+FirstDiskFailed d = (disk : DiskState) → Rose (get_or d.before 0 disk).faults (get_or d.after 0 disk).faults
+
+-- the first disk tells bytes over which the one node of the bus can't go on
+abbrev pub HoldsNoStore : NamedBus → List DiskState → Type 0
+HoldsNoStore bus disks = (disk : DiskState) → (told : Told) × ((get_or disks 0 disk).told ≡ Some told)
+    × ¬ CanStart Attach bus.kind bus.version (node_line_at bus.nodes 0).config told.bytes
+
+-- ---- the table
+
+-- the usage line was printed, and nothing was read
+abbrev pub TellsEndpointUsage : EndpointInputs → Ending → Type 0
+TellsEndpointUsage i e = (¬ AsksEndpoint i.words)
+    × (IsUnread i.config × IsUnread i.map × IsUnread i.image × IsUnread i.log) × PrintsWhole e endpoint_usage
+
+-- what is printed at 3: the first fault of the bus file, or that its bus hasn't one node, or that the image isn't one
+pub data TellsRefused (i : EndpointInputs) (e : Ending) : Type 0 where
+  by_fault : (fault : ConfigFault) (text : List ℕ) → HasConfigFault i fault → config_fault_text fault ≡ Some text
+      → PrintsWhole e text → TellsRefused i e
+  by_nodes : HasOtherNodes i → PrintsWhole e (line (codes "config: nodes")) → TellsRefused i e
+  by_image : HasOtherImage i → PrintsWhole e (line (codes "image: length")) → TellsRefused i e
+
+-- THE TABLE OF ANSWERS, in three parts. "Both ways": the status has this cause, and the cause brings the status. A sink
+-- whose count of faults rises makes it 6 instead. 0, 3, 4, 9 and 10 may give way to 7, out of memory; no clause brings
+-- 7.
+
+-- 2, 3 and 4: the arguments are malformed; the bus file or the image is refused; a line of the map is
+pub record RefusesEndpoint (i : EndpointInputs) (e : Ending) : Type 0 where
+  -- 2, both ways: the arguments are malformed; nothing was read.
+  pub usage : e.status ≡ 2 → TellsEndpointUsage i e
+  pub usage_only : ¬ AsksEndpoint i.words → EndsIn 2 e
+  -- 3, both ways: the bus file has a fault, or its bus hasn't one node; or an image hasn't 1 to 65,536 bytes.
+  pub refused : e.status ≡ 3 → TellsRefused i e
+  pub config_refused_only : (file : List ℕ) (fault : ConfigFault) → AsksEndpoint i.words → Offers i.config file
+      → bus_of file ≡ Err fault → MayEndIn 3 e
+  pub nodes_refused_only : (bus : NamedBus) → AsksEndpoint i.words → OffersBus i.config bus → length bus.nodes ≢ 1
+      → MayEndIn 3 e
+  pub image_refused_only : (bus : NamedBus) (rules : List FrameRule) (image : List ℕ) → OffersRules i bus rules
+      → AsksBoot i.words → Offers i.image image → ¬ IsImage image → MayEndIn 3 e
+  -- 4, both ways: the map has a fault over the node's routes, and its first fault is printed.
+  pub map_refused : e.status ≡ 4 → (fault : Fault) × HasMapFault i fault × PrintsWhole e (fault_text_of fault)
+  pub map_refused_only : (bus : NamedBus) (text : List ℕ) (fault : Fault) → OffersNode i bus → Offers i.map text
+      → rules_of (routes_of bus) text ≡ Err fault → MayEndIn 4 e
+
+-- 5 to 8: a source failed; the sink failed; out of memory; a source had too much
+pub record TellsEndpointPorts (same : Type 0) (i : EndpointInputs) (d : DiskStates) (e : Ending) : Type 0 where
+  -- 5, both ways: the count of faults of a source that was read rose; 5 may come if it is full, too. Of the log all
+  -- complete lines that came were answered.
+  pub read_fault : e.status ≡ 5 → (LacksEndpointInput i ReadFault × PrintsWhole e (codes "read fault\n"))
+      ⊎ (SourceFailed i.log
+      × OverEndpoint i (λ bus rules image. AnswersComplete bus rules image i.log d e (codes "read fault\n")))
+  pub read_fault_only : CountsFault i.config ⊎ CountsFault i.map ⊎ CountsFault i.image ⊎ CountsFault i.log → EndsIn 5 e
+  -- 6, both ways: the sink's count of faults rose; 6 may come if it is full, too. A prefix was written of a row that
+  -- comes; or lines were taken, of whose answers `DidEndpoint` says what was printed.
+  pub write_fault : e.status ≡ 6 → SinkFailed e × (PrintsFront (ComesUnlogged same i d) e ⊎ DidLines i d e)
+  pub write_fault_only : CountsWriteFault e → e.status ≡ 6
+  -- 7, one way: only before the log; nothing was printed.
+  pub no_memory : e.status ≡ 7 → ComesUnlogged same i d memory_row × IsUnread i.log × PrintsWhole e []
+  -- 8, both ways: one byte more than 1,048,576 came from a source other than the log; or 2^64 - 1 bytes and more of the
+  -- log, whose complete lines were answered.
+  pub too_long : e.status ≡ 8 → (LacksEndpointInput i TooLong × PrintsWhole e (codes "input too long\n"))
+      ⊎ OverEndpoint i (λ bus rules image.
+      (answers : AnswersComplete bus rules image i.log d e (codes "input too long\n"))
+      × (last_count ≤ length answers.read.bytes))
+  pub too_long_only : CountsTooMuch i.config ⊎ CountsTooMuch i.map ⊎ CountsTooMuch i.image → EndsIn 8 e
+
+-- 9, 10 and 11: there is no disk, or it is too small; a store is refused; the disk failed at a line
+pub record TellsEndpointDisk (same : Type 0) (i : EndpointInputs) (d : DiskStates) (e : Ending) : Type 0 where
+  -- Every disk is as before at 2, 3, 4 and 9.
+  pub unused : (e.status ≡ 2) ⊎ (e.status ≡ 3) ⊎ (e.status ≡ 4) ⊎ (e.status ≡ 9) → same
+  -- 9, both ways: there is no disk, or the first is too small for the node's store.
+  pub disks_refused : e.status ≡ 9 → IsUnread i.log × OverEndpoint i (λ bus rules image.
+      (fault : StartFault) × FindsRoom bus d.before fault × (d.after ≡ d.before) × PrintsWhole e (start_row fault).text)
+  pub disks_refused_only : (bus : NamedBus) (rules : List FrameRule) (image : Option (List ℕ))
+      → OffersEndpoint i bus rules image → ¬ HasRoom bus d.before → MayEndIn 9 e
+  -- 10, both ways: the disk failed, and wasn't quiet; or it didn't fail, and its bytes are refused. It is left as an
+  -- unfinished start leaves it.
+  pub store_refused : e.status ≡ 10 → IsUnread i.log × OverEndpoint i (λ bus rules image.
+      (fault : StartFault) × HasRoom bus d.before × StoreCause Attach bus d.before d.after fault
+      × LeavesEach Attach bus d.before d.after × PrintsWhole e (start_row fault).text)
+  pub store_refused_only : (bus : NamedBus) (rules : List FrameRule) (image : Option (List ℕ))
+      → OffersEndpoint i bus rules image → HasRoom bus d.before → HoldsNoStore bus d.before → MayEndIn 10 e
+  -- 11, both ways: the disk's count of faults rose (or is full) at a line of the log, whose answer tells so. If it rose
+  -- before the log, the row of 10 tells that it failed.
+  pub disk_failed : e.status ≡ 11
+      → FirstDiskFailed d × OverEndpoint i (λ bus rules image. StopsAtDisk bus rules image i.log d e)
+  pub disk_failed_only : CountsDiskFault d 0 → EndsInRow (λ row. row ≡ failed_row 0) e ⊎ EndsIn 11 e
+
+-- what a run promises that has these inputs and disks and ends so; `same` is that every disk is as before
+pub record RunsEndpoint (same : Type 0) (i : EndpointInputs) (d : DiskStates) (e : Ending) : Type 0 where
+  -- A row comes before the log. Or the node is started, and took lines: each answer was printed, up to the last, and
+  -- what was done is one run of the machine over a disk that tells its bytes.
+  pub ends : EndsEndpoint same i d e
+  -- No status comes but 0 and 2 to 11.
+  pub statuses : (e.status ≡ 0) ⊎ ((2 ≤ e.status) × (e.status ≤ 11))
+  -- 0: the log ended, and all its lines were answered.
+  pub answered : e.status ≡ 0 → OverEndpoint i (λ bus rules image. AnswersWholeLog bus rules image i.log d e)
+  -- What is valid ends with 0 or 7 on three conditions. The disk serves: it was quiet, or its count didn't rise. The
+  -- counts of the log and the sink neither rose nor are full. Fewer than 2^64 - 1 bytes came of the log.
+  pub complete : (bus : NamedBus) (rules : List FrameRule) (image : Option (List ℕ)) → OffersEndpoint i bus rules image
+      → BusHasDisks Attach bus d → ¬ SourceFailed i.log → i.log.after.taken < last_count → ¬ SinkFailed e
+      → (e.status ≡ 0) ⊎ (e.status ≡ 7)
+  -- 2 to 4, 5 to 8, and 9 to 11.
+  pub inputs : RefusesEndpoint i e
+  pub ports : TellsEndpointPorts same i d e
+  pub disk : TellsEndpointDisk same i d e

@@ -1,0 +1,4 @@
+mod LoadSteps
+mod LoadedNode
+mod LivesOfRuns
+mod RefusedRuns

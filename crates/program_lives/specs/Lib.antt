@@ -1,0 +1,2 @@
+pub mod ProgramRuns
+pub mod RefusedRuns
