@@ -504,6 +504,9 @@ WRONG_MAPS = {
     "other letters": f"124 120f {KEY.hex()} {0:016x} \u0664",
     "optional twice": f"124 120f {KEY.hex()} {0:016x} 4 256 - optional optional",
     "words behind optional": f"124 120f {KEY.hex()} {0:016x} 4 optional can0",
+    "a name of another byte": f"124 120f {KEY.hex()} {0:016x} 4 name=a/b",
+    "two names": f"124 120f {KEY.hex()} {0:016x} 4 name=a name=b",
+    "no name": f"124 120f {KEY.hex()} {0:016x} 4 name=",
     "a word too few before a comment": f"124 120f {KEY.hex()} {0:016x} # 4",
     "a line that no frame reaches": f"321 120f {KEY.hex()} {0:016x} 4 9 can0",
 }
@@ -521,7 +524,7 @@ def test_a_map_in_the_forms_that_the_programs_take(tmp_path: Path) -> None:
     line = f"124\t120f  {KEY.hex()} {0:016x} 4"
     text = f"# caf\u00e9\r\n\r\n \t{line} 2 can\u00e9\t\r\n{line} 2 can1\n{line}\r"
     others = [line.replace("124", can, 1) for can in ("125", "126")]
-    text += f"\n{others[0]} optional # not in every car\n{others[1]} 3 can1 optional\n"
+    text += f"\n{others[0]} optional name=a.b-c_1 # not in every car\n{others[1]} 3 can1 name=x optional\n"
     (tmp_path / "map").write_text(text, encoding="utf-8", newline="")
     lines = [("can\u00e9", 2), ("can1", 2), (None, 256), (None, 256), ("can1", 3)]
     assert [(it.channel, it.window) for it in read_map(tmp_path / "map")] == lines

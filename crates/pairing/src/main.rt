@@ -1,8 +1,7 @@
 //! `pairing`: Secured PDU collections (AUTOSAR SecOC, profile 1), joined, judged, and made from payloads.
 //!
-//! [`pdu_collection::pair_words`] is the program, with the record `RunsPairs`. `start` promises it of the
-//! arguments (`words`), and hands the source back as the run left it; without arguments of the example
-//! (`example`).
+//! [`pdu_collection::pair_words`] is the program, with the record `RunsPairs`. Here it is handed the arguments, the
+//! files, standard input and standard output.
 #![tactic(auto)]
 
 use pdu_collection::pair_words;

@@ -250,10 +250,11 @@ class FrameVerdict:
 
 
 def read_map(path: str | PathLike[str]) -> list[MapLine]:
-    """The lines of a map file of `audit` or `watch`: CANID ID KEY FRESH LEN [WINDOW [CHANNEL]] [optional].
+    """The lines of a map file of `audit` or `watch`: CANID ID KEY FRESH LEN [WINDOW [CHANNEL]] [optional]
+    [name=NAME].
 
     CANID has three or eight hexadecimal digits, ID 4, KEY 32, FRESH 16; LEN and WINDOW are decimal; `-` is any
-    channel. `optional` says nothing here. A word that begins with `#` begins a comment. ValueError: a line is
+    channel. `optional` and the name say nothing here. A word that begins with `#` begins a comment. ValueError: a line is
     malformed, or no frame would reach it since an earlier line has them all; it is named.
     """
     lines: list[MapLine] = []
@@ -262,9 +263,8 @@ def read_map(path: str | PathLike[str]) -> list[MapLine]:
             words = [word for word in re.split("[ \t]+", line.removesuffix("\n").removesuffix("\r")) if word]
             words = list(takewhile(lambda word: not word.startswith("#"), words))
             if words:
-                own = words[:-1] if words[-1] == "optional" else words
                 try:
-                    lines.append(_reached(_map_line(*own), lines))
+                    lines.append(_reached(_map_line(*_without_marks(words)), lines))
                 except (ValueError, TypeError) as error:
                     raise ValueError(f"{path}: line {count}: {error}") from None
     return lines
@@ -289,6 +289,18 @@ def _decimal(word: str) -> int:
     if not (word.isascii() and word.isdigit()) or (word != "0" and word.startswith("0")):
         raise ValueError("a decimal number is wanted")
     return int(word)
+
+
+def _without_marks(words: list[str]) -> list[str]:
+    """The words before `optional` and `name=NAME`, which may follow them in either order. ValueError: another word."""
+    own = list(takewhile(lambda word: word != "optional" and not word.startswith("name="), words))
+    marks = words[len(own) :]
+    for mark in marks:
+        if mark != "optional" and not re.fullmatch("name=[A-Za-z0-9_.-]{1,32}", mark):
+            raise ValueError("optional or a name is wanted")
+    if len({mark.partition("=")[0] for mark in marks}) < len(marks):
+        raise ValueError("optional and a name come once")
+    return own
 
 
 def _map_line(*words: str) -> MapLine:
