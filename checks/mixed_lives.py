@@ -377,7 +377,9 @@ class History:
         if ending == "killed":
             preload |= {"FILE_KILL_AT": at, "FILE_KILL_HOW": draw.choice(["before", "within", "behind"])}
         if ending == "failing":
-            preload[draw.choice(FAILURES)] = at
+            preload |= {draw.choice(FAILURES): at, "FILE_LOG": room.log}
+        room.log.write_text("")
+        is_new = not room.disk.exists()
         words, given = self.words(program, events)
         boots = program == "endpoint" and draw.randrange(8) == 0
         with open(given, "rb") as it:
@@ -393,7 +395,12 @@ class History:
             lines = file_lives.whole_lines(b"".join(data for kind, _, data in moments if kind == "p"))
         for moment in moments:
             self.device.take(*moment)
-        wrong += self.judge(program, ending, events, status, lines, boots, seen)
+        wrong += self.judge(program, ending, events, status, list(lines), boots, seen)
+        # a new file whose sync failed is made once more, in its place
+        has_failed = any(line.endswith(" -1") for line in room.log.read_text().splitlines()) and not is_new
+        if has_failed and not any(it.endswith(("refused MEMORY_FAILURE", "DiskFailed")) for it in lines):
+            wrong.append("a failure that doesn't show")
+        seen[f"{program} failed"] += has_failed
         if ending == "cut":
             image = draw.choice(list(self.device.images(draw, 2)))
             room.put(image)
@@ -449,7 +456,7 @@ class History:
 def wanted():
     """What has to come at least once in a thousand lives."""
     yield from (f"{program} {ending}" for program in ANSWERS for ending in ("whole", "killed", "failing", "cut"))
-    yield from (f"{program} loaded" for program in ANSWERS)
+    yield from (f"{program} {word}" for program in ANSWERS for word in ("failed", "loaded"))
     yield from (f"{program} refused {why}" for program in ANSWERS for why in ("KEY_UPDATE_ERROR", "MEMORY_FAILURE"))
     words = ("sent", "accepted", "VERIFICATIONFAILURE")
     yield from (f"{program} {word}" for program in ("node", "endpoint") for word in words)

@@ -8,6 +8,7 @@ use Rattle.cut_disk.specs.State.{DiskState, Told}
 use Rattle.cut_disk.specs.Images.{Image, firm}
 use Rattle.cut_disk.specs.ImageLaws.{image_is_read}
 use Rattle.cell_store.specs.declared.kinds.Kind.{Kind}
+use Rattle.cell_store.specs.declared.kinds.Layout.{Layout}
 use Rattle.cell_store.specs.declared.kinds.Version.{Version}
 use Rattle.cell_store.specs.declared.kinds.Version.TheVariants.{One, Two}
 use Rattle.cell_store.specs.Layout.{layout}
@@ -27,7 +28,7 @@ use Rattle.bus_config.specs.declared.node_lines.NodeLine.{NodeLine}
 use Rattle.bus_config.specs.Buses.{NamedBus, IsNodeLine, IsNamedBus, configs_of}
 use Rattle.bus_laws.proofs.CallerLemmas.{pending_forward, first_at, Grows-run, Sound-run, as_many_run}
 use Rattle.secoc_node.specs.Cells.{CellsOf}
-use Rattle.secoc_node.specs.Fits.{node_keeping, FitsNode}
+use Rattle.secoc_node.specs.Fits.{StandsForNode, FitsNode}
 use Rattle.secoc_node.proofs.CallerLemmas.{length-CellsOf, kept_of_sound, kept_changed, kept_once, FoundCells}
 use Rattle.bus_world.proofs.CallerLemmas.{standing_not_blank, standing_not_older, standing_not_foreign, older_not_blank, older_not_foreign}
 use Rattle.bus_world.proofs.CallerLemmas.{blank_not_foreign, older_one, counted_once}
@@ -168,10 +169,12 @@ mapped : {A B : Type 0} (f : A → B) (o : Option A) (y : B) → option_map f o 
 mapped f None y is = absurd (none-some y is)
 mapped f (Some x) y is = (x, refl, same_Some y (f x) (sym is))
 
-pub may_keep : (node : Node) (cells : List (List ℕ)) → (cells ≡ (node_keeping node).cells) ⊎ ((node_keeping node).pending ≡ Some cells)
-    → FoundCells node cells
-may_keep node cells (inl as_before) = inl as_before
-may_keep node cells (inr made) = inr (mapped (λ (change : Change). CellsOf node.config (changed change node.kept)) node.pending cells made)
+-- bytes that stand for a node stand for cells that may be found of it
+pub may_find : (layout : Layout) (node : Node) (x : List ℕ) → (stood : StandsForNode layout node x) → FoundCells node stood.cells
+may_find layout node x stood = elim stood.kept [
+  | inl as_before ↦ inl as_before
+  | inr made ↦ inr (mapped (λ (change : Change). CellsOf node.config (changed change node.kept)) node.pending stood.cells made)
+]
 
 pub found_size : (node : Node) (cells : List (List ℕ)) → Sound node → FoundCells node cells → length cells ≡ cells_in node.config
 found_size node cells s (inl as_before) = ap (λ (l : List (List ℕ)). length l) as_before ∙ length-CellsOf node.config node.kept (kept_of_sound node s)
@@ -346,7 +349,7 @@ module _ (life : Life) (has : HasConfigs life.bus life.first) (run : IsLife life
   own_stands i d t x inside told image =
       let found = (fits_last i d t inside told).images x image in
       let may : FoundCells (node_at life.last i) found.cells =
-      may_keep (node_at life.last i) found.cells found.kept in
+      may_find (layout life.bus.kind life.bus.version) (node_at life.last i) x found in
       record {
         cells = found.cells;
         may = may;

@@ -8,6 +8,7 @@ use Rattle.cut_disk.specs.Calls.{IsQuiet}
 use Rattle.cut_disk.specs.Memory.{fresh, disk_of}
 use Rattle.cut_disk.specs.MemDisk.{contents}
 use Rattle.cell_store.specs.declared.faults.Reread.TheVariants.{DiskFailed, NotFormatted, Damaged}
+use Rattle.freshness_routes.specs.Config.{Config}
 use Rattle.bus_config.specs.Buses.{NamedBus, IsNamedBus}
 use Rattle.bus_world.specs.declared.start.Start.TheVariants.{Format}
 use Rattle.bus_world.specs.declared.start.StartFault.{StartFault}
@@ -33,7 +34,7 @@ blank_quiet size = record { quiet = refl; below = omega arith }
 -- ---- no disk fails
 
 quiet_there : (count size : ℕ) (disks : List MemDisk) (bus : NamedBus) (after : List DiskState) (number : ℕ)
-    (P : _ → DiskState → DiskState → Type 0)
+    (P : Config → DiskState → DiskState → Type 0)
     → AreBlank count size disks → OfNumber Format bus (disk_states disks) after number P
     → P (get_or bus.nodes (number - 1) no_line).config (blank_state size) (get_or after (number - 1) (blank_state size))
 quiet_there count size disks bus after number P are of =

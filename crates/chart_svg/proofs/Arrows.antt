@@ -23,18 +23,18 @@ use Rattle.chart_svg.specs.MarkLaws.{run_marks, HasOneArrow, HasEdgeArrow, origi
 -- ---- where a moment stands
 
 -- the moment of which this holds, and what is before and after it
-pub record Found (P : World → Instant → Type 0) (before : World) (ms : Moments) : Type 0 where
+pub record SplitAt (P : World → Instant → Type 0) (before : World) (ms : Moments) : Type 0 where
   pub front : Moments
   pub m : Instant
   pub rest : Moments
   pub whole : ms ≡ front ++ m ∷ rest
   pub holds : P (state_after before front) m
 
-found_at : (P : World → Instant → Type 0) (before : World) (ms : Moments) → AtSome P before ms → Found P before ms
-found_at P before [] some = absurd some
-found_at P before (m ∷ ms) (inl here) = record { front = []; m = m; rest = ms; whole = refl; holds = here }
-found_at P before (m ∷ ms) (inr later) =
-    let f = found_at P m.after ms later in
+split_where : (P : World → Instant → Type 0) (before : World) (ms : Moments) → AtSome P before ms → SplitAt P before ms
+split_where P before [] some = absurd some
+split_where P before (m ∷ ms) (inl here) = record { front = []; m = m; rest = ms; whole = refl; holds = here }
+split_where P before (m ∷ ms) (inr later) =
+    let f = split_where P m.after ms later in
     record { front = m ∷ f.front; m = f.m; rest = f.rest; whole = ap (λ (xs : Moments). m ∷ xs) f.whole; holds = f.holds }
 
 -- each moment of a run counts one event
@@ -134,7 +134,7 @@ one_arrow : (start : World) (ms : Moments) (last : World) → IsFirst start → 
 one_arrow start ms last first run authentic front rest m id v number payload whole line =
     let right = subst (RightLine start front m) line (authentic front m rest whole) in
     let was = right.names number refl in
-    let f = found_at (SentAs was.sent was.key) start front was.was_sent in
+    let f = split_where (SentAs was.sent was.key) start front was.was_sent in
     let all : ms ≡ f.front ++ f.m ∷ (f.rest ++ m ∷ rest) =
     whole ∙ ap (λ (xs : Moments). xs ++ m ∷ rest) f.whole ∙ append_assoc f.front (f.m ∷ f.rest) (m ∷ rest) in
     let counted = events_behind start f.front (f.m ∷ (f.rest ++ m ∷ rest)) last (subst (λ (xs : Moments). Run Step start xs last) all run) in

@@ -7,6 +7,7 @@ use Rattle.key_slots.specs.declared.refusals.Erc.{Erc}
 use Rattle.key_slots.specs.declared.memory.Slot.{Slot}
 use Rattle.key_slots.specs.declared.usage.Purpose.TheVariants.{Mac}
 use Rattle.key_slots.specs.Usage.{usable}
+use Rattle.memory_update.specs.declared.messages.Request.{Request}
 use Rattle.freshness_routes.specs.declared.routes.Route.{Route}
 use Rattle.freshness_routes.specs.declared.routes.Direction.TheVariants.{Sends, Receives}
 use Rattle.freshness_routes.specs.Changes.{last_freshness}
@@ -97,7 +98,7 @@ receive_harmless node id pdu refusal e =
     )
     e
 
-update_harmless : (node : Node) (request : _) (refusal : Refusal) → RefusesUpdate node request refusal → refusal_turn refusal ≡ None
+update_harmless : (node : Node) (request : Request) (refusal : Refusal) → RefusesUpdate node request refusal → refusal_turn refusal ≡ None
 update_harmless node request Down step = refl
 update_harmless node request (Key erc) step = refl
 update_harmless node request _ step = absurd step

@@ -1,8 +1,8 @@
 //! `endpoint`: a node between the channels of a running bus, whose counters and keys survive a power cut (AUTOSAR
 //! SecOC, profile 1; SHE).
 //!
-//! [`endpoint_commands::endpoint_words`] is the program, with all that is promised of it. Here it gets the arguments, the
-//! files and the disk that they name, standard input and standard output.
+//! [`endpoint_commands::endpoint_words`] is the program, with all that is promised of it. Here it gets the arguments,
+//! the files and the disk that they name, standard input and standard output.
 #![tactic(auto)]
 
 use endpoint_commands::endpoint_words;

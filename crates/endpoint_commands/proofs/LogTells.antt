@@ -1,7 +1,9 @@
 -- What the ways in which a log ends say, by the status
-use Rattle.std.specs.Prelude.{◌≡◌, ◌⊎◌, ◌+◌, ◌≤◌, ℕ, true, List, [], ◌∷◌, ◌++◌, length, codes}
+use Rattle.std.specs.Prelude.{◌≡◌, ◌⊎◌, ◌+◌, ◌<◌, ◌≤◌, ℕ, true, List, [], ◌∷◌, ◌++◌, length, take, codes}
 use Rattle.std.proofs.Common.{refl, sym, ap, ◌∙◌, subst, arith, inl, inr, append-nil, append_assoc}
 use Rattle.basics.specs.FaultCount.{last_count}
+use Rattle.bus_port.specs.Source.{SourceState}
+use Rattle.bus_port.specs.Sink.{Appended}
 use Rattle.program_edge.specs.Inputs.{Reading, SourceFailed}
 use Rattle.program_edge.specs.Endings.{Ending, PrintsWhole, SinkFailed}
 use Rattle.secoc_node.specs.State.{NodeState}
@@ -34,9 +36,17 @@ module _ (rules : List FrameRule) (booted : NodeState) (opening : List ℕ) (log
   TellsStopped lines = (earlier : List LineMoment) × (last : LineMoment) × (lines ≡ earlier ++ last ∷ []) × Unfailed earlier × (tells_failed_disk last.line ≡ true)
       × (log.after.faults ≡ log.before.faults) × PrintsWhole e (opening ++ answers_behind rules 0 lines)
 
+  -- 6, and the log's count rose
+  abbrev pub TellsFirst : List LineMoment → Type 0
+  TellsFirst lines = LinesRead rules booted log lines now × (size : ℕ) × (size < length (codes "read fault\n"))
+      × Appended e.before e.after (printed lines (take size (codes "read fault\n")))
+
+  abbrev pub TellsSink : List LineMoment → Type 0
+  TellsSink lines = SinkFailed e × ((log.after.faults ≡ log.before.faults) ⊎ TellsFirst lines)
+
   abbrev pub LogTells : List LineMoment → Type 0
   LogTells lines = ((e.status ≡ 0) × TellsDone lines) ⊎ (((e.status ≡ 5) × TellsFailed lines) ⊎ (((e.status ≡ 8) × TellsTooLong lines)
-      ⊎ (((e.status ≡ 11) × TellsStopped lines) ⊎ ((e.status ≡ 6) × SinkFailed e))))
+      ⊎ (((e.status ≡ 11) × TellsStopped lines) ⊎ ((e.status ≡ 6) × TellsSink lines))))
 
   -- ---- the texts
 
@@ -61,31 +71,31 @@ module _ (rules : List FrameRule) (booted : NodeState) (opening : List ℕ) (log
 
   -- ---- the ways
 
-  sink_failed : (lines : List LineMoment) → e.status ≡ 6 → SinkFailed e → LogTells lines
-  sink_failed lines six fails = inr (inr (inr (inr (six, fails))))
+  sink_failed : (lines : List LineMoment) → e.status ≡ 6 → SinkFailed e → log.after.faults ≡ log.before.faults → LogTells lines
+  sink_failed lines six fails calm = inr (inr (inr (inr (six, (fails, inl calm)))))
 
   tells_done : (moments : List LineMoment) (last : LineMoment) → LogRead rules booted log (moments ++ last ∷ []) now → Unfailed (moments ++ last ∷ [])
       → EndsBehind e (opening ++ answers_behind rules 0 moments) (record { status = 0; text = answer_behind rules (length moments) last ++ closing_text rules (moments ++ last ∷ []) })
       → LogTells (moments ++ last ∷ [])
   tells_done moments last read unfailed (inl (is, prints)) =
       inl (is, (read, unfailed, subst (PrintsWhole e) (last_printed moments last (closing_text rules (moments ++ last ∷ []))) prints))
-  tells_done moments last read unfailed (inr (six, fails, front)) = sink_failed (moments ++ last ∷ []) six fails
+  tells_done moments last read unfailed (inr (six, fails, front)) = sink_failed (moments ++ last ∷ []) six fails read.reads.no_fault
 
   tells_failed : (moments : List LineMoment) → LinesRead rules booted log moments now → Unfailed moments → SourceFailed log
       → EndsBehind e (opening ++ answers_behind rules 0 moments) (record { status = 5; text = codes "read fault\n" }) → LogTells moments
   tells_failed moments read unfailed fails (inl (is, prints)) =
       inr (inl (is, (fails, read, unfailed, prints)))
-  tells_failed moments read unfailed fails (inr (six, sink, front)) = sink_failed moments six sink
+  tells_failed moments read unfailed fails (inr (six, sink, (n, less, part))) = inr (inr (inr (inr (six, (sink, inr (read, n, less, part))))))
 
   tells_too_long : (moments : List LineMoment) (read : LinesRead rules booted log moments now) → Unfailed moments → log.after.faults ≡ log.before.faults → last_count ≤ length read.bytes
       → EndsBehind e (opening ++ answers_behind rules 0 moments) (record { status = 8; text = codes "input too long\n" }) → LogTells moments
   tells_too_long moments read unfailed calm long (inl (is, prints)) =
       inr (inr (inl (is, (calm, read, long, unfailed, prints))))
-  tells_too_long moments read unfailed calm long (inr (six, sink, front)) = sink_failed moments six sink
+  tells_too_long moments read unfailed calm long (inr (six, sink, front)) = sink_failed moments six sink calm
 
   tells_stopped : (moments : List LineMoment) (last : LineMoment) → Unfailed moments → log.after.faults ≡ log.before.faults → StopsAt rules opening moments last e
       → LogTells (moments ++ last ∷ [])
-  tells_stopped moments last unfailed calm (by_sink six fails n less front) = sink_failed (moments ++ last ∷ []) six fails
+  tells_stopped moments last unfailed calm (by_sink six fails n less front) = sink_failed (moments ++ last ∷ []) six fails calm
   tells_stopped moments last unfailed calm (by_disk eleven tells prints) =
       inr (inr (inr (inl (eleven, (moments, last, refl, unfailed, tells, calm, subst (PrintsWhole e) (answered_more moments last) prints)))))
 
@@ -97,5 +107,5 @@ module _ (rules : List FrameRule) (booted : NodeState) (opening : List ℕ) (log
   log_tells _ (stopped_last moments last read unfailed stops) = tells_stopped moments last unfailed read.reads.no_fault stops
 
   pub booted_tells : (lines : List LineMoment) → EndsBooted rules booted opening log e now lines → LogTells lines
-  booted_tells _ (not_opened six fails part unread same) = sink_failed [] six fails
+  booted_tells _ (not_opened six fails part unread same) = sink_failed [] six fails (ap (λ (s : SourceState). s.faults) unread)
   booted_tells _ (of_log lines ends) = log_tells lines ends

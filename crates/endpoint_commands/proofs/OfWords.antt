@@ -14,7 +14,7 @@ use Rattle.endpoint_commands.specs.declared.run.EndpointForm.{EndpointForm}
 use Rattle.endpoint_commands.specs.declared.run.EndpointForm.TheVariants.{Plain, Boots}
 use Rattle.endpoint_commands.specs.Rows.{EndpointInputs, AsksEndpoint, AsksForm}
 use Rattle.endpoint_commands.specs.Promises.{DidLines, IsOneRun}
-use Rattle.endpoint_commands.specs.Named.{word_of_form, SourcesLeft, EndpointOfSources, EndpointOfWords, WantsEndpointDisk}
+use Rattle.endpoint_commands.specs.Named.{word_of_form, SourcesLeft, EndpointOfSources, EndpointOfWords, ComesOfEndpointWords}
 
 -- ---- the word of the disk
 
@@ -96,13 +96,10 @@ module _ {D : Type 0} (state : D → DiskState) (opens : List ℕ → SourceStat
         (subst (λ (w : Option (List ℕ)). DisksAreNamed opens_disk o.disks_before o.disks_after w (map state disks.items)) (is ∙ ap (λ (ws : List (List ℕ)). word_of_form ws 3) (sym over.words_are)) named);
   }
 
-  abbrev ComesOfWords : Type 0
-  ComesOfWords = EndpointOfWords state opens opens_disk o words left used e ⊎ WantsEndpointDisk o words left used e
-
-  pub words_usage : ComesOfWords → e.status ≡ 2 → ¬ AsksEndpoint words
+  pub words_usage : ComesOfEndpointWords state opens opens_disk o words left used e → e.status ≡ 2 → ¬ AsksEndpoint words
   words_usage (inl ran) two = subst (λ (ws : List (List ℕ)). ¬ AsksEndpoint ws) ran.over.words_are (ran.over.runs.inputs.usage two).0
   words_usage (inr wants) two = absurd (let no : ⊥ = omega (arith, wants.status_is, two) in no)
 
-  pub words_usage_only : ComesOfWords → ¬ AsksEndpoint words → EndsIn 2 e
+  pub words_usage_only : ComesOfEndpointWords state opens opens_disk o words left used e → ¬ AsksEndpoint words → EndsIn 2 e
   words_usage_only (inl ran) other = ran.over.runs.inputs.usage_only (subst (λ (ws : List (List ℕ)). ¬ AsksEndpoint ws) (sym ran.over.words_are) other)
   words_usage_only (inr wants) other = absurd (other wants.asks)

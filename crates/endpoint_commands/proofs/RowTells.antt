@@ -1,6 +1,7 @@
 -- What a row that comes before the log says, by its status
 use Rattle.std.specs.Prelude.{◌≡◌, ◌⊎◌, ◌≤◌, ℕ, ◌==◌, Bool, true, false, Option, Some, List, codes}
-use Rattle.std.proofs.Common.{refl, subst, arith, inl, inr}
+use Rattle.std.proofs.Common.{refl, ap, subst, arith, inl, inr}
+use Rattle.bus_port.specs.Source.{SourceState}
 use Rattle.text_lines.specs.Readings.{Fault}
 use Rattle.text_lines.specs.Texts.{line, fault_text_of}
 use Rattle.program_edge.specs.declared.input.InputFault.TheVariants.{ReadFault, TooLong, Memory}
@@ -88,6 +89,23 @@ module _ (same : Type 0) (i : EndpointInputs) (d : DiskStates) where
   -- of a row with this status
   pub tells_at : (n : ℕ) (row : Row) → ComesUnlogged same i d row → row.status ≡ n → TellsAt n row
   tells_at n row comes is = subst (λ (m : ℕ). TellsAt m row) is (row_tells row comes)
+
+  input_unlogged : (row : Row) → ComesBeforeLog i row → IsUnread i.log
+  input_unlogged _ (no_form other config map image log) = log
+  input_unlogged _ (no_source fault lacks) = lacks_unlogged fault lacks
+  input_unlogged _ (config_fault fault text (asks, is, (map, image, log)) told) = log
+  input_unlogged _ (other_nodes (asks, has, (map, image, log))) = log
+  input_unlogged _ (map_fault fault (over, (image, log))) = log
+  input_unlogged _ (other_image (over, log)) = log
+  input_unlogged _ (no_room over log) = log
+
+  row_unread : (row : Row) → ComesUnlogged same i d row → IsUnread i.log
+  row_unread row (of_inputs _ comes before) = input_unlogged row comes
+  row_unread row (unstarted _ over log) = log
+
+  -- so its count of faults is as it was
+  pub unlogged : (row : Row) → ComesUnlogged same i d row → i.log.after.faults ≡ i.log.before.faults
+  unlogged row comes = ap (λ (s : SourceState). s.faults) (row_unread row comes)
 
   -- ---- the statuses
 

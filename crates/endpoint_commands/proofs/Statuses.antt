@@ -19,10 +19,10 @@ use Rattle.endpoint_commands.specs.declared.rules.FrameRule.{FrameRule}
 use Rattle.endpoint_commands.specs.Rows.{EndpointInputs, OverEndpoint, SetsEndpoint, HasMapFault, OffersEndpoint}
 use Rattle.endpoint_commands.specs.Logs.{Unfailed}
 use Rattle.endpoint_commands.specs.Promises.{opening_of, DidEndpoint, DoesEndpoint, not_started, did, ComesUnlogged, unstarted, EndsEndpoint}
-use Rattle.endpoint_commands.specs.Table.{AnswersWholeLog, AnswersComplete, StopsAtDisk, FirstDiskFailed, HoldsNoStore, TellsEndpointUsage, TellsRefused, by_fault, by_nodes, by_image}
+use Rattle.endpoint_commands.specs.Table.{AnswersWholeLog, AnswersComplete, LogFailsFirst, StopsAtDisk, FirstDiskFailed, HoldsNoStore, TellsEndpointUsage, TellsRefused, by_fault, by_nodes, by_image}
 use Rattle.endpoint_commands.specs.Table.{RefusesEndpoint, TellsEndpointPorts, TellsEndpointDisk, RunsEndpoint}
-use Rattle.endpoint_commands.proofs.RowTells.{pick, Tells3, Tells4, Tells9, Tells10, tells_at, row_range, row_failure}
-use Rattle.endpoint_commands.proofs.LogTells.{LogTells, booted_tells}
+use Rattle.endpoint_commands.proofs.RowTells.{pick, Tells3, Tells4, Tells9, Tells10, unlogged, tells_at, row_range, row_failure}
+use Rattle.endpoint_commands.proofs.LogTells.{TellsFirst, LogTells, booted_tells}
 use Rattle.endpoint_commands.proofs.FaultCounts.{ran_calm, ran_rose, ran_quiet}
 use Rattle.endpoint_commands.proofs.Causes.{sets_calm, faults_5, too_much_8, only_2, fault_unset, config_only, nodes_unset, nodes_only, map_unset, map_only, image_unset, image_only, valid_bus, room_only, store_only, valid_7}
 
@@ -69,6 +69,7 @@ module _ (same : Type 0) (i : EndpointInputs) (d : DiskStates) (e : Ending) (end
     read_fault_only = λ counts. EndsInRow-only ends 5 (λ row comes. faults_5 i same d row comes counts);
     write_fault = λ six. let (fails, front) = EndsInRow-front ends status_6 six in (fails, inl front);
     write_fault_only = EndsInRow-rose ends;
+    log_fails_first = λ six rose. absurd (let no : ⊥ = omega (arith, unlogged same i d ends.row ends.comes, rose) in no);
     no_memory = at 7 refl (λ row comes is printed.
         let (memory, unread) = tells_at same i d 7 row comes is in
         (subst (ComesUnlogged same i d) memory comes, unread, subst (λ (r : Row). PrintsWhole e r.text) memory printed));
@@ -137,7 +138,12 @@ module _ (same : Type 0) (i : EndpointInputs) (d : DiskStates) (e : Ending) (bus
       (pick (n == 5) (SourceFailed i.log × AnswersComplete bus rules image i.log d e (codes "read fault\n"))
       (pick (n == 8) ((answers : AnswersComplete bus rules image i.log d e (codes "input too long\n")) × (last_count ≤ length answers.read.bytes))
       (pick (n == 11) (FirstDiskFailed d × StopsAtDisk bus rules image i.log d e)
-      (pick (n == 6) (SinkFailed e) ⊥))))
+      (pick (n == 6) (SinkFailed e × (CountsFault i.log → LogFailsFirst bus rules image i.log d e)) ⊥))))
+
+  fails_first : (i.log.after.faults ≡ i.log.before.faults) ⊎ TellsFirst rules x.ran.booted (opening_of x.told) i.log e x.ran.now x.lines → CountsFault i.log
+      → LogFailsFirst bus rules image i.log d e
+  fails_first (inl calm) rose = absurd (let no : ⊥ = omega (arith, calm, rose) in no)
+  fails_first (inr (read, n, less, part)) rose = record { did = x; read = read; size = n; proper = less; prints = part }
 
   log_at : LogAt e.status
   log_at = elim tells [
@@ -148,7 +154,7 @@ module _ (same : Type 0) (i : EndpointInputs) (d : DiskStates) (e : Ending) (bus
       ran_rose bus rules image d x.told x.lines x.ran earlier last lines fails,
       record { did = x; earlier = earlier; last = last; lines_are = lines; unfailed = unfailed; tells = fails; calm = calm; prints = prints },
     )
-    | inr (inr (inr (inr (is, fails)))) ↦ subst LogAt (sym is) fails
+    | inr (inr (inr (inr (is, (fails, first))))) ↦ subst LogAt (sym is) (fails, fails_first first)
   ]
 
   here : (n : ℕ) → e.status ≡ n → LogAt n
@@ -219,7 +225,7 @@ module _ (same : Type 0) (i : EndpointInputs) (d : DiskStates) (e : Ending) (bus
     | inr (inr (inl (is, (calm, read, long, unfailed, prints)))) ↦ absurd (let no : ⊥ = omega (arith, read.came.counted, long, few) in no)
     | inr (inr (inr (inl (is, (earlier, last, lines, unfailed, fails, calm, prints))))) ↦
         absurd (disk (ran_rose bus rules image d x.told x.lines x.ran earlier last lines fails))
-    | inr (inr (inr (inr (is, fails)))) ↦ absurd (well fails)
+    | inr (inr (inr (inr (is, (fails, first))))) ↦ absurd (well fails)
   ]
 
   -- the node was started over the bytes of its disk
@@ -251,8 +257,9 @@ module _ (same : Type 0) (i : EndpointInputs) (d : DiskStates) (e : Ending) (bus
   did_ports = record {
     read_fault = λ is. let (fails, answers) = here 5 is in inr (fails, (bus, rules, image, sets, answers));
     read_fault_only = did_faults;
-    write_fault = λ is. (here 6 is, inr (bus, rules, image, sets, x));
+    write_fault = λ is. let (fails, first) = here 6 is in (fails, inr (bus, rules, image, sets, x));
     write_fault_only = did_writes;
+    log_fails_first = λ is rose. let (fails, first) = here 6 is in (bus, rules, image, sets, first rose);
     no_memory = λ is. absurd (here 7 is);
     too_long = λ is. inr (bus, rules, image, sets, here 8 is);
     too_long_only = did_too_much;

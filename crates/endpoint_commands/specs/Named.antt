@@ -1,5 +1,6 @@
 -- What the words of an `endpoint` name
-use Rattle.std.specs.Prelude.{◌≡◌, ℕ, ◌==◌, ◌||◌, if◌then◌else◌, Option, None, List, [], length, map, slice_get, Vec}
+use Rattle.std.specs.Prelude.{◌≡◌, ◌⊎◌, ℕ, ◌==◌, ◌||◌, if◌then◌else◌, Option, None, List, [], length, map}
+use Rattle.std.specs.Prelude.{slice_get, Vec}
 use Rattle.std.specs.declared.alloc.Global.{Global}
 use Rattle.bus_port.specs.Source.{SourceState}
 use Rattle.cut_disk.specs.State.{DiskState}
@@ -79,3 +80,9 @@ pub record WantsEndpointDisk {D : Type 0} (o : OpenedByWords) (words : List (Lis
   pub no_log : left.log ≡ missing_source 0
   pub no_image : left.image ≡ missing_source 0
   pub no_disk : used.items ≡ []
+
+-- what comes of the words of a command line
+abbrev pub ComesOfEndpointWords : {D : Type 0} → (D → DiskState) → (List ℕ → SourceState → Type 0)
+    → (List ℕ → DiskState → Type 0) → OpenedByWords → List (List ℕ) → SourcesLeft → Vec D Global → Ending → Type 0
+ComesOfEndpointWords state opens opens_disk o words left used e =
+    EndpointOfWords state opens opens_disk o words left used e ⊎ WantsEndpointDisk o words left used e

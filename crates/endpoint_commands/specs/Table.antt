@@ -1,7 +1,8 @@
 -- The table of answers of `endpoint`: what a run promises, by status
 use Rattle.std.specs.Prelude.{◌≡◌, ◌≢◌, ◌⊎◌, ℕ, ◌<◌, ◌≤◌, true, Option, Some, Err, List, [], ◌∷◌, ◌++◌, length, get_or}
-use Rattle.std.specs.Prelude.{codes}
+use Rattle.std.specs.Prelude.{codes, take}
 use Rattle.basics.specs.FaultCount.{last_count, Rose}
+use Rattle.bus_port.specs.Sink.{Appended}
 use Rattle.text_lines.specs.Readings.{Fault}
 use Rattle.text_lines.specs.Texts.{line, fault_text_of}
 use Rattle.program_edge.specs.declared.input.InputFault.TheVariants.{ReadFault, TooLong}
@@ -49,6 +50,17 @@ pub record AnswersComplete (bus : NamedBus) (rules : List FrameRule) (image : Op
   pub read : LinesRead rules did.ran.booted log did.lines did.ran.now
   pub unfailed : Unfailed did.lines
   pub prints : PrintsWhole e (opening_of did.told ++ answers_behind rules 0 did.lines ++ text)
+
+-- it failed, and then the sink: all complete lines were answered, their answers were printed, and a proper prefix of
+-- the text that tells it
+pub record LogFailsFirst (bus : NamedBus) (rules : List FrameRule) (image : Option (List ℕ)) (log : Reading)
+    (d : DiskStates) (e : Ending) : Type 0 where
+  pub did : DidEndpoint bus rules image log d e
+  pub read : LinesRead rules did.ran.booted log did.lines did.ran.now
+  pub size : ℕ
+  pub proper : size < length (codes "read fault\n")
+  pub prints : Appended e.before e.after
+      (opening_of did.told ++ answers_behind rules 0 did.lines ++ take size (codes "read fault\n"))
 
 -- the disk failed at the last line that was taken, and at none before it: all answers were printed
 pub record StopsAtDisk (bus : NamedBus) (rules : List FrameRule) (image : Option (List ℕ)) (log : Reading)
@@ -121,6 +133,10 @@ pub record TellsEndpointPorts (same : Type 0) (i : EndpointInputs) (d : DiskStat
   -- comes; or lines were taken, of whose answers `DidEndpoint` says what was printed.
   pub write_fault : e.status ≡ 6 → SinkFailed e × (PrintsFront (ComesUnlogged same i d) e ⊎ DidLines i d e)
   pub write_fault_only : CountsWriteFault e → e.status ≡ 6
+  -- 6, if the log's count of faults rose, too: the log failed first. So nothing is asked of the log after the sink
+  -- failed at an answer, as it could fail.
+  pub log_fails_first : e.status ≡ 6 → CountsFault i.log
+      → OverEndpoint i (λ bus rules image. LogFailsFirst bus rules image i.log d e)
   -- 7, one way: only before the log; nothing was printed.
   pub no_memory : e.status ≡ 7 → ComesUnlogged same i d memory_row × IsUnread i.log × PrintsWhole e []
   -- 8, both ways: one byte more than 1,048,576 came from a source other than the log; or 2^64 - 1 bytes and more of the

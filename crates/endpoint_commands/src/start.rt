@@ -3,7 +3,7 @@ ghost use Rattle.std.specs.Prelude.{◌≡◌, ◌⊎◌, [], map as each, strin
 ghost use Rattle.file_disk.specs.NamedDisks.{OpenedByWords};
 ghost use Rattle.program_edge.specs.NamedSources.{word_source, missing_source, openings};
 ghost use Rattle.endpoint_commands.specs.Rows.{AsksEndpoint, AsksForm};
-ghost use Rattle.endpoint_commands.specs.Named.{word_of_form, EndpointOfSources, EndpointOfWords, WantsEndpointDisk};
+ghost use Rattle.endpoint_commands.specs.Named.{word_of_form, EndpointOfSources, ComesOfEndpointWords};
 
 use crate::run::{EndpointForm, form_of, run_asked};
 use bus_port::{Sink, Source};
@@ -61,23 +61,7 @@ pub fn endpoint_words<O: Opener, P: DiskOpener, I: Source + Drop, K: Sink>(
 ) -> (u8, EndpointSources<O::Opened, I>, Vec<P::Opened>)
     // All that a run promises, over the sources and the disk that the arguments name, which are those handed back; or
     // there was no memory for the disk.
-    ensures named { EndpointOfWords P.Opened.state (O.opens opener.old) (P.opens disk_opener.old)
-        (record {
-          before = openings (O.opened opener.old) (option_map I.state input.old);
-          after = openings (O.opened opener.new) (option_map I.state input.new);
-          disks_before = P.opened disk_opener.old;
-          disks_after = P.opened disk_opener.new;
-        })
-        (each string_bytes words.now)
-        (record {
-          config = word_source O.Opened.state I.state result.1.config;
-          map = word_source O.Opened.state I.state result.1.map;
-          log = word_source O.Opened.state I.state result.1.log;
-          image = word_source O.Opened.state I.state result.1.image;
-        })
-        result.2
-        (record { before = K.state sink.old; after = K.state sink.new; status = result.0 })
-        ⊎ WantsEndpointDisk
+    ensures named { ComesOfEndpointWords P.Opened.state (O.opens opener.old) (P.opens disk_opener.old)
         (record {
           before = openings (O.opened opener.old) (option_map I.state input.old);
           after = openings (O.opened opener.new) (option_map I.state input.new);

@@ -146,11 +146,15 @@ impl ByteFile for SystemFile {
 }
 
 /// Opens the file, or makes it, and syncs it and its folder: what a program that was killed has left is then what
-/// a power cut leaves.
+/// a power cut leaves. Descriptors 0 to 2 are taken meanwhile: of a program that was started with a stream closed the
+/// file doesn't become that stream.
 fn opened(rt: &HostRuntime, path: &str) -> io::Result<SystemFile>
     ensures there { IfOk result (λ file. is_there file ≡ true) }
     ensures fresh { IfOk result (λ file. has_failed file ≡ false) }
 {
+    let _input = File::open(rt, "/")?;
+    let _output = File::open(rt, "/")?;
+    let _error = File::open(rt, "/")?;
     let file = match there(rt, path) {
         Err(error) if error.kind() == ErrorKind::NotFound => made(rt, path)?,
         outcome => locked(outcome?)?,
@@ -216,17 +220,22 @@ fn made(rt: &HostRuntime, path: &str) -> io::Result<File> {
     };
     let outcome = given_name(rt, &file, &name, path);
     fs::remove_file(rt, &name)?;
-    match outcome {
+    match outcome? {
         Ok(()) => Ok(file),
         Err(error) if error.kind() == ErrorKind::AlreadyExists => locked(there(rt, path)?),
         Err(_) => made_in_place(rt, path),
     }
 }
 
-/// Fills a new file, and gives it this path as a second name.
-fn given_name(rt: &HostRuntime, file: &File, name: &str, path: &str) -> io::Result<()> {
+/// Fills a new file, and gives it this path as a second name. The inner outcome is the second name's.
+fn given_name(
+    rt: &HostRuntime,
+    file: &File,
+    name: &str,
+    path: &str,
+) -> io::Result<io::Result<()>> {
     fill(file)?;
-    fs::hard_link(rt, name, path)
+    Ok(fs::hard_link(rt, name, path))
 }
 
 /// Makes a file of zero bytes at this path, or leaves none.

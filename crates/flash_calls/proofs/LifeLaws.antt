@@ -3,6 +3,7 @@ use Rattle.std.proofs.Common.{◌≡◌, ℕ, Option, Some, None, List, [], ◌�
 use Rattle.std.proofs.lemmas.Option.{none-some, same_Some}
 use Rattle.flash_places.specs.declared.FlashLine.TheVariants.{Entry}
 use Rattle.flash_places.specs.Places.{Flash}
+use Rattle.flash_laws.specs.CutFormats.{CutFormatted}
 use Rattle.flash_laws.specs.Logs.{CellList}
 use Rattle.flash_laws.specs.Lives.{FlashLayout, FlashMachine, FlashDeed, off, FlashFormatted, Possible}
 use Rattle.flash_log.specs.Going.{machine, Goes}
@@ -21,7 +22,7 @@ use Rattle.flash_plan.specs.Plans.{IsIdle, Fails, step_operation, operation_of, 
 use Rattle.flash_plan.specs.Standing.{MovesBy, PlanMovesOn, StandsAt, plan_layout}
 use Rattle.flash_plan.specs.Formatting.{FormatStep, FormatsAt}
 use Rattle.flash_plan.specs.Turns.{Turn, PlanTurns, deed_in, puts_in}
-use Rattle.flash_plan.proofs.CallerLemmas.{step_off, step_may, format_may, broken, if_some, idle_ready, turns_formatted, turns_later, has_store}
+use Rattle.flash_plan.proofs.CallerLemmas.{step_off, step_may, format_may, broken, if_some, idle_ready, turns_formatted, turns_cut, turns_later, has_store}
 use Rattle.flash_calls.specs.Numbers.{plan_in}
 use Rattle.flash_calls.specs.Operations.{PerformsBytes, Comes}
 use Rattle.flash_calls.specs.CallLives.{FlashSizes, sizes_layout, CallState, CallDeed, performs, takes_put, starts, is_cut}
@@ -241,6 +242,15 @@ call_formatted s deeds first a b formatted begun lives idle =
     let t = on_turns s deeds a b (machine a.flash off) (begun_stands s a begun) lives in
     subst (λ (ds : List FlashDeed). Possible ds first b.cells) t.same
     (turns_formatted (sizes_layout s) t.turns first b.cells (machine a.flash off) t.at formatted t.run
+    (idle_ready (sizes_layout s) (plan_in b.numbers) b.cells b.scratch t.at b.flash idle.step t.stands.stands))
+
+pub call_cut : (s : FlashSizes) (deeds : List CallDeed) (first : CellList) (a b : CallState)
+    → CutFormatted (sizes_layout s) first (machine a.flash off) → CallBegun s a → CallLives s deeds a b → IsIdle (plan_in b.numbers)
+    → Possible (puts_made deeds) first b.cells
+call_cut s deeds first a b cut begun lives idle =
+    let t = on_turns s deeds a b (machine a.flash off) (begun_stands s a begun) lives in
+    subst (λ (ds : List FlashDeed). Possible ds first b.cells) t.same
+    (turns_cut (sizes_layout s) t.turns first b.cells (machine a.flash off) t.at cut t.run
     (idle_ready (sizes_layout s) (plan_in b.numbers) b.cells b.scratch t.at b.flash idle.step t.stands.stands))
 
 pub call_later : (s : FlashSizes) (earlier deeds : List CallDeed) (first : CellList) (start a b : CallState)

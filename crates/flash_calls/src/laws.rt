@@ -5,6 +5,7 @@
 //! between two operations or within one, and then all begins again (`CallLives`).
 ghost use Rattle.std.specs.Prelude.{◌≡◌, List, Some};
 ghost use Rattle.flash_laws.specs.Logs.{CellList};
+ghost use Rattle.flash_laws.specs.CutFormats.{CutFormatted};
 ghost use Rattle.flash_laws.specs.Lives.{FlashFormatted, Possible, off};
 ghost use Rattle.flash_log.specs.Going.{machine};
 ghost use Rattle.flash_plan.specs.declared.plans.PlanEnd.TheVariants.{NoStore, Formatted};
@@ -21,6 +22,9 @@ ghost use Rattle.flash_calls.specs.CallLives.{CallBegun, CallFormatBegun, sizes_
 pub fn an_idle_call_has_its_cells()
     ensures formatted { (s : FlashSizes) (deeds : List CallDeed) (first : CellList) (a b : CallState)
         → FlashFormatted (sizes_layout s) first (machine a.flash off) → CallBegun s a → CallLives s deeds a b
+        → IsIdle (plan_in b.numbers) → Possible (puts_made deeds) first b.cells }
+    ensures cut { (s : FlashSizes) (deeds : List CallDeed) (first : CellList) (a b : CallState)
+        → CutFormatted (sizes_layout s) first (machine a.flash off) → CallBegun s a → CallLives s deeds a b
         → IsIdle (plan_in b.numbers) → Possible (puts_made deeds) first b.cells }
     ensures later { (s : FlashSizes) (earlier deeds : List CallDeed) (first : CellList) (start a b : CallState)
         → FlashFormatted (sizes_layout s) first (machine start.flash off) → CallBegun s start

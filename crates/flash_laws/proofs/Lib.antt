@@ -6,3 +6,4 @@ pub mod Scanning
 pub mod Steps
 pub mod Reached
 pub mod CallerLemmas
+pub mod CutFormats

@@ -58,7 +58,7 @@ module _ (l : FlashLayout) (two : 2 ≤ l.banks) (w : Wear) (a b : CellList) (m 
     a' = a;
     b' = b;
     sound = erase_step l two w (after_deed w (erases target)) a b m m' sound target
-        (λ bank inside is spent. spent_next l.banks w (after_deed w (erases target)) 0 bank inside
+        (λ bank inside is spent. spent_next l.banks w (after_deed w (erases target)) 0 bank two inside
         (subst (λ z. Bumps z w (after_deed w (erases target))) is (bumps_once w target (w.lost + 0))) (omega arith) spent)
         (λ x spent. spent_more l.banks w (after_deed w (erases target)) 0 1 x target (bumps_once w target (w.lost + 0)) (omega arith) spent) s;
     from = λ x one. (x, (one, refl));
@@ -164,7 +164,7 @@ formatted_sound l cells m s =
           (record {
             rounds = 0;
             low = λ x in_x. omega arith;
-            low_turn = λ x in_x positive turn. absurd (omega (arith, positive, turn));
+            low_turn = λ x in_x positive turn. absurd (omega (arith, positive));
             high = λ x in_x late. omega arith;
             high_turn = λ x in_x. omega arith;
           });

@@ -1,5 +1,5 @@
 -- All lives of a store on flash: what it does with the device, one step after the other, and when the power goes.
-use Rattle.std.specs.Prelude.{◌≡◌, ◌≢◌, ℕ, suc, ◌+◌, ◌<◌, ◌≤◌, ◌⊎◌, nat_eq, if◌then◌else◌, Option, Some, List, [], ◌∷◌, length, set, get_or}
+use Rattle.std.specs.Prelude.{◌≡◌, ◌≢◌, ℕ, suc, ◌+◌, ◌-◌, ◌<◌, ◌≤◌, ◌⊎◌, nat_eq, if◌then◌else◌, Option, Some, List, [], ◌∷◌, length, set, get_or}
 use Rattle.flash_places.specs.declared.FlashLine.{FlashLine}
 use Rattle.flash_places.specs.declared.FlashLine.TheVariants.{Head, Entry}
 use Rattle.flash_places.specs.Places.{Flash, FlashPlace, SameFlash, blank_place, whole_place, Erases, CutsErase, Programs, CutsProgram, LooksAll}
@@ -10,9 +10,10 @@ pub record FlashLayout : Type 0 where
   pub banks : ℕ
   pub cells : ℕ
 
--- the bank that takes the next copy: the banks go round
+-- The bank that takes the next copy: the banks go round, downwards. So a start that reads them upwards meets the latest
+-- log after at most one other whose cells it needs.
 abbrev pub next_bank : ℕ → ℕ → ℕ
-next_bank banks bank = if nat_eq (suc bank) banks then 0 else suc bank
+next_bank banks bank = if nat_eq bank 0 then banks - 1 else bank - 1
 
 -- Where a life stands: the power is off; the log that counts was found in this bank, and ends before a place; a copy of
 -- its cells is being made in the next bank, and has so many cells; or the store is ready, and the next put goes to a

@@ -23,6 +23,7 @@ ghost use Rattle.std.specs.Prelude.{◌≡◌, ◌⊎◌, ℕ, ◌+◌, ◌<◌,
 ghost use Rattle.flash_places.specs.declared.FlashLine.{FlashLine};
 ghost use Rattle.flash_places.specs.Places.{Flash, LooksAll};
 ghost use Rattle.flash_places.specs.declared.FlashLine.TheVariants.{Entry};
+ghost use Rattle.flash_laws.specs.CutFormats.{CutFormatted};
 ghost use Rattle.flash_laws.specs.Logs.{CellList, copy_lines, after_lines};
 ghost use Rattle.flash_laws.specs.Lives.{FlashLayout, FlashMachine, FlashDeed, FlashLives, FlashFormatted, IsReadyFlash, IsOff, ScanFinds, PlaceIsBlank, Possible, wear_of, power_losses, next_bank, erases, heads, cuts_erase, cuts_put};
 
@@ -35,6 +36,13 @@ pub fn a_put_is_whole_or_absent_over_all_lives()
     ensures later { (l : FlashLayout) (earlier deeds : List FlashDeed) (first cells now : CellList)
         (start a b : FlashMachine) → FlashFormatted l first start → FlashLives l earlier start a → IsReadyFlash a cells
         → FlashLives l deeds a b → IsReadyFlash b now → Possible deeds cells now }
+{}
+
+/// If the power cut the head of a format, its last operation, then each store that a later start finds has these cells
+/// first, and all goes on as after a whole format.
+pub fn a_cut_format_is_there_or_not()
+    ensures { (l : FlashLayout) (deeds : List FlashDeed) (cells now : CellList) (a b : FlashMachine)
+        → CutFormatted l cells a → FlashLives l deeds a b → IsReadyFlash b now → Possible deeds cells now }
 {}
 
 /// Each power-up finds the store, whatever the places that aren't firm are read as.
@@ -64,7 +72,7 @@ pub fn small_cases()
     ensures put { after_lines (Entry 1 (7 ∷ []) ∷ []) ((1 ∷ []) ∷ (2 ∷ []) ∷ []) ≡ (1 ∷ []) ∷ (7 ∷ []) ∷ [] }
     ensures no_cell { after_lines (Entry 2 (7 ∷ []) ∷ []) ((1 ∷ []) ∷ (2 ∷ []) ∷ []) ≡ (1 ∷ []) ∷ (2 ∷ []) ∷ [] }
     ensures two_banks { (next_bank 2 0 ≡ 1) × (next_bank 2 1 ≡ 0) }
-    ensures sixteen_banks { (next_bank 16 14 ≡ 15) × (next_bank 16 15 ≡ 0) }
+    ensures sixteen_banks { (next_bank 16 0 ≡ 15) × (next_bank 16 15 ≡ 14) }
     ensures worn { wear_of 1 (erases 1 ∷ cuts_erase 1 ∷ erases 2 ∷ heads ∷ []) ≡ 2 }
     ensures losses { power_losses (erases 1 ∷ cuts_erase 1 ∷ cuts_put 0 [] ∷ []) ≡ 2 }
     ensures cut_put { (now : CellList) → Possible (cuts_put 0 (7 ∷ []) ∷ []) ((1 ∷ []) ∷ []) now

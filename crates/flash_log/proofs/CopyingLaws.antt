@@ -51,13 +51,13 @@ holds_copy f g spare bank i generation cells e all does copied free = subst (λ 
 })
 
 -- what a format leaves
-pub is_formatted : (l : FlashLayout) (f g : Flash) (cells : CellList) (bank banks : ℕ) → 2 ≤ l.banks → length cells ≡ l.cells → bank + 1 ≡ l.banks
+pub is_formatted : (l : FlashLayout) (f g : Flash) (cells : CellList) (bank banks : ℕ) → 2 ≤ l.banks → length cells ≡ l.cells → bank ≡ 1
     → banks ≡ l.banks → HoldsCopy g (next_bank banks bank) 1 cells → SameOthers (next_bank banks bank) f g
     → ((x : ℕ) → 0 < x → x < l.banks → f x 0 ≡ blank_place) → FlashFormatted l cells (machine g off)
 is_formatted l f g cells bank banks two count last same copy others spare =
     let first : next_bank banks bank ≡ 0 = elim (next_cases banks bank) [
-      | inl at_end ↦ at_end.1
-      | inr further ↦ absurd (further.0 (omega (arith, last, same)))
+      | inl at_first ↦ absurd (omega (arith, at_first.0, last))
+      | inr further ↦ omega (arith, further.1, last)
     ] in
     let here : HoldsCopy g 0 1 cells = subst (λ z. HoldsCopy g z 1 cells) first copy in
     record {

@@ -5,7 +5,8 @@ use Rattle.std.proofs.lemmas.Bool.Decides.{eqb_tells}
 use Rattle.std.proofs.Math.Dec.{eqb}
 use Rattle.flash_places.specs.declared.FlashLine.{FlashLine}
 use Rattle.flash_places.specs.declared.FlashLine.TheVariants.{Head}
-use Rattle.flash_places.specs.Places.{FlashPlace, Flash, SameBank, SameOthers, Looks, LooksAll}
+use Rattle.flash_places.specs.Places.{FlashPlace, Flash, SameBank, SameOthers, Looks, LooksAll, sees, sees_nothing, whole_place}
+use Rattle.std.proofs.lemmas.Option.{same_Some}
 use Rattle.flash_laws.specs.Logs.{CellList, IsLog}
 use Rattle.flash_laws.specs.Lives.{FlashLayout, ScanFinds, off, found, scans, cuts_scan}
 use Rattle.flash_log.specs.declared.reading.LogEnd.{LogEnd}
@@ -14,9 +15,28 @@ use Rattle.flash_log.specs.declared.scanning.Best.{Best}
 use Rattle.flash_log.specs.declared.scanning.Best.TheVariants.{NoLog, One, Tie}
 use Rattle.flash_log.specs.Going.{machine, Goes, BlankFrom}
 use Rattle.flash_log.specs.Taking.{ReadsLog, ReadsBankPart, NoLaterHead}
-use Rattle.flash_log.specs.Scanned.{HaveNone, HaveOne, HaveTwo, HasLog, BestIs, ScannedTo, NoLogCounts, FreeBest, NoLaterHeads, found_at, judged, is_newest}
+use Rattle.flash_log.specs.Scanned.{HaveNone, HaveOne, HaveTwo, HasLog, BestIs, ScannedTo, NoLogCounts, FreeBest, NoLaterHeads, found_at, judged, is_newest, is_past}
 use Rattle.flash_log.proofs.GoingLaws.{goes_one}
 use Rattle.flash_log.proofs.TakingLaws.{answer_of, unlooked}
+
+-- a log of this generation changes nothing of the best
+abbrev pub IsPast : Best → ℕ → Type 0
+IsPast NoLog generation = ⊥
+IsPast (One log) generation = generation < log.generation
+IsPast (Tie tie) generation = generation ≤ tie
+
+past_of_one : (log : FoundLog) (generation : ℕ) (b : Bool) → nat_lt generation log.generation ≡ b → b ≡ true → IsPast (One log) generation
+past_of_one log generation true is e = ltb-true generation log.generation is
+past_of_one log generation false is e = absurd (cc)
+
+past_of_tie : (tie generation : ℕ) (b : Bool) → nat_lt generation tie ≡ b → b ≡ true → IsPast (Tie tie) generation
+past_of_tie tie generation true is e = (let l = ltb-true generation tie is in omega (arith, l))
+past_of_tie tie generation false is e = absurd (cc)
+
+pub past_of : (best : Best) (generation : ℕ) → is_past best generation ≡ true → IsPast best generation
+past_of NoLog generation e = absurd (cc)
+past_of (One log) generation e = past_of_one log generation (nat_lt generation log.generation) refl e
+past_of (Tie tie) generation e = past_of_tie tie generation (nat_lt generation tie) refl e
 
 -- the readings of all banks, with that of one bank instead
 abbrev pub read_with : (ℕ → ℕ → Option FlashLine) → ℕ → (ℕ → Option FlashLine) → ℕ → ℕ → Option FlashLine
@@ -44,6 +64,17 @@ looks_with f m g old i r before same here others x k = elim (cases_eq x i) [
       (subst (λ (q : FlashPlace). Looks (f x k) (old x k) q) (sym (others x ne k)) (before x k))
 ]
 
+-- a place that was read as two heads has one
+seen : (p q : FlashPlace) (line : FlashLine) → Looks p (Some line) q → q ≡ whole_place line
+seen p q line looks = elim looks [
+  | sees other held said now ↦ (let e : line ≡ other = same_Some _ _ said in now ∙ ap whole_place (sym e))
+  | sees_nothing ends said now ↦ absurd (cc)
+]
+
+one_head : (p p' q : FlashPlace) (g h : ℕ) → Looks p (Some (Head g)) q → Looks p' (Some (Head h)) q → g ≡ h
+one_head p p' q g h a b = let e : whole_place (Head g) ≡ whole_place (Head h) = sym (seen p q (Head g) a) ∙ seen p' q (Head h) b in
+    let f : Some (Head g) ≡ Some (Head h) = ap (λ (z : FlashPlace). z.content) e in cc
+
 -- a bank is read as the log of one generation
 pub one_generation : (n : ℕ) (read : ℕ → Option FlashLine) (g h : ℕ) (a b : CellList) (p q : ℕ) → IsLog n read g a p → IsLog n read h b q → g ≡ h
 one_generation n read g h a b p q l m = let e : Some (Head g) ≡ Some (Head h) = sym l.head ∙ m.head in cc
@@ -64,21 +95,21 @@ module _ (n i : ℕ) (old : ℕ → ℕ → Option FlashLine) (r : ℕ → Optio
   of_new : (g : ℕ) (cells : CellList) (next : ℕ) → IsLog n r g cells next → IsLog n (now i) g cells next
   of_new g cells next log = subst (λ (s : ℕ → Option FlashLine). IsLog n s g cells next) (sym (with_here old i r)) log
 
-  -- the new bank has no log
-  same_best : ((g : ℕ) (left : CellList) (end : ℕ) → IsLog n r g left end → ⊥) → (best : Best) (cells : CellList) → BestIs n old i best cells → BestIs n now (suc i) best cells
-  same_best none NoLog cells h = λ x g left end below log. elim (cases_eq x i) [
-    | inl is ↦ none g left end (to_new x g left end is log)
+  -- the new bank has no log, or an older one
+  past_best : (best : Best) (cells : CellList) → ((g : ℕ) (left : CellList) (end : ℕ) → IsLog n r g left end → IsPast best g) → BestIs n old i best cells → BestIs n now (suc i) best cells
+  past_best NoLog cells past h = λ x g left end below log. elim (cases_eq x i) [
+    | inl is ↦ past g left end (to_new x g left end is log)
     | inr ne ↦ h x g left end (omega (arith, below, ne)) (to_old x g left end ne log)
   ]
-  same_best none (One b) cells h = record {
+  past_best (One b) cells past h = record {
     inside = omega (arith, h.inside);
     is = of_old b.bank b.generation cells b.next (λ e. omega (arith, e, h.inside)) h.is;
     wins = λ x g left end below ne_bank log. elim (cases_eq x i) [
-      | inl is ↦ absurd (none g left end (to_new x g left end is log))
+      | inl is ↦ past g left end (to_new x g left end is log)
       | inr ne ↦ h.wins x g left end (omega (arith, below, ne)) ne_bank (to_old x g left end ne log)
     ];
   }
-  same_best none (Tie t) cells h = record {
+  past_best (Tie t) cells past h = record {
     one = h.one;
     other = h.other;
     differ = h.differ;
@@ -87,10 +118,13 @@ module _ (n i : ℕ) (old : ℕ → ℕ → Option FlashLine) (r : ℕ → Optio
     one_log = record { cells = h.one_log.cells; next = h.one_log.next; is = of_old h.one t h.one_log.cells h.one_log.next (λ e. omega (arith, e, h.one_inside)) h.one_log.is };
     other_log = record { cells = h.other_log.cells; next = h.other_log.next; is = of_old h.other t h.other_log.cells h.other_log.next (λ e. omega (arith, e, h.other_inside)) h.other_log.is };
     most = λ x g left end below log. elim (cases_eq x i) [
-      | inl is ↦ absurd (none g left end (to_new x g left end is log))
+      | inl is ↦ past g left end (to_new x g left end is log)
       | inr ne ↦ h.most x g left end (omega (arith, below, ne)) (to_old x g left end ne log)
     ];
   }
+
+  same_best : ((g : ℕ) (left : CellList) (end : ℕ) → IsLog n r g left end → ⊥) → (best : Best) (cells : CellList) → BestIs n old i best cells → BestIs n now (suc i) best cells
+  same_best none best cells h = past_best best cells (λ g left end log. absurd (none g left end log)) h
 
   -- it has the latest
   new_best : (log : LogEnd) (cells : CellList) → IsLog n r log.generation cells log.next
@@ -182,6 +216,16 @@ module _ (n i : ℕ) (f m g : Flash) (best : Best) (cells scratch : CellList) (s
     read = read_with s.read i r.read;
     looks = looks_with f m g s.read i r.read s.looks (s.rest i (omega arith)) r.looks others;
     is = same_best n i s.read r.read (r.no_log refl) best cells s.is;
+    rest = rest_more;
+  }
+
+  -- its head is older than the best
+  pub scanned_past : (generation : ℕ) → IsPast best generation → Looks (m i 0) (Some (Head generation)) (g i 0) → ReadsBankPart (m i) (g i) → ScannedTo n (suc i) f g best cells
+  scanned_past generation past head r = record {
+    read = read_with s.read i r.read;
+    looks = looks_with f m g s.read i r.read s.looks (s.rest i (omega arith)) r.looks others;
+    is = past_best n i s.read r.read best cells (λ h left end log. subst (λ z. IsPast best z)
+        (one_head (m i 0) (m i 0) (g i 0) generation h head (subst (λ (a : Option FlashLine). Looks (m i 0) a (g i 0)) log.head (r.looks 0))) past) s.is;
     rest = rest_more;
   }
 

@@ -28,6 +28,12 @@ is_newest NoLog log = true
 is_newest (One old) log = nat_lt old.generation log.generation
 is_newest (Tie generation) log = nat_lt generation log.generation
 
+-- a log of this generation is older than the best
+abbrev pub is_past : Best → ℕ → Bool
+is_past NoLog generation = false
+is_past (One log) generation = nat_lt generation log.generation
+is_past (Tie tie) generation = nat_lt generation tie
+
 -- these banks have no log
 abbrev pub HaveNone : ℕ → (ℕ → ℕ → Option FlashLine) → ℕ → Type 0
 HaveNone n read count = (x g : ℕ) (left : CellList) (end : ℕ) → x < count → IsLog n (read x) g left end → ⊥

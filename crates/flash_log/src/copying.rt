@@ -8,16 +8,16 @@ ghost use Rattle.flash_log.specs.Going.{machine, layout_on, Goes, HoldsCopy, Ren
 
 use flash_places::{FlashDevice, FlashFailed, FlashLine};
 
-/// The bank that takes the next copy.
+/// The bank that takes the next copy: the one before, or the last one.
 pub fn next_bank(banks: u8, bank: u8) -> u8
     requires inside { bank < banks }
     ensures is { result ≡ next_bank banks bank }
     ensures below { result < banks }
 {
-    if bank + 1 == banks { 0 } else { bank + 1 }
+    if bank == 0 { banks - 1 } else { bank - 1 }
 }
 
-/// Programs a copy of these cells into the bank after this one, which is blank, and its head last.
+/// Programs a copy of these cells into the next bank, which is blank, and its head last.
 fn copy_log<D: FlashDevice>(
     device: &mut D,
     bank: u8,
@@ -52,7 +52,7 @@ fn copy_log<D: FlashDevice>(
     device.program(spare, 0, &FlashLine::Head(generation + 1))
 }
 
-/// Erases the bank after this one, and makes the next log in it.
+/// Erases the next bank, and makes the next log in it.
 pub(crate) fn renew<D: FlashDevice>(
     device: &mut D,
     bank: u8,
@@ -93,5 +93,5 @@ pub fn format<D: FlashDevice>(device: &mut D, cells: &[[u8; 32]]) -> Result<(), 
     for bank in 1..device.banks() {
         device.erase(bank)?;
     }
-    renew(device, device.banks() - 1, 0, cells)
+    renew(device, 1, 0, cells)
 }

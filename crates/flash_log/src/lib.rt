@@ -17,5 +17,5 @@ mod store;
 
 pub use copying::{format, next_bank};
 pub use reading::{LogEnd, generation_of, latest_of, make_line};
-pub use scanning::{Best, FoundLog, judge, note};
+pub use scanning::{Best, FoundLog, is_past, judge, note};
 pub use store::{AttachFault, FlashLog, PutFault, attach, may_go_on};

@@ -6,7 +6,7 @@ ghost use Rattle.flash_places.specs.State.{FlashRuns};
 ghost use Rattle.flash_laws.specs.Lives.{found, off};
 ghost use Rattle.flash_log.specs.Going.{machine, layout_on, Goes, BlankFrom};
 ghost use Rattle.flash_log.specs.Taking.{ReadsBankPart, NoLaterHead};
-ghost use Rattle.flash_log.specs.Scanned.{ScannedTo, NoLogCounts, FreeBest, NoLaterHeads, judged, is_newest};
+ghost use Rattle.flash_log.specs.Scanned.{ScannedTo, NoLogCounts, FreeBest, NoLaterHeads, judged, is_newest, is_past};
 
 use crate::reading::{LogEnd, read_log};
 use flash_places::{FlashDevice, FlashFailed};
@@ -68,6 +68,17 @@ pub fn judge(best: Best, bank: u8, log: LogEnd) -> (Best, bool)
                 (best, false)
             }
         }
+    }
+}
+
+/// Whether a log of this generation is older than the best, so that its bank needn't be read.
+pub fn is_past(best: &Best, generation: u64) -> bool
+    ensures { result ≡ is_past best.now generation }
+{
+    match best {
+        Best::NoLog => false,
+        Best::One(log) => generation < log.generation,
+        Best::Tie(tie) => generation < *tie,
     }
 }
 

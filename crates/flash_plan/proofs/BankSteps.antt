@@ -14,8 +14,8 @@ use Rattle.flash_laws.proofs.CallerLemmas.{length-copy, after-append}
 use Rattle.flash_log.specs.declared.reading.LogEnd.{LogEnd}
 use Rattle.flash_log.specs.declared.scanning.Best.{Best}
 use Rattle.flash_log.specs.Taking.{places_behind, Taken, Ends, TakesNoCopy, ReadsLog, NoLaterHead, latest_head, generation_in}
-use Rattle.flash_log.specs.Scanned.{NoLaterHeads}
-use Rattle.flash_log.proofs.CallerLemmas.{others_then, ends_of, answer_of, ends_answer, taken_same, taken_snoc, taken_rest, told, taken_looks, spells_shift, told_spells, copy_snoc, no_copy, copy_odd, copy_ends, head_looks, no_head, one_look, look_before, look_same, reads_more, heads_more}
+use Rattle.flash_log.specs.Scanned.{NoLaterHeads, is_past}
+use Rattle.flash_log.proofs.CallerLemmas.{others_then, ends_of, answer_of, ends_answer, taken_same, taken_snoc, taken_rest, told, taken_looks, spells_shift, told_spells, copy_snoc, no_copy, copy_odd, copy_ends, head_looks, no_head, one_look, look_before, look_same, reads_more, heads_more, scanned_past, past_of, free_same}
 use Rattle.flash_plan.specs.Standing.{BankPlaces, BeforeBank, WithinBank, ReadsCopy, ReadsPuts, ReadsBank, ReadsFree}
 
 -- ---- what is known of heads
@@ -289,6 +289,15 @@ module _ (n bank : ℕ) (first f g : Flash) (best : Best) (latest later : List �
   pub head_is : (generation : ℕ) → generation_in answer ≡ Some generation → WithinBank n bank first g best later cells (ReadsCopy generation 0 scratch)
   head_is generation is = within_first n bank first f g best latest cells 0 answer d later (ReadsCopy generation 0 scratch) refl b heads_now
       (copy_begins generation scratch (f bank) (g bank) (head_looks answer generation (f bank 0) (g bank 0) is d.looks) d.same.rest)
+
+  -- its head is older than the best
+  pub head_is_past : (generation : ℕ) → generation_in answer ≡ Some generation → is_past best generation ≡ true → BeforeBank n (suc bank) first g best later cells
+  head_is_past generation is past = record {
+    scanned = scanned_past n bank first f g best cells scratch b.scanned d.same.others generation (past_of best generation past)
+        (head_looks answer generation (f bank 0) (g bank 0) is d.looks) (one_look bank 0 answer f f g (λ x k. refl) d);
+    free = free_same n bank b.scanned.read f g cells d.same.others best b.scanned.is b.free;
+    heads = heads_now;
+  }
 
   pub head_is_none : generation_in answer ≡ None → WithinBank n bank first g best later cells (ReadsBank n None scratch)
   head_is_none is = within_first n bank first f g best latest cells 0 answer d later (ReadsBank n None scratch) refl b heads_now

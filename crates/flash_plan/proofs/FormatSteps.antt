@@ -105,24 +105,18 @@ clear_moves l bank cells f g inside cleared does true is =
     let zero_is = eqb-true bank 0 is in
     let erased : (k : ℕ) → g 0 k ≡ blank_place = λ k. subst (λ y. g y k ≡ blank_place) zero_is (does.erased k) in
     record {
-      spare = λ x above below. does.others x (λ e. absurd (omega (arith, e, above, zero_is))) 0 ∙ cleared x above below (inl zero_is);
+      spare = λ x above below. does.others x (λ e. absurd (omega (arith, e, above, zero_is))) 0 ∙ cleared x (omega (arith, above, zero_is)) below;
       most = omega arith;
       head = erased 0;
       copied = λ i below. absurd (omega (arith, below));
       rest = λ k from. erased k;
     }
-clear_moves l bank cells f g inside cleared does false is = λ x above below before. elim (cases_eq x bank) [
+clear_moves l bank cells f g inside cleared does false is = λ x above below. elim (cases_eq x bank) [
   | inl here ↦ subst (λ y. g y 0 ≡ blank_place) (sym here) (does.erased 0)
-  | inr there ↦ does.others x there 0 ∙ cleared x above below (inr (elim before [
-    | inl last ↦ elim (next_cases l.banks bank) [
-      | inl at_end ↦ (let e = at_end.0 in omega (arith, e, below, there))
-      | inr further ↦ (let e = further.1 in omega (arith, e, last))
-    ]
-    | inr lower ↦ elim (next_cases l.banks bank) [
-      | inl at_end ↦ (let e = at_end.1 in omega (arith, e, lower))
-      | inr further ↦ (let e = further.1 in omega (arith, e, lower, there))
-    ]
-  ]))
+  | inr there ↦ does.others x there 0 ∙ cleared x (elim (next_cases l.banks bank) [
+    | inl at_first ↦ (let e = at_first.1 in omega (arith, e, above, below))
+    | inr further ↦ (let e = further.1 in omega (arith, e, above, there))
+  ]) below
 ]
 
 fill_moves : (l : FlashLayout) (done : ℕ) (cells : CellList) (f g : Flash) → 2 ≤ l.banks → length cells ≡ l.cells → FilledTo l done cells f → (b : Bool) → nat_lt done (length cells) ≡ b

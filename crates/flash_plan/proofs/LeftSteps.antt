@@ -100,24 +100,19 @@ pub fill_left : (banks places n k done : ℕ) (put : Option WaitingPut) (step : 
 fill_left banks places n k done put step most same is =
     subst (λ (s : PlanStep). step_left banks places n put s < n + 1 - done) (sym (is ∙ ap (λ z. step_filled done z) same)) (fill_moves_left banks places n done put most (nat_lt done n) refl)
 
--- banks 1, 2 and so on, and bank 0 last
-clear_next : (banks bank m : ℕ) → bank < banks → 0 < bank → (b : Bool) → nat_eq (next_bank banks bank) 0 ≡ b → (if b then 0 else banks - next_bank banks bank) + m < banks - bank + m
-clear_next banks bank m inside some true is = omega (arith, inside)
-clear_next banks bank m inside some false is = elim (next_cases banks bank) [
-  | inl at_end ↦ absurd (eqb-false (next_bank banks bank) 0 is at_end.1)
-  | inr further ↦ (let e = further.1 in let ne = further.0 in omega (arith, e, ne, inside))
+-- the last bank comes first, and bank 0 last
+clear_moves_left : (banks places n bank : ℕ) (put : Option WaitingPut) → bank < banks → (b : Bool) → nat_eq bank 0 ≡ b
+    → step_left banks places n put (if b then Filling 0 else Clearing (next_bank banks bank)) < bank + (n + 2)
+clear_moves_left banks places n bank put inside true is = omega arith
+clear_moves_left banks places n bank put inside false is = elim (next_cases banks bank) [
+  | inl at_first ↦ absurd (eqb-false bank 0 is at_first.0)
+  | inr further ↦ (let e = further.1 in omega (arith, e))
 ]
 
-clear_moves_left : (banks places n bank : ℕ) (put : Option WaitingPut) → bank < banks → (b : Bool) → nat_eq bank 0 ≡ b
-    → step_left banks places n put (if b then Filling 0 else Clearing (next_bank banks bank)) < (if b then 0 else banks - bank) + (n + 2)
-clear_moves_left banks places n bank put inside true is = omega arith
-clear_moves_left banks places n bank put inside false is =
-    let ne = eqb-false bank 0 is in clear_next banks bank (n + 2) inside (omega (arith, ne)) (nat_eq (next_bank banks bank) 0) refl
-
 pub clear_left : (banks places n bank : ℕ) (put : Option WaitingPut) (step : PlanStep) → bank < banks → step ≡ step_cleared banks bank
-    → step_left banks places n put step < (if nat_eq bank 0 then 0 else banks - bank) + (n + 2)
+    → step_left banks places n put step < bank + (n + 2)
 clear_left banks places n bank put step inside is =
-    subst (λ (s : PlanStep). step_left banks places n put s < (if nat_eq bank 0 then 0 else banks - bank) + (n + 2)) (sym is) (clear_moves_left banks places n bank put inside (nat_eq bank 0) refl)
+    subst (λ (s : PlanStep). step_left banks places n put s < bank + (n + 2)) (sym is) (clear_moves_left banks places n bank put inside (nat_eq bank 0) refl)
 
 -- ---- in the words of the calls
 

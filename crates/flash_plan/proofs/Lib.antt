@@ -3,6 +3,7 @@ pub mod ScanSteps
 pub mod DeedSteps
 pub mod TurnLaws
 pub mod FormatSteps
+pub mod CutSteps
 pub mod CallerLemmas
 pub mod LeftSteps
 pub mod TellingSteps

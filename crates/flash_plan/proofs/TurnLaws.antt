@@ -3,7 +3,8 @@ use Rattle.std.proofs.Common.{◌≡◌, ℕ, Option, Some, None, IfSome, List, 
 use Rattle.flash_places.specs.Places.{Flash}
 use Rattle.flash_laws.specs.Logs.{CellList}
 use Rattle.flash_laws.specs.Lives.{FlashLayout, FlashMachine, FlashDeed, puts, cuts_put, FlashLives, FlashFormatted, IsReadyFlash, Possible}
-use Rattle.flash_laws.proofs.CallerLemmas.{formatted_lives, later_lives}
+use Rattle.flash_laws.specs.CutFormats.{CutFormatted}
+use Rattle.flash_laws.proofs.CallerLemmas.{formatted_lives, later_lives, cut_format_lives}
 use Rattle.flash_log.specs.Going.{ChangesNoCell}
 use Rattle.flash_log.proofs.CallerLemmas.{lives_then, possible_split, no_change, store_found}
 use Rattle.flash_plan.specs.declared.operations.FlashOutcome.{FlashOutcome}
@@ -67,6 +68,11 @@ pub turns_formatted : (l : FlashLayout) (turns : List Turn) (cells now : CellLis
     → Possible (puts_in turns) cells now
 turns_formatted l turns cells now a b formatted t is =
     let all = all_lived l turns a b t in all.same cells now (formatted_lives l all.deeds cells now a b formatted all.lives is)
+
+pub turns_cut : (l : FlashLayout) (turns : List Turn) (cells now : CellList) (a b : FlashMachine) → CutFormatted l cells a → PlanTurns l turns a b → IsReadyFlash b now
+    → Possible (puts_in turns) cells now
+turns_cut l turns cells now a b cut t is =
+    let all = all_lived l turns a b t in all.same cells now (cut_format_lives l all.deeds cells now a b cut all.lives is)
 
 pub turns_later : (l : FlashLayout) (earlier turns : List Turn) (first cells now : CellList) (start a b : FlashMachine) → FlashFormatted l first start
     → PlanTurns l earlier start a → IsReadyFlash a cells → PlanTurns l turns a b → IsReadyFlash b now → Possible (puts_in turns) cells now

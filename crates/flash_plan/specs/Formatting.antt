@@ -1,5 +1,5 @@
 -- What a plan that formats has done to the flash.
-use Rattle.std.specs.Prelude.{◌≡◌, ◌<◌, ◌≤◌, ◌⊎◌, ℕ, suc, [], length, get_or}
+use Rattle.std.specs.Prelude.{◌≡◌, ◌<◌, ◌≤◌, ℕ, suc, [], length, get_or}
 use Rattle.flash_places.specs.declared.FlashLine.TheVariants.{Entry}
 use Rattle.flash_places.specs.Places.{Flash, blank_place, whole_place}
 use Rattle.flash_laws.specs.Logs.{CellList}
@@ -13,9 +13,9 @@ use Rattle.flash_plan.specs.declared.plans.PlanStep.TheVariants.{Clearing, Filli
 use Rattle.flash_plan.specs.declared.plans.FlashPlan.{FlashPlan}
 use Rattle.flash_plan.specs.Standing.{plan_layout}
 
--- the first place of each bank but 0 is blank, of those before this one
+-- the first place of each bank after this one is blank
 abbrev pub ClearedTo : ℕ → ℕ → Flash → Type 0
-ClearedTo banks bank f = (x : ℕ) → 0 < x → x < banks → (bank ≡ 0) ⊎ (x < bank) → f x 0 ≡ blank_place
+ClearedTo banks bank f = (x : ℕ) → bank < x → x < banks → f x 0 ≡ blank_place
 
 -- bank 0 has so many cells of the copy, and no more
 pub record FilledTo (l : FlashLayout) (done : ℕ) (cells : CellList) (f : Flash) : Type 0 where

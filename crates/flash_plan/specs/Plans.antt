@@ -222,7 +222,7 @@ step_left banks places n put (Free bank generation next place) = (banks - bank) 
 step_left banks places n put (Erasing bank generation) = n + 2 + put_left put
 step_left banks places n put (Copying bank generation done) = n + 1 - done + put_left put
 step_left banks places n put (Ready bank generation next) = put_left put
-step_left banks places n put (Clearing bank) = (if nat_eq bank 0 then 0 else banks - bank) + (n + 2)
+step_left banks places n put (Clearing bank) = bank + (n + 2)
 step_left banks places n put (Filling done) = n + 1 - done
 step_left banks places n put (Ended end) = 0
 

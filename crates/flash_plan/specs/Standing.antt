@@ -79,7 +79,7 @@ pub record IsUpAt (bank generation : ℕ) (cells : CellList) (at : FlashMachine)
   pub is : at ≡ machine f stage
   pub up : IsUp stage bank generation cells
 
--- a copy is being made in the bank after this one: what isn't programmed yet is blank
+-- a copy is being made in the next bank: what isn't programmed yet is blank
 pub record IsCopyingAt (l : FlashLayout) (bank generation done : ℕ) (cells : CellList) (at : FlashMachine) (f : Flash)
     : Type 0 where
   pub is : at ≡ machine f (copying bank generation cells done)

@@ -3,20 +3,23 @@
 //! A caller makes a plan at power-up, performs each operation that comes next, and reports its outcome. By the contract
 //! of [`FlashPlan::did`](crate::FlashPlan::did) each of these turns leads the machine of `flash_laws` on. The power may
 //! go at any time, and a new plan is made then.
-ghost use Rattle.std.specs.Prelude.{◌≡◌, ℕ, Some, None, IfSome, List};
+ghost use Rattle.std.specs.Prelude.{◌≡◌, ℕ, Some, None, IfSome, List, length};
 ghost use Rattle.flash_places.specs.Places.{Flash};
 ghost use Rattle.flash_laws.specs.Logs.{CellList};
 ghost use Rattle.flash_laws.specs.Lives.{FlashLayout, FlashMachine, FlashFormatted, IsReadyFlash, Possible, next_bank};
 ghost use Rattle.flash_laws.specs.Lives.{off};
 ghost use Rattle.flash_log.specs.Going.{machine, Goes};
 ghost use Rattle.flash_plan.specs.declared.operations.FlashOutcome.{FlashOutcome};
-ghost use Rattle.flash_plan.specs.declared.operations.Operation.TheVariants.{Erase};
+ghost use Rattle.flash_plan.specs.declared.operations.Operation.TheVariants.{Erase, Program};
 ghost use Rattle.flash_plan.specs.declared.plans.FlashPlan.{FlashPlan};
 ghost use Rattle.flash_plan.specs.declared.plans.PlanEnd.TheVariants.{NoStore};
-ghost use Rattle.flash_plan.specs.declared.plans.PlanStep.TheVariants.{Ended};
+ghost use Rattle.flash_plan.specs.declared.plans.PlanStep.TheVariants.{Ended, Filling};
+ghost use Rattle.flash_places.specs.declared.FlashLine.TheVariants.{Head};
+ghost use Rattle.flash_laws.specs.CutFormats.{CutFormatted};
+ghost use Rattle.flash_plan.specs.Formatting.{FormatsAt};
 ghost use Rattle.flash_plan.specs.Performing.{DoesOperation};
 ghost use Rattle.flash_plan.specs.Telling.{PlaceAnswers, MustErase, IsTold};
-ghost use Rattle.flash_plan.specs.Plans.{IsIdle, Fails, operation_of, put_in};
+ghost use Rattle.flash_plan.specs.Plans.{IsPlanOf, IsIdle, Fails, operation_of, put_in};
 ghost use Rattle.flash_plan.specs.Standing.{plan_layout, StandsAt, MovesBy};
 ghost use Rattle.flash_plan.specs.Turns.{Turn, PlanTurns, puts_in, IsLived};
 
@@ -67,4 +70,13 @@ pub fn a_start_erases_only_if_it_must()
     ensures { (told : PlaceAnswers) (plan : FlashPlan) (cells : CellList) (target : ℕ) → IsTold told plan
         → plan.put ≡ None → operation_of plan cells ≡ Some (Erase target) → (bank : ℕ)
         × ((target ≡ next_bank plan.banks bank) × MustErase told plan.banks plan.places bank plan.best) }
+{}
+
+/// If the head of a format, its last operation, fails or is cut, its store is there or none (`flash_laws` says what
+/// follows for all lives).
+pub fn a_format_may_be_cut_at_its_head()
+    ensures { (plan : FlashPlan) (cells : CellList) (f g : Flash) (outcome : FlashOutcome) → IsPlanOf (length cells) plan
+        → FormatsAt plan cells f → plan.step ≡ Filling (length cells) → Fails (Program 0 0 (Head 1)) outcome
+        → DoesOperation (Program 0 0 (Head 1)) outcome f g
+        → CutFormatted (plan_layout plan (length cells)) cells (machine g off) }
 {}

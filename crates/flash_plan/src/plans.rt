@@ -41,7 +41,7 @@ pub struct WaitingPut {
 /// copy in place 1 + i, and its puts behind the copy.
 #[derive(Clone, Copy, Debug, PartialEq, Eq, Drop)]
 pub enum PlanStep {
-    /// The head of this bank is read. Banks are read in order, all of them.
+    /// The head of this bank is read. Banks are read in order: of each its head, and the rest if no log is later so far.
     Heading {
         bank: u8,
     },
@@ -64,12 +64,12 @@ pub enum PlanStep {
         next: u32,
         place: u32,
     },
-    /// This bank holds the log that counts, of this generation. The bank after it is erased.
+    /// This bank holds the log that counts, of this generation. The next one, before it, is erased.
     Erasing {
         bank: u8,
         generation: u64,
     },
-    /// So many cells were copied to the bank after this one. The next cell is programmed; after the last one, the head.
+    /// So many cells were copied to the next bank. The next cell is programmed; after the last one, the head.
     Copying {
         bank: u8,
         generation: u64,
@@ -82,7 +82,7 @@ pub enum PlanStep {
         generation: u64,
         next: u32,
     },
-    /// A format erases this bank. Bank 0 comes last.
+    /// A format erases this bank. The last bank comes first, and bank 0 last.
     Clearing {
         bank: u8,
     },
@@ -217,7 +217,7 @@ impl FlashPlan {
         FlashPlan {
             banks,
             places,
-            step: PlanStep::Clearing { bank: 1 },
+            step: PlanStep::Clearing { bank: banks - 1 },
             best: Best::NoLog,
             latest: [u64::MAX; 16],
             put: None,

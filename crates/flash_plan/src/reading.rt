@@ -16,7 +16,9 @@ ghost use Rattle.flash_plan.specs.declared.plans.PlanEnd.TheVariants.{Exhausted,
 ghost use Rattle.flash_plan.specs.declared.plans.PlanStep.TheVariants.{Erasing, Ended};
 
 use crate::plans::{FlashPlan, PlanEnd, PlanStep};
-use flash_log::{Best, LogEnd, generation_of, judge, latest_of, make_line, may_go_on, note};
+use flash_log::{
+    Best, LogEnd, generation_of, is_past, judge, latest_of, make_line, may_go_on, note,
+};
 use flash_places::{Answer, FlashLine};
 
 /// The payload of the copy of this cell, if that was read.
@@ -182,7 +184,7 @@ impl FlashPlan {
         self.step = self.after_bank(bank, cells);
     }
 
-    /// The head of a bank was read.
+    /// The head of a bank was read. If it is older than the best log, the rest of the bank isn't wanted.
     pub(crate) fn after_head(
         &mut self,
         cells: &mut [[u8; 32]],
@@ -210,6 +212,10 @@ impl FlashPlan {
         note(&mut self.latest, bank, latest_of(&answer));
         match generation_of(&answer) {
             Some(generation) => {
+                if is_past(&self.best, generation) {
+                    self.step = self.after_bank(bank, cells);
+                    return;
+                }
                 self.step = PlanStep::Copied {
                     bank,
                     generation,

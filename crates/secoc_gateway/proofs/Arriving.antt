@@ -2,6 +2,7 @@
 use Rattle.std.specs.Prelude.{◌≡◌, ◌≢◌, ℕ, ◌+◌, ◌<◌, ◌≤◌, ◌⊎◌, ◌==◌, Bool, true, false, not, nat_lt, nat_le, Option, None, Some, List, [], ◌∷◌, length, get_or, option_map, Ok, Err, ◌↔◌, IsErrOf}
 use Rattle.std.proofs.Common.{refl, sym, ◌∙◌, ap, subst, arith, inl, inr, get_or-set_other}
 use Rattle.std.proofs.lemmas.Bool.Decides.{nat_tests}
+use Rattle.key_slots.specs.declared.refusals.Erc.{Erc}
 use Rattle.cut_disk.specs.State.{DiskState}
 use Rattle.cut_disk.specs.Calls.{IsQuiet, Rose, Runs}
 use Rattle.freshness_routes.specs.declared.routes.Direction.TheVariants.{Sends, Receives}
@@ -154,7 +155,7 @@ cleared node id payload up route least most =
     clear_by node.up (has_route node id Sends) (has_length 1 60 payload) (last_refusals node (place_of node id Sends)) up
     (test_lt (place_of node id Sends) (length node.config.routes) route) (has_payload payload least most)
 
-reasons : (u : Option _) (full : Bool) (f : NodeFault) → first_of (option_map refusal.Key u ∷ when full refusal.Exhausted ∷ []) ≡ Some (refusal_of_fault f) → IsReason f
+reasons : (u : Option Erc) (full : Bool) (f : NodeFault) → first_of (option_map refusal.Key u ∷ when full refusal.Exhausted ∷ []) ≡ Some (refusal_of_fault f) → IsReason f
 reasons u full (fault.Key erc) e = tt
 reasons u full fault.Exhausted e = tt
 reasons u full fault.Faulted e = tt

@@ -10,5 +10,5 @@ returns-clause-formatted g c =
     let two = (g.met.D.FlashDevice.is_flash c.args.device.now).two in
     OnOk-map c.renew.result (λ copy.
     is_formatted (layout_on (g.D.FlashDevice.state c.args.device.now) (length c.args.cells.now)) (g.D.FlashDevice.state c.loop-bank.device).flash (g.D.FlashDevice.state c.renew.new.device).flash
-    c.args.cells.now (c.banks.result - 1) (g.D.FlashDevice.state c.loop-bank.device).banks two refl (omega (arith, two, c.banks.ensures, v.runs.banks)) v.runs.banks copy c.renew.ensures.others
+    c.args.cells.now 1 (g.D.FlashDevice.state c.loop-bank.device).banks two refl refl v.runs.banks copy c.renew.ensures.others
     (λ x positive below. v.blank x positive (omega (arith, below, c.banks-bank-end.ensures, c.loop-bank-test.false)))) c.renew.ensures.copy
