@@ -7,7 +7,7 @@ use Rattle.std.specs.Str.{bytes_eq}
 use Rattle.std.proofs.lemmas.List.{length-take, length-drop, length-replicate}
 use Rattle.cut_disk.specs.Calls.{Rose}
 use Rattle.cut_disk.specs.State.{DiskState}
-use Rattle.cut_disk.specs.CallLaws.{runs_none, runs_more, runs_join}
+use Rattle.cut_disk.proofs.CallerLemmas.{runs_none, runs_more, runs_join}
 use Rattle.cell_store.specs.declared.kinds.Kind.{Kind}
 use Rattle.cell_store.specs.declared.kinds.Version.{Version}
 use Rattle.cell_store.specs.declared.kinds.Version.TheVariants.{One, Two}

@@ -3,7 +3,7 @@ use Rattle.std.proofs.Common.{◌≡◌, ℕ, ◌≤◌, inr, Option, Some, List
 use Rattle.std.proofs.lemmas.Option.{same_Some}
 use Rattle.cut_disk.specs.State.{DiskState, Told}
 use Rattle.cut_disk.specs.Images.{firm, Image, EachImage}
-use Rattle.cut_disk.specs.ImageLaws.{image_of_firm}
+use Rattle.cut_disk.proofs.CallerLemmas.{image_of_firm}
 use Rattle.cut_disk.specs.Calls.{Runs}
 use Rattle.cell_store.specs.declared.kinds.Kind.{Kind}
 use Rattle.cell_store.specs.declared.kinds.Kind.TheVariants.{Twin, Log}

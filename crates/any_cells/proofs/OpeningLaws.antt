@@ -6,9 +6,8 @@ use Rattle.std.proofs.lemmas.List.{length-append}
 use Rattle.std.proofs.Math.Nat.{min-le_left}
 use Rattle.cut_disk.specs.State.{DiskState, Told}
 use Rattle.cut_disk.specs.Images.{Image, firm, splice}
-use Rattle.cut_disk.specs.ImageLaws.{image_of_firm}
+use Rattle.cut_disk.proofs.CallerLemmas.{image_of_firm, runs_none, runs_more, runs_join, grows_then}
 use Rattle.cut_disk.specs.Calls.{Rose, Runs}
-use Rattle.cut_disk.specs.CallLaws.{runs_none, runs_more, runs_join, grows_then}
 use Rattle.cell_store.specs.declared.kinds.Kind.{Kind}
 use Rattle.cell_store.specs.declared.kinds.Kind.TheVariants.{Twin, Log}
 use Rattle.cell_store.specs.declared.kinds.Version.{Version}
@@ -24,8 +23,7 @@ use Rattle.cell_store.specs.Cells.{CellsState}
 use Rattle.cell_store.specs.Attaching.{Attached, NotAttached, Probed, NotProbed, NotFormed}
 use Rattle.cell_store.specs.Formats.{Formats, FreshOn, Unformed, LeavesUnformed}
 use Rattle.cell_store.specs.Reading.{ReadOnly}
-use Rattle.cell_store.proofs.CallerLemmas.{SameOutside-refl, SameOutside-splice, length-header, stands_once, stands-whole, Sized, length-fresh_cells}
-use Rattle.cell_store.proofs.CallerLemmas.{length-fresh_log}
+use Rattle.cell_store.proofs.CallerLemmas.{SameOutside-refl, SameOutside-splice, length-header, stands_once, stands-whole, Sized, length-fresh_cells, length-fresh_log}
 use Rattle.any_cells.proofs.LookingLaws.{blank-probe, probe-blank}
 use Rattle.any_cells.specs.Either.{format_calls}
 use Rattle.any_cells.specs.Looking.{IsBlank}

@@ -7,7 +7,7 @@ use Rattle.bus_config.specs.Buses.{NamedBus}
 use Rattle.bus_machine.specs.declared.events.Event.{Event}
 use Rattle.bus_world.specs.declared.start.Start.{Start}
 use Rattle.bus_world.specs.declared.start.Start.TheVariants.{Format, Attach}
-use Rattle.bus_programs.specs.BusFileLaws.{same_bus}
+use Rattle.bus_programs.proofs.CallerLemmas.{same_bus}
 use Rattle.bus_commands.specs.declared.trial_words.TrialWords.{TrialWords}
 use Rattle.bus_commands.specs.TrialWords.{NamesTrial}
 use Rattle.bus_commands.specs.declared.words.Command.{Command}

@@ -5,8 +5,7 @@ use Rattle.std.specs.List.{flat_map}
 use Rattle.program_edge.specs.declared.input.InputFault.TheVariants as input
 use Rattle.program_edge.specs.Rows.{Row}
 use Rattle.program_edge.specs.Endings.{Ending, EndsInRow}
-use Rattle.program_edge.specs.EndingLaws.{EndsInRow-more}
-use Rattle.program_edge.specs.InputLaws.{Lacks-whole}
+use Rattle.program_edge.proofs.CallerLemmas.{EndsInRow-more, Lacks-whole}
 use Rattle.bus_config.specs.Buses.{NamedBus, IsNamedBus}
 use Rattle.bus_machine.specs.declared.events.Event.{Event}
 use Rattle.bus_script.specs.Canon.{canon}

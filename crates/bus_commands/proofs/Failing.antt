@@ -5,7 +5,7 @@ use Rattle.program_edge.specs.Told.{EndingTold}
 use Rattle.program_edge.specs.Rows.{Row}
 use Rattle.program_edge.specs.Endings.{Ending, EndsInRow}
 use Rattle.bus_world.specs.StartAnswers.{CountsDiskFault, failed_row}
-use Rattle.bus_world.specs.StartAnswerLaws.{none_counted, failure_told}
+use Rattle.bus_world.proofs.CallerLemmas.{none_counted, failure_told}
 use Rattle.bus_programs.specs.Inputs.{BusInputs}
 use Rattle.bus_commands.specs.Inputs.{start_of}
 use Rattle.bus_commands.specs.StartRows.{CommandDisks}

@@ -19,7 +19,7 @@ use Rattle.bus_world.specs.StartRows.{LeavesEach, StoreCause}
 use Rattle.program_edge.specs.Endings.{Ending}
 use Rattle.program_edge.specs.NamedSources.{Openings}
 use Rattle.bus_programs.specs.Blank.{disk_states}
-use Rattle.bus_programs.specs.BlankLaws.{blank_has_room, blank_no_cause}
+use Rattle.bus_programs.proofs.CallerLemmas.{blank_has_room, blank_no_cause}
 use Rattle.bus_programs.specs.Inputs.{BusInputs}
 use Rattle.bus_programs.specs.Named.{SourcesBack}
 use Rattle.bus_commands.specs.declared.words.Command.TheVariants.{World}

@@ -28,7 +28,7 @@ use Rattle.bus_commands.proofs.Headlines.{written_run, summed_run}
 use Rattle.bus_commands.proofs.Promises.{RunsCommand-ends}
 use Rattle.bus_commands.proofs.Asking.{apart, asks_one, same_start}
 use Rattle.bus_commands.proofs.Unread.{AskedIsDone, done_of}
-use Rattle.bus_world.specs.StartAnswerLaws.{Comes-leaves}
+use Rattle.bus_world.proofs.CallerLemmas.{Comes-leaves}
 
 -- ---- one run
 

@@ -7,7 +7,7 @@ use Rattle.program_edge.specs.declared.input.InputFault.TheVariants as input
 use Rattle.text_lines.specs.Readings.{Fault}
 use Rattle.program_edge.specs.Rows.{Row}
 use Rattle.program_edge.specs.Inputs.{Reading, IsUnread, ReadsWhole}
-use Rattle.program_edge.specs.InputLaws.{Lacks-whole}
+use Rattle.program_edge.proofs.CallerLemmas.{Lacks-whole}
 use Rattle.bus_config.specs.Buses.{NamedBus, IsNamedBus}
 use Rattle.secoc_words.specs.declared.frames.FrameLine.{FrameLine}
 use Rattle.secoc_words.specs.declared.judges.JudgeLine.{JudgeLine}
@@ -23,7 +23,7 @@ use Rattle.bus_commands.specs.declared.job.LineJob.TheVariants.{Frames, Judgemen
 use Rattle.bus_commands.specs.Words.{Asks}
 use Rattle.bus_commands.specs.Tasks.{Task, frame, judge, check, replay}
 use Rattle.bus_commands.specs.Texts.{fault_of}
-use Rattle.bus_programs.specs.BusFileLaws.{LacksLines-read}
+use Rattle.bus_programs.proofs.CallerLemmas.{LacksLines-read}
 use Rattle.bus_programs.specs.BusFiles.{ReadsBus}
 use Rattle.bus_programs.specs.Inputs.{BusInputs}
 use Rattle.bus_commands.specs.Inputs.{AsksOverBus, SetsTask}

@@ -8,7 +8,7 @@ use Rattle.text_lines.specs.Texts.{fault_text_of}
 use Rattle.program_edge.specs.Rows.{Row, memory_row}
 use Rattle.program_edge.specs.Inputs.{IsUnread, CountsFault, CountsTooMuch, Offers}
 use Rattle.program_edge.specs.Endings.{Ending, EndsInRow, PrintsWhole, SinkFailed, CountsWriteFault}
-use Rattle.program_edge.specs.EndingLaws.{EndsInRow-at, EndsInRow-front, EndsInRow-rose, EndsInRow-only, EndsInRow-may, EndsInRow-done}
+use Rattle.program_edge.proofs.CallerLemmas.{EndsInRow-at, EndsInRow-front, EndsInRow-rose, EndsInRow-only, EndsInRow-may, EndsInRow-done}
 use Rattle.run_driver.specs.declared.printing.Unwritten.{Unwritten}
 use Rattle.run_driver.specs.declared.printing.Unwritten.TheVariants as unwritten
 use Rattle.bus_config.specs.declared.fault.ConfigFault.{ConfigFault}
@@ -20,7 +20,7 @@ use Rattle.bus_world.specs.declared.start.Start.{Start}
 use Rattle.bus_world.specs.declared.start.Start.TheVariants.{Format, Attach}
 use Rattle.bus_world.specs.Starts.{HasRoom, FindsRoom, Started}
 use Rattle.bus_world.specs.declared.start.StartFault.{StartFault}
-use Rattle.bus_programs.specs.BusFileLaws.{told_fault, told_too_much, bus_or_fault}
+use Rattle.bus_programs.proofs.CallerLemmas.{told_fault, told_too_much, bus_or_fault}
 use Rattle.bus_commands.specs.declared.words.Command.TheVariants.{World}
 use Rattle.bus_commands.specs.declared.words.WorldCommand.TheVariants.{Replay, Trial}
 use Rattle.bus_commands.specs.Words.{AsksNothing}
@@ -39,11 +39,9 @@ use Rattle.bus_commands.proofs.Asking.{apart}
 use Rattle.bus_commands.proofs.Unread.{row_config_unread, row_lines_unread, AskedIsDone, answers_done}
 use Rattle.bus_commands.proofs.Statuses.{ends_in_table, replayed_in_table, row_leaves}
 use Rattle.bus_commands.proofs.RowFacts.{row_tells, row_asks, row_refuses, OfTask, row_offered, replay_offered, OfTrial, row_tried, calm_world}
-use Rattle.bus_world.specs.StartAnswerLaws.{start_without_room, start_complete}
+use Rattle.bus_world.proofs.CallerLemmas.{start_without_room, start_complete, no_node, no_disk, no_line}
 use Rattle.bus_commands.proofs.Refusing.{start_in_room}
 use Rattle.bus_commands.proofs.Failing.{ends_failed}
-use Rattle.bus_world.proofs.CallerLemmas.{no_node}
-use Rattle.bus_world.specs.StartRowLaws.{no_disk, no_line}
 use Rattle.bus_world.specs.Worlds.{BusState}
 use Rattle.cut_disk.specs.State.{DiskState}
 

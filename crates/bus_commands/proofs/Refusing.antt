@@ -5,7 +5,7 @@ use Rattle.program_edge.specs.Rows.{Row}
 use Rattle.bus_config.specs.Buses.{NamedBus}
 use Rattle.bus_world.specs.declared.start.Start.{Start}
 use Rattle.bus_world.specs.Starts.{HasRoom}
-use Rattle.bus_world.specs.StartRowLaws.{no_room_fault}
+use Rattle.bus_world.proofs.CallerLemmas.{no_room_fault}
 use Rattle.bus_world.specs.StartAnswers.{DiskStates, ComesOfStart, disks_refused, store_refused, start_without_memory}
 
 -- with room it is 10, or 7

@@ -9,7 +9,7 @@ use Rattle.cut_disk.specs.State.{DiskState}
 use Rattle.bus_world.specs.Worlds.{BusState, IsEventOf, IsReady}
 use Rattle.bus_world.specs.Starts.{Started}
 use Rattle.bus_world.specs.declared.start.Start.{Start}
-use Rattle.bus_programs.specs.EventLaws.{can_be_done}
+use Rattle.bus_programs.proofs.CallerLemmas.{can_be_done}
 
 -- an event of a script over the nodes of a bus is one of them
 pub event_of_nodes : (nodes : List NodeLine) (e : Event) → IsScriptEvent nodes e → IsEventOf (length nodes) e

@@ -6,7 +6,7 @@ use Rattle.program_edge.specs.Input.{input_fault_text}
 use Rattle.text_lines.specs.Readings.{Fault}
 use Rattle.program_edge.specs.Rows.{Row}
 use Rattle.program_edge.specs.Inputs.{Reading, Offers}
-use Rattle.program_edge.specs.InputLaws.{Offers-whole}
+use Rattle.program_edge.proofs.CallerLemmas.{Offers-whole}
 use Rattle.bus_config.specs.declared.fault.ConfigFault.{ConfigFault}
 use Rattle.bus_config.specs.BusFile.{bus_of}
 use Rattle.bus_config.specs.Buses.{NamedBus}
@@ -14,7 +14,7 @@ use Rattle.bus_machine.specs.declared.events.Event.{Event}
 use Rattle.bus_world.specs.Starts.{HasRoom}
 use Rattle.bus_world.specs.declared.start.Start.{Start}
 use Rattle.bus_world.specs.declared.start.Start.TheVariants.{Format}
-use Rattle.bus_programs.specs.BusFileLaws.{ReadsCalmly, calm_unread, calm_whole, RowTells, told_first, told_second, bus_or_fault, offered_no_fault, memory_status, same_bus}
+use Rattle.bus_programs.proofs.CallerLemmas.{ReadsCalmly, calm_unread, calm_whole, RowTells, told_first, told_second, bus_or_fault, offered_no_fault, memory_status, same_bus}
 use Rattle.bus_commands.specs.declared.words.Command.TheVariants.{Lines, World}
 use Rattle.bus_commands.specs.declared.words.LineCommand.TheVariants as lines
 use Rattle.bus_commands.specs.declared.words.WorldCommand.{WorldCommand}

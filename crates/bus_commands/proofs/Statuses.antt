@@ -8,7 +8,7 @@ use Rattle.program_edge.specs.Endings.{Ending, EndsInRow}
 use Rattle.bus_config.specs.Buses.{NamedBus}
 use Rattle.bus_machine.specs.declared.events.Event.{Event}
 use Rattle.bus_world.specs.StartAnswers.{ComesOfStart}
-use Rattle.bus_world.specs.StartAnswerLaws as start
+use Rattle.bus_world.proofs.CallerLemmas as start
 use Rattle.bus_commands.specs.declared.words.WorldCommand.{WorldCommand}
 use Rattle.bus_programs.specs.Inputs.{BusInputs}
 use Rattle.bus_commands.specs.Inputs.{SetsWorld, start_of}

@@ -3,7 +3,7 @@ use Rattle.std.specs.Prelude.{◌≡◌, ℕ, List}
 use Rattle.std.proofs.Common.{subst, sym}
 use Rattle.program_edge.specs.Rows.{Row, row_of}
 use Rattle.program_edge.specs.Endings.{Ending, EndsInRow}
-use Rattle.program_edge.specs.EndingLaws.{EndsInRow-more}
+use Rattle.program_edge.proofs.CallerLemmas.{EndsInRow-more}
 use Rattle.bus_machine.specs.declared.events.Event.{Event}
 use Rattle.bus_config.specs.Buses.{NamedBus}
 use Rattle.bus_world.specs.WorldTurns.{TurnsLeaveDisks, StartsSetUp}

@@ -17,7 +17,7 @@ use Rattle.bus_world.specs.Worlds.{BusState, world_of, EachFits}
 use Rattle.bus_world.specs.NodeDisks.{DisksStay}
 use Rattle.bus_world.specs.WorldRuns.{IsFirstOf}
 use Rattle.bus_world.specs.WorldTurns.{seen, TakesTurns, TurnsLeaveDisks, TurnsAreWorldRuns, StartsSetUp, StartsBeginAtFirst, StartsGoOnFirst}
-use Rattle.bus_world.specs.TurnLaws.{same_lines, same_length}
+use Rattle.bus_world.proofs.CallerLemmas.{same_lines, same_length}
 use Rattle.bus_commands.specs.Replays.{ReplayTurns}
 use Rattle.bus_commands.specs.Headline.{Replayed, ReplaysAreRuns}
 

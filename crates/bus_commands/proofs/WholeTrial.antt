@@ -13,7 +13,7 @@ use Rattle.bus_world.specs.Worlds.{BusState, world_of}
 use Rattle.bus_world.specs.NodeDisks.{DisksStay}
 use Rattle.bus_world.specs.WorldRuns.{IsFirstOf, WorldRun}
 use Rattle.bus_world.specs.WorldTurns.{seen, TakesTurns, TurnsLeaveDisks, TurnsAreWorldRuns, StartsSetUp, StartsBeginAtFirst}
-use Rattle.bus_world.specs.TurnLaws.{same_commands, same_lines}
+use Rattle.bus_world.proofs.CallerLemmas.{same_commands, same_lines}
 use Rattle.bus_commands.specs.declared.summary.Summary.{Summary}
 use Rattle.bus_commands.specs.Summaries.{summary_of}
 use Rattle.bus_commands.specs.TrialRuns.{TrialTurns, TrialsAreRuns}

@@ -5,7 +5,7 @@ use Rattle.std.proofs.lemmas.Slice.Eq.{bytes_eq-Decides}
 use Rattle.secured_pdu.specs.Frame.{Secured, secured_frame}
 use Rattle.freshness_routes.specs.declared.routes.Direction.TheVariants.{Sends, Receives}
 use Rattle.machine_runs.specs.Run.{Run}
-use Rattle.machine_runs.specs.RunLaws.{Run-split}
+use Rattle.machine_runs.proofs.CallerLemmas.{Run-split}
 use Rattle.bus_machine.specs.declared.events.Event.{Event}
 use Rattle.bus_machine.specs.declared.events.Event.TheVariants.{Send}
 use Rattle.bus_machine.specs.declared.lines.Line.{Line}

@@ -2,7 +2,7 @@
 use Rattle.std.specs.Prelude.{◌≡◌, ◌≢◌, ℕ, Option, None, Some, List, [], ◌∷◌, set, get_or}
 use Rattle.std.proofs.Common.{refl, sym, ◌∙◌, ap, subst, inl, inr, get_or-set_same}
 use Rattle.memory_update.specs.Loading.{slot_of}
-use Rattle.secured_pdu.specs.FrameLaws.{same_from_Ahead}
+use Rattle.secured_pdu.proofs.CallerLemmas.{same_from_Ahead}
 use Rattle.secured_pdu.specs.Verdict as verdict
 use Rattle.freshness_routes.specs.declared.routes.Direction.TheVariants.{Receives}
 use Rattle.machine_runs.specs.Run.{Run}

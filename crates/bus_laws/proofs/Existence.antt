@@ -24,9 +24,8 @@ use Rattle.memory_update.specs.declared.messages.Request.{Request}
 use Rattle.memory_update.specs.declared.messages.Reply.{Reply}
 use Rattle.memory_update.specs.declared.messages.Update.{Update}
 use Rattle.memory_update.specs.Loading.{Allows, slot_of}
-use Rattle.memory_update.specs.LoadingLaws.{Allows-some}
+use Rattle.memory_update.proofs.CallerLemmas.{Allows-some, Carries-Builds, IsRequest-Carries}
 use Rattle.memory_update.specs.Messages.{two_blocks, head_number, plain, request_mac, sealed_counter, Builds, Confirms, IsUpdate, IsRequest}
-use Rattle.memory_update.specs.MessageLaws.{Carries-Builds, IsRequest-Carries}
 use Rattle.secure_boot.specs.Booting.{Boots, BootsBy, bootmac, is_good, is_decided}
 use Rattle.secured_pdu.specs.Frame.{secured_frame}
 use Rattle.secured_pdu.specs.Verdict as verdict

@@ -3,7 +3,7 @@ use Rattle.std.specs.Prelude.{◌≡◌, ℕ, ◌^◌, ◌<◌, ◌≤◌, ◌==
 use Rattle.std.proofs.Common.{refl, sym, ◌∙◌, ap, subst, arith}
 use Rattle.std.proofs.lemmas.Bool.Decides.{nat_tests}
 use Rattle.secured_pdu.specs.Frame.{Secured, Ahead, IsFrame}
-use Rattle.secured_pdu.specs.FrameLaws.{IsFrame-Secured, same_from_Ahead, payload_of_secured, low_of_secured}
+use Rattle.secured_pdu.proofs.CallerLemmas.{IsFrame-Secured, same_from_Ahead, payload_of_secured, low_of_secured}
 use Rattle.secured_pdu.specs.Verdict.{payload_of, low_of}
 use Rattle.freshness_routes.specs.declared.routes.Direction.TheVariants.{Sends, Receives}
 use Rattle.machine_runs.specs.Run.{Run}

@@ -6,14 +6,14 @@ use Rattle.key_slots.specs.declared.memory.Slot.TheVariants.{Empty, Filled}
 use Rattle.key_slots.specs.declared.refusals.Erc.{Erc}
 use Rattle.key_slots.specs.Slots.{slot_at}
 use Rattle.memory_update.specs.Messages.{Builds, Confirms}
-use Rattle.memory_update.specs.MessageLaws.{same_reply}
+use Rattle.memory_update.proofs.CallerLemmas.{same_reply}
 use Rattle.memory_update.specs.declared.messages.Reply.{Reply}
 use Rattle.memory_update.specs.declared.messages.Request.{Request}
 use Rattle.memory_update.specs.declared.messages.Update.{Update}
 use Rattle.secure_boot.specs.Booting.{BootsBy}
 use Rattle.secured_pdu.specs.Frame.{secured_frame}
 use Rattle.secured_pdu.specs.Verdict as verdict
-use Rattle.secured_pdu.specs.VerdictLaws.{same_from_Verdict}
+use Rattle.secured_pdu.proofs.CallerLemmas.{same_from_Verdict}
 use Rattle.freshness_routes.specs.declared.routes.Direction.TheVariants.{Sends, Receives}
 use Rattle.machine_runs.specs.Run.{Run, commands_in}
 use Rattle.bus_machine.specs.declared.events.Event.{Event}

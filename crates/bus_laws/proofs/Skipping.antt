@@ -5,7 +5,7 @@ use Rattle.key_slots.specs.declared.memory.Slot.{Slot}
 use Rattle.freshness_routes.specs.declared.routes.Direction.TheVariants.{Sends, Receives}
 use Rattle.freshness_routes.specs.Changes.{last_freshness}
 use Rattle.machine_runs.specs.Run.{Run}
-use Rattle.machine_runs.specs.RunLaws.{Run-split}
+use Rattle.machine_runs.proofs.CallerLemmas.{Run-split}
 use Rattle.bus_machine.specs.declared.lines.Line.TheVariants.{Up}
 use Rattle.bus_machine.specs.Node.{Node, Change, slot_to, bound_to, place_of, no_route, route_at, bound_at, counter_at}
 use Rattle.bus_machine.specs.Sound.{MovesForward, InStep, Sound}

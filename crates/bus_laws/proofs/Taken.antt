@@ -8,7 +8,7 @@ use Rattle.memory_update.specs.declared.messages.Request.{Request}
 use Rattle.memory_update.specs.declared.messages.Update.{Update}
 use Rattle.memory_update.specs.Messages.{IsUpdate}
 use Rattle.memory_update.specs.Loading.{Allows}
-use Rattle.memory_update.specs.LoadingLaws.{same_from_Allows, counter_of-Allows}
+use Rattle.memory_update.proofs.CallerLemmas.{same_from_Allows, counter_of-Allows}
 
 -- it is an update, and its counter is greater than the slot's
 pub record IsTakenUpdate (slots : List Slot) (u : Update) : Type 0 where

@@ -4,7 +4,7 @@ use Rattle.std.proofs.Common.{refl, sym, ◌∙◌, ap, subst, arith, inl, inr}
 use Rattle.std.proofs.lemmas.Option.{same_Some}
 use Rattle.cut_disk.specs.State.{DiskState, Told}
 use Rattle.cut_disk.specs.Images.{Image, EachImage, firm, LeavesImage, CutsTo}
-use Rattle.cut_disk.specs.ImageLaws.{image_is_read, image_of_firm}
+use Rattle.cut_disk.proofs.CallerLemmas.{image_is_read, image_of_firm}
 use Rattle.cell_store.specs.declared.kinds.Kind.{Kind}
 use Rattle.cell_store.specs.declared.kinds.Version.{Version}
 use Rattle.cell_store.specs.declared.kinds.Version.TheVariants.{One, Two}
@@ -24,14 +24,13 @@ use Rattle.bus_machine.specs.Bus.{node_at}
 use Rattle.bus_config.specs.declared.node_lines.NodeLine.{NodeLine}
 use Rattle.bus_config.specs.Buses.{NamedBus}
 use Rattle.secoc_node.proofs.CallerLemmas.{FoundCells, told_before}
-use Rattle.bus_world.proofs.CallerLemmas.{counted_once}
+use Rattle.bus_world.proofs.CallerLemmas.{counted_once, no_disk, no_line, start_leaves}
 use Rattle.bus_world.specs.declared.start.Start.TheVariants.{Attach}
 use Rattle.bus_world.specs.declared.start.StartFault.{StartFault}
 use Rattle.bus_world.specs.declared.start.StartFault.TheVariants as start_fault
 use Rattle.bus_world.specs.TakingUp.{cells_in, KeptOn, FailedOver, LeavesDisk}
 use Rattle.bus_world.specs.Starts.{NotStarted, OfNumber}
 use Rattle.bus_world.specs.StartRows.{CanStart, LeavesEach}
-use Rattle.bus_world.specs.StartRowLaws.{no_disk, no_line, start_leaves}
 use Rattle.bus_lives.specs.Lives.{Life, IsLife, LeftToNext, NoNewer, NoneNewer, UnfinishedStart, WasInTwo, GoesOnAs}
 use Rattle.bus_lives.specs.Lives.{IsUnfinished, LeftBehindStarts, Follows, StartsLeaveNodes, BlamesNoBytes}
 use Rattle.bus_lives.specs.Lives.{NextBlamesNoBytes}

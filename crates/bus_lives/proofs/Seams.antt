@@ -6,7 +6,7 @@ use Rattle.std.proofs.lemmas.List.Elements.{All-head}
 use Rattle.std.proofs.lemmas.Option.{same_Some, none-some}
 use Rattle.cut_disk.specs.State.{DiskState, Told}
 use Rattle.cut_disk.specs.Images.{Image, firm}
-use Rattle.cut_disk.specs.ImageLaws.{image_is_read}
+use Rattle.cut_disk.proofs.CallerLemmas.{image_is_read}
 use Rattle.cell_store.specs.declared.kinds.Kind.{Kind}
 use Rattle.cell_store.specs.declared.kinds.Layout.{Layout}
 use Rattle.cell_store.specs.declared.kinds.Version.{Version}
@@ -30,13 +30,11 @@ use Rattle.bus_laws.proofs.CallerLemmas.{pending_forward, first_at, Grows-run, S
 use Rattle.secoc_node.specs.Cells.{CellsOf}
 use Rattle.secoc_node.specs.Fits.{StandsForNode, FitsNode}
 use Rattle.secoc_node.proofs.CallerLemmas.{length-CellsOf, kept_of_sound, kept_changed, kept_once, FoundCells}
-use Rattle.bus_world.proofs.CallerLemmas.{standing_not_blank, standing_not_older, standing_not_foreign, older_not_blank, older_not_foreign}
-use Rattle.bus_world.proofs.CallerLemmas.{blank_not_foreign, older_one, counted_once}
+use Rattle.bus_world.proofs.CallerLemmas.{standing_not_blank, standing_not_older, standing_not_foreign, older_not_blank, older_not_foreign, blank_not_foreign, older_one, counted_once, no_disk, no_line, start_leaves}
 use Rattle.bus_world.specs.declared.start.Start.TheVariants.{Attach}
 use Rattle.bus_world.specs.TakingUp.{cells_in, HasNodeStore, KeptOn, FailedOver, LeavesDisk}
 use Rattle.bus_world.specs.Starts.{StartsOver}
 use Rattle.bus_world.specs.StartRows.{CanStart}
-use Rattle.bus_world.specs.StartRowLaws.{no_disk, no_line, start_leaves}
 use Rattle.bus_lives.specs.Lives.{Life, IsLife, LeftToNext, NoNewer, IsFirstLife, LeavesNodes, OutlastsRefusals}
 
 -- ---- what is found if a list of cells stands in the bus's version

@@ -1,3 +1,4 @@
 mod MemoryLemmas
 mod Streams
 mod Tries
+pub mod CallerLemmas

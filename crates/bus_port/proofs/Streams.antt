@@ -1,11 +1,10 @@
 -- What came piece by piece, and what was appended piece by piece.
 use Rattle.std.proofs.Common.{◌≡◌, ℕ, ◌+◌, ◌-◌, ◌<◌, ◌≤◌, List, ◌++◌, length, take, drop, ◌∙◌, subst, sym, ap, arith, append-nil, length-append}
 use Rattle.std.proofs.Math.Seq.{take-add}
-use Rattle.basics.specs.CountLaws.{rose_after}
+use Rattle.basics.proofs.CallerLemmas.{rose_after}
 use Rattle.bus_port.specs.Source.{SourceState, Came}
 use Rattle.bus_port.specs.Sink.{SinkState, Appended, WriteFails}
-use Rattle.bus_port.specs.SourceLaws.{Came-more}
-use Rattle.bus_port.specs.SinkLaws.{Appended-more}
+use Rattle.bus_port.proofs.CallerLemmas.{Came-more, Appended-more}
 use Rattle.bus_port.specs.Whole.{ReadsPart, AppendedPart, PieceWritten}
 use Rattle.bus_port.specs.declared.whole_streams.ReadAll.{ReadAll}
 use Rattle.bus_port.specs.declared.whole_streams.ReadAll.TheVariants.{Failed, TooLong, Memory}

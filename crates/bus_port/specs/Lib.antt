@@ -1,8 +1,6 @@
 pub mod Fault
 pub mod Source
 pub mod Sink
-pub mod SourceLaws
-pub mod SinkLaws
 pub mod Whole
 pub mod MemSource
 pub mod MemSink

@@ -5,7 +5,7 @@ use Rattle.std.proofs.Common.{inl, inr, sym, subst}
 use Rattle.program_edge.specs.declared.input.InputFault.TheVariants as input
 use Rattle.program_edge.specs.Rows.{Row, memory_row}
 use Rattle.program_edge.specs.Inputs.{Reading, ReadsWhole}
-use Rattle.program_edge.specs.InputLaws.{Lacks-whole}
+use Rattle.program_edge.proofs.CallerLemmas.{Lacks-whole}
 use Rattle.bus_config.specs.declared.fault.ConfigFault.{ConfigFault}
 use Rattle.bus_config.specs.declared.fault.ConfigFault.TheVariants as config
 use Rattle.bus_config.specs.BusFile.{bus_of}
@@ -13,7 +13,7 @@ use Rattle.bus_config.specs.FaultTexts.{config_fault_text}
 use Rattle.bus_config.specs.Answers.{IsFaultOf}
 use Rattle.bus_config.specs.Buses.{NamedBus}
 use Rattle.bus_machine.specs.declared.events.Event.{Event}
-use Rattle.bus_programs.specs.BusFileLaws.{LacksLines-read}
+use Rattle.bus_programs.proofs.CallerLemmas.{LacksLines-read}
 use Rattle.bus_programs.specs.Scripts.{ScriptMeaning, HasScript, FindsScript}
 use Rattle.bus_programs.specs.BusFiles.{IsConfigRow, HasBus, LacksBus, no_file, file_refused, FindsBus}
 

@@ -15,9 +15,8 @@ use Rattle.memory_update.specs.declared.messages.Reply.{Reply}
 use Rattle.memory_update.specs.declared.messages.Request.{Request}
 use Rattle.memory_update.specs.declared.messages.Update.{Update}
 use Rattle.memory_update.specs.Messages.{two_blocks, head_number, plain, request_mac, Builds, Carries, Confirms, IsUpdate, id_of, auth_of}
-use Rattle.memory_update.specs.MessageLaws.{HeadOf-Carries, id_of-head, auth_of-head, Carries-Builds, same_update, same_request}
+use Rattle.memory_update.proofs.CallerLemmas.{HeadOf-Carries, id_of-head, auth_of-head, Carries-Builds, same_update, same_request, is_fit-carried, is_fit-other_mac}
 use Rattle.memory_update.specs.Loading.{slot_of, key_in, is_meant, is_fit, head_refusals, load_refusals, authorising_key}
-use Rattle.memory_update.specs.LoadingLaws.{is_fit-carried, is_fit-other_mac}
 use Rattle.basics.specs.Numbers.{bytes_of}
 use Rattle.bus_machine.specs.declared.events.Event.{Event}
 use Rattle.bus_machine.specs.declared.lines.Line.{Line}

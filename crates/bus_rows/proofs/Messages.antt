@@ -3,11 +3,10 @@ use Rattle.std.specs.Prelude.{◌≡◌, ℕ, ◌+◌, ◌*◌, ◌^◌, List, [
 use Rattle.std.proofs.Common.{refl, sym, ◌∙◌, ap, arith}
 use Rattle.std.specs.List.{concat}
 use Rattle.basics.specs.Numbers.{bytes_of, number_of}
-use Rattle.basics.specs.NumberLaws.{IsBytes-bytes_of}
+use Rattle.basics.proofs.CallerLemmas.{IsBytes-bytes_of}
 use Rattle.she_aes.specs.Field.{product, cancelled, remainder, mul}
 use Rattle.she_aes.specs.Cipher.{IsBlock, zero_block, xor_blocks, add_round_key, shift_rows, circulant, mix_columns, xor_words, rot_word, power_of_x, rcon, words_up_to, round_key, enc}
-use Rattle.she_aes.proofs.CallerLemmas.{tabled_byte, tabled_word, tabled_added, tabled_next, tabled_words, tabled_bytes, tabled_rounds, tabled_cipher}
-use Rattle.she_aes.proofs.CallerLemmas.{enc_by_table, enc_by_table_is, cbc_by_table, cbc_by_table_is}
+use Rattle.she_aes.proofs.CallerLemmas.{tabled_byte, tabled_word, tabled_added, tabled_next, tabled_words, tabled_bytes, tabled_rounds, tabled_cipher, enc_by_table, enc_by_table_is, cbc_by_table, cbc_by_table_is}
 use Rattle.she_aes.specs.Modes.{cbc}
 use Rattle.she_kdf.specs.Derivation.{kdf}
 use Rattle.she_kdf.proofs.CallerLemmas.{tabled_out, kdf_by_table, kdf_by_table_is}

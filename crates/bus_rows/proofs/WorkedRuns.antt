@@ -2,9 +2,9 @@
 use Rattle.std.specs.Prelude.{◌≡◌, ℕ, ◌<◌, ◌^◌, Option, None, Some, List, [], ◌∷◌, get_or}
 use Rattle.std.proofs.Common.{refl, sym, ◌∙◌, ap, arith, inl, inr}
 use Rattle.basics.specs.Numbers.{bytes_of}
-use Rattle.basics.specs.NumberLaws.{IsBytes-bytes_of}
+use Rattle.basics.proofs.CallerLemmas.{IsBytes-bytes_of}
 use Rattle.basics.specs.Blocks.{IsBlock}
-use Rattle.she_cmac.specs.CmacLaws.{IsBlock-cmac}
+use Rattle.she_cmac.proofs.CallerLemmas.{IsBlock-cmac}
 use Rattle.cut_disk.specs.declared.Torn.TheVariants.{Keep, Old}
 use Rattle.key_slots.specs.declared.memory.Flags.{Flags}
 use Rattle.key_slots.specs.Authority.{is_pair}

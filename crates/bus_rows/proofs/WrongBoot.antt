@@ -2,14 +2,13 @@
 use Rattle.std.specs.Prelude.{◌≡◌, ℕ, ◌*◌, false, List, [], ◌∷◌, ◌++◌, length, replicate, get_or}
 use Rattle.std.proofs.Common.{refl, sym, ◌∙◌, ap, arith}
 use Rattle.basics.specs.Numbers.{bytes_of, number_of}
-use Rattle.basics.specs.NumberLaws.{IsBytes-bytes_of}
+use Rattle.basics.proofs.CallerLemmas.{IsBytes-bytes_of}
 use Rattle.key_slots.specs.declared.refusals.Erc.TheVariants.{KeyNotAvailable}
 use Rattle.key_slots.specs.Authority.{is_pair}
 use Rattle.key_slots.specs.Usage.{usable}
 use Rattle.she_aes.specs.Field.{product, cancelled, remainder, mul}
 use Rattle.she_aes.specs.Cipher.{xor_blocks, add_round_key, shift_rows, circulant, mix_columns, xor_words, rot_word, power_of_x, rcon, words_up_to, round_key, IsBlock}
-use Rattle.she_aes.proofs.CallerLemmas.{tabled_byte, tabled_word, tabled_added, tabled_next, tabled_words, tabled_bytes, tabled_rounds, tabled_cipher}
-use Rattle.she_aes.proofs.CallerLemmas.{enc_by_table}
+use Rattle.she_aes.proofs.CallerLemmas.{tabled_byte, tabled_word, tabled_added, tabled_next, tabled_words, tabled_bytes, tabled_rounds, tabled_cipher, enc_by_table}
 use Rattle.she_cmac.specs.Cmac.{dbl, before_last, block_at, front_blocks, last_piece}
 use Rattle.she_cmac.proofs.CallerLemmas.{tabled_zero, tabled_last, tabled_chain, cmac_by_table, cmac_by_table_is}
 use Rattle.secure_boot.specs.Booting.{bootmac}

@@ -6,7 +6,7 @@ use Rattle.std.proofs.lemmas.Bool.{and_parts}
 use Rattle.std.proofs.lemmas.List.Elements.{All-nil, All-cons}
 use Rattle.basics.specs.Bytes.{IsBytes}
 use Rattle.basics.specs.Numbers.{bytes_of}
-use Rattle.basics.specs.NumberLaws.{IsBytes-bytes_of}
+use Rattle.basics.proofs.CallerLemmas.{IsBytes-bytes_of}
 use Rattle.hex.specs.Hex.{encode_lower}
 use Rattle.cut_disk.specs.declared.Torn.{Torn}
 use Rattle.memory_update.specs.declared.messages.Request.{Request}
@@ -17,8 +17,7 @@ use Rattle.text_lines.specs.Lines.{lines_of}
 use Rattle.secoc_words.specs.Written.{IsLoad}
 use Rattle.text_lines.specs.Written.{written, is_word_byte, is_plain_word, is_writable, bytes_word}
 use Rattle.secoc_words.proofs.CallerLemmas.{key_form-encode, data_id_form-encode, pair_encode, blocks_word}
-use Rattle.text_lines.proofs.CallerLemmas.{bytes_form-word, hex_bytes_form-encode, plain_word, bytes_word-plain, all_writable, read_from-words}
-use Rattle.text_lines.proofs.CallerLemmas.{words-written}
+use Rattle.text_lines.proofs.CallerLemmas.{bytes_form-word, hex_bytes_form-encode, plain_word, bytes_word-plain, all_writable, read_from-words, words-written}
 use Rattle.bus_config.specs.declared.node_lines.NodeLine.{NodeLine}
 use Rattle.bus_config.specs.Names.{is_name_byte, is_name}
 use Rattle.bus_config.specs.Buses.{NamedBus, IsNamedBus, place_named}

@@ -6,7 +6,7 @@ use Rattle.std.specs.Str.{bytes_eq}
 use Rattle.std.proofs.lemmas.List.Elements.{All-nil, All-cons}
 use Rattle.basics.specs.Bytes.{IsBytes}
 use Rattle.basics.specs.Numbers.{number_of}
-use Rattle.basics.specs.NumberLaws.{number_of-lt}
+use Rattle.basics.proofs.CallerLemmas.{number_of-lt}
 use Rattle.hex.specs.Hex as hex
 use Rattle.hex.specs.Hex.{decode_of, decode_sized}
 use Rattle.hex.proofs.HexLemmas.{decode_of-ok, decode_sized-ok, decode_sized-twice}

@@ -10,7 +10,7 @@ use Rattle.bus_machine.specs.declared.lines.Line.{Line}
 use Rattle.bus_script.specs.LineTexts.{line_text, text_of, told_words}
 use Rattle.bus_script.specs.LineKinds.{IsLine}
 use Rattle.text_lines.specs.Spaced.{spaced}
-use Rattle.text_lines.specs.SpacedLaws.{written-spaced}
+use Rattle.text_lines.proofs.CallerLemmas.{written-spaced}
 use Rattle.bus_script.proofs.Cutting.{cut_first, cut_words}
 use Rattle.bus_script.proofs.PlainWords.{decimal_plain, told_plain}
 use Rattle.bus_script.proofs.ReadBack.{same_told}

@@ -6,10 +6,10 @@ use Rattle.std.proofs.lemmas.Bool.Decides.{eqb_tells}
 use Rattle.std.proofs.lemmas.List.{get_or-map, get_or-set_same, get_or-set_other}
 use Rattle.std.proofs.lemmas.Option.{get_or_from_slice_get, slice_get-get_or}
 use Rattle.machine_runs.specs.Run.{Moment, Run}
-use Rattle.machine_runs.specs.MemberLaws.{MemberSteps-length}
+use Rattle.machine_runs.proofs.CallerLemmas.{MemberSteps-length}
 use Rattle.cut_disk.specs.State.{DiskState}
 use Rattle.cut_disk.specs.Calls.{Runs, Later}
-use Rattle.cut_disk.specs.CallLaws.{runs_none, later_of_runs, later_join}
+use Rattle.cut_disk.proofs.CallerLemmas.{runs_none, later_of_runs, later_join}
 use Rattle.cell_store.specs.declared.kinds.Layout.{Layout}
 use Rattle.store_keeping.specs.DiskTurns.{CountsFailure, DiskTurn, TellsBytes}
 use Rattle.freshness_routes.specs.Config.{Config}

@@ -3,7 +3,7 @@ use Rattle.std.specs.Prelude.{◌≡◌, ℕ, ◌≤◌, min, Some, []}
 use Rattle.std.proofs.Common.{sym, ap, ◌∙◌, subst, arith}
 use Rattle.cut_disk.specs.State.{DiskState, Told}
 use Rattle.cut_disk.specs.Calls.{Runs, Grows}
-use Rattle.cut_disk.specs.CallLaws.{runs_none, runs_more}
+use Rattle.cut_disk.proofs.CallerLemmas.{runs_none, runs_more}
 use Rattle.cell_store.specs.declared.kinds.Kind.{Kind}
 use Rattle.cell_store.specs.declared.kinds.Version.{Version}
 use Rattle.cell_store.specs.declared.faults.Reread.TheVariants as reread

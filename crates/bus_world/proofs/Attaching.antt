@@ -15,14 +15,14 @@ use Rattle.bus_config.specs.Buses.{NamedBus, IsNamedBus, configs_of}
 use Rattle.bus_config.specs.Laws.{NamedBusesAreBuses}
 use Rattle.bus_laws.specs.Laws.{IsFirst, OneSender}
 use Rattle.bus_world.specs.Turns.{NodeState, TellsFitting}
-use Rattle.store_keeping.specs.KeepingLaws.{told_before}
+use Rattle.store_keeping.proofs.CallerLemmas.{told_before}
 use Rattle.bus_world.specs.declared.start.Start.TheVariants.{Attach}
 use Rattle.bus_world.specs.Worlds.{BusState, world_of, EachFits}
 use Rattle.bus_world.specs.Starts.{Started, Opened, NodeGoesOn, StartsOver}
 use Rattle.bus_world.specs.WorldTurns.{TellFirm, GoesOnFirst}
 use Rattle.bus_world.proofs.AtNode.{node_there}
 use Rattle.bus_world.proofs.DisksBack.{no_node}
-use Rattle.bus_world.specs.StartRowLaws.{no_disk, no_line}
+use Rattle.bus_world.proofs.StartRowLaws.{no_disk, no_line}
 
 module _ (bus : NamedBus) (most : ℕ) (before : List DiskState) (start : BusState) (started : Started Attach bus most before start) where
   x : NodeState

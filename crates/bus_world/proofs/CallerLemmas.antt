@@ -5,3 +5,8 @@ pub use Rattle.bus_world.proofs.FoundLaws.{older_one, standing_not_blank, standi
 pub use Rattle.bus_world.proofs.StepLaws.{turn_fits}
 pub use Rattle.bus_world.proofs.Turning.{alone_told, calm_turn, faults_told, receives_no_cut, sends_no_cut, step_config}
 pub use Rattle.bus_world.proofs.Turning.{unmoved_by}
+pub use Rattle.bus_world.proofs.RoomLaws.{size_of_any}
+pub use Rattle.bus_world.proofs.StartRowLaws.{no_disk, no_line, no_room_fault, start_leaves}
+pub use Rattle.bus_world.proofs.StartAnswerLaws.{Comes-leaves, Comes-unstarted, failure_told, none_counted, same_known}
+pub use Rattle.bus_world.proofs.StartAnswerLaws.{start_complete, start_memory, start_status, start_without_room}
+pub use Rattle.bus_world.proofs.TurnLaws.{as_many_nodes, same_commands, same_length, same_lines}

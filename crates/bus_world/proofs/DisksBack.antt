@@ -5,11 +5,11 @@ use Rattle.std.proofs.lemmas.List.{length-map, length-append, length-drop, get_o
 use Rattle.machine_runs.specs.Run.{Moment}
 use Rattle.cut_disk.specs.State.{DiskState, Entry}
 use Rattle.cut_disk.specs.Calls.{Later}
-use Rattle.cut_disk.specs.CallLaws.{later_of_runs, later_join}
+use Rattle.cut_disk.proofs.CallerLemmas.{later_of_runs, later_join}
 use Rattle.cell_store.specs.declared.kinds.Layout.{Layout}
 use Rattle.any_cells.specs.Either.{layout}
 use Rattle.store_keeping.specs.DiskTurns.{TellsBytes, TracedSince, FailuresTold}
-use Rattle.store_keeping.specs.DiskTurnLaws.{failures_told, traced_since}
+use Rattle.store_keeping.proofs.CallerLemmas.{failures_told, traced_since}
 use Rattle.bus_machine.specs.declared.events.Event.{Event}
 use Rattle.bus_machine.specs.declared.lines.Line.{Line}
 use Rattle.bus_machine.specs.Node.{first_node}
@@ -20,7 +20,7 @@ use Rattle.bus_world.specs.Worlds.{BusState, world_of, BusTurn, EachFits, TurnsA
 use Rattle.bus_world.specs.Starts.{disks_of}
 use Rattle.bus_world.specs.NodeDisks.{mark_at, most_at, fails_at, fits_at, DisksStay, DisksFollow}
 use Rattle.bus_world.specs.WorldTurns.{seen, SetUp, TakesTurns}
-use Rattle.bus_world.specs.TurnLaws.{as_many_nodes}
+use Rattle.bus_world.proofs.TurnLaws.{as_many_nodes}
 use Rattle.bus_world.proofs.AtNode.{disk_at, inside_after, turn_of_disk, later_run, HoldsAt, holds_after, holds_run, tells_at}
 
 -- a node, for a place without one

@@ -7,8 +7,7 @@ use Rattle.std.proofs.lemmas.List.Elements.{All-tail}
 use Rattle.std.proofs.lemmas.List.Sums.{sum_by-cons}
 use Rattle.std.proofs.lemmas.Option.{slice_get_within}
 use Rattle.machine_runs.specs.Run.{Run, commands_in, lines_in}
-use Rattle.machine_runs.specs.RunLaws.{Run-split}
-use Rattle.machine_runs.specs.MemberLaws.{MemberSteps-length}
+use Rattle.machine_runs.proofs.CallerLemmas.{Run-split, MemberSteps-length}
 use Rattle.cut_disk.specs.declared.Mark.{Mark}
 use Rattle.cut_disk.specs.State.{DiskState}
 use Rattle.store_keeping.specs.DiskTurns.{arms_later, FailuresTold}

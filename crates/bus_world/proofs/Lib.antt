@@ -8,6 +8,10 @@ mod TakingLaws
 pub mod StepLaws
 mod StartLaws
 mod SoundLaws
+pub mod RoomLaws
+pub mod StartRowLaws
+pub mod StartAnswerLaws
+pub mod TurnLaws
 pub mod CallerLemmas
 pub mod AtNode
 pub mod DisksBack

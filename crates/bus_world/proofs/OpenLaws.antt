@@ -8,7 +8,7 @@ use Rattle.bus_config.specs.Buses.{NamedBus}
 use Rattle.cut_disk.specs.State.{DiskState, Told}
 use Rattle.cut_disk.specs.Images.{firm}
 use Rattle.cut_disk.specs.Calls.{Rose}
-use Rattle.cut_disk.specs.CallLaws.{runs_none, runs_more, runs_join, grows_then}
+use Rattle.cut_disk.proofs.CallerLemmas.{runs_none, runs_more, runs_join, grows_then}
 use Rattle.cell_store.specs.declared.kinds.Kind.{Kind}
 use Rattle.cell_store.specs.declared.kinds.Version.{Version}
 use Rattle.cell_store.specs.declared.faults.Reread.TheVariants as reread
@@ -31,7 +31,7 @@ use Rattle.bus_world.specs.declared.start.Start.TheVariants.{Format}
 use Rattle.bus_world.specs.TakingUp.{cells_in, new_cells, start_calls, KeptOn, OpenCause, MovedFirst, CountsRefusal}
 use Rattle.bus_world.specs.Opening.{AttachedTo, AttachCauseOf, NotAttachedTo, of_store}
 use Rattle.bus_world.specs.Starts.{Opened, NotOpened, OpenedFirst}
-use Rattle.bus_world.specs.StartRowLaws.{untouched_left, untouched_leaves, untouched_stays}
+use Rattle.bus_world.proofs.StartRowLaws.{untouched_left, untouched_leaves, untouched_stays}
 use Rattle.bus_world.proofs.AttachLaws.{kept_powered, OnlyDiskOrMemory, of_kept_alone}
 
 -- ---- one node over a disk that is formatted

@@ -6,7 +6,7 @@ use Rattle.std.proofs.Math.Nat.{eq-or-lt_of_le}
 use Rattle.std.proofs.lemmas.List.{length-map, length-drop, get_or-map, get_or_append_left, get_or-append_right, get_or-drop, ext_get_or}
 use Rattle.cut_disk.specs.State.{DiskState, Told}
 use Rattle.cut_disk.specs.Calls.{Rose, Runs}
-use Rattle.cut_disk.specs.CallLaws.{runs_none, runs_more}
+use Rattle.cut_disk.proofs.CallerLemmas.{runs_none, runs_more}
 use Rattle.cell_store.specs.declared.kinds.Kind.{Kind}
 use Rattle.cell_store.specs.declared.kinds.Version.{Version}
 use Rattle.cell_store.specs.declared.faults.Reread.TheVariants as reread
@@ -28,7 +28,7 @@ use Rattle.bus_world.specs.declared.start.StartFault.{StartFault}
 use Rattle.bus_world.specs.declared.start.StartFault.TheVariants as start_fault
 use Rattle.bus_world.specs.TakingUp.{new_cells, start_calls, KeptOn, LeftOver, LeavesDisk, StaysFound, RefusedFor, OpenCause, MovedFirst, CountsRefusal, CellsAtFault}
 use Rattle.bus_world.specs.Starts.{disks_of, Opened, HasRoom, OfNumber, RefusedAt, StartCause, Broken, NotStarted, FindsRoom, OpensTo, fault_of_node}
-use Rattle.bus_world.specs.StartRowLaws.{no_line, untouched_left, untouched_leaves, untouched_stays}
+use Rattle.bus_world.proofs.StartRowLaws.{no_line, untouched_left, untouched_leaves, untouched_stays}
 use Rattle.bus_world.proofs.TakingLaws.{left_of_leaves}
 
 pub opened_left : (start : Start) (kind : Kind) (version : Version) (config : Config) (before : DiskState) (n : NodeState) → Opened start kind version config before n

@@ -15,12 +15,12 @@ use Rattle.bus_config.specs.Buses.{NamedBus, IsNamedBus, configs_of}
 use Rattle.bus_config.specs.Laws.{NamedBusesAreBuses}
 use Rattle.bus_laws.specs.Laws.{BusesBeginFirst}
 use Rattle.bus_world.specs.Turns.{NodeState, TellsFitting}
-use Rattle.store_keeping.specs.KeepingLaws.{told_before}
+use Rattle.store_keeping.proofs.CallerLemmas.{told_before}
 use Rattle.bus_world.specs.declared.start.Start.{Start}
 use Rattle.bus_world.specs.declared.start.Start.TheVariants.{Format}
 use Rattle.bus_world.specs.Worlds.{BusState, world_of, EachFits}
 use Rattle.bus_world.specs.Starts.{Started, Opened, start_calls}
-use Rattle.bus_world.specs.StartRowLaws.{no_line, no_disk}
+use Rattle.bus_world.proofs.StartRowLaws.{no_line, no_disk}
 use Rattle.bus_world.specs.NodeDisks.{TellEach}
 use Rattle.bus_world.specs.WorldRuns.{IsFirstOf}
 use Rattle.bus_world.specs.WorldTurns.{SetUp, BeginsAtFirst}

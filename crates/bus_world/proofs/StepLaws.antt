@@ -4,13 +4,13 @@ use Rattle.std.proofs.Common.{sym, ap, ◌∙◌, subst, inl, inr, zero}
 use Rattle.std.proofs.lemmas.List.{map-set}
 use Rattle.std.proofs.lemmas.Option.{same_Some}
 use Rattle.machine_runs.specs.Run.{Moment, Run, seen_as}
-use Rattle.machine_runs.specs.RunLaws.{Run-seen_as}
+use Rattle.machine_runs.proofs.CallerLemmas.{Run-seen_as}
 use Rattle.bus_machine.specs.declared.events.Event.{Event}
 use Rattle.bus_machine.specs.declared.events.Event.TheVariants as event
 use Rattle.bus_machine.specs.declared.lines.Line.{Line}
 use Rattle.bus_machine.specs.Bus.{World, node_of, Step}
 use Rattle.bus_machine.specs.Past.{mark_of}
-use Rattle.store_keeping.specs.KeepingLaws.{fits_store}
+use Rattle.store_keeping.proofs.CallerLemmas.{fits_store}
 use Rattle.secoc_node.specs.Fits.{node_keeping}
 use Rattle.secoc_node.specs.State.{NodeState, FitsNow, TellsFitting}
 use Rattle.secoc_node.proofs.CallerLemmas.{told_before}

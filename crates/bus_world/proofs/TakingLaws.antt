@@ -5,7 +5,7 @@ use Rattle.std.proofs.lemmas.Option.{same_Some}
 use Rattle.cut_disk.specs.State.{DiskState, Told}
 use Rattle.cut_disk.specs.Images.{EachImage}
 use Rattle.cut_disk.specs.Calls.{Rose}
-use Rattle.cut_disk.specs.CallLaws.{runs_more, runs_join, grows_after}
+use Rattle.cut_disk.proofs.CallerLemmas.{runs_more, runs_join, grows_after}
 use Rattle.cell_store.specs.declared.kinds.Kind.{Kind}
 use Rattle.cell_store.specs.declared.kinds.Kind.TheVariants.{Twin, Log}
 use Rattle.cell_store.specs.declared.kinds.Version.{Version}

@@ -10,8 +10,8 @@ use Rattle.cut_disk.specs.Calls.{Rose, Runs}
 use Rattle.cell_store.specs.declared.faults.Reread.TheVariants as reread
 use Rattle.cell_store.specs.Cells.{CellsState}
 use Rattle.cell_store.specs.Reading.{CutAndRead}
-use Rattle.cut_disk.specs.CallLaws.{runs_none, runs_more}
-use Rattle.secured_pdu.specs.FrameLaws.{payload_of_secured}
+use Rattle.cut_disk.proofs.CallerLemmas.{runs_none, runs_more}
+use Rattle.secured_pdu.proofs.CallerLemmas.{payload_of_secured}
 use Rattle.secured_pdu.specs.Verdict.{payload_of}
 use Rattle.bus_machine.specs.Node.{Node}
 use Rattle.bus_machine.specs.Past.{cell_count}

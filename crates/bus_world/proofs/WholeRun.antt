@@ -2,7 +2,7 @@
 use Rattle.std.specs.Prelude.{List, ◌∷◌}
 use Rattle.std.proofs.Common.{subst}
 use Rattle.machine_runs.specs.Run.{Moment, Run}
-use Rattle.machine_runs.specs.RunLaws.{Run-split}
+use Rattle.machine_runs.proofs.CallerLemmas.{Run-split}
 use Rattle.cut_disk.specs.State.{DiskState}
 use Rattle.bus_machine.specs.declared.events.Event.{Event}
 use Rattle.bus_machine.specs.declared.lines.Line.{Line}
@@ -11,10 +11,10 @@ use Rattle.bus_machine.specs.Skips.{SkipsLittle}
 use Rattle.bus_laws.specs.Laws.{IsFirst, RunsAreCovered, RunsRise, RunsAreAuthentic, RunsAreSingle, RunsKeepKeys, CutsSkipLittle, HonestIsHeard, EventsDetermineLines}
 use Rattle.bus_config.specs.Buses.{NamedBus}
 use Rattle.bus_world.specs.Worlds.{BusState, world_of, EachFits, TurnsAreRuns}
-use Rattle.bus_world.specs.StartRowLaws.{no_disk}
+use Rattle.bus_world.proofs.StartRowLaws.{no_disk}
 use Rattle.bus_world.specs.WorldRuns.{IsFirstOf, EachSkipsLittle, WorldRun}
 use Rattle.bus_world.specs.WorldTurns.{seen, SetUp, TakesTurns}
-use Rattle.bus_world.specs.TurnLaws.{turns_are_lines, first_commands}
+use Rattle.bus_world.proofs.TurnLaws.{turns_are_lines, first_commands}
 use Rattle.bus_world.proofs.DisksBack.{failures_at, disks_follow}
 use Rattle.bus_world.proofs.Honesty.{state_at, honest}
 

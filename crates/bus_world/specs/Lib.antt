@@ -4,13 +4,9 @@ pub mod TakingUp
 pub mod Opening
 pub mod Starts
 pub mod StartRows
-pub mod StartRowLaws
 pub mod StartAnswers
-pub mod StartAnswerLaws
-pub mod RoomLaws
 pub mod NodeDisks
 pub mod WorldRuns
 pub mod WorldTurns
-pub mod TurnLaws
 pub mod History
 pub mod Records

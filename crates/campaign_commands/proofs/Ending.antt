@@ -6,9 +6,8 @@ use Rattle.program_edge.specs.declared.input.InputFault.TheVariants as input
 use Rattle.cell_store.specs.declared.faults.StoreFault.TheVariants as store
 use Rattle.program_edge.specs.Rows.{Row, row_of, memory_row}
 use Rattle.program_edge.specs.Inputs.{ReadsWhole}
-use Rattle.program_edge.specs.InputLaws.{Lacks-whole}
+use Rattle.program_edge.proofs.CallerLemmas.{Lacks-whole, EndsInRow-more}
 use Rattle.program_edge.specs.Endings.{Ending}
-use Rattle.program_edge.specs.EndingLaws.{EndsInRow-more}
 use Rattle.cut_disk.specs.State.{DiskState}
 use Rattle.key_campaign.specs.declared.commands.LedgerCommand.{LedgerCommand}
 use Rattle.campaign_commands.specs.declared.opening.NoLedgerCause.{NoLedgerCause}

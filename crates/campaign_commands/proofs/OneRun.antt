@@ -3,17 +3,16 @@ use Rattle.std.specs.Prelude.{◌≡◌, ℕ, suc, Bool, Ok, Err, Result, List, 
 use Rattle.std.proofs.Common.{refl, sym, ap, ◌∙◌, subst}
 use Rattle.bus_port.specs.Sink.{SinkState}
 use Rattle.machine_runs.specs.Run.{Moment, Run, seen_as, commands_in, lines_in}
-use Rattle.machine_runs.specs.RunLaws.{Run-seen_as}
+use Rattle.machine_runs.proofs.CallerLemmas.{Run-seen_as}
 use Rattle.run_driver.specs.declared.printing.Unwritten.{Unwritten}
 use Rattle.run_driver.specs.Printed.{Written}
 use Rattle.cut_disk.specs.State.{DiskState}
 use Rattle.cut_disk.specs.Calls.{Later}
-use Rattle.cut_disk.specs.CallLaws.{later_of_runs, later_join, runs_none}
+use Rattle.cut_disk.proofs.CallerLemmas.{later_of_runs, later_join, runs_none}
 use Rattle.cell_store.specs.declared.kinds.Layout.{Layout}
 use Rattle.store_keeping.specs.Keeping.{Fits}
-use Rattle.store_keeping.specs.KeepingLaws.{told_before, fits_store, tells_kept}
+use Rattle.store_keeping.proofs.CallerLemmas.{told_before, fits_store, tells_kept, failures_told, traced_since}
 use Rattle.store_keeping.specs.DiskTurns.{DiskTurn, TellsBytes, TracedSince, FailuresTold}
-use Rattle.store_keeping.specs.DiskTurnLaws.{failures_told, traced_since}
 use Rattle.key_campaign.specs.declared.commands.LedgerCommand.{LedgerCommand}
 use Rattle.key_campaign.specs.declared.commands.LedgerCommand.TheVariants as command
 use Rattle.key_campaign.specs.declared.lines.LedgerLine.{LedgerLine}

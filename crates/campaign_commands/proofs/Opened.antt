@@ -9,7 +9,7 @@ use Rattle.std.proofs.lemmas.Slice.Eq.{bytes_eq-Decides}
 use Rattle.cut_disk.specs.State.{DiskState, Told}
 use Rattle.cut_disk.specs.Images.{firm}
 use Rattle.cut_disk.specs.Calls.{Rose, Runs, AsBefore}
-use Rattle.cut_disk.specs.CallLaws.{quiet_never_rose}
+use Rattle.cut_disk.proofs.CallerLemmas.{quiet_never_rose}
 use Rattle.cell_store.specs.declared.kinds.Kind.TheVariants.{Twin}
 use Rattle.cell_store.specs.declared.kinds.Version.TheVariants.{One}
 use Rattle.cell_store.specs.declared.kinds.Layout.{Layout}
@@ -20,7 +20,7 @@ use Rattle.cell_store.specs.Store.{HasHeader, Stands, FirstDamaged, store_size}
 use Rattle.cell_store.specs.Cells.{CellsState, Settled}
 use Rattle.cell_store.proofs.CallerLemmas.{header-not_blank, stands_once, stands-whole}
 use Rattle.any_cells.specs.Opening.{open_calls, StoreOpened, NoStoreOpened}
-use Rattle.store_keeping.specs.KeepingLaws.{tells_kept}
+use Rattle.store_keeping.proofs.CallerLemmas.{tells_kept}
 use Rattle.store_keeping.specs.DiskTurns.{OpenedDisk}
 use Rattle.key_campaign.specs.declared.entries.LedgerEntry.{LedgerEntry}
 use Rattle.key_campaign.specs.Entries.{place_count, no_entries, AreLedgerEntries}

@@ -3,7 +3,7 @@ use Rattle.std.specs.Prelude.{◌≡◌, ◌⊎◌, ℕ, ◌<◌, ◌≤◌, Lis
 use Rattle.std.proofs.Common.{refl, ◌∙◌, subst, arith, inl, inr}
 use Rattle.bus_port.specs.Sink.{SinkState}
 use Rattle.program_edge.specs.Endings.{Ending, EndsInRow, PrintsWhole, PrintsFront, SinkFailed, CountsWriteFault}
-use Rattle.program_edge.specs.EndingLaws.{EndsInRow-at, EndsInRow-front, EndsInRow-rose, EndsInRow-only, EndsInRow-may, EndsInRow-done}
+use Rattle.program_edge.proofs.CallerLemmas.{EndsInRow-at, EndsInRow-front, EndsInRow-rose, EndsInRow-only, EndsInRow-may, EndsInRow-done}
 use Rattle.run_driver.specs.declared.printing.Unwritten.{Unwritten}
 use Rattle.run_driver.specs.declared.printing.Unwritten.TheVariants as unwritten
 use Rattle.run_driver.specs.Printed.{Written}

@@ -8,7 +8,7 @@ use Rattle.text_lines.specs.Readings.{Fault}
 use Rattle.text_lines.specs.Texts.{fault_text_of}
 use Rattle.program_edge.specs.Rows.{Row, memory_row}
 use Rattle.program_edge.specs.Inputs.{Reading, IsUnread, ReadsWhole, CountsFault, CountsTooMuch}
-use Rattle.program_edge.specs.InputLaws.{Offers-is, CountsFault-is, CountsTooMuch-is}
+use Rattle.program_edge.proofs.CallerLemmas.{Offers-is, CountsFault-is, CountsTooMuch-is}
 use Rattle.program_edge.specs.Endings.{Ending, PrintsWhole}
 use Rattle.run_driver.specs.declared.printing.Unwritten.TheVariants as unwritten
 use Rattle.cut_disk.specs.State.{DiskState}

@@ -2,7 +2,7 @@
 use Rattle.std.specs.Prelude.{◌≡◌, ◌⊎◌, ◌<◌, ◌≤◌, List, [], ◌∷◌, Result, Ok, Err}
 use Rattle.std.proofs.Common.{sym, ap, ◌∙◌, subst, arith, inl, inr}
 use Rattle.text_lines.specs.Readings.{Fault}
-use Rattle.program_edge.specs.InputLaws.{Offers-whole}
+use Rattle.program_edge.proofs.CallerLemmas.{Offers-whole}
 use Rattle.cut_disk.specs.State.{DiskState}
 use Rattle.key_campaign.specs.declared.commands.LedgerCommand.{LedgerCommand}
 use Rattle.campaign_commands.specs.CommandForms.{campaign_of}

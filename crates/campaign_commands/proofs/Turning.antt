@@ -4,7 +4,7 @@ use Rattle.std.proofs.Common.{refl, ap}
 use Rattle.cut_disk.specs.declared.Torn.{Torn}
 use Rattle.cut_disk.specs.Armed.{ArmsStop, ArmsFail}
 use Rattle.cut_disk.specs.Calls.{Rose}
-use Rattle.cut_disk.specs.CallLaws.{runs_none}
+use Rattle.cut_disk.proofs.CallerLemmas.{runs_none}
 use Rattle.cell_store.specs.declared.faults.Reread.TheVariants as reread
 use Rattle.cell_store.specs.Reading.{CutAndRead}
 use Rattle.cell_store.specs.Cells.{CellsState}

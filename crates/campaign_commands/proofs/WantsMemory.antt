@@ -3,10 +3,9 @@ use Rattle.std.specs.Prelude.{◌≡◌, ◌≢◌, ℕ, List, [], ◌∷◌, No
 use Rattle.std.proofs.Common.{refl, subst, sym}
 use Rattle.bus_port.specs.Sink.{SinkState}
 use Rattle.program_edge.specs.declared.input.InputFault.TheVariants as input
-use Rattle.program_edge.specs.InputLaws.{Lacks-unread}
+use Rattle.program_edge.proofs.CallerLemmas.{Lacks-unread, EndsInRow-memory}
 use Rattle.program_edge.specs.NamedSources.{missing_source, second_of_two}
 use Rattle.program_edge.specs.Endings.{Ending}
-use Rattle.program_edge.specs.EndingLaws.{EndsInRow-memory}
 use Rattle.campaign_commands.specs.Rows.{CampaignInputs, CampaignDisks, AreTwo, ComesBefore, no_commands, EndsCampaign, in_row}
 use Rattle.campaign_commands.specs.Examples.{Campaigns}
 use Rattle.campaign_commands.proofs.Promises.{RunsCampaign-ends}

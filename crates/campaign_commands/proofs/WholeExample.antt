@@ -5,8 +5,7 @@ use Rattle.bus_port.specs.Sink.{SinkState}
 use Rattle.program_edge.specs.Input.{input_limit}
 use Rattle.program_edge.specs.declared.input.InputFault.TheVariants as input
 use Rattle.program_edge.specs.Endings.{Ending}
-use Rattle.program_edge.specs.InputLaws.{Lacks-unread, Offers-clean}
-use Rattle.program_edge.specs.EndingLaws.{EndsInRow-memory}
+use Rattle.program_edge.proofs.CallerLemmas.{Lacks-unread, Offers-clean, EndsInRow-memory}
 use Rattle.campaign_commands.specs.declared.example.TheConstants.{EXAMPLE}
 use Rattle.campaign_commands.specs.Rows.{CampaignInputs, CampaignDisks, ComesBefore, no_commands, EndsCampaign, in_row}
 use Rattle.campaign_commands.specs.Examples.{Campaigns, IsExampleCampaign, zero_disk}

@@ -3,7 +3,7 @@ use Rattle.std.proofs.Common.{◌≡◌, ℕ, Some, List, sym, subst, ◌∙◌}
 use Rattle.std.proofs.lemmas.Option.{same_Some}
 use Rattle.cut_disk.specs.State.{Told}
 use Rattle.cut_disk.specs.Images.{firm, Image, EachImage}
-use Rattle.cut_disk.specs.ImageLaws.{image_of_firm}
+use Rattle.cut_disk.proofs.CallerLemmas.{image_of_firm}
 use Rattle.cell_store.specs.declared.kinds.Layout.{Layout}
 use Rattle.cell_store.specs.Store.{Stands}
 use Rattle.cell_store.specs.Cells.{CellsState, Settled, TellsCells}

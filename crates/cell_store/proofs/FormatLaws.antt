@@ -6,9 +6,9 @@ use Rattle.std.proofs.lemmas.List.Concat.{flat_map-append}
 use Rattle.std.proofs.lemmas.Option.{same_Some}
 use Rattle.cut_disk.specs.State.{Told, DiskState}
 use Rattle.cut_disk.specs.Images.{splice, firm, WritesLoose, Syncs, Tears}
-use Rattle.cut_disk.specs.Splices.{splice-beside, splice-apart, splice-splice, length-splice}
+use Rattle.cut_disk.proofs.CallerLemmas.{splice-beside, splice-apart, splice-splice, length-splice}
 use Rattle.cut_disk.specs.Calls.{Call, Runs}
-use Rattle.cut_disk.specs.CallLaws.{runs_none, runs_then}
+use Rattle.cut_disk.proofs.CallerLemmas.{runs_none, runs_then}
 use Rattle.cut_disk.specs.Lasting.{Lasts}
 use Rattle.cell_store.specs.declared.kinds.Kind.TheVariants.{Twin}
 use Rattle.cell_store.specs.declared.kinds.Version.{Version}

@@ -3,7 +3,7 @@ use Rattle.std.proofs.Common.{◌≡◌, ℕ, suc, zero, ◌+◌, ◌*◌, ◌<�
 use Rattle.std.specs.List.{flat_map}
 use Rattle.std.proofs.lemmas.List.{append_assoc, take_at, drop_at, take-append-le, drop-append-le, take-take, drop-drop, drop-take}
 use Rattle.cut_disk.specs.Images.{splice}
-use Rattle.cut_disk.specs.Splices.{length-splice}
+use Rattle.cut_disk.proofs.CallerLemmas.{length-splice}
 use Rattle.cell_store.specs.declared.kinds.Kind.TheVariants.{Twin}
 use Rattle.cell_store.specs.declared.kinds.Version.{Version}
 use Rattle.cell_store.specs.Layout.{part, base, from_base, header, twin_layout}

@@ -5,8 +5,8 @@ use Rattle.std.proofs.lemmas.Bool.{cases_lt, cases_eq, cases_Bool, eqb-true}
 use Rattle.cut_disk.specs.State.{Told}
 use Rattle.std.proofs.lemmas.Option.{same_Some}
 use Rattle.cut_disk.specs.Images.{splice, firm, Image}
-use Rattle.cut_disk.specs.ImageLaws.{image_of_firm}
-use Rattle.cut_disk.specs.Splices.{length-splice, get_or-splice_before, get_or-splice_in, get_or-splice_behind}
+use Rattle.cut_disk.proofs.CallerLemmas.{image_of_firm}
+use Rattle.cut_disk.proofs.CallerLemmas.{length-splice, get_or-splice_before, get_or-splice_in, get_or-splice_behind}
 use Rattle.cell_store.specs.Layout.{part, SameOutside}
 use Rattle.cell_store.proofs.LayoutLaws.{get_or-part, part-splice, SameOutside-splice, SameOutside-widen, SameOutside-after}
 use Rattle.cell_store.specs.Twin.{is_live}

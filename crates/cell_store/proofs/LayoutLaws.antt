@@ -3,7 +3,7 @@ use Rattle.std.proofs.Common.{◌≡◌, ℕ, ◌+◌, ◌-◌, ◌<◌, ◌≤�
 use Rattle.std.proofs.lemmas.List.{ext_get_or, get_or-take, get_or-drop, append_assoc, drop_at}
 use Rattle.std.proofs.lemmas.Bool.{cases_lt}
 use Rattle.cut_disk.specs.Images.{splice}
-use Rattle.cut_disk.specs.Splices.{length-splice, get_or-splice_before, get_or-splice_in, get_or-splice_behind}
+use Rattle.cut_disk.proofs.CallerLemmas.{length-splice, get_or-splice_before, get_or-splice_in, get_or-splice_behind}
 use Rattle.cell_store.specs.Layout.{part, SameOutside}
 
 pub length-part : (at n : ℕ) (x : List ℕ) → at + n ≤ length x → length (part at n x) ≡ n

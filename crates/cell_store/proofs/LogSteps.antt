@@ -7,7 +7,7 @@ use Rattle.std.proofs.lemmas.Option.{same_Some}
 use Rattle.cut_disk.specs.State.{DiskState, Told, Cut}
 use Rattle.cut_disk.specs.Images.{firm, EachImage, CutsTo}
 use Rattle.cut_disk.specs.Calls.{Grows, Call, Runs}
-use Rattle.cut_disk.specs.CallLaws.{runs_of_call, runs_join, runs_more, grows_of_call, grows_then, rose_after}
+use Rattle.cut_disk.proofs.CallerLemmas.{runs_of_call, runs_join, runs_more, grows_of_call, grows_then, rose_after}
 use Rattle.cut_disk.specs.declared.Torn.{Torn}
 use Rattle.cell_store.specs.declared.kinds.Version.{Version}
 use Rattle.cell_store.specs.declared.banks.Bank.{Bank}

@@ -5,10 +5,8 @@ use Rattle.std.proofs.lemmas.Bool.{cases_eq, cases_lt}
 use Rattle.std.proofs.lemmas.Option.{same_Some}
 use Rattle.cut_disk.specs.State.{DiskState, Told}
 use Rattle.cut_disk.specs.Images.{splice, firm, Image, Tears}
-use Rattle.cut_disk.specs.ImageLaws.{image_of_firm}
-use Rattle.cut_disk.specs.Splices.{splice-beside, splice-apart}
+use Rattle.cut_disk.proofs.CallerLemmas.{image_of_firm, splice-beside, splice-apart, rose_after}
 use Rattle.cut_disk.specs.Calls.{Grows}
-use Rattle.cut_disk.specs.CallLaws.{rose_after}
 use Rattle.cut_disk.specs.Lasting.{Lasts}
 use Rattle.cell_store.specs.declared.kinds.Kind.{Kind}
 use Rattle.cell_store.specs.declared.kinds.Kind.TheVariants.{Twin, Log}

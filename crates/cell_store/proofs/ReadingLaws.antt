@@ -11,7 +11,7 @@ use Rattle.cut_disk.specs.declared.arming.StopState.TheVariants.{Clear, Armed, B
 use Rattle.cut_disk.specs.Arming.{is_clear, stop_after, after_call, after_cut}
 use Rattle.cut_disk.specs.Images.{ReadsAs}
 use Rattle.cut_disk.specs.Calls.{Rose, Call, Grows}
-use Rattle.cut_disk.specs.CallLaws.{runs_none, runs_of_call, runs_join, runs_more, rose_after, grows_then}
+use Rattle.cut_disk.proofs.CallerLemmas.{runs_none, runs_of_call, runs_join, runs_more, rose_after, grows_then}
 use Rattle.cell_store.specs.declared.faults.Reread.{Reread}
 use Rattle.cell_store.specs.declared.faults.Reread.TheVariants as reread
 use Rattle.cell_store.specs.declared.kinds.Version.{Version}

@@ -6,7 +6,7 @@ use Rattle.std.proofs.lemmas.List.{places, same_lists, append-nil, take_more, dr
 use Rattle.std.proofs.lemmas.List.Concat.{flat_map-append}
 use Rattle.std.proofs.Common.{get_or}
 use Rattle.cut_disk.specs.Images.{splice}
-use Rattle.cut_disk.specs.Splices.{splice-beside, length-splice}
+use Rattle.cut_disk.proofs.CallerLemmas.{splice-beside, length-splice}
 use Rattle.cell_store.specs.Log.{bank_rest}
 use Rattle.cell_store.proofs.FreshLaws.{Sized}
 use Rattle.cell_store.proofs.BankLaws.{length-cells}

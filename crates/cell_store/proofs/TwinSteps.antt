@@ -6,8 +6,8 @@ use Rattle.std.proofs.lemmas.Bool.{false≢true}
 use Rattle.std.proofs.lemmas.Option.{same_Some}
 use Rattle.cut_disk.specs.State.{DiskState, Told, Cut}
 use Rattle.cut_disk.specs.Images.{firm, Image, EachImage, CutsTo}
-use Rattle.cut_disk.specs.ImageLaws.{image_of_firm}
-use Rattle.cut_disk.specs.CallLaws.{runs_of_call, runs_join, runs_more, grows_of_call, grows_then, rose_after}
+use Rattle.cut_disk.proofs.CallerLemmas.{image_of_firm}
+use Rattle.cut_disk.proofs.CallerLemmas.{runs_of_call, runs_join, runs_more, grows_of_call, grows_then, rose_after}
 use Rattle.cut_disk.specs.Lasting.{Lasts}
 use Rattle.cut_disk.specs.Calls.{Grows, Call, Runs}
 use Rattle.cut_disk.specs.declared.Torn.{Torn}

@@ -5,7 +5,7 @@ use Rattle.std.proofs.lemmas.Bool.{false≢true}
 use Rattle.std.proofs.lemmas.Option.{same_Some}
 use Rattle.cut_disk.specs.State.{Told}
 use Rattle.cut_disk.specs.Images.{splice, firm, with_bytes, Image, Tears, WritesLoose}
-use Rattle.cut_disk.specs.ImageLaws.{firm_under_write, image_under_write, image_of_firm}
+use Rattle.cut_disk.proofs.CallerLemmas.{firm_under_write, image_under_write, image_of_firm}
 use Rattle.cell_store.specs.Layout.{SameOutside}
 use Rattle.cell_store.specs.Writing.{LeavesOutside}
 use Rattle.cell_store.proofs.LayoutLaws.{SameOutside-splice, SameOutside-after, SameOutside-widen, SameOutside-refl}

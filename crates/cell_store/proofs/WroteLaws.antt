@@ -6,10 +6,8 @@ use Rattle.std.proofs.lemmas.List.{take_all, length-take-le, get_or-take, replic
 use Rattle.std.proofs.lemmas.Option.{same_Some}
 use Rattle.cut_disk.specs.State.{Told, DiskState}
 use Rattle.cut_disk.specs.Images.{splice, firm, with_bytes, Image, WritesLoose, Tears, Syncs}
-use Rattle.cut_disk.specs.ImageLaws.{image_of_firm, image_under_write}
-use Rattle.cut_disk.specs.Splices.{splice-beside}
+use Rattle.cut_disk.proofs.CallerLemmas.{image_of_firm, image_under_write, splice-beside, runs_none, runs_then}
 use Rattle.cut_disk.specs.Calls.{Call, Runs}
-use Rattle.cut_disk.specs.CallLaws.{runs_none, runs_then}
 use Rattle.cell_store.specs.Layout.{SameOutside}
 use Rattle.cell_store.specs.Writing.{LeavesOutside, Loosens, Wrote}
 use Rattle.cell_store.proofs.LayoutLaws.{SameOutside-refl, SameOutside-splice, SameOutside-after, SameOutside-widen}

@@ -7,7 +7,7 @@ use Rattle.std.proofs.Common.{refl, sym, ap, ◌∙◌, subst, arith, append_ass
 use Rattle.std.proofs.lemmas.List.{length-map}
 use Rattle.program_edge.specs.Rows.{Row, row_of}
 use Rattle.program_edge.specs.Endings.{Ending, EndsInRow}
-use Rattle.program_edge.specs.EndingLaws.{EndsInRow-more}
+use Rattle.program_edge.proofs.CallerLemmas.{EndsInRow-more}
 use Rattle.machine_runs.specs.Run.{Moment, lines_in}
 use Rattle.run_driver.specs.Driven.{TakenUp, Driven}
 use Rattle.run_driver.specs.DrivenLaws.{FirstDone-few}

@@ -5,7 +5,7 @@ use Rattle.program_edge.specs.Input.{input_fault_text}
 use Rattle.text_lines.specs.Readings.{Fault}
 use Rattle.program_edge.specs.Rows.{Row}
 use Rattle.program_edge.specs.Inputs.{Offers}
-use Rattle.program_edge.specs.InputLaws.{Offers-whole}
+use Rattle.program_edge.proofs.CallerLemmas.{Offers-whole}
 use Rattle.bus_config.specs.declared.fault.ConfigFault.{ConfigFault}
 use Rattle.bus_config.specs.BusFile.{bus_of}
 use Rattle.bus_machine.specs.declared.events.Event.{Event}
@@ -15,7 +15,7 @@ use Rattle.bus_script.specs.EventForms.{events_of}
 use Rattle.bus_world.specs.declared.start.Start.TheVariants.{Format}
 use Rattle.bus_world.specs.Starts.{HasRoom}
 use Rattle.bus_world.specs.StartAnswers.{DiskStates, ComesOfStart}
-use Rattle.bus_programs.specs.BusFileLaws.{same_bus, ReadsCalmly, calm_unread, calm_whole, RowTells, told_first, told_second, bus_or_fault, offered_no_fault, memory_status}
+use Rattle.bus_programs.proofs.CallerLemmas.{same_bus, ReadsCalmly, calm_unread, calm_whole, RowTells, told_first, told_second, bus_or_fault, offered_no_fault, memory_status}
 use Rattle.bus_programs.specs.Inputs.{BusInputs}
 use Rattle.chart_commands.specs.Inputs.{AsksChart, SetsBus, SetsChart, OffersChart}
 use Rattle.chart_commands.specs.Rows.{ChartInputRow, no_form, no_config, config_refused, no_script, script_refused, DoneChart, ChartRow, without_disks, not_started, all_done, done_without_memory}

@@ -8,7 +8,7 @@ use Rattle.program_edge.specs.Endings.{Ending}
 use Rattle.bus_programs.specs.Inputs.{BusInputs}
 use Rattle.bus_programs.specs.Named.{SourcesBack}
 use Rattle.bus_programs.specs.Blank.{disk_states}
-use Rattle.bus_programs.specs.BlankLaws.{blank_has_room, blank_no_cause}
+use Rattle.bus_programs.proofs.CallerLemmas.{blank_has_room, blank_no_cause}
 use Rattle.chart_commands.specs.Inputs.{AsksChart}
 use Rattle.chart_commands.specs.Named.{ChartsOverMade, ChartsExample, ChartOfWords, drew_example, drew_words, drew_nothing}
 

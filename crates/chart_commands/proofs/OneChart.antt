@@ -12,7 +12,7 @@ use Rattle.bus_world.specs.Worlds.{BusState, world_of}
 use Rattle.bus_world.specs.NodeDisks.{DisksStay}
 use Rattle.bus_world.specs.WorldRuns.{IsFirstOf, WorldRun}
 use Rattle.bus_world.specs.WorldTurns.{seen, TakesTurns, TurnsLeaveDisks, TurnsAreWorldRuns, StartsSetUp, StartsBeginAtFirst}
-use Rattle.bus_world.specs.TurnLaws.{same_lines, same_length}
+use Rattle.bus_world.proofs.CallerLemmas.{same_lines, same_length}
 use Rattle.chart_commands.specs.Runs.{KeepsLines, ChartTurns, ChartsAreRuns}
 
 -- the same moments, seen as the machine's

@@ -10,7 +10,7 @@ use Rattle.text_lines.specs.Texts.{fault_text_of}
 use Rattle.program_edge.specs.Rows.{Row, memory_row}
 use Rattle.program_edge.specs.Inputs.{IsUnread}
 use Rattle.program_edge.specs.Endings.{Ending, EndsInRow, PrintsWhole}
-use Rattle.program_edge.specs.EndingLaws.{EndsInRow-at, EndsInRow-only, EndsInRow-may, EndsInRow-front, EndsInRow-rose, EndsInRow-done}
+use Rattle.program_edge.proofs.CallerLemmas.{EndsInRow-at, EndsInRow-only, EndsInRow-may, EndsInRow-front, EndsInRow-rose, EndsInRow-done}
 use Rattle.bus_config.specs.declared.fault.ConfigFault.{ConfigFault}
 use Rattle.bus_config.specs.FaultTexts.{config_fault_text}
 use Rattle.bus_machine.specs.declared.events.Event.{Event}
@@ -24,9 +24,9 @@ use Rattle.bus_world.specs.Starts.{HasRoom, FindsRoom}
 use Rattle.bus_world.specs.StartRows.{start_row, StoreCause, LeavesEach}
 use Rattle.bus_world.specs.StartAnswers.{DiskStates, ComesOfStart, BusHasDisks, CountsDiskFault, failed_row}
 use Rattle.bus_world.specs.StartAnswers as answer
-use Rattle.bus_world.specs.StartAnswerLaws.{Comes-leaves, start_status, start_memory, start_without_room, start_complete, none_counted, failure_told}
+use Rattle.bus_world.proofs.CallerLemmas.{Comes-leaves, start_status, start_memory, start_without_room, start_complete, none_counted, failure_told}
 use Rattle.bus_programs.specs.BusFiles.{IsConfigFault}
-use Rattle.bus_programs.specs.BusFileLaws.{told_fault, told_too_much}
+use Rattle.bus_programs.proofs.CallerLemmas.{told_fault, told_too_much}
 use Rattle.chart_svg.specs.ChartTexts.{chart_text}
 use Rattle.bus_programs.specs.Inputs.{BusInputs}
 use Rattle.chart_commands.specs.Inputs.{AsksChart, chart_usage, NoChartConfig, NoChartScript, HasBadEvent, OverChart}

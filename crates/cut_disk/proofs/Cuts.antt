@@ -2,7 +2,7 @@
 use Rattle.std.proofs.Common.{◌≡◌, ℕ, ◌+◌, ◌≤◌, List, length, Option, Some, arith, ap, ◌∙◌}
 use Rattle.cut_disk.specs.State.{Told}
 use Rattle.cut_disk.specs.Images.{firm, LeavesAny, LeavesImage, CutsTo}
-use Rattle.cut_disk.specs.ImageLaws.{image_of_firm, image_under_write}
+use Rattle.cut_disk.proofs.CallerLemmas.{image_of_firm, image_under_write}
 use Rattle.cut_disk.specs.Lasting.{LeavesPatched}
 
 -- if no byte is loose, a cut changes nothing

@@ -5,3 +5,4 @@ mod Tapes
 mod Tearing
 mod UnderWrites
 mod Vectors
+pub mod CallerLemmas

@@ -5,7 +5,7 @@ use Rattle.std.proofs.lemmas.Bool.{cases_lt}
 use Rattle.std.proofs.lemmas.List.{places, ext_get_or}
 use Rattle.cut_disk.specs.declared.Torn.{Torn}
 use Rattle.cut_disk.specs.Images.{splice}
-use Rattle.cut_disk.specs.Splices.{get_or-splice_before, get_or-splice_behind}
+use Rattle.cut_disk.proofs.CallerLemmas.{get_or-splice_before, get_or-splice_behind}
 use Rattle.cut_disk.specs.Memory.{left_byte}
 use Rattle.cut_disk.specs.Ranges.{IsSameOutside, IsFirmOutside}
 

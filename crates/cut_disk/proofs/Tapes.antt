@@ -8,7 +8,7 @@ use Rattle.std.proofs.lemmas.List.{length-append}
 use Rattle.cut_disk.specs.declared.tape.PastEntry.{PastEntry}
 use Rattle.cut_disk.specs.State.{Mark, Entry, past_entry}
 use Rattle.cut_disk.specs.Calls.{Call, newest}
-use Rattle.cut_disk.specs.CallLaws.{newest-append}
+use Rattle.cut_disk.proofs.CallerLemmas.{newest-append}
 use Rattle.cut_disk.specs.Memory.{Contents, told_of, disk_of}
 use Rattle.cut_disk.specs.Tape.{TapeState, AllSized, with_entry}
 

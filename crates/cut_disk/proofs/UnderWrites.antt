@@ -4,7 +4,7 @@ use Rattle.std.proofs.lemmas.Bool.{cases_lt, false≢true}
 use Rattle.std.proofs.lemmas.List.{length-replicate, get_or-replicate}
 use Rattle.cut_disk.specs.State.{Told}
 use Rattle.cut_disk.specs.Images.{splice, Image, firm, with_bytes, UnderWrite}
-use Rattle.cut_disk.specs.Splices.{length-splice, get_or-splice_before, get_or-splice_in, get_or-splice_behind}
+use Rattle.cut_disk.proofs.CallerLemmas.{length-splice, get_or-splice_before, get_or-splice_in, get_or-splice_behind}
 
 pub firm_is_an_image : {x y : List ℕ} → y ≡ x → Image (firm x) y
 firm_is_an_image {x} {y} same = record { sized = ap length same; agrees = λ i h l. ap (λ (zs : List ℕ). get_or zs i 0) same }

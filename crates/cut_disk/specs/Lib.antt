@@ -2,9 +2,6 @@ pub mod Arming
 pub mod State
 pub mod Images
 pub mod Calls
-pub mod Splices
-pub mod CallLaws
-pub mod ImageLaws
 pub mod Memory
 pub mod Ranges
 pub mod Lasting

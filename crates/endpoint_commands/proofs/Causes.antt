@@ -6,19 +6,18 @@ use Rattle.program_edge.specs.Input.{input_fault_status, input_fault_text}
 use Rattle.program_edge.specs.declared.input.InputFault.{InputFault}
 use Rattle.program_edge.specs.Rows.{Row, input_row}
 use Rattle.program_edge.specs.Inputs.{Lacks, Offers, CountsFault, CountsTooMuch}
-use Rattle.program_edge.specs.InputLaws.{Offers-whole}
+use Rattle.program_edge.proofs.CallerLemmas.{Offers-whole}
 use Rattle.secoc_node.specs.Words.{IsImage}
 use Rattle.bus_config.specs.declared.fault.ConfigFault.{ConfigFault}
 use Rattle.bus_config.specs.BusFile.{bus_of}
 use Rattle.bus_config.specs.Buses.{NamedBus}
 use Rattle.bus_programs.specs.BusFiles.{ReadsBus, OffersBus}
 use Rattle.bus_programs.specs.Scripts.{ReadsLinesAs}
-use Rattle.bus_programs.specs.BusFileLaws.{same_bus, bus_or_fault, offered_no_fault, memory_status, ReadsCalmly, calm_unread, calm_whole, RowTells, told_first, told_second, told_fault, told_too_much}
+use Rattle.bus_programs.proofs.CallerLemmas.{same_bus, bus_or_fault, offered_no_fault, memory_status, ReadsCalmly, calm_unread, calm_whole, RowTells, told_first, told_second, told_fault, told_too_much}
 use Rattle.bus_world.specs.declared.start.Start.TheVariants.{Attach}
 use Rattle.bus_world.specs.Starts.{HasRoom}
-use Rattle.bus_world.specs.StartRowLaws.{no_room_fault}
+use Rattle.bus_world.proofs.CallerLemmas.{no_room_fault, start_without_room, start_complete}
 use Rattle.bus_world.specs.StartAnswers.{DiskStates, ComesOfStart, disks_refused, store_refused, start_without_memory, BusHasDisks}
-use Rattle.bus_world.specs.StartAnswerLaws.{start_without_room, start_complete}
 use Rattle.endpoint_commands.specs.declared.rules.FrameRule.{FrameRule}
 use Rattle.endpoint_commands.specs.Rules.{rules_of}
 use Rattle.endpoint_commands.specs.Rows.{EndpointInputs, AsksEndpoint, AsksBoot, routes_of, ReadsImage, SetsEndpoint, LacksEndpointInput, of_config, of_map, of_image, HasConfigFault, HasOtherNodes, HasMapFault, HasOtherImage}

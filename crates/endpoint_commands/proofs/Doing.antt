@@ -2,7 +2,7 @@
 use Rattle.std.proofs.Common.{◌≡◌, ℕ, List, [], ◌∷◌, ◌++◌, length, drop, get_or, refl, sym, ap, subst, arith, append-nil, length-append}
 use Rattle.std.specs.Prelude.{Option, None, Some}
 use Rattle.bus_port.specs.Sink.{SinkState}
-use Rattle.bus_port.specs.SinkLaws.{Appended-nothing}
+use Rattle.bus_port.proofs.CallerLemmas.{Appended-nothing}
 use Rattle.program_edge.specs.Told.{AppendedWell}
 use Rattle.program_edge.specs.Inputs.{Reading}
 use Rattle.program_edge.specs.Endings.{Ending}

@@ -3,9 +3,9 @@ use Rattle.std.specs.Prelude.{◌≡◌, ◌≤◌, ℕ, Bool, true, false, List
 use Rattle.std.proofs.Common.{refl, sym, ap, ◌∙◌, subst, arith}
 use Rattle.std.proofs.lemmas.List.Elements.{All-head, All-tail}
 use Rattle.basics.specs.FaultCount.{Rose}
-use Rattle.basics.specs.CountLaws.{rose_after}
+use Rattle.basics.proofs.CallerLemmas.{rose_after}
 use Rattle.machine_runs.specs.Run.{Run}
-use Rattle.machine_runs.specs.RunLaws.{Run-split}
+use Rattle.machine_runs.proofs.CallerLemmas.{Run-split}
 use Rattle.cut_disk.specs.State.{DiskState}
 use Rattle.cut_disk.specs.Calls.{IsQuiet, StaysQuiet, KeepsQuiet}
 use Rattle.store_keeping.specs.DiskTurns.{CountsFailure}
@@ -18,7 +18,7 @@ use Rattle.bus_machine.specs.Node.{Node}
 use Rattle.bus_machine.specs.Steps.{NodeStep, boots}
 use Rattle.bus_world.specs.Turns.{TellsFaults}
 use Rattle.bus_world.specs.StartAnswers.{DiskStates}
-use Rattle.bus_world.specs.StartRowLaws.{no_disk}
+use Rattle.bus_world.proofs.CallerLemmas.{no_disk}
 use Rattle.bus_config.specs.Buses.{NamedBus}
 use Rattle.secoc_node.specs.State.{NodeState}
 use Rattle.endpoint_commands.specs.declared.rules.FrameRule.{FrameRule}

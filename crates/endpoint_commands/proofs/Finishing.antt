@@ -2,12 +2,12 @@
 use Rattle.std.proofs.Common.{◌≡◌, ℕ, ◌+◌, List, [], ◌∷◌, ◌++◌, length, sym, ap, ◌∙◌, subst, inl, inr, arith, length-append}
 use Rattle.std.specs.Prelude.{Ok}
 use Rattle.std.proofs.Math.Seq.{take-append-add}
-use Rattle.basics.specs.CountLaws.{rose_after}
+use Rattle.basics.proofs.CallerLemmas.{rose_after}
 use Rattle.bus_port.specs.Sink.{SinkState, Appended}
-use Rattle.bus_port.specs.SinkLaws.{Appended-more}
+use Rattle.bus_port.proofs.CallerLemmas.{Appended-more}
 use Rattle.bus_port.specs.Whole.{AppendedPart}
 use Rattle.program_edge.specs.Told.{AppendedWell, EndingTold}
-use Rattle.program_edge.specs.ToldLaws.{AppendedWell-more}
+use Rattle.program_edge.proofs.CallerLemmas.{AppendedWell-more}
 use Rattle.machine_runs.specs.Run.{Run}
 use Rattle.secoc_node.specs.State.{NodeState}
 use Rattle.trace_audit.specs.Pieces.{in_64_bits}

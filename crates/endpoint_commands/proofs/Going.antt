@@ -8,10 +8,10 @@ use Rattle.std.proofs.lemmas.List.Elements.{filter-append, All-nil, All-cons, Al
 use Rattle.basics.specs.FaultCount.{counted, Rose}
 use Rattle.bus_port.specs.Sink.{SinkState, Appended}
 use Rattle.bus_port.specs.Whole.{AppendedPart}
-use Rattle.bus_port.specs.SinkLaws.{Appended-nothing, Appended-more}
+use Rattle.bus_port.proofs.CallerLemmas.{Appended-nothing, Appended-more}
 use Rattle.program_edge.specs.Told.{AppendedWell}
 use Rattle.machine_runs.specs.Run.{Run, commands_in}
-use Rattle.machine_runs.specs.RunLaws.{Run-more}
+use Rattle.machine_runs.proofs.CallerLemmas.{Run-more}
 use Rattle.text_lines.specs.Lines.{is_line_feed, words_of}
 use Rattle.bus_machine.specs.declared.lines.Line.{Line}
 use Rattle.secoc_node.specs.State.{NodeState}

@@ -5,7 +5,7 @@ use Rattle.std.proofs.Common.{refl, sym, ap, ◌∙◌, subst}
 use Rattle.std.proofs.lemmas.List.{map-append}
 use Rattle.std.proofs.lemmas.Option.{same_Some, none-some}
 use Rattle.machine_runs.specs.Run.{Moment, Run, commands_in, lines_in}
-use Rattle.machine_runs.specs.RunLaws.{Run-append}
+use Rattle.machine_runs.proofs.CallerLemmas.{Run-append}
 use Rattle.freshness_routes.specs.declared.routes.Direction.{Direction}
 use Rattle.freshness_routes.specs.declared.routes.Direction.TheVariants.{Sends, Receives}
 use Rattle.bus_machine.specs.declared.events.Event.{Event}

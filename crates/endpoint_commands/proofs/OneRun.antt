@@ -3,14 +3,14 @@ use Rattle.std.specs.Prelude.{◌≡◌, ℕ, ◌<◌, ◌≤◌, Option, Some, 
 use Rattle.std.proofs.Common.{refl, sym, ap, ◌∙◌, subst, arith}
 use Rattle.std.proofs.lemmas.List.{length-drop}
 use Rattle.machine_runs.specs.Run.{Run, commands_in, lines_in, seen_as}
-use Rattle.machine_runs.specs.RunLaws.{Run-seen_as}
+use Rattle.machine_runs.proofs.CallerLemmas.{Run-seen_as}
 use Rattle.cut_disk.specs.State.{DiskState, Entry}
 use Rattle.cut_disk.specs.Calls.{Later}
-use Rattle.cut_disk.specs.CallLaws.{runs_none, later_of_runs, later_join}
+use Rattle.cut_disk.proofs.CallerLemmas.{runs_none, later_of_runs, later_join}
 use Rattle.cell_store.specs.declared.kinds.Layout.{Layout}
 use Rattle.any_cells.specs.Either.{layout}
 use Rattle.store_keeping.specs.DiskTurns.{OpenedDisk, TellsBytes, TracedSince, FailuresTold}
-use Rattle.store_keeping.specs.DiskTurnLaws.{traced_since, failures_told}
+use Rattle.store_keeping.proofs.CallerLemmas.{traced_since, failures_told}
 use Rattle.freshness_routes.specs.declared.routes.Direction.TheVariants.{Receives}
 use Rattle.bus_machine.specs.declared.events.Event.{Event}
 use Rattle.bus_machine.specs.declared.lines.Line.{Line}
@@ -27,7 +27,7 @@ use Rattle.bus_world.specs.declared.start.Start.TheVariants.{Attach}
 use Rattle.bus_world.specs.Turns.{Brings}
 use Rattle.bus_world.specs.Worlds.{BusState}
 use Rattle.bus_world.specs.Starts.{start_calls, Opened, Started}
-use Rattle.bus_world.specs.StartRowLaws.{no_disk}
+use Rattle.bus_world.proofs.CallerLemmas.{no_disk}
 use Rattle.bus_world.specs.NodeDisks.{mark_at, most_at, fails_at, fits_at, DisksFollow}
 use Rattle.bus_world.specs.WorldTurns.{TellFirm, StartsGoOnFirst, GoesOnFirst}
 use Rattle.endpoint_commands.specs.declared.rules.FrameRule.{FrameRule}

@@ -1,14 +1,13 @@
 -- What comes of a log, and what is printed for it, from turn to turn
 use Rattle.std.proofs.Common.{◌≡◌, ℕ, ◌+◌, ◌<◌, ◌≤◌, List, [], ◌∷◌, ◌++◌, length, take, refl, sym, ◌∙◌, ap, subst, inl, inr, arith, append-nil, append_assoc, length-append}
 use Rattle.std.specs.Prelude.{Some, codes, Result, Ok, Err, MatchResult}
-use Rattle.basics.specs.CountLaws.{rose_after}
+use Rattle.basics.proofs.CallerLemmas.{rose_after}
 use Rattle.bus_port.specs.Source.{SourceState, Came, HandsOut, ReadFails}
 use Rattle.bus_port.specs.Sink.{SinkState, Appended}
-use Rattle.bus_port.specs.SourceLaws.{Came-nothing, Came-more}
-use Rattle.bus_port.specs.SinkLaws.{Appended-more}
+use Rattle.bus_port.proofs.CallerLemmas.{Came-nothing, Came-more, Appended-more}
 use Rattle.bus_port.specs.Whole.{ReadsAll}
 use Rattle.program_edge.specs.Told.{AppendedWell, EndingTold}
-use Rattle.program_edge.specs.ToldLaws.{AppendedWell-more}
+use Rattle.program_edge.proofs.CallerLemmas.{AppendedWell-more}
 use Rattle.program_edge.specs.Rows.{row_of}
 use Rattle.program_edge.specs.Inputs.{Reading}
 use Rattle.secoc_node.specs.State.{NodeState}

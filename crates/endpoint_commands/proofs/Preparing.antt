@@ -13,7 +13,7 @@ use Rattle.bus_script.specs.EventForms.{node_line_at}
 use Rattle.bus_programs.specs.BusFiles.{ReadsBus, LacksBus, no_file, file_refused}
 use Rattle.bus_programs.specs.Scripts.{LacksLines, no_lines, lines_refused, ReadsLinesAs}
 use Rattle.freshness_routes.specs.declared.routes.Route.{Route}
-use Rattle.bus_programs.specs.BusFileLaws.{LacksLines-read}
+use Rattle.bus_programs.proofs.CallerLemmas.{LacksLines-read}
 use Rattle.endpoint_commands.specs.declared.rules.FrameRule.{FrameRule}
 use Rattle.endpoint_commands.specs.declared.run.EndpointForm.{EndpointForm}
 use Rattle.endpoint_commands.specs.declared.run.EndpointForm.TheVariants.{Plain, Boots}

@@ -16,7 +16,7 @@ use Rattle.bus_world.specs.declared.start.StartFault.{StartFault}
 use Rattle.bus_world.specs.Starts.{HasRoom, FindsRoom}
 use Rattle.bus_world.specs.StartRows.{start_row, StoreCause, LeavesEach}
 use Rattle.bus_world.specs.StartAnswers.{DiskStates, CountsDiskFault, failed_row, ComesOfStart, disks_refused, store_refused, start_without_memory}
-use Rattle.bus_world.specs.StartAnswerLaws.{start_status, none_counted, failure_told}
+use Rattle.bus_world.proofs.CallerLemmas.{start_status, none_counted, failure_told}
 use Rattle.endpoint_commands.specs.declared.rules.FrameRule.{FrameRule}
 use Rattle.endpoint_commands.specs.Rows.{EndpointInputs, AsksEndpoint, endpoint_usage, SetsEndpoint, OverEndpoint, LacksEndpointInput, of_config, of_map, of_image}
 use Rattle.endpoint_commands.specs.Rows.{HasConfigFault, HasOtherNodes, HasMapFault, HasOtherImage, ComesBeforeLog, no_form, no_source, config_fault, other_nodes, map_fault, other_image, no_room}

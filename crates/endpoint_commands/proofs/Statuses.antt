@@ -7,14 +7,14 @@ use Rattle.text_lines.specs.Texts.{fault_text_of}
 use Rattle.program_edge.specs.Rows.{Row}
 use Rattle.program_edge.specs.Inputs.{IsUnread, SourceFailed, CountsFault, CountsTooMuch}
 use Rattle.program_edge.specs.Endings.{Ending, EndsIn, EndsInRow, PrintsWhole, SinkFailed, CountsWriteFault}
-use Rattle.program_edge.specs.EndingLaws.{EndsInRow-more, EndsInRow-at, EndsInRow-front, EndsInRow-rose, EndsInRow-well, EndsInRow-only, EndsInRow-may}
+use Rattle.program_edge.proofs.CallerLemmas.{EndsInRow-more, EndsInRow-at, EndsInRow-front, EndsInRow-rose, EndsInRow-well, EndsInRow-only, EndsInRow-may}
 use Rattle.bus_config.specs.Buses.{NamedBus}
 use Rattle.bus_world.specs.declared.start.Start.TheVariants.{Attach}
 use Rattle.bus_world.specs.Starts.{HasRoom, FindsRoom}
 use Rattle.bus_world.specs.declared.start.StartFault.{StartFault}
 use Rattle.bus_world.specs.StartRows.{start_row, StoreCause, LeavesEach}
 use Rattle.bus_world.specs.StartAnswers.{DiskStates, CountsDiskFault, BusHasDisks}
-use Rattle.bus_world.specs.StartRowLaws.{no_disk, no_line}
+use Rattle.bus_world.proofs.CallerLemmas.{no_disk, no_line}
 use Rattle.endpoint_commands.specs.declared.rules.FrameRule.{FrameRule}
 use Rattle.endpoint_commands.specs.Rows.{EndpointInputs, OverEndpoint, SetsEndpoint, HasMapFault, OffersEndpoint}
 use Rattle.endpoint_commands.specs.Logs.{Unfailed}

@@ -3,7 +3,7 @@ use Rattle.std.proofs.Common.{◌≡◌, ℕ, ◌+◌, ◌≤◌, min, Bool, tru
 use Rattle.std.specs.Prelude.{is_some}
 use Rattle.std.proofs.lemmas.Bool.{false≢true}
 use Rattle.std.proofs.lemmas.List.{length-replicate}
-use Rattle.cut_disk.specs.Splices.{length-splice}
+use Rattle.cut_disk.proofs.CallerLemmas.{length-splice}
 use Rattle.file_disk.specs.FileBytes.{IsInside, PutsAny}
 use Rattle.file_disk.specs.FileCalls.{FileCall}
 use Rattle.file_disk.specs.HeldFile.{HeldContents, HoldsFirst}

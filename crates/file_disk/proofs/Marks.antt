@@ -5,8 +5,7 @@ use Rattle.std.proofs.lemmas.Bool.{false≢true}
 use Rattle.std.proofs.lemmas.List.{length-replicate}
 use Rattle.cut_disk.specs.State.{Told}
 use Rattle.cut_disk.specs.Images.{splice, with_bytes, Tears}
-use Rattle.cut_disk.specs.ImageLaws.{patched_alike}
-use Rattle.cut_disk.specs.Splices.{length-splice}
+use Rattle.cut_disk.proofs.CallerLemmas.{patched_alike, length-splice}
 use Rattle.file_disk.specs.FileBytes.{TellsSize, IsInside, PutsBytes, PutsAny, with_marks}
 
 -- a write makes the marks of its range, and no more of them

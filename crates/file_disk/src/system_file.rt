@@ -228,12 +228,7 @@ fn made(rt: &HostRuntime, path: &str) -> io::Result<File> {
 }
 
 /// Fills a new file, and gives it this path as a second name. The inner outcome is the second name's.
-fn given_name(
-    rt: &HostRuntime,
-    file: &File,
-    name: &str,
-    path: &str,
-) -> io::Result<io::Result<()>> {
+fn given_name(rt: &HostRuntime, file: &File, name: &str, path: &str) -> io::Result<io::Result<()>> {
     fill(file)?;
     Ok(fs::hard_link(rt, name, path))
 }

@@ -6,7 +6,7 @@ use Rattle.std.proofs.lemmas.List.{length-take-le, length-drop}
 use Rattle.std.proofs.lemmas.List.Elements.{All-take, All-drop, All-from_get_or}
 use Rattle.basics.specs.Bytes.{IsBytes}
 use Rattle.basics.specs.Numbers.{number_of, bytes_of}
-use Rattle.basics.specs.NumberLaws.{number_of-bytes_of-lt, from_be_bytes-16, from_be_bytes-64, length-bytes_of}
+use Rattle.basics.proofs.CallerLemmas.{number_of-bytes_of-lt, from_be_bytes-16, from_be_bytes-64, length-bytes_of}
 use Rattle.flash_places.specs.declared.FlashLine.{FlashLine}
 use Rattle.flash_places.specs.declared.FlashLine.TheVariants.{Head, Entry}
 use Rattle.flash_lines.specs.Lines.{line_body, HoldsLine}

@@ -3,7 +3,7 @@ use Rattle.std.proofs.Common.{◌≡◌, ℕ, ◌<◌, List, [], ◌∷◌, ◌+
 use Rattle.std.proofs.lemmas.List.Elements.{All-cons, All-append, All-replicate}
 use Rattle.basics.specs.Bytes.{IsBytes}
 use Rattle.basics.specs.Numbers.{number_of, bytes_of}
-use Rattle.basics.specs.NumberLaws.{IsBytes-bytes_of, number_of-bytes_of-lt}
+use Rattle.basics.proofs.CallerLemmas.{IsBytes-bytes_of, number_of-bytes_of-lt}
 use Rattle.key_slots.specs.declared.memory.Slot.{Slot}
 use Rattle.key_slots.specs.declared.memory.Slot.TheVariants.{Empty, Filled}
 use Rattle.slot_disk.specs.Cell.{slot_cell, HoldsSlot}

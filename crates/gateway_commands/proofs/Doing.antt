@@ -1,7 +1,7 @@
 -- The second phase, put together
 use Rattle.std.specs.Prelude.{ℕ, List}
 use Rattle.program_edge.specs.Endings.{Ending}
-use Rattle.program_edge.specs.EndingLaws.{EndsInRow-more}
+use Rattle.program_edge.proofs.CallerLemmas.{EndsInRow-more}
 use Rattle.bus_machine.specs.declared.events.Event.{Event}
 use Rattle.bus_config.specs.Buses.{NamedBus}
 use Rattle.bus_world.specs.StartAnswers.{DiskStates}

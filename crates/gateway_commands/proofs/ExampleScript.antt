@@ -3,7 +3,7 @@ use Rattle.std.specs.Prelude.{◌≡◌, ℕ, true, false, List, [], ◌∷◌, 
 use Rattle.std.proofs.Common.{refl, sym, ◌∙◌, subst}
 use Rattle.basics.specs.Numbers.{number_of}
 use Rattle.hex.specs.Hex.{decode_pairs}
-use Rattle.program_edge.specs.InputLaws.{Offers-whole}
+use Rattle.program_edge.proofs.CallerLemmas.{Offers-whole}
 use Rattle.secoc_gateway.specs.Words.{Update}
 use Rattle.text_lines.specs.Forms.{number_form, hex_bytes_form, bytes_form}
 use Rattle.text_lines.specs.Lines.{words_of, is_skipped, kept, numbered, lines_of}

@@ -5,7 +5,7 @@ use Rattle.program_edge.specs.Input.{input_fault_text}
 use Rattle.text_lines.specs.Readings.{Fault}
 use Rattle.program_edge.specs.Rows.{Row}
 use Rattle.program_edge.specs.Inputs.{Reading, Offers}
-use Rattle.program_edge.specs.InputLaws.{Offers-whole}
+use Rattle.program_edge.proofs.CallerLemmas.{Offers-whole}
 use Rattle.bus_config.specs.declared.fault.ConfigFault.{ConfigFault}
 use Rattle.bus_config.specs.BusFile.{bus_of}
 use Rattle.bus_machine.specs.declared.events.Event.{Event}
@@ -14,7 +14,7 @@ use Rattle.bus_script.specs.EventForms.{own_events_of}
 use Rattle.bus_world.specs.declared.start.Start.TheVariants.{Format}
 use Rattle.bus_world.specs.StartAnswers.{DiskStates, ComesOfStart}
 use Rattle.bus_programs.specs.BusFiles.{OffersBus}
-use Rattle.bus_programs.specs.BusFileLaws.{same_bus, ReadsCalmly, calm_unread, calm_whole, RowTells, told_first, told_second, bus_or_fault, offered_no_fault, memory_status}
+use Rattle.bus_programs.proofs.CallerLemmas.{same_bus, ReadsCalmly, calm_unread, calm_whole, RowTells, told_first, told_second, bus_or_fault, offered_no_fault, memory_status}
 use Rattle.gateway_commands.specs.Words.{AsksGateway, AsksNoGateway}
 use Rattle.bus_programs.specs.Inputs.{BusInputs}
 use Rattle.gateway_commands.specs.Inputs.{TakesPairs, RefusesPairs, other_number, bad_pair, RefusesConfig, of_file, of_bus, SetsPairs, SetsGateway, OffersGateway}

@@ -8,7 +8,7 @@ use Rattle.program_edge.specs.Endings.{Ending}
 use Rattle.bus_programs.specs.Inputs.{BusInputs}
 use Rattle.bus_programs.specs.Named.{SourcesBack}
 use Rattle.bus_programs.specs.Blank.{disk_states}
-use Rattle.bus_programs.specs.BlankLaws.{blank_has_room, blank_no_cause}
+use Rattle.bus_programs.proofs.CallerLemmas.{blank_has_room, blank_no_cause}
 use Rattle.gateway_commands.specs.Words.{AsksNoGateway, AsksSomeGateway}
 use Rattle.gateway_commands.specs.Named.{NameSources, first_two, no_source}
 use Rattle.gateway_commands.specs.Named.{GatewayOverMade, RunsExample, GatewayOfWords, ran_example, ran_words, ran_nothing}

@@ -5,14 +5,14 @@ use Rattle.std.proofs.lemmas.List.{length-drop}
 use Rattle.bus_port.specs.Sink.{SinkState}
 use Rattle.cut_disk.specs.State.{DiskState, Told, Entry}
 use Rattle.cut_disk.specs.Calls.{Later}
-use Rattle.cut_disk.specs.CallLaws.{later_of_runs, later_join, runs_none}
+use Rattle.cut_disk.proofs.CallerLemmas.{later_of_runs, later_join, runs_none}
 use Rattle.cell_store.specs.declared.kinds.Layout.{Layout}
 use Rattle.cell_store.specs.Layout.{layout}
 use Rattle.machine_runs.specs.Run.{Moment, Run}
-use Rattle.machine_runs.specs.RunLaws.{Run-seen_as}
+use Rattle.machine_runs.proofs.CallerLemmas.{Run-seen_as}
 use Rattle.run_driver.specs.declared.printing.Unwritten.{Unwritten}
 use Rattle.store_keeping.specs.DiskTurns.{DiskTurn, OpenedDisk, TellsBytes, TracedSince, FailuresTold}
-use Rattle.store_keeping.specs.DiskTurnLaws.{traced_since, failures_told}
+use Rattle.store_keeping.proofs.CallerLemmas.{traced_since, failures_told}
 use Rattle.freshness_routes.specs.Config.{Config}
 use Rattle.bus_machine.specs.declared.events.Event.{Event}
 use Rattle.bus_machine.specs.Node.{Node, first_node, powered}
@@ -40,7 +40,7 @@ use Rattle.secoc_gateway.proofs.CallerLemmas.{certain_by_mark}
 use Rattle.gateway_commands.specs.Texts.{gateway_text}
 use Rattle.gateway_commands.specs.Inputs.{gate_config, gate_node}
 use Rattle.gateway_commands.specs.Runs.{RanGateway}
-use Rattle.bus_world.specs.StartRowLaws.{no_disk}
+use Rattle.bus_world.proofs.CallerLemmas.{no_disk}
 use Rattle.gateway_commands.specs.Headline.{TellsFirst, OneGatewayRun, GatewayDisksStay, gateway_seen}
 use Rattle.gateway_commands.proofs.Seen.{first_commands, written_as}
 

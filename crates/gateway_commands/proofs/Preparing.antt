@@ -4,7 +4,7 @@ use Rattle.std.proofs.Common.{sym, ap, ◌∙◌, subst, arith, inl, inr}
 use Rattle.program_edge.specs.declared.input.InputFault.TheVariants as input
 use Rattle.program_edge.specs.Rows.{Row, memory_row}
 use Rattle.program_edge.specs.Inputs.{IsUnread}
-use Rattle.program_edge.specs.InputLaws.{Lacks-whole, Lacks-unread}
+use Rattle.program_edge.proofs.CallerLemmas.{Lacks-whole, Lacks-unread}
 use Rattle.bus_config.specs.declared.node_lines.NodeLine.{NodeLine}
 use Rattle.bus_config.specs.Buses.{NamedBus}
 use Rattle.bus_script.specs.EventForms.{node_line_at, own_events_of}

@@ -4,7 +4,7 @@ use Rattle.std.specs.Prelude.{Option, None, Some, Bool, true, false}
 use Rattle.std.proofs.lemmas.List.Elements.{All-cons, All-append, All-replicate}
 use Rattle.basics.specs.Bytes.{IsBytes}
 use Rattle.basics.specs.Numbers.{bytes_of}
-use Rattle.basics.specs.NumberLaws.{IsBytes-bytes_of}
+use Rattle.basics.proofs.CallerLemmas.{IsBytes-bytes_of}
 use Rattle.key_slots.specs.Flags.{bit}
 use Rattle.key_campaign.specs.declared.entries.LedgerEntry.{LedgerEntry}
 use Rattle.key_campaign.specs.Entries.{IsEntry, AreLedgerEntries}

@@ -12,7 +12,7 @@ use Rattle.key_campaign.specs.declared.faults.LedgerCut.TheVariants as cut
 use Rattle.key_campaign.specs.Lines.{ledger_cut_line}
 use Rattle.cell_store.specs.Cells.{CellsState, StandsNow, EachImageStands}
 use Rattle.store_keeping.specs.Keeping.{MayKeep, FitsStore, TellsKept}
-use Rattle.store_keeping.specs.KeepingLaws.{found_kept, each_stands, fits_refused, fits_up}
+use Rattle.store_keeping.proofs.CallerLemmas.{found_kept, each_stands, fits_refused, fits_up}
 use Rattle.key_campaign.specs.declared.entries.LedgerEntry.{LedgerEntry}
 use Rattle.key_campaign.specs.declared.entries.PendingEntry.{PendingEntry}
 use Rattle.key_campaign.specs.Entries.{place_count, place_for, entry_at, with_change}

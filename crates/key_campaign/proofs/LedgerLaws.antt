@@ -5,7 +5,7 @@ use Rattle.std.proofs.lemmas.List.{map-set, length-set}
 use Rattle.cell_store.specs.declared.kinds.Layout.{Layout}
 use Rattle.cell_store.specs.Cells.{CellsState, Puts, FailsPut}
 use Rattle.store_keeping.specs.Keeping.{Fits, FitsStore}
-use Rattle.store_keeping.specs.KeepingLaws.{fits_put, fits_failed_put}
+use Rattle.store_keeping.proofs.CallerLemmas.{fits_put, fits_failed_put}
 use Rattle.key_campaign.specs.declared.entries.PendingEntry.{PendingEntry}
 use Rattle.key_campaign.specs.Entries.{with_change, Advances}
 use Rattle.key_campaign.specs.Campaign.{Campaign, changed_ledger, failed_change}

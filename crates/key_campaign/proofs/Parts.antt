@@ -5,7 +5,7 @@ use Rattle.std.specs.Prelude.{Bool, true, false, None, Some, nat_eq}
 use Rattle.std.proofs.lemmas.List.{get_or-drop}
 use Rattle.std.proofs.Math.Seq.{take-append_seam, drop-append_seam}
 use Rattle.basics.specs.Numbers.{number_of, bytes_of}
-use Rattle.basics.specs.NumberLaws.{number_of-bytes_of-lt}
+use Rattle.basics.proofs.CallerLemmas.{number_of-bytes_of-lt}
 use Rattle.key_slots.specs.Flags.{bit}
 use Rattle.key_campaign.specs.declared.entries.LedgerEntry.{LedgerEntry}
 use Rattle.key_campaign.specs.Cell.{place_cell}

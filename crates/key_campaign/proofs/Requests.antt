@@ -4,8 +4,8 @@ use Rattle.std.proofs.Common.{refl}
 use Rattle.std.proofs.lemmas.List.Elements.{All-nil, All-cons}
 use Rattle.key_slots.specs.declared.memory.Slot.{Slot}
 use Rattle.key_slots.specs.Slots.{slot_at}
-use Rattle.key_slots.specs.SlotsLaws.{IsSlot-slot_at}
-use Rattle.memory_update.specs.LoadingLaws.{Allows-Builds, IsBlock-key_in}
+use Rattle.key_slots.proofs.CallerLemmas.{IsSlot-slot_at}
+use Rattle.memory_update.proofs.CallerLemmas.{Allows-Builds, IsBlock-key_in}
 use Rattle.basics.specs.Blocks.{IsBlock}
 use Rattle.std.proofs.Common.{subst}
 use Rattle.machine_runs.specs.Run.{Run}

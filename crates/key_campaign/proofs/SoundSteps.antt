@@ -4,7 +4,7 @@ use Rattle.std.proofs.Common.{refl, sym, ap, subst, ◌∙◌, arith, true≢fal
 use Rattle.std.proofs.lemmas.Bool.Decides.{nat_tests}
 use Rattle.std.proofs.lemmas.List.{length-set}
 use Rattle.key_slots.specs.Authority.{pairs, is_pair}
-use Rattle.key_slots.specs.AuthorityLaws.{is_pair_listed, passes_at}
+use Rattle.key_slots.proofs.CallerLemmas.{is_pair_listed, passes_at}
 use Rattle.machine_runs.specs.Run.{Run}
 use Rattle.key_campaign.specs.declared.commands.Issue.{Issue}
 use Rattle.key_campaign.specs.declared.commands.Confirm.{Confirm}

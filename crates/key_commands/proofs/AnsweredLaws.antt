@@ -3,9 +3,8 @@ use Rattle.std.proofs.Common.{◌≡◌, ◌∙◌, ◌⊎◌, ℕ, ◌+◌, ◌
 use Rattle.std.specs.Prelude.{Some}
 use Rattle.cut_disk.specs.State.{DiskState, Told}
 use Rattle.cut_disk.specs.Images.{EachImage, Image, firm}
-use Rattle.cut_disk.specs.ImageLaws.{image_of_firm}
+use Rattle.cut_disk.proofs.CallerLemmas.{image_of_firm, runs_join, runs_more}
 use Rattle.cut_disk.specs.Calls.{Rose, Runs}
-use Rattle.cut_disk.specs.CallLaws.{runs_join, runs_more}
 use Rattle.key_slots.specs.declared.memory.Slot.{Slot}
 use Rattle.memory_update.specs.declared.messages.Request.{Request}
 use Rattle.cell_store.specs.declared.kinds.Layout.{Layout}

@@ -1,6 +1,6 @@
 -- A task that is denied isn't done
 use Rattle.std.proofs.Common.{◌≡◌, ◌⊎◌, ℕ, List, Ok, Err, refl, subst, inl, inr}
-use Rattle.memory_update.specs.MessageLaws.{HasSlots-Carries}
+use Rattle.memory_update.proofs.CallerLemmas.{HasSlots-Carries}
 use Rattle.program_edge.specs.Rows.{Row}
 use Rattle.key_commands.specs.declared.tasks.Task.{Task}
 use Rattle.key_commands.specs.declared.tasks.Task.TheVariants.{Words, Load}

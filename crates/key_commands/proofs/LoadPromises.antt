@@ -3,7 +3,7 @@ use Rattle.std.proofs.Common.{◌≡◌, ◌≢◌, ◌∙◌, ◌⊎◌, ℕ, �
 use Rattle.std.specs.Prelude.{Ok, Err, Some, codes}
 use Rattle.cut_disk.specs.State.{DiskState, Told}
 use Rattle.cut_disk.specs.Calls.{IsDisk, Rose, Runs}
-use Rattle.cut_disk.specs.CallLaws.{runs_none, runs_more}
+use Rattle.cut_disk.proofs.CallerLemmas.{runs_none, runs_more}
 use Rattle.program_edge.specs.declared.input.InputFault.{InputFault}
 use Rattle.program_edge.specs.declared.input.InputFault.TheVariants as input
 use Rattle.memory_update.specs.declared.messages.Request.{Request}
@@ -12,9 +12,9 @@ use Rattle.text_lines.specs.Readings.{most_lines, Fault}
 use Rattle.text_lines.specs.Texts.{fault_text_of}
 use Rattle.program_edge.specs.Rows.{Row, input_row}
 use Rattle.program_edge.specs.Inputs.{Reading, Lacks, CountsFault, CountsTooMuch, Offers}
-use Rattle.program_edge.specs.InputLaws.{CountsFault-is, CountsTooMuch-is, Offers-is, Offers-whole}
+use Rattle.program_edge.proofs.CallerLemmas.{CountsFault-is, CountsTooMuch-is, Offers-is, Offers-whole}
 use Rattle.program_edge.specs.Endings.{Ending, EndsInRow, PrintsWhole, SinkFailed, CountsWriteFault}
-use Rattle.program_edge.specs.EndingLaws.{EndsInRow-at, EndsInRow-front, EndsInRow-rose, EndsInRow-only, EndsInRow-may, EndsInRow-well}
+use Rattle.program_edge.proofs.CallerLemmas.{EndsInRow-at, EndsInRow-front, EndsInRow-rose, EndsInRow-only, EndsInRow-may, EndsInRow-well}
 use Rattle.key_commands.specs.declared.lines.LoadLine.{LoadLine}
 use Rattle.key_commands.specs.Opening.{GivesNoEngine, LacksEngine, most_to_open, NoEngine, has_none, disk_failed, no_header, none_counts, too_few, no_room, damaged, bad_slot}
 use Rattle.key_commands.specs.Loads.{LoadInputs, LacksRequests, ReadsRequests, IsRequestFault, OnFirstDisk, ComesInLoad, EndsInLines, EndsLoad, LoadsInto, in_lines, in_row, no_requests_read, refused_request, without_disk, without_engine, without_requests}

@@ -5,9 +5,8 @@ use Rattle.std.proofs.lemmas.Bool.{false≢true}
 use Rattle.std.proofs.lemmas.List.{length-set, take-append-drop, drop-set-lt, map-set, map-append}
 use Rattle.std.proofs.Math.Seq.{take-set-lt}
 use Rattle.cut_disk.specs.State.{Told}
-use Rattle.cut_disk.specs.CallLaws.{runs_none, runs_join, runs_more}
+use Rattle.cut_disk.proofs.CallerLemmas.{runs_none, runs_join, runs_more, image_is_read, image_of_firm}
 use Rattle.cut_disk.specs.Images.{EachImage, Image, firm}
-use Rattle.cut_disk.specs.ImageLaws.{image_is_read, image_of_firm}
 use Rattle.key_slots.specs.declared.memory.Slot.{Slot}
 use Rattle.memory_update.specs.declared.messages.Request.{Request}
 use Rattle.memory_update.specs.Loading.{slot_of}
@@ -18,7 +17,7 @@ use Rattle.cell_store.specs.Cells.{CellsState, LeavesBesides, Settled, TellsCell
 use Rattle.cell_store.proofs.CallerLemmas.{SameOutside-after, SameOutside-refl}
 use Rattle.slot_disk.specs.Cell.{slot_cell}
 use Rattle.machine_runs.specs.Run.{Moment, Run, commands_in, lines_in}
-use Rattle.machine_runs.specs.RunLaws.{Run-split}
+use Rattle.machine_runs.proofs.CallerLemmas.{Run-split}
 use Rattle.run_driver.specs.Printed.{texts}
 use Rattle.key_commands.specs.declared.lines.LoadLine.{LoadLine}
 use Rattle.key_commands.specs.declared.lines.LoadLine.TheVariants.{Loaded, Refused, Failed}

@@ -4,7 +4,7 @@ use Rattle.std.specs.Prelude.{Option, Some, None, min}
 use Rattle.std.proofs.Math.Nat.{min-le_left}
 use Rattle.cut_disk.specs.State.{DiskState, Told}
 use Rattle.cut_disk.specs.Calls.{Rose}
-use Rattle.cut_disk.specs.CallLaws.{runs_none, runs_join, runs_more}
+use Rattle.cut_disk.proofs.CallerLemmas.{runs_none, runs_join, runs_more}
 use Rattle.cell_store.specs.declared.kinds.Kind.{Kind}
 use Rattle.cell_store.specs.declared.kinds.Kind.TheVariants.{Twin, Log}
 use Rattle.cell_store.specs.declared.faults.StoreFault.{StoreFault}

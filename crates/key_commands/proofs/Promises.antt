@@ -8,9 +8,8 @@ use Rattle.std.specs.Prelude.{codes}
 use Rattle.text_lines.specs.Readings.{Fault}
 use Rattle.text_lines.specs.Texts.{fault_text_of}
 use Rattle.program_edge.specs.Inputs.{CountsFault, CountsTooMuch, IsUnread, Lacks}
-use Rattle.program_edge.specs.InputLaws.{Lacks-unread}
+use Rattle.program_edge.proofs.CallerLemmas.{Lacks-unread, EndsInRow-at, EndsInRow-more}
 use Rattle.program_edge.specs.Endings.{CountsWriteFault, Ending, EndsIn, EndsInRow, MayEndIn, PrintsFront, PrintsWhole, SinkFailed}
-use Rattle.program_edge.specs.EndingLaws.{EndsInRow-at, EndsInRow-more}
 use Rattle.key_commands.specs.Loads.{ComesInLoad, EndsLoad, IsRequestFault, LoadInputs, in_lines, in_row, no_requests_read, without_requests}
 use Rattle.key_commands.specs.Promises.{AnswersNone, EndsAtOne, OffersEngine, OffersRequests, RefusesStore, RunsLoad, StopsAtOne}
 use Rattle.key_commands.proofs.LoadPromises.{runs_load}

@@ -4,7 +4,7 @@ use Rattle.std.specs.Prelude.{codes}
 use Rattle.std.specs.List.{flat_map}
 use Rattle.std.specs.Fmt.{decimal}
 use Rattle.hex.specs.Hex.{encode_lower}
-use Rattle.memory_update.specs.MessageLaws.{list_of_two}
+use Rattle.memory_update.proofs.CallerLemmas.{list_of_two}
 use Rattle.memory_update.specs.declared.messages.Update.{Update}
 use Rattle.secoc_words.specs.Written.{flags_text}
 use Rattle.key_commands.specs.Texts.{row, target_rows, content_rows, update_text}

@@ -13,9 +13,8 @@ use Rattle.text_lines.specs.Lines.{TextLine, lines_of}
 use Rattle.text_lines.proofs.CallerLemmas.{bind_ok, at_line_ok, limited_ok}
 use Rattle.program_edge.specs.Rows.{Row}
 use Rattle.program_edge.specs.Inputs.{Reading, ReadsWhole}
-use Rattle.program_edge.specs.InputLaws.{Lacks-whole}
+use Rattle.program_edge.proofs.CallerLemmas.{Lacks-whole, EndsInRow-more}
 use Rattle.program_edge.specs.Endings.{Ending, EndsInRow}
-use Rattle.program_edge.specs.EndingLaws.{EndsInRow-more}
 use Rattle.text_lines.specs.LineRows.{NoLines}
 use Rattle.key_commands.specs.Loads.{ComesInLoad, EndsLoad, EndsOnDisk, EndsOverDisks, LacksRequests, LoadInputs, ReadsRequests, ReadsRequestSource, in_lines, in_row, loads_into, no_disk_row, no_first, no_requests_read, not_open, on_first, refused_request, without_disk, without_engine}
 

@@ -1,1 +1,2 @@
 mod PairRule
+pub mod CallerLemmas

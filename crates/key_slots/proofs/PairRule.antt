@@ -5,7 +5,7 @@ use Rattle.std.proofs.lemmas.Bool.{and_parts, or_cases, eqb-true}
 use Rattle.std.proofs.lemmas.Bool.Decides.{nat_tests, Decides-eqb}
 use Rattle.std.proofs.lemmas.List.FromFn.{get_or-range_with_len}
 use Rattle.key_slots.specs.Authority.{pairs, Authorises, is_pair}
-use Rattle.key_slots.specs.AuthorityLaws.{is_pair_listed, passes_at}
+use Rattle.key_slots.proofs.CallerLemmas.{is_pair_listed, passes_at}
 
 -- the rule as a test
 abbrev by_rule : ℕ × ℕ → Bool

@@ -1,10 +1,5 @@
 pub mod Authority
-pub mod AuthorityLaws
 pub mod Flags
-pub mod FlagsLaws
 pub mod Names
-pub mod NamesLaws
 pub mod Slots
-pub mod SlotsLaws
 pub mod Usage
-pub mod UsageLaws

@@ -1,7 +1,5 @@
 pub mod Run
-pub mod RunLaws
 pub mod Members
-pub mod MemberLaws
 pub mod Faults
 pub mod FaultLaws
 pub mod Past

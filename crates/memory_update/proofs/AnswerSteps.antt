@@ -2,7 +2,7 @@
 use Rattle.std.proofs.Common.{Bool, IsTrue, ◌↔◌, ◌&&◌, Decides, ◌≡◌, ℕ, List, sym, ap, ◌∙◌, subst}
 use Rattle.std.proofs.lemmas.Bool.{and_parts}
 use Rattle.memory_update.specs.Messages.{Confirms}
-use Rattle.memory_update.specs.MessageLaws.{same_reply}
+use Rattle.memory_update.proofs.CallerLemmas.{same_reply}
 use Rattle.memory_update.specs.declared.messages.Update.{Update}
 use Rattle.memory_update.specs.declared.messages.Reply.{Reply}
 

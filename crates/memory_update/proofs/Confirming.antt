@@ -2,16 +2,15 @@
 use Rattle.std.proofs.Common.{◌≡◌, ℕ, ◌+◌, ◌*◌, ◌^◌, ◌<◌, List, [], ◌∷◌, refl, sym, ap, ◌∙◌, arith}
 use Rattle.std.specs.List.{concat}
 use Rattle.basics.specs.Numbers.{number_of, bytes_of}
-use Rattle.basics.specs.NumberLaws.{IsBytes-bytes_of, same_number}
+use Rattle.basics.proofs.CallerLemmas.{IsBytes-bytes_of, same_number}
 use Rattle.she_aes.specs.Cipher.{IsBlock, enc, dec}
-use Rattle.she_aes.specs.CipherFacts.{IsBlock-enc}
-use Rattle.she_aes.proofs.CallerLemmas.{dec-enc}
+use Rattle.she_aes.proofs.CallerLemmas.{IsBlock-enc, dec-enc}
 use Rattle.she_kdf.specs.Derivation.{kdf}
-use Rattle.she_kdf.specs.DerivationLaws.{IsBlock-kdf}
+use Rattle.she_kdf.proofs.CallerLemmas.{IsBlock-kdf}
 use Rattle.she_kdf.specs.declared.Constant.TheVariants.{Enc, Mac}
 use Rattle.she_cmac.specs.Cmac.{cmac}
 use Rattle.memory_update.specs.Messages.{two_blocks, head_number, Confirms, HeadOf, sealed_counter, SameConfirmed, IsUid, IsUpdate}
-use Rattle.memory_update.specs.MessageLaws.{two_blocks-pair, head_number-lt, uid_of-head, id_of-head, auth_of-head}
+use Rattle.memory_update.proofs.CallerLemmas.{two_blocks-pair, head_number-lt, uid_of-head, id_of-head, auth_of-head}
 use Rattle.memory_update.specs.declared.messages.Head.{Head}
 use Rattle.memory_update.specs.declared.messages.Update.{Update}
 use Rattle.memory_update.specs.declared.messages.Reply.{Reply}

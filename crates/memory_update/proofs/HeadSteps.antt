@@ -2,7 +2,7 @@
 use Rattle.std.proofs.Common.{◌≡◌, ℕ, ◌/◌, ◌%◌, ◌<◌, List, Option, Some, None, IsSome, get_or, take, sym, ap, ◌∙◌, subst, arith}
 use Rattle.basics.specs.Blocks.{IsBlock}
 use Rattle.memory_update.specs.Messages.{HasSlots, HeadOf, head_in, id_of, auth_of}
-use Rattle.memory_update.specs.MessageLaws.{HasSlots-head, HeadOf-head_in, same_head, id_of-last, auth_of-last}
+use Rattle.memory_update.proofs.CallerLemmas.{HasSlots-head, HeadOf-head_in, same_head, id_of-last, auth_of-last}
 use Rattle.memory_update.specs.declared.messages.Head.{Head}
 
 -- what the code reads: the first 15 bytes, and the two numbers in the last one

@@ -4,3 +4,4 @@ pub mod FieldSteps
 pub mod HeadSteps
 pub mod OpeningSteps
 mod Tries
+pub mod CallerLemmas

@@ -3,18 +3,18 @@ use Rattle.std.proofs.Common.{◌≡◌, ℕ, ◌+◌, ◌*◌, ◌/◌, ◌%◌
 use Rattle.std.specs.List.{All, concat}
 use Rattle.std.proofs.lemmas.List.Elements.{All-head, All-tail}
 use Rattle.basics.specs.Numbers.{number_of, bytes_of}
-use Rattle.basics.specs.NumberLaws.{number_of-lt, bytes_of-number_of}
+use Rattle.basics.proofs.CallerLemmas.{number_of-lt, bytes_of-number_of}
 use Rattle.basics.specs.Blocks.{IsBlock, zero_block}
 use Rattle.she_aes.specs.Modes.{cbc_inverse}
-use Rattle.she_aes.specs.ModeLaws.{length-cbc_inverse}
+use Rattle.she_aes.proofs.CallerLemmas.{length-cbc_inverse}
 use Rattle.she_kdf.specs.Derivation.{kdf}
 use Rattle.she_kdf.specs.declared.Constant.TheVariants.{Enc}
 use Rattle.key_slots.specs.declared.memory.Flags.{Flags}
 use Rattle.key_slots.specs.Flags.{flags_number, flags_from}
-use Rattle.key_slots.specs.FlagsLaws.{flags_from-number}
+use Rattle.key_slots.proofs.CallerLemmas.{flags_from-number}
 use Rattle.memory_update.specs.Fields.{bit_field}
 use Rattle.memory_update.specs.Messages.{request_mac, text_in, update_in, Carries, HasSlots, HeadOf, id_of, auth_of, IsRequest}
-use Rattle.memory_update.specs.MessageLaws.{list_of_two, number_of-two, uid_of-head, id_of-head, auth_of-head, IsBlock-request_mac, Carries-update_in}
+use Rattle.memory_update.proofs.CallerLemmas.{list_of_two, number_of-two, uid_of-head, id_of-head, auth_of-head, IsBlock-request_mac, Carries-update_in}
 use Rattle.memory_update.specs.declared.messages.Head.{Head}
 use Rattle.memory_update.specs.declared.messages.Request.{Request}
 use Rattle.memory_update.specs.declared.messages.Update.{Update}

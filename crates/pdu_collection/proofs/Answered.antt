@@ -3,7 +3,7 @@ use Rattle.std.proofs.Common.{◌≡◌, ℕ, zero, suc, arith, ◌<◌, ◌+◌
 use Rattle.std.proofs.lemmas.List.{take_more, map-append}
 use Rattle.std.specs.List.{flat_map}
 use Rattle.secoc_words.specs.Counting.{next_counter, last_accepted}
-use Rattle.secoc_words.specs.CountingLaws.{last_accepted-more}
+use Rattle.secoc_words.proofs.CallerLemmas.{last_accepted-more}
 use Rattle.pdu_collection.specs.declared.answering.Receiver.{Receiver}
 use Rattle.pdu_collection.specs.declared.pair_lines.Head.{Head}
 use Rattle.pdu_collection.specs.declared.pair_lines.Entry.{Entry}

@@ -4,8 +4,7 @@ use Rattle.std.specs.Prelude.{Some}
 use Rattle.bus_port.specs.Sink.{SinkState}
 use Rattle.program_edge.specs.Input.{input_limit}
 use Rattle.program_edge.specs.declared.input.InputFault.TheVariants as input
-use Rattle.program_edge.specs.InputLaws.{Lacks-unread, Offers-clean}
-use Rattle.program_edge.specs.EndingLaws.{EndsInRow-memory}
+use Rattle.program_edge.proofs.CallerLemmas.{Lacks-unread, Offers-clean, EndsInRow-memory}
 use Rattle.pdu_collection.specs.Rows.{PairingInputs, ComesInPairing, no_input}
 use Rattle.pdu_collection.specs.Pairs.{RunsPairs}
 use Rattle.pdu_collection.specs.Rows.{IsExampleScript}

@@ -3,9 +3,9 @@ use Rattle.std.proofs.Common.{◌≡◌, ℕ, ◌+◌, ◌-◌, List, [], ◌∷
 use Rattle.std.specs.Prelude.{Option, None, Some}
 use Rattle.std.proofs.lemmas.List.{take_at, drop_at, length-take-le, length_push, take-append-drop}
 use Rattle.secured_pdu.specs.Frame.{Secured}
-use Rattle.secured_pdu.specs.FrameLaws.{length-secured_frame, payload_of_secured}
+use Rattle.secured_pdu.proofs.CallerLemmas.{length-secured_frame, payload_of_secured}
 use Rattle.secured_pdu.specs.Verdict.{Outcome, Accepted, Verdict}
-use Rattle.secured_pdu.specs.VerdictLaws.{same_from_Verdict, Verdict_of_secured}
+use Rattle.secured_pdu.proofs.CallerLemmas.{same_from_Verdict, Verdict_of_secured}
 use Rattle.pdu_collection.specs.declared.pair_lines.Head.{Head}
 use Rattle.pdu_collection.specs.Collection.{Place, link_of, IsAuthentic, joined_pdu}
 use Rattle.pdu_collection.specs.Joining.{Kind, authentic, cryptographic, other_kind, Arrival, link_in, link, arrival_at, partner_at, IsLatestOfKind, IsSingle}

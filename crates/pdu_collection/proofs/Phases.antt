@@ -5,7 +5,7 @@ use Rattle.std.specs.declared.alloc.Global.{Global}
 use Rattle.program_edge.specs.declared.input.InputFault.TheVariants as input
 use Rattle.program_edge.specs.Rows.{Row}
 use Rattle.program_edge.specs.Inputs.{ReadsWhole}
-use Rattle.program_edge.specs.InputLaws.{Lacks-whole}
+use Rattle.program_edge.proofs.CallerLemmas.{Lacks-whole}
 use Rattle.pdu_collection.specs.declared.pair_lines.PairLine.{PairLine}
 use Rattle.pdu_collection.specs.PairLines.{pairs_of}
 use Rattle.pdu_collection.specs.Rows.{PairingInputs, NamesInput, OverPairs, ComesInPairing, no_input, line_fault, done}

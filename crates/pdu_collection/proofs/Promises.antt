@@ -6,7 +6,7 @@ use Rattle.program_edge.specs.declared.input.InputFault.TheVariants as input
 use Rattle.program_edge.specs.Rows.{Row}
 use Rattle.program_edge.specs.Inputs.{Lacks}
 use Rattle.program_edge.specs.Endings.{Ending, PrintsWhole, EndsInRow}
-use Rattle.program_edge.specs.EndingLaws.{EndsInRow-at}
+use Rattle.program_edge.proofs.CallerLemmas.{EndsInRow-at}
 use Rattle.pdu_collection.specs.declared.pair_lines.PairLine.{PairLine}
 use Rattle.pdu_collection.specs.PairLines.{pairs_of}
 use Rattle.pdu_collection.specs.Answering.{TellsPairs, TellsRising}

@@ -4,7 +4,7 @@ use Rattle.std.specs.Prelude.{IfSome}
 use Rattle.std.proofs.lemmas.List.{map-append}
 use Rattle.secoc_words.specs.Counting.{KeepsCounters, AcceptedRise}
 use Rattle.secoc_words.specs.Counting as counting
-use Rattle.secoc_words.specs.CountingLaws.{KeepsCounters-rise}
+use Rattle.secoc_words.proofs.CallerLemmas.{KeepsCounters-rise}
 use Rattle.pdu_collection.specs.declared.pair_lines.Head.{Head}
 use Rattle.pdu_collection.specs.declared.pair_lines.Entry.{Entry}
 use Rattle.pdu_collection.specs.declared.pair_lines.Entry.TheVariants.{Authentic, Cryptographic, Secured}

@@ -3,7 +3,7 @@ use Rattle.std.proofs.Common.{◌≡◌, ℕ, ◌+◌, List, [], ◌∷◌, ◌+
 use Rattle.std.specs.Prelude.{Option, None, Some, Result, Ok, Err, IfOk, IfErr}
 use Rattle.secured_pdu.specs.Verdict.{Verdict}
 use Rattle.secoc_words.specs.Counting.{AddsVerdict}
-use Rattle.secoc_words.specs.CountingLaws.{next_counter-verdict}
+use Rattle.secoc_words.proofs.CallerLemmas.{next_counter-verdict}
 use Rattle.pdu_collection.specs.declared.joiner.BadLength.{BadLength}
 use Rattle.pdu_collection.specs.declared.answering.Receiver.{Receiver}
 use Rattle.pdu_collection.specs.declared.pair_lines.Head.{Head}

@@ -1,10 +1,7 @@
 pub mod Input
 pub mod Told
-pub mod ToldLaws
 pub mod Rows
 pub mod Inputs
-pub mod InputLaws
 pub mod Endings
-pub mod EndingLaws
 pub mod OpenedWords
 pub mod NamedSources

@@ -19,7 +19,7 @@ use Rattle.bus_world.specs.declared.start.Start.TheVariants.{Attach}
 use Rattle.bus_world.specs.TakingUp.{cells_in, KeptOn}
 use Rattle.bus_world.specs.Starts.{StartsOver, NodeGoesOn}
 use Rattle.bus_world.specs.StartRows.{CanStart}
-use Rattle.bus_world.specs.StartRowLaws.{no_disk, no_line}
+use Rattle.bus_world.proofs.CallerLemmas.{no_disk, no_line}
 use Rattle.bus_world.specs.WorldRuns.{IsFirstOf}
 use Rattle.bus_lives.specs.Lives.{DiskState, Told, firm, NodeLine, NamedBus}
 use Rattle.bus_lives.specs.Lives.{Life, life_over, TellsNode, IsLife, NoNewer, NoneNewer, LivesBehind, LivesOf, WorldRunsAreLives}

@@ -11,7 +11,7 @@ use Rattle.cell_store.specs.Store.{Stands}
 use Rattle.cell_store.specs.Cells.{Settled}
 use Rattle.slot_disk.specs.Cell.{slot_cell}
 use Rattle.machine_runs.specs.Run.{Run}
-use Rattle.machine_runs.specs.RunLaws.{Run-more}
+use Rattle.machine_runs.proofs.CallerLemmas.{Run-more}
 use Rattle.memory_update.specs.declared.messages.Request.{Request}
 use Rattle.memory_update.specs.declared.messages.Update.{Update}
 use Rattle.memory_update.specs.Loading.{slot_of}
@@ -21,7 +21,7 @@ use Rattle.bus_machine.specs.Bus.{World, Instant, Moments, Step, node_at}
 use Rattle.secoc_node.specs.Cells.{bound_cells, CellsOf, IsKept}
 use Rattle.bus_world.specs.declared.start.Start.TheVariants.{Attach}
 use Rattle.bus_world.specs.TakingUp.{cells_in, KeptOn}
-use Rattle.bus_world.specs.StartRowLaws.{no_disk}
+use Rattle.bus_world.proofs.CallerLemmas.{no_disk}
 use Rattle.bus_lives.specs.Lives.{Slot, DiskState, firm, NodeLine, NamedBus, TellsNode}
 use Rattle.bus_lives.proofs.CallerLemmas.{config_of_node, image_of_firm, kept_once, kept_stands, told_before}
 use Rattle.key_commands.specs.declared.finding.CountingStore.{CountingStore}

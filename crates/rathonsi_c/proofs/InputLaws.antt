@@ -2,7 +2,7 @@
 use Rattle.std.proofs.Common.{◌≡◌, ℕ, ◌-◌, ◌≤◌, inl, inr, List, [], ◌∷◌, ◌++◌, length, get_or, take, drop, refl, sym, ap, subst, ◌∙◌, arith, append_assoc, length-append}
 use Rattle.std.proofs.lemmas.List.{take_at, drop_at, get_or_at}
 use Rattle.secured_pdu.specs.Frame.{Ahead, IsFrame}
-use Rattle.secured_pdu.specs.FrameLaws.{same_from_Ahead}
+use Rattle.secured_pdu.proofs.CallerLemmas.{same_from_Ahead}
 use Rattle.secured_pdu.specs.Verdict.{Accepted, payload_of, low_of}
 use Rattle.secured_pdu.specs.Judged.{outcome_of}
 use Rattle.secured_pdu.specs.declared.verdict.Judgement.{Judgement}

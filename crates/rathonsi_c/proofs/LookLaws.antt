@@ -3,7 +3,7 @@ use Rattle.std.proofs.Common.{◌≡◌, ℕ, ◌∷◌, [], List, true, false, 
 use Rattle.std.specs.Option.{MatchOption, is_some}
 use Rattle.std.proofs.lemmas.Bool.{some_since, true≢false, false≢true}
 use Rattle.basics.specs.Numbers.{number_of, bytes_of}
-use Rattle.basics.specs.NumberLaws.{number_of-bytes_of-lt}
+use Rattle.basics.proofs.CallerLemmas.{number_of-bytes_of-lt}
 use Rattle.key_slots.specs.declared.memory.Slot.{Slot}
 use Rattle.slot_disk.specs.Cell.{HoldsSlot}
 use Rattle.freshness_routes.specs.declared.routes.Direction.{Direction}

@@ -12,7 +12,7 @@ use Rattle.freshness_routes.specs.declared.routes.Direction.{Direction}
 use Rattle.freshness_routes.specs.declared.routes.Direction.TheVariants.{Receives}
 use Rattle.freshness_store.specs.Bound.{bound_cell}
 use Rattle.secured_pdu.specs.Verdict.{Outcome, Verdict, Accepted, FreshnessFailure, VerificationFailure}
-use Rattle.secured_pdu.specs.VerdictLaws.{same_from_Verdict}
+use Rattle.secured_pdu.proofs.CallerLemmas.{same_from_Verdict}
 use Rattle.store_plan.specs.declared.planning.Plan.{Plan}
 use Rattle.store_plan.specs.Plans.{PlansPut, applied}
 use Rattle.store_plan.proofs.CallerLemmas.{applied-cell, applied-others, applied-length}

@@ -6,7 +6,7 @@ use Rattle.key_slots.specs.declared.memory.Slot.{Slot}
 use Rattle.key_slots.specs.declared.memory.Slot.TheVariants.{Empty}
 use Rattle.key_slots.specs.Slots.{IsSlots, slot_at}
 use Rattle.memory_update.specs.Messages.{HeadOf, id_of, auth_of}
-use Rattle.memory_update.specs.MessageLaws.{id_of-head, auth_of-head, HasSlots-head}
+use Rattle.memory_update.proofs.CallerLemmas.{id_of-head, auth_of-head, HasSlots-head}
 use Rattle.memory_update.specs.declared.messages.Head.{Head}
 use Rattle.rathonsi_c.specs.Images.{ImageSlot, ReadsSlots}
 

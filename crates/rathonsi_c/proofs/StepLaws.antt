@@ -4,9 +4,8 @@ use Rattle.std.proofs.lemmas.List.{take_at, take-append-drop}
 use Rattle.she_cmac.specs.Cmac.{cmac}
 use Rattle.freshness_routes.specs.declared.routes.Direction.TheVariants.{Receives}
 use Rattle.secured_pdu.specs.Frame.{authenticated_input, assembled, secured_frame, IsPayload, IsFrame}
-use Rattle.secured_pdu.specs.FrameLaws.{same_from_Ahead}
+use Rattle.secured_pdu.proofs.CallerLemmas.{same_from_Ahead, same_from_Verdict, accepted_parts, failed_parts}
 use Rattle.secured_pdu.specs.Verdict.{Outcome, Verdict, Accepted, VerificationFailure, payload_of, low_of}
-use Rattle.secured_pdu.specs.VerdictLaws.{same_from_Verdict, accepted_parts, failed_parts}
 use Rattle.store_plan.specs.Plans.{IsEmptyPlan}
 use Rattle.rathonsi_c.specs.declared.secoc.RathonsiVerdict.{RathonsiVerdict}
 use Rattle.rathonsi_c.specs.declared.route.RathonsiRoute.{RathonsiRoute}

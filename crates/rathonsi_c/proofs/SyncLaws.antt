@@ -10,11 +10,9 @@ use Rattle.key_slots.specs.declared.refusals.Erc.{Erc}
 use Rattle.key_slots.specs.declared.refusals.Erc.TheVariants.{KeyNotAvailable, KeyInvalid, KeyEmpty, NoSecureBoot, KeyWriteProtected, KeyUpdateError, SequenceError}
 use Rattle.freshness_routes.specs.declared.routes.Direction.TheVariants.{Receives}
 use Rattle.secured_pdu.specs.Frame.{IsFrame, Secured}
-use Rattle.secured_pdu.specs.FrameLaws.{IsFrame-Secured}
+use Rattle.secured_pdu.proofs.CallerLemmas.{IsFrame-Secured, same_from_Verdict, Verdict_of_secured, one_counter}
 use Rattle.secured_pdu.specs.Verdict.{Outcome, Verdict, Accepted}
-use Rattle.secured_pdu.specs.VerdictLaws.{same_from_Verdict, Verdict_of_secured}
 use Rattle.secured_pdu.specs.Sync.{Synced}
-use Rattle.secured_pdu.proofs.CallerLemmas.{one_counter}
 use Rattle.rathonsi_c.specs.declared.TheConstants.{OK, BAD_VALUE, FRESHNESS_FAILURE, VERIFICATION_FAILURE, DAMAGED, RESERVE, WRONG_CELL}
 use Rattle.rathonsi_c.specs.declared.secoc.RathonsiVerdict.{RathonsiVerdict}
 use Rattle.rathonsi_c.specs.declared.route.RathonsiRoute.{RathonsiRoute}

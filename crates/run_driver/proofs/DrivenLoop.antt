@@ -3,7 +3,7 @@ use Rattle.std.proofs.Common.{◌≡◌, ℕ, ◌+◌, ◌<◌, ◌≤◌, List,
 use Rattle.std.proofs.Math.Seq.{drop-cons}
 use Rattle.std.proofs.lemmas.List.{map_push, take_more, take_all, length_push, length-map, length-take-le}
 use Rattle.machine_runs.specs.Run.{Moment, Run, commands_in, lines_in}
-use Rattle.machine_runs.specs.RunLaws.{Run-more}
+use Rattle.machine_runs.proofs.CallerLemmas.{Run-more}
 use Rattle.run_driver.specs.Driven.{TakenUp, Driven}
 
 -- these commands were done, and the line of each was taken up

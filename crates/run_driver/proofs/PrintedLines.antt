@@ -1,11 +1,11 @@
 -- What was driven into a printer is printed.
 use Rattle.std.proofs.Common.{ℕ, ◌+◌, List, [], ◌∷◌, length, Result, Err, sym, subst}
 use Rattle.std.proofs.lemmas.Result.{MatchResult-weaker}
-use Rattle.basics.specs.CountLaws.{rose_after}
+use Rattle.basics.proofs.CallerLemmas.{rose_after}
 use Rattle.bus_port.specs.Sink.{SinkState}
-use Rattle.bus_port.specs.SinkLaws.{Appended-more}
+use Rattle.bus_port.proofs.CallerLemmas.{Appended-more}
 use Rattle.program_edge.specs.Told.{AppendedWell}
-use Rattle.program_edge.specs.ToldLaws.{AppendedWell-nothing, AppendedWell-more}
+use Rattle.program_edge.proofs.CallerLemmas.{AppendedWell-nothing, AppendedWell-more}
 use Rattle.machine_runs.specs.Run.{lines_in}
 use Rattle.run_driver.specs.Driven.{TakenUp, Driven}
 use Rattle.run_driver.specs.DrivenLaws.{FirstDone-weaker}

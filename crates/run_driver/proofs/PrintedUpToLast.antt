@@ -4,7 +4,7 @@ use Rattle.std.proofs.lemmas.List.Elements.{All-nil, All-cons}
 use Rattle.std.proofs.lemmas.Result.{MatchResult-weaker}
 use Rattle.bus_port.specs.Sink.{SinkState}
 use Rattle.program_edge.specs.Told.{AppendedWell}
-use Rattle.program_edge.specs.ToldLaws.{AppendedWell-more}
+use Rattle.program_edge.proofs.CallerLemmas.{AppendedWell-more}
 use Rattle.machine_runs.specs.Run.{lines_in}
 use Rattle.run_driver.specs.Driven.{TakenUp, Driven}
 use Rattle.run_driver.specs.DrivenLaws.{FirstDone-weaker}

@@ -2,11 +2,11 @@
 use Rattle.std.specs.Prelude.{◌≡◌, ℕ, Option, None, Some, List, []}
 use Rattle.std.proofs.Common.{refl, sym, ◌∙◌, ap, subst, arith}
 use Rattle.machine_runs.specs.Run.{seen_as}
-use Rattle.machine_runs.specs.RunLaws.{Run-seen_as}
+use Rattle.machine_runs.proofs.CallerLemmas.{Run-seen_as}
 use Rattle.cut_disk.specs.declared.Mark.{Mark}
 use Rattle.cut_disk.specs.declared.Mark.TheVariants as mark
 use Rattle.cut_disk.specs.Calls.{Runs}
-use Rattle.cut_disk.specs.CallLaws.{runs_join, runs_more}
+use Rattle.cut_disk.proofs.CallerLemmas.{runs_join, runs_more}
 use Rattle.store_keeping.specs.DiskTurns.{CountsFailure, DiskTurn}
 use Rattle.bus_machine.specs.declared.events.Event.{Event}
 use Rattle.bus_machine.specs.declared.events.Event.TheVariants.{Inject}

@@ -2,7 +2,7 @@
 use Rattle.std.specs.Prelude.{◌≡◌, ℕ, Option, None, Some, List, [], ◌∷◌, ◌++◌}
 use Rattle.std.proofs.Common.{refl, sym, subst}
 use Rattle.machine_runs.specs.Run.{Moment, Run}
-use Rattle.machine_runs.specs.RunLaws.{Run-append}
+use Rattle.machine_runs.proofs.CallerLemmas.{Run-append}
 use Rattle.bus_machine.specs.declared.events.Event.{Event}
 use Rattle.bus_machine.specs.declared.events.Event.TheVariants.{Send}
 use Rattle.bus_machine.specs.declared.lines.Line.{Line}

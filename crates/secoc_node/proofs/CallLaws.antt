@@ -1,7 +1,7 @@
 -- What the calls of a node leave, over plain variables
 use Rattle.std.proofs.Common.{◌≡◌, ℕ, true, false, true≢false, List, length, set, length-set, refl, sym, ap, subst, ◌∙◌, arith}
 use Rattle.std.specs.Prelude.{◌↔◌, Some, Result, Ok, Err, IsErrOf}
-use Rattle.cut_disk.specs.CallLaws.{runs_none, runs_more}
+use Rattle.cut_disk.proofs.CallerLemmas.{runs_none, runs_more}
 use Rattle.cell_store.specs.Cells.{CellsState}
 use Rattle.key_slots.specs.declared.refusals.Erc.{Erc}
 use Rattle.slot_disk.specs.Cell.{slot_cell, HoldSlots}
@@ -10,7 +10,7 @@ use Rattle.memory_update.specs.declared.messages.Reply.{Reply}
 use Rattle.memory_update.specs.declared.messages.Request.{Request}
 use Rattle.memory_update.specs.declared.messages.Update.{Update}
 use Rattle.memory_update.specs.Messages.{Builds, CarriesPadded, Confirms, id_of}
-use Rattle.memory_update.specs.MessageLaws.{id_of-head}
+use Rattle.memory_update.proofs.CallerLemmas.{id_of-head}
 use Rattle.memory_update.specs.Loading.{Allows, slot_of}
 use Rattle.she_engine.specs.declared.engine.Engine.{Engine}
 use Rattle.she_engine.specs.Loads.{Loaded as LoadedKey, RefusedLoad, FaultedLoad}

@@ -5,9 +5,9 @@ use Rattle.std.specs.Prelude.{Option, None, Some, is_some, ◌⊎◌, option_map
 use Rattle.std.proofs.lemmas.Option.{same_Some, none-some}
 use Rattle.cut_disk.specs.Images.{CutsTo}
 use Rattle.cell_store.specs.Cells.{CellsState, Settled, Puts, FailsPut, StandsNow, EachImageStands}
-pub use Rattle.store_keeping.specs.KeepingLaws.{told_before}
+pub use Rattle.store_keeping.proofs.CallerLemmas.{told_before}
 use Rattle.store_keeping.specs.Keeping.{MayKeep, FitsStore}
-use Rattle.store_keeping.specs.KeepingLaws as kept
+use Rattle.store_keeping.proofs.CallerLemmas as kept
 use Rattle.bus_machine.specs.Node.{Node, Change, changed, failed, refused_up}
 use Rattle.secoc_node.specs.Cells.{CellsOf}
 use Rattle.secoc_node.specs.Fits.{node_keeping}

@@ -9,7 +9,7 @@ use Rattle.freshness_store.specs.Bound.{bound_cell}
 use Rattle.freshness_manager.specs.Changing.{MakesChange, FailsChange}
 use Rattle.cell_store.specs.Cells.{CellsState}
 use Rattle.cut_disk.specs.Calls.{Runs}
-use Rattle.cut_disk.specs.CallLaws.{runs_none, runs_more}
+use Rattle.cut_disk.proofs.CallerLemmas.{runs_none, runs_more}
 use Rattle.she_engine.specs.declared.engine.Engine.{Engine}
 use Rattle.bus_machine.specs.Node.{bound_to, changed, changed_by, with_counter, failed}
 use Rattle.secoc_node.specs.declared.counters.RouteCounter.{RouteCounter}

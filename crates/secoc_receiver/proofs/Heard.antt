@@ -4,7 +4,7 @@ use Rattle.cell_store.specs.Cells.{CellsState}
 use Rattle.freshness_manager.specs.Counters.{ReceiverCounter}
 use Rattle.secured_pdu.specs.Frame.{IsWindow, Secured, Ahead}
 use Rattle.secured_pdu.specs.Verdict as verdict
-use Rattle.secured_pdu.specs.VerdictLaws.{same_from_Verdict, Verdict_of_secured}
+use Rattle.secured_pdu.proofs.CallerLemmas.{same_from_Verdict, Verdict_of_secured}
 use Rattle.secoc_receiver.specs.declared.receiver.Reception.{Reception}
 use Rattle.secoc_receiver.specs.declared.receiver.Reception.TheVariants.{Accepted, FreshnessFailure, VerificationFailure}
 use Rattle.secoc_receiver.specs.declared.receiver.ReceiveFault.{ReceiveFault}

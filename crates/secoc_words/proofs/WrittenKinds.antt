@@ -6,7 +6,7 @@ use Rattle.std.proofs.Math.Seq.{take-append_seam, drop-append_seam}
 use Rattle.std.proofs.lemmas.List.Elements.{All-head, All-tail}
 use Rattle.basics.specs.Bytes.{IsBytes}
 use Rattle.basics.specs.Numbers.{number_of, bytes_of}
-use Rattle.basics.specs.NumberLaws.{IsBytes-bytes_of, number_of-bytes_of-lt}
+use Rattle.basics.proofs.CallerLemmas.{IsBytes-bytes_of, number_of-bytes_of-lt}
 use Rattle.hex.specs.Hex.{encode_lower, lower_digits}
 use Rattle.hex.proofs.HexLemmas.{length-encode_with}
 use Rattle.memory_update.specs.declared.messages.Request.{Request}
@@ -18,8 +18,7 @@ use Rattle.text_lines.specs.Readings.{most_lines}
 use Rattle.text_lines.specs.Lines.{lines_of}
 use Rattle.secoc_words.specs.Written.{frame_words, judge_words, load_words, IsFrameLine, IsJudgeLine, IsLoad}
 use Rattle.text_lines.specs.Written.{written, is_word_byte, is_plain_word, is_writable}
-use Rattle.text_lines.proofs.CallerLemmas.{words-written, digits_of, sized_encode, hex_bytes_form-encode, bytes_form-word, digits_plain, first_digit}
-use Rattle.text_lines.proofs.CallerLemmas.{plain_word, bytes_word-plain, list_all-both, all_writable, read_from-words}
+use Rattle.text_lines.proofs.CallerLemmas.{words-written, digits_of, sized_encode, hex_bytes_form-encode, bytes_form-word, digits_plain, first_digit, plain_word, bytes_word-plain, list_all-both, all_writable, read_from-words}
 
 pub key_form-encode : (bytes : List ℕ) → IsBytes 16 bytes → key_form (encode_lower bytes) ≡ Some bytes
 unfolding key_form

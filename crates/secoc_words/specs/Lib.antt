@@ -5,4 +5,3 @@ pub mod KeyForms
 pub mod Texts
 pub mod Written
 pub mod Counting
-pub mod CountingLaws

@@ -2,10 +2,10 @@
 use Rattle.std.proofs.Common.{◌≡◌, ◌≢◌, ℕ, ◌+◌, ◌^◌, ◌<◌, ◌≤◌, List, ◌∷◌, ◌++◌, length, take, codes, get_or, refl, sym, ap, ◌∙◌, arith}
 use Rattle.std.proofs.lemmas.List.{append_cancel_left, length-append, take_at}
 use Rattle.basics.specs.Numbers.{number_of, bytes_of}
-use Rattle.basics.specs.NumberLaws.{length-bytes_of, number_of-bytes_of-lt, same_number}
+use Rattle.basics.proofs.CallerLemmas.{length-bytes_of, number_of-bytes_of-lt, same_number}
 use Rattle.she_cmac.specs.Cmac.{cmac}
 use Rattle.secured_pdu.specs.Frame.{authenticated_input, IsPayload}
-use Rattle.secured_pdu.specs.FrameLaws.{parts_same}
+use Rattle.secured_pdu.proofs.FrameLaws.{parts_same}
 use Rattle.secured_pdu.specs.Sync.{sync_input, sync_message, IsNonce, Synced, SharesMac}
 
 abbrev pub label : List ℕ

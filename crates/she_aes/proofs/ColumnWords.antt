@@ -8,7 +8,7 @@ use Rattle.std.proofs.lemmas.List.Elements.{All-cons, All-nil}
 use Rattle.std.proofs.lemmas.Nat.Bits.{bit_at_cat_low, bit_at_cat_high}
 use Rattle.basics.specs.Bytes.{IsBytes}
 use Rattle.basics.specs.Numbers.{number_of}
-use Rattle.basics.specs.NumberLaws.{to_be_bytes-is, bytes_of-number_of, number_of-lt}
+use Rattle.basics.proofs.CallerLemmas.{to_be_bytes-is, bytes_of-number_of, number_of-lt}
 use Rattle.she_aes.specs.Field.{product, cancelled, remainder, mul}
 use Rattle.she_aes.specs.Cipher.{circulant, xor_blocks, add_round_key}
 use Rattle.she_aes.specs.Columns.{in_columns}

@@ -6,12 +6,12 @@ use Rattle.std.specs.Int.Bits.{bit_xor, xor_lt}
 use Rattle.std.proofs.lemmas.List.Elements.{All-cons, All-replicate}
 use Rattle.std.proofs.lemmas.List.FromFn.{get_or-map-range_with_len}
 use Rattle.basics.specs.Numbers.{number_of}
-use Rattle.basics.specs.NumberLaws.{from_be_bytes-32}
+use Rattle.basics.proofs.CallerLemmas.{from_be_bytes-32}
 use Rattle.she_aes.specs.Field.{product, cancelled, remainder, mul, sub_byte}
 use Rattle.she_aes.specs.FieldFacts.{sub_byte-lt}
 use Rattle.she_aes.specs.ReadBytes.{ReadsBytes}
 use Rattle.she_aes.specs.Cipher.{IsBlock, column, xor_words, sub_word, rot_word, power_of_x, key_words, round_key, round_keys, after_rounds, add_round_key, sub_bytes, shift_rows, mix_columns, cipher, enc}
-use Rattle.she_aes.specs.CipherFacts.{IsBlock-bytes, IsBlock-from, power_of_x-lt, after_rounds-bytes, IsBlock-enc}
+use Rattle.she_aes.proofs.CipherFacts.{IsBlock-bytes, IsBlock-from, power_of_x-lt, after_rounds-bytes, IsBlock-enc}
 use Rattle.she_aes.specs.Columns.{in_columns}
 use Rattle.she_aes.specs.KeySteps.{next_round_key}
 use Rattle.she_aes.specs.RoundKeys.{plain_keys, IsPlainUnder}

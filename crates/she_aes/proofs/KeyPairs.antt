@@ -5,7 +5,7 @@ use Rattle.std.proofs.lemmas.List.FromFn.{get_or-map-range_with_len, length-map-
 use Rattle.std.specs.List.{range_with_len}
 use Rattle.she_aes.specs.Field.{product, cancelled, remainder, mul}
 use Rattle.she_aes.specs.Cipher.{IsBlock, power_of_x, key_words, round_key}
-use Rattle.she_aes.specs.CipherFacts.{IsBlock-bytes, IsBlock-from, power_of_x-lt, round_key-bytes}
+use Rattle.she_aes.proofs.CipherFacts.{IsBlock-bytes, IsBlock-from, power_of_x-lt, round_key-bytes}
 use Rattle.she_aes.specs.KeySteps.{next_round_key}
 use Rattle.she_aes.specs.Pairs.{pair_of, in_pairs, without_constant}
 use Rattle.she_aes.specs.RoundKeys.{added_key, last_added_key, added_keys}

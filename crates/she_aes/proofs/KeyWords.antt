@@ -2,7 +2,7 @@
 use Rattle.std.proofs.Common.{◌≡◌, ℕ, zero, suc, ◌+◌, ◌-◌, ◌*◌, ◌/◌, ◌%◌, ◌<◌, ◌≤◌, List, [], ◌∷◌, ◌++◌, length, get_or, refl, ap, sym, ◌∙◌, arith, lit<, slice_index, slice_index_or, inl, inr}
 use Rattle.std.proofs.lemmas.List.{length_push, get_or_append_left}
 use Rattle.std.proofs.lemmas.List.FromFn.{get_or-map-range_with_len}
-use Rattle.she_aes.specs.CipherFacts.{block_of_self}
+use Rattle.she_aes.proofs.CipherFacts.{block_of_self}
 use Rattle.she_aes.specs.Cipher.{block_of, word_of, word, xor_words, sub_word, rot_word, power_of_x, rcon, added_word, next_word, words_up_to, key_words, round_key, round_keys}
 use Rattle.she_aes.specs.KeySteps.{next_round_key}
 use Rattle.std.proofs.lemmas.Bool.{cases_lt, ne_eqb}

@@ -24,4 +24,6 @@ pub mod Turning
 pub mod GateLanes
 pub mod ColumnWords
 pub mod PlaneLanes
+pub mod CipherFacts
+pub mod ModeLaws
 pub mod CallerLemmas

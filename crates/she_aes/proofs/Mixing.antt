@@ -7,7 +7,7 @@ use Rattle.she_aes.specs.Field.{product, cancelled, remainder, mul}
 use Rattle.she_aes.specs.FieldFacts.{xor_swap, mul-xor}
 use Rattle.she_aes.specs.Cipher.{circulant, on_columns, mix_columns, inv_mix_columns}
 use Rattle.she_aes.specs.ReadBytes.{ReadsBytes}
-use Rattle.she_aes.specs.CipherFacts.{block_of_self}
+use Rattle.she_aes.proofs.CipherFacts.{block_of_self}
 
 -- ---- sums of four and sixteen
 

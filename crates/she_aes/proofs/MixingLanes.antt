@@ -8,7 +8,7 @@ use Rattle.she_aes.specs.Field.{product, cancelled, remainder, mul}
 use Rattle.she_aes.specs.FieldFacts.{mul-xor}
 use Rattle.she_aes.proofs.SBoxTable.{same_at_bytes}
 use Rattle.she_aes.specs.Cipher.{block_of, on_columns, circulant, mix_columns, inv_mix_columns}
-use Rattle.she_aes.specs.CipherFacts.{IsBlock-bytes, block_of_self}
+use Rattle.she_aes.proofs.CipherFacts.{IsBlock-bytes, block_of_self}
 use Rattle.she_aes.proofs.Mixing.{mix_columns-first}
 use Rattle.she_aes.proofs.Tables.{one_rule, triple_rule, quadruple_rule, quintuple_rule, none_rule}
 use Rattle.she_aes.proofs.Lanes.{IsVector, vector_is_block}

@@ -3,7 +3,7 @@ use Rattle.std.proofs.Common.{◌≡◌, List, ℕ, [], ◌∷◌, refl, ap, ◌
 use Rattle.std.specs.List.{All}
 use Rattle.std.proofs.lemmas.List.Elements.{All-head, All-tail}
 use Rattle.she_aes.specs.Cipher.{IsBlock, xor_blocks, enc, dec}
-use Rattle.she_aes.specs.CipherFacts.{length-dec, IsBlock-xor_blocks, IsBlock-enc}
+use Rattle.she_aes.proofs.CipherFacts.{length-dec, IsBlock-xor_blocks, IsBlock-enc}
 use Rattle.she_aes.specs.Modes.{ecb, ecb_inverse, cbc, cbc_inverse}
 use Rattle.she_aes.proofs.Undoing.{xor_blocks-xor_blocks, dec-enc, enc-dec}
 

@@ -9,7 +9,7 @@ use Rattle.std.proofs.lemmas.Simd.{map-map}
 use Rattle.she_aes.specs.Field.{product, cancelled, remainder, mul, sub_byte}
 use Rattle.she_aes.specs.FieldFacts.{xor_swap, mul-xor, mul-lt}
 use Rattle.she_aes.specs.Cipher.{IsBlock, block_of, xor_blocks, add_round_key, sub_bytes, shift_rows, circulant, mix_columns}
-use Rattle.she_aes.specs.CipherFacts.{IsBlock-bytes, IsBlock-from, block_of_self, sub_bytes-bytes, shift_rows-bytes, mix_columns-bytes}
+use Rattle.she_aes.proofs.CipherFacts.{IsBlock-bytes, IsBlock-from, block_of_self, sub_bytes-bytes, shift_rows-bytes, mix_columns-bytes}
 use Rattle.she_aes.specs.Substitution.{pair, inverse_by}
 use Rattle.she_aes.specs.Pairs.{pair_of, in_pairs, without_constant}
 use Rattle.she_aes.specs.declared.substitution.TheConstants.{LEFT, RIGHT, LEFT_PAIR, RIGHT_PAIR, LEFT_PAIR_DOUBLED, RIGHT_PAIR_DOUBLED, BYTE_OF_LOWER, BYTE_OF_UPPER}

@@ -8,7 +8,7 @@ use Rattle.std.proofs.lemmas.Nat.Bits.{same_from_bits_below}
 use Rattle.basics.specs.Numbers.{number_of}
 use Rattle.she_aes.specs.Field.{sub_byte}
 use Rattle.she_aes.specs.Cipher.{IsBlock, sub_bytes}
-use Rattle.she_aes.specs.CipherFacts.{IsBlock-bytes, sub_bytes-bytes}
+use Rattle.she_aes.proofs.CipherFacts.{IsBlock-bytes, sub_bytes-bytes}
 use Rattle.she_aes.specs.Columns.{in_columns}
 use Rattle.she_aes.specs.ReadBytes.{ReadsBytes}
 use Rattle.she_aes.specs.Gates.{substituted_bits}

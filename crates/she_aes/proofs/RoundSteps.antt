@@ -1,7 +1,7 @@
 -- The rounds of the cipher, over what a schedule holds, and those of its inverse.
 use Rattle.std.proofs.Common.{◌≡◌, ℕ, zero, suc, ◌+◌, ◌-◌, ◌<◌, ◌≤◌, List, [], length, get_or, refl, sym, ap, ◌∙◌, arith, lit<}
 use Rattle.she_aes.specs.Cipher.{IsBlock, xor_blocks, add_round_key, sub_bytes, shift_rows, mix_columns, key_words, round_key, round_keys, after_rounds, cipher, enc, inv_sub_bytes, inv_shift_rows, inv_mix_columns, undone_rounds, inverse_cipher, dec}
-use Rattle.she_aes.specs.CipherFacts.{IsBlock-bytes, IsBlock-from, after_rounds-bytes}
+use Rattle.she_aes.proofs.CipherFacts.{IsBlock-bytes, IsBlock-from, after_rounds-bytes}
 use Rattle.she_aes.specs.Pairs.{in_pairs, without_constant}
 use Rattle.she_aes.specs.RoundKeys.{IsAddedUnder}
 use Rattle.she_aes.proofs.KeyWords.{round_key-zero, get_or-round_keys}

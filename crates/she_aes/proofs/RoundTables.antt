@@ -7,12 +7,12 @@ use Rattle.std.proofs.lemmas.List.Elements.{All-cons, All-nil}
 use Rattle.std.proofs.lemmas.Bool.{agree_below, agree_below_at, eqb-true}
 use Rattle.basics.specs.Bytes.{IsBytes}
 use Rattle.basics.specs.Numbers.{number_of}
-use Rattle.basics.specs.NumberLaws.{to_be_bytes-is, bytes_of-number_of}
+use Rattle.basics.proofs.CallerLemmas.{to_be_bytes-is, bytes_of-number_of}
 use Rattle.she_aes.specs.Field.{product, cancelled, remainder, mul, sub_byte}
 use Rattle.she_aes.specs.FieldFacts.{mul-lt, sub_byte-lt}
 use Rattle.she_aes.proofs.SBoxTable.{s_box, s_box_is}
 use Rattle.she_aes.specs.Cipher.{column, circulant, sub_bytes, shift_rows, mix_columns}
-use Rattle.she_aes.specs.CipherFacts.{block_of_self}
+use Rattle.she_aes.proofs.CipherFacts.{block_of_self}
 use Rattle.she_aes.proofs.Mixing.{four, turned}
 use Rattle.she_aes.specs.RoundTables.{AreRoundTables, mixed_column}
 use Rattle.she_aes.specs.declared.by_tables.TheConstants.{ROW_0, ROW_1, ROW_2, ROW_3}

@@ -5,7 +5,7 @@ use Rattle.std.proofs.lemmas.List.FromFn.{fill_by_all, get_or-map-range_with_len
 use Rattle.she_aes.specs.Field.{sub_byte, inv_sub_byte}
 use Rattle.she_aes.specs.Cipher.{block_of, IsBlock, xor_blocks, add_round_key, sub_bytes, shift_rows, circulant, mix_columns, key_words, round_key, after_rounds, cipher, enc, inv_sub_bytes, inv_shift_rows, inv_mix_columns, undone_rounds, inverse_cipher, dec}
 use Rattle.she_aes.specs.ReadBytes.{ReadsBytes}
-use Rattle.she_aes.specs.CipherFacts.{block_of_self, IsBlock-bytes, add_round_key-bytes, sub_bytes-bytes, shift_rows-bytes, inv_shift_rows-bytes, inv_mix_columns-bytes, round_key-bytes, after_rounds-bytes, undone_rounds-bytes}
+use Rattle.she_aes.proofs.CipherFacts.{block_of_self, IsBlock-bytes, add_round_key-bytes, sub_bytes-bytes, shift_rows-bytes, inv_shift_rows-bytes, inv_mix_columns-bytes, round_key-bytes, after_rounds-bytes, undone_rounds-bytes}
 use Rattle.she_aes.proofs.SBoxFacts.{inv_sub_byte-sub_byte, sub_byte-inv_sub_byte}
 use Rattle.she_aes.proofs.Mixing.{inv_mix_columns-mix_columns, mix_columns-inv_mix_columns}
 

@@ -11,7 +11,5 @@ pub mod RoundTables
 pub mod RoundKeys
 pub mod Choice
 pub mod ReadBytes
-pub mod CipherFacts
 pub mod Modes
-pub mod ModeLaws
 pub mod Examples

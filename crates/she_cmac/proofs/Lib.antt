@@ -1,4 +1,5 @@
 pub mod LastPiece
 pub mod Doubling
 pub mod CmacByTable
+pub mod CmacLaws
 pub mod CallerLemmas

@@ -1,4 +1,3 @@
 pub mod Cmac
 pub mod Examples
-pub mod CmacLaws
 pub mod Took

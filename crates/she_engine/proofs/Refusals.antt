@@ -8,14 +8,12 @@ use Rattle.key_slots.specs.declared.memory.Slot.TheVariants.{Empty}
 use Rattle.key_slots.specs.declared.refusals.Erc.{Erc}
 use Rattle.key_slots.specs.declared.refusals.Erc.TheVariants.{KeyInvalid, KeyUpdateError}
 use Rattle.key_slots.specs.Authority.{is_pair}
-use Rattle.key_slots.specs.AuthorityLaws.{slots_of_pair}
+use Rattle.key_slots.proofs.CallerLemmas.{slots_of_pair, first_applying-append}
 use Rattle.key_slots.specs.Slots.{slot_at, counter_of, IsSlots}
 use Rattle.key_slots.specs.Usage.{first_applying}
-use Rattle.key_slots.specs.UsageLaws.{first_applying-append}
 use Rattle.memory_update.specs.Messages.{Carries, HasSlots, HeadOf, id_of, auth_of, request_mac}
-use Rattle.memory_update.specs.MessageLaws.{id_of-head, auth_of-head}
+use Rattle.memory_update.proofs.CallerLemmas.{id_of-head, auth_of-head, is_fit-carried, IsBlock-authorising_key}
 use Rattle.memory_update.specs.Loading.{key_in, is_meant, is_fit, head_refusals, authorising_key, Allows}
-use Rattle.memory_update.specs.LoadingLaws.{is_fit-carried, IsBlock-authorising_key}
 use Rattle.memory_update.specs.declared.messages.Head.{Head}
 use Rattle.memory_update.specs.declared.messages.Request.{Request}
 use Rattle.memory_update.specs.declared.messages.Update.{Update}

@@ -8,7 +8,7 @@ use Rattle.key_slots.specs.declared.refusals.Erc.TheVariants.{KeyInvalid, KeyEmp
 use Rattle.key_slots.specs.declared.usage.Purpose.{Purpose}
 use Rattle.key_slots.specs.Slots.{slot_at, is_empty, key_of}
 use Rattle.key_slots.specs.Usage.{usable, slot_refusals}
-use Rattle.key_slots.specs.UsageLaws.{none_of_first}
+use Rattle.key_slots.proofs.CallerLemmas.{none_of_first}
 use Rattle.memory_update.specs.Loading.{key_in}
 
 pub not_empty : (slots : List Slot) (s : ℕ) (good : Bool) (purpose : Purpose) → usable slots s good purpose ≡ None → is_empty (slot_at slots s) ≡ false

@@ -1,3 +1,4 @@
 pub mod Outputs
 pub mod DerivationByTable
+pub mod DerivationLaws
 pub mod CallerLemmas

@@ -3,11 +3,11 @@ use Rattle.std.proofs.Common.{◌≡◌, ℕ, ◌<◌, List, [], ◌∷◌, ◌+
 use Rattle.std.proofs.lemmas.List.Elements.{All-head, All-tail, All-cons, All-append, All-replicate}
 use Rattle.basics.specs.Bytes.{IsBytes}
 use Rattle.basics.specs.Numbers.{bytes_of}
-use Rattle.basics.specs.NumberLaws.{IsBytes-bytes_of}
+use Rattle.basics.proofs.CallerLemmas.{IsBytes-bytes_of}
 use Rattle.key_slots.specs.Flags.{flags_number}
 use Rattle.key_slots.specs.declared.memory.Slot.{Slot}
 use Rattle.key_slots.specs.declared.memory.Slot.TheVariants.{Empty, Filled}
-use Rattle.key_slots.specs.FlagsLaws.{same_flags, flags_number-lt}
+use Rattle.key_slots.proofs.CallerLemmas.{same_flags, flags_number-lt}
 use Rattle.key_slots.specs.Slots.{IsSlot}
 use Rattle.slot_disk.specs.Cell.{slot_cell, HoldsSlot, HoldSlots}
 use Rattle.slot_disk.proofs.Parts.{first_is, flags_are, counter_is, key_is}

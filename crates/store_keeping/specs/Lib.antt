@@ -1,4 +1,2 @@
 pub mod Keeping
-pub mod KeepingLaws
 pub mod DiskTurns
-pub mod DiskTurnLaws

@@ -5,15 +5,14 @@ use Rattle.std.proofs.lemmas.Bool.{cases_Bool, cases_lt}
 use Rattle.std.proofs.lemmas.Option.{same_Some}
 use Rattle.cut_disk.specs.State.{Told}
 use Rattle.cut_disk.specs.Images.{splice, firm, Image, EachImage}
-use Rattle.cut_disk.specs.ImageLaws.{image_is_read, image_of_firm}
+use Rattle.cut_disk.proofs.CallerLemmas.{image_is_read, image_of_firm}
 use Rattle.cell_store.specs.declared.kinds.Version.TheVariants.{One}
 use Rattle.cell_store.specs.Layout.{SameOutside, part, twin_layout}
 use Rattle.cell_store.specs.Twin.{is_live, cell_at}
 use Rattle.cell_store.specs.Copies.{other, copy}
 use Rattle.cell_store.specs.Store.{Stands}
 use Rattle.cell_store.specs.Writing.{LeavesOutside, ClosesGate, LeavesUnfinished, Unfinished}
-use Rattle.cell_store.proofs.CallerLemmas.{part-same, SameOutside-refl, SameOutside-splice, SameOutside-widen, side_bounds, cell_at-kept}
-use Rattle.cell_store.proofs.CallerLemmas.{cell_at-others, cell_at-unfinished, closing, filling, opening, torn-outside}
+use Rattle.cell_store.proofs.CallerLemmas.{part-same, SameOutside-refl, SameOutside-splice, SameOutside-widen, side_bounds, cell_at-kept, cell_at-others, cell_at-unfinished, closing, filling, opening, torn-outside}
 use Rattle.store_plan.specs.declared.planning.Write.{Write}
 use Rattle.store_plan.specs.declared.planning.Plan.{Plan}
 use Rattle.store_plan.specs.Plans.{WritesAt, PlansPut, CutWithin, in_first, in_second, in_third, IsEmptyPlan, applied, applied_write, bytes_written}

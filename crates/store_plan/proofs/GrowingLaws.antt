@@ -5,9 +5,9 @@ use Rattle.std.proofs.lemmas.List.{places, same_lists, ext_get_or}
 use Rattle.std.proofs.lemmas.Slice.Eq.{bytes_eq-Decides}
 use Rattle.std.specs.Str.{bytes_eq}
 use Rattle.basics.specs.Numbers.{bytes_of}
-use Rattle.basics.specs.NumberLaws.{length-bytes_of}
+use Rattle.basics.proofs.CallerLemmas.{length-bytes_of}
 use Rattle.cut_disk.specs.Images.{splice}
-use Rattle.cut_disk.specs.Splices.{splice-beside, length-splice, get_or-splice_before, get_or-splice_in, get_or-splice_behind}
+use Rattle.cut_disk.proofs.CallerLemmas.{splice-beside, length-splice, get_or-splice_before, get_or-splice_in, get_or-splice_behind}
 use Rattle.cell_store.specs.declared.kinds.Version.TheVariants.{One}
 use Rattle.cell_store.specs.Layout.{SameOutside, part, header, twin_layout}
 use Rattle.cell_store.specs.Twin.{twin_size, first_at, second_at, cell_of, cell_at, live_copy, fresh_cell}

@@ -4,13 +4,12 @@ use Rattle.std.specs.List.{flat_map}
 use Rattle.std.proofs.lemmas.Bool.{cases_lt}
 use Rattle.std.proofs.lemmas.List.{get_or-replicate, length-replicate, take_all}
 use Rattle.cut_disk.specs.Images.{splice}
-use Rattle.cut_disk.specs.Splices.{splice-beside, length-splice}
+use Rattle.cut_disk.proofs.CallerLemmas.{splice-beside, length-splice}
 use Rattle.cell_store.specs.declared.kinds.Version.TheVariants.{One}
 use Rattle.cell_store.specs.Layout.{SameOutside, part, header, twin_layout}
 use Rattle.cell_store.specs.Twin.{first_at, second_at, cell_of, cell_at, fresh_cell}
 use Rattle.cell_store.specs.Store.{fresh_cells, fresh_store}
-use Rattle.cell_store.proofs.CallerLemmas.{part-same, part-splice, SameOutside-splice, length-header, Sized, length-pairs, length-fresh_cell}
-use Rattle.cell_store.proofs.CallerLemmas.{cell_at-fresh, splice_more, splice-none, splice-all}
+use Rattle.cell_store.proofs.CallerLemmas.{part-same, part-splice, SameOutside-splice, length-header, Sized, length-pairs, length-fresh_cell, cell_at-fresh, splice_more, splice-none, splice-all}
 
 -- two images that differ in one cell alone hold the same in every other
 pub cell_beside : (x y : List ℕ) (i j : ℕ) → SameOutside (first_at i) 68 x y → j ≢ i → cell_at y j ≡ cell_at x j

@@ -7,3 +7,4 @@ pub use Rattle.text_lines.proofs.WrittenDigits.{all_writable, bytes_form-word, b
 pub use Rattle.text_lines.proofs.WrittenDigits.{digits_plain, first_digit, hex_bytes_form-encode, list_all-both}
 pub use Rattle.text_lines.proofs.WrittenDigits.{plain_word, read_from-words, sized_encode}
 pub use Rattle.text_lines.proofs.WrittenLines.{words-written}
+pub use Rattle.text_lines.proofs.SpacedLaws.{written-spaced}

@@ -12,4 +12,5 @@ pub mod Unplaced
 pub mod Values
 pub mod WrittenDigits
 pub mod WrittenLines
+pub mod SpacedLaws
 pub mod CallerLemmas

@@ -7,5 +7,4 @@ pub mod Spans
 pub mod Texts
 pub mod Written
 pub mod Spaced
-pub mod SpacedLaws
 pub mod LineRows

@@ -13,7 +13,7 @@ use Rattle.text_lines.specs.Spans.{word_at, piece_at, line_at}
 use Rattle.trace_audit.specs.declared.map_lines.MapLine.{MapLine}
 use Rattle.trace_audit.specs.declared.auditing.FrameTally.{FrameTally}
 use Rattle.secoc_words.specs.Counting.{next_counter, last_accepted}
-use Rattle.secoc_words.specs.CountingLaws.{last_accepted-more}
+use Rattle.secoc_words.proofs.CallerLemmas.{last_accepted-more}
 use Rattle.trace_audit.specs.Auditing.{Finding, other, too_short, verdict, finding_text, is_other, is_other_tally, tally_of, others_in, finding_accepts, first_counters, counter_of_place, AuditsLine, none, more}
 use Rattle.trace_audit.specs.Findings.{AddsFinding, Audited}
 

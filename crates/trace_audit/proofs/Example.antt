@@ -3,8 +3,7 @@ use Rattle.std.proofs.Common.{◌≡◌, ◌≤◌, [], ◌∷◌, length, refl,
 use Rattle.std.specs.Prelude.{Some}
 use Rattle.bus_port.specs.Sink.{SinkState}
 use Rattle.program_edge.specs.Input.{input_limit}
-use Rattle.program_edge.specs.InputLaws.{Lacks-unread, Offers-clean}
-use Rattle.program_edge.specs.EndingLaws.{EndsInRow-memory}
+use Rattle.program_edge.proofs.CallerLemmas.{Lacks-unread, Offers-clean, EndsInRow-memory}
 use Rattle.trace_audit.specs.Rows.{AuditInputs, ComesInAudit, no_memory}
 use Rattle.trace_audit.specs.Audits.{Audits}
 use Rattle.trace_audit.specs.Rows.{IsExampleAudit}

@@ -4,7 +4,7 @@ use Rattle.std.specs.List.{slice_get}
 use Rattle.std.proofs.lemmas.List.{same_from_push, length_push}
 use Rattle.std.proofs.lemmas.Option.{none-some, same_Some}
 use Rattle.secured_pdu.specs.Verdict.{Outcome, Verdict}
-use Rattle.secured_pdu.specs.VerdictLaws.{same_from_Verdict}
+use Rattle.secured_pdu.proofs.CallerLemmas.{same_from_Verdict}
 use Rattle.text_lines.specs.Lines.{TextLine}
 use Rattle.trace_audit.specs.declared.map_lines.MapLine.{MapLine}
 use Rattle.trace_audit.specs.declared.frames.LogFrame.{LogFrame}

@@ -6,7 +6,7 @@ use Rattle.program_edge.specs.declared.input.InputFault.TheVariants as input
 use Rattle.text_lines.specs.Readings.{Fault}
 use Rattle.program_edge.specs.Rows.{Row}
 use Rattle.program_edge.specs.Inputs.{Reading, IsUnread, ReadsWhole}
-use Rattle.program_edge.specs.InputLaws.{Lacks-whole}
+use Rattle.program_edge.proofs.CallerLemmas.{Lacks-whole}
 use Rattle.trace_audit.specs.declared.map_lines.MapLine.{MapLine}
 use Rattle.trace_audit.specs.declared.run.Audit.{Audit}
 use Rattle.text_lines.specs.LineRows.{NoLines}

@@ -6,7 +6,7 @@ use Rattle.secured_pdu.specs.Verdict.{Accepted, FreshnessFailure, VerificationFa
 use Rattle.text_lines.specs.Lines.{TextLine}
 use Rattle.secoc_words.specs.Counting.{KeepsCounters, AcceptedRise}
 use Rattle.secoc_words.specs.Counting as counting
-use Rattle.secoc_words.specs.CountingLaws.{KeepsCounters-rise}
+use Rattle.secoc_words.proofs.CallerLemmas.{KeepsCounters-rise}
 use Rattle.trace_audit.specs.declared.map_lines.MapLine.{MapLine}
 use Rattle.trace_audit.specs.Auditing.{Finding, other, too_short, verdict, finding_accepts, first_counters, counter_of_place, AuditsLine, AuditsEach, none, more}
 

@@ -4,14 +4,13 @@ use Rattle.std.specs.Prelude.{Some, Result, Ok, Err, OnOk, OnErr}
 use Rattle.std.proofs.lemmas.Grind.{flat_map-append}
 use Rattle.std.proofs.Math.Seq.{take-append-add}
 use Rattle.bus_port.specs.Fault.{Rose}
-use Rattle.basics.specs.CountLaws.{rose_after}
+use Rattle.basics.proofs.CallerLemmas.{rose_after}
 use Rattle.bus_port.specs.Source.{SourceState, Came, HandsOut, ReadFails}
 use Rattle.bus_port.specs.Sink.{SinkState, Appended}
-use Rattle.bus_port.specs.SourceLaws.{Came-nothing, Came-more}
-use Rattle.bus_port.specs.SinkLaws.{Appended-more, Appended-nothing}
+use Rattle.bus_port.proofs.CallerLemmas.{Came-nothing, Came-more, Appended-more, Appended-nothing}
 use Rattle.bus_port.specs.Whole.{AppendedPart}
 use Rattle.program_edge.specs.Told.{AppendedWell, EndingTold}
-use Rattle.program_edge.specs.ToldLaws.{AppendedWell-more}
+use Rattle.program_edge.proofs.CallerLemmas.{AppendedWell-more}
 use Rattle.program_edge.specs.Rows.{row_of}
 use Rattle.program_edge.specs.Inputs.{Reading}
 use Rattle.trace_audit.specs.Auditing.{Finding}

@@ -6,8 +6,7 @@ use Rattle.bus_port.specs.Sink.{SinkState}
 use Rattle.program_edge.specs.Rows.{Row}
 use Rattle.program_edge.specs.declared.input.InputFault.TheVariants as input
 use Rattle.program_edge.specs.Inputs.{Reading, IsUnread, ReadsWhole}
-use Rattle.program_edge.specs.InputLaws.{Lacks-whole}
-use Rattle.program_edge.specs.EndingLaws.{EndsInRow-more}
+use Rattle.program_edge.proofs.CallerLemmas.{Lacks-whole, EndsInRow-more}
 use Rattle.trace_audit.specs.Rows.{AuditInputs}
 use Rattle.text_lines.specs.Lines.{TextLine, lines_of}
 use Rattle.text_lines.specs.declared.fault.Cause.{Cause}

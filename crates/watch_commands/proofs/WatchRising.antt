@@ -3,7 +3,7 @@ use Rattle.std.proofs.Common.{ℕ, ◌+◌, List, ◌++◌, length, map, sym, ap
 use Rattle.std.specs.Prelude.{slice_index}
 use Rattle.secoc_words.specs.Counting.{AcceptedRise}
 use Rattle.secoc_words.specs.Counting as counting
-use Rattle.secoc_words.specs.CountingLaws.{KeepsCounters-rise}
+use Rattle.secoc_words.proofs.CallerLemmas.{KeepsCounters-rise}
 use Rattle.trace_audit.specs.declared.map_lines.MapLine.{MapLine}
 use Rattle.trace_audit.specs.declared.frames.OtherLine.TheVariants as kind
 use Rattle.trace_audit.specs.Auditing.{Finding, other, finding_accepts, first_counters, counter_of_place}

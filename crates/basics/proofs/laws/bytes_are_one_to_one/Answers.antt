@@ -1,4 +1,4 @@
-use Rattle.basics.specs.NumberLaws.{same_number}
+use Rattle.basics.proofs.CallerLemmas.{same_number}
 use Rattle.basics.proofs.laws.bytes_are_one_to_one.Goals as goal
 
 pub returns : goal.returns

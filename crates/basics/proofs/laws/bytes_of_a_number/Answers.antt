@@ -1,4 +1,4 @@
-use Rattle.basics.specs.NumberLaws.{IsBytes-bytes_of}
+use Rattle.basics.proofs.CallerLemmas.{IsBytes-bytes_of}
 use Rattle.basics.proofs.laws.bytes_of_a_number.Goals as goal
 
 pub returns : goal.returns

@@ -1,4 +1,4 @@
-use Rattle.basics.specs.NumberLaws.{from_be_bytes-16, from_be_bytes-32, from_be_bytes-64, from_be_bytes-128}
+use Rattle.basics.proofs.CallerLemmas.{from_be_bytes-16, from_be_bytes-32, from_be_bytes-64, from_be_bytes-128}
 use Rattle.basics.proofs.laws.from_be_bytes_gives_the_number.Goals as goal
 
 pub returns-clause-u16 : goal.returns-clause-u16

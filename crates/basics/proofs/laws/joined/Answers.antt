@@ -1,4 +1,4 @@
-use Rattle.basics.specs.NumberLaws.{number_of-append, bytes_of-append}
+use Rattle.basics.proofs.CallerLemmas.{number_of-append, bytes_of-append}
 use Rattle.basics.proofs.laws.joined.Goals as goal
 
 pub returns-clause-number : goal.returns-clause-number

@@ -1,4 +1,4 @@
-use Rattle.basics.specs.NumberLaws.{same_bytes}
+use Rattle.basics.proofs.CallerLemmas.{same_bytes}
 use Rattle.basics.proofs.laws.number_is_one_to_one.Goals as goal
 
 pub returns : goal.returns

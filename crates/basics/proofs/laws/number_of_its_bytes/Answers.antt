@@ -1,4 +1,4 @@
-use Rattle.basics.specs.NumberLaws.{number_of-bytes_of, number_of-bytes_of-lt}
+use Rattle.basics.proofs.CallerLemmas.{number_of-bytes_of, number_of-bytes_of-lt}
 use Rattle.basics.proofs.laws.number_of_its_bytes.Goals as goal
 
 pub returns-clause-lowest : goal.returns-clause-lowest

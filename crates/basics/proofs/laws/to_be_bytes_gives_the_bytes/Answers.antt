@@ -1,4 +1,4 @@
-use Rattle.basics.specs.NumberLaws.{to_be_bytes-is}
+use Rattle.basics.proofs.CallerLemmas.{to_be_bytes-is}
 use Rattle.basics.proofs.laws.to_be_bytes_gives_the_bytes.Goals as goal
 
 pub returns : goal.returns

@@ -1,8 +1,7 @@
 use Rattle.std.proofs.Common.{arith, rules, map}
 use Rattle.bus_commands.specs.Replays.{ReplayTurns}
 use Rattle.bus_commands.specs.Steps.{refused_replay, first_done}
-use Rattle.bus_world.specs.StartAnswerLaws.{Comes-unstarted}
-use Rattle.bus_world.specs.TurnLaws.{as_many_nodes}
+use Rattle.bus_world.proofs.CallerLemmas.{Comes-unstarted, as_many_nodes}
 use Rattle.bus_commands.proofs.WholeRun.{replay_stays}
 use Rattle.bus_commands.proofs.replay.replay.Goals as goal
 

@@ -1,5 +1,5 @@
 use Rattle.std.proofs.Common.{refl}
-use Rattle.bus_world.specs.StartAnswerLaws.{same_known}
+use Rattle.bus_world.proofs.CallerLemmas.{same_known}
 use Rattle.bus_commands.specs.StartRows.{disks_between}
 use Rattle.bus_commands.specs.Rows.{without_disks, in_row}
 use Rattle.bus_commands.proofs.Doing.{ends_lines, ends_world}

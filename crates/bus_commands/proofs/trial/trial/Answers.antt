@@ -1,8 +1,7 @@
 use Rattle.std.proofs.Common.{arith, rules}
 use Rattle.bus_world.specs.declared.start.Start.TheVariants.{Format}
 use Rattle.bus_commands.specs.Steps.{refused_trial}
-use Rattle.bus_world.specs.StartAnswerLaws.{Comes-unstarted}
-use Rattle.bus_world.specs.TurnLaws.{as_many_nodes}
+use Rattle.bus_world.proofs.CallerLemmas.{Comes-unstarted, as_many_nodes}
 use Rattle.bus_commands.proofs.Summing.{summed_turns}
 use Rattle.bus_commands.proofs.Summed.{Comes-summed}
 use Rattle.bus_commands.proofs.trial.trial.Goals as goal

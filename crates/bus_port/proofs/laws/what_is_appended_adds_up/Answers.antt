@@ -1,4 +1,4 @@
-use Rattle.bus_port.specs.SinkLaws.{Appended-more}
+use Rattle.bus_port.proofs.CallerLemmas.{Appended-more}
 use Rattle.bus_port.proofs.laws.what_is_appended_adds_up.Goals as goal
 
 pub returns : goal.returns

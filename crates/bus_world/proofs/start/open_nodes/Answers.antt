@@ -6,7 +6,7 @@ use Rattle.bus_world.specs.declared.start.Start.{Start}
 use Rattle.bus_world.specs.declared.start.StartFault.{StartFault}
 use Rattle.bus_world.specs.Starts.{HasRoom, NotStarted}
 use Rattle.bus_world.specs.StartRows.{start_row}
-use Rattle.bus_world.specs.StartRowLaws.{room_not_9}
+use Rattle.bus_world.proofs.StartRowLaws.{room_not_9}
 use Rattle.bus_world.proofs.start.open_nodes.Goals as goal
 
 unread_in_room : {A : Type 0} (start : Start) (bus : NamedBus) (before after : List DiskState) (P : Type 0) (r : Result A StartFault) → HasRoom bus before

@@ -2,7 +2,7 @@ use Rattle.std.specs.Prelude.{[], ◌∷◌}
 use Rattle.std.proofs.Common.{arith, ap, subst}
 use Rattle.cut_disk.specs.State.{Fail}
 use Rattle.cut_disk.specs.Calls.{Runs}
-use Rattle.cut_disk.specs.CallLaws.{runs_more}
+use Rattle.cut_disk.proofs.CallerLemmas.{runs_more}
 use Rattle.secoc_node.specs.State.{NodeState}
 use Rattle.bus_world.proofs.Turning.{arms_no_cut}
 use Rattle.bus_world.proofs.turns.fail.Goals as goal

@@ -7,7 +7,7 @@ use Rattle.cut_disk.specs.Memory.{disk_of}
 use Rattle.cut_disk.specs.MemDisk.{contents}
 use Rattle.cut_disk.specs.declared.mem_disk.MemDisk.{MemDisk}
 use Rattle.program_edge.specs.Inputs.{Reading}
-use Rattle.program_edge.specs.InputLaws.{Offers-clean}
+use Rattle.program_edge.proofs.CallerLemmas.{Offers-clean}
 use Rattle.campaign_commands.specs.declared.example.TheConstants.{EXAMPLE}
 use Rattle.campaign_commands.specs.Rows.{CampaignDisks, AreTwo}
 use Rattle.campaign_commands.proofs.Known.{campaigns_known}

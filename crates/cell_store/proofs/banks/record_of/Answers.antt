@@ -2,7 +2,7 @@ use Rattle.std.proofs.Common.{◌∙◌, rules}
 use Rattle.std.proofs.lemmas.List.{append-nil}
 use Rattle.std.specs.Int.{w16}
 use Rattle.basics.specs.Numbers.{bytes_of}
-use Rattle.basics.specs.NumberLaws.{to_be_bytes-is}
+use Rattle.basics.proofs.CallerLemmas.{to_be_bytes-is}
 use Rattle.cell_store.proofs.banks.record_of.Goals as goal
 
 pub returns : goal.returns

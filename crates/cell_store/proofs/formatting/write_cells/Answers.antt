@@ -1,7 +1,7 @@
 -- The writes, and then a sync.
 use Rattle.std.proofs.Common.{arith, sym, ◌∙◌}
 use Rattle.std.proofs.lemmas.Result.{on_err_weaker}
-use Rattle.cut_disk.specs.CallLaws.{runs_then, runs_more, grows_after, grows_of_call}
+use Rattle.cut_disk.proofs.CallerLemmas.{runs_then, runs_more, grows_after, grows_of_call}
 use Rattle.cell_store.proofs.Results.{OnOk-from, OnErr-from}
 use Rattle.cell_store.proofs.formatting.write_cells.Goals as goal
 

@@ -1,6 +1,6 @@
 -- One write a cell.
 use Rattle.std.proofs.Common.{◌≡◌, ◌+◌, ◌*◌, ◌∙◌, sym, refl, length, arith}
-use Rattle.cut_disk.specs.CallLaws.{runs_then, runs_more}
+use Rattle.cut_disk.proofs.CallerLemmas.{runs_then, runs_more}
 use Rattle.cell_store.specs.Layout.{base}
 use Rattle.cell_store.proofs.WritingLaws.{outside-none, outside-more, writes-tear}
 use Rattle.cell_store.proofs.FormatLaws.{pairs_none, pairs_more, writes_same}

@@ -1,7 +1,7 @@
 -- One bank after the other, and then a sync.
 use Rattle.std.proofs.Common.{◌≡◌, ◌+◌, ◌*◌, ◌∙◌, ◌∷◌, sym, length, replicate, arith}
 use Rattle.std.proofs.lemmas.Result.{on_ok_weaker, on_err_weaker}
-use Rattle.cut_disk.specs.CallLaws.{runs_then, runs_join, runs_more, grows_after, grows_of_call}
+use Rattle.cut_disk.proofs.CallerLemmas.{runs_then, runs_join, runs_more, grows_after, grows_of_call}
 use Rattle.cell_store.specs.Layout.{base}
 use Rattle.cell_store.specs.Log.{live_bank}
 use Rattle.cell_store.proofs.Results.{OnOk-from, OnErr-from}

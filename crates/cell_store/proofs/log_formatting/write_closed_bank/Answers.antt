@@ -2,7 +2,7 @@
 use Rattle.std.proofs.Common.{◌≡◌, ℕ, ◌+◌, ◌*◌, ◌∙◌, [], ◌∷◌, ◌++◌, sym, ap, refl, replicate, arith}
 use Rattle.std.proofs.lemmas.List.{length-replicate}
 use Rattle.std.proofs.lemmas.Result.{on_ok_weaker}
-use Rattle.cut_disk.specs.CallLaws.{runs_of_call, runs_join, runs_more}
+use Rattle.cut_disk.proofs.CallerLemmas.{runs_of_call, runs_join, runs_more}
 use Rattle.cell_store.proofs.WroteLaws.{wrote-call, wrote-then, wrote-same, loosens-widen, loosens-join, loosens-tears, writes-loosens}
 use Rattle.cell_store.proofs.log_formatting.write_closed_bank.Goals as goal
 

@@ -1,6 +1,6 @@
 -- One write a cell.
 use Rattle.std.proofs.Common.{◌+◌, ◌*◌, ◌∙◌, sym, refl, length, arith}
-use Rattle.cut_disk.specs.CallLaws.{runs_then, runs_more}
+use Rattle.cut_disk.proofs.CallerLemmas.{runs_then, runs_more}
 use Rattle.cell_store.proofs.FormatLaws.{tears_sized}
 use Rattle.cell_store.proofs.WroteLaws.{chunks-none, chunk-more, chunk-failed, length-front, front-more}
 use Rattle.cell_store.proofs.log_formatting.write_list.Goals as goal

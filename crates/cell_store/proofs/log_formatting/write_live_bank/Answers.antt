@@ -3,7 +3,7 @@ use Rattle.std.proofs.Common.{◌≡◌, ℕ, ◌+◌, ◌*◌, ◌∙◌, [], �
 use Rattle.std.specs.List.{flat_map}
 use Rattle.std.proofs.lemmas.List.{length-replicate}
 use Rattle.std.proofs.lemmas.Result.{on_ok_weaker}
-use Rattle.cut_disk.specs.CallLaws.{runs_of_call, runs_join, runs_more}
+use Rattle.cut_disk.proofs.CallerLemmas.{runs_of_call, runs_join, runs_more}
 use Rattle.cell_store.proofs.BankLaws.{length-cells}
 use Rattle.cell_store.proofs.WroteLaws.{wrote-call, wrote-then, loosens-widen, loosens-join, loosens-tears, writes-loosens}
 use Rattle.cell_store.proofs.log_formatting.write_live_bank.Goals as goal

@@ -1,7 +1,7 @@
 -- A blank, both banks, and then the header.
 use Rattle.std.proofs.Common.{◌+◌, ◌*◌, None, arith, length}
 use Rattle.std.proofs.lemmas.Result.{on_ok_weaker, on_err_weaker}
-use Rattle.cut_disk.specs.CallLaws.{runs_join, runs_more, grows_then, grows_after}
+use Rattle.cut_disk.proofs.CallerLemmas.{runs_join, runs_more, grows_then, grows_after}
 use Rattle.cell_store.specs.Layout.{log_layout}
 use Rattle.cell_store.proofs.FreshStands.{length-fresh_log, log-rest, fresh_stands}
 use Rattle.cell_store.proofs.FormatLaws.{formatted, unformed-blank, unformed-cells, unformed-header, lasts_same, lasts_at, tears_sized, tears_at}

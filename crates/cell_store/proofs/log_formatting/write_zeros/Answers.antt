@@ -1,7 +1,7 @@
 -- One write of 32 bytes each.
 use Rattle.std.proofs.Common.{ℕ, ◌+◌, ◌*◌, ◌∙◌, sym, refl, replicate, arith}
 use Rattle.std.proofs.lemmas.List.{length-replicate}
-use Rattle.cut_disk.specs.CallLaws.{runs_then, runs_more}
+use Rattle.cut_disk.proofs.CallerLemmas.{runs_then, runs_more}
 use Rattle.cell_store.proofs.WroteLaws.{chunks-none, chunk-more, chunk-failed, zeros-more}
 use Rattle.cell_store.proofs.log_formatting.write_zeros.Goals as goal
 

@@ -1,6 +1,6 @@
 use Rattle.std.proofs.Common.{ap, arith, refl, sym, get_or, [], ◌∷◌, ◌∙◌}
 use Rattle.basics.specs.Numbers.{number_of}
-use Rattle.basics.specs.NumberLaws.{from_be_bytes-16}
+use Rattle.basics.proofs.CallerLemmas.{from_be_bytes-16}
 use Rattle.cell_store.proofs.LogReadingLaws.{part-two}
 use Rattle.cell_store.proofs.log_reading.number_of.Goals as goal
 

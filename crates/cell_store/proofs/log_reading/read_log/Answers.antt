@@ -1,6 +1,6 @@
 use Rattle.std.proofs.Common.{◌+◌, length, ◌∙◌, arith}
 use Rattle.std.proofs.lemmas.Result.{err_from_is_err_and}
-use Rattle.cut_disk.specs.CallLaws.{grows_then}
+use Rattle.cut_disk.proofs.CallerLemmas.{grows_then}
 use Rattle.cell_store.specs.Layout.{log_layout}
 use Rattle.cell_store.specs.ReadOrder.{log_reads, log_reads_to}
 use Rattle.cell_store.proofs.ReadingLaws.{header-leaves, header-finds, reads_join, reads_more}

@@ -1,6 +1,6 @@
 use Rattle.std.proofs.Common.{◌≡◌, length, arith, ◌∙◌}
 use Rattle.std.proofs.lemmas.Result.{err_from_is_err_and}
-use Rattle.cut_disk.specs.CallLaws.{runs_join, runs_more, grows_after, grows_then}
+use Rattle.cut_disk.proofs.CallerLemmas.{runs_join, runs_more, grows_after, grows_then}
 use Rattle.cell_store.specs.ReadOrder.{reads, reads_to}
 use Rattle.cell_store.specs.Moving.{move_calls}
 use Rattle.cell_store.proofs.TwinSteps.{leaves-runs}

@@ -1,7 +1,7 @@
 -- All behind the header, and then the header.
 use Rattle.std.proofs.Common.{None, length, arith}
 use Rattle.std.proofs.lemmas.Result.{on_ok_weaker, on_err_weaker}
-use Rattle.cut_disk.specs.CallLaws.{runs_join, runs_more, grows_then}
+use Rattle.cut_disk.proofs.CallerLemmas.{runs_join, runs_more, grows_then}
 use Rattle.cell_store.proofs.FormatLaws.{lasts_same, lasts_at, tears_sized, tears_at}
 use Rattle.cell_store.proofs.Results.{OnOk-from, OnErr-from}
 use Rattle.cell_store.proofs.MovingLaws.{last-fresh, last-behind, last-header}

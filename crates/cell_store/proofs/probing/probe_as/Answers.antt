@@ -1,5 +1,5 @@
 use Rattle.std.proofs.Common.{ℕ, List, subst, arith}
-use Rattle.cut_disk.specs.CallLaws.{grows_of_call}
+use Rattle.cut_disk.proofs.CallerLemmas.{grows_of_call}
 use Rattle.cell_store.specs.Store.{Probes}
 use Rattle.cell_store.proofs.ReadingLaws.{read_done, read_failed, told-head}
 use Rattle.cell_store.proofs.probing.probe_as.Goals as goal

@@ -1,7 +1,7 @@
 use Rattle.std.proofs.Common.{sym, ◌∙◌, arith}
 use Rattle.std.proofs.lemmas.Bool.{false≢true}
 use Rattle.std.proofs.lemmas.Result.{err_from_is_err_and}
-use Rattle.cut_disk.specs.CallLaws.{grows_of_call}
+use Rattle.cut_disk.proofs.CallerLemmas.{grows_of_call}
 use Rattle.cell_store.proofs.ReadingLaws.{read_done, read_failed, told-head}
 use Rattle.cell_store.proofs.reading.read_header.Goals as goal
 

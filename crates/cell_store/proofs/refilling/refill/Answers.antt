@@ -1,5 +1,5 @@
 use Rattle.std.proofs.Common.{length, set, arith, ap, refl, ◌∙◌}
-use Rattle.cut_disk.specs.CallLaws.{runs_more}
+use Rattle.cut_disk.proofs.CallerLemmas.{runs_more}
 use Rattle.cell_store.specs.Copies.{other}
 use Rattle.cell_store.specs.Log.{bank_at, bank_rest}
 use Rattle.cell_store.proofs.GateLaws.{most-any}

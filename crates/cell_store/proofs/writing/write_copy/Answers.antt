@@ -1,6 +1,6 @@
 use Rattle.std.proofs.Common.{◌≡◌, suc, length, sym, ap, ◌∙◌, arith}
 use Rattle.std.proofs.lemmas.Result.{on_ok_weaker, on_err_weaker}
-use Rattle.cut_disk.specs.CallLaws.{runs_more}
+use Rattle.cut_disk.proofs.CallerLemmas.{runs_more}
 use Rattle.cell_store.proofs.GateLaws.{is_live-wide, most-any, gated-lasts, gated-leaves}
 use Rattle.cell_store.proofs.writing.write_copy.Goals as goal
 

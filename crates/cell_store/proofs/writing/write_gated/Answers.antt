@@ -1,6 +1,6 @@
 use Rattle.std.proofs.Common.{◌+◌, [], ◌∷◌, length, refl, arith}
 use Rattle.std.proofs.lemmas.Result.{on_ok_weaker, on_err_weaker}
-use Rattle.cut_disk.specs.CallLaws.{runs_join, runs_more}
+use Rattle.cut_disk.proofs.CallerLemmas.{runs_join, runs_more}
 use Rattle.cell_store.proofs.GateLaws.{filling, opening, opened, most-closing, most-filling, most-opening, unfinished-outside, lasts-outside, either-outside}
 use Rattle.cell_store.proofs.WritingLaws.{torn-outside}
 use Rattle.cell_store.proofs.Results.{OnErr-from}

@@ -1,7 +1,6 @@
 use Rattle.std.proofs.Common.{arith, rules}
 use Rattle.bus_world.specs.declared.start.Start.TheVariants.{Format}
-use Rattle.bus_world.specs.StartAnswerLaws.{Comes-unstarted}
-use Rattle.bus_world.specs.TurnLaws.{as_many_nodes}
+use Rattle.bus_world.proofs.CallerLemmas.{Comes-unstarted, as_many_nodes}
 use Rattle.chart_commands.specs.Steps.{refused_chart, kept_lines}
 use Rattle.chart_commands.proofs.Drawing.{of_events, Answers-charted}
 use Rattle.chart_commands.proofs.charting.chart.Goals as goal

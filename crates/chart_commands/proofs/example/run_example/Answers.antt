@@ -2,7 +2,7 @@ use Rattle.std.proofs.Common.{◌∙◌, length, map, ap, refl, inl}
 use Rattle.std.proofs.lemmas.List.{length-map}
 use Rattle.std.specs.Prelude.{string_bytes}
 use Rattle.bus_port.specs.MemSource.{clean_source}
-use Rattle.program_edge.specs.InputLaws.{Offers-clean}
+use Rattle.program_edge.proofs.CallerLemmas.{Offers-clean}
 use Rattle.bus_programs.specs.Inputs.{BusInputs, inputs_of}
 use Rattle.chart_commands.specs.Inputs.{AsksChart}
 use Rattle.chart_commands.specs.declared.example.TheConstants.{BUS, SCRIPT}

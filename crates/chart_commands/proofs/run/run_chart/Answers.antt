@@ -1,8 +1,8 @@
 use Rattle.std.proofs.Common.{◌≡◌, map, refl}
 use Rattle.program_edge.specs.Endings.{Ending, EndsInRow}
-use Rattle.program_edge.specs.EndingLaws.{EndsInRow-more}
+use Rattle.program_edge.proofs.CallerLemmas.{EndsInRow-more}
 use Rattle.bus_world.specs.StartAnswers.{DiskStates}
-use Rattle.bus_world.specs.StartAnswerLaws.{same_known}
+use Rattle.bus_world.proofs.CallerLemmas.{same_known}
 use Rattle.chart_commands.specs.Steps.{AnswersChart}
 use Rattle.chart_commands.specs.Rows.{without_disks}
 use Rattle.chart_commands.proofs.Drawing.{ChartRow-answers}

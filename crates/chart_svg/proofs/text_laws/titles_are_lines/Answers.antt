@@ -3,7 +3,7 @@ use Rattle.std.specs.Prelude.{codes}
 use Rattle.std.specs.Fmt.{decimal}
 use Rattle.bus_script.specs.LineTexts.{told_words}
 use Rattle.text_lines.specs.Spaced.{spaced}
-use Rattle.text_lines.specs.SpacedLaws.{written-spaced}
+use Rattle.text_lines.proofs.CallerLemmas.{written-spaced}
 use Rattle.chart_svg.proofs.text_laws.titles_are_lines.Goals as goal
 
 pub returns : goal.returns

@@ -1,7 +1,7 @@
 -- What the write and the sync left, and then a cut of it.
 use Rattle.std.proofs.Common.{arith, ◌∙◌, sym}
 use Rattle.std.proofs.lemmas.Result.{on_ok_weaker, on_err_weaker}
-use Rattle.cut_disk.specs.CallLaws.{runs_then}
+use Rattle.cut_disk.proofs.CallerLemmas.{runs_then}
 use Rattle.cut_disk.proofs.Cuts.{cut_of_firm, cut_of_torn}
 use Rattle.cut_disk.proofs.lasting.write_and_cut.Goals as goal
 

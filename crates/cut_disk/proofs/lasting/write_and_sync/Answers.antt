@@ -1,6 +1,6 @@
 -- Two calls, or one if the write failed.
 use Rattle.std.proofs.Common.{arith}
-use Rattle.cut_disk.specs.CallLaws.{runs_of_call, runs_then, runs_more}
+use Rattle.cut_disk.proofs.CallerLemmas.{runs_of_call, runs_then, runs_more}
 use Rattle.cut_disk.proofs.lasting.write_and_sync.Goals as goal
 
 pub returns-in-Ok-clause-runs : goal.returns-in-Ok-clause-runs

@@ -1,4 +1,4 @@
-use Rattle.cut_disk.specs.CallLaws.{grows_of_call}
+use Rattle.cut_disk.proofs.CallerLemmas.{grows_of_call}
 use Rattle.cut_disk.proofs.laws.a_call_grows_the_past.Goals as goal
 
 pub returns : goal.returns

@@ -1,4 +1,4 @@
-use Rattle.cut_disk.specs.CallLaws.{runs_of_call}
+use Rattle.cut_disk.proofs.CallerLemmas.{runs_of_call}
 use Rattle.cut_disk.proofs.laws.a_call_is_a_run.Goals as goal
 
 pub returns : goal.returns

@@ -1,4 +1,4 @@
-use Rattle.cut_disk.specs.CallLaws.{quiet_never_rose}
+use Rattle.cut_disk.proofs.CallerLemmas.{quiet_never_rose}
 use Rattle.cut_disk.proofs.laws.a_quiet_disk_fails_no_call.Goals as goal
 
 pub returns : goal.returns

@@ -1,4 +1,4 @@
-use Rattle.cut_disk.specs.ImageLaws.{image_under_write}
+use Rattle.cut_disk.proofs.CallerLemmas.{image_under_write}
 use Rattle.cut_disk.proofs.UnderWrites.{image_of_under_write}
 use Rattle.cut_disk.proofs.laws.a_write_loosens_its_range_alone.Goals as goal
 

@@ -1,4 +1,4 @@
-use Rattle.cut_disk.specs.CallLaws.{later_join}
+use Rattle.cut_disk.proofs.CallerLemmas.{later_join}
 use Rattle.cut_disk.proofs.laws.later_states_compose.Goals as goal
 
 pub returns : goal.returns

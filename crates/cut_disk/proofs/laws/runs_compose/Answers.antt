@@ -1,4 +1,4 @@
-use Rattle.cut_disk.specs.CallLaws.{runs_join}
+use Rattle.cut_disk.proofs.CallerLemmas.{runs_join}
 use Rattle.cut_disk.proofs.laws.runs_compose.Goals as goal
 
 pub returns : goal.returns

@@ -1,4 +1,4 @@
-use Rattle.cut_disk.specs.CallLaws.{later_of_runs}
+use Rattle.cut_disk.proofs.CallerLemmas.{later_of_runs}
 use Rattle.cut_disk.proofs.laws.runs_only_add.Goals as goal
 
 pub returns : goal.returns

@@ -1,4 +1,4 @@
-use Rattle.cut_disk.specs.ImageLaws.{image_is_read}
+use Rattle.cut_disk.proofs.CallerLemmas.{image_is_read}
 use Rattle.cut_disk.proofs.laws.the_bytes_are_an_image.Goals as goal
 
 pub returns : goal.returns

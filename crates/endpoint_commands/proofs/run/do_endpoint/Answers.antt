@@ -7,7 +7,7 @@ use Rattle.cut_disk.specs.State.{DiskState}
 use Rattle.secoc_node.specs.State.{NodeState}
 use Rattle.bus_world.specs.Starts.{disks_of}
 use Rattle.bus_world.specs.declared.start.Start.TheVariants.{Attach}
-use Rattle.bus_world.specs.StartAnswerLaws.{Comes-unstarted}
+use Rattle.bus_world.proofs.CallerLemmas.{Comes-unstarted}
 use Rattle.endpoint_commands.specs.declared.rules.FrameRule.{FrameRule}
 use Rattle.endpoint_commands.specs.Promises.{AnswersAll, not_started, did}
 use Rattle.endpoint_commands.proofs.Doing.{last_node, no_other, did_endpoint}

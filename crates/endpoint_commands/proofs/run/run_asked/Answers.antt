@@ -1,5 +1,5 @@
 use Rattle.std.proofs.Common.{refl, inl}
-use Rattle.bus_world.specs.StartAnswerLaws.{same_known}
+use Rattle.bus_world.proofs.CallerLemmas.{same_known}
 use Rattle.endpoint_commands.specs.Promises.{of_inputs}
 use Rattle.endpoint_commands.proofs.Statuses.{ends_does, runs_endpoint}
 use Rattle.endpoint_commands.proofs.run.run_asked.Goals as goal

@@ -2,7 +2,7 @@
 use Rattle.std.proofs.Common.{◌≡◌, ◌-◌, ◌≤◌, length, length-take-le, replicate, refl, sym, ap, ◌∙◌, arith, rules}
 use Rattle.std.proofs.lemmas.List.{places, length-replicate}
 use Rattle.basics.specs.Numbers.{bytes_of}
-use Rattle.basics.specs.NumberLaws.{to_be_bytes-is, length-bytes_of}
+use Rattle.basics.proofs.CallerLemmas.{to_be_bytes-is, length-bytes_of}
 use Rattle.flash_lines.specs.Crc.{crc64}
 use Rattle.flash_lines.specs.Lines.{line_body, line_bytes, line_mark}
 use Rattle.flash_lines.proofs.Written.{written}

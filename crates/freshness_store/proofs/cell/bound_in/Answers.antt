@@ -1,7 +1,7 @@
 -- The bytes that the bound makes are those of the cell, or no bound makes them.
 use Rattle.std.proofs.Common.{◌≡◌, ◌∷◌, [], refl, sym, ap, get_or, ◌∙◌, arith}
 use Rattle.std.specs.Cmp.Lexicographic.{same_text, other_text}
-use Rattle.basics.specs.NumberLaws.{from_be_bytes-64}
+use Rattle.basics.proofs.CallerLemmas.{from_be_bytes-64}
 use Rattle.freshness_store.specs.Bound.{bound_cell}
 use Rattle.freshness_store.proofs.CellLaws.{bound_is}
 use Rattle.freshness_store.proofs.cell.bound_in.Goals as goal

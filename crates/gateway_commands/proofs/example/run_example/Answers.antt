@@ -1,7 +1,7 @@
 use Rattle.std.proofs.Common.{◌∙◌, map, ap, refl, inl}
 use Rattle.std.specs.Prelude.{string_bytes}
 use Rattle.bus_port.specs.MemSource.{clean_source}
-use Rattle.program_edge.specs.InputLaws.{Offers-clean}
+use Rattle.program_edge.proofs.CallerLemmas.{Offers-clean}
 use Rattle.bus_programs.specs.Inputs.{BusInputs, inputs_of}
 use Rattle.gateway_commands.specs.declared.example.TheConstants.{BUS, SCRIPT}
 use Rattle.gateway_commands.proofs.WorkedExample.{short_bus, short_script}

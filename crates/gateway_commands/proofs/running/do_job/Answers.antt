@@ -3,10 +3,9 @@ use Rattle.cut_disk.specs.State.{DiskState}
 use Rattle.secoc_node.specs.State.{NodeState}
 use Rattle.bus_world.specs.Starts.{disks_of}
 use Rattle.bus_world.specs.declared.start.Start.TheVariants.{Format}
-use Rattle.bus_world.specs.StartAnswerLaws.{Comes-unstarted}
-use Rattle.bus_programs.specs.EventLaws.{all_can_be_done}
+use Rattle.bus_world.proofs.CallerLemmas.{Comes-unstarted, no_disk}
+use Rattle.bus_programs.proofs.CallerLemmas.{all_can_be_done}
 use Rattle.gateway_commands.specs.Steps.{refused_start, first_done}
-use Rattle.bus_world.specs.StartRowLaws.{no_disk}
 use Rattle.gateway_commands.proofs.OneRun.{gateway_stays}
 use Rattle.gateway_commands.proofs.OneNode.{last_one, none_left, one_node, good_pairs, ran_gateway}
 use Rattle.gateway_commands.proofs.running.do_job.Goals as goal

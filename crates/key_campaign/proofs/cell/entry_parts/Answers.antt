@@ -1,7 +1,7 @@
 -- The parts of the cell of an entry, if it is one.
 use Rattle.std.proofs.Common.{◌≡◌, ◌^◌, ◌<◌, ◌∷◌, [], List, ℕ, refl, sym, get_or, ◌∙◌, arith}
 use Rattle.std.specs.Prelude.{Bool, Some, nat_eq}
-use Rattle.basics.specs.NumberLaws.{from_be_bytes-32}
+use Rattle.basics.proofs.CallerLemmas.{from_be_bytes-32}
 use Rattle.key_campaign.specs.declared.entries.LedgerEntry.{LedgerEntry}
 use Rattle.key_campaign.proofs.Parts.{uid_is, id_is, counter_is, state_is, told_bit}
 use Rattle.key_campaign.proofs.cell.entry_parts.Goals as goal

@@ -1,5 +1,5 @@
 use Rattle.std.proofs.Common.{refl}
-use Rattle.program_edge.specs.EndingLaws.{EndsInRow-memory}
+use Rattle.program_edge.proofs.CallerLemmas.{EndsInRow-memory}
 use Rattle.key_commands.specs.declared.subcommands.Subcommand.TheVariants.{Make}
 use Rattle.key_commands.specs.Rows.{ComesOfWords, no_memory}
 use Rattle.key_commands.proofs.Promises.{Keys-ran, apart}

@@ -1,6 +1,6 @@
 use Rattle.std.proofs.Common.{refl, subst, Ok, map}
 use Rattle.std.specs.Prelude.{string_bytes}
-use Rattle.program_edge.specs.EndingLaws.{EndsInRow-more}
+use Rattle.program_edge.proofs.CallerLemmas.{EndsInRow-more}
 use Rattle.key_commands.specs.declared.tasks.Task.TheVariants.{Words}
 use Rattle.key_commands.specs.Rows.{AsksFor}
 use Rattle.key_commands.proofs.Engines.{engine_asked}

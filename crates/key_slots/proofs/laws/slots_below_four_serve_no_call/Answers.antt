@@ -1,4 +1,4 @@
-use Rattle.key_slots.specs.UsageLaws.{usable_below_four}
+use Rattle.key_slots.proofs.CallerLemmas.{usable_below_four}
 use Rattle.key_slots.proofs.laws.slots_below_four_serve_no_call.Goals as goal
 
 pub returns : goal.returns

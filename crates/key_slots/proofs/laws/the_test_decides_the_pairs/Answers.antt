@@ -1,4 +1,4 @@
-use Rattle.key_slots.specs.AuthorityLaws.{is_pair_listed, listed_is_pair, slots_of_pair}
+use Rattle.key_slots.proofs.CallerLemmas.{is_pair_listed, listed_is_pair, slots_of_pair}
 use Rattle.key_slots.proofs.laws.the_test_decides_the_pairs.Goals as goal
 
 pub returns-clause-decides : goal.returns-clause-decides

@@ -1,5 +1,5 @@
 use Rattle.std.proofs.Common.{rules}
-use Rattle.key_slots.specs.UsageLaws.{usable_at_slot}
+use Rattle.key_slots.proofs.CallerLemmas.{usable_at_slot}
 use Rattle.key_slots.proofs.usage.usable.Goals as goal
 
 pub returns-in_default-clause-at_a_slot : goal.returns-in_default-clause-at_a_slot

@@ -1,4 +1,4 @@
-use Rattle.machine_runs.specs.RunLaws.{Run-split}
+use Rattle.machine_runs.proofs.CallerLemmas.{Run-split}
 use Rattle.machine_runs.proofs.laws.front_of_a_run_is_a_run.Goals as goal
 
 pub returns : goal.returns

@@ -1,4 +1,4 @@
-use Rattle.machine_runs.specs.RunLaws.{Run-more}
+use Rattle.machine_runs.proofs.CallerLemmas.{Run-more}
 use Rattle.machine_runs.proofs.laws.run_and_a_further_moment_is_a_run.Goals as goal
 
 pub returns : goal.returns

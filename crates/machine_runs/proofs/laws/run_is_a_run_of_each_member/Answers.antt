@@ -1,4 +1,4 @@
-use Rattle.machine_runs.specs.MemberLaws.{Run-of_member}
+use Rattle.machine_runs.proofs.CallerLemmas.{Run-of_member}
 use Rattle.machine_runs.proofs.laws.run_is_a_run_of_each_member.Goals as goal
 
 pub returns : goal.returns

@@ -1,4 +1,4 @@
-use Rattle.machine_runs.specs.RunLaws.{Run-seen_as}
+use Rattle.machine_runs.proofs.CallerLemmas.{Run-seen_as}
 use Rattle.machine_runs.proofs.laws.run_is_a_run_of_the_machine_that_it_is_seen_as.Goals as goal
 
 pub returns : goal.returns

@@ -1,4 +1,4 @@
-use Rattle.machine_runs.specs.RunLaws.{Run-made_of}
+use Rattle.machine_runs.proofs.CallerLemmas.{Run-made_of}
 use Rattle.machine_runs.proofs.laws.run_of_made_steps_is_a_run_of_their_parts.Goals as goal
 
 pub returns : goal.returns

@@ -1,5 +1,5 @@
 use Rattle.std.proofs.Common.{[]}
-use Rattle.machine_runs.specs.RunLaws.{Run-keeps}
+use Rattle.machine_runs.proofs.CallerLemmas.{Run-keeps}
 use Rattle.machine_runs.proofs.laws.what_each_step_keeps_holds_at_the_end.Goals as goal
 
 pub returns : goal.returns

@@ -1,7 +1,7 @@
 use Rattle.std.proofs.Common.{◌≡◌, ℕ, ◌+◌, ◌*◌, ◌<◌, List, [], ◌∷◌, ◌++◌, sym, ap, ◌∙◌, arith}
 use Rattle.basics.specs.Numbers.{bytes_of}
 use Rattle.memory_update.specs.Messages.{head_number, IsUid}
-use Rattle.memory_update.specs.MessageLaws.{head_bytes}
+use Rattle.memory_update.proofs.CallerLemmas.{head_bytes}
 use Rattle.memory_update.proofs.blocks.head_block.Goals as goal
 
 joined : (block front uid : List ℕ) (x id auth : ℕ) → block ≡ front ++ x ∷ [] → front ≡ uid → x ≡ id * 16 + auth → IsUid uid → id < 14 → auth < 14 → block ≡ bytes_of 16 (head_number uid id auth)

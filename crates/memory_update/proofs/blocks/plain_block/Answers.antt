@@ -1,7 +1,7 @@
 use Rattle.std.proofs.Common.{◌≡◌, ◌+◌, ◌*◌, ◌^◌, ap, ◌∙◌, arith}
 use Rattle.std.specs.Int.{w128}
 use Rattle.basics.specs.Numbers.{bytes_of}
-use Rattle.basics.specs.NumberLaws.{to_be_bytes-is}
+use Rattle.basics.proofs.CallerLemmas.{to_be_bytes-is}
 use Rattle.key_slots.specs.Flags.{flags_number}
 use Rattle.memory_update.proofs.blocks.plain_block.Goals as goal
 

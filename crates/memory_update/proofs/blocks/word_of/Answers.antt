@@ -1,6 +1,6 @@
 use Rattle.std.proofs.Common.{length, ap, ◌∙◌}
 use Rattle.basics.specs.Numbers.{number_of}
-use Rattle.basics.specs.NumberLaws.{from_be_bytes-128}
+use Rattle.basics.proofs.CallerLemmas.{from_be_bytes-128}
 use Rattle.memory_update.proofs.blocks.word_of.Goals as goal
 
 pub returns : goal.returns

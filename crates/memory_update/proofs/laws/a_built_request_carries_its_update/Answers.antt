@@ -1,4 +1,4 @@
-use Rattle.memory_update.specs.MessageLaws.{Carries-Builds, HasSlots-Carries}
+use Rattle.memory_update.proofs.CallerLemmas.{Carries-Builds, HasSlots-Carries}
 use Rattle.memory_update.proofs.laws.a_built_request_carries_its_update.Goals as goal
 
 pub returns-clause-slots : goal.returns-clause-slots

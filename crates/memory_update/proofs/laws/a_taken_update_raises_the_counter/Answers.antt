@@ -1,4 +1,4 @@
-use Rattle.memory_update.specs.LoadingLaws.{id_of-Allows, counter_of-Allows}
+use Rattle.memory_update.proofs.CallerLemmas.{id_of-Allows, counter_of-Allows}
 use Rattle.memory_update.proofs.laws.a_taken_update_raises_the_counter.Goals as goal
 
 pub returns-clause-target : goal.returns-clause-target

@@ -1,4 +1,4 @@
-use Rattle.memory_update.specs.MessageLaws.{Carries-update_in, update_in-carried}
+use Rattle.memory_update.proofs.CallerLemmas.{Carries-update_in, update_in-carried}
 use Rattle.memory_update.proofs.laws.a_whole_request_carries_its_update.Goals as goal
 
 pub returns-clause-carried : goal.returns-clause-carried

@@ -1,4 +1,4 @@
-use Rattle.memory_update.specs.LoadingLaws.{same_from_Allows, Allows-some}
+use Rattle.memory_update.proofs.CallerLemmas.{same_from_Allows, Allows-some}
 use Rattle.memory_update.proofs.laws.one_answer_to_a_load.Goals as goal
 
 pub returns-clause-one : goal.returns-clause-one

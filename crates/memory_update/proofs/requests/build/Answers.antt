@@ -5,7 +5,7 @@ use Rattle.basics.specs.Blocks.{IsBlock}
 use Rattle.she_aes.specs.Modes.{cbc}
 use Rattle.key_slots.specs.Flags.{flags_number}
 use Rattle.memory_update.specs.Messages.{two_blocks, plain}
-use Rattle.memory_update.specs.MessageLaws.{plain_blocks}
+use Rattle.memory_update.proofs.CallerLemmas.{plain_blocks}
 use Rattle.memory_update.specs.declared.messages.Update.{Update}
 use Rattle.memory_update.proofs.requests.build.Goals as goal
 

@@ -1,6 +1,6 @@
 use Rattle.std.proofs.Common.{refl, arith}
 use Rattle.memory_update.specs.Messages.{HasSlots, HeadOf}
-use Rattle.memory_update.specs.MessageLaws.{HasSlots-head}
+use Rattle.memory_update.proofs.CallerLemmas.{HasSlots-head}
 use Rattle.memory_update.specs.declared.messages.Head.{Head}
 use Rattle.memory_update.proofs.HeadSteps.{Read, read, found, found_only, missing_some, missing_only}
 use Rattle.memory_update.proofs.requests.head.Goals as goal

@@ -4,7 +4,7 @@ use Rattle.she_cmac.specs.Cmac.{cmac}
 use Rattle.she_kdf.specs.Derivation.{kdf}
 use Rattle.she_kdf.specs.declared.Constant.TheVariants.{Mac}
 use Rattle.memory_update.specs.Messages.{request_mac}
-use Rattle.memory_update.specs.MessageLaws.{list_of_two}
+use Rattle.memory_update.proofs.CallerLemmas.{list_of_two}
 use Rattle.memory_update.proofs.requests.mac_of_request.Goals as goal
 
 mac_is : (mac k a m1 m1' x y x' y' : List ℕ) (m2 : List (List ℕ)) → mac ≡ cmac k (m1' ++ (x' ++ (y' ++ []))) → k ≡ kdf a Mac → m1' ≡ m1 → x' ≡ x → y' ≡ y → m2 ≡ x ∷ y ∷ [] → mac ≡ request_mac a m1 m2

@@ -1,6 +1,6 @@
 use Rattle.std.proofs.Common.{◌≡◌, ap, ◌∙◌, rules, Ok}
 use Rattle.memory_update.specs.Messages.{HasSlots}
-use Rattle.memory_update.specs.MessageLaws.{HeadOf-Carries, HasSlots-head, update_in-carried}
+use Rattle.memory_update.proofs.CallerLemmas.{HeadOf-Carries, HasSlots-head, update_in-carried}
 use Rattle.memory_update.proofs.OpeningSteps.{unsealed}
 use Rattle.memory_update.proofs.requests.unseal.Goals as goal
 

@@ -1,4 +1,4 @@
-use Rattle.program_edge.specs.EndingLaws.{EndsInRow-more}
+use Rattle.program_edge.proofs.CallerLemmas.{EndsInRow-more}
 use Rattle.program_edge.specs.Endings.{EndsInRow}
 use Rattle.pdu_collection.specs.Steps.{DoesPairs}
 use Rattle.pdu_collection.proofs.Phases.{Comes-does}

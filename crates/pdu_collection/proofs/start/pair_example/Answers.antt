@@ -3,7 +3,7 @@ use Rattle.std.proofs.lemmas.List.{length-map}
 use Rattle.std.specs.Prelude.{string_bytes, Some}
 use Rattle.bus_port.specs.MemSource.{CleanSourceState, clean_source}
 use Rattle.program_edge.specs.Inputs.{Reading}
-use Rattle.program_edge.specs.InputLaws.{Offers-clean}
+use Rattle.program_edge.proofs.CallerLemmas.{Offers-clean}
 use Rattle.pdu_collection.specs.Rows.{NamesInput}
 use Rattle.pdu_collection.specs.declared.start.TheConstants.{EXAMPLE}
 use Rattle.pdu_collection.proofs.Example.{short_example, no_example}

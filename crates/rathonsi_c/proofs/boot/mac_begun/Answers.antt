@@ -1,7 +1,7 @@
 use Rattle.std.proofs.Common.{◌≡◌, ℕ, ◌*◌, List, [], ◌++◌, replicate, sym, subst, ◌∙◌, rules}
 use Rattle.std.specs.Int.{w32}
 use Rattle.basics.specs.Numbers.{bytes_of}
-use Rattle.basics.specs.NumberLaws.{to_be_bytes-is}
+use Rattle.basics.proofs.CallerLemmas.{to_be_bytes-is}
 use Rattle.she_cmac.specs.declared.pieces.MacParts.{MacParts}
 use Rattle.she_cmac.specs.Took.{TookParts}
 use Rattle.rathonsi_c.proofs.boot.mac_begun.Goals as goal

@@ -1,6 +1,6 @@
 use Rattle.std.proofs.Common.{◌≡◌, ℕ, inl, inr, List, sym, subst, ◌∙◌}
 use Rattle.memory_update.specs.Messages.{HeadOf, id_of, auth_of}
-use Rattle.memory_update.specs.MessageLaws.{id_of-head, auth_of-head, HasSlots-head}
+use Rattle.memory_update.proofs.CallerLemmas.{id_of-head, auth_of-head, HasSlots-head}
 use Rattle.rathonsi_c.specs.Images.{ImageSlot, NoSlot}
 use Rattle.rathonsi_c.proofs.SlotLaws.{reads_named}
 use Rattle.rathonsi_c.proofs.images.slots_named.Goals as goal

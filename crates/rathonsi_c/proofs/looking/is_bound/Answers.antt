@@ -1,5 +1,5 @@
 use Rattle.std.proofs.Common.{◌≡◌, ◌∷◌, [], refl, sym, get_or, ◌∙◌}
-use Rattle.basics.specs.NumberLaws.{from_be_bytes-16}
+use Rattle.basics.proofs.CallerLemmas.{from_be_bytes-16}
 use Rattle.freshness_routes.specs.declared.routes.Direction.TheVariants.{Receives}
 use Rattle.rathonsi_c.proofs.LookLaws.{bound_id, found_bound, other_bound}
 use Rattle.rathonsi_c.proofs.looking.is_bound.Goals as goal

@@ -2,7 +2,7 @@ use Rattle.std.proofs.Common.{◌≡◌, ℕ, inl, inr, List, refl, sym, subst, 
 use Rattle.key_slots.specs.declared.memory.Slot.{Slot}
 use Rattle.key_slots.specs.declared.memory.Slot.TheVariants.{Empty}
 use Rattle.memory_update.specs.Messages.{HeadOf, id_of}
-use Rattle.memory_update.specs.MessageLaws.{id_of-head, HasSlots-head}
+use Rattle.memory_update.proofs.CallerLemmas.{id_of-head, HasSlots-head}
 use Rattle.rathonsi_c.specs.Images.{ImageSlot, NoSlot}
 use Rattle.rathonsi_c.proofs.AnswerLaws.{empty_slot, empty_not_filled}
 use Rattle.rathonsi_c.proofs.ImageLaws.{slot_once}

@@ -2,7 +2,7 @@ use Rattle.std.proofs.Common.{◌≡◌, ◌+◌, ◌≤◌, ℕ, List, length, 
 use Rattle.std.proofs.lemmas.Option.{none-some}
 use Rattle.cell_store.specs.Twin.{twin_size, cell_at}
 use Rattle.memory_update.specs.Messages.{HasSlots, HeadOf, id_of}
-use Rattle.memory_update.specs.MessageLaws.{HeadOf-Carries, HasSlots-Carries, id_of-head}
+use Rattle.memory_update.proofs.CallerLemmas.{HeadOf-Carries, HasSlots-Carries, id_of-head}
 use Rattle.memory_update.specs.declared.messages.Request.{Request}
 use Rattle.rathonsi_c.proofs.slots.rathonsi_slot_load.Goals as goal
 

@@ -1,7 +1,7 @@
 use Rattle.std.specs.Prelude.{◌≡◌, None, Err}
 use Rattle.std.proofs.Common.{◌∙◌, refl, ap, arith, take}
 use Rattle.std.proofs.lemmas.Result.{IfErr-at_err}
-use Rattle.cut_disk.specs.CallLaws.{runs_join, runs_more}
+use Rattle.cut_disk.proofs.CallerLemmas.{runs_join, runs_more}
 use Rattle.bus_machine.specs.declared.lines.Line.TheVariants.{Sent, Accepted, FreshnessFailure, VerificationFailure, Refused}
 use Rattle.bus_machine.specs.Steps.{sends, receives}
 use Rattle.secoc_node.specs.declared.faults.NodeFault.{NodeFault}

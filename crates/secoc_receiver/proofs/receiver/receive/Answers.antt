@@ -2,7 +2,7 @@
 use Rattle.std.proofs.Common.{refl}
 use Rattle.key_slots.specs.Slots.{slot_at}
 use Rattle.memory_update.specs.Loading.{key_in}
-use Rattle.secured_pdu.specs.FrameLaws.{IsFrame-Secured}
+use Rattle.secured_pdu.proofs.CallerLemmas.{IsFrame-Secured}
 use Rattle.secoc_receiver.proofs.Heard.{in_time, not_stale, not_forged, taken}
 use Rattle.secoc_receiver.proofs.receiver.receive.Goals as goal
 

@@ -1,4 +1,4 @@
-use Rattle.secoc_words.specs.CountingLaws.{KeepsCounters-rise}
+use Rattle.secoc_words.proofs.CountingLaws.{KeepsCounters-rise}
 use Rattle.secoc_words.proofs.counting_laws.accepted_freshness_rises.Goals as goal
 
 pub returns : goal.returns

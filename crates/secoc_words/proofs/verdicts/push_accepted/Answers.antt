@@ -1,7 +1,7 @@
 use Rattle.std.proofs.Common.{[], ◌∷◌, ◌++◌, codes, ap, ◌∙◌}
 use Rattle.std.specs.Int.{w64}
 use Rattle.basics.specs.Numbers.{bytes_of}
-use Rattle.basics.specs.NumberLaws.{to_be_bytes-is}
+use Rattle.basics.proofs.CallerLemmas.{to_be_bytes-is}
 use Rattle.hex.specs.Hex.{encode_lower}
 use Rattle.secoc_words.proofs.Digits.{five_added}
 use Rattle.secoc_words.proofs.verdicts.push_accepted.Goals as goal

@@ -2,7 +2,7 @@ use Rattle.std.proofs.Common.{ℕ, ◌*◌, List, [], ◌++◌, length, replicat
 use Rattle.std.specs.Int.{w32}
 use Rattle.she_cmac.specs.Cmac.{cmac}
 use Rattle.basics.specs.Numbers.{bytes_of}
-use Rattle.basics.specs.NumberLaws.{to_be_bytes-is}
+use Rattle.basics.proofs.CallerLemmas.{to_be_bytes-is}
 use Rattle.secure_boot.specs.Booting.{bootmac}
 use Rattle.secure_boot.proofs.boot.boot_mac.Goals as goal
 

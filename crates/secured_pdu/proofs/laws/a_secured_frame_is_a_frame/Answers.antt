@@ -1,4 +1,4 @@
-use Rattle.secured_pdu.specs.FrameLaws.{IsFrame-Secured}
+use Rattle.secured_pdu.proofs.FrameLaws.{IsFrame-Secured}
 use Rattle.secured_pdu.proofs.laws.a_secured_frame_is_a_frame.Goals as goal
 
 pub returns : goal.returns

@@ -1,4 +1,4 @@
-use Rattle.secured_pdu.specs.FrameLaws.{same_from_authenticated_input}
+use Rattle.secured_pdu.proofs.FrameLaws.{same_from_authenticated_input}
 use Rattle.secured_pdu.proofs.laws.input_is_one_to_one.Goals as goal
 
 pub returns : goal.returns

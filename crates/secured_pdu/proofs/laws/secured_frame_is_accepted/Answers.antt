@@ -1,4 +1,4 @@
-use Rattle.secured_pdu.specs.VerdictLaws.{Verdict_of_secured}
+use Rattle.secured_pdu.proofs.VerdictLaws.{Verdict_of_secured}
 use Rattle.secured_pdu.proofs.laws.secured_frame_is_accepted.Goals as goal
 
 pub returns : goal.returns

@@ -2,7 +2,7 @@ use Rattle.std.proofs.Common.{sym, ap, ◌∙◌, arith, rules}
 use Rattle.std.proofs.lemmas.Bool.{false≢true}
 use Rattle.std.proofs.lemmas.Slice.Eq.{bytes_eq-Decides}
 use Rattle.basics.specs.Numbers.{number_of}
-use Rattle.basics.specs.NumberLaws.{from_be_bytes-64}
+use Rattle.basics.proofs.CallerLemmas.{from_be_bytes-64}
 use Rattle.secured_pdu.specs.Sync.{sync_message}
 use Rattle.secured_pdu.proofs.SyncLaws.{first_is}
 use Rattle.secured_pdu.proofs.sync.sync_counter.Goals as goal

@@ -2,7 +2,7 @@ use Rattle.std.proofs.Common.{◌≡◌, ◌++◌, take, sym, ap, ◌∙◌, ari
 use Rattle.std.proofs.lemmas.List.{take_all}
 use Rattle.std.specs.Int.{w16, w64}
 use Rattle.basics.specs.Numbers.{bytes_of}
-use Rattle.basics.specs.NumberLaws.{to_be_bytes-is}
+use Rattle.basics.proofs.CallerLemmas.{to_be_bytes-is}
 use Rattle.secured_pdu.specs.Sync.{sync_input}
 use Rattle.secured_pdu.proofs.SyncLaws.{label}
 use Rattle.secured_pdu.proofs.sync.sync_input.Goals as goal

@@ -3,7 +3,7 @@ use Rattle.std.proofs.lemmas.Bool.{false≢true}
 use Rattle.std.proofs.lemmas.Slice.Eq.{bytes_eq-Decides}
 use Rattle.she_cmac.specs.Cmac.{cmac}
 use Rattle.secured_pdu.specs.Frame.{authenticated_input}
-use Rattle.secured_pdu.specs.VerdictLaws.{accepted_parts, failed_parts}
+use Rattle.secured_pdu.proofs.VerdictLaws.{accepted_parts, failed_parts}
 use Rattle.secured_pdu.proofs.verdict.judge.Goals as goal
 
 pub returns-then-eq : goal.returns-then-eq

@@ -1,6 +1,6 @@
 use Rattle.std.proofs.Common.{ap, ◌∙◌, slice_index}
 use Rattle.std.specs.Int.{w32, to_be_bytes}
-use Rattle.she_aes.specs.CipherFacts.{IsBlock-bytes}
+use Rattle.she_aes.proofs.CipherFacts.{IsBlock-bytes}
 use Rattle.she_aes.specs.Columns.{in_columns}
 use Rattle.she_aes.proofs.ColumnWords.{bytes_again}
 use Rattle.she_aes.proofs.RoundTables.{by_columns}

@@ -1,5 +1,5 @@
 use Rattle.std.proofs.Common.{refl, ◌∙◌, [], ◌∷◌, slice_index}
-use Rattle.basics.specs.NumberLaws.{from_be_bytes-32}
+use Rattle.basics.proofs.CallerLemmas.{from_be_bytes-32}
 use Rattle.she_aes.specs.Columns.{in_columns}
 use Rattle.she_aes.proofs.columns.columns_of.Goals as goal
 

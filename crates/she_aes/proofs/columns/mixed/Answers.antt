@@ -1,6 +1,6 @@
 use Rattle.std.proofs.Common.{ap, slice_index}
 use Rattle.she_aes.specs.Cipher.{circulant, mix_columns}
-use Rattle.she_aes.specs.CipherFacts.{IsBlock-bytes}
+use Rattle.she_aes.proofs.CipherFacts.{IsBlock-bytes}
 use Rattle.she_aes.specs.Columns.{in_columns}
 use Rattle.she_aes.proofs.columns.mixed.Goals as goal
 

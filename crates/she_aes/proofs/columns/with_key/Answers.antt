@@ -1,4 +1,4 @@
-use Rattle.she_aes.specs.CipherFacts.{IsBlock-bytes}
+use Rattle.she_aes.proofs.CipherFacts.{IsBlock-bytes}
 use Rattle.she_aes.proofs.ColumnWords.{key_added}
 use Rattle.she_aes.proofs.columns.with_key.Goals as goal
 

@@ -1,4 +1,4 @@
-use Rattle.she_aes.specs.CipherFacts.{IsBlock-from}
+use Rattle.she_aes.proofs.CipherFacts.{IsBlock-from}
 use Rattle.she_aes.proofs.KeyPairs.{added_in_turn}
 use Rattle.she_aes.proofs.expansion.added_keys.Goals as goal
 

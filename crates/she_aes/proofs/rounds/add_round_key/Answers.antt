@@ -1,5 +1,5 @@
 use Rattle.she_aes.specs.Cipher.{add_round_key}
-use Rattle.basics.specs.BlockLaws.{xor_is}
+use Rattle.basics.proofs.CallerLemmas.{xor_is}
 use Rattle.she_aes.proofs.rounds.add_round_key.Goals as goal
 
 pub returns : goal.returns

@@ -1,4 +1,4 @@
-use Rattle.basics.specs.BlockLaws.{xor_is}
+use Rattle.basics.proofs.CallerLemmas.{xor_is}
 use Rattle.she_aes.proofs.rounds.xor.Goals as goal
 
 pub returns : goal.returns

@@ -1,4 +1,4 @@
-use Rattle.she_cmac.specs.CmacLaws.{IsBlock-cmac}
+use Rattle.she_cmac.proofs.CmacLaws.{IsBlock-cmac}
 use Rattle.she_cmac.proofs.laws.cmac_is_a_block.Goals as goal
 
 pub returns : goal.returns

@@ -1,6 +1,6 @@
 use Rattle.std.proofs.Common.{length, ap, ◌∙◌}
 use Rattle.basics.specs.Numbers.{number_of}
-use Rattle.basics.specs.NumberLaws.{from_be_bytes-128}
+use Rattle.basics.proofs.CallerLemmas.{from_be_bytes-128}
 use Rattle.she_aes.specs.Cipher.{enc}
 use Rattle.she_cmac.specs.Cmac.{encrypted_zero}
 use Rattle.she_cmac.proofs.subkeys.encrypted_zero.Goals as goal

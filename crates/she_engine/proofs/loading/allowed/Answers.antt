@@ -2,9 +2,8 @@
 use Rattle.std.proofs.Common.{◌≢◌, subst, ◌∙◌}
 use Rattle.key_slots.specs.Slots.{slot_at}
 use Rattle.memory_update.specs.Messages.{Carries, id_of, request_mac}
-use Rattle.memory_update.specs.MessageLaws.{HasSlots-head}
+use Rattle.memory_update.proofs.CallerLemmas.{HasSlots-head, is_fit-other_mac}
 use Rattle.memory_update.specs.Loading.{authorising_key}
-use Rattle.memory_update.specs.LoadingLaws.{is_fit-other_mac}
 use Rattle.she_engine.proofs.Refusals.{no_head, head_refused, not_fit, fit, authorising_key_got, other_mac, test_is}
 use Rattle.she_engine.proofs.loading.allowed.Goals as goal
 

@@ -1,5 +1,5 @@
 use Rattle.std.proofs.Common.{ap, not}
-use Rattle.key_slots.specs.AuthorityLaws.{answer_is_pair}
+use Rattle.key_slots.proofs.CallerLemmas.{answer_is_pair}
 use Rattle.she_engine.proofs.loading.is_no_pair.Goals as goal
 
 pub returns : goal.returns

@@ -1,7 +1,7 @@
 -- The parts of a filled cell, if it is one.
 use Rattle.std.proofs.Common.{◌≡◌, ◌^◌, ◌<◌, ◌∷◌, [], refl, get_or, ◌∙◌, arith}
-use Rattle.basics.specs.NumberLaws.{from_be_bytes-32}
-use Rattle.key_slots.specs.FlagsLaws.{flags_number-lt, same_flags}
+use Rattle.basics.proofs.CallerLemmas.{from_be_bytes-32}
+use Rattle.key_slots.proofs.CallerLemmas.{flags_number-lt, same_flags}
 use Rattle.slot_disk.proofs.Parts.{flags_are, counter_is, key_is}
 use Rattle.slot_disk.proofs.cell.filled_parts.Goals as goal
 

@@ -1,4 +1,4 @@
-use Rattle.store_keeping.specs.KeepingLaws.{found_kept}
+use Rattle.store_keeping.proofs.CallerLemmas.{found_kept}
 use Rattle.store_keeping.proofs.keeping.cut_finds_what_may_be_kept.Goals as goal
 
 pub returns : goal.returns

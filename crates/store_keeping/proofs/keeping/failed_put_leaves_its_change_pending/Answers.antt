@@ -1,6 +1,6 @@
 use Rattle.std.proofs.Common.{refl}
 use Rattle.std.specs.Prelude.{set}
-use Rattle.store_keeping.specs.KeepingLaws.{fits_failed_put}
+use Rattle.store_keeping.proofs.CallerLemmas.{fits_failed_put}
 use Rattle.store_keeping.proofs.keeping.failed_put_leaves_its_change_pending.Goals as goal
 
 pub returns : goal.returns

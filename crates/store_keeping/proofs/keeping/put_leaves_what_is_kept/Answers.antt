@@ -1,7 +1,7 @@
 use Rattle.std.proofs.Common.{ap, ◌∙◌}
 use Rattle.std.specs.Prelude.{List, ℕ, set}
 use Rattle.store_keeping.specs.Keeping.{keeps_cells}
-use Rattle.store_keeping.specs.KeepingLaws.{fits_put}
+use Rattle.store_keeping.proofs.CallerLemmas.{fits_put}
 use Rattle.store_keeping.proofs.keeping.put_leaves_what_is_kept.Goals as goal
 
 pub returns : goal.returns

@@ -1,4 +1,4 @@
-use Rattle.store_keeping.specs.KeepingLaws.{fits_refused}
+use Rattle.store_keeping.proofs.CallerLemmas.{fits_refused}
 use Rattle.store_keeping.proofs.keeping.refused_cut_leaves_what_is_kept.Goals as goal
 
 pub returns : goal.returns

@@ -1,4 +1,4 @@
-use Rattle.store_keeping.specs.KeepingLaws.{settled_of, fits_store}
+use Rattle.store_keeping.proofs.CallerLemmas.{settled_of, fits_store}
 use Rattle.store_keeping.proofs.keeping.store_that_fits_is_settled_while_its_owner_is_up.Goals as goal
 
 pub returns : goal.returns

@@ -1,4 +1,4 @@
-use Rattle.store_keeping.specs.DiskTurnLaws.{failures_told}
+use Rattle.store_keeping.proofs.CallerLemmas.{failures_told}
 use Rattle.store_keeping.proofs.turns.failures_of_a_run_are_counted.Goals as goal
 
 pub returns : goal.returns

@@ -1,4 +1,4 @@
-use Rattle.store_keeping.specs.DiskTurnLaws.{traced_since}
+use Rattle.store_keeping.proofs.CallerLemmas.{traced_since}
 use Rattle.store_keeping.proofs.turns.past_of_a_disk_is_traced.Goals as goal
 
 pub returns : goal.returns

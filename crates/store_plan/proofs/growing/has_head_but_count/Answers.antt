@@ -1,7 +1,7 @@
 use Rattle.std.proofs.Common.{◌≡◌, ◌↔◌, ◌≤◌, ℕ, List, length, take, IsTrue, length-take, sym, ap, subst, ◌∙◌, arith}
 use Rattle.std.specs.Int.{w16}
 use Rattle.basics.specs.Numbers.{bytes_of}
-use Rattle.basics.specs.NumberLaws.{to_be_bytes-is, length-bytes_of}
+use Rattle.basics.proofs.CallerLemmas.{to_be_bytes-is, length-bytes_of}
 use Rattle.cut_disk.specs.Images.{splice}
 use Rattle.cell_store.specs.declared.kinds.Version.TheVariants.{One}
 use Rattle.cell_store.specs.Layout.{header, twin_layout}

@@ -1,6 +1,6 @@
 use Rattle.std.proofs.Common.{ℕ, List, refl, subst, ◌∙◌}
 use Rattle.std.specs.Int.{w16}
-use Rattle.basics.specs.NumberLaws.{to_be_bytes-is}
+use Rattle.basics.proofs.CallerLemmas.{to_be_bytes-is}
 use Rattle.store_plan.specs.Plans.{WritesAt}
 use Rattle.store_plan.proofs.growing.plan_count.Goals as goal
 

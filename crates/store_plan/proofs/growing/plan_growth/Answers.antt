@@ -1,7 +1,7 @@
 use Rattle.std.proofs.Common.{◌≡◌, ℕ, ◌+◌, List, length, take, drop, length-take, ap, subst, ◌∙◌, arith, rules}
 use Rattle.std.proofs.lemmas.List.{take_at, drop_at, take_all}
 use Rattle.std.specs.Int.{w16}
-use Rattle.basics.specs.NumberLaws.{to_be_bytes-is}
+use Rattle.basics.proofs.CallerLemmas.{to_be_bytes-is}
 use Rattle.cell_store.specs.Twin.{first_at, second_at, live_copy, fresh_cell}
 use Rattle.cell_store.proofs.CallerLemmas.{length-fresh_cell}
 use Rattle.store_plan.specs.declared.planning.Write.{Write}

@@ -1,5 +1,5 @@
 use Rattle.std.proofs.Common.{◌∙◌, arith, ◌<◌, ◌≤◌, ◌+◌, length}
-use Rattle.cut_disk.specs.CallLaws.{runs_join, runs_more, rose_after}
+use Rattle.cut_disk.proofs.CallerLemmas.{runs_join, runs_more, rose_after}
 use Rattle.cell_store.proofs.CallerLemmas.{OnErr-from, either-outside}
 use Rattle.store_plan.proofs.LeavesLaws.{on_ok_both, on_err_both, first-torn, second-torn, third-torn, all-done, fails-put, puts}
 use Rattle.std.proofs.lemmas.Result.{on_ok_weaker, on_err_weaker}

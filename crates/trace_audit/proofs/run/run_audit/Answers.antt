@@ -1,4 +1,4 @@
-use Rattle.program_edge.specs.EndingLaws.{EndsInRow-more}
+use Rattle.program_edge.proofs.CallerLemmas.{EndsInRow-more}
 use Rattle.trace_audit.proofs.Phases.{Comes-does}
 use Rattle.trace_audit.proofs.Promises.{Audits-row}
 use Rattle.trace_audit.proofs.run.run_audit.Goals as goal

@@ -3,7 +3,7 @@ use Rattle.std.proofs.lemmas.List.{length-map}
 use Rattle.std.specs.Prelude.{string_bytes, Some}
 use Rattle.bus_port.specs.MemSource.{CleanSourceState, clean_source}
 use Rattle.program_edge.specs.Inputs.{Reading}
-use Rattle.program_edge.specs.InputLaws.{Offers-clean}
+use Rattle.program_edge.proofs.CallerLemmas.{Offers-clean}
 use Rattle.trace_audit.specs.Rows.{NamesInputs}
 use Rattle.trace_audit.specs.declared.start.TheConstants.{EXAMPLE_MAP, EXAMPLE_LOG}
 use Rattle.trace_audit.proofs.Example.{short_map, short_log, no_example}

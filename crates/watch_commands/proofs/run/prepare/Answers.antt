@@ -2,7 +2,7 @@ use Rattle.std.proofs.Common.{Bool, List, ℕ, subst, sym, refl, map, rules}
 use Rattle.std.proofs.lemmas.Result.{err_from_is_err_and}
 use Rattle.std.specs.Prelude.{string_bytes}
 use Rattle.program_edge.specs.declared.input.InputFault.TheVariants as input
-use Rattle.program_edge.specs.InputLaws.{Lacks-whole}
+use Rattle.program_edge.proofs.CallerLemmas.{Lacks-whole}
 use Rattle.trace_audit.specs.Rows.{NamesInputs}
 use Rattle.watch_commands.specs.WatchMaps.{IsMapOf}
 use Rattle.watch_commands.specs.WatchRows.{AsksWatch, ComesOnErrors, no_form, no_map}

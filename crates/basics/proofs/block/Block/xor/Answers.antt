@@ -1,5 +1,5 @@
 use Rattle.std.proofs.Common.{◌∙◌}
-use Rattle.basics.specs.BlockLaws.{xor_is}
+use Rattle.basics.proofs.CallerLemmas.{xor_is}
 use Rattle.basics.proofs.block.Block.xor.Goals as goal
 
 pub returns-clause-value : goal.returns-clause-value

@@ -1,6 +1,6 @@
 use Rattle.std.specs.Prelude.{All, suc}
 use Rattle.std.proofs.Common.{sym, subst, arith}
-use Rattle.machine_runs.specs.MemberLaws.{MemberSteps-length}
+use Rattle.machine_runs.proofs.CallerLemmas.{MemberSteps-length}
 use Rattle.bus_world.specs.Worlds.{IsEventOf}
 use Rattle.bus_world.proofs.world.WorldMachine.step.Goals as goal
 

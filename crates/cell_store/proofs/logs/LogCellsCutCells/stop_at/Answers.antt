@@ -1,6 +1,6 @@
 use Rattle.std.proofs.Common.{length, ap, subst}
 use Rattle.cut_disk.specs.Armed.{ArmsStop}
-use Rattle.cut_disk.specs.CallLaws.{runs_of_call}
+use Rattle.cut_disk.proofs.CallerLemmas.{runs_of_call}
 use Rattle.cell_store.specs.Cells.{CellsState}
 use Rattle.cell_store.proofs.LogSteps.{log-armed}
 use Rattle.cell_store.proofs.logs.LogCellsCutCells.stop_at.Goals as goal

@@ -3,7 +3,7 @@ use Rattle.std.proofs.Common.{◌≡◌, List, ℕ, Bool, length, replicate, tru
 use Rattle.std.specs.Vec.{with_items}
 use Rattle.std.proofs.lemmas.List.{with_items_is, length-replicate}
 use Rattle.cut_disk.specs.Images.{splice}
-use Rattle.cut_disk.specs.Splices.{length-splice}
+use Rattle.cut_disk.proofs.CallerLemmas.{length-splice}
 use Rattle.cut_disk.specs.Ranges.{IsSameOutside, IsFirmOutside}
 use Rattle.cut_disk.proofs.Ranges.{same_after_write, firm_after_write}
 use Rattle.cut_disk.proofs.mem_disk.MemDiskDisk.write.Goals as goal

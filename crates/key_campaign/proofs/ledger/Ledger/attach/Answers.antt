@@ -1,4 +1,4 @@
-use Rattle.store_keeping.specs.KeepingLaws.{fits_settled}
+use Rattle.store_keeping.proofs.CallerLemmas.{fits_settled}
 use Rattle.key_campaign.specs.Campaign.{powered_ledger}
 use Rattle.key_campaign.specs.State.{keeping_of}
 use Rattle.key_campaign.proofs.ledger.Ledger.attach.Goals as goal

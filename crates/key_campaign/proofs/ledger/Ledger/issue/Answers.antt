@@ -1,7 +1,7 @@
 use Rattle.std.proofs.Common.{◌≡◌, ℕ, true, false, refl, sym, subst}
 use Rattle.std.specs.Prelude.{Result, Ok, Err}
 use Rattle.key_slots.specs.Authority.{is_pair}
-use Rattle.key_slots.specs.AuthorityLaws.{answer_is_pair}
+use Rattle.key_slots.proofs.CallerLemmas.{answer_is_pair}
 use Rattle.memory_update.specs.declared.messages.Request.{Request}
 use Rattle.key_campaign.specs.declared.commands.Issue.{Issue}
 use Rattle.key_campaign.specs.Campaign.{Campaign, SoundLedger}

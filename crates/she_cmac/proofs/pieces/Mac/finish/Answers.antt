@@ -1,7 +1,7 @@
 use Rattle.std.proofs.Common.{sym, ap, ◌∙◌}
 use Rattle.she_aes.specs.Cipher.{enc, xor_blocks}
 use Rattle.she_cmac.specs.Cmac.{front_blocks, last_piece}
-use Rattle.she_cmac.specs.CmacLaws.{cmac_is}
+use Rattle.she_cmac.proofs.CmacLaws.{cmac_is}
 use Rattle.she_cmac.proofs.pieces.Mac.finish.Goals as goal
 
 pub returns-clause-value : goal.returns-clause-value

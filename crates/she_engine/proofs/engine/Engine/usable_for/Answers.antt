@@ -2,7 +2,7 @@ use Rattle.std.proofs.Common.{sym, ap, ◌∙◌, arith}
 use Rattle.std.specs.Prelude.{◌<◌, ◌≤◌}
 use Rattle.key_slots.specs.Slots.{slot_at}
 use Rattle.key_slots.specs.Usage.{usable}
-use Rattle.key_slots.specs.UsageLaws.{usable_below_four}
+use Rattle.key_slots.proofs.CallerLemmas.{usable_below_four}
 use Rattle.she_engine.proofs.engine.Engine.usable_for.Goals as goal
 
 pub returns-then-number-lt4 : goal.returns-then-number-lt4

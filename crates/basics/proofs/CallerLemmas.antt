@@ -1,17 +1,25 @@
--- Laws of numbers and their bytes: each undoes the other, both are one-to-one, and lists are joined as their numbers
--- are.
-use Rattle.std.proofs.Common.{◌≡◌, ℕ, zero, suc, pow-add, ◌+◌, ◌-◌, ◌*◌, ◌/◌, ◌%◌, ◌^◌, ◌<◌, ◌≤◌, List, [], ◌∷◌, ◌++◌}
-use Rattle.std.proofs.Common.{length, refl, sym, ap, subst, ◌∙◌, arith}
+-- The lemmas that crates above cite.
 use Rattle.std.specs.List.{All}
 use Rattle.std.specs.Int.{Width, w16, w32, w64, w128, byte_len, bytes_high_first, to_be_bytes, from_be_bytes}
+use Rattle.std.specs.Int.Bits.{bit_xor}
+use Rattle.std.specs.Simd.Lanes.{zip2}
+use Rattle.std.proofs.Common.{◌≡◌, ℕ, zero, suc, pow-add, ◌+◌, ◌-◌, ◌*◌, ◌/◌, ◌%◌, ◌^◌, ◌<◌, ◌≤◌, List, [], ◌∷◌, ◌++◌}
+use Rattle.std.proofs.Common.{length, refl, sym, ap, subst, ◌∙◌, arith, inl, inr, slice_index}
 use Rattle.std.proofs.Math.Nat.{div-one, pow-succ', mul_assoc, div-div-eq-div-mul, mod-eq_of_lt, mul-add-mod_self_right}
 use Rattle.std.proofs.Math.Nat.{mul-add-div_right}
 use Rattle.std.proofs.Math.Arith.{mod-mul}
 use Rattle.std.proofs.lemmas.List.{length-append}
 use Rattle.std.proofs.lemmas.List.Elements.{All-nil, All-cons, All-head, All-tail}
 use Rattle.std.proofs.lemmas.Nat.{div-mul-add, mul-add-lt, mod_below}
+use Rattle.std.proofs.lemmas.List.FromFn.{fill_by_all}
+use Rattle.std.proofs.lemmas.Simd.{length-zip2, get_or-zip2}
 use Rattle.basics.specs.Bytes.{IsBytes}
 use Rattle.basics.specs.Numbers.{number_of, bytes_of}
+use Rattle.basics.specs.FaultCount.{Rose}
+use Rattle.basics.specs.Blocks.{xor_blocks}
+
+-- ---- laws of numbers and their bytes: each undoes the other, both are one-to-one, and lists are joined as their numbers
+-- are.
 
 -- ---- steps by recursion on the list
 
@@ -165,3 +173,23 @@ pub from_be_bytes-128 : (xs : List ℕ) → length xs ≡ 16 → from_be_bytes w
 unfolding number_of
 from_be_bytes-128 (a ∷ b ∷ c ∷ d ∷ e ∷ f ∷ g ∷ h ∷ i ∷ j ∷ k ∷ l ∷ m ∷ n ∷ o ∷ p ∷ []) size = omega arith
 from_be_bytes-128 xs size = absurd (omega arith)
+
+-- ---- laws of counts that rose
+
+-- a count that rose and doesn't fall afterwards has risen
+pub rose_then : (a b c : ℕ) → Rose a b → b ≤ c → Rose a c
+rose_then a b c (inl more) later = inl (omega arith)
+rose_then a b c (inr last) later = inr (omega arith)
+
+-- a count that didn't fall before it rose has risen
+pub rose_after : (a b c : ℕ) → a ≤ b → Rose b c → Rose a c
+rose_after a b c later (inl more) = inl (omega arith)
+rose_after a b c later (inr last) = inr last
+
+-- ---- the exclusive or of blocks, lane by lane
+
+-- the sum of two vectors of 16 lanes
+pub xor_is : (a b : List ℕ) → length a ≡ 16 → length b ≡ 16 → zip2 bit_xor a b ≡ xor_blocks a b
+unfolding xor_blocks
+xor_is a b la lb =
+    fill_by_all (λ i. bit_xor (slice_index a i) (slice_index b i)) (zip2 bit_xor a b) 16 0 (length-zip2 bit_xor a b (la ∙ sym lb) ∙ la) (λ k h. get_or-zip2 bit_xor a b k 0 0 0 (omega (arith, la)) (omega (arith, lb)))

@@ -3,9 +3,9 @@ use Rattle.std.specs.Prelude.{◌≡◌, ℕ, ◌+◌, ◌-◌, ◌%◌, ◌^◌
 use Rattle.std.proofs.Common.{refl, sym, ap, ◌∙◌, arith}
 use Rattle.std.proofs.lemmas.List.{take_at, drop_at, get_or_at, length-append, length-take-le}
 use Rattle.basics.specs.Numbers.{bytes_of}
-use Rattle.basics.specs.NumberLaws.{length-bytes_of, same_number}
+use Rattle.basics.proofs.CallerLemmas.{length-bytes_of, same_number}
 use Rattle.she_cmac.specs.Cmac.{cmac}
-use Rattle.she_cmac.specs.CmacLaws.{length-cmac}
+use Rattle.she_cmac.proofs.CallerLemmas.{length-cmac}
 use Rattle.secured_pdu.specs.Frame.{authenticated_input, assembled, secured_frame, IsFrame, Secured, Ahead}
 use Rattle.secured_pdu.specs.Verdict.{payload_of, low_of}
 

@@ -4,7 +4,7 @@ use Rattle.std.specs.Prelude.{◌≡◌, ℕ, suc, List, [], ◌∷◌, length, 
 use Rattle.std.proofs.Common.{refl, sym, ap, ◌∙◌}
 use Rattle.std.proofs.lemmas.List.Elements.{All-nil, All-cons}
 use Rattle.machine_runs.specs.Run.{Moment, Run, commands_in, lines_in}
-use Rattle.machine_runs.specs.MemberLaws.{MemberSteps-length}
+use Rattle.machine_runs.proofs.CallerLemmas.{MemberSteps-length}
 use Rattle.bus_machine.specs.declared.events.Event.{Event}
 use Rattle.bus_machine.specs.declared.lines.Line.{Line}
 use Rattle.bus_script.specs.LineKinds.{IsLine}

@@ -3,7 +3,7 @@ use Rattle.std.specs.Prelude.{◌≡◌, ℕ, List, [], ◌∷◌, length}
 use Rattle.std.proofs.Common.{sym, ap, ◌∙◌, subst}
 use Rattle.std.proofs.lemmas.Grind.{fold-append}
 use Rattle.she_aes.specs.Cipher.{IsBlock, enc, zero_block, xor_blocks}
-use Rattle.she_aes.specs.CipherFacts.{length-enc, IsBlock-enc}
+use Rattle.she_aes.proofs.CallerLemmas.{length-enc, IsBlock-enc}
 use Rattle.she_cmac.specs.Cmac.{front_blocks, last_piece, last_block, chained, cmac}
 
 -- a CMAC is the last encrypted block

@@ -4,7 +4,7 @@ use Rattle.std.proofs.Common.{refl, sym, subst, inl, inr, arith}
 use Rattle.cut_disk.specs.State.{DiskState, Told}
 use Rattle.cut_disk.specs.Arming.{no_arms}
 use Rattle.cut_disk.specs.Calls.{Rose, Runs, IsQuiet}
-use Rattle.cut_disk.specs.CallLaws.{runs_none, runs_more}
+use Rattle.cut_disk.proofs.CallerLemmas.{runs_none, runs_more}
 use Rattle.basics.specs.FaultCount.{last_count}
 use Rattle.cell_store.specs.declared.kinds.Kind.{Kind}
 use Rattle.cell_store.specs.declared.kinds.Version.{Version}

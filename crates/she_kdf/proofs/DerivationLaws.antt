@@ -3,7 +3,7 @@ use Rattle.std.proofs.Common.{◌<◌, ℕ, List, [], ◌∷◌, refl, fold, rul
 use Rattle.std.specs.List.{All}
 use Rattle.std.proofs.lemmas.List.Elements.{All-nil, All-cons, All-head, All-tail, All-from_recursion}
 use Rattle.she_aes.specs.Cipher.{IsBlock, zero_block, xor_blocks, enc}
-use Rattle.she_aes.specs.CipherFacts.{IsBlock-zero_block, IsBlock-xor_blocks, IsBlock-enc}
+use Rattle.she_aes.proofs.CallerLemmas.{IsBlock-zero_block, IsBlock-xor_blocks, IsBlock-enc}
 use Rattle.she_kdf.specs.Derivation.{next_out, miyaguchi_preneel, constant_block, kdf}
 use Rattle.she_kdf.specs.declared.Constant.{Constant}
 use Rattle.she_kdf.specs.declared.Constant.TheVariants.{Enc, Mac}

@@ -1,8 +1,28 @@
--- Laws of what comes from a source
-use Rattle.std.specs.Prelude.{List, ℕ, ◌+◌, [], ◌++◌, length}
-use Rattle.std.proofs.Common.{refl, sym, ◌∙◌, ap, arith, append_assoc, length-append}
+-- The lemmas that crates above cite.
+use Rattle.std.specs.Prelude.{List, ℕ, [], ◌++◌, Some, ◌+◌, length}
+use Rattle.std.proofs.Common.{◌∙◌, sym, ap, arith, append_assoc, append-nil, refl, length-append}
+use Rattle.bus_port.specs.Sink.{SinkState, Appended}
 use Rattle.bus_port.specs.Fault.{RoseBy}
 use Rattle.bus_port.specs.Source.{SourceState, Came}
+
+-- ---- laws of what is appended to a sink
+
+-- nothing was appended to a sink that nothing was done to
+pub Appended-nothing : (state : SinkState) → Appended state state []
+Appended-nothing state = record {
+  grown = λ held told. told ∙ ap Some (sym (append-nil held));
+  later = omega arith;
+}
+
+-- what was appended first, and then what was appended next
+pub Appended-more : {first before after : SinkState} {some more : List ℕ} → Appended first before some
+    → Appended before after more → Appended first after (some ++ more)
+Appended-more {first} {before} {after} {some} {more} p q = record {
+  grown = λ held told. q.grown (held ++ some) (p.grown held told) ∙ ap Some (append_assoc held some more);
+  later = omega (arith, p.later, q.later);
+}
+
+-- ---- laws of what comes from a source
 
 RoseBy-more : (first before after m n : ℕ) → RoseBy first before m → RoseBy before after n → RoseBy first after (m + n)
 RoseBy-more first before after m n p q = omega arith

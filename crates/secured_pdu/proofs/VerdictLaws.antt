@@ -4,7 +4,7 @@ use Rattle.std.proofs.Common.{refl, sym, ap, ◌∙◌, arith, subst}
 use Rattle.std.proofs.lemmas.List.{take_at, get_or_at, append_cancel_left, length-append}
 use Rattle.she_cmac.specs.Cmac.{cmac}
 use Rattle.secured_pdu.specs.Frame.{authenticated_input, assembled, secured_frame, IsPayload, IsWindow, Secured, Ahead}
-use Rattle.secured_pdu.specs.FrameLaws.{same_from_Ahead, payload_of_secured, low_of_secured}
+use Rattle.secured_pdu.proofs.FrameLaws.{same_from_Ahead, payload_of_secured, low_of_secured}
 use Rattle.secured_pdu.specs.Verdict.{Outcome, Accepted, FreshnessFailure, VerificationFailure, payload_of, low_of}
 use Rattle.secured_pdu.specs.Verdict.{Verdict}
 

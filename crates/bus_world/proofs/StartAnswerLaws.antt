@@ -15,8 +15,8 @@ use Rattle.bus_world.specs.declared.start.StartFault.{StartFault}
 use Rattle.bus_world.specs.declared.start.StartFault.TheVariants.{TooFew, TooSmall, Store, BadSlot, BadBound, Memory}
 use Rattle.bus_world.specs.Starts.{NotStarted, HasRoom, OfNumber, RefusedAt}
 use Rattle.bus_world.specs.StartRows.{start_row, HasMadeText, IsStartRow, StoreCause, LeavesEach}
-use Rattle.bus_world.specs.StartRowLaws.{no_line, no_disk, refused_at_10, leaves_same, start_leaves, no_room_fault}
-use Rattle.bus_world.specs.StartRowLaws.{no_store_cause}
+use Rattle.bus_world.proofs.StartRowLaws.{no_line, no_disk, refused_at_10, leaves_same, start_leaves, no_room_fault}
+use Rattle.bus_world.proofs.StartRowLaws.{no_store_cause}
 use Rattle.bus_world.specs.StartAnswers.{DiskStates, NoDiskFailed, CountsDiskFault, failed_row, MayWantMemory}
 use Rattle.bus_world.specs.StartAnswers.{ComesOfStart, disks_refused, store_refused, start_without_memory, BusHasDisks}
 use Rattle.bus_world.specs.StartAnswers.{ComesUnstarted}

@@ -6,8 +6,8 @@ use Rattle.std.proofs.lemmas.List.{length-map}
 use Rattle.std.proofs.lemmas.List.Elements.{All-nil, All-cons, All-head, All-tail}
 use Rattle.std.proofs.lemmas.List.FromFn.{get_or-map-range_with_len}
 use Rattle.she_aes.specs.Cipher.{IsBlock, xor_blocks, enc, dec}
-pub use Rattle.she_aes.specs.CipherFacts.{IsBlock-zero_block, length-xor_blocks, IsBlock-xor_blocks, IsBlock-enc}
-pub use Rattle.she_aes.specs.CipherFacts.{IsBlock-dec}
+pub use Rattle.she_aes.proofs.CipherFacts.{IsBlock-zero_block, length-xor_blocks, IsBlock-xor_blocks, IsBlock-enc}
+pub use Rattle.she_aes.proofs.CipherFacts.{IsBlock-dec}
 use Rattle.she_aes.specs.Modes.{ecb, ecb_inverse, cbc, cbc_inverse}
 
 -- ---- the exclusive or
