@@ -1,5 +1,5 @@
 -- Over a quiet disk the first world and the events of an endpoint determine its lines
-use Rattle.std.specs.Prelude.{◌≡◌, ℕ, Bool, false, List, [], ◌∷◌, length, get_or, All}
+use Rattle.std.specs.Prelude.{◌≡◌, false, List, [], ◌∷◌, get_or, All}
 use Rattle.std.proofs.Common.{refl, sym, ap, subst, arith}
 use Rattle.std.proofs.lemmas.List.{length-map, get_or-map}
 use Rattle.std.proofs.lemmas.List.Elements.{All-nil, All-cons}
