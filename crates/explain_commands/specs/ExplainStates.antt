@@ -5,7 +5,8 @@ use Rattle.watch_commands.specs.WatchMaps.{NumberedMap}
 use Rattle.explain_commands.specs.declared.recent.Accepted.{Accepted}
 use Rattle.explain_commands.specs.declared.answers.LineAnswer.{LineAnswer}
 use Rattle.explain_commands.specs.declared.answers.LineAnswer.TheVariants as answer
-use Rattle.explain_commands.specs.Explaining.{Known, answer_line, recent_of, counters_after, answers_to, explained_lines}
+use Rattle.explain_commands.specs.Explaining.{Known, answer_line, recent_of, counters_after, answers_to}
+use Rattle.explain_commands.specs.Explaining.{explained_lines}
 use Rattle.explain_commands.specs.Explaining.{said_of, next_counters, some_failed, have_risen, status_by}
 
 -- the map, the counters of its lines, and the frames that were accepted last; whether a frame failed; the line that no

@@ -13,12 +13,13 @@ use std::alloc::Global;
 /// the map and of the log as the run left them. `-` names the input, which is taken then. If both arguments are `-`,
 /// the map has it, and the log is missing. Of any other number of arguments nothing is opened, and both sources are
 /// missing.
-pub fn explain_words<O: Opener, I: Source + Drop, K: Sink>(
+pub fn explain_words<O: Opener, I: Source + Drop, K: Sink, E: Sink>(
     alloc: Global,
     opener: &mut O,
     input: &mut Option<I>,
     words: &[String],
     sink: &mut K,
+    errors: &mut E,
 ) -> (u8, WordSource<O::Opened, I>, WordSource<O::Opened, I>)
     // All that `explain` promises, of these words, over the sources that they name, which are those handed back. Each
     // of two words is opened once, and no other.
@@ -28,9 +29,13 @@ pub fn explain_words<O: Opener, I: Source + Drop, K: Sink>(
         (first_of_two (each string_bytes words.now)) (second_of_two (each string_bytes words.now))
         (word_source O.Opened.state I.state result.1) (word_source O.Opened.state I.state result.2)
         (λ map log. Explains (record { words = each string_bytes words.now; map = map; log = log })
-        (record { before = K.state sink.old; after = K.state sink.new; status = result.0 })) }
+        (record {
+          output = record { before = K.state sink.old; after = K.state sink.new };
+          errors = record { before = E.state errors.old; after = E.state errors.new };
+          status = result.0;
+        })) }
 {
     let (mut map, mut log) = open_two(opener, input, words);
-    let status = run_explain(alloc, words, &mut map, &mut log, sink);
+    let status = run_explain(alloc, words, &mut map, &mut log, sink, errors);
     (status, map, log)
 }

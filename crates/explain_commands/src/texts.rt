@@ -1,8 +1,8 @@
 //! The printed text of a reason. In room that a text has already no memory is taken.
 ghost use Rattle.std.specs.Prelude.{◌≡◌, ◌≤◌, ◌+◌, ◌++◌, length, OnOk, decimal};
 ghost use Rattle.text_lines.specs.Room.{AddsAtMost};
-ghost use Rattle.explain_commands.specs.ReasonTexts.{text_with_number, beyond_text, ahead_text, flipped_text, reason_text, hedge};
-ghost use Rattle.explain_commands.specs.ReasonTexts.{explained_line};
+ghost use Rattle.explain_commands.specs.ReasonTexts.{text_with_number, beyond_text, ahead_text, flipped_text};
+ghost use Rattle.explain_commands.specs.ReasonTexts.{reason_text, hedge, explained_line};
 
 use crate::kinds::{Explained, Reason};
 use itoa::Buffer;

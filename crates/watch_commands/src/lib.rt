@@ -18,6 +18,6 @@ mod start;
 mod state;
 
 pub use maps::{WatchMap, read_watch_map};
-pub use run::run_watch;
+pub use run::{is_only, run_watch};
 pub use start::watch_words;
 pub use state::Watch;

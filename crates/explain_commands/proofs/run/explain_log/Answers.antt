@@ -1,11 +1,9 @@
-use Rattle.std.proofs.Common.{[], ◌++◌, ◌∙◌, subst, refl, arith}
+use Rattle.std.proofs.Common.{[], ◌++◌, ◌∙◌, subst, sym, refl, arith}
 use Rattle.std.proofs.lemmas.List.{length-append}
 use Rattle.bus_port.specs.Source.{SourceState}
 use Rattle.bus_port.specs.Sink.{SinkState}
-use Rattle.program_edge.specs.Told.{EndingTold}
-use Rattle.program_edge.specs.Rows.{Row}
 use Rattle.watch_commands.specs.WatchMaps.{NumberedMap}
-use Rattle.explain_commands.specs.ExplainRows.{EndsExplained}
+use Rattle.explain_commands.specs.ExplainRows.{FailsOfExplained, EndsExplained}
 use Rattle.explain_commands.proofs.ExplainPorts.{ExplainSoFar-none, Ends-too_long}
 use Rattle.explain_commands.proofs.run.explain_log.Goals as goal
 
@@ -30,7 +28,7 @@ returns-in-Some g c =
     let start : SinkState = g.K.Sink.state c.args.sink.now in
     let (bytes, answers, so_far, enough) = c.loop.invariant.so_far in
     subst (λ (m : NumberedMap). EndsExplained m (record { before = first; after = g.T.Source.state c.next_piece.new.log })
-    (record { before = start; after = g.K.Sink.state c.next_piece.new.sink; status = c.in-Some.status })) (c.next_piece.ensures.mapping ∙ c.loop.invariant.mapping)
+    (record { before = start; after = g.K.Sink.state c.next_piece.new.sink }) c.in-Some.end) (c.next_piece.ensures.mapping ∙ c.loop.invariant.mapping)
     (c.in-Some.ensures.turns first start bytes answers so_far)
 
 pub returns : goal.returns
@@ -39,9 +37,7 @@ returns g c =
     let start : SinkState = g.K.Sink.state c.args.sink.now in
     let log : SourceState = g.T.Source.state c.loop.log in
     let sink : SinkState = g.K.Sink.state c.loop.sink in
-    let next : SinkState = g.K.Sink.state c.tell_refusal-2.new.sink in
     let (bytes, answers, so_far, enough) = c.loop.invariant.so_far in
-    subst (λ (m : NumberedMap). EndsExplained m (record { before = first; after = log })
-    (record { before = start; after = next; status = c.tell_refusal-2.result })) c.loop.invariant.mapping
-    (Ends-too_long first log start sink next c.loop.explainer bytes answers c.tell_refusal-2.result so_far (omega (arith, enough, c.loop-test.false))
-    (subst (λ (row : Row). EndingTold sink next row.text row.status c.tell_refusal-2.result) c.from.ensures c.tell_refusal-2.ensures))
+    subst (λ (m : NumberedMap). FailsOfExplained m (record { before = first; after = log }) (record { before = start; after = sink }) c.fixed.result) c.loop.invariant.mapping
+    (subst (FailsOfExplained c.loop.explainer.mapping (record { before = first; after = log }) (record { before = start; after = sink })) (sym c.fixed.ensures)
+    (Ends-too_long first log start sink c.loop.explainer bytes answers so_far (omega (arith, enough, c.loop-test.false))))
