@@ -19,11 +19,11 @@ mod texts;
 mod trials;
 
 pub use answers::{LineAnswer, answer_words};
-pub use kinds::{Case, Explained, Reason, ReasonKind};
+pub use kinds::{Case, Explained, Reason, ReasonKind, receiver_of};
 pub use reasons::explain;
 pub use recent::{Accepted, KEPT, Recent};
 pub use run::run_explain;
 pub use start::explain_words;
 pub use state::Explainer;
 pub use texts::push_explained;
-pub use trials::{Comparison, KnownReceiver, Making};
+pub use trials::{Comparison, KnownReceiver, Making, accepted_freshness};
