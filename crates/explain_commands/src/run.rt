@@ -2,6 +2,7 @@
 ghost use Rattle.std.specs.Prelude.{◌≡◌, [], map as each, List, ℕ, None, string_bytes};
 ghost use Rattle.bus_port.specs.Source.{SourceState};
 ghost use Rattle.bus_port.specs.Sink.{SinkState};
+ghost use Rattle.watch_commands.specs.WatchRows.{is_only_word};
 ghost use Rattle.explain_commands.specs.declared.answers.LineAnswer.{LineAnswer};
 ghost use Rattle.explain_commands.specs.ExplainStates.{Followed};
 ghost use Rattle.explain_commands.specs.ExplainRows.{EndsExplained, EndsExplainUntold, explain_text_asked};
@@ -13,7 +14,7 @@ use bus_port::{PortFailed, Sink, Source};
 use program_edge::{DONE, Refusal, WRITE_FAULT, tell, tell_refusal};
 use std::alloc::{AllocError, Global};
 use trace_audit::{PIECE, names_inputs};
-use watch_commands::{is_only, read_watch_map};
+use watch_commands::read_watch_map;
 
 const USAGE: &str = "usage: explain MAP LOG\n";
 
@@ -96,6 +97,16 @@ fn run_untold<S: Source, T: Source, K: Sink>(
     match prepare(alloc, words, map) {
         Ok(mut explainer) => explain_log(&mut explainer, log, sink),
         Err(refusal) => Err(refusal),
+    }
+}
+
+/// Whether there is one word, and it is this.
+fn is_only(words: &[String], word: &str) -> bool
+    ensures { result ≡ is_only_word word.now (each string_bytes words.now) }
+{
+    match words {
+        [only] => only.as_str() == word,
+        _ => false,
     }
 }
 

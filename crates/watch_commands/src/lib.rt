@@ -17,8 +17,7 @@ mod run;
 mod start;
 mod state;
 
-pub use faults::map_input_refusal;
-pub use maps::{WatchMap, map_of_text, read_watch_map};
-pub use run::{is_only, run_watch};
+pub use maps::{WatchMap, read_watch_map};
+pub use run::run_watch;
 pub use start::watch_words;
 pub use state::Watch;

@@ -1,11 +1,13 @@
-use Rattle.std.proofs.Common.{◌≡◌, ℕ, ◌+◌, ◌*◌, ◌<◌, length, sym, ap, ◌∙◌, arith, add-zero}
+use Rattle.std.proofs.Common.{◌≡◌, ℕ, ◌+◌, ◌*◌, ◌<◌, length, get_or, sym, ap, ◌∙◌, arith, add-zero}
 use Rattle.explain_commands.specs.declared.kinds.Reason.{Reason}
+use Rattle.explain_commands.specs.declared.kinds.ReasonKind.TheVariants as kind
 use Rattle.explain_commands.specs.Reasons.{Failing, all_kinds, first_reason}
 use Rattle.explain_commands.proofs.Searching.{agreeing_within, tries_on, reason_found, tries_found, reason_next, tries_next, reason_none, tries_none}
 use Rattle.explain_commands.proofs.reasons.explain.Goals as goal
 
 pub reason-requires : goal.reason-requires
-reason-requires c = agreeing_within c.args.case.now _ c.in-Some.at (sym c.search-searched.ensures.found ∙ c.in-Some.is)
+reason-requires c =
+    agreeing_within c.args.case.now (get_or all_kinds c.loop-kind.kind-index kind.Replay) c.in-Some.at (sym c.search-searched.ensures.found ∙ c.in-Some.is)
 
 pub returns-in-Some : goal.returns-in-Some
 returns-in-Some c =
