@@ -1,12 +1,11 @@
 -- What comes of a log, and what is printed of it, from turn to turn
-use Rattle.std.proofs.Common.{◌≡◌, ℕ, ◌+◌, ◌<◌, ◌≤◌, List, [], ◌++◌, length, refl, sym, ◌∙◌, ap, subst, inl, inr, arith, append-nil}
+use Rattle.std.proofs.Common.{◌≡◌, ℕ, ◌<◌, ◌≤◌, List, [], ◌++◌, length, refl, sym, ◌∙◌, ap, subst, inl, inr, arith, append-nil}
 use Rattle.std.specs.Prelude.{Some, Ok}
 use Rattle.std.proofs.lemmas.Grind.{flat_map-append}
-use Rattle.std.proofs.Math.Seq.{take-append-add}
 use Rattle.bus_port.specs.Fault.{Rose}
 use Rattle.basics.proofs.CallerLemmas.{rose_after}
 use Rattle.bus_port.specs.Source.{SourceState, Came, HandsOut, ReadFails}
-use Rattle.bus_port.specs.Sink.{SinkState, Appended}
+use Rattle.bus_port.specs.Sink.{SinkState}
 use Rattle.bus_port.proofs.CallerLemmas.{Came-nothing, Came-more}
 use Rattle.bus_port.proofs.CallerLemmas.{Appended-more, Appended-nothing}
 use Rattle.bus_port.specs.Whole.{AppendedPart}

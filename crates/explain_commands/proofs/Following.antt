@@ -1,7 +1,6 @@
 -- The state goes on by more bytes, and by the end of a line.
 use Rattle.std.proofs.Common.{◌≡◌, ℕ, zero, suc, ◌+◌, ◌<◌, ◌≤◌, Bool, true, false, List, [], ◌∷◌, ◌++◌, length, take, refl, sym, ◌∙◌, ap, subst, arith, append-nil, append_assoc, inl, inr, length-append}
-use Rattle.std.specs.Prelude.{if◌then◌else◌, nat_lt, ◌||◌, fold, filter_map, flat_map, reverse, Option, None, Some, slice_get, option_map, unwrap_or}
-use Rattle.std.specs.List.{list_any}
+use Rattle.std.specs.Prelude.{if◌then◌else◌, nat_lt, ◌||◌, fold, filter_map, reverse, Option, None, Some, slice_get, option_map, unwrap_or}
 use Rattle.std.proofs.lemmas.Bool.{cases_lt}
 use Rattle.std.proofs.lemmas.Bool.Decides.{nat_tests}
 use Rattle.std.proofs.lemmas.Grind.{flat_map-append}

@@ -11,7 +11,7 @@ use Rattle.program_edge.specs.Endings.{EndsIn, MayEndIn, PrintsFront, SinkFailed
 use Rattle.trace_audit.specs.declared.map_lines.MapLine.{MapLine}
 use Rattle.trace_audit.specs.Rows.{AuditInputs, NamesInputs}
 use Rattle.watch_commands.specs.MapFaults.{map_fault_text, map_input_text}
-use Rattle.watch_commands.specs.WatchMaps.{NumberedMap, watch_map_of}
+use Rattle.watch_commands.specs.WatchMaps.{watch_map_of}
 use Rattle.watch_commands.specs.WatchRows.{IsWatchMapFault, ReadsToEnd, HasCome, IsUnwritten, WritesWhole}
 use Rattle.watch_commands.specs.WatchRows.{WatchEnding, on_output, on_errors, log_failed_text, log_too_long_text}
 use Rattle.watch_commands.specs.Watches.{IsAnswer}

@@ -1,4 +1,4 @@
-use Rattle.std.proofs.Common.{◌≡◌, ℕ, ◌+◌, ◌*◌, ◌<◌, length, get_or, sym, ap, ◌∙◌, arith, add-zero}
+use Rattle.std.proofs.Common.{ℕ, ◌+◌, ◌<◌, length, get_or, sym, ap, ◌∙◌, arith, add-zero}
 use Rattle.explain_commands.specs.declared.kinds.Reason.{Reason}
 use Rattle.explain_commands.specs.declared.kinds.ReasonKind.TheVariants as kind
 use Rattle.explain_commands.specs.Reasons.{Failing, all_kinds, first_reason}
