@@ -89,9 +89,12 @@ class Search:
         for number, line, freshness in reversed(self.accepted[-KEPT:]):
             if line is own:
                 self.fits(f"replay of line {number}", own.key, own.data_id, own.size, data, freshness)
-        for steps in range(own.window + 1, own.window + 1 + FAR):
-            beyond = f"{steps} ahead: the window is {own.window}, {steps - own.window} frames were missed beyond it"
-            self.fits(beyond, own.key, own.data_id, own.size, data, own.counter + steps)
+        # every 256th freshness has the low byte that the frame carries
+        low = data[own.size] if own.size < len(data) else 0
+        beyond = own.window + 1
+        for steps in range(beyond + (low - own.counter - beyond) % 256, beyond + FAR, 256):
+            text = f"{steps} ahead: the window is {own.window}, {steps - own.window} frames were missed beyond it"
+            self.fits(text, own.key, own.data_id, own.size, data, own.counter + steps)
         for size in range(1, 61):
             if size != own.size:
                 self.within(f"verifies with a payload of {size}", own, size=size)
