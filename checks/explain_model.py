@@ -120,6 +120,8 @@ class Search:
         except Found as found:
             hedge = "perhaps " if 1000 * self.tries > 1 << 24 else ""
             return f"{hedge}{found}, tries {self.tries}"
+        if len(self.data) < self.line.size + 4:
+            return f"too short for a payload of {self.line.size}, tries {self.tries}"
         return f"no reason found: key, or contents, tries {self.tries}"
 
 

@@ -12,7 +12,7 @@ use Rattle.explain_commands.specs.declared.kinds.ReasonKind.{ReasonKind}
 use Rattle.explain_commands.specs.declared.kinds.Reason.TheVariants as reason
 use Rattle.explain_commands.specs.Trials.{agrees, is_computed}
 use Rattle.explain_commands.specs.Reasons.{Failing, trial_of, number_of_tries, first_agreeing, computed_in, looked_at, tries_for}
-use Rattle.explain_commands.specs.Reasons.{reason_at, reason_or, first_reason, tries_behind, all_tries}
+use Rattle.explain_commands.specs.Reasons.{reason_at, reason_or, last_reason, first_reason, tries_behind, all_tries}
 
 -- one more number
 pub range_more : (a n j : ℕ) → a + n ≡ j → range_with_len a (n + 1) ≡ range_with_len a n ++ j ∷ []
@@ -142,7 +142,7 @@ module _ (f : Failing) (ks : List ReasonKind) (i : ℕ) (d : ReasonKind) (inside
       ∙ ap (λ (o : Option ℕ). tries_for f (get_or ks i d) + tries_behind o (all_tries f (drop (i + 1) ks))) is
 
 -- no kind is left
-pub reason_none : (f : Failing) (ks : List ReasonKind) (i : ℕ) → length ks ≤ i → first_reason f (drop i ks) ≡ reason.NoReason
+pub reason_none : (f : Failing) (ks : List ReasonKind) (i : ℕ) → length ks ≤ i → first_reason f (drop i ks) ≡ last_reason f
 unfolding first_reason
 reason_none f ks i all = at_drop_all (first_reason f) ks i all
 

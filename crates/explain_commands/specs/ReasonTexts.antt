@@ -32,11 +32,13 @@ reason_text reason.SwappedId = codes "verifies with the Data ID's bytes in the o
 reason_text reason.SwappedFreshness = codes "verifies with the freshness's bytes in the other order"
 reason_text reason.LastBytes = codes "authenticator is the CMAC's last bytes"
 reason_text (reason.FlippedBit byte bit) = flipped_text byte bit
+reason_text (reason.TooShort size) = text_with_number (codes "too short for a payload of ") size
 reason_text reason.NoReason = codes "no reason found: key, or contents"
 
 -- three bytes agree by accident once in 2^24 tries. After so many tries that this happens more than once in a thousand
 -- frames, a reason is only a guess
 abbrev pub hedge : Reason → ℕ → List ℕ
+hedge (reason.TooShort size) tries = []
 hedge reason.NoReason tries = []
 hedge _ tries = if nat_le (1000 * tries) (2 ^ 24) then [] else codes "perhaps "
 

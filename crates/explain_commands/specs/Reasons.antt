@@ -1,5 +1,6 @@
 -- Why a frame fails: the reasons in the order in which they are looked for, and the first that holds
-use Rattle.std.specs.Prelude.{ℕ, ◌+◌, ◌*◌, ◌/◌, ◌%◌, ◌^◌, ◌==◌, if◌then◌else◌, List, [], ◌∷◌, length, filter, find}
+use Rattle.std.specs.Prelude.{ℕ, ◌+◌, ◌*◌, ◌/◌, ◌%◌, ◌^◌, ◌==◌, nat_lt, if◌then◌else◌, List, [], ◌∷◌, length}
+use Rattle.std.specs.Prelude.{filter, find}
 use Rattle.std.specs.Prelude.{slice_get, slice_index, slice_set, bit_xor, Option, None, Some, option_map, unwrap_or}
 use Rattle.std.specs.List.{range_with_len}
 use Rattle.trace_audit.specs.declared.map_lines.MapLine.{MapLine}
@@ -128,8 +129,12 @@ abbrev pub reason_or : Failing → ReasonKind → Option ℕ → Reason → Reas
 reason_or f k None later = later
 reason_or f k (Some i) later = reason_at f k i
 
+-- the reason if no try agrees: a frame may have too few bytes for the payload and 4 more
+abbrev pub last_reason : Failing → Reason
+last_reason f = if nat_lt (length f.bytes) (f.receiver.size + 4) then reason.TooShort f.receiver.size else reason.NoReason
+
 unfoldable pub first_reason : Failing → List ReasonKind → Reason
-first_reason f [] = reason.NoReason
+first_reason f [] = last_reason f
 first_reason f (k ∷ ks) = reason_or f k (first_agreeing f k) (first_reason f ks)
 
 -- the authenticators of the kinds behind this one are computed only if no try of it agrees

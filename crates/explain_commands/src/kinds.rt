@@ -3,7 +3,8 @@ ghost use Rattle.std.specs.Prelude.{◌≡◌, ◌<◌, ◌≤◌, ◌^◌, leng
 ghost use Rattle.explain_commands.specs.declared.kinds.ReasonKind.TheVariants as kind;
 ghost use Rattle.explain_commands.specs.Trials.{accepted_freshness};
 ghost use Rattle.explain_commands.specs.Explaining.{frame_at};
-ghost use Rattle.explain_commands.specs.Reasons.{receiver_of, trial_of, number_of_tries, reason_at, beyond, flipped};
+ghost use Rattle.explain_commands.specs.Reasons.{receiver_of, trial_of, number_of_tries, reason_at, last_reason, beyond};
+ghost use Rattle.explain_commands.specs.Reasons.{flipped};
 
 use crate::recent::{Accepted, Recent};
 use crate::trials::{
@@ -67,7 +68,9 @@ pub enum Reason {
     LastBytes,
     /// It verifies if this bit of this byte is flipped. Both are counted from 0, the bits from the lowest.
     FlippedBit(usize, usize),
-    /// None of these.
+    /// None of these: it has too few bytes for a payload of so many.
+    TooShort(usize),
+    /// None of these, and it is long enough.
     NoReason,
 }
 
@@ -223,6 +226,17 @@ impl<'a> Case<'a> {
             ReasonKind::SwappedFreshness => Reason::SwappedFreshness,
             ReasonKind::LastBytes => Reason::LastBytes,
             ReasonKind::FlippedBit => Reason::FlippedBit(at / 8, at % 8),
+        }
+    }
+
+    /// The reason if no try agrees.
+    pub fn last_reason(&self) -> Reason
+        ensures { result ≡ last_reason self.now }
+    {
+        if self.bytes.len() < self.receiver.size + 4 {
+            Reason::TooShort(self.receiver.size)
+        } else {
+            Reason::NoReason
         }
     }
 

@@ -2,7 +2,7 @@
 ghost use Rattle.std.specs.Prelude.{◌≡◌, ◌≤◌};
 ghost use Rattle.explain_commands.specs.Reasons.{all_kinds, first_agreeing, tries_for, explained};
 
-use crate::kinds::{Case, Explained, Reason, ReasonKind};
+use crate::kinds::{Case, Explained, ReasonKind};
 use crate::trials::Comparison;
 
 /// The kinds in their order.
@@ -64,7 +64,7 @@ pub fn explain(case: &Case<'_>) -> Explained
         }
     }
     Explained {
-        reason: Reason::NoReason,
+        reason: case.last_reason(),
         tries,
     }
 }

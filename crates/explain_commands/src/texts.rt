@@ -36,7 +36,9 @@ fn push_hedge(text: &mut Vec<u8>, explained: &Explained) -> Result<(), AllocErro
     ensures hedge { OnOk result (text.new.items ≡ text.old.items ++ hedge explained.now.reason explained.now.tries) }
     ensures room { AddsAtMost 8 text.old text.new result }
 {
-    if matches!(explained.reason, Reason::NoReason) || explained.tries <= CERTAIN {
+    if matches!(explained.reason, Reason::TooShort(_) | Reason::NoReason)
+        || explained.tries <= CERTAIN
+    {
         return Ok(());
     }
     text.extend_from_slice(b"perhaps ")
@@ -68,6 +70,9 @@ fn push_reason(text: &mut Vec<u8>, reason: &Reason) -> Result<(), AllocError>
         }
         Reason::LastBytes => text.extend_from_slice(b"authenticator is the CMAC's last bytes"),
         Reason::FlippedBit(byte, bit) => push_flipped(text, byte, bit),
+        Reason::TooShort(size) => {
+            push_with_number(text, b"too short for a payload of ", size as u64)
+        }
         Reason::NoReason => text.extend_from_slice(b"no reason found: key, or contents"),
     }
 }

@@ -36,6 +36,7 @@ pub returns : goal.returns
 returns c =
     let f : Failing = c.args.case.now in
     let i : ℕ = c.loop-kind.kind-index in
-    ap (λ (r : Reason). record { reason = r; tries = c.loop-kind.tries }) (sym (c.loop-kind.invariant.reason_is ∙ reason_none f all_kinds i (omega (arith, c.loop-kind-test.false))))
+    ap (λ (r : Reason). record { reason = r; tries = c.loop-kind.tries })
+    (c.last_reason.ensures ∙ sym (c.loop-kind.invariant.reason_is ∙ reason_none f all_kinds i (omega (arith, c.loop-kind-test.false))))
     ∙ ap (λ (n : ℕ). record { reason = first_reason f all_kinds; tries = n })
     (sym (c.loop-kind.invariant.tries_are ∙ ap (λ n. c.loop-kind.tries + n) (tries_none f all_kinds i (omega (arith, c.loop-kind-test.false))) ∙ add-zero c.loop-kind.tries))
