@@ -1,5 +1,5 @@
 //! What the words of the command line ask for.
-ghost use Rattle.std.specs.Prelude.{◌≡◌, ◌≤◌, length, map as each, string_bytes};
+ghost use Rattle.std.specs.Prelude.{◌≡◌, ◌≤◌, false, length, map as each, string_bytes};
 ghost use Rattle.watch_commands.specs.Words.{is_watch_option, options_before, says_option, watch_options, watch_inputs};
 
 /// How findings are printed.

@@ -17,7 +17,7 @@ pub loop-place-preserved : goal.loop-place-preserved
 loop-place-preserved c =
     let words : List (List ℕ) = map string_bytes c.args.words.now in
     let word_is : get_or words c.loop-place.place [] ≡ c.as_str.result.now =
-    get_or-map string_bytes c.args.words.now c.loop-place.place c.index-words-place.result [] (omega (arith, c.loop-place-test.true, c.len-size.ensures))
+    get_or-map string_bytes c.args.words.now c.loop-place.place c.index-words-place.result [] (omega (arith, c.loop-place-test.true))
     ∙ ap string_bytes (sym c.index-words-place.is) ∙ sym c.as_str.ensures.value in
     below_more _ _ c.loop-place.invariant
     (tested words c.loop-place.place c.as_str.result.now c.is_option.result true word_is c.is_option.ensures c.if-not-is_option.false)
@@ -25,7 +25,7 @@ loop-place-preserved c =
 pub returns-then-not-is_option-clause-exact : goal.returns-then-not-is_option-clause-exact
 returns-then-not-is_option-clause-exact c =
     let words : List (List ℕ) = map string_bytes c.args.words.now in
-    let inside : c.loop-place.place < length c.args.words.now = omega (arith, c.loop-place-test.true, c.len-size.ensures) in
+    let inside : c.loop-place.place < length c.args.words.now = omega (arith, c.loop-place-test.true) in
     let word_is : get_or words c.loop-place.place [] ≡ c.as_str.result.now =
     get_or-map string_bytes c.args.words.now c.loop-place.place c.index-words-place.result [] inside
     ∙ ap string_bytes (sym c.index-words-place.is) ∙ sym c.as_str.ensures.value in
@@ -35,8 +35,8 @@ returns-then-not-is_option-clause-exact c =
 pub returns-clause-exact : goal.returns-clause-exact
 returns-clause-exact c =
     let words : List (List ℕ) = map string_bytes c.args.words.now in
-    let whole : c.loop-place.place ≡ c.len-size.result = omega (arith, c.loop-place-test.false, c.loop-place.auto.place-end) in
-    let size : length words ≡ c.len-size.result = omega (arith, c.len-size.ensures, length-map c.args.words.now string_bytes) in
-    sym (position_or_len_is (λ (w : List ℕ). not (is_watch_option w)) words c.len-size.result [] (omega (arith, size))
+    let size : ℕ = length c.args.words.now in
+    let whole : c.loop-place.place ≡ size = omega (arith, c.loop-place-test.false, c.loop-place.auto.place-end) in
+    sym (position_or_len_is (λ (w : List ℕ). not (is_watch_option w)) words size [] (omega (arith, length-map c.args.words.now string_bytes))
     (subst (λ (n : ℕ). (k : ℕ) → k < n → not (is_watch_option (get_or words k [])) ≡ false) whole c.loop-place.invariant)
-    (λ less. absurd (omega (arith, less, size))))
+    (λ less. absurd (omega (arith, less, length-map c.args.words.now string_bytes))))

@@ -12,11 +12,11 @@ any_mapped h p (x ∷ xs) = ap (λ (b : Bool). p (h x) || b) (any_mapped h p xs)
 
 pub returns : goal.returns
 returns c =
-    let count : ℕ = c.count_options.result in
+    let count : ℕ = c.count_options-count.result in
     let option : List ℕ = c.args.option.now in
     let words = take count c.args.words.now in
     let found : c.any.result ≡ list_any (λ w. bytes_eq (string_bytes w) option) words =
     any_from_yields_List (λ w. bytes_eq (string_bytes w) option) _ _ c.any.result c.any.ensures.ran (YieldsList-from_slice words cc) (λ x b q k. search (rules, tests)) in
     found ∙ sym (any_mapped string_bytes (λ (w : List ℕ). bytes_eq w option) words)
     ∙ ap (list_any (λ (w : List ℕ). bytes_eq w option)) (sym (take-map string_bytes count c.args.words.now)
-    ∙ ap (λ (n : ℕ). take n (map string_bytes c.args.words.now)) c.count_options.ensures.exact)
+    ∙ ap (λ (n : ℕ). take n (map string_bytes c.args.words.now)) c.count_options-count.ensures.exact)
