@@ -12,13 +12,7 @@ use trace_audit::{FrameTally, add_bytes};
 
 /// Adds what is printed of the answer to the line with this number of the log, in room for 320 bytes. The answer is
 /// empty if no line of the map judged it. It takes no memory.
-pub fn add_answer(
-    text: &mut Vec<u8>,
-    map: &WatchMap,
-    number: u64,
-    tally: FrameTally,
-    answer: &[u8],
-)
+pub fn add_answer(text: &mut Vec<u8>, map: &WatchMap, number: u64, tally: FrameTally, answer: &[u8])
     requires room { vec_len text.old + 320 ≤ vec_capacity text.old }
     requires answer { length answer.now ≤ 232 }
     requires answers { (finding : Finding) × IsAnswerIn map.now.lines number tally answer.now finding }
@@ -31,7 +25,14 @@ pub fn add_answer(
         return;
     };
     let head = map.lines()[place].head();
-    add_judged(text, map.options(), number, head, tally.is_accepted(), answer);
+    add_judged(
+        text,
+        map.options(),
+        number,
+        head,
+        tally.is_accepted(),
+        answer,
+    );
 }
 
 /// The place of the map's line that judged a frame.

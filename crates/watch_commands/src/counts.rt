@@ -122,8 +122,20 @@ pub fn add_counts(text: &mut Vec<u8>, json: bool, counts: &WatchCounts)
     add_count(text, json, b"{\"accepted\":", b"accepted ", counts.accepted);
     add_count(text, json, b",\"failed\":", b"failed ", counts.failed);
     add_count(text, json, b",\"unmapped\":", b"unmapped ", counts.unmapped);
-    add_count(text, json, b",\"other frames\":", b"other frames ", counts.other_frames);
-    add_count(text, json, b",\"malformed\":", b"malformed ", counts.malformed);
+    add_count(
+        text,
+        json,
+        b",\"other frames\":",
+        b"other frames ",
+        counts.other_frames,
+    );
+    add_count(
+        text,
+        json,
+        b",\"malformed\":",
+        b"malformed ",
+        counts.malformed,
+    );
     add_bytes(text, before_value(json, b"}\n", b""));
 }
 
@@ -153,9 +165,21 @@ pub fn add_line_counts(text: &mut Vec<u8>, json: bool, entry: &MapLine, counts: 
         .saturating_sub(entry.counter)
         .saturating_sub(counts.accepted);
     add_line_head(text, json, entry, counts.number);
-    add_number(text, before_value(json, b"\",\"accepted\":", b" accepted "), counts.accepted);
-    add_number(text, before_value(json, b",\"failed\":", b" failed "), counts.failed);
-    add_number(text, before_value(json, b",\"missed\":", b" missed "), missed);
+    add_number(
+        text,
+        before_value(json, b"\",\"accepted\":", b" accepted "),
+        counts.accepted,
+    );
+    add_number(
+        text,
+        before_value(json, b",\"failed\":", b" failed "),
+        counts.failed,
+    );
+    add_number(
+        text,
+        before_value(json, b",\"missed\":", b" missed "),
+        missed,
+    );
     add_last(text, json, counts.last);
 }
 

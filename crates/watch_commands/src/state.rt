@@ -299,7 +299,13 @@ impl Watch {
             &mut self.answer,
         )
         .unwrap();
-        add_answer(&mut self.text, &self.map, self.lines, tally, self.answer.as_slice());
+        add_answer(
+            &mut self.text,
+            &self.map,
+            self.lines,
+            tally,
+            self.answer.as_slice(),
+        );
         Some(tally)
     }
 
