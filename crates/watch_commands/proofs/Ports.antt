@@ -79,7 +79,7 @@ module _ (first log later : SourceState) (start sink next : SinkState) (old new 
     calm = calm ∙ so_far.calm;
     watched = watched;
     prints = subst (λ (m : NumberedMap). AppendedWell start next (found_text m (findings ++ more))) (sym same)
-        (subst (AppendedWell start next) (sym (flat_map-append (told_text old.mapping.quiet) findings more))
+        (subst (AppendedWell start next) (sym (flat_map-append (told_text old.mapping.options) findings more))
         (AppendedWell-more start sink next (found_text old.mapping findings) (found_text old.mapping more) so_far.prints prints));
   }
 
@@ -123,7 +123,7 @@ module _ (first log later : SourceState) (start sink next : SinkState) (old new 
       (sym (here.2 ∙ ap (λ r. bytes ++ r) gone ∙ append-nil bytes), behind.1 ∙ ap Some last) in
       let text_is : found_text old.mapping findings ++ (found_text old.mapping more ++ totals_text old.mapping all) ≡ found_text old.mapping all ++ totals_text old.mapping all =
       sym (append_assoc (found_text old.mapping findings) (found_text old.mapping more) (totals_text old.mapping all))
-      ∙ ap (λ t. t ++ totals_text old.mapping all) (sym (flat_map-append (told_text old.mapping.quiet) findings more)) in
+      ∙ ap (λ t. t ++ totals_text old.mapping all) (sym (flat_map-append (told_text old.mapping.options) findings more)) in
       inl (record {
         row = row_of (watch_status old.mapping all) (found_text old.mapping all ++ totals_text old.mapping all);
         comes = done bytes all
