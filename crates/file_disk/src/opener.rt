@@ -3,7 +3,7 @@ ghost use Rattle.std.specs.Prelude.{◌≡◌, ◌∷◌, ◌++◌, [], List, �
 ghost use Rattle.cut_disk.specs.State.{DiskState};
 ghost use Rattle.file_disk.specs.NamedDisks.{TellsFirmBytes};
 
-use crate::{FileDisk, HeldFile, SystemFile, room_to_hold};
+use crate::{FileDisk, HeldFile, SystemFile};
 use cut_disk::CutDisk;
 use program_edge::OpenedWords;
 use std::alloc::{AllocError, Global};
@@ -27,10 +27,8 @@ pub trait DiskOpener {
         ensures unopened { OnErr result (opened self.new ≡ opened self.old) };
 }
 
-/// Opens the disk over the file whose path the word is, which is made with 65,536 zero bytes if it isn't there; `-` is
-/// a file of that name, too. The disk is the file's first bytes, at most 131,072, which stay in memory. A file that
-/// can't be opened and made, or read, is a disk of 65,536 zero bytes whose reads, writes and syncs all fail. If there
-/// is no memory nothing is opened or made. No clause says which file is opened.
+/// Opens the disk over the file whose path the word is, which is made if it isn't there; `-` is a file of that name,
+/// too.
 #[derive(Drop)]
 pub struct DiskPaths<'a> {
     rt: &'a HostRuntime,
@@ -63,8 +61,7 @@ impl<'a> DiskOpener for DiskPaths<'a> {
         alloc: Global,
         word: &str,
     ) -> Result<FileDisk<HeldFile<SystemFile>>, AllocError> {
-        let room = room_to_hold(alloc)?;
-        let disk = FileDisk::held(SystemFile::on(self.rt, word), room);
+        let disk = FileDisk::on(alloc, self.rt, word)?;
         self.opened = self.opened.and(word);
         Ok(disk)
     }

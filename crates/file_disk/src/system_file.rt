@@ -4,6 +4,9 @@ ghost use Rattle.file_disk.specs.FileCalls.{ReadAt, WriteAt, SyncAll, Notes};
 ghost use Rattle.file_disk.specs.SystemFile.{is_there, length_of, has_failed};
 
 use crate::byte_file::{ByteFile, FileFailed};
+use crate::file_disk::FileDisk;
+use crate::held_file::{HeldFile, room_to_hold};
+use std::alloc::{AllocError, Global};
 use std::fs::{File, OpenOptions};
 use std::io::ErrorKind;
 use std::os::unix::fs::{FileExt, OpenOptionsExt};
@@ -257,4 +260,23 @@ fn fill(file: &File) -> io::Result<()> {
     file.try_lock()?;
     file.set_len(FIRST_SIZE)?;
     file.sync_all()
+}
+
+impl FileDisk<HeldFile<SystemFile>> {
+    ghost use Rattle.file_disk.specs.FileDisk.{file_contents, IsJustOpened};
+
+    /// A disk over the file at this path, which is made with 65,536 zero bytes if it isn't there. It tells its bytes:
+    /// those that the file reads as now, of a longer file the first 131,072, which alone are the disk. They stay in
+    /// memory. A file that can't be opened and made, or read, is a disk of 65,536 zero bytes whose reads, writes and
+    /// syncs all fail. If there is no memory nothing is opened or made. No clause says which file is opened.
+    pub fn on(
+        alloc: Global,
+        rt: &HostRuntime,
+        path: &str,
+    ) -> Result<FileDisk<HeldFile<SystemFile>>, AllocError>
+        ensures { IfOk result (λ disk. IsJustOpened (file_contents disk)) }
+    {
+        let room = room_to_hold(alloc)?;
+        Ok(FileDisk::held(SystemFile::on(rt, path), room))
+    }
 }

@@ -2,7 +2,7 @@
 use crate::acts::{Act, Other, Then, What, answers_so, does};
 use crate::comparing::holds;
 use cut_disk::{CutDisk, Disk, Mark, Torn};
-use file_disk::{DiskOpener, DiskPaths, FileDisk, SystemFile};
+use file_disk::{FileDisk, SystemFile};
 use std::fs::OpenOptions;
 use std::process::Abort;
 use std::{env, fs, process};
@@ -58,7 +58,7 @@ fn finds_size(rt: &HostRuntime, path: &str, size: u64) -> bool {
 }
 
 fn is_locked_out(rt: &HostRuntime, path: &str) -> bool {
-    match DiskPaths::of(rt).open(rt.alloc(), path) {
+    match FileDisk::on(rt.alloc(), rt, path) {
         Ok(mut other) => other.size() == 65536 && answers_so(&mut other, b"xxx"),
         Err(_) => false,
     }
@@ -94,7 +94,7 @@ fn are_done<D: CutDisk>(rt: &HostRuntime, path: &str, disk: &mut D, acts: &[Act]
 }
 
 fn is_opened(rt: &HostRuntime, path: &str, acts: &[Act]) -> bool {
-    match DiskPaths::of(rt).open(rt.alloc(), path) {
+    match FileDisk::on(rt.alloc(), rt, path) {
         Ok(mut disk) => are_done(rt, path, &mut disk, acts),
         Err(_) => false,
     }
@@ -119,7 +119,7 @@ fn is_left(rt: &HostRuntime, path: &str, acts: &[Act]) -> bool {
 
 /// Whether a second disk fails after a first one, which is closed.
 fn is_second<D: CutDisk + Drop>(rt: &HostRuntime, path: &str, first: D) -> bool {
-    match DiskPaths::of(rt).open(rt.alloc(), path) {
+    match FileDisk::on(rt.alloc(), rt, path) {
         Ok(mut other) => {
             drop(first);
             answers_so(&mut other, b"xxx")
@@ -129,7 +129,7 @@ fn is_second<D: CutDisk + Drop>(rt: &HostRuntime, path: &str, first: D) -> bool 
 }
 
 fn stays_out(rt: &HostRuntime, path: &str) -> bool {
-    match DiskPaths::of(rt).open(rt.alloc(), path) {
+    match FileDisk::on(rt.alloc(), rt, path) {
         Ok(first) => is_second(rt, path, first),
         Err(_) => false,
     }
@@ -152,7 +152,7 @@ fn reads_zeros<D: Disk>(rt: &HostRuntime, disk: &mut D) -> bool {
 }
 
 fn is_zeros(rt: &HostRuntime, path: &str) -> bool {
-    match DiskPaths::of(rt).open(rt.alloc(), path) {
+    match FileDisk::on(rt.alloc(), rt, path) {
         Ok(mut disk) => reads_zeros(rt, &mut disk),
         Err(_) => false,
     }

@@ -31,7 +31,7 @@ RunsWords source disk words request disks e = Keys
     }) e
 
 -- the disks of a command: the one that the file's name opens, once; none if no file is named
-pub record NamesDisk (opens : List ℕ → DiskState → Type 0) (before after : List (List ℕ)) (words : List (List ℕ))
+pub record NamesLoadDisk (opens : List ℕ → DiskState → Type 0) (before after : List (List ℕ)) (words : List (List ℕ))
     (disks : List DiskState) : Type 0 where
   pub file : Option (List ℕ)
   pub names : NamesFile words file
@@ -44,7 +44,7 @@ pub record RunsWithFile {S D : Type 0} (source : S → SourceState) (disk : D �
     (opens : List ℕ → DiskState → Type 0) (by : Handed (List (List ℕ))) (words : List (List ℕ)) (request : Handed S)
     (left : List D) (e : Ending) : Type 0 where
   pub disks : List D
-  pub named : NamesDisk opens by.before by.after words (map disk disks)
+  pub named : NamesLoadDisk opens by.before by.after words (map disk disks)
   pub runs : RunsWords source disk words request (record { before = disks; after = left }) e
 
 -- the arguments ask for a load, and there was no memory for them or for the disk: nothing was read, written or opened

@@ -6,7 +6,7 @@ ghost use Rattle.file_disk.specs.NamedDisks.{DisksAreNamed};
 ghost use Rattle.key_commands.specs.declared.example.TheConstants.{EXAMPLE};
 ghost use Rattle.key_commands.specs.declared.subcommands.Subcommand.TheVariants.{Load};
 ghost use Rattle.key_commands.specs.Subcommands.{NamesSubcommand};
-ghost use Rattle.key_commands.specs.Files.{NamesFile, NamesDisk, RunsWords, RunsWithFile, WantsFile};
+ghost use Rattle.key_commands.specs.Files.{NamesFile, NamesLoadDisk, RunsWords, RunsWithFile, WantsFile};
 
 use crate::example::run_example;
 use crate::parsing::parse;
@@ -77,7 +77,7 @@ fn open_named<P: DiskOpener>(
     disk_opener: &mut P,
     words: &[String],
 ) -> Result<Vec<P::Opened>, AllocError>
-    ensures named { IfOk result (λ disks. NamesDisk (P.opens disk_opener.old) (P.opened disk_opener.old)
+    ensures named { IfOk result (λ disks. NamesLoadDisk (P.opens disk_opener.old) (P.opened disk_opener.old)
         (P.opened disk_opener.new) (each string_bytes words.now) (each P.Opened.state disks.items)) }
     ensures asks { OnErr result (NamesSubcommand (each string_bytes words.now) Load) }
     ensures unopened { OnErr result (P.opened disk_opener.new ≡ P.opened disk_opener.old) }
