@@ -1,14 +1,14 @@
 -- Lives that begin with a format whose head was cut.
-use Rattle.std.proofs.Common.{◌≡◌, ◌≢◌, ◌⊎◌, inl, inr, ℕ, zero, suc, ◌<◌, true, false, Option, Some, None, List, [], ◌∷◌, refl, sym, ap, subst, ◌∙◌}
+use Rattle.std.proofs.Common.{◌≡◌, ◌≢◌, inl, inr, ℕ, zero, suc, ◌<◌, Option, Some, List, [], ◌∷◌, refl, sym, ap, subst, ◌∙◌}
 use Rattle.std.proofs.lemmas.Bool.{cases_eq, true≢false}
 use Rattle.std.proofs.lemmas.Option.{none-some, same_Some}
 use Rattle.flash_places.specs.declared.FlashLine.{FlashLine}
-use Rattle.flash_places.specs.declared.FlashLine.TheVariants.{Head, Entry}
+use Rattle.flash_places.specs.declared.FlashLine.TheVariants.{Head}
 use Rattle.flash_places.specs.Places.{Flash, FlashPlace, LooksAll, Looks, sees, sees_nothing, SameButAt, blank_place, whole_place}
 use Rattle.flash_laws.specs.Logs.{CellList}
 use Rattle.flash_laws.specs.Lives.{FlashLayout, FlashMachine, FlashStage, off, found, copying, ready, IsUp, was_found, was_ready}
 use Rattle.flash_laws.specs.Lives.{FlashDeed, scans, resumes, erases, copies, heads, puts, cuts_scan, cuts_erase, cuts_copy, cuts_head, cuts_put, cuts}
-use Rattle.flash_laws.specs.Lives.{FlashLives, Possible, IsReadyFlash, FlashFormatted, Scans, CutsScan, CutsBetween}
+use Rattle.flash_laws.specs.Lives.{FlashLives, Possible, IsReadyFlash, Scans, CutsScan, CutsBetween}
 use Rattle.flash_laws.specs.CutFormats.{CutFormatted}
 use Rattle.flash_laws.proofs.Reached.{formatted_lives}
 
@@ -61,7 +61,7 @@ suc≢zero k e = absurd (cc)
 -- ---- a scan
 
 module _ (l : FlashLayout) (cells : CellList) (a m : FlashMachine) (h : CutFormatted l cells a) where
-  machine-of : FlashMachine
+  abbrev machine-of : FlashMachine
   machine-of = record { flash = h.whole; stage = off }
 
   -- the head that a scan found is that of bank 0
