@@ -23,7 +23,7 @@ ghost use Rattle.std.specs.Prelude.{◌≡◌, ◌⊎◌, ℕ, ◌+◌, ◌<◌,
 ghost use Rattle.flash_places.specs.declared.FlashLine.{FlashLine};
 ghost use Rattle.flash_places.specs.Places.{Flash, LooksAll};
 ghost use Rattle.flash_places.specs.declared.FlashLine.TheVariants.{Entry};
-ghost use Rattle.flash_laws.specs.CutFormats.{CutFormatted};
+ghost use Rattle.flash_laws.specs.CutFormats.{CutFormatted, LivesFormatted};
 ghost use Rattle.flash_laws.specs.Logs.{CellList, copy_lines, after_lines};
 ghost use Rattle.flash_laws.specs.Lives.{FlashLayout, FlashMachine, FlashDeed, FlashLives, FlashFormatted, IsReadyFlash, IsOff, ScanFinds, PlaceIsBlank, Possible, wear_of, power_losses, next_bank, erases, heads, cuts_erase, cuts_put};
 
@@ -39,10 +39,12 @@ pub fn a_put_is_whole_or_absent_over_all_lives()
 {}
 
 /// If the power cut the head of a format, its last operation, then each store that a later start finds has these cells
-/// first, and all goes on as after a whole format.
+/// first. Once it is ready, all goes on as after a whole format: lives from one lead to the same machine (`found`).
 pub fn a_cut_format_is_there_or_not()
-    ensures { (l : FlashLayout) (deeds : List FlashDeed) (cells now : CellList) (a b : FlashMachine)
+    ensures cells { (l : FlashLayout) (deeds : List FlashDeed) (cells now : CellList) (a b : FlashMachine)
         → CutFormatted l cells a → FlashLives l deeds a b → IsReadyFlash b now → Possible deeds cells now }
+    ensures found { (l : FlashLayout) (deeds : List FlashDeed) (cells now : CellList) (a b : FlashMachine)
+        → CutFormatted l cells a → FlashLives l deeds a b → IsReadyFlash b now → LivesFormatted l cells b }
 {}
 
 /// Each power-up finds the store, whatever the places that aren't firm are read as.
