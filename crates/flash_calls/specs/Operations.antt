@@ -41,7 +41,8 @@ abbrev pub SaysOperation : ℕ → Option Operation → FlashOperation → Type 
 SaysOperation size None o = o.kind ≡ 0
 SaysOperation size (Some (Read bank place)) o =
     (o.kind ≡ 1) × ((o.bank ≡ bank) × ((o.offset ≡ place * size) × (o.length ≡ size)))
-SaysOperation size (Some (Erase bank)) o = (o.kind ≡ 2) × (o.bank ≡ bank)
+SaysOperation size (Some (Erase bank)) o =
+    (o.kind ≡ 2) × ((o.bank ≡ bank) × ((o.offset ≡ 0) × (o.length ≡ 0)))
 SaysOperation size (Some (Program bank place line)) o =
     (o.kind ≡ 3) × ((o.bank ≡ bank) × ((o.offset ≡ place * size) × ((o.length ≡ size)
     × (take size o.bytes ≡ line_bytes size line))))

@@ -76,8 +76,8 @@ pub fn a_start_erases_only_if_it_must()
 /// If the head of a format, its last operation, fails or is cut, its store is there or none (`flash_laws` says what
 /// follows for all lives).
 pub fn a_format_may_be_cut_at_its_head()
-    ensures { (plan : FlashPlan) (cells : CellList) (f g : Flash) (outcome : FlashOutcome) → IsPlanOf (length cells) plan
-        → FormatsAt plan cells f → plan.step ≡ Filling (length cells) → Fails (Program 0 0 (Head 1)) outcome
+    ensures { (plan : FlashPlan) (cells : CellList) (f g : Flash) (outcome : FlashOutcome)
+        → IsPlanOf (length cells) plan → FormatsAt plan cells f → plan.step ≡ Filling (length cells) → Fails (Program 0 0 (Head 1)) outcome
         → DoesOperation (Program 0 0 (Head 1)) outcome f g
         → CutFormatted (plan_layout plan (length cells)) cells (machine g off) }
 {}
