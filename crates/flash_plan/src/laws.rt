@@ -77,8 +77,8 @@ pub fn a_start_erases_only_if_it_must()
 /// follows for all lives).
 pub fn a_format_may_be_cut_at_its_head()
     ensures { (plan : FlashPlan) (cells : CellList) (f g : Flash) (outcome : FlashOutcome)
-        → IsPlanOf (length cells) plan → FormatsAt plan cells f → plan.step ≡ Filling (length cells) → Fails (Program 0 0 (Head 1)) outcome
-        → DoesOperation (Program 0 0 (Head 1)) outcome f g
+        → IsPlanOf (length cells) plan → FormatsAt plan cells f → plan.step ≡ Filling (length cells)
+        → Fails (Program 0 0 (Head 1)) outcome → DoesOperation (Program 0 0 (Head 1)) outcome f g
         → CutFormatted (plan_layout plan (length cells)) cells (machine g off) }
 {}
 
