@@ -154,9 +154,9 @@ none_made (performs put outcome bytes ∷ deeds) a b none all =
     let d = all.1.0 in
     let m = moves_in put outcome bytes a all.0 d in
     elim (put_judged put) [
-      | inl no ↦
-          ap (λ (o : Option WaitingPut). deed_in o (program_outcome outcome) ++ puts_made deeds) no
-          ∙ none_made deeds all.0 b (elim (m.waits (d.comes.put_is ∙ no)) [
+      | inl free ↦
+          ap (λ (o : Option WaitingPut). deed_in o (program_outcome outcome) ++ puts_made deeds) free
+          ∙ none_made deeds all.0 b (elim (m.waits (d.comes.put_is ∙ free)) [
             | inl kept ↦ kept ∙ none
             | inr failed ↦ failed.1
           ]) all.1.1
@@ -176,9 +176,9 @@ one_made (performs put outcome bytes ∷ deeds) w a b is all idle =
     let d = all.1.0 in
     let m = moves_in put outcome bytes a all.0 d in
     elim (put_judged put) [
-      | inl no ↦ elim (m.waits (d.comes.put_is ∙ no)) [
+      | inl free ↦ elim (m.waits (d.comes.put_is ∙ free)) [
         | inl kept ↦
-            ap (λ (o : Option WaitingPut). deed_in o (program_outcome outcome) ++ puts_made deeds) no
+            ap (λ (o : Option WaitingPut). deed_in o (program_outcome outcome) ++ puts_made deeds) free
             ∙ one_made deeds w all.0 b (kept ∙ is) all.1.1 idle
         | inr failed ↦ absurd (failed_rests deeds all.0 b failed.0 all.1.1 idle)
       ]

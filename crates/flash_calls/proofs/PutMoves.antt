@@ -55,8 +55,8 @@ some_put (Some w) h = (w, refl)
 
 program_failed : (outcome : ℕ) → outcome ≢ 0 → program_outcome outcome ≡ Failed
 program_failed outcome wrong = elim (cases_Bool (nat_eq outcome 0)) [
-  | inl yes ↦ absurd (wrong (eqb-true outcome 0 yes))
-  | inr no ↦ ap (λ (b : Bool). if b then Done else Failed) no
+  | inl is ↦ absurd (wrong (eqb-true outcome 0 is))
+  | inr ne ↦ ap (λ (b : Bool). if b then Done else Failed) ne
 ]
 
 module _ (old new : FlashPlan) (cells : CellList) (operation : Operation) (outcome : ℕ) (came : FlashOutcome)
