@@ -5,7 +5,6 @@ use Rattle.std.proofs.lemmas.List.{set-set}
 use Rattle.std.proofs.lemmas.Option.{none-some, same_Some}
 use Rattle.flash_laws.specs.Logs.{CellList}
 use Rattle.flash_laws.specs.Lives.{FlashDeed, puts, Possible}
-use Rattle.flash_plan.specs.declared.operations.Operation.{Operation}
 use Rattle.flash_plan.specs.declared.operations.FlashOutcome.{FlashOutcome}
 use Rattle.flash_plan.specs.declared.operations.FlashOutcome.TheVariants.{Answered, Done, Failed}
 use Rattle.flash_plan.specs.declared.plans.PlanEnd.TheVariants.{Failed as end_failed}
@@ -18,7 +17,7 @@ use Rattle.flash_plan.specs.Turns.{deed_in}
 use Rattle.flash_calls.specs.Numbers.{plan_in}
 use Rattle.flash_calls.specs.Calls.{PutMoves}
 use Rattle.flash_calls.specs.CallLives.{FlashSizes, CallState, CallDeed, performs, takes_put, starts, is_cut, ComesNext, PerformsNext, TakesPut}
-use Rattle.flash_calls.specs.CallLives.{CallLives, OperationDone, OperationsDone, program_outcome, puts_made, IsFoundStore, EachPutTaken, IsPutOf, TakesNoPut}
+use Rattle.flash_calls.specs.CallLives.{CallLives, OperationsDone, program_outcome, puts_made, IsFoundStore, EachPutTaken, IsPutOf, TakesNoPut}
 use Rattle.flash_calls.proofs.CallLaws.{put_judged}
 use Rattle.flash_calls.proofs.PutMoves.{some_put}
 use Rattle.flash_calls.proofs.LifeLaws.{call_later}

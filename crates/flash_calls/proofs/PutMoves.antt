@@ -1,6 +1,6 @@
 -- What the outcome of an operation does to a put that waits.
-use Rattle.std.proofs.Common.{◌≡◌, ◌≢◌, ◌⊎◌, inl, inr, ℕ, nat_eq, if◌then◌else◌, Bool, true, false, Option, Some, None, refl, sym, ap, subst, ◌∙◌}
-use Rattle.std.proofs.lemmas.Bool.{cases_Bool, eqb-true}
+use Rattle.std.proofs.Common.{◌≡◌, ◌≢◌, ◌⊎◌, ◌↔◌, inl, inr, ℕ, nat_eq, if◌then◌else◌, Bool, true, false, Option, Some, None, IfSome, refl, sym, ap, subst, ◌∙◌, arith}
+use Rattle.std.proofs.lemmas.Bool.{cases_Bool, cases_lt, eqb-true, eqb-false}
 use Rattle.std.proofs.lemmas.Option.{none-some}
 use Rattle.flash_laws.specs.Logs.{CellList}
 use Rattle.flash_plan.specs.declared.operations.Operation.{Operation}
@@ -13,7 +13,7 @@ use Rattle.flash_plan.specs.declared.plans.PlanStep.{PlanStep}
 use Rattle.flash_plan.specs.declared.plans.PlanStep.TheVariants.{Heading, Copied, Puts, Free, Erasing, Copying, Ready, Clearing, Filling, Ended}
 use Rattle.flash_plan.specs.declared.plans.FlashPlan.{FlashPlan}
 use Rattle.flash_plan.specs.Plans.{Fails, IsFailure, failed_plan, fails_in_step, step_operation, operation_of, put_in}
-use Rattle.flash_calls.specs.Operations.{Comes}
+use Rattle.flash_calls.specs.Operations.{Comes, FailsBy}
 use Rattle.flash_calls.specs.Calls.{PutMoves, HasFailed}
 use Rattle.flash_calls.specs.CallLives.{program_outcome}
 use Rattle.flash_calls.proofs.LifeLaws.{put_came}
@@ -49,6 +49,33 @@ failed_ends banks plan cells operation put (Clearing bank) next = (refl, refl)
 failed_ends banks plan cells operation put (Filling done) next = (refl, refl)
 failed_ends banks plan cells operation put (Ended end) next = absurd (none-some operation next)
 
+-- the number says so exactly if the plan takes it so
+fails_by_number : (b : Bool) (operation : Operation) (outcome : ℕ) (came : FlashOutcome) → nat_eq outcome 0 ≡ b
+    → came ≡ (if b then Done else Failed) → (Fails operation Done → ⊥) → Fails operation came ↔ (outcome ≢ 0)
+fails_by_number true operation outcome came is comes well =
+    ((λ f. absurd (well (subst (Fails operation) comes f))), (λ other. absurd (other (eqb-true outcome 0 is))))
+fails_by_number false operation outcome came is comes well =
+    ((λ f. eqb-false outcome 0 is), (λ other. subst (Fails operation) (sym comes) (failed_fails operation)))
+
+fails_so : (operation : Operation) (outcome : ℕ) (came : FlashOutcome) → Comes operation outcome came
+    → Fails operation came ↔ FailsBy operation outcome
+fails_so (Read bank place) outcome came comes = (
+  (λ f. elim (cases_lt 2 outcome) [
+    | inl over ↦ over
+    | inr most ↦ absurd (comes.1 (omega (arith, most)) f)
+  ]),
+  (λ over. subst (Fails (Read bank place)) (sym (comes.0 over)) tt),
+)
+fails_so (Erase bank) outcome came comes = fails_by_number (nat_eq outcome 0) (Erase bank) outcome came refl comes (λ f. f)
+fails_so (Program bank place line) outcome came comes =
+    fails_by_number (nat_eq outcome 0) (Program bank place line) outcome came refl comes (λ f. f)
+
+-- a plan whose next operation comes has not failed
+not_failed : (banks : ℕ) (put : Option WaitingPut) (cells : CellList) (operation : Operation) (step : PlanStep)
+    → step_operation banks step put cells ≡ Some operation → step ≡ Ended end_failed → ⊥
+not_failed banks put cells operation step next is =
+    none-some operation (subst (λ (s : PlanStep). step_operation banks s put cells ≡ Some operation) is next)
+
 pub some_put : (o : Option WaitingPut) → o ≢ None → (w : WaitingPut) × (o ≡ Some w)
 some_put None h = absurd (h refl)
 some_put (Some w) h = (w, refl)
@@ -74,6 +101,18 @@ module _ (old new : FlashPlan) (cells : CellList) (operation : Operation) (outco
       let w = some_put (put_in old) some in
       let is = put_came old.banks outcome old.put cells w.0 operation came old.step w.1 next comes in
       failed_by (subst (Fails operation) (sym (is ∙ program_failed outcome wrong)) (failed_fails operation))
+
+  pub fails_exactly : (new.step ≡ Ended end_failed → (old.step ≡ Ended end_failed) ⊎ IsFailure (operation_of old cells) came)
+      → IfSome (operation_of old cells) (λ it. (new.step ≡ Ended end_failed) ↔ FailsBy it outcome)
+  fails_exactly only =
+      let so = fails_so operation outcome came comes in
+      subst (λ (o : Option Operation). IfSome o (λ it. (new.step ≡ Ended end_failed) ↔ FailsBy it outcome)) (sym next) (
+        (λ ended. so.0 (elim (only ended) [
+          | inl before ↦ absurd (not_failed old.banks old.put cells operation old.step next before)
+          | inr f ↦ subst (λ (o : Option Operation). IsFailure o came) next f
+        ])),
+        (λ by. (failed_by (so.1 by)).0),
+      )
 
   pub put_moves : PutMoves outcome old new
   put_moves = record {

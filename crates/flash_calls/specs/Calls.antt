@@ -1,5 +1,5 @@
 -- What a call does to a plan in numbers, and why it does nothing.
-use Rattle.std.specs.Prelude.{◌≡◌, ◌≢◌, ◌⊎◌, ◌+◌, ◌*◌, ◌/◌, ◌≤◌, ◌<◌, ℕ, Option, Some, None, IfSome, List, length}
+use Rattle.std.specs.Prelude.{◌≡◌, ◌≢◌, ◌⊎◌, ◌↔◌, ◌+◌, ◌*◌, ◌/◌, ◌≤◌, ◌<◌, ℕ, Option, Some, None, IfSome, List, length}
 use Rattle.flash_places.specs.Places.{Flash}
 use Rattle.flash_laws.specs.Logs.{CellList}
 use Rattle.flash_laws.specs.Lives.{FlashMachine, off}
@@ -23,6 +23,7 @@ use Rattle.flash_calls.specs.declared.numbers.FlashNumbers.{FlashNumbers}
 use Rattle.flash_calls.specs.declared.operations.FlashOperation.{FlashOperation}
 use Rattle.flash_calls.specs.Numbers.{plan_in}
 use Rattle.flash_calls.specs.Operations.{IsProgramUnit, IsCallOf, FitsPart, SaysOperation, PerformsBytes, Comes}
+use Rattle.flash_calls.specs.Operations.{FailsBy}
 
 -- a line of a part of this unit takes so many bytes
 pub record IsLineSize (unit size : ℕ) : Type 0 where
@@ -92,8 +93,8 @@ pub record PutMoves (outcome : ℕ) (old new : FlashPlan) : Type 0 where
   pub programmed : put_in old ≢ None → new.put ≡ None
   pub failed : put_in old ≢ None → outcome ≢ 0 → HasFailed new
 
--- The caller performed the next operation, and the plan stands where that leads. If none came next, nothing changed. A
--- plan that makes a store keeps its cells.
+-- The caller performed the next operation, and the plan stands where that leads. It has failed exactly if the outcome
+-- says so. If none came next, nothing changed. A plan that makes a store keeps its cells.
 pub record DidMoves (outcome : ℕ) (bytes : List ℕ) (old : FlashNumbers) (cells scratch : CellList) (new : FlashNumbers)
     (cells' scratch' : CellList) : Type 0 where
   pub was : IsCallOf (length cells) old
@@ -113,6 +114,8 @@ pub record DidMoves (outcome : ℕ) (bytes : List ℕ) (old : FlashNumbers) (cel
       → IfSome (operation_of (plan_in old) cells) (λ it. PerformsBytes old.places (line_length old.unit) it outcome
       bytes f g → FormatsAt (plan_in new) cells' g × (cells' ≡ cells))
   pub put : (operation_of (plan_in old) cells ≡ None → ⊥) → PutMoves outcome (plan_in old) (plan_in new)
+  pub fails : IfSome (operation_of (plan_in old) cells)
+      (λ it. ((plan_in new).step ≡ Ended end_failed) ↔ FailsBy it outcome)
   pub less : (operation_of (plan_in old) cells ≡ None → ⊥)
       → operations_left (length cells) (plan_in new) < operations_left (length cells) (plan_in old)
   pub none : operation_of (plan_in old) cells ≡ None → (new ≡ old) × ((cells' ≡ cells) × (scratch' ≡ scratch))
