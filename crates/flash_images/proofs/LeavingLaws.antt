@@ -1,13 +1,8 @@
 -- What a store on flash leaves of a plan that is under way.
-use Rattle.std.proofs.Common.{◌≡◌, ◌⊎◌, inl, inr, ℕ, List, [], ◌∷◌, set, sym, subst, ◌∙◌}
-use Rattle.flash_places.specs.Places.{Flash}
+use Rattle.std.proofs.Common.{◌≡◌, inl, inr, ℕ, List, [], ◌∷◌, set, sym, subst, ◌∙◌}
 use Rattle.flash_laws.specs.Logs.{CellList}
-use Rattle.flash_laws.specs.Lives.{FlashMachine, FlashDeed, puts, cuts_put, FlashFormatted, IsReadyFlash, Possible}
-use Rattle.flash_plan.specs.declared.plans.FlashPlan.{FlashPlan}
+use Rattle.flash_laws.specs.Lives.{FlashDeed, puts, cuts_put, Possible}
 use Rattle.flash_plan.specs.Plans.{IsIdle}
-use Rattle.flash_plan.specs.Standing.{plan_layout, StandsAt}
-use Rattle.flash_plan.specs.Turns.{Turn, PlanTurns, puts_in}
-use Rattle.flash_plan.proofs.CallerLemmas.{turns_later, idle_ready}
 use Rattle.flash_calls.specs.Numbers.{plan_in}
 use Rattle.flash_calls.specs.CallLives.{FlashSizes, CallState, CallDeed, CallLives, OperationsDone, TakesPut, IsFoundStore}
 use Rattle.flash_calls.proofs.CallerLemmas.{put_there, none_there, put_done}
