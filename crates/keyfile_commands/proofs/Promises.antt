@@ -305,8 +305,8 @@ module _ (i : KeyFileInputs) (e : Ending) where
     | inr (inl (bad, same, three)) ↦ cc same
     | inr (inr (inl (other, t, same, also, one))) ↦ inl one
     | inr (inr (inr (other, t, same, prints, zero))) ↦
-      let is : other ≡ task = cc same in
-      absurd (not_both task t text (subst (λ (k : Task). PrintsDone k t) is prints) denies)
+        let is : other ≡ task = cc same in
+        absurd (not_both task t text (subst (λ (k : Task). PrintsDone k t) is prints) denies)
   ]
 
   completes : (task : Task) → OffersCall i (Ok task) → (row : Row) → ComesOfKeyFiles i row
@@ -335,6 +335,7 @@ module _ (i : KeyFileInputs) (e : Ending) where
           let same : read ≡ bytes = Offers-whole i.first bytes read offers whole in
           let both : Some key ≡ None = sym gives ∙ ap key_file_of same ∙ none in
           cc both
+
       go : (row : Row) → ComesOfKeyFiles i row → (row.status ≡ 4) ⊎ (row.status ≡ 7)
       go row (no_form no_call first second) = absurd (called call is no_call)
       go row (no_file fault (inl (some, lacks, unread))) = inr (ap input_fault_status (Offers-is i.first bytes fault offers lacks))
@@ -352,6 +353,7 @@ module _ (i : KeyFileInputs) (e : Ending) where
     where
       clash : (key : List ℕ) × GivesKey i.first key → ⊥
       clash (key, (read, whole, gives)) = not_same i.first counts whole.no_fault
+
       go : (row : Row) → ComesOfKeyFiles i row → row.status ≡ 5
       go row (no_form none first second) = absurd (not_same i.first counts (ap (λ (s : SourceState). s.faults) first))
       go row (no_file fault (inl (some, lacks, unread))) = ap input_fault_status (CountsFault-is i.first fault counts lacks)
@@ -390,6 +392,7 @@ module _ (i : KeyFileInputs) (e : Ending) where
     where
       clash : (key : List ℕ) × GivesKey i.first key → ⊥
       clash (key, (read, whole, gives)) = whole_long i.first read whole counts
+
       go : (row : Row) → ComesOfKeyFiles i row → row.status ≡ 8
       go row (no_form none first second) = absurd (unread_long i.first first counts)
       go row (no_file fault (inl (some, lacks, unread))) = ap input_fault_status (CountsTooMuch-is i.first fault counts lacks)
