@@ -9,8 +9,8 @@ use Rattle.key_commands.specs.declared.tasks.BadValue.{BadValue}
 use Rattle.keyfile_commands.specs.declared.calls.KeyCall.{KeyCall}
 use Rattle.keyfile_commands.specs.declared.calls.KeyCall.TheVariants.{Make, Read, Confirm, Bootmac}
 use Rattle.keyfile_commands.specs.KeyFiles.{key_file_of}
-use Rattle.keyfile_commands.specs.Rows.{KeyFileInputs, Asks, AsksBy, GivesKey, HasNoKey, LacksImageFile, ReadsImageFile}
-use Rattle.keyfile_commands.specs.KeyFilesRuns.{OffersKey, OffersImage, OffersBy, OffersCall}
+use Rattle.keyfile_commands.specs.Rows.{KeyFileInputs, AsksKeys, AsksKeysBy, GivesKey, HasNoKey, LacksImageFile, ReadsImageFile}
+use Rattle.keyfile_commands.specs.KeyFilesRuns.{OffersKey, OffersBootImage, OffersBy, OffersCall}
 
 -- the key that a file tells is the one that it gives
 pub same_key : (file : Reading) (key other : List ℕ) → OffersKey file key → GivesKey file other → other ≡ key
@@ -28,17 +28,17 @@ no_key_told file key (bytes, offers, is) (read, whole, none) =
 pub key_lacks : (file : Reading) (key : List ℕ) (fault : InputFault) → OffersKey file key → Lacks file fault → fault ≡ input.Memory
 key_lacks file key fault (bytes, offers, is) lacks = Offers-is file bytes fault offers lacks
 
-pub same_image : (file : Reading) (image other : List ℕ) → OffersImage file image → ReadsImageFile file other → other ≡ image
+pub same_image : (file : Reading) (image other : List ℕ) → OffersBootImage file image → ReadsImageFile file other → other ≡ image
 same_image file image other (told, some, short, well) whole = (whole.whole image told).0
 
-pub image_lacks : (file : Reading) (image : List ℕ) (fault : InputFault) → OffersImage file image → LacksImageFile file fault → fault ≡ input.Memory
+pub image_lacks : (file : Reading) (image : List ℕ) (fault : InputFault) → OffersBootImage file image → LacksImageFile file fault → fault ≡ input.Memory
 image_lacks file image input.ReadFault (told, some, short, well) (rose, within) = absurd (well rose)
 image_lacks file image input.TooLong (told, some, short, well) (same, (bytes, more, came)) =
     let (rest, left, parts) = came.next image told in
     absurd (omega (arith, short, more, ap length parts, length-append bytes rest))
 image_lacks file image input.Memory offers lacks = refl
 
-asked_by : (i : KeyFileInputs) (call : KeyCall) (asked other : Result Task BadValue) → OffersBy call i asked → AsksBy call i other → other ≡ asked
+asked_by : (i : KeyFileInputs) (call : KeyCall) (asked other : Result Task BadValue) → OffersBy call i asked → AsksKeysBy call i other → other ≡ asked
 asked_by i Make asked other (key, auth, offers, offers_auth, is) (k, a, gives, gives_auth, also) =
     let key_is : k ≡ key = same_key i.first key k offers gives in
     let auth_is : a ≡ auth = same_key i.second auth a offers_auth gives_auth in
@@ -55,8 +55,8 @@ asked_by i Bootmac asked other (key, image, offers, offers_image, is) (k, m, giv
     cc (is, also, key_is, image_is)
 
 -- the arguments ask for one thing alone
-pub asks_one : (i : KeyFileInputs) (asked other : Result Task BadValue) → OffersCall i asked → Asks i other → other ≡ asked
+pub asks_one : (i : KeyFileInputs) (asked other : Result Task BadValue) → OffersCall i asked → AsksKeys i other → other ≡ asked
 asks_one i asked other (call, named, offers) (also, is, asks) =
     let both : Some also ≡ Some call = sym is ∙ named in
     let same : also ≡ call = cc both in
-    asked_by i call asked other offers (subst (λ (c : KeyCall). AsksBy c i other) same asks)
+    asked_by i call asked other offers (subst (λ (c : KeyCall). AsksKeysBy c i other) same asks)

@@ -17,8 +17,8 @@ use Rattle.keyfile_commands.specs.declared.calls.KeyCall.TheVariants.{Make, Boot
 use Rattle.keyfile_commands.specs.declared.run.KeyTask.{KeyTask}
 use Rattle.keyfile_commands.specs.declared.run.KeyTask.TheVariants.{Image}
 use Rattle.keyfile_commands.specs.Calls.{call_of}
-use Rattle.keyfile_commands.specs.Rows.{KeyFileInputs, Asks, HasFirst, ComesOfKeyFiles, no_file, no_key, no_image, wrong_value, no_memory, denied, done}
-use Rattle.keyfile_commands.specs.Steps.{IsCallOf, TaskAsks, IsTaskOver, PreparesKeys, LacksKey, no_key_read, no_key_in, LacksImage, no_image_read, no_image_in}
+use Rattle.keyfile_commands.specs.Rows.{KeyFileInputs, AsksKeys, HasFirst, ComesOfKeyFiles, no_file, no_key, no_image, wrong_value, no_memory, denied, done}
+use Rattle.keyfile_commands.specs.Steps.{IsKeytoolCall, TaskAsks, IsTaskOver, PreparesKeys, LacksKey, no_key_read, no_key_in, LacksBootImage, no_image_read, no_image_in}
 
 -- the arguments are a call
 pub is_some : (words : List (List ℕ)) (call : KeyCall) → call_of words ≡ Some call → call_of words ≢ None
@@ -33,11 +33,11 @@ pub of_second : (i : KeyFileInputs) (row : Row) → HasFirst i Make → LacksKey
 of_second i row has (no_key_read fault lacks) = no_file fault (inr (inl (has, lacks)))
 of_second i row has (no_key_in none) = no_key (inr (has, none))
 
-pub of_image : (i : KeyFileInputs) (row : Row) → HasFirst i Bootmac → LacksImage i.second row → ComesOfKeyFiles i row
+pub of_image : (i : KeyFileInputs) (row : Row) → HasFirst i Bootmac → LacksBootImage i.second row → ComesOfKeyFiles i row
 of_image i row has (no_image_read fault lacks) = no_file fault (inr (inr (has, lacks)))
 of_image i row has (no_image_in none) = no_image has none
 
-pub of_asked : (i : KeyFileInputs) (asked : Result Task BadValue) → Asks i asked → (row : Row) → AskedComes asked row → ComesOfKeyFiles i row
+pub of_asked : (i : KeyFileInputs) (asked : Result Task BadValue) → AsksKeys i asked → (row : Row) → AskedComes asked row → ComesOfKeyFiles i row
 of_asked i asked asks row (asked_wrongly bad is) = wrong_value bad (rw is at asks)
 of_asked i asked asks row no_text = no_memory asked asks
 of_asked i asked asks row (task_denied task text is denies) = denied task text (rw is at asks) denies
@@ -45,8 +45,8 @@ of_asked i asked asks row (task_done task text is prints) = done task text (rw i
 
 -- the arguments of keytool that were made, or no memory for them
 pub task_made : {E : Type 0} (i : KeyFileInputs) (s : Subcommand) (values : List (List ℕ)) (made : Result (Vec (String Global) Global) E)
-    (result : Result KeyTask Row) → s ≢ subcommand.Load → Asks i (task_of s values)
-    → IfOk made (λ m. IsCallOf s values (map string_bytes m.items)) → IsTaskOver made result → PreparesKeys i result
+    (result : Result KeyTask Row) → s ≢ subcommand.Load → AsksKeys i (task_of s values)
+    → IfOk made (λ m. IsKeytoolCall s values (map string_bytes m.items)) → IsTaskOver made result → PreparesKeys i result
 task_made i s values (Ok words) result other asks is over = subst (PreparesKeys i) (sym over) (s, values, other, is, asks)
 task_made i s values (Err error) result other asks is over = subst (PreparesKeys i) (sym over) (no_memory (task_of s values) asks)
 
@@ -54,4 +54,4 @@ task_made i s values (Err error) result other asks is over = subst (PreparesKeys
 pub of_image_task : (i : KeyFileInputs) (key bytes : List ℕ) (image : Vec ℕ Global) → bytes ≡ image.items → TaskAsks i (Image key image)
     → (row : Row) → AskedComes (Ok (task.Words (word_task.Bootmac key bytes))) row → ComesOfKeyFiles i row
 of_image_task i key bytes image is (short, asks) =
-    of_asked i (Ok (task.Words (word_task.Bootmac key bytes))) (subst (λ (m : List ℕ). Asks i (Ok (task.Words (word_task.Bootmac key m)))) (sym is) asks)
+    of_asked i (Ok (task.Words (word_task.Bootmac key bytes))) (subst (λ (m : List ℕ). AsksKeys i (Ok (task.Words (word_task.Bootmac key m)))) (sym is) asks)

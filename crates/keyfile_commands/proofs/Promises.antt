@@ -21,7 +21,7 @@ use Rattle.keyfile_commands.specs.declared.calls.KeyCall.{KeyCall}
 use Rattle.keyfile_commands.specs.declared.calls.KeyCall.TheVariants.{Make, Read, Confirm, Bootmac}
 use Rattle.keyfile_commands.specs.KeyFiles.{key_file_of}
 use Rattle.keyfile_commands.specs.Calls.{call_of}
-use Rattle.keyfile_commands.specs.Rows.{KeyFileInputs, Asks, AsksBy, HasFirst, HasNoKey, GivesKey, LacksFile, LacksKeyIn, LacksImageFile, ReadsImageFile, image_limit, keyfile_usage, no_key_text, no_image_text, ComesOfKeyFiles, no_form, no_file, no_key, no_image, wrong_value, no_memory, denied, done}
+use Rattle.keyfile_commands.specs.Rows.{KeyFileInputs, AsksKeys, AsksKeysBy, HasFirst, HasNoKey, GivesKey, LacksFile, LacksKeyIn, LacksImageFile, ReadsImageFile, image_limit, keyfile_usage, no_key_text, no_image_text, ComesOfKeyFiles, no_form, no_file, no_key, no_image, wrong_value, no_memory, denied, done}
 use Rattle.keyfile_commands.specs.KeyFilesRuns.{KeyFilesRuns, OffersBy, OffersCall, OffersKey, SecondTooLong, CountsLongImage, CountsSecondTooLong}
 use Rattle.keyfile_commands.proofs.Offered.{asks_one, key_lacks, no_key_told, image_lacks, same_image}
 
@@ -82,7 +82,7 @@ module _ (i : KeyFileInputs) (e : Ending) where
   -- ---- rows by their status
 
   at_0 : (row : Row) → ComesOfKeyFiles i row → row.status ≡ 0 → PrintsWhole e row.text
-      → (task : Task) × Asks i (Ok task) × ((text : List ℕ) × PrintsDone task text × PrintsWhole e text)
+      → (task : Task) × AsksKeys i (Ok task) × ((text : List ℕ) × PrintsDone task text × PrintsWhole e text)
   at_0 row (no_form none first second) is prints = absurd (differ 2 0 refl is)
   at_0 row (no_file input.ReadFault lacks) is prints = absurd (differ 5 0 refl is)
   at_0 row (no_file input.TooLong lacks) is prints = absurd (differ 8 0 refl is)
@@ -95,7 +95,7 @@ module _ (i : KeyFileInputs) (e : Ending) where
   at_0 row (done task text asks prints_it) is prints = (task, asks, (text, prints_it, prints))
 
   at_1 : (row : Row) → ComesOfKeyFiles i row → row.status ≡ 1 → PrintsWhole e row.text
-      → (task : Task) × Asks i (Ok task) × ((text : List ℕ) × Denies task text × PrintsWhole e text)
+      → (task : Task) × AsksKeys i (Ok task) × ((text : List ℕ) × Denies task text × PrintsWhole e text)
   at_1 row (no_form none first second) is prints = absurd (differ 2 1 refl is)
   at_1 row (no_file input.ReadFault lacks) is prints = absurd (differ 5 1 refl is)
   at_1 row (no_file input.TooLong lacks) is prints = absurd (differ 8 1 refl is)
@@ -121,7 +121,7 @@ module _ (i : KeyFileInputs) (e : Ending) where
   at_2 row (done task text asks prints_it) is prints = absurd (differ 0 2 refl is)
 
   at_3 : (row : Row) → ComesOfKeyFiles i row → row.status ≡ 3 → PrintsWhole e row.text
-      → ((bad : BadValue) × Asks i (Err bad) × PrintsWhole e (value_text bad.number))
+      → ((bad : BadValue) × AsksKeys i (Err bad) × PrintsWhole e (value_text bad.number))
       ⊎ (HasFirst i Bootmac × ReadsImageFile i.second [] × PrintsWhole e no_image_text)
   at_3 row (no_form none first second) is prints = absurd (differ 2 3 refl is)
   at_3 row (no_file input.ReadFault lacks) is prints = absurd (differ 5 3 refl is)
@@ -320,7 +320,7 @@ module _ (i : KeyFileInputs) (e : Ending) where
 
   -- ---- what a source that failed, or gave too much, leaves
 
-  asks_first : (call : KeyCall) (asked : Result Task BadValue) → AsksBy call i asked → (key : List ℕ) × GivesKey i.first key
+  asks_first : (call : KeyCall) (asked : Result Task BadValue) → AsksKeysBy call i asked → (key : List ℕ) × GivesKey i.first key
   asks_first Make asked (key, auth, gives, gives_auth, is) = (key, gives)
   asks_first Read asked (auth, gives, unread, is) = (auth, gives)
   asks_first Confirm asked (key, gives, unread, is) = (key, gives)
@@ -368,7 +368,7 @@ module _ (i : KeyFileInputs) (e : Ending) where
       go row (done task text asks prints) = absurd (clash (asks_first asks.0 (Ok task) asks.2))
 
   -- a second file that was read whole, or not at all, counted no fault
-  second_well : (call : KeyCall) (asked : Result Task BadValue) → AsksBy call i asked → i.second.after.faults ≡ i.second.before.faults
+  second_well : (call : KeyCall) (asked : Result Task BadValue) → AsksKeysBy call i asked → i.second.after.faults ≡ i.second.before.faults
   second_well Make asked (key, auth, gives, (read, whole, is_key), is) = whole.no_fault
   second_well Read asked (auth, gives, unread, is) = ap (λ (s : SourceState). s.faults) unread
   second_well Confirm asked (key, gives, unread, is) = ap (λ (s : SourceState). s.faults) unread
@@ -407,7 +407,7 @@ module _ (i : KeyFileInputs) (e : Ending) where
       go row (done task text asks prints) = absurd (clash (asks_first asks.0 (Ok task) asks.2))
 
   -- the second key of `make` was read whole
-  second_short : (call : KeyCall) (asked : Result Task BadValue) → call_of i.words ≡ Some Make → call_of i.words ≡ Some call → AsksBy call i asked
+  second_short : (call : KeyCall) (asked : Result Task BadValue) → call_of i.words ≡ Some Make → call_of i.words ≡ Some call → AsksKeysBy call i asked
       → ¬ CountsTooMuch i.second
   second_short Make asked makes is (key, auth, gives, (read, whole, is_key), also) = whole_long i.second read whole
   second_short Read asked makes is asks = let clash : Read ≡ Make = two_calls i.words Read Make is makes in cc clash
@@ -430,7 +430,7 @@ module _ (i : KeyFileInputs) (e : Ending) where
 
   -- the image was read whole
   image_short : (call : KeyCall) (asked : Result Task BadValue) → call_of i.words ≡ Some Bootmac → call_of i.words ≡ Some call
-      → AsksBy call i asked → ¬ CountsLongImage i.second
+      → AsksKeysBy call i asked → ¬ CountsLongImage i.second
   image_short Make asked boots is asks = let clash : Make ≡ Bootmac = two_calls i.words Make Bootmac is boots in cc clash
   image_short Read asked boots is asks = let clash : Read ≡ Bootmac = two_calls i.words Read Bootmac is boots in cc clash
   image_short Confirm asked boots is asks = let clash : Confirm ≡ Bootmac = two_calls i.words Confirm Bootmac is boots in cc clash

@@ -40,10 +40,10 @@ second_place Bootmac = Some 3
 abbrev pub first_file : List (List ℕ) → Option (List ℕ)
 first_file words = option_map (λ call. argument words (first_place call)) (call_of words)
 
-abbrev pub second_of : List (List ℕ) → Option KeyCall → Option (List ℕ)
-second_of words (Some call) = option_map (argument words) (second_place call)
-second_of words None = None
+abbrev pub second_file_of : List (List ℕ) → Option KeyCall → Option (List ℕ)
+second_file_of words (Some call) = option_map (argument words) (second_place call)
+second_file_of words None = None
 
 -- the second file: of `make` the authorising key's, and the image of `bootmac`
 abbrev pub second_file : List (List ℕ) → Option (List ℕ)
-second_file words = second_of words (call_of words)
+second_file words = second_file_of words (call_of words)

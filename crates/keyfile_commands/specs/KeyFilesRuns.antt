@@ -16,7 +16,7 @@ use Rattle.keyfile_commands.specs.declared.calls.KeyCall.TheVariants.{Make, Read
 use Rattle.keyfile_commands.specs.KeyFiles.{key_file_of}
 use Rattle.keyfile_commands.specs.Calls.{call_of}
 use Rattle.keyfile_commands.specs.Values.{make_values, read_values, confirm_values}
-use Rattle.keyfile_commands.specs.Rows.{KeyFileInputs, Asks, HasFirst, LacksKeyIn, ReadsImageFile, ComesOfKeyFiles}
+use Rattle.keyfile_commands.specs.Rows.{KeyFileInputs, AsksKeys, HasFirst, LacksKeyIn, ReadsImageFile, ComesOfKeyFiles}
 use Rattle.keyfile_commands.specs.Rows.{keyfile_usage, no_key_text, no_image_text, image_limit}
 
 -- the source tells the bytes of a file with this key, and didn't fail
@@ -24,8 +24,8 @@ abbrev pub OffersKey : Reading → List ℕ → Type 0
 OffersKey file key = (bytes : List ℕ) × Offers file bytes × (key_file_of bytes ≡ Some key)
 
 -- it tells this image, and didn't fail
-abbrev pub OffersImage : Reading → List ℕ → Type 0
-OffersImage file image = (file.before.told ≡ Some image) × (1 ≤ length image) × (length image ≤ image_limit)
+abbrev pub OffersBootImage : Reading → List ℕ → Type 0
+OffersBootImage file image = (file.before.told ≡ Some image) × (1 ≤ length image) × (length image ≤ image_limit)
     × (¬ SourceFailed file)
 
 -- the files tell what this call needs, and with it the values ask keytool for this
@@ -35,7 +35,7 @@ OffersBy Make i asked = (key auth : List ℕ) × OffersKey i.first key × Offers
 OffersBy Read i asked = (auth : List ℕ) × OffersKey i.first auth × (asked ≡ read_of (read_values i.words auth))
 OffersBy Confirm i asked = (key : List ℕ) × OffersKey i.first key
     × (asked ≡ confirm_of (confirm_values i.words key))
-OffersBy Bootmac i asked = (key image : List ℕ) × OffersKey i.first key × OffersImage i.second image
+OffersBy Bootmac i asked = (key image : List ℕ) × OffersKey i.first key × OffersBootImage i.second image
     × (asked ≡ Ok (Words (word_task.Bootmac key image)))
 
 -- the arguments are one of the calls, whose files tell this
@@ -60,10 +60,10 @@ pub record KeyFilesRuns (i : KeyFileInputs) (e : Ending) : Type 0 where
   -- The program prints a row of the table and ends with its status, or at 6 a prefix of one.
   pub ends : EndsInRow (ComesOfKeyFiles i) e
   -- 0: exactly the request that is built was printed, the update that is carried, that the reply confirms, or the MAC.
-  pub done : e.status ≡ 0 → (task : Task) × Asks i (Ok task)
+  pub done : e.status ≡ 0 → (task : Task) × AsksKeys i (Ok task)
       × ((text : List ℕ) × PrintsDone task text × PrintsWhole e text)
   -- 1: exactly if ID or AuthID is no slot's, M3 is wrong, or the reply doesn't confirm, with the line that says so.
-  pub denied : e.status ≡ 1 → (task : Task) × Asks i (Ok task)
+  pub denied : e.status ≡ 1 → (task : Task) × AsksKeys i (Ok task)
       × ((text : List ℕ) × Denies task text × PrintsWhole e text)
   pub denied_only : (task : Task) (text : List ℕ) → OffersCall i (Ok task) → Denies task text → MayEndIn 1 e
   -- 2: exactly if the arguments are malformed; nothing was read.
@@ -72,7 +72,7 @@ pub record KeyFilesRuns (i : KeyFileInputs) (e : Ending) : Type 0 where
   pub usage_only : call_of i.words ≡ None → EndsIn 2 e
   -- 3: a value isn't of its form, and the first is named; or the image is empty.
   pub wrong_value : e.status ≡ 3 →
-      ((bad : BadValue) × Asks i (Err bad) × PrintsWhole e (value_text bad.number))
+      ((bad : BadValue) × AsksKeys i (Err bad) × PrintsWhole e (value_text bad.number))
       ⊎ (HasFirst i Bootmac × ReadsImageFile i.second [] × PrintsWhole e no_image_text)
   pub wrong_value_only : (bad : BadValue) → OffersCall i (Err bad) → MayEndIn 3 e
   -- 4: a file was read whole, and has no key.

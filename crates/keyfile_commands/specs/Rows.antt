@@ -51,8 +51,8 @@ abbrev pub ReadsImageFile : Reading → List ℕ → Type 0
 ReadsImageFile file bytes = ReadsAll file.before file.after image_limit bytes
 
 -- the image was read whole, and isn't empty
-abbrev pub GivesImage : Reading → List ℕ → Type 0
-GivesImage file image = ReadsImageFile file image × (1 ≤ length image)
+abbrev pub GivesBootImage : Reading → List ℕ → Type 0
+GivesBootImage file image = ReadsImageFile file image × (1 ≤ length image)
 
 abbrev pub no_image_text : List ℕ
 no_image_text = line (codes "image: length")
@@ -66,19 +66,19 @@ LacksImageFile file Memory = ReadsPart file.before file.after image_limit read.M
 -- ---- what is asked for
 
 -- the files give what this call needs, and with it the values ask keytool for this
-abbrev pub AsksBy : KeyCall → KeyFileInputs → Result Task BadValue → Type 0
-AsksBy Make i asked = (key auth : List ℕ) × GivesKey i.first key × GivesKey i.second auth
+abbrev pub AsksKeysBy : KeyCall → KeyFileInputs → Result Task BadValue → Type 0
+AsksKeysBy Make i asked = (key auth : List ℕ) × GivesKey i.first key × GivesKey i.second auth
     × (asked ≡ make_of (make_values i.words key auth))
-AsksBy Read i asked = (auth : List ℕ) × GivesKey i.first auth × IsUnread i.second
+AsksKeysBy Read i asked = (auth : List ℕ) × GivesKey i.first auth × IsUnread i.second
     × (asked ≡ read_of (read_values i.words auth))
-AsksBy Confirm i asked = (key : List ℕ) × GivesKey i.first key × IsUnread i.second
+AsksKeysBy Confirm i asked = (key : List ℕ) × GivesKey i.first key × IsUnread i.second
     × (asked ≡ confirm_of (confirm_values i.words key))
-AsksBy Bootmac i asked = (key image : List ℕ) × GivesKey i.first key × GivesImage i.second image
+AsksKeysBy Bootmac i asked = (key image : List ℕ) × GivesKey i.first key × GivesBootImage i.second image
     × (asked ≡ Ok (Words (word_task.Bootmac key image)))
 
 -- the arguments are one of the calls, and with the keys of the files that they name they ask keytool for this
-abbrev pub Asks : KeyFileInputs → Result Task BadValue → Type 0
-Asks i asked = (call : KeyCall) × (call_of i.words ≡ Some call) × AsksBy call i asked
+abbrev pub AsksKeys : KeyFileInputs → Result Task BadValue → Type 0
+AsksKeys i asked = (call : KeyCall) × (call_of i.words ≡ Some call) × AsksKeysBy call i asked
 
 -- the arguments are this call, and the first file has a key
 abbrev pub HasFirst : KeyFileInputs → KeyCall → Type 0
@@ -103,7 +103,7 @@ pub data ComesOfKeyFiles (i : KeyFileInputs) : Row → Type 0 where
   no_file : (fault : InputFault) → LacksFile i fault → ComesOfKeyFiles i (input_row fault)
   no_key : LacksKeyIn i → ComesOfKeyFiles i (row_of 4 no_key_text)
   no_image : HasFirst i Bootmac → ReadsImageFile i.second [] → ComesOfKeyFiles i (row_of 3 no_image_text)
-  wrong_value : (bad : BadValue) → Asks i (Err bad) → ComesOfKeyFiles i (row_of 3 (value_text bad.number))
-  no_memory : (asked : Result Task BadValue) → Asks i asked → ComesOfKeyFiles i memory_row
-  denied : (task : Task) (text : List ℕ) → Asks i (Ok task) → Denies task text → ComesOfKeyFiles i (row_of 1 text)
-  done : (task : Task) (text : List ℕ) → Asks i (Ok task) → PrintsDone task text → ComesOfKeyFiles i (row_of 0 text)
+  wrong_value : (bad : BadValue) → AsksKeys i (Err bad) → ComesOfKeyFiles i (row_of 3 (value_text bad.number))
+  no_memory : (asked : Result Task BadValue) → AsksKeys i asked → ComesOfKeyFiles i memory_row
+  denied : (task : Task) (text : List ℕ) → AsksKeys i (Ok task) → Denies task text → ComesOfKeyFiles i (row_of 1 text)
+  done : (task : Task) (text : List ℕ) → AsksKeys i (Ok task) → PrintsDone task text → ComesOfKeyFiles i (row_of 0 text)

@@ -12,8 +12,8 @@ use Rattle.key_commands.specs.Keys.{IsPlainCall}
 use Rattle.key_commands.specs.Tasks.{task_of}
 use Rattle.keyfile_commands.specs.declared.run.KeyTask.{KeyTask}
 use Rattle.keyfile_commands.specs.declared.run.KeyTask.TheVariants.{Words, Image}
-use Rattle.keyfile_commands.specs.Rows.{KeyFileInputs, Asks, ComesOfKeyFiles, GivesKey, HasNoKey, no_key_text}
-use Rattle.keyfile_commands.specs.Rows.{GivesImage, ReadsImageFile, LacksImageFile, image_limit, no_image_text}
+use Rattle.keyfile_commands.specs.Rows.{KeyFileInputs, AsksKeys, ComesOfKeyFiles, GivesKey, HasNoKey, no_key_text}
+use Rattle.keyfile_commands.specs.Rows.{GivesBootImage, ReadsImageFile, LacksImageFile, image_limit, no_image_text}
 
 -- why a file gives no key
 pub data LacksKey (file : Reading) : Row → Type 0 where
@@ -21,9 +21,9 @@ pub data LacksKey (file : Reading) : Row → Type 0 where
   no_key_in : HasNoKey file → LacksKey file (row_of 4 no_key_text)
 
 -- why a file gives no image
-pub data LacksImage (file : Reading) : Row → Type 0 where
-  no_image_read : (fault : InputFault) → LacksImageFile file fault → LacksImage file (input_row fault)
-  no_image_in : ReadsImageFile file [] → LacksImage file (row_of 3 no_image_text)
+pub data LacksBootImage (file : Reading) : Row → Type 0 where
+  no_image_read : (fault : InputFault) → LacksImageFile file fault → LacksBootImage file (input_row fault)
+  no_image_in : ReadsImageFile file [] → LacksBootImage file (row_of 3 no_image_text)
 
 -- a key, or why there is none
 abbrev pub TakesKey : Reading → Result (List ℕ) Row → Type 0
@@ -31,20 +31,20 @@ TakesKey file (Ok key) = GivesKey file key
 TakesKey file (Err row) = LacksKey file row
 
 -- an image, or why there is none
-abbrev pub TakesImage : Reading → Result (Vec ℕ Global) Row → Type 0
-TakesImage file (Ok image) = GivesImage file image.items
-TakesImage file (Err row) = LacksImage file row
+abbrev pub TakesBootImage : Reading → Result (Vec ℕ Global) Row → Type 0
+TakesBootImage file (Ok image) = GivesBootImage file image.items
+TakesBootImage file (Err row) = LacksBootImage file row
 
 -- these are the arguments of keytool, after its name, of a subcommand with these values
-abbrev pub IsCallOf : Subcommand → List (List ℕ) → List (List ℕ) → Type 0
-IsCallOf s values words = IsPlainCall (drop 1 words) s values
+abbrev pub IsKeytoolCall : Subcommand → List (List ℕ) → List (List ℕ) → Type 0
+IsKeytoolCall s values words = IsPlainCall (drop 1 words) s values
 
 -- a task that asks for what the arguments and files ask for
 abbrev pub TaskAsks : KeyFileInputs → KeyTask → Type 0
 TaskAsks i (Words words) = (s : Subcommand) × (values : List (List ℕ)) × (s ≢ subcommand.Load)
-    × IsCallOf s values (map string_bytes words.items) × Asks i (task_of s values)
+    × IsKeytoolCall s values (map string_bytes words.items) × AsksKeys i (task_of s values)
 TaskAsks i (Image key image) =
-    (length image.items ≤ image_limit) × Asks i (Ok (task.Words (word_task.Bootmac key image.items)))
+    (length image.items ≤ image_limit) × AsksKeys i (Ok (task.Words (word_task.Bootmac key image.items)))
 
 -- the task over these arguments, or that there was no memory for them
 abbrev pub IsTaskOver : {E : Type 0} → Result (Vec (String Global) Global) E → Result KeyTask Row → Type 0

@@ -2,7 +2,7 @@
 ghost use Rattle.std.specs.Prelude.{◌≡◌, ◌≤◌, length};
 ghost use Rattle.secure_boot.specs.Booting.{bootmac};
 ghost use Rattle.keyfile_commands.specs.Rows.{image_limit};
-ghost use Rattle.keyfile_commands.specs.Steps.{TakesImage};
+ghost use Rattle.keyfile_commands.specs.Steps.{TakesBootImage};
 
 use basics::Block;
 use bus_port::{ReadAll, Source, read_all};
@@ -16,7 +16,7 @@ const IMAGE_LIMIT: usize = 16_777_216;
 
 /// The image of this source, 1 to 16,777,216 bytes, read in pieces. Refusals: 5, 8 and 7 of an input, 3 if it is empty.
 pub fn boot_image_from<S: Source>(alloc: Global, image: &mut S) -> Result<Vec<u8>, Refusal>
-    ensures { TakesImage (record { before = S.state image.old; after = S.state image.new }) result }
+    ensures { TakesBootImage (record { before = S.state image.old; after = S.state image.new }) result }
 {
     match read_all(alloc, image, IMAGE_LIMIT) {
         Ok(bytes) => {

@@ -11,7 +11,7 @@ ghost use Rattle.key_commands.specs.declared.tasks.Task.TheVariants as task;
 ghost use Rattle.key_commands.specs.declared.tasks.WordTask.TheVariants as word_task;
 ghost use Rattle.keyfile_commands.specs.KeyFilesRuns.{KeyFilesRuns};
 ghost use Rattle.keyfile_commands.specs.Rows.{image_limit};
-ghost use Rattle.keyfile_commands.specs.Steps.{IsCallOf, IsTaskOver, PreparesKeys};
+ghost use Rattle.keyfile_commands.specs.Steps.{IsKeytoolCall, IsTaskOver, PreparesKeys};
 
 use crate::calls::{KeyCall, call_of};
 use crate::files::key_from;
@@ -114,7 +114,7 @@ fn task_over(made: Result<Vec<String>, AllocError>) -> Result<KeyTask, Refusal>
 /// What keytool does of these arguments, without requests and disks.
 fn run_made<K: Sink>(alloc: Global, words: &[String], sink: &mut K) -> u8
     ensures { (s : Subcommand) (values : List (List ℕ)) → s ≢ subcommand.Load
-        → IsCallOf s values (each string_bytes words.now) → EndsInRow (AskedComes (task_of s values))
+        → IsKeytoolCall s values (each string_bytes words.now) → EndsInRow (AskedComes (task_of s values))
         (record { before = K.state sink.old; after = K.state sink.new; status = result }) }
 {
     let mut no_request = CleanSource::new(Vec::new(alloc));

@@ -1,7 +1,7 @@
 //! The arguments of keytool that stand for the arguments, with each file's key in its place.
 ghost use Rattle.std.specs.Prelude.{◌≡◌, map as each, string_bytes, IfOk};
 ghost use Rattle.keyfile_commands.specs.Values.{plain_value, make_values, read_values, confirm_values};
-ghost use Rattle.keyfile_commands.specs.Steps.{IsCallOf};
+ghost use Rattle.keyfile_commands.specs.Steps.{IsKeytoolCall};
 ghost use Rattle.key_commands.specs.declared.subcommands.Subcommand.TheVariants as subcommand;
 
 use crate::calls::argument;
@@ -17,7 +17,7 @@ pub fn make_words(
     auth: &Block,
 ) -> Result<Vec<String>, AllocError>
     ensures { IfOk result (λ made.
-        IsCallOf subcommand.Make (make_values (each string_bytes words.now) key.now auth.now)
+        IsKeytoolCall subcommand.Make (make_values (each string_bytes words.now) key.now auth.now)
         (each string_bytes made.items)) }
 {
     let key = encode(alloc, key.as_slice())?;
@@ -34,7 +34,7 @@ pub fn make_words(
 /// The arguments of `keytool read`, with its name.
 pub fn read_words(alloc: Global, words: &[String], auth: &Block) -> Result<Vec<String>, AllocError>
     ensures { IfOk result (λ made.
-        IsCallOf subcommand.Read (read_values (each string_bytes words.now) auth.now)
+        IsKeytoolCall subcommand.Read (read_values (each string_bytes words.now) auth.now)
         (each string_bytes made.items)) }
 {
     let auth = encode(alloc, auth.as_slice())?;
@@ -49,7 +49,7 @@ pub fn confirm_words(
     key: &Block,
 ) -> Result<Vec<String>, AllocError>
     ensures { IfOk result (λ made.
-        IsCallOf subcommand.Confirm (confirm_values (each string_bytes words.now) key.now)
+        IsKeytoolCall subcommand.Confirm (confirm_values (each string_bytes words.now) key.now)
         (each string_bytes made.items)) }
 {
     let key = encode(alloc, key.as_slice())?;

@@ -1,5 +1,6 @@
 //! The arguments of the command line.
-ghost use Rattle.std.specs.Prelude.{◌≡◌, map as each, string_bytes, option_map, if◌then◌else◌, bytes_eq, codes, Some, None};
+ghost use Rattle.std.specs.Prelude.{◌≡◌, map as each, string_bytes, option_map, if◌then◌else◌, bytes_eq, codes};
+ghost use Rattle.std.specs.Prelude.{Some, None};
 ghost use Rattle.program_edge.specs.NamedSources.{word_source, openings};
 ghost use Rattle.station_commands.specs.Station.{behind_key, RunsStation};
 

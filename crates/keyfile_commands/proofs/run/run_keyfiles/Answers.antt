@@ -2,7 +2,7 @@ use Rattle.std.proofs.Common.{map, subst, sym}
 use Rattle.std.specs.Prelude.{string_bytes}
 use Rattle.program_edge.proofs.CallerLemmas.{EndsInRow-more}
 use Rattle.keyfile_commands.specs.declared.run.KeyTask.TheVariants.{Words, Image}
-use Rattle.keyfile_commands.specs.Steps.{TaskAsks, IsCallOf}
+use Rattle.keyfile_commands.specs.Steps.{TaskAsks, IsKeytoolCall}
 use Rattle.keyfile_commands.proofs.Phases.{of_asked, of_image_task}
 use Rattle.keyfile_commands.proofs.Promises.{KeyFilesRuns-row}
 use Rattle.keyfile_commands.proofs.run.run_keyfiles.Goals as goal
@@ -13,7 +13,7 @@ returns-in-Words g c =
     KeyFilesRuns-row _ _
     (EndsInRow-more (of_asked _ _ asks.4)
     (c.run_made.ensures asks.0 asks.1 asks.2
-    (subst (λ ws. IsCallOf asks.0 asks.1 (map string_bytes ws)) (sym c.as_slice.ensures.value) asks.3)))
+    (subst (λ ws. IsKeytoolCall asks.0 asks.1 (map string_bytes ws)) (sym c.as_slice.ensures.value) asks.3)))
 
 pub returns-in-Ok : goal.returns-in-Ok
 returns-in-Ok g c =
