@@ -1,0 +1,31 @@
+//! `station`: a key loading station (SHE specification, memory update protocol, secure booting): what stores and ledgers
+//! hold, lost replies, and keys from files.
+//!
+//! [`station_commands::station_words`] is the program, with `RunsStation`. Here it is handed the arguments, the files,
+//! standard input and standard output.
+#![tactic(auto)]
+
+use program_edge::{NO_MEMORY, Paths, StdSink, StdSource, arguments};
+use station_commands::station_words;
+use std::alloc::AllocError;
+use std::process::ExitCode;
+
+fn main(rt: HostRuntime) -> ExitCode {
+    let mut sink = StdSink::new(rt.stdout());
+    let mut opener = Paths::of(&rt);
+    let mut input = Some(StdSource::new(rt.stdin()));
+    let status = match arguments(&rt) {
+        Ok(words) => {
+            let (status, _files) = station_words(
+                rt.alloc(),
+                &mut opener,
+                &mut input,
+                words.as_slice(),
+                &mut sink,
+            );
+            status
+        }
+        Err(AllocError) => NO_MEMORY,
+    };
+    ExitCode::from(status)
+}
