@@ -288,8 +288,20 @@ FindsMore-keeps old piece free = λ bytes findings w. (
 JudgesLine-text : (s : WatchState) → s ≡ record s { counters = s.counters; text = s.text ++ [] }
 JudgesLine-text s = ap (λ t. record s { text = t }) (sym (append-nil s.text))
 
+-- of a line that no line of the map judges nothing is printed, in either form
+nothing_told : (json : Bool) (text : List ℕ) → (if json then text else text) ++ text ≡ text ++ text
+nothing_told true text = refl
+nothing_told false text = refl
+
 pub JudgesLine-long : (s : WatchState) → line_limit < length s.line → JudgesLine s s (Some (tally.Other kind.Malformed))
-JudgesLine-long s long = (other kind.Malformed ∷ [], inl (long, refl), JudgesLine-text s, refl, refl, λ place inside. refl)
+JudgesLine-long s long = (
+  other kind.Malformed ∷ [],
+  inl (long, refl),
+  JudgesLine-text s ∙ ap (λ (t : List ℕ). record s { text = s.text ++ t }) (sym (nothing_told s.mapping.options.json [])),
+  refl,
+  refl,
+  λ place inside. refl,
+)
 
 pub JudgesLine-skipped : (s : WatchState) → length s.line ≤ line_limit → is_skipped (words_of s.line) ≡ true → JudgesLine s s None
 JudgesLine-skipped s few skipped = ([], inr (inl (few, skipped, refl)), JudgesLine-text s, refl, refl, λ place inside. refl)

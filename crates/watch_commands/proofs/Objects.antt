@@ -22,8 +22,9 @@ accepted_said : (fresh payload : List ℕ) → length fresh ≡ 16
 accepted_said fresh payload sixteen =
     let first : take 16 ((fresh ++ codes " ") ++ payload) ≡ fresh =
     ap (take 16) (append_assoc fresh (codes " ") payload) ∙ ap (λ n. take n (fresh ++ (codes " " ++ payload))) (sym sixteen) ∙ take-append_seam fresh (codes " " ++ payload) in
+    let seventeen : 17 ≡ length (fresh ++ codes " ") = omega (arith, sixteen, length-append fresh (codes " ")) in
     let rest : drop 17 ((fresh ++ codes " ") ++ payload) ≡ payload =
-    ap (λ n. drop n ((fresh ++ codes " ") ++ payload)) (omega (arith, sixteen, length-append fresh (codes " "))) ∙ drop-append_seam (fresh ++ codes " ") payload in
+    ap (λ n. drop n ((fresh ++ codes " ") ++ payload)) seventeen ∙ drop-append_seam (fresh ++ codes " ") payload in
     ap (λ f. (((codes "VERIFICATIONSUCCESS" ++ codes "\",\"freshness\":\"") ++ f ++ codes "\",\"payload\":\"") ++ drop 17 ((fresh ++ codes " ") ++ payload)) ++ line (codes "\"}")) first
     ∙ ap (λ p. (((codes "VERIFICATIONSUCCESS" ++ codes "\",\"freshness\":\"") ++ fresh ++ codes "\",\"payload\":\"") ++ p) ++ line (codes "\"}")) rest
 
@@ -55,7 +56,7 @@ says number head accepted answer (other kind) is = absurd is
 says number head accepted answer (too_short n p can) (number_is, can_is, accepted_is, is) = record {
   said = codes "BadLength";
   answer_is = is ∙ ap (λ (k : ℕ). front_text k can ++ line (codes "BadLength")) number_is ∙ ap (λ h. front_text number h ++ line (codes "BadLength")) can_is;
-  long = λ yes. let clash : true ≡ false = sym yes ∙ accepted_is in cc;
+  long = λ is_true. let clash : true ≡ false = sym is_true ∙ accepted_is in cc;
   object = ap (λ (k : ℕ). finding_object (too_short k p can)) number_is ∙ ap (λ h. finding_object (too_short number p h)) can_is
       ∙ says_short number head (codes "BadLength") ∙ ap (λ (b : Bool). front_object (decimal number) head ++ said_object b (codes "BadLength")) (sym accepted_is);
 }
@@ -65,7 +66,7 @@ says number head accepted answer (verdict n p can (Accepted payload freshness)) 
     let outcome : Outcome = Accepted payload freshness in record {
       said = codes "VERIFICATIONSUCCESS " ++ fresh ++ codes " " ++ word;
       answer_is = is ∙ ap (λ (k : ℕ). finding_text (verdict k p can outcome)) number_is ∙ ap (λ h. finding_text (verdict number p h outcome)) can_is;
-      long = λ yes. long_said (codes "VERIFICATIONSUCCESS ") fresh word refl (freshness_digits freshness);
+      long = λ is_true. long_said (codes "VERIFICATIONSUCCESS ") fresh word refl (freshness_digits freshness);
       object = ap (λ (k : ℕ). finding_object (verdict k p can outcome)) number_is ∙ ap (λ h. finding_object (verdict number p h outcome)) can_is
           ∙ joined (front_object (decimal number) head) (codes "VERIFICATIONSUCCESS") (codes "\",\"freshness\":\"") fresh (codes "\",\"payload\":\"") word (line (codes "\"}"))
           ∙ ap (λ s. front_object (decimal number) head ++ s) (sym (accepted_said fresh word (freshness_digits freshness)))
@@ -74,14 +75,14 @@ says number head accepted answer (verdict n p can (Accepted payload freshness)) 
 says number head accepted answer (verdict n p can FreshnessFailure) (number_is, can_is, accepted_is, is) = record {
   said = codes "FRESHNESSFAILURE";
   answer_is = is ∙ ap (λ (k : ℕ). finding_text (verdict k p can FreshnessFailure)) number_is ∙ ap (λ h. finding_text (verdict number p h FreshnessFailure)) can_is;
-  long = λ yes. let clash : true ≡ false = sym yes ∙ accepted_is in cc;
+  long = λ is_true. let clash : true ≡ false = sym is_true ∙ accepted_is in cc;
   object = ap (λ (k : ℕ). finding_object (verdict k p can FreshnessFailure)) number_is ∙ ap (λ h. finding_object (verdict number p h FreshnessFailure)) can_is
       ∙ says_short number head (codes "FRESHNESSFAILURE") ∙ ap (λ (b : Bool). front_object (decimal number) head ++ said_object b (codes "FRESHNESSFAILURE")) (sym accepted_is);
 }
 says number head accepted answer (verdict n p can VerificationFailure) (number_is, can_is, accepted_is, is) = record {
   said = codes "VERIFICATIONFAILURE";
   answer_is = is ∙ ap (λ (k : ℕ). finding_text (verdict k p can VerificationFailure)) number_is ∙ ap (λ h. finding_text (verdict number p h VerificationFailure)) can_is;
-  long = λ yes. let clash : true ≡ false = sym yes ∙ accepted_is in cc;
+  long = λ is_true. let clash : true ≡ false = sym is_true ∙ accepted_is in cc;
   object = ap (λ (k : ℕ). finding_object (verdict k p can VerificationFailure)) number_is ∙ ap (λ h. finding_object (verdict number p h VerificationFailure)) can_is
       ∙ says_short number head (codes "VERIFICATIONFAILURE") ∙ ap (λ (b : Bool). front_object (decimal number) head ++ said_object b (codes "VERIFICATIONFAILURE")) (sym accepted_is);
 }
@@ -94,40 +95,10 @@ accepted_of number head accepted answer (other kind) is = absurd is
 accepted_of number head accepted answer (too_short n p can) (number_is, can_is, accepted_is, is) = sym accepted_is
 accepted_of number head accepted answer (verdict n p can outcome) (number_is, can_is, accepted_is, is) = sym accepted_is
 
-text_of : (number : ℕ) (head : List ℕ) (accepted : Bool) (answer : List ℕ) (f : Finding) → IsAnswerTo number head accepted answer f
-    → finding_text f ≡ answer
-text_of number head accepted answer (other kind) is = absurd is
-text_of number head accepted answer (too_short n p can) (number_is, can_is, accepted_is, is) = sym is
-text_of number head accepted answer (verdict n p can outcome) (number_is, can_is, accepted_is, is) = sym is
-
-left_out_of : (left_out json : Bool) (object words : List ℕ) → left_out ≡ true → (if left_out then [] else if json then object else words) ≡ []
-left_out_of true json object words is = refl
-left_out_of false json object words is = cc
-
-words_of_two : (left_out json : Bool) (object words : List ℕ) → left_out ≡ false → json ≡ false → (if left_out then [] else if json then object else words) ≡ words
-words_of_two true json object words is not_json = cc
-words_of_two false true object words is not_json = cc
-words_of_two false false object words is not_json = refl
-
 object_of_two : (left_out json : Bool) (object words : List ℕ) → left_out ≡ false → json ≡ true → (if left_out then [] else if json then object else words) ≡ object
 object_of_two true json object words is as_json = cc
 object_of_two false true object words is as_json = refl
 object_of_two false false object words is as_json = cc
-
--- an accepted frame is left out
-pub told_nothing : (options : WatchOptions) (number : ℕ) (head : List ℕ) (accepted : Bool) (answer : List ℕ) (f : Finding) → IsAnswerTo number head accepted answer f
-    → (accepted && options.quiet) ≡ true → told_text options f ≡ []
-told_nothing options number head accepted answer f is left_out =
-    left_out_of (is_accepted_tally (tally_of f) && options.quiet) options.json (finding_object f) (finding_text f)
-    (ap (λ (b : Bool). b && options.quiet) (accepted_of number head accepted answer f is) ∙ left_out)
-
--- the words are the answer
-pub told_words : (options : WatchOptions) (number : ℕ) (head : List ℕ) (accepted : Bool) (answer : List ℕ) (f : Finding) → IsAnswerTo number head accepted answer f
-    → (accepted && options.quiet) ≡ false → options.json ≡ false → told_text options f ≡ answer
-told_words options number head accepted answer f is told words =
-    words_of_two (is_accepted_tally (tally_of f) && options.quiet) options.json (finding_object f) (finding_text f)
-    (ap (λ (b : Bool). b && options.quiet) (accepted_of number head accepted answer f is) ∙ told) words
-    ∙ text_of number head accepted answer f is
 
 said_in : (digits head said answer : List ℕ) → answer ≡ (((digits ++ codes " ") ++ head) ++ codes " ") ++ (said ++ 10 ∷ [])
     → take (length answer - 1 - (length digits + length head + 2)) (drop (length digits + length head + 2) answer) ≡ said
@@ -142,21 +113,26 @@ said_in digits head said answer is =
     ap (λ (t : List ℕ). take (length answer - 1 - (length digits + length head + 2)) t) rest
     ∙ ap (λ (n : ℕ). take n (said ++ 10 ∷ [])) left ∙ take-append_seam said (10 ∷ [])
 
--- the parts of an answer, and its front, spaces and line feed
-pub parts_of : (digits head said answer : List ℕ) → answer ≡ (((digits ++ codes " ") ++ head) ++ codes " ") ++ (said ++ 10 ∷ [])
-    → length answer ≡ length digits + length head + 2 + length said + 1
-parts_of digits head said answer is =
-    let front : List ℕ = ((digits ++ codes " ") ++ head) ++ codes " " in
-    omega (arith, ap length is, length-append front (said ++ 10 ∷ []), length-append said (10 ∷ []),
-    length-append ((digits ++ codes " ") ++ head) (codes " "), length-append (digits ++ codes " ") head, length-append digits (codes " "))
+-- of an accepted frame this part has its word, a space, the freshness and a space
+pub said_long : (number : ℕ) (head : List ℕ) (accepted : Bool) (answer : List ℕ) (f : Finding) (digits : List ℕ) → IsAnswerTo number head accepted answer f
+    → digits ≡ decimal number → accepted ≡ true
+    → 37 ≤ length (take (length answer - 1 - (length digits + length head + 2)) (drop (length digits + length head + 2) answer))
+said_long number head accepted answer f digits is digits_are is_true =
+    let s : Says number head accepted answer f = says number head accepted answer f is in
+    subst (λ (d : List ℕ). 37 ≤ length (take (length answer - 1 - (length d + length head + 2)) (drop (length d + length head + 2) answer))) (sym digits_are)
+    (subst (λ (t : List ℕ). 37 ≤ length t) (sym (said_in (decimal number) head s.said answer s.answer_is)) (s.long is_true))
 
 -- the object is made of the part of the answer behind its front
-pub told_object : (options : WatchOptions) (number : ℕ) (head : List ℕ) (accepted : Bool) (answer : List ℕ) (f : Finding) → IsAnswerTo number head accepted answer f
-    → (accepted && options.quiet) ≡ false → options.json ≡ true
-    → told_text options f ≡ front_object (decimal number) head
-    ++ said_object accepted (take (length answer - 1 - (length (decimal number) + length head + 2)) (drop (length (decimal number) + length head + 2) answer))
-told_object options number head accepted answer f is told json =
+pub told_object : (options : WatchOptions) (number : ℕ) (head : List ℕ) (accepted : Bool) (answer : List ℕ) (f : Finding) (digits : List ℕ)
+    → IsAnswerTo number head accepted answer f → digits ≡ decimal number → (accepted && options.quiet) ≡ false → options.json ≡ true
+    → front_object digits head
+    ++ said_object accepted (take (length answer - 1 - (length digits + length head + 2)) (drop (length digits + length head + 2) answer))
+    ≡ told_text options f
+told_object options number head accepted answer f digits is digits_are told json =
     let s : Says number head accepted answer f = says number head accepted answer f is in
-    object_of_two (is_accepted_tally (tally_of f) && options.quiet) options.json (finding_object f) (finding_text f)
-    (ap (λ (b : Bool). b && options.quiet) (accepted_of number head accepted answer f is) ∙ told) json
-    ∙ s.object ∙ ap (λ (t : List ℕ). front_object (decimal number) head ++ said_object accepted t) (sym (said_in (decimal number) head s.said answer s.answer_is))
+    ap (λ (d : List ℕ). front_object d head
+    ++ said_object accepted (take (length answer - 1 - (length d + length head + 2)) (drop (length d + length head + 2) answer))) digits_are
+    ∙ ap (λ (t : List ℕ). front_object (decimal number) head ++ said_object accepted t) (said_in (decimal number) head s.said answer s.answer_is)
+    ∙ sym s.object
+    ∙ sym (object_of_two (is_accepted_tally (tally_of f) && options.quiet) options.json (finding_object f) (finding_text f)
+    (ap (λ (b : Bool). b && options.quiet) (accepted_of number head accepted answer f is) ∙ told) json)

@@ -54,7 +54,7 @@ above_3 status above = λ is. omega (arith, above, (answer_few status is).0)
 
 -- words that ask for a watch ask for no text
 asks_no_text : (words : List (List ℕ)) (text : List ℕ) → AsksWatch words → text_asked words ≡ Some text → ⊥
-asks_no_text [] text asks is = omega (arith, asks, length-drop (options_before []) ([] : List (List ℕ)))
+asks_no_text [] text asks is = omega (arith, asks, length-drop {A = List ℕ} (options_before []) [])
 asks_no_text (word ∷ []) text asks is = omega (arith, asks, length-drop (options_before (word ∷ [])) (word ∷ []))
 asks_no_text (word ∷ next ∷ rest) text asks is = let clash : None ≡ Some text = is in cc
 

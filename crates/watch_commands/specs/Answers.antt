@@ -13,12 +13,16 @@ abbrev pub front_object : List ℕ → List ℕ → List ℕ
 front_object digits head =
     codes "{\"frame\":" ++ digits ++ codes ",\"name\":\"" ++ head ++ codes "\",\"verdict\":\""
 
--- what is said of a frame, behind the front: of an accepted one the word, and then the freshness and the payload
+-- what is said of an accepted frame, behind the front: the word, and then the freshness and the payload
+abbrev pub accepted_values : List ℕ → List ℕ
+accepted_values said =
+    take 19 said ++ codes "\",\"freshness\":\"" ++ take 16 (drop 20 said) ++ codes "\",\"payload\":\"" ++ drop 37 said
+
+abbrev pub said_values : Bool → List ℕ → List ℕ
+said_values accepted said = if accepted then accepted_values said else said
+
 abbrev pub said_object : Bool → List ℕ → List ℕ
-said_object accepted said =
-    (if accepted
-    then take 19 said ++ codes "\",\"freshness\":\"" ++ take 16 (drop 20 said) ++ codes "\",\"payload\":\"" ++ drop 37 said
-    else said) ++ line (codes "\"}")
+said_object accepted said = said_values accepted said ++ line (codes "\"}")
 
 -- the answer is the text of this finding, which isn't of another line: its line of the log has this number, and its
 -- line of the map this head

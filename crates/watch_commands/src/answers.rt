@@ -2,7 +2,8 @@
 ghost use Rattle.std.specs.Prelude.{◌≡◌, ◌≤◌, ◌<◌, ◌+◌, ◌++◌, true, length, IfSome, vec_len, vec_capacity};
 ghost use Rattle.trace_audit.specs.Auditing.{Finding};
 ghost use Rattle.watch_commands.specs.Watching.{told_text};
-ghost use Rattle.watch_commands.specs.Answers.{IsAnswerTo, IsAnswerIn, judged_place, said_object, front_object};
+ghost use Rattle.watch_commands.specs.Answers.{IsAnswerTo, IsAnswerIn, judged_place};
+ghost use Rattle.watch_commands.specs.Answers.{front_object, said_object, said_values, accepted_values};
 
 use crate::maps::WatchMap;
 use crate::options::WatchOptions;
@@ -11,13 +12,7 @@ use trace_audit::{FrameTally, add_bytes};
 
 /// Adds what is printed of the answer to the line with this number of the log, in room for 320 bytes. The answer is
 /// empty if no line of the map judged it. It takes no memory.
-pub fn add_answer(
-    text: &mut Vec<u8>,
-    map: &WatchMap,
-    number: u64,
-    tally: FrameTally,
-    answer: &[u8],
-)
+pub fn add_answer(text: &mut Vec<u8>, map: &WatchMap, number: u64, tally: FrameTally, answer: &[u8])
     requires room { vec_len text.old + 320 ≤ vec_capacity text.old }
     requires answer { length answer.now ≤ 232 }
     requires answers { (finding : Finding) × IsAnswerIn map.now.lines number tally answer.now finding }
@@ -30,7 +25,14 @@ pub fn add_answer(
         return;
     };
     let head = map.lines()[place].head();
-    add_judged(text, map.options(), number, head, tally.is_accepted(), answer);
+    add_judged(
+        text,
+        map.options(),
+        number,
+        head,
+        tally.is_accepted(),
+        answer,
+    );
 }
 
 /// The place of the map's line that judged a frame.
@@ -99,14 +101,36 @@ fn add_said(text: &mut Vec<u8>, accepted: bool, said: &[u8])
     ensures few { vec_len text.new ≤ vec_len text.old + length said.now + 31 }
     ensures capacity { vec_capacity text.old ≤ vec_capacity text.new }
 {
+    add_values(text, accepted, said);
+    add_bytes(text, b"\"}\n");
+}
+
+/// Adds the values of what is said of a frame, and the names of the second and the third.
+fn add_values(text: &mut Vec<u8>, accepted: bool, said: &[u8])
+    requires accepted { accepted ≡ true → 37 ≤ length said.now }
+    requires room { vec_len text.old + length said.now + 26 ≤ vec_capacity text.old }
+    ensures values { text.new.items ≡ text.old.items ++ said_values accepted said.now }
+    ensures few { vec_len text.new ≤ vec_len text.old + length said.now + 26 }
+    ensures capacity { vec_capacity text.old ≤ vec_capacity text.new }
+{
     if accepted {
-        add_bytes(text, &said[..19]);
-        add_bytes(text, b"\",\"freshness\":\"");
-        add_bytes(text, &said[20..36]);
-        add_bytes(text, b"\",\"payload\":\"");
-        add_bytes(text, &said[37..]);
+        add_accepted(text, said);
     } else {
         add_bytes(text, said);
     }
-    add_bytes(text, b"\"}\n");
+}
+
+/// Adds the word, the freshness and the payload of an accepted frame.
+fn add_accepted(text: &mut Vec<u8>, said: &[u8])
+    requires long { 37 ≤ length said.now }
+    requires room { vec_len text.old + length said.now + 26 ≤ vec_capacity text.old }
+    ensures values { text.new.items ≡ text.old.items ++ accepted_values said.now }
+    ensures few { vec_len text.new ≤ vec_len text.old + length said.now + 26 }
+    ensures capacity { vec_capacity text.old ≤ vec_capacity text.new }
+{
+    add_bytes(text, &said[..19]);
+    add_bytes(text, b"\",\"freshness\":\"");
+    add_bytes(text, &said[20..36]);
+    add_bytes(text, b"\",\"payload\":\"");
+    add_bytes(text, &said[37..]);
 }

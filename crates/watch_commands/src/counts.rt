@@ -60,7 +60,7 @@ impl WatchCounts {
 }
 
 /// What stands before a value: in an object of JSON, or in a line of words.
-fn before(json: bool, object: &'static [u8], words: &'static [u8]) -> &'static [u8]
+fn before_value(json: bool, object: &'static [u8], words: &'static [u8]) -> &'static [u8]
     requires { length words.now ≤ length object.now }
     ensures text { result.now ≡ before_value json object.now words.now }
     ensures few { length result.now ≤ length object.now }
@@ -107,7 +107,7 @@ fn add_count(
     ensures few { vec_len text.new ≤ vec_len text.old + 57 }
     ensures capacity { vec_capacity text.old ≤ vec_capacity text.new }
 {
-    add_number(text, before(json, object, words), number);
+    add_number(text, before_value(json, object, words), number);
     if !json {
         text.push_reserved(b'\n');
     }
@@ -122,9 +122,21 @@ pub fn add_counts(text: &mut Vec<u8>, json: bool, counts: &WatchCounts)
     add_count(text, json, b"{\"accepted\":", b"accepted ", counts.accepted);
     add_count(text, json, b",\"failed\":", b"failed ", counts.failed);
     add_count(text, json, b",\"unmapped\":", b"unmapped ", counts.unmapped);
-    add_count(text, json, b",\"other frames\":", b"other frames ", counts.other_frames);
-    add_count(text, json, b",\"malformed\":", b"malformed ", counts.malformed);
-    add_bytes(text, before(json, b"}\n", b""));
+    add_count(
+        text,
+        json,
+        b",\"other frames\":",
+        b"other frames ",
+        counts.other_frames,
+    );
+    add_count(
+        text,
+        json,
+        b",\"malformed\":",
+        b"malformed ",
+        counts.malformed,
+    );
+    add_bytes(text, before_value(json, b"}\n", b""));
 }
 
 /// The numbers of a line of a map.
@@ -153,9 +165,21 @@ pub fn add_line_counts(text: &mut Vec<u8>, json: bool, entry: &MapLine, counts: 
         .saturating_sub(entry.counter)
         .saturating_sub(counts.accepted);
     add_line_head(text, json, entry, counts.number);
-    add_number(text, before(json, b"\",\"accepted\":", b" accepted "), counts.accepted);
-    add_number(text, before(json, b",\"failed\":", b" failed "), counts.failed);
-    add_number(text, before(json, b",\"missed\":", b" missed "), missed);
+    add_number(
+        text,
+        before_value(json, b"\",\"accepted\":", b" accepted "),
+        counts.accepted,
+    );
+    add_number(
+        text,
+        before_value(json, b",\"failed\":", b" failed "),
+        counts.failed,
+    );
+    add_number(
+        text,
+        before_value(json, b",\"missed\":", b" missed "),
+        missed,
+    );
     add_last(text, json, counts.last);
 }
 
@@ -166,9 +190,9 @@ fn add_last(text: &mut Vec<u8>, json: bool, last: u64)
     ensures few { vec_len text.new ≤ vec_len text.old + 28 }
     ensures capacity { vec_capacity text.old ≤ vec_capacity text.new }
 {
-    add_bytes(text, before(json, b",\"last\":\"", b" last "));
+    add_bytes(text, before_value(json, b",\"last\":\"", b" last "));
     add_digits(text, &last.to_be_bytes());
-    add_bytes(text, before(json, b"\"}\n", b"\n"));
+    add_bytes(text, before_value(json, b"\"}\n", b"\n"));
 }
 
 /// Adds the number of a line of a map, its name or CAN identifier, and its Data ID, in room for 121 bytes. It takes no
@@ -179,9 +203,9 @@ fn add_line_head(text: &mut Vec<u8>, json: bool, entry: &MapLine, number: u64)
     ensures few { vec_len text.new ≤ vec_len text.old + 121 }
     ensures capacity { vec_capacity text.old ≤ vec_capacity text.new }
 {
-    add_number(text, before(json, b"{\"line\":", b"line "), number);
-    add_bytes(text, before(json, b",\"name\":\"", b" "));
+    add_number(text, before_value(json, b"{\"line\":", b"line "), number);
+    add_bytes(text, before_value(json, b",\"name\":\"", b" "));
     add_bytes(text, entry.head());
-    add_bytes(text, before(json, b"\",\"id\":\"", b" "));
+    add_bytes(text, before_value(json, b"\",\"id\":\"", b" "));
     add_digits(text, &entry.id.to_be_bytes());
 }

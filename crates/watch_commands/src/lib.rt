@@ -19,8 +19,9 @@ mod run;
 mod start;
 mod state;
 
-pub use maps::{WatchMap, read_watch_map};
+pub use faults::map_input_refusal;
+pub use maps::{WatchMap, map_of_text, read_watch_map};
 pub use options::WatchOptions;
-pub use run::run_watch;
+pub use run::{is_only, run_watch};
 pub use start::watch_words;
 pub use state::Watch;

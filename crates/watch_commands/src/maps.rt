@@ -345,7 +345,7 @@ fn lines_of_text(alloc: Global, text: &[u8]) -> Result<Vec<MapLine>, Refusal>
 }
 
 /// The lines of a map with their numbers, or the refusal of the first that isn't one.
-fn map_of_text(alloc: Global, text: &[u8], options: WatchOptions) -> Result<WatchMap, Refusal>
+pub fn map_of_text(alloc: Global, text: &[u8], options: WatchOptions) -> Result<WatchMap, Refusal>
     requires { length text.now < 2 ^ 32 }
     ensures ok { IfOk result (IsMapOf options text.now) }
     ensures err { IfErr result (NoMapLines (watch_map_of text.now)) }

@@ -105,7 +105,7 @@ fn run_untold<S: Source, T: Source, K: Sink>(
 }
 
 /// Whether there is one word, and it is this.
-fn is_only(words: &[String], word: &str) -> bool
+pub fn is_only(words: &[String], word: &str) -> bool
     ensures { result ≡ is_only_word word.now (each string_bytes words.now) }
 {
     match words {

@@ -114,9 +114,28 @@ impl Watch {
             → (more : List Finding) × Watched self.new (bytes ++ piece.now) (findings ++ more)
             × PutsPiece (K.state sink.old) (K.state sink.new) (found_text self.old.mapping more) result }
     {
+        self.find(piece);
+        write_all(sink, self.text())
+    }
+
+    /// Takes the next piece of the log, of at most 4,096 bytes. The text is then what is found of each line that is
+    /// complete with it. It takes no memory.
+    pub fn find(&mut self, piece: &[u8])
+        requires { length piece.now ≤ 4096 }
+        ensures mapping { self.new.mapping ≡ self.old.mapping }
+        ensures goes_on { (bytes : List ℕ) (findings : List Finding) → Watched self.old bytes findings
+            → (more : List Finding) × Watched self.new (bytes ++ piece.now) (findings ++ more)
+            × (self.new.text ≡ found_text self.old.mapping more) }
+    {
         self.text.clear();
         self.look_at(piece);
-        write_all(sink, self.text.as_slice())
+    }
+
+    /// What was found of the last piece, or at the end of the log.
+    pub fn text(&self) -> &[u8]
+        ensures { result.now ≡ self.now.text }
+    {
+        self.text.as_slice()
     }
 
     /// The end of the log: what stands after the last line feed is a line, too. Prints what is found of it, then a line
@@ -130,10 +149,23 @@ impl Watch {
             (found_text self.old.mapping more ++ totals_text self.old.mapping (findings ++ more))
             (watch_status self.old.mapping (findings ++ more)) result }
     {
+        let status = self.end();
+        tell(sink, self.text(), status)
+    }
+
+    /// The end of the log: the text is then what is found of the line after the last line feed, a line for each line of
+    /// the map, and the five numbers. It gives the status that the program ends with, and takes no memory.
+    pub fn end(&mut self) -> u8
+        ensures mapping { self.new.mapping ≡ self.old.mapping }
+        ensures ends { (bytes : List ℕ) (findings : List Finding) → Watched self.old bytes findings
+            → (more : List Finding) × FindsAll self.old.mapping.lines bytes (findings ++ more)
+            × (self.new.text ≡ found_text self.old.mapping more ++ totals_text self.old.mapping (findings ++ more))
+            × (result ≡ watch_status self.old.mapping (findings ++ more)) }
+    {
         self.text.clear();
         self.end_line();
         self.push_totals();
-        tell(sink, self.text.as_slice(), self.status())
+        self.status()
     }
 
     /// The status at the end of the log: 1 if a mapped frame wasn't accepted, 3 if a line of the map that isn't
@@ -267,7 +299,13 @@ impl Watch {
             &mut self.answer,
         )
         .unwrap();
-        add_answer(&mut self.text, &self.map, self.lines, tally, self.answer.as_slice());
+        add_answer(
+            &mut self.text,
+            &self.map,
+            self.lines,
+            tally,
+            self.answer.as_slice(),
+        );
         Some(tally)
     }
 

@@ -13,6 +13,6 @@ pub returns-clause-last : goal.returns-clause-last
 returns-clause-last c =
     three_parts c.args.text.now.items (before_value c.args.json (codes ",\"last\":\"") (codes " last ")) (encode_lower (bytes_of 8 c.args.last))
     (before_value c.args.json (line (codes "\"}")) (line []))
-    _ _ _ (c.add_bytes.ensures.bytes ∙ ap (λ (x : List ℕ). c.args.text.now.items ++ x) c.before.ensures.text)
+    _ _ _ (c.add_bytes.ensures.bytes ∙ ap (λ (x : List ℕ). c.args.text.now.items ++ x) c.before_value.ensures.text)
     (c.add_digits.ensures.digits ∙ ap (λ (x : List ℕ). c.add_bytes.new.text.items ++ encode_lower x) (c.to_be_bytes.ensures ∙ to_be_bytes-is w64 c.args.last))
-    (c.add_bytes-2.ensures.bytes ∙ ap (λ (x : List ℕ). c.add_digits.new.text.items ++ x) c.before-2.ensures.text)
+    (c.add_bytes-2.ensures.bytes ∙ ap (λ (x : List ℕ). c.add_digits.new.text.items ++ x) c.before_value-2.ensures.text)

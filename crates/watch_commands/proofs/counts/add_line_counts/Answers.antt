@@ -15,9 +15,9 @@ returns-clause-line c =
     (named (before_value json (codes ",\"failed\":") (codes " failed ")) c.args.counts.now.failed)
     (named missed_name (last - c.args.entry.now.counter - accepted)) (last_text json last)
     _ _ _ _ _ c.add_line_head.ensures.head
-    (c.add_number.ensures.number ∙ ap (λ (x : List ℕ). c.add_line_head.new.text.items ++ named x accepted) c.before.ensures.text)
-    (c.add_number-2.ensures.number ∙ ap (λ (x : List ℕ). c.add_number.new.text.items ++ named x c.args.counts.now.failed) c.before-2.ensures.text)
+    (c.add_number.ensures.number ∙ ap (λ (x : List ℕ). c.add_line_head.new.text.items ++ named x accepted) c.before_value.ensures.text)
+    (c.add_number-2.ensures.number ∙ ap (λ (x : List ℕ). c.add_number.new.text.items ++ named x c.args.counts.now.failed) c.before_value-2.ensures.text)
     (c.add_number-3.ensures.number
-    ∙ ap (λ (x : List ℕ). c.add_number-2.new.text.items ++ named x c.saturating_sub-missed.result) c.before-3.ensures.text
+    ∙ ap (λ (x : List ℕ). c.add_number-2.new.text.items ++ named x c.saturating_sub-missed.result) c.before_value-3.ensures.text
     ∙ ap (λ (n : ℕ). c.add_number-2.new.text.items ++ named missed_name n) (c.saturating_sub-missed.ensures ∙ ap (λ (n : ℕ). n - accepted) c.saturating_sub.ensures))
     c.add_last.ensures.last
