@@ -1,3 +1,3 @@
-pub mod KeptTexts
+pub mod Comparing
 pub mod Expects
-pub mod ExpectSteps
+pub mod CompareSteps

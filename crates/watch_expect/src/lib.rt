@@ -1,15 +1,14 @@
-//! The run of `watch --expect FILE`: whether a run prints exactly what is kept in a file.
+//! The run of `watch --expect FILE`: whether what `watch` prints is exactly what FILE has.
 //!
-//! [`start_watch`] is the program: it watches, or with `--expect` compares, what the arguments name. [`run_expected`]
-//! lets a run print into a [`KeptText`], which takes the bytes of the kept text and one other byte at most, and then
-//! fails: so the run ends at the first difference, in the same memory for any log. The record `Expects` says when it
-//! ends with 0, and what is told of the first difference.
+//! [`start_watch`] is the program: it watches what the arguments name, or with `--expect` compares it.
+//! [`run_expected`] compares each piece of the output with the kept text before it reads on, in the same memory for any
+//! log, and ends at the first difference. Its record `Expects` says when it ends with 0, and what is told of the first
+//! difference.
 #![tactic(auto)]
 
-mod kept;
+mod comparing;
 mod run;
 mod start;
 
-pub use kept::KeptText;
 pub use run::run_expected;
 pub use start::start_watch;
