@@ -1,6 +1,6 @@
 -- The table of answers of `watch`: its rows, and when each comes
-use Rattle.std.specs.Prelude.{◌≡◌, ◌⊎◌, ℕ, ◌<◌, ◌≤◌, Bool, false, if◌then◌else◌, Option, None, Some, Result, Ok, Err}
-use Rattle.std.specs.Prelude.{List, [], ◌∷◌, ◌++◌, length, take, codes, bytes_eq}
+use Rattle.std.specs.Prelude.{◌≡◌, ◌⊎◌, ℕ, ◌<◌, ◌≤◌, None, Some, Result, Ok, Err}
+use Rattle.std.specs.Prelude.{List, ◌++◌, length, take, codes}
 use Rattle.bus_port.specs.Fault.{last_count}
 use Rattle.bus_port.specs.Source.{Came}
 use Rattle.bus_port.specs.Sink.{SinkState, Appended}
@@ -13,7 +13,7 @@ use Rattle.program_edge.specs.Rows.{Row, row_of}
 use Rattle.program_edge.specs.Inputs.{Reading, IsUnread, ReadsWhole, Lacks, SourceFailed}
 use Rattle.program_edge.specs.Endings.{Ending, EndsInRow, SinkFailed}
 use Rattle.trace_audit.specs.Auditing.{Finding}
-use Rattle.trace_audit.specs.Rows.{AuditInputs, NamesInputs, IsMapFaultBy}
+use Rattle.trace_audit.specs.Rows.{AuditInputs, IsMapFaultBy}
 use Rattle.watch_commands.specs.MapFaults.{map_input_row, map_line_row}
 use Rattle.watch_commands.specs.Words.{watch_usage, watch_options, AsksWatch, text_asked}
 use Rattle.watch_commands.specs.WatchMaps.{NumberedMap, watch_map_of, IsMapOf}

@@ -116,7 +116,7 @@ pub fn is_only(words: &[String], word: &str) -> bool
 }
 
 /// The words and the map: the watch before the log, or the first refusal that applies.
-fn prepare<S: Source>(alloc: Global, words: &[String], map: &mut S) -> Result<Watch, Refusal>
+pub fn prepare<S: Source>(alloc: Global, words: &[String], map: &mut S) -> Result<Watch, Refusal>
     ensures { (log : SourceState) (sink : SinkState) → text_asked (each string_bytes words.now) ≡ None → PreparesWatch
         (record {
           words = each string_bytes words.now;

@@ -2,7 +2,6 @@ use Rattle.std.proofs.Common.{◌≡◌, ◌+◌, ◌-◌, ◌++◌, Bool, true,
 use Rattle.std.specs.Prelude.{◌&&◌, not}
 use Rattle.std.specs.Fmt.{decimal}
 use Rattle.watch_commands.specs.Answers.{front_object, said_object}
-use Rattle.watch_commands.specs.Watching.{told_text}
 use Rattle.watch_commands.proofs.Objects.{said_long, told_object}
 use Rattle.watch_commands.proofs.answers.add_judged.Goals as goal
 use Rattle.watch_commands.proofs.answers.add_judged.Goals.{else-accepted-via-then-accepted+else-options, else-accepted-via-else-accepted}

@@ -1,4 +1,4 @@
-use Rattle.std.proofs.Common.{◌≡◌, ◌-◌, ℕ, List, length, drop, map, sym, ap, ◌∙◌, arith, take_all}
+use Rattle.std.proofs.Common.{◌-◌, ℕ, length, drop, map, sym, ap, ◌∙◌, arith, take_all}
 use Rattle.std.proofs.lemmas.List.{drop-map, length-drop}
 use Rattle.std.specs.Prelude.{string_bytes}
 use Rattle.watch_commands.proofs.options.after_flags.Goals as goal
