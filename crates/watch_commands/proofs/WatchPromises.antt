@@ -1,6 +1,6 @@
 -- What a run that ends so promises
 use Rattle.std.proofs.Common.{◌≡◌, ◌⊎◌, ℕ, ◌<◌, ◌≤◌, Bool, true, false, List, [], ◌∷◌, length, drop, inl, inr, refl, sym, ◌∙◌, ap, subst, arith}
-use Rattle.std.specs.Prelude.{None, Some, Ok, Err, codes, if◌then◌else◌, nat_lt, ◌==◌, bytes_eq, is_some}
+use Rattle.std.specs.Prelude.{None, Some, Ok, Err, if◌then◌else◌, nat_lt, ◌==◌, is_some}
 use Rattle.std.proofs.lemmas.Bool.Decides.{nat_tests}
 use Rattle.std.proofs.lemmas.Option.{same_Some}
 use Rattle.std.proofs.lemmas.List.{length-drop}

@@ -3,12 +3,11 @@ use Rattle.std.specs.Prelude.{◌≡◌, ℕ, List, [], take, codes}
 use Rattle.text_lines.specs.Texts.{line}
 use Rattle.program_edge.specs.declared.input.InputFault.{InputFault}
 use Rattle.program_edge.specs.declared.input.InputFault.TheVariants.{ReadFault, TooLong, Memory}
-use Rattle.program_edge.specs.Input.{input_fault_status}
 use Rattle.program_edge.specs.Inputs.{Reading, IsUnread, ReadsWhole, Lacks}
 use Rattle.program_edge.specs.Rows.{Row, row_of}
 use Rattle.program_edge.specs.Endings.{EndsInRow}
 use Rattle.trace_audit.specs.Rows.{AuditInputs}
-use Rattle.watch_commands.specs.WatchRows.{Writing, IsUnwritten, WritesWhole, ending_of, OverMap, ComesOnErrors}
+use Rattle.watch_commands.specs.WatchRows.{Writing, WritesWhole, ending_of, OverMap, ComesOnErrors}
 use Rattle.watch_expect.specs.Comparing.{difference_text, PrintsAll, DiffersIn, writes_bytes}
 
 -- the arguments, the kept text, the map and the log
@@ -48,7 +47,7 @@ pub record Expects (i : ExpectInputs) (e : ExpectEnding) : Type 0 where
   -- The program prints a row of the table on standard error, and ends with its status, or at 6 a prefix of one.
   pub ends : EndsInRow (ComesExpected i) (ending_of e.errors e.status)
   -- 0: `watch` prints exactly the kept text.
-  pub same : e.status ≡ 0 → IsUnwritten e.errors × ((text : List ℕ) × ReadsWhole i.kept text
+  pub same : e.status ≡ 0 → WritesWhole e.errors [] × ((text : List ℕ) × ReadsWhole i.kept text
       × OverMap (watched_of i) (λ mapping. PrintsAll mapping i.log text))
   -- 1: it doesn't, and the line of the first difference is told.
   pub differs : e.status ≡ 1 → (text : List ℕ) × (n : ℕ) × ReadsWhole i.kept text

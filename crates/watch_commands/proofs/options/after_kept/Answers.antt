@@ -1,7 +1,7 @@
 use Rattle.std.proofs.Common.{◌≡◌, ◌-◌, ℕ, Bool, true, false, List, length, drop, map, refl, sym, ap, ◌∙◌, arith, take_all}
 use Rattle.std.specs.Prelude.{string_bytes, if◌then◌else◌, is_some}
 use Rattle.std.proofs.lemmas.List.{drop-map, length-drop}
-use Rattle.watch_commands.specs.Words.{kept_first, behind_kept}
+use Rattle.watch_commands.specs.Words.{kept_first}
 use Rattle.watch_commands.proofs.options.after_kept.Goals as goal
 
 behind_it : (b : Bool) (words : List (List ℕ)) → b ≡ true → drop 2 words ≡ (if b then drop 2 words else words)
