@@ -39,10 +39,13 @@ no_text words asks = none_of (text_asked words) (λ text is. asks_no_text words 
 -- ---- what was printed, as the first bytes of the text
 
 pub well_more : (some more all : List ℕ) → all ≡ some ++ more → AppendedWell (holds_bytes some) (holds_bytes all) more
-well_more some more all is = (refl, record {
-  grown = λ held told. ap Some (is ∙ ap (λ (t : List ℕ). t ++ more) (same_Some some held told));
-  later = omega arith;
-})
+well_more some more all is = (
+  refl,
+  record {
+    grown = λ held told. ap Some (is ∙ ap (λ (t : List ℕ). t ++ more) (same_Some some held told));
+    later = omega arith;
+  },
+)
 
 well_is : (all text : List ℕ) → AppendedWell (holds_bytes []) (holds_bytes all) text → all ≡ text
 well_is all text well = same_Some all text (well.1.grown [] refl)
@@ -87,7 +90,7 @@ module _ (first log later : SourceState) (text : List ℕ) (at : ℕ) (old new :
       → FindsAll old.mapping.lines bytes (findings ++ more)
       → found ≡ found_text old.mapping more ++ totals_text old.mapping (findings ++ more)
       → EndsAs text at found end → ComparesLog old.mapping reading text (Ok end)
-  log_ends room left more found end hands some finds found_is as =
+  log_ends room left more found end hands some finds found_is so =
       let all : List Finding = findings ++ more in
       let to_end : ReadsToEnd reading bytes =
       at_end first log later (holds_bytes []) (holds_bytes (take at text)) (holds_bytes []) old new bytes findings room left so_far hands some in
@@ -95,7 +98,7 @@ module _ (first log later : SourceState) (text : List ℕ) (at : ℕ) (old new :
       ap (λ (t : List ℕ). t ++ found) printed ∙ ap (λ (t : List ℕ). found_text old.mapping findings ++ t) found_is
       ∙ sym (append_assoc (found_text old.mapping findings) (found_text old.mapping more) (totals_text old.mapping all))
       ∙ ap (λ (t : List ℕ). t ++ totals_text old.mapping all) (sym (flat_map-append (told_text old.mapping.options) findings more)) in
-      ended_as old.mapping reading text at found end (λ t is. (bytes, all, to_end, finds, is ∙ whole_is)) as
+      ended_as old.mapping reading text at found end (λ t is. (bytes, all, to_end, finds, is ∙ whole_is)) so
 
 -- ---- the table
 

@@ -6,9 +6,9 @@
 //! difference.
 #![tactic(auto)]
 
-mod comparing;
 mod run;
 mod start;
+mod texts;
 
 pub use run::run_expected;
 pub use start::start_watch;

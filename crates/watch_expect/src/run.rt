@@ -12,7 +12,7 @@ ghost use Rattle.watch_expect.specs.Comparing.{difference_text};
 ghost use Rattle.watch_expect.specs.Expects.{kept_row, Expects};
 ghost use Rattle.watch_expect.specs.CompareSteps.{IsKeptRow, ports_at, ComparesLog, ComparesPiece};
 
-use crate::comparing::{follow, follow_to_end, line_at};
+use crate::texts::{follow, follow_to_end, line_at};
 use bus_port::{PortFailed, Sink, Source};
 use itoa::Buffer;
 use program_edge::{DONE, InputFault, Refusal, read_input, tell, tell_refusal};

@@ -23,7 +23,12 @@ pub fn start_watch<O: Opener, I: Source + Drop, K: Sink, E: Sink>(
     words: &[String],
     sink: &mut K,
     errors: &mut E,
-) -> (u8, WordSource<O::Opened, I>, WordSource<O::Opened, I>, WordSource<O::Opened, I>)
+) -> (
+    u8,
+    WordSource<O::Opened, I>,
+    WordSource<O::Opened, I>,
+    WordSource<O::Opened, I>,
+)
     // Without `--expect`: all that a watch promises, over the sources that two arguments name.
     ensures watches { kept_file (each string_bytes words.now) ≡ None → OverTwoNamed (O.opens opener.old)
         (openings (O.opened opener.old) (option_map I.state input.old))
