@@ -1,9 +1,9 @@
 -- A comparison from turn to turn
-use Rattle.std.proofs.Common.{◌≡◌, ℕ, ◌+◌, ◌<◌, ◌≤◌, List, [], ◌∷◌, ◌++◌, length, take, refl, sym, ap, ◌∙◌, subst, arith, inl, inr, append_assoc}
-use Rattle.std.specs.Prelude.{Option, None, Some, Result, Ok, Err}
+use Rattle.std.proofs.Common.{◌≡◌, ℕ, ◌<◌, List, [], ◌++◌, length, take, refl, sym, ap, ◌∙◌, subst, arith, inl, inr, append_assoc}
+use Rattle.std.specs.Prelude.{Option, None, Some, Ok}
 use Rattle.std.proofs.lemmas.Grind.{flat_map-append}
 use Rattle.std.proofs.lemmas.Option.{same_Some}
-use Rattle.bus_port.specs.Source.{SourceState, Came, HandsOut, ReadFails}
+use Rattle.bus_port.specs.Source.{SourceState, Came, HandsOut}
 use Rattle.bus_port.proofs.CallerLemmas.{Came-more}
 use Rattle.program_edge.specs.Told.{AppendedWell, EndingTold}
 use Rattle.program_edge.specs.Inputs.{Reading, ReadsWhole}
