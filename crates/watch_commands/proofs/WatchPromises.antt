@@ -1,6 +1,6 @@
 -- What a run that ends so promises
-use Rattle.std.proofs.Common.{◌≡◌, ◌⊎◌, ℕ, ◌<◌, ◌≤◌, Bool, true, false, List, [], ◌∷◌, length, inl, inr, refl, sym, ◌∙◌, ap, subst, arith}
-use Rattle.std.specs.Prelude.{None, Some, Ok, Err, if◌then◌else◌, nat_lt, ◌==◌}
+use Rattle.std.proofs.Common.{◌≡◌, ◌⊎◌, ℕ, ◌<◌, ◌≤◌, Bool, true, false, List, [], ◌∷◌, length, drop, inl, inr, refl, sym, ◌∙◌, ap, subst, arith}
+use Rattle.std.specs.Prelude.{None, Some, Ok, Err, if◌then◌else◌, nat_lt, ◌==◌, is_some}
 use Rattle.std.proofs.lemmas.Bool.Decides.{nat_tests}
 use Rattle.std.proofs.lemmas.Option.{same_Some}
 use Rattle.std.proofs.lemmas.List.{length-drop}
@@ -20,7 +20,7 @@ use Rattle.trace_audit.specs.declared.map_lines.MapLine.{MapLine}
 use Rattle.trace_audit.specs.Auditing.{Finding}
 use Rattle.trace_audit.specs.Rows.{AuditInputs}
 use Rattle.watch_commands.specs.MapFaults.{map_fault_text, map_input_text}
-use Rattle.watch_commands.specs.Words.{watch_usage, options_before, AsksWatch, text_asked}
+use Rattle.watch_commands.specs.Words.{watch_usage, flags_before, behind_flags, kept_first, behind_kept, watch_inputs, AsksWatch, text_asked}
 use Rattle.watch_commands.specs.WatchMaps.{NumberedMap, watch_map_of}
 use Rattle.watch_commands.specs.WatchTotals.{is_failed_tally, is_accepted_at, count_of, are_heard, watch_status}
 use Rattle.watch_commands.specs.WatchRows.{ReadsWatchMap, IsWatchMapFault, IsUnwritten, WritesWhole, WatchEnding, on_output, on_errors}
@@ -53,9 +53,18 @@ above_3 status above = λ is. omega (arith, above, (answer_few status is).0)
 -- ---- words
 
 -- words that ask for a watch ask for no text
-asks_no_text : (words : List (List ℕ)) (text : List ℕ) → AsksWatch words → text_asked words ≡ Some text → ⊥
-asks_no_text [] text asks is = omega (arith, asks, length-drop {A = List ℕ} (options_before []) [])
-asks_no_text (word ∷ []) text asks is = omega (arith, asks, length-drop (options_before (word ∷ [])) (word ∷ []))
+few_behind : (b : Bool) (words : List (List ℕ)) → length (if b then drop 2 words else words) ≤ length words
+few_behind true words = omega (arith, length-drop 2 words)
+few_behind false words = omega arith
+
+few_inputs : (words : List (List ℕ)) → length (watch_inputs words) ≤ length words
+few_inputs words =
+    let behind : List (List ℕ) = behind_flags words in
+    omega (arith, length-drop (flags_before words) words, few_behind (is_some (kept_first behind)) behind, length-drop (flags_before (behind_kept behind)) (behind_kept behind))
+
+pub asks_no_text : (words : List (List ℕ)) (text : List ℕ) → AsksWatch words → text_asked words ≡ Some text → ⊥
+asks_no_text [] text asks is = omega (arith, asks, few_inputs [])
+asks_no_text (word ∷ []) text asks is = omega (arith, asks, few_inputs (word ∷ []))
 asks_no_text (word ∷ next ∷ rest) text asks is = let clash : None ≡ Some text = is in cc
 
 module _ (i : AuditInputs) (e : WatchEnding) where

@@ -21,7 +21,7 @@ mod state;
 
 pub use faults::map_input_refusal;
 pub use maps::{WatchMap, map_of_text, read_watch_map};
-pub use options::WatchOptions;
-pub use run::{is_only, run_watch};
+pub use options::{WatchOptions, inputs_of, kept_file};
+pub use run::{is_only, prepare, run_watch};
 pub use start::watch_words;
 pub use state::Watch;

@@ -17,13 +17,14 @@ use program_edge::{DONE, Refusal, WRITE_FAULT, tell, tell_refusal};
 use std::alloc::{AllocError, Global};
 use trace_audit::{PIECE, names_inputs};
 
-const USAGE: &str = "usage: watch [--quiet] [--json] MAP LOG\n";
+const USAGE: &str = "usage: watch [--quiet] [--json] [--expect FILE] MAP LOG\n";
 
 /// What is printed for `--help`.
-const HELP: &str = "usage: watch [--quiet] [--json] MAP LOG
+const HELP: &str = "usage: watch [--quiet] [--json] [--expect FILE] MAP LOG
 Says of each frame of LOG that MAP names whether its Secured I-PDU verifies (AUTOSAR SecOC, profile 1).
 LOG is a log of candump -L; - is standard input.
 --quiet leaves the answers to accepted frames out. --json prints an object of JSON a line.
+--expect compares the output with FILE and prints none: 0 if it is the same, else 1 and the line that differs.
 A line of MAP: CANID ID KEY FRESH LEN [WINDOW [CHANNEL]] [optional] [name=NAME] [# COMMENT]
 Status 0: each mapped frame was accepted, and one at least for each line of MAP that isn't optional.
 1: a mapped frame wasn't accepted. 3: a line of MAP accepted none. 2: usage. 4: MAP. 5, 8: input. 6: output. 7: memory.
@@ -115,7 +116,7 @@ pub fn is_only(words: &[String], word: &str) -> bool
 }
 
 /// The words and the map: the watch before the log, or the first refusal that applies.
-fn prepare<S: Source>(alloc: Global, words: &[String], map: &mut S) -> Result<Watch, Refusal>
+pub fn prepare<S: Source>(alloc: Global, words: &[String], map: &mut S) -> Result<Watch, Refusal>
     ensures { (log : SourceState) (sink : SinkState) → text_asked (each string_bytes words.now) ≡ None → PreparesWatch
         (record {
           words = each string_bytes words.now;
