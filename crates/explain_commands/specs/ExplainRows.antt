@@ -13,7 +13,9 @@ use Rattle.program_edge.specs.Endings.{Ending, EndsInRow, SinkFailed}
 use Rattle.trace_audit.specs.Rows.{AuditInputs, NamesInputs}
 use Rattle.watch_commands.specs.MapFaults.{map_input_row, map_line_row}
 use Rattle.watch_commands.specs.WatchMaps.{NumberedMap, IsMapOf}
-use Rattle.watch_commands.specs.WatchRows.{is_only_word, IsWatchMapFault, ReadsToEnd, HasCome}
+use Rattle.watch_commands.specs.declared.options.WatchOptions.{WatchOptions}
+use Rattle.watch_commands.specs.Words.{is_only_word}
+use Rattle.watch_commands.specs.WatchRows.{IsWatchMapFault, ReadsToEnd, HasCome}
 use Rattle.watch_commands.specs.WatchRows.{Writing, IsUnwritten, WritesWhole, ending_of}
 use Rattle.watch_commands.specs.WatchRows.{WatchEnding, on_output, on_errors, log_failed_text, log_too_long_text}
 use Rattle.explain_commands.specs.declared.run.TheConstants.{HELP, VERSION}
@@ -31,9 +33,13 @@ explain_text_asked words =
     else if is_only_word (codes "--version") words then Some VERSION.now
     else None
 
+-- no option of `watch` is asked for
+abbrev plain : WatchOptions
+plain = record { quiet = false; json = false }
+
 -- the map was read whole, and has these lines with these numbers, as `watch` reads it
 abbrev pub ReadsExplainMap : AuditInputs → NumberedMap → Type 0
-ReadsExplainMap i mapping = (text : List ℕ) × ReadsWhole i.map text × IsMapOf false text mapping
+ReadsExplainMap i mapping = (text : List ℕ) × ReadsWhole i.map text × IsMapOf plain text mapping
 
 -- ---- the log
 

@@ -2,7 +2,6 @@
 ghost use Rattle.std.specs.Prelude.{◌≡◌, [], map as each, List, ℕ, None, string_bytes};
 ghost use Rattle.bus_port.specs.Source.{SourceState};
 ghost use Rattle.bus_port.specs.Sink.{SinkState};
-ghost use Rattle.watch_commands.specs.WatchRows.{is_only_word};
 ghost use Rattle.explain_commands.specs.declared.answers.LineAnswer.{LineAnswer};
 ghost use Rattle.explain_commands.specs.ExplainStates.{Followed};
 ghost use Rattle.explain_commands.specs.ExplainRows.{EndsExplained, EndsExplainUntold, explain_text_asked};
@@ -14,7 +13,7 @@ use bus_port::{PortFailed, Sink, Source};
 use program_edge::{DONE, Refusal, WRITE_FAULT, tell, tell_refusal};
 use std::alloc::{AllocError, Global};
 use trace_audit::{PIECE, names_inputs};
-use watch_commands::read_watch_map;
+use watch_commands::{WatchOptions, is_only, read_watch_map};
 
 const USAGE: &str = "usage: explain MAP LOG\n";
 
@@ -100,16 +99,6 @@ fn run_untold<S: Source, T: Source, K: Sink>(
     }
 }
 
-/// Whether there is one word, and it is this.
-fn is_only(words: &[String], word: &str) -> bool
-    ensures { result ≡ is_only_word word.now (each string_bytes words.now) }
-{
-    match words {
-        [only] => only.as_str() == word,
-        _ => false,
-    }
-}
-
 /// The words and the map: the state before the log, or the first refusal that applies.
 fn prepare<S: Source>(alloc: Global, words: &[String], map: &mut S) -> Result<Explainer, Refusal>
     ensures { (log : SourceState) (sink : SinkState)
@@ -125,7 +114,11 @@ fn prepare<S: Source>(alloc: Global, words: &[String], map: &mut S) -> Result<Ex
     if !names_inputs(words) {
         return Err(Refusal::fixed(2, USAGE));
     }
-    let map = read_watch_map(alloc, map, false)?;
+    let options = WatchOptions {
+        quiet: false,
+        json: false,
+    };
+    let map = read_watch_map(alloc, map, options)?;
     match Explainer::new(alloc, map) {
         Ok(explainer) => Ok(explainer),
         Err(AllocError) => Err(Refusal::no_memory()),
