@@ -15,4 +15,5 @@ pub mod CutLaws
 pub mod CallLaws
 pub mod Founds
 pub mod NoEntries
+pub mod Adoptions
 pub mod CallerLemmas

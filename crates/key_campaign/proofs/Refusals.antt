@@ -33,7 +33,7 @@ is_faulted _ = false
 unissued : (uid : List ℕ) (id : ℕ) (entries : List (Option LedgerEntry)) → entry_for uid id entries ≡ None → last_issued uid id entries ≡ 0
 unissued uid id entries none = ap entry_counter none
 
-place_or_none : (uid : List ℕ) (id : ℕ) (entries : List (Option LedgerEntry)) (place : ℕ) → TakesPlace uid id entries place → HasNoPlace entries uid id → ⊥
+pub place_or_none : (uid : List ℕ) (id : ℕ) (entries : List (Option LedgerEntry)) (place : ℕ) → TakesPlace uid id entries place → HasNoPlace entries uid id → ⊥
 place_or_none uid id entries place takes none =
     let unknown = unknown_of uid id entries none.unknown in
     elim takes.1 [

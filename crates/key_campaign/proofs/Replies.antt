@@ -3,8 +3,6 @@ use Rattle.std.specs.Prelude.{◌≡◌, ◌⊎◌, ℕ, suc, true, Option, None
 use Rattle.std.proofs.Common.{refl, sym, ap, subst, ◌∙◌, arith, inl, inr, true≢false}
 use Rattle.std.proofs.lemmas.Option.{same_Some, none-some}
 use Rattle.machine_runs.specs.Run.{Run}
-use Rattle.key_campaign.specs.declared.commands.Issue.{Issue}
-use Rattle.key_campaign.specs.declared.commands.Confirm.{Confirm}
 use Rattle.key_campaign.specs.declared.commands.LedgerCommand.{LedgerCommand}
 use Rattle.key_campaign.specs.declared.commands.LedgerCommand.TheVariants as command
 use Rattle.key_campaign.specs.declared.entries.LedgerEntry.{LedgerEntry}

@@ -111,7 +111,7 @@ CountersRise-run start (m ∷ ms) last sound run =
 
 -- ---- entries stay
 
-kept_change : (c : Campaign) (entries : List (Option LedgerEntry)) (change : PendingEntry) (uid : List ℕ) (id : ℕ) (e : LedgerEntry) → Advances c.entries change
+pub kept_change : (c : Campaign) (entries : List (Option LedgerEntry)) (change : PendingEntry) (uid : List ℕ) (id : ℕ) (e : LedgerEntry) → Advances c.entries change
     → entries ≡ with_change change c.entries → entry_for uid id c.entries ≡ Some e → (f : LedgerEntry) × (entry_for uid id entries ≡ Some f) × (e.counter ≤ f.counter)
 kept_change c entries change uid id e advances is at = elim (entry_after c.entries change.place change.entry advances.takes uid id) [
   | inl own ↦ (

@@ -7,7 +7,6 @@ use Rattle.key_slots.specs.Usage.{first_applying}
 use Rattle.memory_update.specs.Loading.{key_in, head_refusals, Allows}
 use Rattle.memory_update.specs.Messages.{Builds}
 use Rattle.machine_runs.specs.Run.{Moment, Run}
-use Rattle.key_campaign.specs.declared.commands.Confirm.{Confirm}
 use Rattle.key_campaign.specs.declared.commands.LedgerCommand.{LedgerCommand}
 use Rattle.key_campaign.specs.declared.commands.LedgerCommand.TheVariants as command
 use Rattle.key_campaign.specs.declared.entries.LedgerEntry.{LedgerEntry}

@@ -9,3 +9,4 @@ pub mod Powering
 pub mod State
 pub mod Lines
 pub mod Words
+pub mod Adopting

@@ -11,3 +11,5 @@ pub use Rattle.key_campaign.specs.Cell.{HoldEntries, FirstBadEntry}
 pub use Rattle.key_campaign.specs.Powering.{LedgerComesUp, LedgerStaysDown}
 pub use Rattle.key_campaign.specs.State.{FitsLedger, TellsLedger, ServedLedger}
 pub use Rattle.key_campaign.specs.Lines.{issued_line, confirmed_line, ledger_cut_line}
+pub use Rattle.key_campaign.specs.Entries.{IsEntry, entry_at}
+pub use Rattle.key_campaign.specs.Adopting.{AdoptStep}

@@ -1,16 +1,16 @@
 //! A ledger in all its lives.
-ghost use Rattle.std.specs.Prelude.{◌≡◌, ◌≢◌, ◌≤◌, ◌+◌, ◌↔◌, [], length, true, false, None, option_map, not, IfOk};
+ghost use Rattle.std.specs.Prelude.{◌≡◌, ◌≢◌, ◌<◌, ◌≤◌, ◌+◌, ◌↔◌, [], length, true, false, None, option_map, not, IfOk};
 ghost use Rattle.std.specs.Prelude.{IfErr, OnOk, OnErr, IsErrOf};
 ghost use Rattle.key_campaign.specs.Words.{ArmsStop, ArmsFail, Rose, Runs, CutAndRead, Settled, is_pair};
 ghost use Rattle.key_campaign.specs.Words.{place_count, greatest_counter, IsUnit, entry_for, last_issued, Advances};
 ghost use Rattle.key_campaign.specs.Words.{powered_ledger, changed_ledger, failed_change, SoundLedger, HasNoPlace};
 ghost use Rattle.key_campaign.specs.Words.{RefusesConfirm, told_entry, LedgerStep, HoldEntries, FirstBadEntry};
 ghost use Rattle.key_campaign.specs.Words.{LedgerComesUp, LedgerStaysDown, FitsLedger, TellsLedger, ServedLedger};
-ghost use Rattle.key_campaign.specs.Words.{issued_line, confirmed_line, ledger_cut_line};
+ghost use Rattle.key_campaign.specs.Words.{issued_line, confirmed_line, ledger_cut_line, IsEntry, entry_at, AdoptStep};
 
 use crate::faults::{BadEntry, LedgerCut, LedgerFault};
 use crate::places::{Places, put_entry, read_places};
-use crate::{LedgerCommand, LedgerEntry, LedgerLine, LedgerRefusal, PendingEntry};
+use crate::{Adoption, LedgerCommand, LedgerEntry, LedgerLine, LedgerRefusal, PendingEntry};
 use basics::Block;
 use cell_store::{Cells, CutCells, PutFailed};
 use cut_disk::Torn;
@@ -215,6 +215,43 @@ impl<C: Cells> Ledger<C> {
             Ok(()) => Ok(held.counter),
             Err(_) => Err(LedgerFault::Faulted),
         }
+    }
+
+    /// Takes over an entry that is known from elsewhere: that an update with its counter was issued for its unit and
+    /// slot, and whether it was confirmed. It is put if it says more than the ledger: a higher counter, or the same and
+    /// it alone is confirmed. Otherwise nothing is done. Errors, in their order: `Down`, `Full`, `Faulted`. After each
+    /// of them but `Faulted` all is as before, and no call of the disk was made.
+    pub fn adopt(&mut self, entry: &LedgerEntry) -> Result<Adoption, LedgerFault>
+        requires { IsEntry entry.now }
+        ensures step { AdoptStep self.old.campaign entry.now result self.new.campaign }
+        ensures untouched { IfErr result (λ fault. fault ≢ LedgerFault.Faulted → self.new ≡ self.old) }
+        ensures unmoved { IfOk result (λ done. done ≢ Adoption.Raised → self.new ≡ self.old) }
+        ensures down { IsErrOf result LedgerFault.Down ↔ self.old.campaign.up ≡ false }
+        ensures full { IsErrOf result LedgerFault.Full
+            ↔ ((self.old.campaign.up ≡ true) × HasNoPlace self.old.campaign.entries entry.now.uid entry.now.id) }
+        ensures serves { ServedLedger self.old self.new result }
+    {
+        if !self.up {
+            return Err(LedgerFault::Down);
+        }
+        let place = match self.entries.place_to_adopt(entry) {
+            Ok(place) => place,
+            Err(answer) => return answer,
+        };
+        match self.put(place, *entry) {
+            Ok(()) => Ok(Adoption::Raised),
+            Err(_) => Err(LedgerFault::Faulted),
+        }
+    }
+
+    /// What stands at a place, 0 to 255, also while the ledger is down.
+    #[tactic(auto, unfolding(crate::specs::Entries::place_count))]
+    pub fn entry(&self, place: u16) -> Option<LedgerEntry>
+        requires { place < place_count }
+        ensures entry { result ≡ entry_at self.now.campaign.entries place }
+        ensures sound { SoundLedger self.now.campaign }
+    {
+        self.entries.get(usize::from(place))
     }
 
     /// The counter that was issued last for a unit and slot, and whether it was confirmed, also while the ledger is

@@ -6,10 +6,13 @@
 //! exactly if each cell is empty or an entry and no two are of one unit and slot; else the lowest wrong cell is named.
 //! Each call is a step of the machine (a cut's if the disk tells fitting bytes). Refusals come exactly by their cause
 //! and leave all as before, except `Faulted`: it comes only if the count rose, and Ok only if it didn't. After
-//! `Faulted` the ledger is down until a power-up. Its one pending change is then there whole or not at all. No call
+//! `Faulted` the ledger is down until a power-up. Its one pending change is then there whole or not at all. `adopt`
+//! takes over an entry that is known from elsewhere, and says more: no counter falls by it, and no entry goes. No call
 //! takes memory.
 #![tactic(auto)]
 
+mod adoption;
+mod adoption_laws;
 mod cell;
 mod commands;
 mod entries;
@@ -20,6 +23,11 @@ mod lines;
 mod machine_laws;
 mod places;
 
+pub use adoption::Adoption;
+pub use adoption_laws::{
+    adoptions_keep_entries, adoptions_keep_ledgers_sound, adoptions_reach_their_counter,
+    adoptions_touch_no_other_entry,
+};
 pub use commands::{Confirm, Issue, LedgerCommand};
 pub use entries::{LedgerEntry, PendingEntry};
 pub use faults::{BadEntry, LedgerCut, LedgerFault};

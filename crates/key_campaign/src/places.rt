@@ -1,13 +1,14 @@
 //! The places of a ledger, in memory and in a store.
 ghost use Rattle.std.specs.Prelude.{◌≡◌, ◌<◌, ◌≤◌, ◌+◌, ℕ, length, None, Some, set, is_none, position, IfOk, IfErr, OnOk, OnErr, MatchOption, IsTrue, ◌↔◌, false, take, slice_index_or};
 ghost use Rattle.cell_store.specs.Cells.{Puts, FailsPut};
-ghost use Rattle.key_campaign.specs.Entries.{place_count, place_for, empty_place, no_entries};
+ghost use Rattle.key_campaign.specs.Entries.{place_count, place_for, empty_place, no_entries, entry_at};
 ghost use Rattle.key_campaign.specs.Places.{FoundEntry, IsNext, HasNoNext, ReadSoFar};
+ghost use Rattle.key_campaign.specs.Adopting.{says_more, TakesAdopted, AnswersUnput};
 ghost use Rattle.key_campaign.specs.Cell.{place_cell, HoldEntries, FirstBadEntry};
 
-use crate::LedgerEntry;
 use crate::cell::{entry_bytes, place_in};
 use crate::faults::LedgerFault;
+use crate::{Adoption, LedgerEntry};
 use cell_store::{Cells, PutFailed};
 use key_slots::{Counter28, SlotId};
 use memory_update::Uid;
@@ -54,6 +55,15 @@ fn empty_in(places: &[Option<LedgerEntry>]) -> Option<usize>
     places.iter().position(|place| place.is_none())
 }
 
+// Whether an entry says more than the one that is held of its unit and slot: a higher counter, or the same, and it
+// alone is confirmed.
+fn says_more(held: &LedgerEntry, entry: &LedgerEntry) -> bool
+    ensures { result ≡ says_more (Some held.now) entry.now }
+{
+    let (last, counter) = (held.counter.number(), entry.counter.number());
+    last < counter || (last == counter && (entry.confirmed && !held.confirmed))
+}
+
 impl Places {
     /// Each place is empty.
     #[tactic(auto, unfolding(crate::specs::Entries::no_entries, crate::specs::Entries::place_count))]
@@ -90,6 +100,37 @@ impl Places {
             Some(counter) => Ok((place as u16, counter)),
             None => Err(LedgerFault::Spent),
         }
+    }
+
+    /// The place at which an entry that is known from elsewhere is to be put, if it says more than what is there of its
+    /// unit and slot; else the answer of the ledger, which has as much, or more, or no place.
+    pub fn place_to_adopt(&self, entry: &LedgerEntry) -> Result<u16, Result<Adoption, LedgerFault>>
+        ensures place { IfOk result (TakesAdopted self.now entry.now) }
+        ensures answer { IfErr result (AnswersUnput self.now entry.now) }
+    {
+        match self.find(&entry.uid, entry.id) {
+            Some((place, held)) => {
+                if says_more(&held, entry) {
+                    return Ok(place as u16);
+                }
+                if held.counter.number() == entry.counter.number() {
+                    return Err(Ok(Adoption::Held));
+                }
+                Err(Ok(Adoption::Behind(held.counter)))
+            }
+            None => match empty_in(&self.places) {
+                Some(place) => Ok(place as u16),
+                None => Err(Err(LedgerFault::Full)),
+            },
+        }
+    }
+
+    /// What stands at a place.
+    pub fn get(&self, place: usize) -> Option<LedgerEntry>
+        requires { place < 256 }
+        ensures { result ≡ entry_at self.now place }
+    {
+        self.places[place]
     }
 
     /// Whether one of the places before this one has an entry of this unit and slot.

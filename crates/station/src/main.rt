@@ -1,5 +1,5 @@
-//! `station`: a key loading station whose keys come from files (SHE specification, memory update protocol, secure
-//! booting).
+//! `station`: a key loading station (SHE specification, memory update protocol, secure booting): what stores and ledgers
+//! hold, lost replies, and keys from files.
 //!
 //! [`station_commands::station_words`] is the program, with `RunsStation`. Here it is handed the arguments, the files,
 //! standard input and standard output.
@@ -16,7 +16,7 @@ fn main(rt: HostRuntime) -> ExitCode {
     let mut input = Some(StdSource::new(rt.stdin()));
     let status = match arguments(&rt) {
         Ok(words) => {
-            let (status, _first, _second) = station_words(
+            let (status, _files) = station_words(
                 rt.alloc(),
                 &mut opener,
                 &mut input,

@@ -1,57 +1,119 @@
 //! The arguments of the command line.
-ghost use Rattle.std.specs.Prelude.{◌≡◌, map as each, string_bytes, option_map, if◌then◌else◌, bytes_eq, codes};
-ghost use Rattle.std.specs.Prelude.{Some, None};
+ghost use Rattle.std.specs.Prelude.{◌≡◌, drop, map as each, string_bytes, option_map};
 ghost use Rattle.program_edge.specs.NamedSources.{word_source, openings};
-ghost use Rattle.station_commands.specs.Station.{behind_key, RunsStation};
+ghost use Rattle.program_edge.specs.Told.{EndingTold};
+ghost use Rattle.station_commands.specs.Station.{part_named, part_of, RunsStation, station_usage};
 
 use bus_port::{Sink, Source};
 use keyfile_commands::keyfile_words;
-use program_edge::{MissingSource, Opener, Refusal, WordSource, tell_refusal};
+use ledger_commands::ledgers_words;
+use program_edge::{Opener, Refusal, WordSource, tell_refusal};
+use slot_commands::slots_words;
 use std::alloc::Global;
 
-const USAGE: &str = "usage: station key\n";
+/// What the first argument names.
+#[derive(Clone, Copy, Debug, PartialEq, Eq)]
+pub enum StationPart {
+    /// `slots`: what a unit's store holds.
+    Slots,
+    /// `ledger`: what ledgers hold.
+    Ledger,
+    /// `key`: messages and boot MACs with keys from files.
+    Key,
+}
+
+/// The sources of the files that the other arguments named, as the run left them.
+#[derive(Drop)]
+pub enum StationFiles<O: Source, I: Source> {
+    /// That of a unit's store.
+    Store(WordSource<O, I>),
+    /// Those of the ledgers that were opened.
+    Ledgers(Vec<WordSource<O, I>>),
+    /// Those of two key files, or of a key file and an image.
+    Keys(WordSource<O, I>, WordSource<O, I>),
+    /// Nothing was asked for.
+    Nothing,
+}
 
 /// Runs what the arguments ask for over the files that they name. It gives the status that the program ends with, and
-/// the sources of the two files as the run left them. `-` names the input, which is taken then; a second `-` is a
-/// missing source. If the first argument isn't `key` nothing is opened, and the status is 2, or 6 if the sink failed.
+/// the sources of the files as the run left them. `-` names the input, which is taken then; a second `-` is a missing
+/// source. If the first argument is another one nothing is opened, and the status is 2, or 6 if the sink failed.
 pub fn station_words<O: Opener, I: Source + Drop, K: Sink>(
     alloc: Global,
     opener: &mut O,
     input: &mut Option<I>,
     words: &[String],
     sink: &mut K,
-) -> (u8, WordSource<O::Opened, I>, WordSource<O::Opened, I>)
-    ensures { RunsStation (O.opens opener.old) (behind_key (each string_bytes words.now))
+) -> (u8, StationFiles<O::Opened, I>)
+    ensures { RunsStation (O.opens opener.old) (word_source O.Opened.state I.state) (each string_bytes words.now)
         (openings (O.opened opener.old) (option_map I.state input.old))
-        (openings (O.opened opener.new) (option_map I.state input.new))
-        (word_source O.Opened.state I.state result.1) (word_source O.Opened.state I.state result.2)
+        (openings (O.opened opener.new) (option_map I.state input.new)) result.1
         (record { before = K.state sink.old; after = K.state sink.new; status = result.0 }) }
 {
-    match behind_key(words) {
-        Some(rest) => keyfile_words(alloc, opener, input, rest, sink),
-        None => {
-            let first = WordSource::Missing(MissingSource::new());
-            let second = WordSource::Missing(MissingSource::new());
-            let status = tell_refusal(sink, &Refusal::fixed(2, USAGE));
-            (status, first, second)
+    let rest = after_part(words);
+    let Some(part) = part_of(words) else {
+        let status = tell_usage(sink);
+        return (status, StationFiles::Nothing);
+    };
+    match part {
+        StationPart::Slots => {
+            let (status, file) = slots_words(alloc, opener, input, rest, sink);
+            (status, StationFiles::Store(file))
+        }
+        StationPart::Ledger => {
+            let (status, files) = ledgers_words(alloc, opener, input, rest, sink);
+            (status, StationFiles::Ledgers(files))
+        }
+        StationPart::Key => {
+            let (status, first, second) = keyfile_words(alloc, opener, input, rest, sink);
+            (status, StationFiles::Keys(first, second))
         }
     }
 }
 
-/// The arguments after `key`, if that is the first.
-fn behind_key(words: &[String]) -> Option<&[String]>
-    ensures { option_map (λ rest. each string_bytes rest.now) result ≡ behind_key (each string_bytes words.now) }
+/// Prints the usage line.
+fn tell_usage<K: Sink>(sink: &mut K) -> u8
+    ensures { EndingTold (K.state sink.old) (K.state sink.new) station_usage 2 result }
+{
+    tell_refusal(
+        sink,
+        &Refusal::fixed(2, "usage: station slots, ledger, key\n"),
+    )
+}
+
+/// What the first argument names.
+fn part_of(words: &[String]) -> Option<StationPart>
+    ensures { result ≡ part_of (each string_bytes words.now) }
 {
     match words {
-        [name, rest @ ..] => if_key(name.as_str(), rest),
         [] => None,
+        [name, ..] => part_named(name.as_str()),
     }
 }
 
-/// These arguments, if the word is `key`.
-fn if_key<'a>(name: &str, rest: &'a [String]) -> Option<&'a [String]>
-    ensures { option_map (λ r. each string_bytes r.now) result
-        ≡ (if bytes_eq name.now (codes "key") then Some (each string_bytes rest.entry.now) else None) }
+/// The part of this name.
+fn part_named(name: &str) -> Option<StationPart>
+    ensures { result ≡ part_named name.now }
 {
-    if name == "key" { Some(rest) } else { None }
+    if name == "slots" {
+        return Some(StationPart::Slots);
+    }
+    if name == "ledger" {
+        return Some(StationPart::Ledger);
+    }
+    if name == "key" {
+        Some(StationPart::Key)
+    } else {
+        None
+    }
+}
+
+/// The arguments after the first.
+fn after_part(words: &[String]) -> &[String]
+    ensures { each string_bytes result.now ≡ drop 1 (each string_bytes words.now) }
+{
+    match words {
+        [] => words,
+        [_name, rest @ ..] => rest,
+    }
 }

@@ -1,0 +1,9 @@
+pub mod EntryTexts
+pub mod LedgerBytes
+pub mod LedgerTasks
+pub mod LedgerRows
+pub mod TaskRows
+pub mod StoreRows
+pub mod Named
+pub mod ReadSteps
+pub mod LedgerReads

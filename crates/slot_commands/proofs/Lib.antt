@@ -1,0 +1,10 @@
+pub mod Texts
+pub mod CellLaws
+pub mod Finds
+pub mod ReadingLaws
+pub mod OnceLaws
+pub mod Promises
+pub mod Phases
+pub mod TaskWords
+pub mod ReplyLaws
+pub mod KeyFree

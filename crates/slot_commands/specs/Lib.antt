@@ -1,0 +1,12 @@
+pub mod StoreWords
+pub mod Cells
+pub mod Meanings
+pub mod Stores
+pub mod StillDisks
+pub mod KeysApart
+pub mod Checked
+pub mod Replies
+pub mod SlotTasks
+pub mod SlotRows
+pub mod TaskSteps
+pub mod SlotReads
