@@ -4,11 +4,12 @@
  * -icount shift=0 on mps2-an386. The key is expanded in each call. With -DMARKS a call of `mark` stands before and after each call.
  */
 #include <stdio.h>
+#include <stdlib.h>
 #include <string.h>
 
-#include "rathonsi_store.h"
+#include "rathonsi_flash.h"
 
-enum { DEPTH = 16384, CALLS = 10, TIMES = 20 };
+enum { DEPTH = 16384, CALLS = 14, TIMES = 20, CELLS = RATHONSI_FLASH_CELLS(2), BANK = 4096 };
 
 static uint8_t image[RATHONSI_STORE_SIZE(2)], payload[8], pdu[64], uid[15], mac[16], text[64];
 static const uint8_t key[16] = {0x2b, 0x7e, 0x15, 0x16, 0x28, 0xae, 0xd2, 0xa6, 0xab, 0xf7, 0x15, 0x88, 0x09, 0xcf, 0x4f, 0x3c};
@@ -18,9 +19,17 @@ static RathonsiUpdate update;
 static RathonsiRequest request;
 static RathonsiReply reply;
 
+/* A flash of two banks in memory, units of 8, and what it had after a start and 34 puts. */
+static uint8_t banks[2][BANK], kept[2][BANK];
+static RathonsiFlash flash;
+static RathonsiFlashOperation operation;
+static RathonsiCell cells[CELLS], scratch[CELLS];
+static RathonsiPlan bound;
+
 static const char *const names[CALLS] = {"nothing", "aes128_encrypt, a block", "cmac, 16 bytes", "secoc_protect, 8 bytes", "route_send, 8 bytes",
                                          "route_receive, 8 bytes", "store_check, 2 routes", "slot_load", "slot_confirm",
-                                         "aes128_encrypt, two blocks"};
+                                         "aes128_encrypt, two blocks", "flash, as it was", "flash, a start", "flash, a put",
+                                         "flash_image"};
 
 #ifdef SYSTICK
 static volatile uint32_t *const systick = (volatile uint32_t *)0xE000E010;
@@ -35,6 +44,36 @@ static void begin(void) {}
 static int wrong;
 static void set(int32_t status) { wrong += status != RATHONSI_OK; }
 
+static uint32_t perform(void) {
+    uint8_t *at = banks[operation.bank] + operation.offset;
+    if (operation.kind == RATHONSI_FLASH_READ)
+        memcpy(operation.bytes, at, operation.length);
+    else if (operation.kind == RATHONSI_FLASH_PROGRAM)
+        memcpy(at, operation.bytes, operation.length);
+    else
+        memset(at, 0xff, BANK);
+    return RATHONSI_FLASH_DONE;
+}
+
+static int32_t work(void) {
+    for (;;) {
+        int32_t status = rathonsi_flash_next(&flash, cells, CELLS, &operation);
+        if (status != RATHONSI_OK || operation.kind == RATHONSI_FLASH_NONE) return status;
+        status = rathonsi_flash_did(&flash, cells, CELLS, scratch, CELLS, perform(), &operation);
+        if (status != RATHONSI_OK) return status;
+    }
+}
+
+static int32_t flash_start(void) {
+    int32_t status = rathonsi_flash_begin(&flash, 8, 2, BANK, CELLS);
+    return status == RATHONSI_OK ? work() : status;
+}
+
+static int32_t flash_put(void) {
+    int32_t status = rathonsi_flash_put(&flash, &bound, cells, CELLS);
+    return status == RATHONSI_OK ? work() : status;
+}
+
 static int32_t call(int which) {
     switch (which) {
     case 1: return rathonsi_aes128_encrypt(key, 16, text, 16);
@@ -46,6 +85,10 @@ static int32_t call(int which) {
     case 7: memset(&plan, 0, sizeof plan); return rathonsi_slot_load(uid, 0, &request, image, sizeof image, &plan);
     case 8: return rathonsi_slot_confirm(uid, request.m1, image, sizeof image, &reply);
     case 9: return rathonsi_aes128_encrypt(key, 16, text, 32);
+    case 10: memcpy(banks, kept, sizeof banks); return 0;
+    case 11: memcpy(banks, kept, sizeof banks); return flash_start();
+    case 12: return flash_put();
+    case 13: return rathonsi_flash_image(&flash, cells, CELLS, image, sizeof image);
     default: return 0;
     }
 }
@@ -83,13 +126,19 @@ static void set_up(void) {
     set(rathonsi_route_open(&sender, image, sizeof image));
     set(rathonsi_route_open(&receiver, image, sizeof image));
     sender.counter = 10;
+    set(rathonsi_flash_take(&flash, 8, 2, BANK, image, sizeof image, cells, CELLS));
+    set(work());
+    set(flash_start());
+    set(rathonsi_route_reserve(&receiver, 100001, image, sizeof image, &bound));
+    for (int i = 0; i < 34; i++) set(flash_put());
+    memcpy(kept, banks, sizeof banks);
 }
 
 int main(int count, char **words) {
     set_up();
     if (wrong) return 1;
     if (count > 1) { /* a call alone, once or several times, for who counts from outside */
-        int which = words[1][0] - '0', times = count > 2 ? words[2][0] - '0' : 1;
+        int which = atoi(words[1]), times = count > 2 ? words[2][0] - '0' : 1;
         for (int i = 0; i < times; i++) call(which);
         return 0;
     }

@@ -68,8 +68,8 @@ extern "C" {
 #define RATHONSI_CHECKED
 #endif
 
-/* The version of this header and of rathonsi_store.h: major times 65536, plus minor times 256, plus
- * patch. */
+/* The version of this header, of rathonsi_store.h and of rathonsi_flash.h: major times 65536, plus
+ * minor times 256, plus patch. */
 #define RATHONSI_VERSION 0x000f00u
 
 /* The version of the library that is linked, to be compared with RATHONSI_VERSION. */

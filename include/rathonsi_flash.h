@@ -4,7 +4,8 @@
  *
  * The library touches no flash. It hands out one operation after another: READ, ERASE, PROGRAM. The
  * caller performs each and reports its outcome. Routes and slots work as rathonsi_store.h says, over
- * an image in RAM. Only the caller's read_device and write_device change.
+ * an image in RAM. Only the caller's read_device and write_device change. One thing isn't to be had:
+ * a store on flash doesn't grow. See "What isn't covered".
  *
  * No call waits, calls back or takes memory. All state is the caller's.
  *
@@ -14,11 +15,14 @@
  *   - With a status other than RATHONSI_OK every output is as before.
  *
  * More is proved of a caller that keeps what it owes, over all lives with a flash on which
- * rathonsi_flash_take made a store, to its last operation. A life lasts from one power-up to the
- * next, and the power may go at any time.
+ * rathonsi_flash_take made a store, to its last operation. If the power cut that last operation, the
+ * store is there whole or not at all, and the same holds once a start has found it. A life lasts from
+ * one power-up to the next, and the power may go at any time.
  *   - Once the store is ready, its cells are what the puts that were done made of the first ones. A
  *     put that the power cut is there whole or not at all, and that stays so.
  *   - Each start finds the store: RATHONSI_NO_STORE never comes.
+ *   - What rathonsi.h and rathonsi_store.h promise of routes and slots over all lives holds: freshness
+ *     rises, and a key that was confirmed stays.
  *   - A line is programmed once between two erases of its bank, and only where all was erased.
  *   - Each start and each put comes to its end: a start takes at most banks * P + n + 2 operations,
  *     a put n + 3. P and n are those of "Wear, RAM and time" below.
@@ -66,12 +70,21 @@
  *   - Only the functions below change the flash struct, cells and scratch. They are the same arrays
  *     at each call.
  *   - An operation is performed once, in full, before its outcome is reported.
- *   - unit, banks, bank_size and the number of cells are the same in every life.
+ *   - A plan that rathonsi_flash_put took is performed until rathonsi_flash_next answers NONE, and
+ *     then rathonsi_store_done is called; or all begins again as at power-up. It isn't dropped, and
+ *     no other plan is made before.
+ *   - unit, banks, bank_size, the number of cells, and which sectors a bank is, are the same in every
+ *     life, also after an update of the software.
  *   - If rathonsi_flash_next answers another status than RATHONSI_OK, all begins again as at
  *     power-up.
  *
  *   The part: what its driver owes
- *   - An operation changes no place of another bank and no other line of its own bank.
+ *   - A reset counts as a loss of power. Before the first READ no operation of an earlier life runs
+ *     or is suspended: the driver waits for it, or ends it, and clears the part's flags.
+ *   - READ reads the flash itself. No cache, prefetch or read buffer gives what was there before the
+ *     last ERASE or PROGRAM.
+ *   - An operation changes no place of another bank and no other line of its own bank. PROGRAM of a
+ *     unit changes no other unit of its line.
  *   - PROGRAM writes the units of a line from the first to the last. Each is done before the next
  *     begins. DONE says that all of them are whole, and stay so until the next erase.
  *   - ERASE: DONE says that every byte of the bank is erased, and none is so by half. If it erases
@@ -80,14 +93,18 @@
  *     line may be read as anything, anew at each read. READ may then answer DONE with a line only if
  *     it is the line that was programmed there, or that stood there when the erase began.
  *     With units of 8 bytes this is proved of a PROGRAM, if all erased bytes are read as one value
- *     other than 96 hexadecimal. For the rest the check of a line stands: bytes at random pass it
- *     once in 2^64. Let READ answer NOTHING on an error of the part's ECC.
- *   - Settled reads. If READ answers DONE with a line, the line stays until the next erase. Read it
- *     with margin if the part has that, at both margins, or read it several times and answer NOTHING
- *     if the reads differ. Cells that are programmed by half can otherwise be read today and be gone
- *     tomorrow. If a part can't do this, the store can lose what a cut PROGRAM left.
- *   - A line that was programmed whole is always read so. If the part can't read it, that is a fault
- *     of the part, which nothing here mends.
+ *     other than 96 hexadecimal. For the rest, as for what an ERASE left, the check of a line stands:
+ *     bytes at random pass it once in 2^64. Let READ answer NOTHING on an error that the part's ECC
+ *     doesn't correct. An error that it corrects is none, if all reads agree.
+ *   - Settled reads. If READ answers DONE with a line, the line stays until the next erase. Cells that
+ *     are programmed by half can be read today and be gone tomorrow. Read a line with margin, at both
+ *     margins if the part has them, and answer NOTHING if the reads differ. Several reads without
+ *     margin find only cells that change now; they don't show that a cell keeps what it has. Don't
+ *     keep a store on a part that can't do this: the head of a log is such a line, too. The whole
+ *     store can then be lost, or, on a part that answers BLANK, fall back to an older one unseen.
+ *   - A line that was programmed whole is always read so. Take only margins that such a line passes
+ *     as long as the device lives. If a line isn't read, the puts after it are lost with it. That is a
+ *     fault of the part, which nothing here mends.
  *   - BLANK is believed. Answer it to a READ only if the part's blank check proves that the line was
  *     erased in full and that no PROGRAM of it was begun since. A part without such a check never
  *     answers BLANK: each start then erases a bank. Seemingly blank units do no harm then.
@@ -97,26 +114,40 @@
  *
  *   | Look for                                        | It decides                              |
  *   |-------------------------------------------------|-----------------------------------------|
- *   | program unit (word, page, phrase), ECC over it  | unit; with less than 8 bytes take 8     |
+ *   | program unit (word, page, phrase)               | unit: the larger of the two, at least   |
+ *   | bytes under one ECC                             |   8; more than 128 isn't covered        |
  *   | whether a unit may be programmed twice          | nothing: it never is                    |
+ *   | order of programs in a sector, row or page      | must be free: offset 0 comes last       |
+ *   | how often a row or page may be programmed       | at least as often as it has units       |
+ *   |   between two erases                            |                                         |
  *   | erase unit, and how many there are              | banks, bank_size                        |
  *   | cycles of erase and program, by temperature     | the wear below                          |
  *   | time of an erase, of a program                  | the time of a start and of a put        |
- *   | value of erased bytes, and whether reading them | what READ answers; it may be an error   |
- *   |   is an ECC error                               |                                         |
- *   | what an ECC error does: a trap, a flag          | READ must survive it                    |
- *   | margin reads, user margin, verify commands      | settled reads                           |
+ *   | value of erased bytes, and whether reading them | what READ answers; it may be an error.  |
+ *   |   is an ECC error                               |   If it changes, only the check stands  |
+ *   | what an ECC error does: a trap, a flag; whether | READ must survive it, and answer        |
+ *   |   it was corrected                              |   NOTHING only if it wasn't corrected   |
+ *   | margin reads, user margin, verify commands,     | settled reads. A margin that old lines  |
+ *   |   and what they say of old data                 |   miss loses puts                       |
  *   | blank check, and after an erase that was cut    | BLANK, or never                         |
  *   | suspend of an erase, and what it forbids        | don't suspend, or count it as running   |
+ *   | what a reset does to an erase or a program      | what the driver waits for at a start    |
+ *   | caches, prefetch, read and ECC buffers          | what is made invalid after each ERASE   |
+ *   |                                                 |   and PROGRAM                           |
+ *   | bank swap, remapping                            | which sectors a bank is                 |
  *   | reading while programming, the same bank, code  | where the driver runs                   |
- *   | disturb by reads and by neighbours' programs    | whether a line needs an early copy      |
+ *   | disturb by reads, by neighbours' programs and   | whether a line needs an early copy: let |
+ *   |   erases; data retention                        |   a start answer NOTHING, not BLANK     |
  *
  * What isn't covered:
  *   - A part that loses a line which was whole, by age, by reads or by its neighbours.
  *   - A DONE that is wrong, as after a drop of the supply that the part doesn't report. Such a part
  *     needs a supply monitor, or a verify with margin before DONE.
- *   - A bank that is worn out: its erase fails at each start, and no start ends. The store can still
- *     be read from a dump, by the layout below.
+ *   - A bank that is worn out, or has one line of the copy that can't be programmed. Each start fails
+ *     there, and none ends: stop() must not begin again for ever. The store can still be read from a
+ *     dump, by the layout below.
+ *   - A store that grows. rathonsi_flash_put refuses the plan of rathonsi_store_grow. A route more
+ *     takes rathonsi_flash_take of a larger image, and a cut within that may leave no store.
  *   - Two callers at once, and a caller that writes the flash otherwise.
  *
  * Layout, for who reads a dump. All numbers have their high byte first.
@@ -132,27 +163,36 @@
  *   - The store is the log of the highest generation. If two have it, there is no store.
  *   - Cell i below 14 is slot i, the others are routes: the 32 bytes are those of the image.
  *
- * Wear, RAM and time. n cells; L bytes of a line: 48 with units of 8 or 16, 64 with units of 32 or
- * 64, 128 with units of 128; places P = bank_size / L; B banks.
+ * Wear, RAM and time. n cells; unit; L bytes of a line: 48 with units of 8 or 16, 64 with units of 32
+ * or 64, 128 with units of 128; places P = bank_size / L; B banks.
  *   - Puts to a bank: P - n - 1. A put is one PROGRAM. One into a full bank is an ERASE and n + 1
  *     PROGRAMs more.
- *   - A start reads each bank to its first line that is none. Without BLANK it is an ERASE and n + 1
- *     PROGRAMs more. With it, only if the last life was cut within an operation.
- *   - Erases of a bank over all years, without BLANK:
- *     (starts + puts / (P - n - 1)) / B. No bank is erased more often than another by more than one and
- *     the number of times that the power went or an operation failed.
+ *   - A start reads the head of each bank. It reads on in a bank whose head isn't older than the
+ *     latest one so far: to its first line that is none, and with BLANK to the first line that isn't
+ *     blank after those. Of a store these are at most B - 2 + 2 * P READs; B * P is proved. Without
+ *     BLANK an ERASE and n + 1 PROGRAMs follow. With BLANK they follow only if some line after the log
+ *     wasn't read as BLANK, or the first line of the next bank neither as BLANK nor as an older head:
+ *     as after a PROGRAM or an ERASE that was cut or failed since the last start that came to its end.
+ *   - Time of a start: (B - 2 + 2 * P) * L bytes read, an erase of a bank, and (n + 1) * L / unit
+ *     units programmed; of a put: L / unit units programmed, and with a full bank the same as a
+ *     start's. Serve the watchdog meanwhile.
+ *   - Erases of a bank over all years, without BLANK: at most (starts + puts / (P - n - 1)) / B; with
+ *     BLANK puts / (P - n - 1) / B. No bank is erased more often than another by more than one and the
+ *     number of copies that were begun and not done, as the power went or an operation failed.
  *   - RAM: RathonsiFlash 216 bytes, an operation 144, cells and scratch 64 * n, the image
  *     32 + 68 * n.
  *
- *   With 16 cells, 15 years, 10 starts and 200 puts a day, units of 8:
+ *   At most, with 16 cells, 15 years, 10 starts and 200 puts a day, units of 8, if no copy is lost. If
+ *   a bank is erased in 20 ms and a unit programmed in 50 us, a start takes 25.1 ms and its READs, and a
+ *   put 0.3 ms:
  *
- *   | Banks | bank_size | Puts to a bank | Erases of a bank | with BLANK |
- *   |-------|-----------|----------------|------------------|------------|
- *   | 2     | 4,096     | 68             | 35,426           | 8,051      |
- *   | 4     | 4,096     | 68             | 17,713           | 4,026      |
- *   | 16    | 4,096     | 68             | 4,428            | 1,006      |
- *   | 2     | 8,192     | 153            | 30,954           | 3,578      |
- *   | 2     | 16,384    | 324            | 29,065           | 1,690      |
+ *   | Banks | bank_size | Puts to a bank | Erases of a bank | with BLANK | READs of a start |
+ *   |-------|-----------|----------------|------------------|------------|------------------|
+ *   | 2     | 4,096     | 68             | 35,426           | 8,051      | 170              |
+ *   | 4     | 4,096     | 68             | 17,713           | 4,026      | 172              |
+ *   | 16    | 4,096     | 68             | 4,428            | 1,006      | 184              |
+ *   | 2     | 8,192     | 153            | 30,953           | 3,578      | 340              |
+ *   | 2     | 16,384    | 324            | 29,065           | 1,690      | 682              |
  */
 #ifndef RATHONSI_FLASH_H
 #define RATHONSI_FLASH_H
@@ -185,11 +225,13 @@ extern "C" {
 /* It failed. */
 #define RATHONSI_FLASH_FAILED 3u
 
+/* A cell. cells_length and scratch_length count cells. */
 typedef struct RathonsiCell {
     uint8_t bytes[32];
 } RathonsiCell;
 
-/* An operation: on this bank, from this byte of it on, so many bytes. ERASE is of the whole bank. */
+/* An operation: on this bank, from this byte of it on, so many bytes. ERASE is of the whole bank: its
+ * offset and length are 0. */
 typedef struct RathonsiFlashOperation {
     uint32_t kind;
     uint32_t bank;
@@ -215,9 +257,11 @@ int32_t rathonsi_flash_begin(RathonsiFlash *flash, uint16_t unit, uint8_t banks,
 /* For the production line, and to move a store from a device of bytes: makes a store on the flash that
  * has the cells of this image, which rathonsi_store_check answers RATHONSI_OK for. It erases all banks.
  * Once its operations are done, rathonsi_flash_next answers NONE, and all begins again with
- * rathonsi_flash_begin. If the power goes before, the flash has this store whole, none, or one that
- * it had before.
- * To move, a start does this in order, each step durable before the next:
+ * rathonsi_flash_begin. If the power goes before all banks are erased, the flash has no store, or one
+ * that it had before, which need not be its last one: begin with this call again. After that it has
+ * none; and if the power goes within the last operation, this store whole, or none.
+ * To move, a start does this in order, each step durable before the next. The flash never had a store,
+ * or the production line erased its banks.
  *   1. rathonsi_flash_begin and its operations. If there is a store, go to 4.
  *   2. Read the image from the old device. rathonsi_store_check answers RATHONSI_OK, or stop.
  *   3. rathonsi_flash_take and its operations; then 1 again.

@@ -53,7 +53,8 @@ enum duty {
 static const char *const duty_names[DUTIES] = {"",           "unsettled",   "forged",  "believes_blank", "half_erased",
                                                "done_first", "skips_erase", "goes_on", "reply_first",    "disturbs"};
 
-uint32_t flash_perform(RathonsiFlashOperation *operation); /* flash_driver.c */
+void flash_start(void); /* flash_driver.c */
+uint32_t flash_perform(RathonsiFlashOperation *operation);
 uint32_t part_unit;
 uint32_t part_sectors;
 int part_margins;
@@ -81,7 +82,7 @@ static void expect(int holds, const char *what) {
 /* Of a unit: whether it is blank, firm, or was cut; the bytes that it has if it is read so; and as what this start
  * reads it. */
 enum state { BLANK, FIRM, CUT };
-enum view { AS_BYTES, AS_ERASED, AS_ANYTHING, AS_ERROR, CHANGING };
+enum view { AS_BYTES, AS_ERASED, AS_ANYTHING, CHANGING, AS_ERROR };
 struct unit {
     enum state state;
     enum view view;
@@ -108,7 +109,8 @@ static const struct part {
 static struct part part;
 static uint32_t line_length, line_units;
 static struct unit units[MOST_BANKS][MOST_UNITS];
-static int power_is_gone;
+static int power_is_gone, runs_on;
+static uint32_t looks;
 
 static struct unit *unit_at(uint32_t bank, uint32_t offset) {
     return &units[bank][offset / part.unit];
@@ -119,7 +121,7 @@ static void draw_views(void) {
     for (uint32_t bank = 0; bank < part.banks; bank++)
         for (uint32_t i = 0; i < part.lines * line_units; i++) {
             struct unit *unit = &units[bank][i];
-            unit->view = (enum view)draw(part.has_ecc ? 5 : 3);
+            unit->view = (enum view)draw(part.has_ecc ? 5 : 4);
             for (uint32_t k = 0; k < part.unit; k++)
                 unit->anything[k] = (uint8_t)(draw(3) == 0 ? draw(256) : unit->bytes[k]);
         }
@@ -129,15 +131,26 @@ static void erased_bytes(uint8_t *bytes) {
     memset(bytes, part.erased, part.unit);
 }
 
+/* What the power cut may still run when it comes back. */
+void part_wait(void) {
+    runs_on = 0;
+}
+
+/* A part that fails if its supply drops. */
+int part_is_sure(uint32_t bank) {
+    return bank < part.banks;
+}
+
 int part_read(uint32_t bank, uint32_t offset, uint8_t *bytes, int margin) {
     const struct unit *unit = unit_at(bank, offset);
+    expect(!runs_on && margin < part.margins, "a read comes while an operation runs");
     if (unit->state == BLANK || (unit->state == CUT && unit->view == AS_ERASED)) {
         erased_bytes(bytes);
         return part.erased >= 0;
     }
     memcpy(bytes, unit->state == CUT && unit->view == AS_ANYTHING ? unit->anything : unit->bytes, part.unit);
-    if (unit->state == CUT && unit->view == CHANGING)
-        bytes[0] = (uint8_t)(bytes[0] + margin);
+    if (unit->state == CUT && unit->view == CHANGING) /* another byte at each read */
+        bytes[0] = (uint8_t)(bytes[0] + looks++);
     return unit->state == FIRM || unit->view != AS_ERROR;
 }
 
@@ -152,7 +165,7 @@ int part_is_blank(uint32_t bank, uint32_t offset) {
 static int is_cut(void) {
     int what = (int)draw(60);
     if (what == 0 || (what == 1 && draw(4) == 0)) {
-        power_is_gone = what == 0;
+        power_is_gone = runs_on = what == 0;
         cuts += what == 0;
         failures += what != 0;
         return 1;
@@ -314,6 +327,7 @@ static void forget(void) {
     memset(cells, (int)draw(256), sizeof cells);
     memset(scratch, (int)draw(256), sizeof scratch);
     power_is_gone = 0;
+    flash_start();
     draw_views();
     starts++;
 }

@@ -1,6 +1,7 @@
 /*
- * A template of a driver for rathonsi_flash.h: fill in the five functions of the part, and call flash_perform for each
- * operation that rathonsi_flash_next hands out. The comments say which duty of the header each line keeps.
+ * A template of a driver for rathonsi_flash.h: fill in the six functions and the three numbers of the part. Call
+ * flash_start before rathonsi_flash_begin, and flash_perform for each operation that rathonsi_flash_next hands out. The
+ * comments say which duty of the header each line keeps.
  */
 #include <string.h>
 
@@ -9,15 +10,19 @@
 /* ---- The part: what a project fills in
  * ------------------------------------------------------------------------------------------ */
 
-/* The unit that is programmed at once, with the ECC over it; 8 if the part's is smaller. */
+/* How many bytes are programmed at once, or have one ECC: the larger of the two, and at least 8. */
 extern uint32_t part_unit;
 /* How many erase sectors a bank is. */
 extern uint32_t part_sectors;
-/* How many margins a read can take: 1 if the part has no margin reads. Then a line is read READS times. */
+/* How many margins a read can take: 1 if the part has no margin reads. Then a line is read READS times. Take only
+ * margins that a line which was programmed whole passes as long as the device lives. */
 extern int part_margins;
 
-/* Reads a unit with this margin. 0: an error of the ECC, or no read. It must come back from a trap that such an error
- * is. */
+/* Waits until no operation of an earlier life runs or is suspended, and clears the part's flags. A reset may leave one
+ * running. */
+void part_wait(void);
+/* Reads a unit with this margin, from the flash itself: no cache or buffer may have its bytes from before. 0: an error
+ * that the ECC doesn't correct, or no read. It must come back from a trap that such an error is. */
 int part_read(uint32_t bank, uint32_t offset, uint8_t *bytes, int margin);
 /* Whether the part proves that a unit was erased in full and no program of it was begun since. 0 on every part that
  * can't. */
@@ -26,13 +31,21 @@ int part_is_blank(uint32_t bank, uint32_t offset);
 int part_program(uint32_t bank, uint32_t offset, const uint8_t *bytes);
 /* Erases a sector of a bank, waits until that is done, and looks at the part's flags. 0: it failed. */
 int part_erase(uint32_t bank, uint32_t sector);
+/* Whether what was programmed or erased last, which said that it was done, can be relied on: the supply held, or a
+ * verify with margin says so. 1 on a part that reports a drop of its supply as a failure. */
+int part_is_sure(uint32_t bank);
 
 /* ---- The driver
  * ------------------------------------------------------------------------------------------------------------------ */
 
 enum { READS = 4 };
 
-/* Settled reads: a line counts only if all reads of all margins agree. An error of the ECC is no line. */
+void flash_start(void) {
+    part_wait();
+}
+
+/* Settled reads: a line counts only if all reads of all margins agree. An error that the ECC doesn't correct is no
+ * line. Without margins the reads find only units that change now: see the header before a store is kept so. */
 static uint32_t read_line(RathonsiFlashOperation *operation) {
     uint8_t again[128];
     int reads = part_margins > 1 ? part_margins : READS;
@@ -64,13 +77,13 @@ uint32_t flash_perform(RathonsiFlashOperation *operation) {
         for (uint32_t sector = 0; sector < part_sectors; sector++)
             if (!part_erase(operation->bank, sector))
                 return RATHONSI_FLASH_FAILED;
-        return RATHONSI_FLASH_DONE;
+        return part_is_sure(operation->bank) ? RATHONSI_FLASH_DONE : RATHONSI_FLASH_FAILED;
     case RATHONSI_FLASH_PROGRAM:
         /* in order, each done before the next: the last unit has the mark by which a line is whole */
         for (uint32_t at = 0; at < operation->length; at += part_unit)
             if (!part_program(operation->bank, operation->offset + at, operation->bytes + at))
                 return RATHONSI_FLASH_FAILED;
-        return RATHONSI_FLASH_DONE;
+        return part_is_sure(operation->bank) ? RATHONSI_FLASH_DONE : RATHONSI_FLASH_FAILED;
     default:
         return RATHONSI_FLASH_FAILED;
     }

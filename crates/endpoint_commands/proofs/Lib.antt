@@ -4,6 +4,7 @@ mod Padding
 mod Going
 mod AloneRun
 mod LineRun
+mod QuietRun
 mod OneRun
 mod Preparing
 mod Ports

@@ -4,7 +4,7 @@ use Rattle.std.specs.Option.{option_to_list}
 use Rattle.std.proofs.Common.{refl, sym, ap, ◌∙◌, subst}
 use Rattle.std.proofs.lemmas.List.{map-append}
 use Rattle.std.proofs.lemmas.Option.{same_Some, none-some}
-use Rattle.machine_runs.specs.Run.{Moment, Run, commands_in, lines_in}
+use Rattle.machine_runs.specs.Run.{Moment, Run, commands_in, lines_in, seen_as}
 use Rattle.machine_runs.proofs.CallerLemmas.{Run-append}
 use Rattle.freshness_routes.specs.declared.routes.Direction.{Direction}
 use Rattle.freshness_routes.specs.declared.routes.Direction.TheVariants.{Sends, Receives}
@@ -12,7 +12,7 @@ use Rattle.bus_machine.specs.declared.events.Event.{Event}
 use Rattle.bus_machine.specs.declared.events.Event.TheVariants as event
 use Rattle.bus_machine.specs.declared.lines.Line.{Line}
 use Rattle.bus_machine.specs.declared.lines.Line.TheVariants.{Sent, Accepted, FreshnessFailure, VerificationFailure, Keyed, Loaded, Boot, Up, Armed, NoFrame, Refused}
-use Rattle.bus_machine.specs.Bus.{World, sent_after}
+use Rattle.bus_machine.specs.Bus.{World, Moments, sent_after}
 use Rattle.secoc_node.specs.State.{NodeState}
 use Rattle.endpoint_commands.specs.declared.rules.FrameRule.{FrameRule}
 use Rattle.endpoint_commands.specs.declared.asking.Asked.{Asked}
@@ -26,6 +26,10 @@ use Rattle.endpoint_commands.proofs.AloneRun.{AloneState, alone_world, AloneStep
 
 abbrev pub AloneMoment : Type 0
 AloneMoment = Moment Event Line AloneState
+
+-- the moments as those of the machine
+abbrev pub seen : List AloneMoment → Moments
+seen ms = seen_as (λ (e : Event). e) alone_world ms
 
 -- ---- the events that lines ask for
 

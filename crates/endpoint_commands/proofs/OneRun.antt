@@ -2,15 +2,15 @@
 use Rattle.std.specs.Prelude.{◌≡◌, ℕ, ◌<◌, ◌≤◌, Option, Some, List, [], ◌∷◌, ◌++◌, length, map, drop, get_or}
 use Rattle.std.proofs.Common.{refl, sym, ap, ◌∙◌, subst, arith}
 use Rattle.std.proofs.lemmas.List.{length-drop}
-use Rattle.machine_runs.specs.Run.{Run, commands_in, lines_in, seen_as}
+use Rattle.machine_runs.specs.Run.{Run, commands_in, lines_in}
 use Rattle.machine_runs.proofs.CallerLemmas.{Run-seen_as}
 use Rattle.cut_disk.specs.State.{DiskState, Entry}
-use Rattle.cut_disk.specs.Calls.{Later}
+use Rattle.cut_disk.specs.Calls.{IsQuiet, Later}
 use Rattle.cut_disk.proofs.CallerLemmas.{runs_none, later_of_runs, later_join}
 use Rattle.cell_store.specs.declared.kinds.Layout.{Layout}
 use Rattle.any_cells.specs.Either.{layout}
 use Rattle.store_keeping.specs.DiskTurns.{OpenedDisk, TellsBytes, TracedSince, FailuresTold}
-use Rattle.store_keeping.proofs.CallerLemmas.{traced_since, failures_told}
+use Rattle.store_keeping.proofs.CallerLemmas.{traced_since, failures_told, still_quiet}
 use Rattle.freshness_routes.specs.declared.routes.Direction.TheVariants.{Receives}
 use Rattle.bus_machine.specs.declared.events.Event.{Event}
 use Rattle.bus_machine.specs.declared.lines.Line.{Line}
@@ -18,7 +18,7 @@ use Rattle.bus_machine.specs.declared.lines.Line.TheVariants.{Sent, Accepted, Fr
 use Rattle.bus_machine.specs.Node.{place_of}
 use Rattle.bus_machine.specs.Bus.{World, SentLine, Instant, Moments, Step, state_after, node_at, silent_world}
 use Rattle.bus_machine.specs.Honest.{IsInTime, IsHeard}
-use Rattle.bus_laws.specs.Laws.{RunsAreCovered, RunsRise, RunsAreAuthentic, RunsAreSingle, RunsKeepKeys}
+use Rattle.bus_laws.specs.Laws.{RunsAreCovered, RunsRise, RunsAreAuthentic, RunsAreSingle, RunsKeepKeys, EventsDetermineLines}
 use Rattle.bus_config.specs.declared.node_lines.NodeLine.{NodeLine}
 use Rattle.bus_config.specs.Buses.{NamedBus}
 use Rattle.bus_script.specs.EventForms.{node_line_at}
@@ -28,13 +28,15 @@ use Rattle.bus_world.specs.Turns.{Brings}
 use Rattle.bus_world.specs.Worlds.{BusState}
 use Rattle.bus_world.specs.Starts.{start_calls, Opened, Started}
 use Rattle.bus_world.proofs.CallerLemmas.{no_disk}
-use Rattle.bus_world.specs.NodeDisks.{mark_at, most_at, fails_at, fits_at, DisksFollow}
+use Rattle.bus_world.specs.NodeDisks.{AreQuiet, mark_at, most_at, fails_at, fits_at, DisksFollow}
+use Rattle.bus_world.specs.WorldRuns.{OneListOfLines}
 use Rattle.bus_world.specs.WorldTurns.{TellFirm, StartsGoOnFirst, GoesOnFirst}
 use Rattle.endpoint_commands.specs.declared.rules.FrameRule.{FrameRule}
 use Rattle.endpoint_commands.specs.Running.{LineMoment}
-use Rattle.endpoint_commands.specs.Headline.{RanEndpoint, OneEndpointRun, without_source}
+use Rattle.endpoint_commands.specs.Headline.{RanEndpoint, OneEndpointRun, without_source, boot_events, events_asked}
 use Rattle.endpoint_commands.proofs.AloneRun.{AloneState, alone_world, AloneStep, IsOfEndpoint, is_send, is_inject, is_load, is_boot, with_source, HoldsAlone, alone_step, alone_holds, alone_disk, alone_tells}
-use Rattle.endpoint_commands.proofs.LineRun.{AloneMoment, begun, EndpointAlone, endpoint_alone}
+use Rattle.endpoint_commands.proofs.LineRun.{AloneMoment, seen, begun, EndpointAlone, endpoint_alone}
+use Rattle.endpoint_commands.proofs.QuietRun.{one_list_alone}
 
 -- the laws of the crates below, as their public functions ensure them
 pub record Laws : Type 0 where
@@ -44,10 +46,7 @@ pub record Laws : Type 0 where
   pub are_authentic : RunsAreAuthentic
   pub are_single : RunsAreSingle
   pub keep_keys : RunsKeepKeys
-
--- the moments as those of the machine
-abbrev seen : List AloneMoment → Moments
-seen ms = seen_as (λ (e : Event). e) alone_world ms
+  pub determine : EventsDetermineLines
 
 seen_commands : (ms : List AloneMoment) → commands_in (seen ms) ≡ commands_in ms
 seen_commands [] = refl
@@ -221,6 +220,19 @@ module _ (laws : Laws) (bus : NamedBus) (rules : List FrameRule) (image : Option
         → TracedSince (mark_at k) (most_at k) (fits_at l k) (alone_world (begun ran.start)) (seen ms) (get_or before k d) all) (traced_first d all) i inside tells;
   }
 
+  -- ---- over a quiet disk
+
+  quiet_start : AreQuiet bus before → IsQuiet ran.start.store.disk
+  quiet_start quiet =
+      let was : IsQuiet (get_or before 0 no_disk) = quiet 0 no_disk (omega (arith, ran.one)) in
+      still_quiet (get_or before 0 no_disk) ran.start.store.disk was ((opened_disk no_disk).runs.quiet refl was)
+
+  one_list : AreQuiet bus before
+      → OneListOfLines (alone_world (begun ran.start)) (boot_events image ++ events_asked rules (commands_in lines)) (lines_in (seen ms))
+  one_list quiet =
+      subst (λ (es : List Event). OneListOfLines (alone_world (begun ran.start)) es (lines_in (seen ms))) (seen_commands ms ∙ alone.commands)
+      (one_list_alone laws.determine (begun ran.start) ms alone.last first.is_first.is_first (quiet_start quiet) alone.run run)
+
   pub one_run : OneEndpointRun bus rules image before after told lines
   one_run =
       let world : World = alone_world (begun ran.start) in
@@ -243,4 +255,5 @@ module _ (laws : Laws) (bus : NamedBus) (rules : List FrameRule) (image : Option
         disks = follows;
         failures = λ i d inside. each (λ (k : ℕ). FailuresTold (mark_at k) (fails_at k) (seen ms) (get_or before k d) (get_or after k d)) (failures_first d) i inside;
         heard = heard_in (begun ran.start) ms alone.last alone.run;
+        one_list = one_list;
       }

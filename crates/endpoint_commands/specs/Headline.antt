@@ -23,8 +23,8 @@ use Rattle.secoc_node.specs.State.{NodeState}
 use Rattle.bus_world.specs.declared.start.Start.TheVariants.{Attach}
 use Rattle.bus_world.specs.Turns.{Brings}
 use Rattle.bus_world.specs.Starts.{HasRoom, Opened, StartsOver}
-use Rattle.bus_world.specs.NodeDisks.{mark_at, fails_at, DisksFollow}
-use Rattle.bus_world.specs.WorldRuns.{IsFirstOf}
+use Rattle.bus_world.specs.NodeDisks.{AreQuiet, mark_at, fails_at, DisksFollow}
+use Rattle.bus_world.specs.WorldRuns.{IsFirstOf, OneListOfLines}
 use Rattle.bus_world.specs.WorldTurns.{TellFirm}
 use Rattle.endpoint_commands.specs.declared.rules.FrameRule.{FrameRule}
 use Rattle.endpoint_commands.specs.Alone.{TurnsAlone}
@@ -112,6 +112,9 @@ pub record OneEndpointRun (bus : NamedBus) (rules : List FrameRule) (image : Opt
   pub failures : (i : ℕ) (disk : DiskState) → i < length bus.nodes
       → FailuresTold (mark_at i) (fails_at i) moments (get_or before i disk) (get_or after i disk)
   pub heard : EachBroughtIsHeard first moments
+  -- Over a quiet disk the first world, the image and the lines of the log alone determine what the machine tells.
+  pub one_list : AreQuiet bus before
+      → OneListOfLines first (boot_events image ++ events_asked rules (commands_in lines)) (lines_in moments)
 
 -- what was done of an endpoint over disks that tell their bytes, none of them loose, has all of this
 abbrev pub EndpointsAreRuns : Type 0

@@ -139,8 +139,8 @@ pub record TellsEndpointPorts (same : Type 0) (i : EndpointInputs) (d : DiskStat
       → OverEndpoint i (λ bus rules image. LogFailsFirst bus rules image i.log d e)
   -- 7, one way: only before the log; nothing was printed.
   pub no_memory : e.status ≡ 7 → ComesUnlogged same i d memory_row × IsUnread i.log × PrintsWhole e []
-  -- 8, both ways: one byte more than 1,048,576 came from a source other than the log; or 2^64 - 1 bytes and more of the
-  -- log, whose complete lines were answered.
+  -- 8: one byte more than 1,048,576 came from a source other than the log, both ways; or 2^64 - 1 bytes and more came
+  -- of the log, one way, and its complete lines were answered.
   pub too_long : e.status ≡ 8 → (LacksEndpointInput i TooLong × PrintsWhole e (codes "input too long\n"))
       ⊎ OverEndpoint i (λ bus rules image.
       (answers : AnswersComplete bus rules image i.log d e (codes "input too long\n"))

@@ -67,7 +67,7 @@ impl EndpointCounts {
         }
     }
 
-    /// EndpointCounts a line.
+    /// Counts a line.
     pub fn count(&mut self, kind: LineKind)
         ensures { self.new ≡ counts_with (Some kind) self.old }
     {

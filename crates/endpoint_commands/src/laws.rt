@@ -3,8 +3,8 @@
 ghost use Rattle.endpoint_commands.specs.Headline.{EndpointsAreRuns};
 
 use bus_laws::{
-    accepted_freshness_rises, all_freshness_is_covered, keys_are_kept, no_freshness_is_sent_twice,
-    runs_are_authentic,
+    accepted_freshness_rises, all_freshness_is_covered, events_determine_lines, keys_are_kept,
+    no_freshness_is_sent_twice, runs_are_authentic,
 };
 use bus_world::starts_go_on_at_a_first_world;
 
@@ -19,4 +19,5 @@ pub fn endpoints_are_runs()
     runs_are_authentic();
     no_freshness_is_sent_twice();
     keys_are_kept();
+    events_determine_lines();
 }

@@ -57,9 +57,10 @@ pub has_begun : (unit banks bank_size places n : ℕ) (new : FlashNumbers) (plan
     → plan.places ≡ places
     → ((m : ℕ) → 0 < m → m < 2 ^ 16 → m + 1 < places → IsPlanOf m plan)
     → ((m : ℕ) → operations_left m plan ≤ banks * places + (m + 2))
+    → plan.put ≡ None
     → ((m : ℕ) (cells scratch : CellList) (f : Flash) → StandsAt (plan_layout plan m) plan cells scratch (machine f off) f)
     → Begun unit banks bank_size n new
-has_begun unit banks bank_size places n new plan fits small rounded is unit_is banks_is places_is whole left stands = record {
+has_begun unit banks bank_size places n new plan fits small rounded is unit_is banks_is places_is whole left none stands = record {
   fits = fits;
   unit_is = unit_is;
   banks_is = ap (λ (p : FlashPlan). p.banks) is ∙ banks_is;
@@ -67,6 +68,7 @@ has_begun unit banks bank_size places n new plan fits small rounded is unit_is b
   call = call_of_part unit banks bank_size places n new plan fits small rounded is unit_is places_is whole;
   left = subst (λ k. operations_left n (plan_in new) ≤ banks * k + (n + 2)) (sym (ap (λ (p : FlashPlan). p.places) is ∙ places_is))
       (subst (λ (p : FlashPlan). operations_left n p ≤ banks * places + (n + 2)) (sym is) (left n));
+  none = ap (λ (p : FlashPlan). p.put) is ∙ none;
   stands = λ cells scratch f. subst (λ (p : FlashPlan). StandsAt (plan_layout p n) p cells scratch (machine f off) f) (sym is) (stands n cells scratch f);
 }
 
@@ -99,7 +101,7 @@ step_judged (Clearing bank) = inr (λ i. i)
 step_judged (Filling done) = inr (λ i. i)
 step_judged (Ended end) = inr (λ i. i)
 
-put_judged : (put : Option WaitingPut) → (put ≡ None) ⊎ (put ≡ None → ⊥)
+pub put_judged : (put : Option WaitingPut) → (put ≡ None) ⊎ (put ≡ None → ⊥)
 put_judged None = inl refl
 put_judged (Some w) = inr (λ e. none-some w (sym e))
 

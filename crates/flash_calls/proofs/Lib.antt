@@ -2,3 +2,6 @@ pub mod ReadLaws
 pub mod MoveLaws
 pub mod CallLaws
 pub mod LifeLaws
+pub mod PutMoves
+pub mod PutLives
+pub mod CallerLemmas

@@ -22,17 +22,17 @@ use Rattle.flash_plan.specs.Plans.{IsIdle, Fails, step_operation, operation_of, 
 use Rattle.flash_plan.specs.Standing.{MovesBy, PlanMovesOn, StandsAt, plan_layout}
 use Rattle.flash_plan.specs.Formatting.{FormatStep, FormatsAt}
 use Rattle.flash_plan.specs.Turns.{Turn, PlanTurns, deed_in, puts_in}
-use Rattle.flash_plan.proofs.CallerLemmas.{step_off, step_may, format_may, broken, if_some, idle_ready, turns_formatted, turns_cut, turns_later, has_store}
+use Rattle.flash_plan.proofs.CallerLemmas.{step_off, step_may, format_may, broken, if_some, idle_ready, turns_formatted, turns_cut, turns_after, has_store, stays_found}
 use Rattle.flash_calls.specs.Numbers.{plan_in}
 use Rattle.flash_calls.specs.Operations.{PerformsBytes, Comes}
 use Rattle.flash_calls.specs.CallLives.{FlashSizes, sizes_layout, CallState, CallDeed, performs, takes_put, starts, is_cut}
 use Rattle.flash_calls.specs.CallLives.{PerformsNext, TakesPut, CallBegun, StartsAgain, IsCutNext, DoesCall, CallLives}
-use Rattle.flash_calls.specs.CallLives.{program_outcome, call_puts, puts_made, CallFormatBegun, OperationDone, OperationsDone}
+use Rattle.flash_calls.specs.CallLives.{IsFoundStore, program_outcome, call_puts, puts_made, CallFormatBegun, OperationDone, OperationsDone}
 
 -- ---- what a program came to
 
 -- the outcome of a put's program is as its number says
-put_came : (banks outcome : ℕ) (put : Option WaitingPut) (cells : CellList) (w : WaitingPut) (operation : Operation) (came : FlashOutcome)
+pub put_came : (banks outcome : ℕ) (put : Option WaitingPut) (cells : CellList) (w : WaitingPut) (operation : Operation) (came : FlashOutcome)
     (step : PlanStep) → put_at step put ≡ Some w → step_operation banks step put cells ≡ Some operation → Comes operation outcome came
     → came ≡ program_outcome outcome
 put_came banks outcome put cells w operation came (Heading bank) is next comes = absurd (none-some w is)
@@ -253,16 +253,25 @@ call_cut s deeds first a b cut begun lives idle =
     (turns_cut (sizes_layout s) t.turns first b.cells (machine a.flash off) t.at cut t.run
     (idle_ready (sizes_layout s) (plan_in b.numbers) b.cells b.scratch t.at b.flash idle.step t.stands.stands))
 
-pub call_later : (s : FlashSizes) (earlier deeds : List CallDeed) (first : CellList) (start a b : CallState)
-    → FlashFormatted (sizes_layout s) first (machine start.flash off) → CallBegun s start → CallLives s earlier start a
-    → IsIdle (plan_in a.numbers) → CallLives s deeds a b → IsIdle (plan_in b.numbers) → Possible (puts_made deeds) a.cells b.cells
-call_later s earlier deeds first start a b formatted begun before was lives idle =
-    let e = on_turns s earlier start a (machine start.flash off) (begun_stands s start begun) before in
+pub call_later : (s : FlashSizes) (deeds : List CallDeed) (first : CellList) (a b : CallState) → IsFoundStore s first a → CallLives s deeds a b
+    → IsIdle (plan_in b.numbers) → Possible (puts_made deeds) a.cells b.cells
+call_later s deeds first a b found lives idle =
+    let e = on_turns s found.deeds found.start a (machine found.start.flash off) (begun_stands s found.start found.begun) found.lives in
     let t = on_turns s deeds a b e.at e.stands lives in
     subst (λ (ds : List FlashDeed). Possible ds a.cells b.cells) t.same
-    (turns_later (sizes_layout s) e.turns t.turns first a.cells b.cells (machine start.flash off) e.at t.at formatted e.run
-    (idle_ready (sizes_layout s) (plan_in a.numbers) a.cells a.scratch e.at a.flash was.step e.stands.stands) t.run
+    (turns_after (sizes_layout s) e.turns t.turns first a.cells b.cells (machine found.start.flash off) e.at t.at found.made e.run
+    (idle_ready (sizes_layout s) (plan_in a.numbers) a.cells a.scratch e.at a.flash found.idle.step e.stands.stands) t.run
     (idle_ready (sizes_layout s) (plan_in b.numbers) b.cells b.scratch t.at b.flash idle.step t.stands.stands))
+
+-- it stays found
+pub call_stays : (s : FlashSizes) (deeds : List CallDeed) (first : CellList) (a b : CallState) → IsFoundStore s first a → CallLives s deeds a b
+    → (plan_in b.numbers).step ≡ Ended NoStore → ⊥
+call_stays s deeds first a b found lives is =
+    let e = on_turns s found.deeds found.start a (machine found.start.flash off) (begun_stands s found.start found.begun) found.lives in
+    let t = on_turns s deeds a b e.at e.stands lives in
+    stays_found (sizes_layout s) e.turns t.turns first a.cells (machine found.start.flash off) e.at (plan_in b.numbers) b.cells b.scratch t.at b.flash
+    found.made e.run (idle_ready (sizes_layout s) (plan_in a.numbers) a.cells a.scratch e.at a.flash found.idle.step e.stands.stands)
+    t.run t.stands.stands is
 
 pub call_found : (s : FlashSizes) (deeds : List CallDeed) (first : CellList) (a b : CallState)
     → FlashFormatted (sizes_layout s) first (machine a.flash off) → CallBegun s a → CallLives s deeds a b

@@ -1,16 +1,18 @@
 -- All lives of a caller that keeps its duties: it performs what the calls say, and reports what came of it. The power
 -- may go at any time.
-use Rattle.std.specs.Prelude.{◌≡◌, ℕ, nat_eq, if◌then◌else◌, Option, Some, List, [], ◌∷◌, ◌++◌, length}
+use Rattle.std.specs.Prelude.{◌≡◌, ◌⊎◌, ℕ, nat_eq, if◌then◌else◌, Option, Some, List, [], ◌∷◌, ◌++◌, length}
 use Rattle.flash_places.specs.Places.{Flash}
 use Rattle.flash_laws.specs.Logs.{CellList}
-use Rattle.flash_laws.specs.Lives.{FlashLayout, FlashDeed}
+use Rattle.flash_laws.specs.Lives.{FlashLayout, FlashDeed, FlashFormatted, off}
+use Rattle.flash_laws.specs.CutFormats.{CutFormatted}
+use Rattle.flash_log.specs.Going.{machine}
 use Rattle.flash_lines.specs.Lines.{line_length}
 use Rattle.flash_plan.specs.declared.operations.Operation.{Operation}
 use Rattle.flash_plan.specs.declared.operations.FlashOutcome.{FlashOutcome}
 use Rattle.flash_plan.specs.declared.operations.FlashOutcome.TheVariants.{Done, Failed}
 use Rattle.flash_plan.specs.declared.plans.WaitingPut.{WaitingPut}
 use Rattle.flash_plan.specs.Performing.{DoesOperation}
-use Rattle.flash_plan.specs.Plans.{Fails, operation_of, put_in}
+use Rattle.flash_plan.specs.Plans.{Fails, IsIdle, operation_of, put_in}
 use Rattle.flash_plan.specs.Turns.{deed_in}
 use Rattle.flash_calls.specs.declared.numbers.FlashNumbers.{FlashNumbers}
 use Rattle.flash_calls.specs.Numbers.{plan_in}
@@ -120,3 +122,33 @@ OperationDone (is_cut put) a b = ⊥
 abbrev pub OperationsDone : List CallDeed → CallState → CallState → Type 0
 OperationsDone [] a c = c ≡ a
 OperationsDone (deed ∷ deeds) a c = (b : CallState) × (OperationDone deed a b × OperationsDone deeds b c)
+
+-- a store of these cells was made on the flash, or the power cut into the last operation of that
+abbrev pub IsMade : FlashSizes → CellList → CallState → Type 0
+IsMade s cells a = FlashFormatted (sizes_layout s) cells (machine a.flash off)
+    ⊎ CutFormatted (sizes_layout s) cells (machine a.flash off)
+
+-- some lives lead from there to this plan, which is idle
+pub record IsFoundStore (s : FlashSizes) (first : CellList) (a : CallState) : Type 0 where
+  pub start : CallState
+  pub made : IsMade s first start
+  pub begun : CallBegun s start
+  pub deeds : List CallDeed
+  pub lives : CallLives s deeds start a
+  pub idle : IsIdle (plan_in a.numbers)
+
+-- each put that is taken is such a one
+abbrev pub EachPutTaken : (ℕ → List ℕ → Type 0) → List CallDeed → Type 0
+EachPutTaken P [] = Unit {0}
+EachPutTaken P (performs put outcome bytes ∷ deeds) = EachPutTaken P deeds
+EachPutTaken P (takes_put cell payload ∷ deeds) = P cell payload × EachPutTaken P deeds
+EachPutTaken P (starts ∷ deeds) = EachPutTaken P deeds
+EachPutTaken P (is_cut put ∷ deeds) = EachPutTaken P deeds
+
+-- it is this one
+abbrev pub IsPutOf : ℕ → List ℕ → ℕ → List ℕ → Type 0
+IsPutOf cell payload i c = (i ≡ cell) × (c ≡ payload)
+
+-- no put is taken
+abbrev pub TakesNoPut : List CallDeed → Type 0
+TakesNoPut deeds = EachPutTaken (λ i c. ⊥) deeds

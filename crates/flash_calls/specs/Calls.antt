@@ -1,5 +1,5 @@
 -- What a call does to a plan in numbers, and why it does nothing.
-use Rattle.std.specs.Prelude.{◌≡◌, ◌≢◌, ◌⊎◌, ◌+◌, ◌*◌, ◌/◌, ◌≤◌, ◌<◌, ℕ, Option, Some, None, IfSome, List, length}
+use Rattle.std.specs.Prelude.{◌≡◌, ◌≢◌, ◌⊎◌, ◌↔◌, ◌+◌, ◌*◌, ◌/◌, ◌≤◌, ◌<◌, ℕ, Option, Some, None, IfSome, List, length}
 use Rattle.flash_places.specs.Places.{Flash}
 use Rattle.flash_laws.specs.Logs.{CellList}
 use Rattle.flash_laws.specs.Lives.{FlashMachine, off}
@@ -8,6 +8,7 @@ use Rattle.flash_lines.specs.Lines.{line_length}
 use Rattle.flash_plan.specs.declared.operations.FlashOutcome.{FlashOutcome}
 use Rattle.flash_plan.specs.declared.plans.PlanEnd.TheVariants.{Formatted as end_formatted, NoStore as end_no_store}
 use Rattle.flash_plan.specs.declared.plans.PlanEnd.TheVariants.{Exhausted as end_exhausted, Failed as end_failed}
+use Rattle.flash_plan.specs.declared.plans.FlashPlan.{FlashPlan}
 use Rattle.flash_plan.specs.declared.plans.PlanStep.{PlanStep}
 use Rattle.flash_plan.specs.declared.plans.PlanStep.TheVariants.{Heading, Copied, Puts, Free, Erasing, Copying}
 use Rattle.flash_plan.specs.declared.plans.PlanStep.TheVariants.{Ready, Clearing, Filling, Ended}
@@ -22,6 +23,7 @@ use Rattle.flash_calls.specs.declared.numbers.FlashNumbers.{FlashNumbers}
 use Rattle.flash_calls.specs.declared.operations.FlashOperation.{FlashOperation}
 use Rattle.flash_calls.specs.Numbers.{plan_in}
 use Rattle.flash_calls.specs.Operations.{IsProgramUnit, IsCallOf, FitsPart, SaysOperation, PerformsBytes, Comes}
+use Rattle.flash_calls.specs.Operations.{FailsBy}
 
 -- a line of a part of this unit takes so many bytes
 pub record IsLineSize (unit size : ℕ) : Type 0 where
@@ -38,6 +40,7 @@ pub record Begun (unit banks bank_size n : ℕ) (new : FlashNumbers) : Type 0 wh
   pub places_is : new.places ≡ bank_size / line_length unit
   pub call : IsCallOf n new
   pub left : operations_left n (plan_in new) ≤ banks * new.places + (n + 2)
+  pub none : (plan_in new).put ≡ None
   pub stands : (cells scratch : CellList) (f : Flash)
       → StandsAt (plan_layout (plan_in new) n) (plan_in new) cells scratch (machine f off) f
 
@@ -79,8 +82,19 @@ FlashNextRefused n flash refusal =
     ((refusal ≡ BadValue) × (IsCallOf n flash → ⊥))
     ⊎ (IsCallOf n flash × (refusal_of (plan_in flash).step ≡ Some refusal))
 
--- The caller performed the next operation, and the plan stands where that leads. If none came next, nothing changed. A
--- plan that makes a store keeps its cells.
+-- an operation of the plan failed
+abbrev pub HasFailed : FlashPlan → Type 0
+HasFailed plan = (plan.step ≡ Ended end_failed) × (plan.put ≡ None)
+
+-- What the outcome of the operation that comes next does to a put. It goes on waiting until its line is programmed. If
+-- an operation fails before, or its program does, the plan has failed.
+pub record PutMoves (outcome : ℕ) (old new : FlashPlan) : Type 0 where
+  pub waits : put_in old ≡ None → (new.put ≡ old.put) ⊎ HasFailed new
+  pub programmed : put_in old ≢ None → new.put ≡ None
+  pub failed : put_in old ≢ None → outcome ≢ 0 → HasFailed new
+
+-- The caller performed the next operation, and the plan stands where that leads. It has failed exactly if the outcome
+-- says so. If none came next, nothing changed. A plan that makes a store keeps its cells.
 pub record DidMoves (outcome : ℕ) (bytes : List ℕ) (old : FlashNumbers) (cells scratch : CellList) (new : FlashNumbers)
     (cells' scratch' : CellList) : Type 0 where
   pub was : IsCallOf (length cells) old
@@ -99,6 +113,9 @@ pub record DidMoves (outcome : ℕ) (bytes : List ℕ) (old : FlashNumbers) (cel
   pub formats : (f g : Flash) → FormatsAt (plan_in old) cells f
       → IfSome (operation_of (plan_in old) cells) (λ it. PerformsBytes old.places (line_length old.unit) it outcome
       bytes f g → FormatsAt (plan_in new) cells' g × (cells' ≡ cells))
+  pub put : (operation_of (plan_in old) cells ≡ None → ⊥) → PutMoves outcome (plan_in old) (plan_in new)
+  pub fails : IfSome (operation_of (plan_in old) cells)
+      (λ it. ((plan_in new).step ≡ Ended end_failed) ↔ FailsBy it outcome)
   pub less : (operation_of (plan_in old) cells ≡ None → ⊥)
       → operations_left (length cells) (plan_in new) < operations_left (length cells) (plan_in old)
   pub none : operation_of (plan_in old) cells ≡ None → (new ≡ old) × ((cells' ≡ cells) × (scratch' ≡ scratch))

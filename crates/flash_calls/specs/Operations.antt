@@ -12,7 +12,7 @@ use Rattle.flash_plan.specs.declared.operations.Operation.{Operation}
 use Rattle.flash_plan.specs.declared.operations.Operation.TheVariants.{Read, Erase, Program}
 use Rattle.flash_plan.specs.declared.operations.FlashOutcome.{FlashOutcome}
 use Rattle.flash_plan.specs.declared.operations.FlashOutcome.TheVariants.{Done, Failed}
-use Rattle.flash_plan.specs.Plans.{IsPlanOf}
+use Rattle.flash_plan.specs.Plans.{IsPlanOf, Fails}
 use Rattle.flash_calls.specs.declared.numbers.FlashNumbers.{FlashNumbers}
 use Rattle.flash_calls.specs.declared.operations.FlashOperation.{FlashOperation}
 use Rattle.flash_calls.specs.Numbers.{plan_in}
@@ -41,7 +41,8 @@ abbrev pub SaysOperation : ℕ → Option Operation → FlashOperation → Type 
 SaysOperation size None o = o.kind ≡ 0
 SaysOperation size (Some (Read bank place)) o =
     (o.kind ≡ 1) × ((o.bank ≡ bank) × ((o.offset ≡ place * size) × (o.length ≡ size)))
-SaysOperation size (Some (Erase bank)) o = (o.kind ≡ 2) × (o.bank ≡ bank)
+SaysOperation size (Some (Erase bank)) o =
+    (o.kind ≡ 2) × ((o.bank ≡ bank) × ((o.offset ≡ 0) × (o.length ≡ 0)))
 SaysOperation size (Some (Program bank place line)) o =
     (o.kind ≡ 3) × ((o.bank ≡ bank) × ((o.offset ≡ place * size) × ((o.length ≡ size)
     × (take size o.bytes ≡ line_bytes size line))))
@@ -71,11 +72,18 @@ pub record PerformsBytes (places size : ℕ) (operation : Operation) (outcome : 
   pub does : DoesBytes operation outcome (take size bytes) f g
   pub behind : BlankBehind places g
 
--- the outcome of an erase or a program, as a plan takes it
+-- The outcome of an operation, as a plan takes it. A read has failed only if the number is none of its own.
 abbrev pub Comes : Operation → ℕ → FlashOutcome → Type 0
-Comes (Read bank place) outcome came = Unit {0}
+Comes (Read bank place) outcome came =
+    (2 < outcome → came ≡ Failed) × (outcome ≤ 2 → Fails (Read bank place) came → ⊥)
 Comes (Erase bank) outcome came = came ≡ (if nat_eq outcome 0 then Done else Failed)
 Comes (Program bank place line) outcome came = came ≡ (if nat_eq outcome 0 then Done else Failed)
+
+-- an operation has failed by this number
+abbrev pub FailsBy : Operation → ℕ → Type 0
+FailsBy (Read bank place) outcome = 2 < outcome
+FailsBy (Erase bank) outcome = outcome ≢ 0
+FailsBy (Program bank place line) outcome = outcome ≢ 0
 
 -- the place of an operation is below this one
 abbrev pub IsPlaceBelow : ℕ → Operation → Type 0

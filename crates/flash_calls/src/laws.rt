@@ -3,7 +3,7 @@
 //! A caller begins a plan at power-up ([`begin`](crate::begin)), performs each operation that [`next`](crate::next)
 //! says, and reports its outcome to [`did`](crate::did). It hands in a put by [`put`](crate::put). The power may go
 //! between two operations or within one, and then all begins again (`CallLives`).
-ghost use Rattle.std.specs.Prelude.{◌≡◌, List, Some};
+ghost use Rattle.std.specs.Prelude.{◌≡◌, ◌⊎◌, ℕ, List, Some, set};
 ghost use Rattle.flash_laws.specs.Logs.{CellList};
 ghost use Rattle.flash_laws.specs.CutFormats.{CutFormatted};
 ghost use Rattle.flash_laws.specs.Lives.{FlashFormatted, Possible, off};
@@ -15,10 +15,12 @@ ghost use Rattle.flash_plan.specs.Performing.{MayBegin};
 ghost use Rattle.flash_plan.specs.Plans.{IsIdle, operation_of};
 ghost use Rattle.flash_calls.specs.Numbers.{plan_in};
 ghost use Rattle.flash_calls.specs.CallLives.{FlashSizes, CallState, CallDeed, CallLives, OperationsDone};
-ghost use Rattle.flash_calls.specs.CallLives.{CallBegun, CallFormatBegun, sizes_layout, puts_made};
+ghost use Rattle.flash_calls.specs.CallLives.{CallBegun, CallFormatBegun, sizes_layout, puts_made, IsFoundStore};
+ghost use Rattle.flash_calls.specs.CallLives.{TakesPut, EachPutTaken, IsPutOf, TakesNoPut};
 
 /// A put is there whole or not at all over all lives. The cells of an idle plan are what the puts that were done made
-/// of those that were formatted, or of those of an earlier idle plan. Each put that was cut is there or not.
+/// of those that were formatted, or of those of an earlier idle plan. Each put that was cut is there or not. That holds
+/// after a format whose head was cut, too (`cut`, `later`).
 pub fn an_idle_call_has_its_cells()
     ensures formatted { (s : FlashSizes) (deeds : List CallDeed) (first : CellList) (a b : CallState)
         → FlashFormatted (sizes_layout s) first (machine a.flash off) → CallBegun s a → CallLives s deeds a b
@@ -26,17 +28,35 @@ pub fn an_idle_call_has_its_cells()
     ensures cut { (s : FlashSizes) (deeds : List CallDeed) (first : CellList) (a b : CallState)
         → CutFormatted (sizes_layout s) first (machine a.flash off) → CallBegun s a → CallLives s deeds a b
         → IsIdle (plan_in b.numbers) → Possible (puts_made deeds) first b.cells }
-    ensures later { (s : FlashSizes) (earlier deeds : List CallDeed) (first : CellList) (start a b : CallState)
-        → FlashFormatted (sizes_layout s) first (machine start.flash off) → CallBegun s start
-        → CallLives s earlier start a → IsIdle (plan_in a.numbers)
-        → CallLives s deeds a b → IsIdle (plan_in b.numbers) → Possible (puts_made deeds) a.cells b.cells }
+    ensures later { (s : FlashSizes) (deeds : List CallDeed) (first : CellList) (a b : CallState)
+        → IsFoundStore s first a → CallLives s deeds a b → IsIdle (plan_in b.numbers)
+        → Possible (puts_made deeds) a.cells b.cells }
 {}
 
-/// No start over a formatted flash ends in `NoStore`, after any number of lives.
+/// What a caller knows of its put, between two idle plans. If it was taken and only operations were performed since,
+/// it is there (`done`). If all began again in between, or the power went, it is there or not, however often it was
+/// taken (`cut`). Without a put the cells are the same (`none`).
+pub fn a_put_is_there_once_the_plan_is_idle()
+    ensures done { (s : FlashSizes) (deeds : List CallDeed) (first : CellList) (cell : ℕ) (payload : List ℕ)
+        (a between b : CallState) → IsFoundStore s first a → TakesPut cell payload a between
+        → OperationsDone deeds between b → IsIdle (plan_in b.numbers) → b.cells ≡ set a.cells cell payload }
+    ensures cut { (s : FlashSizes) (deeds : List CallDeed) (first : CellList) (cell : ℕ) (payload : List ℕ)
+        (a b : CallState) → IsFoundStore s first a → EachPutTaken (IsPutOf cell payload) deeds
+        → CallLives s deeds a b → IsIdle (plan_in b.numbers)
+        → (b.cells ≡ a.cells) ⊎ (b.cells ≡ set a.cells cell payload) }
+    ensures none { (s : FlashSizes) (deeds : List CallDeed) (first : CellList) (a b : CallState)
+        → IsFoundStore s first a → TakesNoPut deeds → CallLives s deeds a b → IsIdle (plan_in b.numbers)
+        → b.cells ≡ a.cells }
+{}
+
+/// No start over a formatted flash ends in `NoStore`, after any number of lives. After a format whose head was cut
+/// none does once a start has found the store.
 pub fn a_formatted_flash_is_found()
-    ensures { (s : FlashSizes) (deeds : List CallDeed) (first : CellList) (a b : CallState)
+    ensures formatted { (s : FlashSizes) (deeds : List CallDeed) (first : CellList) (a b : CallState)
         → FlashFormatted (sizes_layout s) first (machine a.flash off) → CallBegun s a → CallLives s deeds a b
         → (plan_in b.numbers).step ≡ Ended NoStore → ⊥ }
+    ensures later { (s : FlashSizes) (deeds : List CallDeed) (first : CellList) (a b : CallState)
+        → IsFoundStore s first a → CallLives s deeds a b → (plan_in b.numbers).step ≡ Ended NoStore → ⊥ }
 {}
 
 /// A plan of [`take`](crate::take) that has come to its end has formatted the flash with the cells that it was begun

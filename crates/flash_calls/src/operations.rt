@@ -2,7 +2,9 @@
 ghost use Rattle.std.specs.Prelude.{◌≡◌, ◌≤◌, ◌<◌, ◌*◌, ◌^◌, ℕ, length, IfSome};
 ghost use Rattle.flash_places.specs.Places.{Flash};
 ghost use Rattle.flash_plan.specs.declared.operations.Operation.TheVariants.{Read};
+ghost use Rattle.flash_plan.specs.declared.operations.FlashOutcome.TheVariants.{Failed};
 ghost use Rattle.flash_plan.specs.Performing.{DoesOperation};
+ghost use Rattle.flash_plan.specs.Plans.{Fails};
 ghost use Rattle.flash_calls.specs.Operations.{SaysOperation, IsPlaceBelow, GaveRead, DoesBytes, Comes};
 
 use flash_lines::{line_bytes, read_line};
@@ -75,8 +77,10 @@ pub(crate) fn say_operation(
 fn answer_of(outcome: u32, bytes: &[u8]) -> FlashOutcome
     requires least { 44 ≤ length bytes.now }
     requires most { length bytes.now ≤ 128 }
-    ensures { (bank place : ℕ) (f g : Flash) → GaveRead bank place outcome bytes.now f g
+    ensures does { (bank place : ℕ) (f g : Flash) → GaveRead bank place outcome bytes.now f g
         → DoesOperation (Read bank place) result f g }
+    ensures fails { 2 < outcome → result ≡ Failed }
+    ensures well { (bank place : ℕ) → outcome ≤ 2 → Fails (Read bank place) result → ⊥ }
 {
     match outcome {
         0 => match read_line(bytes) {

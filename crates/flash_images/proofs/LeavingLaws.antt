@@ -1,18 +1,16 @@
--- What the power leaves of a store on flash while a plan is under way.
-use Rattle.std.proofs.Common.{◌≡◌, ◌⊎◌, inl, inr, ℕ, List, [], ◌∷◌, set, subst, ◌∙◌}
-use Rattle.flash_places.specs.Places.{Flash}
+-- What a store on flash leaves of a plan that is under way.
+use Rattle.std.proofs.Common.{◌≡◌, inl, inr, ℕ, List, [], ◌∷◌, set, sym, subst, ◌∙◌}
 use Rattle.flash_laws.specs.Logs.{CellList}
-use Rattle.flash_laws.specs.Lives.{FlashMachine, FlashDeed, puts, cuts_put, FlashFormatted, IsReadyFlash, Possible}
-use Rattle.flash_plan.specs.declared.plans.FlashPlan.{FlashPlan}
+use Rattle.flash_laws.specs.Lives.{FlashDeed, puts, cuts_put, Possible}
 use Rattle.flash_plan.specs.Plans.{IsIdle}
-use Rattle.flash_plan.specs.Standing.{plan_layout, StandsAt}
-use Rattle.flash_plan.specs.Turns.{Turn, PlanTurns, puts_in}
-use Rattle.flash_plan.proofs.CallerLemmas.{turns_later, idle_ready}
+use Rattle.flash_calls.specs.Numbers.{plan_in}
+use Rattle.flash_calls.specs.CallLives.{FlashSizes, CallState, CallDeed, CallLives, OperationsDone, TakesPut, IsFoundStore}
+use Rattle.flash_calls.proofs.CallerLemmas.{put_there, none_there, put_done}
 use Rattle.store_plan.specs.declared.planning.Plan.{Plan}
-use Rattle.store_plan.specs.Plans.{PlansPut}
+use Rattle.store_plan.specs.Plans.{PlansPut, applied}
 use Rattle.store_plan.specs.Leaving.{LeavesPut, IsImageOf}
-use Rattle.store_plan.proofs.CallerLemmas.{images-unchanged, images-put}
-use Rattle.flash_images.specs.Putting.{PutsOnly}
+use Rattle.store_plan.proofs.CallerLemmas.{image-put, images-unchanged, images-put}
+use Rattle.flash_images.specs.Putting.{PutsOnly, TakesPutOnly}
 
 module _ (plan : Plan) (x y : List ℕ) (olds cells : CellList) (a : IsImageOf x olds) (b : IsImageOf y cells) where
   same-leaves : cells ≡ olds → LeavesPut plan x y
@@ -44,3 +42,28 @@ module _ (plan : Plan) (x y : List ℕ) (olds cells : CellList) (a : IsImageOf x
       put = λ i c p. (either-leaves i c p).put i c p;
       none = λ empty. (same-leaves (possible-as [] (only.none empty))).none empty;
     }
+
+-- ---- a caller in C
+
+one-left : (s : FlashSizes) (deeds : List CallDeed) (first : CellList) (a b : CallState) (plan : Plan) (x y : List ℕ) → IsFoundStore s first a
+    → CallLives s deeds a b → IsIdle (plan_in b.numbers) → IsImageOf x a.cells → IsImageOf y b.cells → TakesPutOnly plan x deeds
+    → (i : ℕ) (c : List ℕ) → PlansPut plan x i c → LeavesPut plan x y
+one-left s deeds first a b plan x y found lives idle old new only i c p = elim (put_there s deeds first i c a b found (only.put i c p) lives idle) [
+  | inl kept ↦ same-leaves plan x y a.cells b.cells old new kept
+  | inr put ↦ put-leaves plan x y a.cells b.cells old new i c p put
+]
+
+pub call-leaves : (s : FlashSizes) (deeds : List CallDeed) (first : CellList) (a b : CallState) (plan : Plan) (x y : List ℕ) → IsFoundStore s first a
+    → CallLives s deeds a b → IsIdle (plan_in b.numbers) → IsImageOf x a.cells → IsImageOf y b.cells → TakesPutOnly plan x deeds → LeavesPut plan x y
+call-leaves s deeds first a b plan x y found lives idle old new only = record {
+  put = λ i c p. (one-left s deeds first a b plan x y found lives idle old new only i c p).put i c p;
+  none = λ empty.
+      (same-leaves plan x y a.cells b.cells old new (none_there s deeds first a b found (only.none empty) lives idle)).none empty;
+}
+
+pub call-done : (s : FlashSizes) (deeds : List CallDeed) (first : CellList) (i : ℕ) (c : List ℕ) (a between b : CallState) (plan : Plan) (x : List ℕ)
+    → IsFoundStore s first a → TakesPut i c a between → OperationsDone deeds between b → IsIdle (plan_in b.numbers) → IsImageOf x a.cells
+    → PlansPut plan x i c → IsImageOf (applied plan x) b.cells
+call-done s deeds first i c a between b plan x found taken all idle old p =
+    subst (λ (z : CellList). IsImageOf (applied plan x) z) (sym (put_done s deeds first i c a between b found taken all idle))
+    (image-put plan x a.cells i c old p)

@@ -1,21 +1,21 @@
 -- Lives that begin with a format whose head was cut.
-use Rattle.std.proofs.Common.{◌≡◌, ◌≢◌, ◌⊎◌, inl, inr, ℕ, zero, suc, ◌<◌, true, false, Option, Some, None, List, [], ◌∷◌, refl, sym, ap, subst, ◌∙◌}
+use Rattle.std.proofs.Common.{◌≡◌, ◌≢◌, inl, inr, ℕ, zero, suc, ◌<◌, Option, Some, List, [], ◌∷◌, refl, sym, ap, subst, ◌∙◌}
 use Rattle.std.proofs.lemmas.Bool.{cases_eq, true≢false}
 use Rattle.std.proofs.lemmas.Option.{none-some, same_Some}
 use Rattle.flash_places.specs.declared.FlashLine.{FlashLine}
-use Rattle.flash_places.specs.declared.FlashLine.TheVariants.{Head, Entry}
+use Rattle.flash_places.specs.declared.FlashLine.TheVariants.{Head}
 use Rattle.flash_places.specs.Places.{Flash, FlashPlace, LooksAll, Looks, sees, sees_nothing, SameButAt, blank_place, whole_place}
 use Rattle.flash_laws.specs.Logs.{CellList}
 use Rattle.flash_laws.specs.Lives.{FlashLayout, FlashMachine, FlashStage, off, found, copying, ready, IsUp, was_found, was_ready}
 use Rattle.flash_laws.specs.Lives.{FlashDeed, scans, resumes, erases, copies, heads, puts, cuts_scan, cuts_erase, cuts_copy, cuts_head, cuts_put, cuts}
-use Rattle.flash_laws.specs.Lives.{FlashLives, Possible, IsReadyFlash, FlashFormatted, Scans, CutsScan, CutsBetween}
-use Rattle.flash_laws.specs.CutFormats.{CutFormatted}
+use Rattle.flash_laws.specs.Lives.{FlashLives, Possible, IsReadyFlash, Scans, CutsScan, CutsBetween}
+use Rattle.flash_laws.specs.CutFormats.{CutFormatted, LivesFormatted}
 use Rattle.flash_laws.proofs.Reached.{formatted_lives}
 
 -- ---- what a place is read as
 
 -- no line is read of a blank place
-no_line : (p q : FlashPlace) (answer : Option FlashLine) (line : FlashLine) → Looks p answer q → p ≡ blank_place → answer ≡ Some line → ⊥
+pub no_line : (p q : FlashPlace) (answer : Option FlashLine) (line : FlashLine) → Looks p answer q → p ≡ blank_place → answer ≡ Some line → ⊥
 no_line p q answer line (sees other content is now) blank says = none-some other (sym (ap (λ (r : FlashPlace). r.content) blank) ∙ content)
 no_line p q answer line (sees_nothing odd none same) blank says = none-some line (sym none ∙ says)
 
@@ -61,7 +61,7 @@ suc≢zero k e = absurd (cc)
 -- ---- a scan
 
 module _ (l : FlashLayout) (cells : CellList) (a m : FlashMachine) (h : CutFormatted l cells a) where
-  machine-of : FlashMachine
+  abbrev machine-of : FlashMachine
   machine-of = record { flash = h.whole; stage = off }
 
   -- the head that a scan found is that of bank 0
@@ -162,23 +162,47 @@ off_copying stage bank generation cells done is e = absurd (cc)
 off_found : (stage : FlashStage) (bank generation : ℕ) (cells : CellList) (next : ℕ) → stage ≡ off → stage ≡ found bank generation cells next → ⊥
 off_found stage bank generation cells next is e = absurd (cc)
 
+-- from such a format a store that is ready is reached as from a whole one
+record CutFormatLife (l : FlashLayout) (cells : CellList) (deeds : List FlashDeed) (b : FlashMachine) : Type 0 where
+  found : LivesFormatted l cells b
+  same : (now : CellList) → Possible found.deeds cells now → Possible deeds cells now
+
+cut_format_life : (l : FlashLayout) (deeds : List FlashDeed) (cells now : CellList) (a b : FlashMachine) → CutFormatted l cells a
+    → FlashLives l deeds a b → IsReadyFlash b now → CutFormatLife l cells deeds b
+cut_format_life l [] cells now a b h lives is =
+    absurd (off_ready b.stage is.bank is.generation now is.next (ap (λ (m : FlashMachine). m.stage) lives ∙ h.is_off) is.is)
+cut_format_life l (scans ∷ deeds) cells now a b h lives is = record {
+  found = record {
+    start = record { flash = h.whole; stage = off };
+    formatted = h.formatted;
+    deeds = scans ∷ deeds;
+    lives = (lives.0, (scans_whole l cells a lives.0 h lives.1.0, lives.1.1));
+  };
+  same = λ x p. p;
+}
+cut_format_life l (cuts_scan ∷ deeds) cells now a b h lives is =
+    let rest = cut_format_life l deeds cells now lives.0 b (cut_scanned l cells a lives.0 h lives.1.0) lives.1.1 is in
+    record { found = rest.found; same = λ x p. (cells, (refl, rest.same x p)) }
+cut_format_life l (cuts ∷ deeds) cells now a b h lives is =
+    let rest = cut_format_life l deeds cells now lives.0 b (cut_between l cells a lives.0 h lives.1.0) lives.1.1 is in
+    record { found = rest.found; same = λ x p. (cells, (refl, rest.same x p)) }
+cut_format_life l (resumes ∷ deeds) cells now a b h lives is = let d = lives.1.0 in absurd (off_found a.stage d.bank d.generation d.cells d.next h.is_off d.was)
+cut_format_life l (erases target ∷ deeds) cells now a b h lives is = let d = lives.1.0 in absurd (off_up a.stage d.bank d.generation d.cells h.is_off d.up)
+cut_format_life l (copies ∷ deeds) cells now a b h lives is = let d = lives.1.0 in absurd (off_copying a.stage d.bank d.generation d.cells d.done h.is_off d.was)
+cut_format_life l (heads ∷ deeds) cells now a b h lives is = let d = lives.1.0 in absurd (off_copying a.stage d.bank d.generation d.cells _ h.is_off d.was)
+cut_format_life l (puts cell payload ∷ deeds) cells now a b h lives is = let d = lives.1.0 in absurd (off_ready a.stage d.bank d.generation d.cells d.next h.is_off d.was)
+cut_format_life l (cuts_erase target ∷ deeds) cells now a b h lives is = let d = lives.1.0 in absurd (off_up a.stage d.bank d.generation d.cells h.is_off d.up)
+cut_format_life l (cuts_copy ∷ deeds) cells now a b h lives is = let d = lives.1.0 in absurd (off_copying a.stage d.bank d.generation d.cells d.done h.is_off d.was)
+cut_format_life l (cuts_head ∷ deeds) cells now a b h lives is = let d = lives.1.0 in absurd (off_copying a.stage d.bank d.generation d.cells _ h.is_off d.was)
+cut_format_life l (cuts_put cell payload ∷ deeds) cells now a b h lives is = let d = lives.1.0 in absurd (off_ready a.stage d.bank d.generation d.cells d.next h.is_off d.was)
+
+pub cut_format_found : (l : FlashLayout) (deeds : List FlashDeed) (cells now : CellList) (a b : FlashMachine) → CutFormatted l cells a
+    → FlashLives l deeds a b → IsReadyFlash b now → LivesFormatted l cells b
+cut_format_found l deeds cells now a b h lives is = (cut_format_life l deeds cells now a b h lives is).found
+
 pub cut_format_lives : (l : FlashLayout) (deeds : List FlashDeed) (cells now : CellList) (a b : FlashMachine) → CutFormatted l cells a
     → FlashLives l deeds a b → IsReadyFlash b now → Possible deeds cells now
-cut_format_lives l [] cells now a b h lives is =
-    absurd (off_ready b.stage is.bank is.generation now is.next (ap (λ (m : FlashMachine). m.stage) lives ∙ h.is_off) is.is)
-cut_format_lives l (scans ∷ deeds) cells now a b h lives is =
-    formatted_lives l (scans ∷ deeds) cells now (record { flash = h.whole; stage = off }) b h.formatted
-    (lives.0, (scans_whole l cells a lives.0 h lives.1.0, lives.1.1)) is
-cut_format_lives l (cuts_scan ∷ deeds) cells now a b h lives is =
-    (cells, (refl, cut_format_lives l deeds cells now lives.0 b (cut_scanned l cells a lives.0 h lives.1.0) lives.1.1 is))
-cut_format_lives l (cuts ∷ deeds) cells now a b h lives is =
-    (cells, (refl, cut_format_lives l deeds cells now lives.0 b (cut_between l cells a lives.0 h lives.1.0) lives.1.1 is))
-cut_format_lives l (resumes ∷ deeds) cells now a b h lives is = let d = lives.1.0 in absurd (off_found a.stage d.bank d.generation d.cells d.next h.is_off d.was)
-cut_format_lives l (erases target ∷ deeds) cells now a b h lives is = let d = lives.1.0 in absurd (off_up a.stage d.bank d.generation d.cells h.is_off d.up)
-cut_format_lives l (copies ∷ deeds) cells now a b h lives is = let d = lives.1.0 in absurd (off_copying a.stage d.bank d.generation d.cells d.done h.is_off d.was)
-cut_format_lives l (heads ∷ deeds) cells now a b h lives is = let d = lives.1.0 in absurd (off_copying a.stage d.bank d.generation d.cells _ h.is_off d.was)
-cut_format_lives l (puts cell payload ∷ deeds) cells now a b h lives is = let d = lives.1.0 in absurd (off_ready a.stage d.bank d.generation d.cells d.next h.is_off d.was)
-cut_format_lives l (cuts_erase target ∷ deeds) cells now a b h lives is = let d = lives.1.0 in absurd (off_up a.stage d.bank d.generation d.cells h.is_off d.up)
-cut_format_lives l (cuts_copy ∷ deeds) cells now a b h lives is = let d = lives.1.0 in absurd (off_copying a.stage d.bank d.generation d.cells d.done h.is_off d.was)
-cut_format_lives l (cuts_head ∷ deeds) cells now a b h lives is = let d = lives.1.0 in absurd (off_copying a.stage d.bank d.generation d.cells _ h.is_off d.was)
-cut_format_lives l (cuts_put cell payload ∷ deeds) cells now a b h lives is = let d = lives.1.0 in absurd (off_ready a.stage d.bank d.generation d.cells d.next h.is_off d.was)
+cut_format_lives l deeds cells now a b h lives is =
+    let life = cut_format_life l deeds cells now a b h lives is in
+    let found = life.found in
+    life.same now (formatted_lives l found.deeds cells now found.start b found.formatted found.lives is)

@@ -11,6 +11,13 @@ use Rattle.flash_laws.proofs.Reading.{contents, content_of, Keeps, keeps_same, L
 use Rattle.flash_laws.proofs.Copies.{length-after}
 use Rattle.flash_laws.proofs.Wear.{Wear, Spent, next_other, next_inside}
 
+-- whether a copy is under way, as a number
+abbrev pub copies_now : FlashStage → ℕ
+copies_now off = 0
+copies_now (found bank generation cells next) = 0
+copies_now (copying bank generation cells done) = 1
+copies_now (ready bank generation cells next) = 0
+
 abbrev pub OneOf : CellList → CellList → CellList → Type 0
 OneOf a b x = (x ≡ a) ⊎ (x ≡ b)
 

@@ -10,7 +10,7 @@ use Rattle.flash_laws.specs.Lives.{FlashLayout, FlashMachine, FlashStage, off, f
 use Rattle.flash_laws.proofs.Reading.{contents, content_of, Keeps, keeps_before, keeps_append, Less, SamePlaces, looks_less, held_seen}
 use Rattle.flash_laws.proofs.Copies.{length-copy, after-append, append_twice, append_none, keeps_all}
 use Rattle.flash_laws.proofs.Wear.{Wear, Spent, next_other, next_inside}
-use Rattle.flash_laws.proofs.Sound.{OneOf, HoldsLog, KeepsLog, Ahead, Beside, SoundAt, SoundOff, SoundFound, SoundCopying, SoundReady, Sound, held_same, kept_same, older_less, older_later, no_head_older, this_head_older, same_less, beside_less, moved_at, kept_of_held, ready_at, up_sound}
+use Rattle.flash_laws.proofs.Sound.{copies_now, OneOf, HoldsLog, KeepsLog, Ahead, Beside, SoundAt, SoundOff, SoundFound, SoundCopying, SoundReady, Sound, held_same, kept_same, older_less, older_later, no_head_older, this_head_older, same_less, beside_less, moved_at, kept_of_held, ready_at, up_sound}
 use Rattle.flash_laws.proofs.Scanning.{held_of_log, older_scan, kept_looks, kept_found, kept_scan, ahead_scan}
 
 -- the log that counts is in this bank, and every other is older
@@ -349,25 +349,26 @@ module _ (l : FlashLayout) (two : 2 ≤ l.banks) (w w' : Wear) (a b : CellList) 
 
   -- ---- the power goes in between
 
-  off_then : ((x : ℕ) → Spent l.banks w 0 x → Spent l.banks w' 0 x) → ((x : ℕ) → Spent l.banks w 1 x → Spent l.banks w' 0 x) → SameFlash f f'
-      → (stage : FlashStage) → Sound l w a b f stage → SoundOff l w' f' a b
-  off_then grow shrink same off s = record {
+  off_then : ((x : ℕ) → Spent l.banks w 0 x → Spent l.banks w' 0 x) → SameFlash f f' → (stage : FlashStage)
+      → (copies_now stage ≡ 1 → (x : ℕ) → Spent l.banks w 1 x → Spent l.banks w' 0 x) → Sound l w a b f stage → SoundOff l w' f' a b
+  off_then grow same off shrink s = record {
     bank = s.bank;
     generation = s.generation;
     at = moved_at l w w' f f' s.bank s.generation a b two grow (same s.bank) (λ x ne. same_less (f x) (f' x) (same x)) s.at;
   }
-  off_then grow shrink same (found bank g cells next) s = record {
+  off_then grow same (found bank g cells next) shrink s = record {
     bank = bank;
     generation = g;
     at = moved_at l w w' f f' bank g a b two grow (same bank) (λ x ne. same_less (f x) (f' x) (same x)) s.at;
   }
-  off_then grow shrink same (copying bank g cells done) s =
-      copying_off bank g cells done s (λ x ne. same x) (same (next_bank l.banks bank) 0 ∙ s.head) (shrink bank s.spent_before)
-  off_then grow shrink same (ready bank g cells next) s = record {
+  off_then grow same (copying bank g cells done) shrink s =
+      copying_off bank g cells done s (λ x ne. same x) (same (next_bank l.banks bank) 0 ∙ s.head) (shrink refl bank s.spent_before)
+  off_then grow same (ready bank g cells next) shrink s = record {
     bank = bank;
     generation = g;
     at = moved_at l w w' f f' bank g a b two grow (same bank) (λ x ne. same_less (f x) (f' x) (same x)) (ready_at l w f bank g cells next a b two s);
   }
 
-  pub cut_step : ((x : ℕ) → Spent l.banks w 0 x → Spent l.banks w' 0 x) → ((x : ℕ) → Spent l.banks w 1 x → Spent l.banks w' 0 x) → CutsBetween m m' → Sound l w' a b f' m'.stage
-  cut_step grow shrink s = subst (λ (p : FlashStage). Sound l w' a b f' p) (sym s.now) (off_then grow shrink s.same m.stage sound)
+  pub cut_step : ((x : ℕ) → Spent l.banks w 0 x → Spent l.banks w' 0 x) → (copies_now m.stage ≡ 1 → (x : ℕ) → Spent l.banks w 1 x → Spent l.banks w' 0 x)
+      → CutsBetween m m' → Sound l w' a b f' m'.stage
+  cut_step grow shrink s = subst (λ (p : FlashStage). Sound l w' a b f' p) (sym s.now) (off_then grow s.same m.stage shrink sound)

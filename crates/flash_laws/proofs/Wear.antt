@@ -1,16 +1,17 @@
--- How often the banks were erased: each as often as every other, except for one, and except for one a loss of power.
+-- How often the banks were erased: each as often as every other, except for one, and except for one a copy that was
+-- lost.
 use Rattle.std.proofs.Common.{◌≡◌, ◌≢◌, ◌⊎◌, inl, inr, ℕ, suc, ◌+◌, ◌-◌, ◌<◌, ◌≤◌, Bool, if◌then◌else◌, sym, ap, subst, ◌∙◌, arith}
 use Rattle.std.proofs.lemmas.Bool.{cases_eq}
 use Rattle.std.proofs.lemmas.Bool.Decides.{eqb_tells}
 use Rattle.flash_laws.specs.Lives.{next_bank}
 
--- how often each bank was erased, and how often the power went
+-- how often each bank was erased, and how many copies were lost
 pub record Wear : Type 0 where
   pub worn : ℕ → ℕ
   pub lost : ℕ
 
 -- Each bank had `rounds` erases, those from this bank on one more, unless it is bank 0; and none has more than that
--- except for one a loss of power and `more`.
+-- except for one a copy that was lost, and `more`.
 pub record Spent (banks : ℕ) (w : Wear) (more bank : ℕ) : Type 0 where
   pub rounds : ℕ
   pub low : (x : ℕ) → x < banks → rounds ≤ w.worn x

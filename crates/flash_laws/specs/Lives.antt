@@ -262,25 +262,44 @@ erases_begun bank cuts_head = 0
 erases_begun bank (cuts_put cell payload) = 0
 erases_begun bank cuts = 0
 
--- how often the power goes in a deed
-abbrev pub power_lost : FlashDeed → ℕ
-power_lost scans = 0
-power_lost resumes = 0
-power_lost (erases target) = 0
-power_lost copies = 0
-power_lost heads = 0
-power_lost (puts cell payload) = 0
-power_lost cuts_scan = 1
-power_lost (cuts_erase target) = 1
-power_lost cuts_copy = 1
-power_lost cuts_head = 1
-power_lost (cuts_put cell payload) = 1
-power_lost cuts = 1
+-- how many copies a deed begins, by an erase
+abbrev pub copy_begun : FlashDeed → ℕ
+copy_begun scans = 0
+copy_begun resumes = 0
+copy_begun (erases target) = 1
+copy_begun copies = 0
+copy_begun heads = 0
+copy_begun (puts cell payload) = 0
+copy_begun cuts_scan = 0
+copy_begun (cuts_erase target) = 1
+copy_begun cuts_copy = 0
+copy_begun cuts_head = 0
+copy_begun (cuts_put cell payload) = 0
+copy_begun cuts = 0
+
+-- how many copies it ends, by the program of their head
+abbrev pub copy_done : FlashDeed → ℕ
+copy_done scans = 0
+copy_done resumes = 0
+copy_done (erases target) = 0
+copy_done copies = 0
+copy_done heads = 1
+copy_done (puts cell payload) = 0
+copy_done cuts_scan = 0
+copy_done (cuts_erase target) = 0
+copy_done cuts_copy = 0
+copy_done cuts_head = 0
+copy_done (cuts_put cell payload) = 0
+copy_done cuts = 0
 
 abbrev pub wear_of : ℕ → List FlashDeed → ℕ
 wear_of bank [] = 0
 wear_of bank (deed ∷ deeds) = erases_begun bank deed + wear_of bank deeds
 
-abbrev pub power_losses : List FlashDeed → ℕ
-power_losses [] = 0
-power_losses (deed ∷ deeds) = power_lost deed + power_losses deeds
+abbrev pub copies_begun : List FlashDeed → ℕ
+copies_begun [] = 0
+copies_begun (deed ∷ deeds) = copy_begun deed + copies_begun deeds
+
+abbrev pub copies_done : List FlashDeed → ℕ
+copies_done [] = 0
+copies_done (deed ∷ deeds) = copy_done deed + copies_done deeds

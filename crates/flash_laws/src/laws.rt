@@ -23,9 +23,12 @@ ghost use Rattle.std.specs.Prelude.{◌≡◌, ◌⊎◌, ℕ, ◌+◌, ◌<◌,
 ghost use Rattle.flash_places.specs.declared.FlashLine.{FlashLine};
 ghost use Rattle.flash_places.specs.Places.{Flash, LooksAll};
 ghost use Rattle.flash_places.specs.declared.FlashLine.TheVariants.{Entry};
-ghost use Rattle.flash_laws.specs.CutFormats.{CutFormatted};
+ghost use Rattle.flash_laws.specs.CutFormats.{CutFormatted, LivesFormatted};
 ghost use Rattle.flash_laws.specs.Logs.{CellList, copy_lines, after_lines};
-ghost use Rattle.flash_laws.specs.Lives.{FlashLayout, FlashMachine, FlashDeed, FlashLives, FlashFormatted, IsReadyFlash, IsOff, ScanFinds, PlaceIsBlank, Possible, wear_of, power_losses, next_bank, erases, heads, cuts_erase, cuts_put};
+ghost use Rattle.flash_laws.specs.Lives.{FlashLayout, FlashMachine, FlashDeed, FlashLives, FlashFormatted};
+ghost use Rattle.flash_laws.specs.Lives.{IsReadyFlash, IsOff, ScanFinds, PlaceIsBlank, Possible, next_bank};
+ghost use Rattle.flash_laws.specs.Lives.{wear_of, copies_begun, copies_done};
+ghost use Rattle.flash_laws.specs.Lives.{erases, heads, cuts_erase, cuts_head, cuts_put};
 
 /// A put is there whole or not at all, whenever the power goes, in any number of lives. If a store of a formatted flash
 /// is ready, its cells are what the puts that were done made of those that were formatted. Each put that the power cut
@@ -39,10 +42,12 @@ pub fn a_put_is_whole_or_absent_over_all_lives()
 {}
 
 /// If the power cut the head of a format, its last operation, then each store that a later start finds has these cells
-/// first, and all goes on as after a whole format.
+/// first. Once it is ready, all goes on as after a whole format: lives from one lead to the same machine (`found`).
 pub fn a_cut_format_is_there_or_not()
-    ensures { (l : FlashLayout) (deeds : List FlashDeed) (cells now : CellList) (a b : FlashMachine)
+    ensures cells { (l : FlashLayout) (deeds : List FlashDeed) (cells now : CellList) (a b : FlashMachine)
         → CutFormatted l cells a → FlashLives l deeds a b → IsReadyFlash b now → Possible deeds cells now }
+    ensures found { (l : FlashLayout) (deeds : List FlashDeed) (cells now : CellList) (a b : FlashMachine)
+        → CutFormatted l cells a → FlashLives l deeds a b → IsReadyFlash b now → LivesFormatted l cells b }
 {}
 
 /// Each power-up finds the store, whatever the places that aren't firm are read as.
@@ -58,12 +63,12 @@ pub fn a_place_is_programmed_once()
         → FlashFormatted l cells a → FlashLives l deeds a b → PlaceIsBlank l b }
 {}
 
-/// Each bank is erased as often as every other, except for one, and except for one more each time that the power goes:
-/// a life whose start is cut short erases the same bank anew.
+/// Each bank is erased as often as every other, except for one, and except for one more for each copy that was begun
+/// and not done: its bank is erased anew by the next one.
 pub fn wear_is_spread_evenly()
     ensures { (l : FlashLayout) (deeds : List FlashDeed) (cells : CellList) (a b : FlashMachine) (one other : ℕ)
         → FlashFormatted l cells a → FlashLives l deeds a b → one < l.banks → other < l.banks
-        → wear_of one deeds ≤ wear_of other deeds + 1 + power_losses deeds }
+        → wear_of one deeds + copies_done deeds ≤ wear_of other deeds + 1 + copies_begun deeds }
 {}
 
 /// The definitions on small cases: a copy's lines, what a put makes of cells, how banks go round, and what is counted.
@@ -74,7 +79,8 @@ pub fn small_cases()
     ensures two_banks { (next_bank 2 0 ≡ 1) × (next_bank 2 1 ≡ 0) }
     ensures sixteen_banks { (next_bank 16 0 ≡ 15) × (next_bank 16 15 ≡ 14) }
     ensures worn { wear_of 1 (erases 1 ∷ cuts_erase 1 ∷ erases 2 ∷ heads ∷ []) ≡ 2 }
-    ensures losses { power_losses (erases 1 ∷ cuts_erase 1 ∷ cuts_put 0 [] ∷ []) ≡ 2 }
+    ensures begun { copies_begun (erases 1 ∷ cuts_erase 1 ∷ cuts_put 0 [] ∷ heads ∷ []) ≡ 2 }
+    ensures done { copies_done (erases 1 ∷ heads ∷ cuts_erase 1 ∷ cuts_head ∷ []) ≡ 1 }
     ensures cut_put { (now : CellList) → Possible (cuts_put 0 (7 ∷ []) ∷ []) ((1 ∷ []) ∷ []) now
         → (now ≡ (1 ∷ []) ∷ []) ⊎ (now ≡ (7 ∷ []) ∷ []) }
 {}

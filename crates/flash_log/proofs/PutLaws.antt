@@ -1,8 +1,8 @@
 -- What a put comes to over lives.
-use Rattle.std.proofs.Common.{◌≡◌, ◌⊎◌, inl, inr, ℕ, List, [], ◌∷◌, ◌++◌, set, refl, sym, ap, subst, ◌∙◌}
+use Rattle.std.proofs.Common.{◌≡◌, ◌⊎◌, inl, inr, ℕ, List, [], ◌∷◌, ◌++◌, set, refl, sym, subst, ◌∙◌}
 use Rattle.flash_places.specs.Places.{Flash}
 use Rattle.flash_laws.specs.Logs.{CellList}
-use Rattle.flash_laws.specs.Lives.{FlashLayout, FlashMachine, FlashDeed, puts, cuts_put, FlashLives, DoesFlashDeed, FlashFormatted, IsReadyFlash, MayMake, Possible, off}
+use Rattle.flash_laws.specs.Lives.{FlashLayout, FlashMachine, FlashDeed, puts, cuts_put, FlashLives, FlashFormatted, IsReadyFlash, MayMake, Possible, off}
 use Rattle.flash_laws.proofs.CallerLemmas.{formatted_lives, later_lives, power_up}
 use Rattle.flash_log.specs.declared.store.FlashLog.{FlashLog}
 use Rattle.flash_log.specs.Going.{machine, ChangesNoCell, Goes, GoesAndDoes}

@@ -1,5 +1,5 @@
 -- One bank more was read.
-use Rattle.std.proofs.Common.{◌≡◌, ◌≢◌, ◌⊎◌, inl, inr, ◌<◌, ◌≤◌, ℕ, suc, Bool, true, false, nat_lt, nat_eq, if◌then◌else◌, Option, Some, None, List, get_or, refl, sym, ap, subst, ◌∙◌, arith}
+use Rattle.std.proofs.Common.{◌≡◌, ◌≢◌, inl, inr, ◌<◌, ◌≤◌, ℕ, suc, Bool, true, false, nat_lt, nat_eq, if◌then◌else◌, Option, Some, None, List, get_or, refl, sym, ap, subst, ◌∙◌, arith}
 use Rattle.std.proofs.lemmas.Bool.{cases_eq, ltb-true, ltb-false, eqb-true, eqb-false}
 use Rattle.std.proofs.lemmas.Bool.Decides.{eqb_tells}
 use Rattle.std.proofs.Math.Dec.{eqb}
@@ -15,7 +15,7 @@ use Rattle.flash_log.specs.declared.scanning.Best.{Best}
 use Rattle.flash_log.specs.declared.scanning.Best.TheVariants.{NoLog, One, Tie}
 use Rattle.flash_log.specs.Going.{machine, Goes, BlankFrom}
 use Rattle.flash_log.specs.Taking.{ReadsLog, ReadsBankPart, NoLaterHead}
-use Rattle.flash_log.specs.Scanned.{HaveNone, HaveOne, HaveTwo, HasLog, BestIs, ScannedTo, NoLogCounts, FreeBest, NoLaterHeads, found_at, judged, is_newest, is_past}
+use Rattle.flash_log.specs.Scanned.{HaveNone, HaveOne, HaveTwo, BestIs, ScannedTo, NoLogCounts, FreeBest, NoLaterHeads, found_at, judged, is_newest, is_past}
 use Rattle.flash_log.proofs.GoingLaws.{goes_one}
 use Rattle.flash_log.proofs.TakingLaws.{answer_of, unlooked}
 

@@ -1,9 +1,9 @@
 -- What a call of a store does, from one machine to the next.
-use Rattle.std.proofs.Common.{◌≡◌, ◌<◌, ◌≤◌, inl, inr, ℕ, suc, ◌+◌, List, [], get_or, length, set, refl, sym, ap, subst, ◌∙◌, arith}
+use Rattle.std.proofs.Common.{◌≡◌, ◌<◌, ◌≤◌, inr, ℕ, suc, List, get_or, length, set, refl, sym, ap, subst, ◌∙◌, arith}
 use Rattle.flash_places.specs.declared.FlashLine.TheVariants.{Entry}
 use Rattle.flash_places.specs.Places.{Flash, Programs, CutsProgram}
 use Rattle.flash_laws.specs.Logs.{CellList}
-use Rattle.flash_laws.specs.Lives.{FlashLayout, FlashStage, off, found, ready, resumes, IsUp, was_ready, puts, cuts_put, next_bank}
+use Rattle.flash_laws.specs.Lives.{FlashLayout, FlashStage, off, found, ready, resumes, IsUp, next_bank}
 use Rattle.flash_log.specs.Going.{machine, Goes, BlankFrom, Renews, CutsRenew}
 use Rattle.flash_log.specs.declared.scanning.FoundLog.{FoundLog}
 use Rattle.flash_log.specs.Taking.{last_generation}

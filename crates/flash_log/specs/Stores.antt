@@ -1,5 +1,5 @@
 -- A store in memory, beside the machine.
-use Rattle.std.specs.Prelude.{◌≡◌, ◌+◌, ◌-◌, ◌^◌, ◌<◌, ◌⊎◌, ℕ, true, false, List, length, set}
+use Rattle.std.specs.Prelude.{◌≡◌, ◌+◌, ◌^◌, ◌<◌, ◌⊎◌, ℕ, true, false, List, length, set}
 use Rattle.basics.specs.FaultCount.{Rose}
 use Rattle.flash_places.specs.Places.{Flash}
 use Rattle.flash_places.specs.State.{FlashState}

@@ -1,11 +1,11 @@
 -- What a caller's turns come to.
-use Rattle.std.proofs.Common.{◌≡◌, ℕ, Option, Some, None, IfSome, List, [], ◌∷◌, ◌++◌, refl, sym, ap, subst}
+use Rattle.std.proofs.Common.{◌≡◌, ◌⊎◌, inl, inr, ℕ, Option, Some, None, IfSome, List, [], ◌∷◌, ◌++◌, refl, sym, ap, subst}
 use Rattle.flash_places.specs.Places.{Flash}
 use Rattle.flash_laws.specs.Logs.{CellList}
-use Rattle.flash_laws.specs.Lives.{FlashLayout, FlashMachine, FlashDeed, puts, cuts_put, FlashLives, FlashFormatted, IsReadyFlash, Possible}
-use Rattle.flash_laws.specs.CutFormats.{CutFormatted}
-use Rattle.flash_laws.proofs.CallerLemmas.{formatted_lives, later_lives, cut_format_lives}
-use Rattle.flash_log.specs.Going.{ChangesNoCell}
+use Rattle.flash_laws.specs.Lives.{FlashLayout, FlashMachine, FlashDeed, off, puts, cuts_put, FlashLives, FlashFormatted, IsReadyFlash, Possible}
+use Rattle.flash_laws.specs.CutFormats.{CutFormatted, LivesFormatted}
+use Rattle.flash_laws.proofs.CallerLemmas.{formatted_lives, later_lives, cut_format_lives, cut_format_found}
+use Rattle.flash_log.specs.Going.{machine, ChangesNoCell}
 use Rattle.flash_log.proofs.CallerLemmas.{lives_then, possible_split, no_change, store_found}
 use Rattle.flash_plan.specs.declared.operations.FlashOutcome.{FlashOutcome}
 use Rattle.flash_plan.specs.declared.operations.FlashOutcome.TheVariants.{Answered, Done, Failed}
@@ -81,6 +81,21 @@ turns_later l earlier turns first cells now start a b formatted before is t late
     let all = all_lived l turns a b t in
     all.same cells now (later_lives l old.deeds all.deeds first cells now start a b formatted old.lives is all.lives later)
 
+-- after a format, or one whose head was cut
+turns_found : (l : FlashLayout) (turns : List Turn) (cells now : CellList) (a b : FlashMachine) → FlashFormatted l cells a ⊎ CutFormatted l cells a → PlanTurns l turns a b
+    → IsReadyFlash b now → LivesFormatted l cells b
+turns_found l turns cells now a b (inl formatted) t is =
+    let all = all_lived l turns a b t in record { start = a; formatted = formatted; deeds = all.deeds; lives = all.lives }
+turns_found l turns cells now a b (inr cut) t is =
+    let all = all_lived l turns a b t in cut_format_found l all.deeds cells now a b cut all.lives is
+
+pub turns_after : (l : FlashLayout) (earlier turns : List Turn) (first cells now : CellList) (start a b : FlashMachine) → FlashFormatted l first start ⊎ CutFormatted l first start
+    → PlanTurns l earlier start a → IsReadyFlash a cells → PlanTurns l turns a b → IsReadyFlash b now → Possible (puts_in turns) cells now
+turns_after l earlier turns first cells now start a b made before is t later =
+    let old = turns_found l earlier first cells start a made before is in
+    let all = all_lived l turns a b t in
+    all.same cells now (later_lives l old.deeds all.deeds first cells now old.start a b old.formatted old.lives is all.lives later)
+
 -- an idle plan stands at a store that is ready
 idle_step : (l : FlashLayout) (plan : FlashPlan) (cells scratch : CellList) (at : FlashMachine) (f : Flash) (step : PlanStep) → IsIdleStep step
     → StepAt l plan.best plan.latest cells scratch at f step → IsReadyFlash at cells
@@ -105,6 +120,16 @@ has_store l turns first start plan cells scratch at f formatted t h is =
     let none = subst (λ (s : PlanStep). StepAt l plan.best plan.latest cells scratch at f s) is h in
     let all = all_lived l turns start at t in
     store_found l all.deeds first start none.first f formatted (subst (λ (m : FlashMachine). FlashLives l all.deeds start m) none.is all.lives) none.reads
+
+pub stays_found : (l : FlashLayout) (earlier turns : List Turn) (first olds : CellList) (start a : FlashMachine) (plan : FlashPlan) (cells scratch : CellList) (at : FlashMachine) (f : Flash)
+    → FlashFormatted l first start ⊎ CutFormatted l first start → PlanTurns l earlier start a → IsReadyFlash a olds → PlanTurns l turns a at → StandsAt l plan cells scratch at f
+    → plan.step ≡ Ended NoStore → ⊥
+stays_found l earlier turns first olds start a plan cells scratch at f made before was t h is =
+    let none = subst (λ (s : PlanStep). StepAt l plan.best plan.latest cells scratch at f s) is h in
+    let old = turns_found l earlier first olds start a made before was in
+    let all = all_lived l turns a at t in
+    store_found l (old.deeds ++ all.deeds) first old.start none.first f old.formatted
+    (lives_then l old.deeds all.deeds old.start a (machine none.first off) old.lives (subst (λ (m : FlashMachine). FlashLives l all.deeds a m) none.is all.lives)) none.reads
 
 -- ---- one turn more
 

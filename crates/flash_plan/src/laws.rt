@@ -3,18 +3,19 @@
 //! A caller makes a plan at power-up, performs each operation that comes next, and reports its outcome. By the contract
 //! of [`FlashPlan::did`](crate::FlashPlan::did) each of these turns leads the machine of `flash_laws` on. The power may
 //! go at any time, and a new plan is made then.
-ghost use Rattle.std.specs.Prelude.{◌≡◌, ℕ, Some, None, IfSome, List, length};
-ghost use Rattle.flash_places.specs.Places.{Flash};
+ghost use Rattle.std.specs.Prelude.{◌≡◌, ℕ, suc, Option, Some, None, IfSome, List, length};
+ghost use Rattle.flash_places.specs.Places.{Flash, LooksAll};
+ghost use Rattle.flash_places.specs.declared.FlashLine.{FlashLine};
+ghost use Rattle.flash_places.specs.declared.FlashLine.TheVariants.{Head};
 ghost use Rattle.flash_laws.specs.Logs.{CellList};
 ghost use Rattle.flash_laws.specs.Lives.{FlashLayout, FlashMachine, FlashFormatted, IsReadyFlash, Possible, next_bank};
-ghost use Rattle.flash_laws.specs.Lives.{off};
+ghost use Rattle.flash_laws.specs.Lives.{ScanFinds, off};
 ghost use Rattle.flash_log.specs.Going.{machine, Goes};
 ghost use Rattle.flash_plan.specs.declared.operations.FlashOutcome.{FlashOutcome};
 ghost use Rattle.flash_plan.specs.declared.operations.Operation.TheVariants.{Erase, Program};
 ghost use Rattle.flash_plan.specs.declared.plans.FlashPlan.{FlashPlan};
 ghost use Rattle.flash_plan.specs.declared.plans.PlanEnd.TheVariants.{NoStore};
 ghost use Rattle.flash_plan.specs.declared.plans.PlanStep.TheVariants.{Ended, Filling};
-ghost use Rattle.flash_places.specs.declared.FlashLine.TheVariants.{Head};
 ghost use Rattle.flash_laws.specs.CutFormats.{CutFormatted};
 ghost use Rattle.flash_plan.specs.Formatting.{FormatsAt};
 ghost use Rattle.flash_plan.specs.Performing.{DoesOperation};
@@ -75,8 +76,20 @@ pub fn a_start_erases_only_if_it_must()
 /// If the head of a format, its last operation, fails or is cut, its store is there or none (`flash_laws` says what
 /// follows for all lives).
 pub fn a_format_may_be_cut_at_its_head()
-    ensures { (plan : FlashPlan) (cells : CellList) (f g : Flash) (outcome : FlashOutcome) → IsPlanOf (length cells) plan
-        → FormatsAt plan cells f → plan.step ≡ Filling (length cells) → Fails (Program 0 0 (Head 1)) outcome
-        → DoesOperation (Program 0 0 (Head 1)) outcome f g
+    ensures { (plan : FlashPlan) (cells : CellList) (f g : Flash) (outcome : FlashOutcome)
+        → IsPlanOf (length cells) plan → FormatsAt plan cells f → plan.step ≡ Filling (length cells)
+        → Fails (Program 0 0 (Head 1)) outcome → DoesOperation (Program 0 0 (Head 1)) outcome f g
         → CutFormatted (plan_layout plan (length cells)) cells (machine g off) }
+{}
+
+/// Once a format has erased all banks, and until its head is programmed, no start finds a store: neither after a loss
+/// of power between two operations, nor within the program of a cell.
+pub fn a_format_has_no_store_before_its_head()
+    ensures between { (plan : FlashPlan) (cells : CellList) (done : ℕ) (f after : Flash)
+        (read : ℕ → ℕ → Option FlashLine) → FormatsAt plan cells f → plan.step ≡ Filling done → LooksAll f read after
+        → ScanFinds (plan_layout plan (length cells)) read → ⊥ }
+    ensures within { (plan : FlashPlan) (cells : CellList) (done : ℕ) (line : FlashLine) (f g after : Flash)
+        (outcome : FlashOutcome) (read : ℕ → ℕ → Option FlashLine) → FormatsAt plan cells f → plan.step ≡ Filling done
+        → Fails (Program 0 (suc done) line) outcome → DoesOperation (Program 0 (suc done) line) outcome f g
+        → LooksAll g read after → ScanFinds (plan_layout plan (length cells)) read → ⊥ }
 {}

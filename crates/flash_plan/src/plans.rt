@@ -191,6 +191,7 @@ impl FlashPlan {
         ensures left { (n : ℕ) → operations_left n result ≤ banks * places + (n + 2) }
         ensures stands { (n : ℕ) (cells scratch : CellList) (f : Flash)
             → StandsAt (plan_layout result n) result cells scratch (machine f off) f }
+        ensures none { result.put ≡ None }
         ensures told { (told : PlaceAnswers) → IsTold told result }
     {
         FlashPlan {

@@ -1,2 +1,2 @@
 -- The lemmas that crates above cite.
-pub use Rattle.freshness_store.proofs.CellLaws.{one_bound}
+pub use Rattle.freshness_store.proofs.CellLaws.{no_slot, one_bound}

@@ -55,8 +55,8 @@ fn empty_in(places: &[Option<LedgerEntry>]) -> Option<usize>
     places.iter().position(|place| place.is_none())
 }
 
-// Whether an entry says more than the one that is held of its unit and slot: a higher counter, or the same, and it
-// alone is confirmed.
+/// Whether an entry says more than the one that is held of its unit and slot: a higher counter, or the same, and it
+/// alone is confirmed.
 fn says_more(held: &LedgerEntry, entry: &LedgerEntry) -> bool
     ensures { result ≡ says_more (Some held.now) entry.now }
 {

@@ -18,3 +18,4 @@ pub mod Values
 pub mod Phases
 pub mod Promises
 pub mod LoadAlone
+pub mod CallerLemmas

@@ -1,23 +1,26 @@
 //! The arguments of the command line, without the program's name: the subcommand that they ask for runs over the disk
 //! that they name, and without one the example.
 ghost use Rattle.std.specs.Prelude.{◌≡◌, ◌⊎◌, ◌<◌, ◌≤◌, [], length, map as each, option_map, string_bytes};
-ghost use Rattle.std.specs.Prelude.{if◌then◌else◌, bytes_eq, codes, Some, None};
+ghost use Rattle.std.specs.Prelude.{IfOk, OnErr};
+ghost use Rattle.file_disk.specs.NamedDisks.{DisksAreNamed};
 ghost use Rattle.key_commands.specs.declared.example.TheConstants.{EXAMPLE};
 ghost use Rattle.key_commands.specs.declared.subcommands.Subcommand.TheVariants.{Load};
 ghost use Rattle.key_commands.specs.Subcommands.{NamesSubcommand};
-ghost use Rattle.key_commands.specs.Files.{file_named, RunsWords, RunsWithFile, WantsFile};
+ghost use Rattle.key_commands.specs.Files.{NamesFile, NamesLoadDisk, RunsWords, RunsWithFile, WantsFile};
 
 use crate::example::run_example;
+use crate::parsing::parse;
 use crate::run::run_asked;
+use crate::subcommands::{Subcommand, subcommand_of};
 use bus_port::{Sink, Source};
 use file_disk::{DiskOpener, open_disks};
 use program_edge::NO_MEMORY;
 use std::alloc::{AllocError, Global};
 
-/// Runs the subcommand that the words ask for, as [`run_key`](crate::run_key) does, over the disk that the word after
-/// `load` opens, and gives the status that the program ends with, and that disk as the command left it; without a word
-/// it runs the example. Other words open no disk. If there is no memory for the disk nothing is read, written or
-/// opened.
+/// Runs the subcommand that the words ask for, as [`run_key`](crate::run_key) does, over the disk that the FILE of a
+/// load opens, and gives the status that the program ends with, and that disk as the command left it; without a word
+/// it runs the example. Other words, and words that aren't of a load's form, open no disk. If there is no memory for
+/// the disk nothing is read, written or opened.
 pub fn key_words<P: DiskOpener, S: Source, K: Sink>(
     alloc: Global,
     disk_opener: &mut P,
@@ -55,7 +58,7 @@ pub fn key_words<P: DiskOpener, S: Source, K: Sink>(
         let status = run_example(alloc, request, sink, &mut none);
         return (status, none);
     }
-    match open_disks(alloc, disk_opener, file_word(words)) {
+    match open_named(alloc, disk_opener, words) {
         Ok(opened) => {
             let mut disks = opened;
             let status = run_asked(alloc, words, request, sink, &mut disks);
@@ -68,20 +71,41 @@ pub fn key_words<P: DiskOpener, S: Source, K: Sink>(
     }
 }
 
-/// The word after `load`, whatever it is.
-fn file_word(words: &[String]) -> Option<&str>
-    ensures { option_map (λ w. w.now) result ≡ file_named (each string_bytes words.now) }
+/// The disk that the words name, opened once; none of words that name no file.
+fn open_named<P: DiskOpener>(
+    alloc: Global,
+    disk_opener: &mut P,
+    words: &[String],
+) -> Result<Vec<P::Opened>, AllocError>
+    ensures named { IfOk result (λ disks. NamesLoadDisk (P.opens disk_opener.old) (P.opened disk_opener.old)
+        (P.opened disk_opener.new) (each string_bytes words.now) (each P.Opened.state disks.items)) }
+    ensures asks { OnErr result (NamesSubcommand (each string_bytes words.now) Load) }
+    ensures unopened { OnErr result (P.opened disk_opener.new ≡ P.opened disk_opener.old) }
 {
-    match words {
-        [name, file, ..] => word_after(name.as_str(), file.as_str()),
-        _ => None,
+    let file = file_word(alloc, words)?;
+    open_disks(alloc, disk_opener, file)
+}
+
+/// The file that the words name.
+fn file_word<'a>(alloc: Global, words: &'a [String]) -> Result<Option<&'a str>, AllocError>
+    ensures names { IfOk result (λ file. NamesFile (each string_bytes words.entry.now)
+        (option_map (λ w. w.now) file)) }
+    ensures asks { OnErr result (NamesSubcommand (each string_bytes words.entry.now) Load) }
+{
+    match subcommand_of(words) {
+        Some(Subcommand::Load) => load_file(alloc, words),
+        _ => Ok(None),
     }
 }
 
-/// The second word, if the first is `load`.
-fn word_after<'a>(name: &str, file: &'a str) -> Option<&'a str>
-    ensures { option_map (λ w. w.now) result
-        ≡ (if bytes_eq name.now (codes "load") then Some file.entry.now else None) }
+/// The value FILE of a load, if clap takes its arguments.
+fn load_file<'a>(alloc: Global, words: &'a [String]) -> Result<Option<&'a str>, AllocError>
+    ensures names { NamesSubcommand (each string_bytes words.entry.now) Load
+        → IfOk result (λ file. NamesFile (each string_bytes words.entry.now) (option_map (λ w. w.now) file)) }
 {
-    if name == "load" { Some(file) } else { None }
+    match parse(alloc, Subcommand::Load, words) {
+        Ok(matches) => Ok(matches.get_str("FILE")),
+        Err(refusal) if refusal.status() == NO_MEMORY => Err(AllocError),
+        Err(_) => Ok(None),
+    }
 }

@@ -8,13 +8,19 @@ ghost use Rattle.cell_store.specs.Twin.{twin_size, cell_at};
 ghost use Rattle.memory_update.specs.Loading.{slot_of};
 ghost use Rattle.memory_update.specs.declared.messages.Reply.{Reply};
 ghost use Rattle.store_plan.specs.declared.planning.Plan.{Plan};
-ghost use Rattle.store_plan.specs.Plans.{CutWithin, IsEmptyPlan};
-ghost use Rattle.store_plan.specs.Leaving.{LeavesPut};
+ghost use Rattle.store_plan.specs.Plans.{CutWithin, PlansPut, IsEmptyPlan};
+ghost use Rattle.store_plan.specs.Leaving.{LeavesPut, IsImageOf};
+ghost use Rattle.flash_plan.specs.Plans.{IsIdle};
+ghost use Rattle.flash_calls.specs.Numbers.{plan_in};
+ghost use Rattle.flash_calls.specs.CallLives.{FlashSizes, CallState, CallDeed, CallLives, OperationsDone, TakesPut};
+ghost use Rattle.flash_calls.specs.CallLives.{IsFoundStore};
+ghost use Rattle.flash_images.specs.Putting.{TakesPutOnly};
 ghost use Rattle.rathonsi_c.specs.Images.{ImageSlot};
 ghost use Rattle.rathonsi_c.specs.Routes.{Reserves, ReceiveAnswers};
 ghost use Rattle.rathonsi_c.specs.Slots.{ConfirmsSlot};
 ghost use Rattle.rathonsi_c.specs.Stores.{IsWhole};
 ghost use Rattle.rathonsi_c.specs.Lives.{Memory, Deed, PoweredUp, Lives, OpensFilled, PowerBack, PlanDone, RisesTo};
+ghost use Rattle.rathonsi_c.specs.Lives.{FinishesPlan};
 ghost use Rattle.rathonsi_c.specs.Lives.{given_out, CounterCovered};
 ghost use Rattle.rathonsi_c.specs.Lives.{NoUpdatePlanned, PlannedAs, NoneBegun, planned_after, UpdateDone, SlotFilled};
 ghost use Rattle.rathonsi_c.specs.declared.TheConstants.{OK, RESERVE};
@@ -27,6 +33,23 @@ pub fn the_power_comes_back_on_a_device_of_bytes()
     ensures left { (plan : Plan) (image left : List ℕ) → CutWithin plan image left → LeavesPut plan image left }
     ensures back { (n : ℕ) (a b : Memory) → CutWithin a.plan a.image b.image → IsEmptyPlan b.plan
         → ((k : ℕ) → k < n → OpensFilled (a.routes k) b.image (b.routes k)) → PowerBack n a b }
+{}
+
+/// On NOR flash (`include/rathonsi_flash.h`) the power comes back so, too. The flash's plan was idle at `c` and is again
+/// at `d`; the image was made of the cells each time; and no put was handed in but that of the caller's plan. Whatever
+/// else happened in between, operations, failures, losses of power and starts, was `PowerBack` (`back`). So the laws
+/// over all lives hold of a store on flash. If the put was taken and only operations were performed since, the plan is
+/// done, and the image is that of the cells again (`done`).
+pub fn the_power_comes_back_on_a_flash()
+    ensures back { (n : ℕ) (s : FlashSizes) (deeds : List CallDeed) (cells : List (List ℕ)) (c d : CallState)
+        (a b : Memory) → IsFoundStore s cells c → CallLives s deeds c d → IsIdle (plan_in d.numbers)
+        → IsImageOf a.image c.cells → IsImageOf b.image d.cells → TakesPutOnly a.plan a.image deeds
+        → IsEmptyPlan b.plan
+        → ((k : ℕ) → k < n → OpensFilled (a.routes k) b.image (b.routes k)) → PowerBack n a b }
+    ensures done { (s : FlashSizes) (deeds : List CallDeed) (cells : List (List ℕ)) (i : ℕ) (new : List ℕ)
+        (c between d : CallState) (a b : Memory) → IsFoundStore s cells c → TakesPut i new c between
+        → OperationsDone deeds between d → IsIdle (plan_in d.numbers) → IsImageOf a.image c.cells
+        → PlansPut a.plan a.image i new → FinishesPlan a b → IsImageOf b.image d.cells }
 {}
 
 /// The freshness that a route sends, or accepts, strictly rises over all its lives, whenever the power goes. The caller

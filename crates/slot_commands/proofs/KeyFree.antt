@@ -6,8 +6,7 @@ use Rattle.key_slots.specs.declared.memory.Slot.TheVariants.{Filled}
 use Rattle.slot_disk.specs.Cell.{HoldsSlot}
 use Rattle.slot_disk.proofs.CallerLemmas.{one_slot}
 use Rattle.freshness_store.specs.Bound.{HoldsBound}
-use Rattle.freshness_store.proofs.CallerLemmas.{one_bound}
-use Rattle.freshness_store.proofs.CellLaws.{no_slot as slot_or_bound}
+use Rattle.freshness_store.proofs.CallerLemmas.{one_bound, no_slot as slot_or_bound}
 use Rattle.key_commands.specs.declared.finding.CountingStore.{CountingStore}
 use Rattle.slot_commands.specs.StoreWords.{slot_words}
 use Rattle.slot_commands.specs.Cells.{SaysCell, a_slot, a_bound, no_slot, no_bound}

@@ -14,7 +14,7 @@ use Rattle.program_edge.specs.Rows.{Row}
 use Rattle.key_commands.specs.declared.finding.CountingStore.{CountingStore}
 use Rattle.key_commands.specs.Counting.{StoreThatCounts}
 use Rattle.key_commands.specs.Opening.{layout_of}
-use Rattle.key_commands.proofs.EngineLaws.{counts_once}
+use Rattle.key_commands.proofs.CallerLemmas.{counts_once}
 use Rattle.slot_commands.specs.declared.tasks.ReplyAsked.{ReplyAsked}
 use Rattle.slot_commands.specs.declared.tasks.SlotTask.{SlotTask}
 use Rattle.slot_commands.specs.Cells.{slot_count, FindsInCell, damaged, no_slot_there, no_bound_there, good_slot, good_bound}

@@ -1,5 +1,6 @@
 -- What a check found, and whether it found nothing
-use Rattle.std.specs.Prelude.{ℕ, ◌↔◌, ◌≡◌, ◌⊎◌, ◌++◌, Bool, List, [], IsTrue, Option, None, Some, Result, Ok, Err, codes}
+use Rattle.std.specs.Prelude.{ℕ, ◌↔◌, ◌≡◌, ◌⊎◌, ◌++◌, Bool, List, [], IsTrue, Option, None, Some, codes}
+use Rattle.std.specs.Prelude.{Result, Ok, Err}
 use Rattle.cell_store.specs.declared.faults.StoreFault.{StoreFault}
 use Rattle.cell_store.specs.declared.faults.StoreFault.TheVariants as store
 use Rattle.program_edge.specs.Rows.{Row, memory_row}

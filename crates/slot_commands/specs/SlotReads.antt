@@ -10,7 +10,8 @@ use Rattle.slot_commands.specs.declared.tasks.SlotTask.TheVariants as task
 use Rattle.slot_commands.specs.SlotTasks.{slots_asked}
 use Rattle.slot_commands.specs.Stores.{ListsStore, ChecksStore, NoStoreIn, IsUnreadable}
 use Rattle.slot_commands.specs.Replies.{RepliesFrom}
-use Rattle.slot_commands.specs.SlotRows.{SlotInputs, slots_usage, slot_value_text, AsksOver, OverFile, OffersOver, DoesSlotTask}
+use Rattle.slot_commands.specs.SlotRows.{SlotInputs, slots_usage, slot_value_text, AsksOver}
+use Rattle.slot_commands.specs.SlotRows.{OverFile, OffersOver, DoesSlotTask}
 use Rattle.slot_commands.specs.SlotRows.{ComesOfSlots}
 
 -- what is promised of these inputs that ends so, in the order of the table of answers

@@ -18,8 +18,8 @@ use key_commands::{CountingStore, find_store};
 use program_edge::Refusal;
 use std::alloc::Global;
 
-/// Which store counts in these bytes, of at least fourteen cells and with room for them, and a disk of the bytes; or the
-/// first cause why none does.
+/// Which store counts in these bytes, of at least fourteen cells and with room for them, and a disk of the bytes.
+/// Errors: 9 and the first cause why none does, or 7 if memory is out.
 pub fn store_in(alloc: Global, bytes: &[u8]) -> Result<(CountingStore, MemDisk), Refusal>
     requires { length bytes.now ≤ 2 ^ 24 }
     ensures found { IfOk result (λ r. HasFound bytes.now r.0 (disk_of (contents r.1))) }

@@ -1,13 +1,13 @@
 //! `watch`: whether a bus is authentic and live, from its log, while it runs (AUTOSAR SecOC, profile 1).
 //!
-//! [`watch_commands::watch_words`] is the program, with the record `Watches`. Here it is handed the arguments, the
-//! files, standard input, standard output and standard error.
+//! [`watch_expect::start_watch`] is the program, with the records `Watches` and `Expects`. Here it is handed the
+//! arguments, the files, standard input, standard output and standard error.
 #![tactic(auto)]
 
 use program_edge::{NO_MEMORY, Paths, StdSink, StdSource, arguments};
 use std::alloc::AllocError;
 use std::process::ExitCode;
-use watch_commands::watch_words;
+use watch_expect::start_watch;
 
 fn main(rt: HostRuntime) -> ExitCode {
     let mut sink = StdSink::new(rt.stdout());
@@ -16,7 +16,7 @@ fn main(rt: HostRuntime) -> ExitCode {
     let mut input = Some(StdSource::new(rt.stdin()));
     let status = match arguments(&rt) {
         Ok(words) => {
-            let (status, _map, _log) = watch_words(
+            let (status, _kept, _map, _log) = start_watch(
                 rt.alloc(),
                 &mut opener,
                 &mut input,

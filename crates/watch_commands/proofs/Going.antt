@@ -19,8 +19,7 @@ use Rattle.trace_audit.specs.declared.auditing.FrameTally.{FrameTally}
 use Rattle.trace_audit.specs.declared.auditing.FrameTally.TheVariants as tally
 use Rattle.watch_commands.specs.declared.counts.WatchCounts.{WatchCounts}
 use Rattle.watch_commands.specs.WatchMaps.{NumberedMap}
-use Rattle.trace_audit.specs.Auditing.{Finding, other, too_short, verdict, finding_text, tally_of, finding_accepts, first_counters, counter_of_place, AuditsLine, is_accepted_tally}
-use Rattle.trace_audit.specs.Findings.{AddsFinding}
+use Rattle.trace_audit.specs.Auditing.{Finding, other, too_short, verdict, tally_of, finding_accepts, first_counters, counter_of_place, AuditsLine, is_accepted_tally}
 use Rattle.trace_audit.proofs.CallerLemmas.{AuditsLine-same, HasNoFeed, one_line, cut_more, take_twice, kept_whole, kept_long, one_more_line}
 use Rattle.trace_audit.specs.Pieces.{line_limit, log_lines, in_64_bits}
 use Rattle.watch_commands.specs.Watching.{WatchesLine, WatchesEach, none, more, FindsAll, told_text, found_text}
@@ -272,7 +271,7 @@ FindsMore-more old mid new piece next same first second = λ bytes findings w.
           (subst (Watched new ((bytes ++ piece) ++ next)) (append_assoc findings some rest) watched_all),
       text_all ∙ ap (λ t. t ++ found_text mid.mapping rest) text ∙ ap (λ (m : NumberedMap). (old.text ++ found_text old.mapping some) ++ found_text m rest) same
           ∙ append_assoc old.text (found_text old.mapping some) (found_text old.mapping rest)
-          ∙ ap (λ t. old.text ++ t) (sym (flat_map-append (told_text old.mapping.quiet) some rest)),
+          ∙ ap (λ t. old.text ++ t) (sym (flat_map-append (told_text old.mapping.options) some rest)),
     )
 
 -- bytes without a line feed
@@ -288,29 +287,34 @@ FindsMore-keeps old piece free = λ bytes findings w. (
 JudgesLine-text : (s : WatchState) → s ≡ record s { counters = s.counters; text = s.text ++ [] }
 JudgesLine-text s = ap (λ t. record s { text = t }) (sym (append-nil s.text))
 
+-- of a line that no line of the map judges nothing is printed, in either form
+nothing_told : (json : Bool) (text : List ℕ) → (if json then text else text) ++ text ≡ text ++ text
+nothing_told true text = refl
+nothing_told false text = refl
+
 pub JudgesLine-long : (s : WatchState) → line_limit < length s.line → JudgesLine s s (Some (tally.Other kind.Malformed))
-JudgesLine-long s long = (other kind.Malformed ∷ [], inl (long, refl), JudgesLine-text s, refl, refl, λ place inside. refl)
+JudgesLine-long s long = (
+  other kind.Malformed ∷ [],
+  inl (long, refl),
+  JudgesLine-text s ∙ ap (λ (t : List ℕ). record s { text = s.text ++ t }) (sym (nothing_told s.mapping.options.json [])),
+  refl,
+  refl,
+  λ place inside. refl,
+)
 
 pub JudgesLine-skipped : (s : WatchState) → length s.line ≤ line_limit → is_skipped (words_of s.line) ≡ true → JudgesLine s s None
 JudgesLine-skipped s few skipped = ([], inr (inl (few, skipped, refl)), JudgesLine-text s, refl, refl, λ place inside. refl)
 
--- what is left of a text that was added
-left_of : (left_out : Bool) (old added text new : List ℕ) → text ≡ old ++ added → new ≡ (if left_out then take (length old) text else text)
-    → new ≡ old ++ (if left_out then [] else added)
-left_of true old added text new is cut = cut ∙ ap (take (length old)) is ∙ take-append_seam old added ∙ sym (append-nil old)
-left_of false old added text new is cut = cut ∙ is
-
-pub JudgesLine-found : (s : WatchState) (counters text told : List ℕ) (counts : FrameTally) → length s.line ≤ line_limit → is_skipped (words_of s.line) ≡ false
-    → AddsFinding s.mapping.lines s.counters counters (record { number = s.lines; words = words_of s.line }) s.text text counts
-    → told ≡ (if is_accepted_tally counts && s.mapping.quiet then take (length s.text) text else text)
-    → JudgesLine s (record s { counters = counters; text = told }) (Some counts)
-JudgesLine-found s counters text told counts few kept (finding, finds, text_is, counts_is, as_many, behind) cut = (
+pub JudgesLine-found : (s : WatchState) (counters text : List ℕ) (counts : FrameTally) (finding : Finding) → length s.line ≤ line_limit → is_skipped (words_of s.line) ≡ false
+    → AuditsLine s.mapping.lines (slice_index s.counters) (record { number = s.lines; words = words_of s.line }) finding
+    → counts ≡ tally_of finding → length counters ≡ length s.counters
+    → ((place : ℕ) → place < length s.counters → slice_index counters place ≡ next_counter place (slice_index s.counters place) (finding_accepts finding))
+    → text ≡ s.text ++ told_text s.mapping.options finding
+    → JudgesLine s (record s { counters = counters; text = text }) (Some counts)
+JudgesLine-found s counters text counts finding few kept finds counts_is as_many behind text_is = (
   finding ∷ [],
   inr (inr (few, kept, (finding, refl, finds))),
-  ap (λ t. record s { counters = counters; text = t })
-      (left_of (is_accepted_tally (tally_of finding) && s.mapping.quiet) s.text (finding_text finding) text told text_is
-      (cut ∙ ap (λ (t : FrameTally). if is_accepted_tally t && s.mapping.quiet then take (length s.text) text else text) counts_is)
-      ∙ ap (λ t. s.text ++ t) (sym (append-nil (told_text s.mapping.quiet finding)))),
+  ap (λ t. record s { counters = counters; text = t }) (text_is ∙ ap (λ t. s.text ++ t) (sym (append-nil (told_text s.mapping.options finding)))),
   as_many,
   ap Some counts_is,
   behind,
@@ -392,7 +396,7 @@ module _ (mapping : NumberedMap) (one two : LineTotals)
 -- the text at the end of a log is that of what was found
 pub end_text_is : (state : WatchState) (bytes : List ℕ) (findings : List Finding) → Watched state bytes findings → end_text state ≡ totals_text state.mapping findings
 end_text_is state bytes findings w =
-    ap (λ t. t ++ counts_text state.counts)
+    ap (λ t. t ++ counts_text state.mapping.options.json state.counts)
     (same_totals state.mapping (totals_in state) (totals_of state.mapping findings) w.accepted_are w.failed_are w.counters_are)
     ∙ ap (λ (counts : WatchCounts). totals_text_of state.mapping (totals_of state.mapping findings) counts) w.counts_are
 

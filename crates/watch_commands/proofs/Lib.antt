@@ -1,4 +1,6 @@
 pub mod Parts
+pub mod Objects
+pub mod Answering
 pub mod TotalVectors
 pub mod Places
 pub mod Going

@@ -11,6 +11,11 @@ five_parts o a b c d e t1 t2 t3 t4 t5 p q r s t =
     ∙ ap (λ (x : List ℕ). x ++ e) (append_assoc o ((a ++ b) ++ c) d)
     ∙ append_assoc o (((a ++ b) ++ c) ++ d) e
 
+pub six_parts : (o a b c d e f t1 t2 t3 t4 t5 t6 : List ℕ) → t1 ≡ o ++ a → t2 ≡ t1 ++ b → t3 ≡ t2 ++ c → t4 ≡ t3 ++ d → t5 ≡ t4 ++ e → t6 ≡ t5 ++ f
+    → t6 ≡ o ++ (((((a ++ b) ++ c) ++ d) ++ e) ++ f)
+six_parts o a b c d e f t1 t2 t3 t4 t5 t6 p q r s t u =
+    u ∙ ap (λ (x : List ℕ). x ++ f) (five_parts o a b c d e t1 t2 t3 t4 t5 p q r s t) ∙ append_assoc o ((((a ++ b) ++ c) ++ d) ++ e) f
+
 pub three_parts : (o a b c t1 t2 t3 : List ℕ) → t1 ≡ o ++ a → t2 ≡ t1 ++ b → t3 ≡ t2 ++ c → t3 ≡ o ++ ((a ++ b) ++ c)
 three_parts o a b c t1 t2 t3 p q r =
     r

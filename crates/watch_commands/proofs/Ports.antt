@@ -19,7 +19,7 @@ use Rattle.watch_commands.specs.Watching.{told_text, found_text, FindsComplete, 
 use Rattle.watch_commands.specs.WatchTotals.{totals_text, watch_status}
 use Rattle.trace_audit.specs.Pieces.{PutsPiece}
 use Rattle.watch_commands.specs.States.{WatchState, Watched}
-use Rattle.watch_commands.specs.WatchRows.{Writing, done, FailsOfLog, failed, too_long, log_failed_text, log_too_long_text, EndsLog}
+use Rattle.watch_commands.specs.WatchRows.{Writing, ReadsToEnd, done, FailsOfLog, failed, too_long, log_failed_text, log_too_long_text, EndsLog}
 use Rattle.watch_commands.specs.WatchSteps.{Ports, SoFar}
 
 -- if no fault of the log was counted, its count didn't rise
@@ -79,7 +79,7 @@ module _ (first log later : SourceState) (start sink next : SinkState) (old new 
     calm = calm ∙ so_far.calm;
     watched = watched;
     prints = subst (λ (m : NumberedMap). AppendedWell start next (found_text m (findings ++ more))) (sym same)
-        (subst (AppendedWell start next) (sym (flat_map-append (told_text old.mapping.quiet) findings more))
+        (subst (AppendedWell start next) (sym (flat_map-append (told_text old.mapping.options) findings more))
         (AppendedWell-more start sink next (found_text old.mapping findings) (found_text old.mapping more) so_far.prints prints));
   }
 
@@ -108,12 +108,8 @@ module _ (first log later : SourceState) (start sink next : SinkState) (old new 
   came_no_more so_far nothing = subst (Came first later) (append-nil bytes) (Came-more so_far.came nothing)
 
   -- nothing came: this was the end of the log
-  pub Ends-done : (room left : List ℕ) (more : List Finding) (status : ℕ) → SoFar before old bytes findings → HandsOut log later room left 0 → 0 < length room
-      → FindsAll old.mapping.lines bytes (findings ++ more)
-      → EndingTold sink next (found_text old.mapping more ++ totals_text old.mapping (findings ++ more)) (watch_status old.mapping (findings ++ more)) status
-      → EndsLog old.mapping reading written (Ok status)
-  Ends-done room left more status so_far hands some finds told =
-      let all : List Finding = findings ++ more in
+  pub at_end : (room left : List ℕ) → SoFar before old bytes findings → HandsOut log later room left 0 → 0 < length room → ReadsToEnd reading bytes
+  at_end room left so_far hands some =
       let whole : (text : List ℕ) → first.told ≡ Some text → (bytes ≡ text) × (later.told ≡ Some []) =
       λ text is_told.
       let here = so_far.came.next text is_told in
@@ -121,13 +117,20 @@ module _ (first log later : SourceState) (start sink next : SinkState) (old new 
       let behind = hands.came.next here.0 here.1 in
       let last : behind.0 ≡ [] = sym behind.2 ∙ gone in
       (sym (here.2 ∙ ap (λ r. bytes ++ r) gone ∙ append-nil bytes), behind.1 ∙ ap Some last) in
+      record { came = came_no_more so_far hands.came; within = omega arith; no_fault = hands.no_fault ∙ so_far.calm; whole = whole }
+
+  pub Ends-done : (room left : List ℕ) (more : List Finding) (status : ℕ) → SoFar before old bytes findings → HandsOut log later room left 0 → 0 < length room
+      → FindsAll old.mapping.lines bytes (findings ++ more)
+      → EndingTold sink next (found_text old.mapping more ++ totals_text old.mapping (findings ++ more)) (watch_status old.mapping (findings ++ more)) status
+      → EndsLog old.mapping reading written (Ok status)
+  Ends-done room left more status so_far hands some finds told =
+      let all : List Finding = findings ++ more in
       let text_is : found_text old.mapping findings ++ (found_text old.mapping more ++ totals_text old.mapping all) ≡ found_text old.mapping all ++ totals_text old.mapping all =
       sym (append_assoc (found_text old.mapping findings) (found_text old.mapping more) (totals_text old.mapping all))
-      ∙ ap (λ t. t ++ totals_text old.mapping all) (sym (flat_map-append (told_text old.mapping.quiet) findings more)) in
+      ∙ ap (λ t. t ++ totals_text old.mapping all) (sym (flat_map-append (told_text old.mapping.options) findings more)) in
       inl (record {
         row = row_of (watch_status old.mapping all) (found_text old.mapping all ++ totals_text old.mapping all);
-        comes = done bytes all
-            (record { came = came_no_more so_far hands.came; within = omega arith; no_fault = hands.no_fault ∙ so_far.calm; whole = whole }) finds;
+        comes = done bytes all (at_end room left so_far hands some) finds;
         told = subst (λ t. EndingTold start next t (watch_status old.mapping all) status) text_is
             (told_more start sink next (found_text old.mapping findings) (found_text old.mapping more ++ totals_text old.mapping all) (watch_status old.mapping all) status so_far.prints told);
       })

@@ -13,7 +13,8 @@ use Rattle.watch_commands.specs.WatchMaps.{NumberedMap}
 use Rattle.trace_audit.specs.Pieces.{log_lines}
 use Rattle.watch_commands.specs.Watching.{FindsComplete, told_text, found_text}
 use Rattle.watch_commands.specs.WatchTotals.{totals_text}
-use Rattle.watch_commands.specs.WatchRows.{AsksWatch, ReadsWatchMap, HasCome, Writing, WritesWhole, ending_of, WatchEnding, ComesOfLog, done, FailsOfLog, failed, too_long, Stops, OverMap, ComesOnOutput, asked, of_log, ComesOnErrors, no_form, no_map, map_fault, no_log, EndsWatch}
+use Rattle.watch_commands.specs.Words.{AsksWatch}
+use Rattle.watch_commands.specs.WatchRows.{ReadsWatchMap, HasCome, Writing, WritesWhole, ending_of, WatchEnding, ComesOfLog, done, FailsOfLog, failed, too_long, Stops, OverMap, ComesOnOutput, asked, of_log, ComesOnErrors, no_form, no_map, map_fault, no_log, EndsWatch}
 use Rattle.watch_commands.specs.Watches.{PrintsRising}
 use Rattle.watch_commands.proofs.WatchRising.{all_rise}
 
@@ -30,7 +31,7 @@ front_of_all : (mapping : NumberedMap) (findings more : List Finding) (size : �
     ≡ take (length (found_text mapping findings) + size) (found_text mapping (findings ++ more) ++ [])
 front_of_all mapping findings more size =
     let all : found_text mapping findings ++ found_text mapping more ≡ found_text mapping (findings ++ more) ++ [] =
-    sym (flat_map-append (told_text mapping.quiet) findings more) ∙ sym (append-nil (found_text mapping (findings ++ more))) in
+    sym (flat_map-append (told_text mapping.options) findings more) ∙ sym (append-nil (found_text mapping (findings ++ more))) in
     sym (take-append-add (found_text mapping findings) (found_text mapping more) size)
     ∙ ap (λ (text : List ℕ). take (length (found_text mapping findings) + size) text) all
 

@@ -81,7 +81,7 @@ entry optional = record {
 
 -- two lines, at 3 and 5 of the map's text
 mapping : Bool → Bool → NumberedMap
-mapping first second = record { lines = entry first ∷ entry second ∷ []; numbers = 3 ∷ 5 ∷ []; quiet = false }
+mapping first second = record { lines = entry first ∷ entry second ∷ []; numbers = 3 ∷ 5 ∷ []; options = record { quiet = false; json = false } }
 
 -- freshness 12 and 15 for the first line, a failure, a frame that is too short, and a remote frame
 found : List Finding
@@ -118,5 +118,5 @@ a_failure_comes_first : watch_status (mapping false false) found ≡ 1
 unfolding mapping found entry
 a_failure_comes_first = refl
 
-no_lines : watch_status (record { lines = []; numbers = []; quiet = false }) [] ≡ 3
+no_lines : watch_status (record { lines = []; numbers = []; options = record { quiet = false; json = false } }) [] ≡ 3
 no_lines = refl

@@ -1,5 +1,5 @@
 -- The two phases of a run, put together
-use Rattle.std.proofs.Common.{◌≡◌, Bool, ◌≤◌, ◌+◌, ℕ, List, [], ◌∷◌, ◌++◌, length, inl, inr, refl, subst, sym, ◌∙◌, ap, arith, length-append}
+use Rattle.std.proofs.Common.{◌≡◌, ◌≤◌, ◌+◌, ℕ, List, [], ◌∷◌, ◌++◌, length, inl, inr, refl, subst, sym, ◌∙◌, ap, arith, length-append}
 use Rattle.std.specs.Prelude.{Result, Ok, Err, IfOk, IfErr}
 use Rattle.std.proofs.lemmas.List.{length-map}
 use Rattle.bus_port.specs.Sink.{SinkState}
@@ -19,15 +19,17 @@ use Rattle.trace_audit.specs.MapLines.{most_map_lines}
 use Rattle.watch_commands.specs.MapFaults.{IsMapRowOf, NoMapLines}
 use Rattle.watch_commands.specs.WatchSteps.{LacksWatchMap, no_map, refused, ReadsWatchSource}
 use Rattle.watch_commands.specs.WatchMaps.{NumberedMap, IsMapOf, line_numbers, watch_line_of, watch_map_of}
-use Rattle.watch_commands.specs.WatchRows.{AsksWatch, Writing, IsUnwritten, ending_of, ComesOfLog, FailsOfLog, Stops, EndsLog, OverMap, of_log, ComesOnErrors, no_log, EndsUntold, EndsWatch}
+use Rattle.watch_commands.specs.declared.options.WatchOptions.{WatchOptions}
+use Rattle.watch_commands.specs.Words.{AsksWatch}
+use Rattle.watch_commands.specs.WatchRows.{Writing, IsUnwritten, ending_of, ComesOfLog, FailsOfLog, Stops, EndsLog, OverMap, of_log, ComesOnErrors, no_log, EndsUntold, EndsWatch}
 use Rattle.watch_commands.specs.WatchRows as row
 
 -- the map that was read whole, or why there is none
-pub ReadsWatchSource-read : (quiet : Bool) (map : Reading) (text : List ℕ) (result : Result NumberedMap Row) → ReadsWhole map text
-    → IfOk result (IsMapOf quiet text) → IfErr result (NoMapLines (watch_map_of text)) → ReadsWatchSource quiet map result
-ReadsWatchSource-read quiet map text (Ok mapping) whole is well = (text, whole, is)
-ReadsWatchSource-read quiet map text (Err row) whole ok (inl (fault, is, row_is)) = subst (LacksWatchMap map) (sym row_is) (refused fault (text, whole, is))
-ReadsWatchSource-read quiet map text (Err row) whole ok (inr memory) = subst (LacksWatchMap map) (sym memory) (no_map input.Memory (Lacks-whole map text whole))
+pub ReadsWatchSource-read : (options : WatchOptions) (map : Reading) (text : List ℕ) (result : Result NumberedMap Row) → ReadsWhole map text
+    → IfOk result (IsMapOf options text) → IfErr result (NoMapLines (watch_map_of text)) → ReadsWatchSource options map result
+ReadsWatchSource-read options map text (Ok mapping) whole is well = (text, whole, is)
+ReadsWatchSource-read options map text (Err row) whole ok (inl (fault, is, row_is)) = subst (LacksWatchMap map) (sym row_is) (refused fault (text, whole, is))
+ReadsWatchSource-read options map text (Err row) whole ok (inr memory) = subst (LacksWatchMap map) (sym memory) (no_map input.Memory (Lacks-whole map text whole))
 
 -- the row of a map whose lines are refused
 pub no_map_lines : {A : Type 0} (meaning : Result (List A) Fault) (fault : ScriptFault) (row : Row) → Gives meaning (Err fault) → IsMapRowOf fault row → NoMapLines meaning row

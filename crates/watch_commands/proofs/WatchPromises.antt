@@ -1,8 +1,9 @@
 -- What a run that ends so promises
-use Rattle.std.proofs.Common.{◌≡◌, ◌⊎◌, ℕ, ◌<◌, ◌≤◌, Bool, true, false, List, [], ◌∷◌, length, inl, inr, refl, sym, ◌∙◌, ap, subst, arith}
-use Rattle.std.specs.Prelude.{None, Some, Ok, Err, codes, if◌then◌else◌, nat_lt, ◌==◌, bytes_eq}
+use Rattle.std.proofs.Common.{◌≡◌, ◌⊎◌, ℕ, ◌<◌, ◌≤◌, Bool, true, false, List, [], ◌∷◌, length, drop, inl, inr, refl, sym, ◌∙◌, ap, subst, arith}
+use Rattle.std.specs.Prelude.{None, Some, Ok, Err, if◌then◌else◌, nat_lt, ◌==◌, is_some}
 use Rattle.std.proofs.lemmas.Bool.Decides.{nat_tests}
 use Rattle.std.proofs.lemmas.Option.{same_Some}
+use Rattle.std.proofs.lemmas.List.{length-drop}
 use Rattle.bus_port.specs.Fault.{last_count}
 use Rattle.bus_port.specs.Source.{SourceState, Came}
 use Rattle.bus_port.specs.Sink.{SinkState}
@@ -19,9 +20,10 @@ use Rattle.trace_audit.specs.declared.map_lines.MapLine.{MapLine}
 use Rattle.trace_audit.specs.Auditing.{Finding}
 use Rattle.trace_audit.specs.Rows.{AuditInputs}
 use Rattle.watch_commands.specs.MapFaults.{map_fault_text, map_input_text}
+use Rattle.watch_commands.specs.Words.{watch_usage, flags_before, behind_flags, kept_first, behind_kept, watch_inputs, AsksWatch, text_asked}
 use Rattle.watch_commands.specs.WatchMaps.{NumberedMap, watch_map_of}
 use Rattle.watch_commands.specs.WatchTotals.{is_failed_tally, is_accepted_at, count_of, are_heard, watch_status}
-use Rattle.watch_commands.specs.WatchRows.{watch_usage, AsksWatch, text_asked, ReadsWatchMap, IsWatchMapFault, IsUnwritten, WritesWhole, WatchEnding, on_output, on_errors}
+use Rattle.watch_commands.specs.WatchRows.{ReadsWatchMap, IsWatchMapFault, IsUnwritten, WritesWhole, WatchEnding, on_output, on_errors}
 use Rattle.watch_commands.specs.WatchRows.{ComesOfLog, done, FailsOfLog, failed, too_long, log_failed_text, log_too_long_text, Stops, FailsBoth, OverMap}
 use Rattle.watch_commands.specs.WatchRows.{ComesOnOutput, asked, of_log, ComesOnErrors, no_form, no_map, map_fault, no_log, EndsWatch}
 use Rattle.watch_commands.specs.Watches.{IsAnswer, AnswersLog, HoldsNothingBack, Watches}
@@ -50,14 +52,19 @@ above_3 status above = λ is. omega (arith, above, (answer_few status is).0)
 
 -- ---- words
 
-one_word : (quiet : Bool) (word : List ℕ) → length (if quiet then [] else word ∷ []) ≡ 2 → ⊥
-one_word true word is = omega (arith, is)
-one_word false word is = omega (arith, is)
-
 -- words that ask for a watch ask for no text
-asks_no_text : (words : List (List ℕ)) (text : List ℕ) → AsksWatch words → text_asked words ≡ Some text → ⊥
-asks_no_text [] text asks is = omega (arith, asks)
-asks_no_text (word ∷ []) text asks is = one_word (bytes_eq word (codes "--quiet")) word asks
+few_behind : (b : Bool) (words : List (List ℕ)) → length (if b then drop 2 words else words) ≤ length words
+few_behind true words = omega (arith, length-drop 2 words)
+few_behind false words = omega arith
+
+few_inputs : (words : List (List ℕ)) → length (watch_inputs words) ≤ length words
+few_inputs words =
+    let behind : List (List ℕ) = behind_flags words in
+    omega (arith, length-drop (flags_before words) words, few_behind (is_some (kept_first behind)) behind, length-drop (flags_before (behind_kept behind)) (behind_kept behind))
+
+pub asks_no_text : (words : List (List ℕ)) (text : List ℕ) → AsksWatch words → text_asked words ≡ Some text → ⊥
+asks_no_text [] text asks is = omega (arith, asks, few_inputs [])
+asks_no_text (word ∷ []) text asks is = omega (arith, asks, few_inputs (word ∷ []))
 asks_no_text (word ∷ next ∷ rest) text asks is = let clash : None ≡ Some text = is in cc
 
 module _ (i : AuditInputs) (e : WatchEnding) where

@@ -1,3 +1,6 @@
+pub mod Words
+pub mod Objects
+pub mod Answers
 pub mod MapFaults
 pub mod WatchMaps
 pub mod WatchTotals

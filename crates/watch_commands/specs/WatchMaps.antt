@@ -11,6 +11,7 @@ use Rattle.text_lines.specs.Forms.{number_form}
 use Rattle.text_lines.specs.Lines.{lines_of}
 use Rattle.text_lines.specs.Readings.{Fault, ◌>>=◌, field, nth_word, read_all}
 use Rattle.trace_audit.specs.declared.map_lines.MapLine.{MapLine}
+use Rattle.watch_commands.specs.declared.options.WatchOptions.{WatchOptions}
 use Rattle.trace_audit.specs.MapLines.{can_form, line_with, most_map_lines}
 use Rattle.trace_audit.specs.Frames.{is_data_can}
 
@@ -101,18 +102,17 @@ watch_line_of before words = counted_line_of (words_to true words) (words_to fal
 unfoldable pub watch_map_of : List ℕ → Result (List MapLine) Fault
 watch_map_of text = read_all watch_line_of most_map_lines text
 
--- what is watched for: the lines of a map, and the number of each in the text of the map; and whether accepted frames
--- are left out of what is printed
+-- what is watched for: the lines of a map, and the number of each in the text of the map; and how findings are printed
 pub record NumberedMap : Type 0 where
   pub lines : List MapLine
   pub numbers : List ℕ
-  pub quiet : Bool
+  pub options : WatchOptions
 
 -- the numbers of the lines that aren't skipped
 abbrev pub line_numbers : List ℕ → List ℕ
 line_numbers text = map (λ l. l.number) (lines_of text)
 
 -- a text is this map, watched so
-abbrev pub IsMapOf : Bool → List ℕ → NumberedMap → Type 0
-IsMapOf quiet text mapping =
-    (watch_map_of text ≡ Ok mapping.lines) × (mapping.numbers ≡ line_numbers text) × (mapping.quiet ≡ quiet)
+abbrev pub IsMapOf : WatchOptions → List ℕ → NumberedMap → Type 0
+IsMapOf options text mapping =
+    (watch_map_of text ≡ Ok mapping.lines) × (mapping.numbers ≡ line_numbers text) × (mapping.options ≡ options)

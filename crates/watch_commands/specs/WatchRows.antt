@@ -1,6 +1,6 @@
 -- The table of answers of `watch`: its rows, and when each comes
-use Rattle.std.specs.Prelude.{◌≡◌, ◌⊎◌, ℕ, ◌<◌, ◌≤◌, Bool, false, if◌then◌else◌, Option, None, Some, Result, Ok, Err}
-use Rattle.std.specs.Prelude.{List, [], ◌∷◌, ◌++◌, length, take, codes, bytes_eq}
+use Rattle.std.specs.Prelude.{◌≡◌, ◌⊎◌, ℕ, ◌<◌, ◌≤◌, None, Some, Result, Ok, Err}
+use Rattle.std.specs.Prelude.{List, ◌++◌, length, take, codes}
 use Rattle.bus_port.specs.Fault.{last_count}
 use Rattle.bus_port.specs.Source.{Came}
 use Rattle.bus_port.specs.Sink.{SinkState, Appended}
@@ -13,48 +13,18 @@ use Rattle.program_edge.specs.Rows.{Row, row_of}
 use Rattle.program_edge.specs.Inputs.{Reading, IsUnread, ReadsWhole, Lacks, SourceFailed}
 use Rattle.program_edge.specs.Endings.{Ending, EndsInRow, SinkFailed}
 use Rattle.trace_audit.specs.Auditing.{Finding}
-use Rattle.trace_audit.specs.Rows.{AuditInputs, NamesInputs, IsMapFaultBy}
-use Rattle.watch_commands.specs.declared.run.TheConstants.{HELP, VERSION}
+use Rattle.trace_audit.specs.Rows.{AuditInputs, IsMapFaultBy}
 use Rattle.watch_commands.specs.MapFaults.{map_input_row, map_line_row}
+use Rattle.watch_commands.specs.Words.{watch_usage, watch_options, AsksWatch, text_asked}
 use Rattle.watch_commands.specs.WatchMaps.{NumberedMap, watch_map_of, IsMapOf}
 use Rattle.watch_commands.specs.Watching.{found_text, FindsComplete, FindsAll}
 use Rattle.watch_commands.specs.WatchTotals.{totals_text, watch_status}
 
--- the line that is printed if the words aren't two
-abbrev pub watch_usage : List ℕ
-watch_usage = line (codes "usage: watch [--quiet] MAP LOG")
-
--- the first word is `--quiet`
-abbrev pub is_quiet : List (List ℕ) → Bool
-is_quiet [] = false
-is_quiet (first ∷ rest) = bytes_eq first (codes "--quiet")
-
--- the words behind it
-abbrev pub watch_inputs : List (List ℕ) → List (List ℕ)
-watch_inputs [] = []
-watch_inputs (first ∷ rest) = if bytes_eq first (codes "--quiet") then rest else first ∷ rest
-
--- two words ask for the watch of the map and the log that they name; `--quiet` may stand before them
-abbrev pub AsksWatch : List (List ℕ) → Type 0
-AsksWatch words = NamesInputs (watch_inputs words)
-
--- there is one word, and it is this
-abbrev pub is_only_word : List ℕ → List (List ℕ) → Bool
-is_only_word word [] = false
-is_only_word word (only ∷ []) = bytes_eq only word
-is_only_word word (only ∷ next ∷ rest) = false
-
--- the text that `--help` or `--version` alone ask for
-abbrev pub text_asked : List (List ℕ) → Option (List ℕ)
-text_asked words =
-    if is_only_word (codes "--help") words then Some HELP.now
-    else if is_only_word (codes "--version") words then Some VERSION.now
-    else None
-
--- the map was read whole, and has these lines with these numbers; accepted frames are left out if the words say so
+-- the map was read whole, and has these lines with these numbers; what is found is printed as the
+-- words say
 abbrev pub ReadsWatchMap : AuditInputs → NumberedMap → Type 0
 ReadsWatchMap i mapping =
-    (text : List ℕ) × ReadsWhole i.map text × IsMapOf (is_quiet i.words) text mapping
+    (text : List ℕ) × ReadsWhole i.map text × IsMapOf (watch_options i.words) text mapping
 
 -- the map was read whole, and this is its first fault
 abbrev pub IsWatchMapFault : Reading → Fault → Type 0

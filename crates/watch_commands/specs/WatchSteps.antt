@@ -1,5 +1,5 @@
 -- What the steps of a run of `watch` say to one another
-use Rattle.std.specs.Prelude.{◌≡◌, ℕ, ◌<◌, Bool, List, [], ◌++◌, length, Option, None, Some, Result, Ok, Err}
+use Rattle.std.specs.Prelude.{◌≡◌, ℕ, ◌<◌, List, [], ◌++◌, length, Option, None, Some, Result, Ok, Err}
 use Rattle.bus_port.specs.Source.{Came}
 use Rattle.bus_port.specs.Sink.{SinkState}
 use Rattle.program_edge.specs.Told.{AppendedWell}
@@ -9,6 +9,7 @@ use Rattle.program_edge.specs.declared.input.InputFault.{InputFault}
 use Rattle.text_lines.specs.Readings.{Fault}
 use Rattle.trace_audit.specs.Auditing.{Finding}
 use Rattle.trace_audit.specs.Rows.{AuditInputs}
+use Rattle.watch_commands.specs.declared.options.WatchOptions.{WatchOptions}
 use Rattle.watch_commands.specs.Watching.{found_text}
 use Rattle.watch_commands.specs.States.{WatchState, Watched}
 use Rattle.watch_commands.specs.MapFaults.{map_input_row, map_line_row}
@@ -21,10 +22,10 @@ pub data LacksWatchMap (map : Reading) : Row → Type 0 where
   refused : (fault : Fault) → IsWatchMapFault map fault → LacksWatchMap map (map_line_row fault)
 
 -- the whole map with the numbers of its lines, or why there is none
-abbrev pub ReadsWatchSource : Bool → Reading → Result NumberedMap Row → Type 0
-ReadsWatchSource quiet map (Ok mapping) =
-    (text : List ℕ) × ReadsWhole map text × IsMapOf quiet text mapping
-ReadsWatchSource quiet map (Err row) = LacksWatchMap map row
+abbrev pub ReadsWatchSource : WatchOptions → Reading → Result NumberedMap Row → Type 0
+ReadsWatchSource options map (Ok mapping) =
+    (text : List ℕ) × ReadsWhole map text × IsMapOf options text mapping
+ReadsWatchSource options map (Err row) = LacksWatchMap map row
 
 -- how the words and the map end: in the watch of this map before the log, or in a row that comes on standard error, if
 -- nothing was written to standard output

@@ -81,32 +81,46 @@ counts_of findings = record {
 abbrev pub named : List ℕ → ℕ → List ℕ
 named name number = name ++ decimal number
 
--- a line of them
-abbrev pub count_line : List ℕ → ℕ → List ℕ
-count_line name number = line (named name number)
+-- what stands before a value: in an object of JSON, or in a line of words
+abbrev pub before_value : Bool → List ℕ → List ℕ → List ℕ
+before_value json object words = if json then object else words
 
--- a line for each of the five numbers
-abbrev pub counts_text : WatchCounts → List ℕ
-counts_text counts =
-    count_line (codes "accepted ") counts.accepted ++ count_line (codes "failed ") counts.failed
-    ++ count_line (codes "unmapped ") counts.unmapped ++ count_line (codes "other frames ") counts.other_frames
-    ++ count_line (codes "malformed ") counts.malformed
+-- one of the five numbers: on a line of its own, or in the one object
+abbrev pub count_text : Bool → List ℕ → List ℕ → ℕ → List ℕ
+count_text json object words number =
+    named (before_value json object words) number ++ before_value json [] (line [])
+
+-- a line for each of the five numbers, or an object
+abbrev pub counts_text : Bool → WatchCounts → List ℕ
+counts_text json counts =
+    count_text json (codes "{\"accepted\":") (codes "accepted ") counts.accepted
+    ++ count_text json (codes ",\"failed\":") (codes "failed ") counts.failed
+    ++ count_text json (codes ",\"unmapped\":") (codes "unmapped ") counts.unmapped
+    ++ count_text json (codes ",\"other frames\":") (codes "other frames ") counts.other_frames
+    ++ count_text json (codes ",\"malformed\":") (codes "malformed ") counts.malformed
+    ++ before_value json (line (codes "}")) []
 
 -- the number of a line of the map, its name or else its CAN identifier, and its Data ID
-abbrev pub line_head : ℕ → MapLine → List ℕ
-line_head number entry =
-    named (codes "line ") number ++ codes " " ++ row_head entry ++ codes " " ++ encode_lower (bytes_of 2 entry.id)
+abbrev pub line_head : Bool → ℕ → MapLine → List ℕ
+line_head json number entry =
+    named (before_value json (codes "{\"line\":") (codes "line ")) number
+    ++ before_value json (codes ",\"name\":\"") (codes " ") ++ row_head entry
+    ++ before_value json (codes "\",\"id\":\"") (codes " ") ++ encode_lower (bytes_of 2 entry.id)
 
 -- the freshness that was accepted last, as FRESH of a map
-abbrev pub last_text : ℕ → List ℕ
-last_text last = line (codes " last " ++ encode_lower (bytes_of 8 last))
+abbrev pub last_text : Bool → ℕ → List ℕ
+last_text json last =
+    before_value json (codes ",\"last\":\"") (codes " last ") ++ encode_lower (bytes_of 8 last)
+    ++ before_value json (line (codes "\"}")) (line [])
 
 -- the numbers of a line of the map: how many frames it accepted, how many it didn't, how many values of freshness above
 -- the map's and up to the last one weren't accepted, and that last one
-abbrev pub total_line : ℕ → ℕ → ℕ → ℕ → MapLine → List ℕ
-total_line number accepted failed last entry =
-    line_head number entry ++ named (codes " accepted ") accepted ++ named (codes " failed ") failed
-    ++ named (codes " missed ") (last - entry.counter - accepted) ++ last_text last
+abbrev pub total_line : Bool → ℕ → ℕ → ℕ → ℕ → MapLine → List ℕ
+total_line json number accepted failed last entry =
+    line_head json number entry ++ named (before_value json (codes "\",\"accepted\":") (codes " accepted ")) accepted
+    ++ named (before_value json (codes ",\"failed\":") (codes " failed ")) failed
+    ++ named (before_value json (codes ",\"missed\":") (codes " missed ")) (last - entry.counter - accepted)
+    ++ last_text json last
 
 -- what is known of the lines of a map, by their places: how many frames each accepted, how many it didn't, and the
 -- freshness that it accepted last
@@ -118,7 +132,8 @@ pub record LineTotals : Type 0 where
 -- the numbers of the line at a place
 abbrev pub total_line_at : NumberedMap → LineTotals → ℕ → List ℕ
 total_line_at mapping totals place = unwrap_or (option_map
-    (total_line (slice_index mapping.numbers place) (totals.accepted place) (totals.failed place) (totals.last place))
+    (total_line mapping.options.json (slice_index mapping.numbers place) (totals.accepted place) (totals.failed place)
+    (totals.last place))
     (slice_get mapping.lines place)) []
 
 -- the places of the lines of a map, in their order
@@ -128,7 +143,7 @@ map_places mapping = range_with_len 0 (length mapping.lines)
 -- a line for each line of the map, and one for each of the five numbers
 abbrev pub totals_text_of : NumberedMap → LineTotals → WatchCounts → List ℕ
 totals_text_of mapping totals counts =
-    flat_map (total_line_at mapping totals) (map_places mapping) ++ counts_text counts
+    flat_map (total_line_at mapping totals) (map_places mapping) ++ counts_text mapping.options.json counts
 
 -- the totals of what was found
 abbrev pub totals_of : NumberedMap → List Finding → LineTotals

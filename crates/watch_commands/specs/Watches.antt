@@ -13,10 +13,11 @@ use Rattle.trace_audit.specs.declared.map_lines.MapLine.{MapLine}
 use Rattle.trace_audit.specs.Auditing.{Finding, finding_accepts}
 use Rattle.trace_audit.specs.Rows.{AuditInputs}
 use Rattle.watch_commands.specs.MapFaults.{map_fault_text, map_input_text}
+use Rattle.watch_commands.specs.Words.{watch_usage, AsksWatch, text_asked}
 use Rattle.watch_commands.specs.WatchMaps.{NumberedMap, watch_map_of}
 use Rattle.watch_commands.specs.Watching.{FindsComplete, FindsAll, found_text}
 use Rattle.watch_commands.specs.WatchTotals.{totals_text, watch_status}
-use Rattle.watch_commands.specs.WatchRows.{watch_usage, AsksWatch, text_asked, IsWatchMapFault, ReadsToEnd, HasCome}
+use Rattle.watch_commands.specs.WatchRows.{IsWatchMapFault, ReadsToEnd, HasCome}
 use Rattle.watch_commands.specs.WatchRows.{Writing, IsUnwritten, WritesWhole, WatchEnding, on_output, on_errors}
 use Rattle.watch_commands.specs.WatchRows.{log_failed_text, log_too_long_text, Stops, FailsBoth, OverMap}
 use Rattle.watch_commands.specs.WatchRows.{ComesOnOutput, ComesOnErrors, EndsWatch}

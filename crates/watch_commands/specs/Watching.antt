@@ -1,10 +1,12 @@
 -- What is found of each line of a log that has no greatest length, and printed
-use Rattle.std.specs.Prelude.{◌≡◌, ◌⊎◌, ℕ, ◌+◌, ◌<◌, ◌≤◌, ◌&&◌, Bool, true, false, if◌then◌else◌}
+use Rattle.std.specs.Prelude.{◌≡◌, ◌⊎◌, ℕ, ◌+◌, ◌<◌, ◌≤◌, ◌&&◌, true, false, if◌then◌else◌}
 use Rattle.std.specs.Prelude.{List, [], ◌∷◌, ◌++◌, length}
 use Rattle.std.specs.List.{flat_map}
 use Rattle.text_lines.specs.Lines.{words_of, is_skipped}
 use Rattle.trace_audit.specs.declared.map_lines.MapLine.{MapLine}
 use Rattle.trace_audit.specs.declared.frames.OtherLine.TheVariants as kind
+use Rattle.watch_commands.specs.declared.options.WatchOptions.{WatchOptions}
+use Rattle.watch_commands.specs.Objects.{finding_object}
 use Rattle.watch_commands.specs.WatchMaps.{NumberedMap}
 use Rattle.trace_audit.specs.Auditing.{Finding, other, finding_text, tally_of}
 use Rattle.trace_audit.specs.Auditing.{counter_of_place, AuditsLine, is_accepted_tally}
@@ -41,10 +43,13 @@ pub record FindsComplete (mapping : List MapLine) (bytes : List ℕ) (findings :
 abbrev pub FindsAll : List MapLine → List ℕ → List Finding → Type 0
 FindsAll mapping log findings = WatchesEach mapping (log_lines log) findings
 
--- what is printed of a finding: nothing of an accepted frame if these are left out
-abbrev pub told_text : Bool → Finding → List ℕ
-told_text quiet finding = if is_accepted_tally (tally_of finding) && quiet then [] else finding_text finding
+-- what is printed of a finding: nothing of an accepted frame if these are left out, and an object or a line of words
+abbrev pub told_text : WatchOptions → Finding → List ℕ
+told_text options finding =
+    if is_accepted_tally (tally_of finding) && options.quiet then []
+    else if options.json then finding_object finding
+    else finding_text finding
 
 -- what is printed of findings, one after the other
 abbrev pub found_text : NumberedMap → List Finding → List ℕ
-found_text mapping findings = flat_map (told_text mapping.quiet) findings
+found_text mapping findings = flat_map (told_text mapping.options) findings

@@ -2,7 +2,7 @@
 ghost use Rattle.std.specs.Prelude.{◌≡◌, ◌≤◌, ◌+◌, ◌++◌, [], length, vec_len, vec_capacity};
 ghost use Rattle.hex.specs.Hex.{encode_lower};
 ghost use Rattle.watch_commands.specs.States.{counts_after};
-ghost use Rattle.watch_commands.specs.WatchTotals.{counts_of, named, count_line, counts_text};
+ghost use Rattle.watch_commands.specs.WatchTotals.{counts_of, named, before_value, count_text, counts_text};
 ghost use Rattle.watch_commands.specs.WatchTotals.{line_head, last_text, total_line};
 
 use itoa::Buffer;
@@ -59,12 +59,21 @@ impl WatchCounts {
     }
 }
 
-/// Adds a name of at most 14 bytes and a number, in room for 54 bytes. It takes no memory.
+/// What stands before a value: in an object of JSON, or in a line of words.
+fn before_value(json: bool, object: &'static [u8], words: &'static [u8]) -> &'static [u8]
+    requires { length words.now ≤ length object.now }
+    ensures text { result.now ≡ before_value json object.now words.now }
+    ensures few { length result.now ≤ length object.now }
+{
+    if json { object } else { words }
+}
+
+/// Adds a name of at most 16 bytes and a number, in room for 56 bytes. It takes no memory.
 fn add_number(text: &mut Vec<u8>, name: &[u8], number: u64)
-    requires name { length name.now ≤ 14 }
-    requires room { vec_len text.old + 54 ≤ vec_capacity text.old }
+    requires name { length name.now ≤ 16 }
+    requires room { vec_len text.old + 56 ≤ vec_capacity text.old }
     ensures number { text.new.items ≡ text.old.items ++ named name.now number }
-    ensures few { vec_len text.new ≤ vec_len text.old + 54 }
+    ensures few { vec_len text.new ≤ vec_len text.old + 56 }
     ensures capacity { vec_capacity text.old ≤ vec_capacity text.new }
 {
     let mut digits = Buffer::new();
@@ -83,29 +92,51 @@ fn add_digits(text: &mut Vec<u8>, bytes: &[u8])
     push_digits(text, bytes).unwrap();
 }
 
-/// Adds a line of a name and a number, in room for 55 bytes. It takes no memory.
-fn add_count(text: &mut Vec<u8>, name: &[u8], number: u64)
-    requires name { length name.now ≤ 14 }
-    requires room { vec_len text.old + 55 ≤ vec_capacity text.old }
-    ensures line { text.new.items ≡ text.old.items ++ count_line name.now number }
-    ensures few { vec_len text.new ≤ vec_len text.old + 55 }
+/// Adds one of the numbers of a log, in room for 57 bytes. It takes no memory.
+fn add_count(
+    text: &mut Vec<u8>,
+    json: bool,
+    object: &'static [u8],
+    words: &'static [u8],
+    number: u64,
+)
+    requires name { length object.now ≤ 16 }
+    requires shorter { length words.now ≤ length object.now }
+    requires room { vec_len text.old + 57 ≤ vec_capacity text.old }
+    ensures count { text.new.items ≡ text.old.items ++ count_text json object.now words.now number }
+    ensures few { vec_len text.new ≤ vec_len text.old + 57 }
     ensures capacity { vec_capacity text.old ≤ vec_capacity text.new }
 {
-    add_number(text, name, number);
-    text.push_reserved(b'\n');
+    add_number(text, before_value(json, object, words), number);
+    if !json {
+        text.push_reserved(b'\n');
+    }
 }
 
-/// Adds a line for each number of a log, in room for 275 bytes. It takes no memory.
-pub fn add_counts(text: &mut Vec<u8>, counts: &WatchCounts)
-    requires { vec_len text.old + 275 ≤ vec_capacity text.old }
-    ensures lines { text.new.items ≡ text.old.items ++ counts_text counts.now }
+/// Adds a line for each number of a log, or an object of them, in room for 287 bytes. It takes no memory.
+pub fn add_counts(text: &mut Vec<u8>, json: bool, counts: &WatchCounts)
+    requires { vec_len text.old + 287 ≤ vec_capacity text.old }
+    ensures lines { text.new.items ≡ text.old.items ++ counts_text json counts.now }
     ensures capacity { vec_capacity text.old ≤ vec_capacity text.new }
 {
-    add_count(text, b"accepted ", counts.accepted);
-    add_count(text, b"failed ", counts.failed);
-    add_count(text, b"unmapped ", counts.unmapped);
-    add_count(text, b"other frames ", counts.other_frames);
-    add_count(text, b"malformed ", counts.malformed);
+    add_count(text, json, b"{\"accepted\":", b"accepted ", counts.accepted);
+    add_count(text, json, b",\"failed\":", b"failed ", counts.failed);
+    add_count(text, json, b",\"unmapped\":", b"unmapped ", counts.unmapped);
+    add_count(
+        text,
+        json,
+        b",\"other frames\":",
+        b"other frames ",
+        counts.other_frames,
+    );
+    add_count(
+        text,
+        json,
+        b",\"malformed\":",
+        b"malformed ",
+        counts.malformed,
+    );
+    add_bytes(text, before_value(json, b"}\n", b""));
 }
 
 /// The numbers of a line of a map.
@@ -121,48 +152,60 @@ pub struct LineCounts {
     pub last: u64,
 }
 
-/// Adds the line of these numbers of a line of a map, in room for 310 bytes. It takes no memory.
-pub fn add_line_counts(text: &mut Vec<u8>, entry: &MapLine, counts: &LineCounts)
-    requires { vec_len text.old + 310 ≤ vec_capacity text.old }
+/// Adds these numbers of a line of a map, in room for 320 bytes. It takes no memory.
+pub fn add_line_counts(text: &mut Vec<u8>, json: bool, entry: &MapLine, counts: &LineCounts)
+    requires { vec_len text.old + 320 ≤ vec_capacity text.old }
     ensures line { text.new.items ≡ text.old.items
-        ++ total_line counts.now.number counts.now.accepted counts.now.failed counts.now.last entry.now }
-    ensures few { vec_len text.new ≤ vec_len text.old + 310 }
+        ++ total_line json counts.now.number counts.now.accepted counts.now.failed counts.now.last entry.now }
+    ensures few { vec_len text.new ≤ vec_len text.old + 320 }
     ensures capacity { vec_capacity text.old ≤ vec_capacity text.new }
 {
     let missed = counts
         .last
         .saturating_sub(entry.counter)
         .saturating_sub(counts.accepted);
-    add_line_head(text, entry, counts.number);
-    add_number(text, b" accepted ", counts.accepted);
-    add_number(text, b" failed ", counts.failed);
-    add_number(text, b" missed ", missed);
-    add_last(text, counts.last);
+    add_line_head(text, json, entry, counts.number);
+    add_number(
+        text,
+        before_value(json, b"\",\"accepted\":", b" accepted "),
+        counts.accepted,
+    );
+    add_number(
+        text,
+        before_value(json, b",\"failed\":", b" failed "),
+        counts.failed,
+    );
+    add_number(
+        text,
+        before_value(json, b",\"missed\":", b" missed "),
+        missed,
+    );
+    add_last(text, json, counts.last);
 }
 
-/// Adds the freshness that was accepted last, in room for 23 bytes. It takes no memory.
-fn add_last(text: &mut Vec<u8>, last: u64)
-    requires { vec_len text.old + 23 ≤ vec_capacity text.old }
-    ensures last { text.new.items ≡ text.old.items ++ last_text last }
-    ensures few { vec_len text.new ≤ vec_len text.old + 23 }
+/// Adds the freshness that was accepted last, in room for 28 bytes. It takes no memory.
+fn add_last(text: &mut Vec<u8>, json: bool, last: u64)
+    requires { vec_len text.old + 28 ≤ vec_capacity text.old }
+    ensures last { text.new.items ≡ text.old.items ++ last_text json last }
+    ensures few { vec_len text.new ≤ vec_len text.old + 28 }
     ensures capacity { vec_capacity text.old ≤ vec_capacity text.new }
 {
-    add_bytes(text, b" last ");
+    add_bytes(text, before_value(json, b",\"last\":\"", b" last "));
     add_digits(text, &last.to_be_bytes());
-    text.push_reserved(b'\n');
+    add_bytes(text, before_value(json, b"\"}\n", b"\n"));
 }
 
-/// Adds the number of a line of a map, its name or CAN identifier, and its Data ID, in room for 110 bytes. It takes no
+/// Adds the number of a line of a map, its name or CAN identifier, and its Data ID, in room for 121 bytes. It takes no
 /// memory.
-fn add_line_head(text: &mut Vec<u8>, entry: &MapLine, number: u64)
-    requires { vec_len text.old + 110 ≤ vec_capacity text.old }
-    ensures head { text.new.items ≡ text.old.items ++ line_head number entry.now }
-    ensures few { vec_len text.new ≤ vec_len text.old + 110 }
+fn add_line_head(text: &mut Vec<u8>, json: bool, entry: &MapLine, number: u64)
+    requires { vec_len text.old + 121 ≤ vec_capacity text.old }
+    ensures head { text.new.items ≡ text.old.items ++ line_head json number entry.now }
+    ensures few { vec_len text.new ≤ vec_len text.old + 121 }
     ensures capacity { vec_capacity text.old ≤ vec_capacity text.new }
 {
-    add_number(text, b"line ", number);
-    add_bytes(text, b" ");
+    add_number(text, before_value(json, b"{\"line\":", b"line "), number);
+    add_bytes(text, before_value(json, b",\"name\":\"", b" "));
     add_bytes(text, entry.head());
-    add_bytes(text, b" ");
+    add_bytes(text, before_value(json, b"\",\"id\":\"", b" "));
     add_digits(text, &entry.id.to_be_bytes());
 }

@@ -9,15 +9,19 @@
 //! asks for ([`laws`]). Accepted freshness rises per line of the map (law `accepted_freshness_rises_per_watched_line`).
 #![tactic(auto)]
 
+mod answers;
 mod counts;
 mod faults;
 pub mod laws;
 mod maps;
+mod options;
 mod run;
 mod start;
 mod state;
 
-pub use maps::{WatchMap, read_watch_map};
-pub use run::run_watch;
+pub use faults::map_input_refusal;
+pub use maps::{WatchMap, map_of_text, read_watch_map};
+pub use options::{WatchOptions, inputs_of, kept_file};
+pub use run::{is_only, prepare, run_watch};
 pub use start::watch_words;
 pub use state::Watch;

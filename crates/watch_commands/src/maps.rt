@@ -13,6 +13,7 @@ ghost use Rattle.watch_commands.specs.WatchMaps.{own_channel, own_window, hears_
 ghost use Rattle.watch_commands.specs.WatchMaps.{reached_can_form, watch_map_of, line_numbers, IsMapOf};
 
 use crate::faults::{map_input_refusal, map_line_refusal};
+use crate::options::WatchOptions;
 use basics::Bytes;
 use bus_port::Source;
 use program_edge::{Refusal, read_input};
@@ -28,13 +29,13 @@ use trace_audit::{
     CanId, LineName, MOST_MAP_LINES, MapLine, Window, can_id, has_data_can, line_of_words,
 };
 
-/// The lines of a map, at most 256, and the number of each in the text of the map, counted from 1; and whether accepted
-/// frames are left out of what is printed.
+/// The lines of a map, at most 256, and the number of each in the text of the map, counted from 1; and how findings are
+/// printed.
 #[derive(Drop)]
 pub struct WatchMap {
     lines: Vec<MapLine>,
     numbers: Vec<u64>,
-    quiet: bool,
+    options: WatchOptions,
 }
 
 impl Model for WatchMap {
@@ -43,22 +44,22 @@ impl Model for WatchMap {
 
     ghost Value = { NumberedMap };
 
-    ghost view = { λ m. record { lines = m.lines.items; numbers = m.numbers.items; quiet = m.quiet } };
+    ghost view = { λ m. record { lines = m.lines.items; numbers = m.numbers.items; options = m.options } };
 
     ghost invariant = { λ m. (length m.lines.items ≤ 256) × (length m.numbers.items ≡ length m.lines.items) };
 }
 
 impl WatchMap {
     /// These lines with these numbers, watched so.
-    pub fn of(lines: Vec<MapLine>, numbers: Vec<u64>, quiet: bool) -> WatchMap
+    pub fn of(lines: Vec<MapLine>, numbers: Vec<u64>, options: WatchOptions) -> WatchMap
         requires few { length lines.items ≤ 256 }
         requires as_many { length numbers.items ≡ length lines.items }
-        ensures { result ≡ record { lines = lines.items; numbers = numbers.items; quiet = quiet } }
+        ensures { result ≡ record { lines = lines.items; numbers = numbers.items; options = options } }
     {
         WatchMap {
             lines,
             numbers,
-            quiet,
+            options,
         }
     }
 
@@ -70,11 +71,11 @@ impl WatchMap {
         self.lines.as_slice()
     }
 
-    /// Whether accepted frames are left out of what is printed.
-    pub fn is_quiet(&self) -> bool
-        ensures { result ≡ self.now.quiet }
+    /// How findings are printed.
+    pub fn options(&self) -> WatchOptions
+        ensures { result ≡ self.now.options }
     {
-        self.quiet
+        self.options
     }
 
     /// The number of each.
@@ -320,12 +321,12 @@ impl LineReader for WatchMapReader {
 pub fn read_watch_map<S: Source>(
     alloc: Global,
     map: &mut S,
-    quiet: bool,
+    options: WatchOptions,
 ) -> Result<WatchMap, Refusal>
-    ensures { ReadsWatchSource quiet (record { before = S.state map.old; after = S.state map.new }) result }
+    ensures { ReadsWatchSource options (record { before = S.state map.old; after = S.state map.new }) result }
 {
     match read_input(alloc, map) {
-        Ok(input) => map_of_text(alloc, input.as_slice(), quiet),
+        Ok(input) => map_of_text(alloc, input.as_slice(), options),
         Err(fault) => Err(map_input_refusal(fault)),
     }
 }
@@ -344,13 +345,13 @@ fn lines_of_text(alloc: Global, text: &[u8]) -> Result<Vec<MapLine>, Refusal>
 }
 
 /// The lines of a map with their numbers, or the refusal of the first that isn't one.
-fn map_of_text(alloc: Global, text: &[u8], quiet: bool) -> Result<WatchMap, Refusal>
+pub fn map_of_text(alloc: Global, text: &[u8], options: WatchOptions) -> Result<WatchMap, Refusal>
     requires { length text.now < 2 ^ 32 }
-    ensures ok { IfOk result (IsMapOf quiet text.now) }
+    ensures ok { IfOk result (IsMapOf options text.now) }
     ensures err { IfErr result (NoMapLines (watch_map_of text.now)) }
 {
     match lines_of_text(alloc, text) {
-        Ok(lines) => numbered(alloc, lines, text, quiet),
+        Ok(lines) => numbered(alloc, lines, text, options),
         Err(refusal) => Err(refusal),
     }
 }
@@ -360,15 +361,15 @@ fn numbered(
     alloc: Global,
     lines: Vec<MapLine>,
     text: &[u8],
-    quiet: bool,
+    options: WatchOptions,
 ) -> Result<WatchMap, Refusal>
     requires short { length text.now < 2 ^ 32 }
     requires lines { watch_map_of text.now ≡ Ok lines.items }
-    ensures ok { IfOk result (IsMapOf quiet text.now) }
+    ensures ok { IfOk result (IsMapOf options text.now) }
     ensures err { IfErr result (λ row. row ≡ memory_row) }
 {
     match numbers_of(alloc, text) {
-        Ok(numbers) => Ok(WatchMap::of(lines, numbers, quiet)),
+        Ok(numbers) => Ok(WatchMap::of(lines, numbers, options)),
         Err(Memory) => Err(Refusal::no_memory()),
     }
 }

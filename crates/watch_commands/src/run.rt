@@ -4,23 +4,27 @@ ghost use Rattle.bus_port.specs.Source.{SourceState};
 ghost use Rattle.bus_port.specs.Sink.{SinkState};
 ghost use Rattle.trace_audit.specs.Auditing.{Finding};
 ghost use Rattle.watch_commands.specs.States.{Watched};
-ghost use Rattle.watch_commands.specs.WatchRows.{EndsLog, EndsUntold, is_quiet, is_only_word, text_asked, watch_inputs};
+ghost use Rattle.watch_commands.specs.WatchRows.{EndsLog, EndsUntold};
+ghost use Rattle.watch_commands.specs.Words.{is_only_word, text_asked};
 ghost use Rattle.watch_commands.specs.Watches.{Watches};
 ghost use Rattle.watch_commands.specs.WatchSteps.{PreparesWatch, SoFar, Turns};
 
 use crate::maps::read_watch_map;
+use crate::options::{WatchOptions, inputs_of};
 use crate::state::Watch;
 use bus_port::{PortFailed, Sink, Source};
 use program_edge::{DONE, Refusal, WRITE_FAULT, tell, tell_refusal};
 use std::alloc::{AllocError, Global};
 use trace_audit::{PIECE, names_inputs};
 
-const USAGE: &str = "usage: watch [--quiet] MAP LOG\n";
+const USAGE: &str = "usage: watch [--quiet] [--json] [--expect FILE] MAP LOG\n";
 
 /// What is printed for `--help`.
-const HELP: &str = "usage: watch [--quiet] MAP LOG
+const HELP: &str = "usage: watch [--quiet] [--json] [--expect FILE] MAP LOG
 Says of each frame of LOG that MAP names whether its Secured I-PDU verifies (AUTOSAR SecOC, profile 1).
-LOG is a log of candump -L; - is standard input. --quiet leaves the answers to accepted frames out.
+LOG is a log of candump -L; - is standard input.
+--quiet leaves the answers to accepted frames out. --json prints an object of JSON a line.
+--expect compares the output with FILE and prints none: 0 if it is the same, else 1 and the line that differs.
 A line of MAP: CANID ID KEY FRESH LEN [WINDOW [CHANNEL]] [optional] [name=NAME] [# COMMENT]
 Status 0: each mapped frame was accepted, and one at least for each line of MAP that isn't optional.
 1: a mapped frame wasn't accepted. 3: a line of MAP accepted none. 2: usage. 4: MAP. 5, 8: input. 6: output. 7: memory.
@@ -36,8 +40,8 @@ const LOG_FAILED: &str = "log: read fault\n";
 const LOG_TOO_LONG: &str = "log: input too long\n";
 
 /// Judges the frames of a log by a map while they come, and gives the status that the program ends with. Two words,
-/// which name the map and the log and may be any text, are the form of the words, the program's name left out. If
-/// `--quiet` stands before them, no answer to an accepted frame is printed. The map is read whole before the log is
+/// which name the map and the log and may be any text, are the form of the words, the program's name left out; options
+/// may stand before them ([`WatchOptions`](crate::options::WatchOptions)). The map is read whole before the log is
 /// asked for. Each complete line of the log is answered on `sink` before the log is read again. Faults are told on
 /// `errors`. Every text that is printed ends with a line feed. `--help` or `--version` alone print a text, with status
 /// 0.
@@ -102,7 +106,7 @@ fn run_untold<S: Source, T: Source, K: Sink>(
 }
 
 /// Whether there is one word, and it is this.
-fn is_only(words: &[String], word: &str) -> bool
+pub fn is_only(words: &[String], word: &str) -> bool
     ensures { result ≡ is_only_word word.now (each string_bytes words.now) }
 {
     match words {
@@ -112,7 +116,7 @@ fn is_only(words: &[String], word: &str) -> bool
 }
 
 /// The words and the map: the watch before the log, or the first refusal that applies.
-fn prepare<S: Source>(alloc: Global, words: &[String], map: &mut S) -> Result<Watch, Refusal>
+pub fn prepare<S: Source>(alloc: Global, words: &[String], map: &mut S) -> Result<Watch, Refusal>
     ensures { (log : SourceState) (sink : SinkState) → text_asked (each string_bytes words.now) ≡ None → PreparesWatch
         (record {
           words = each string_bytes words.now;
@@ -125,31 +129,10 @@ fn prepare<S: Source>(alloc: Global, words: &[String], map: &mut S) -> Result<Wa
     if !names_inputs(inputs_of(words)) {
         return Err(Refusal::fixed(2, USAGE));
     }
-    let map = read_watch_map(alloc, map, says_quiet(words))?;
+    let map = read_watch_map(alloc, map, WatchOptions::of(words))?;
     match Watch::new(alloc, map) {
         Ok(watch) => Ok(watch),
         Err(AllocError) => Err(Refusal::no_memory()),
-    }
-}
-
-/// Whether the first word is `--quiet`.
-fn says_quiet(words: &[String]) -> bool
-    ensures { result ≡ is_quiet (each string_bytes words.now) }
-{
-    match words {
-        [first, ..] => first.as_str() == "--quiet",
-        [] => false,
-    }
-}
-
-/// The words behind `--quiet`, or all.
-pub fn inputs_of(words: &[String]) -> &[String]
-    ensures { each string_bytes result.now ≡ watch_inputs (each string_bytes words.now) }
-{
-    if says_quiet(words) {
-        &words[1..]
-    } else {
-        words
     }
 }
 

@@ -11,6 +11,7 @@ ghost use Rattle.trace_audit.specs.Pieces.{PutsPiece};
 ghost use Rattle.watch_commands.specs.States.{Watched, FindsMore, JudgesLine, IsPlaced, counts_after};
 ghost use Rattle.watch_commands.specs.States.{raised_at, accepted_place, failed_place, totals_in, end_text, end_status};
 
+use crate::answers::add_answer;
 use crate::counts::{LineCounts, WatchCounts, add_counts, add_line_counts};
 use crate::maps::WatchMap;
 use bus_port::{PortFailed, Sink, write_all};
@@ -24,8 +25,11 @@ use trace_audit::{FrameTally, OtherLine, PIECE, add_bytes, counters_of, push_fin
 /// The most bytes of a line that is looked at, its line feed not counted.
 const LINE_LIMIT: usize = 4096;
 
-/// The most bytes that are printed for a line.
-const FINDING_ROOM: usize = 232;
+/// The most bytes that are printed for a line, as an object of JSON.
+const FINDING_ROOM: usize = 320;
+
+/// The most bytes of the answer to a frame.
+const ANSWER_ROOM: usize = 232;
 
 /// The most bytes that are printed at the end of a log, or for a piece: each of its bytes could end a line.
 const TEXT_ROOM: usize = FINDING_ROOM * (PIECE + 1);
@@ -43,6 +47,7 @@ pub struct Watch {
     lines: u64,
     counts: WatchCounts,
     text: Vec<u8>,
+    answer: Vec<u8>,
     spans: Vec<Span>,
 }
 
@@ -69,7 +74,7 @@ impl Model for Watch {
         × (length w.accepted.items ≡ length w.map.lines) × (length w.failed.items ≡ length w.map.lines)
         × (vec_len w.line ≤ 4097)
         × (position_or_len is_line_feed w.line.items ≡ length w.line.items) × (4097 ≤ vec_capacity w.line)
-        × (950504 ≤ vec_capacity w.text) × (4097 ≤ vec_capacity w.spans) };
+        × (1311040 ≤ vec_capacity w.text) × (232 ≤ vec_capacity w.answer) × (4097 ≤ vec_capacity w.spans) };
 }
 
 impl Watch {
@@ -83,6 +88,7 @@ impl Watch {
         let failed = zeros(alloc, map.lines().len())?;
         let line = Vec::with_capacity(alloc, LINE_LIMIT + 1)?;
         let text = Vec::with_capacity(alloc, TEXT_ROOM)?;
+        let answer = Vec::with_capacity(alloc, ANSWER_ROOM)?;
         let spans = Vec::with_capacity(alloc, LINE_LIMIT + 1)?;
         Ok(Watch {
             map,
@@ -93,6 +99,7 @@ impl Watch {
             lines: 0,
             counts: WatchCounts::none(),
             text,
+            answer,
             spans,
         })
     }
@@ -107,9 +114,28 @@ impl Watch {
             → (more : List Finding) × Watched self.new (bytes ++ piece.now) (findings ++ more)
             × PutsPiece (K.state sink.old) (K.state sink.new) (found_text self.old.mapping more) result }
     {
+        self.find(piece);
+        write_all(sink, self.text())
+    }
+
+    /// Takes the next piece of the log, of at most 4,096 bytes. The text is then what is found of each line that is
+    /// complete with it. It takes no memory.
+    pub fn find(&mut self, piece: &[u8])
+        requires { length piece.now ≤ 4096 }
+        ensures mapping { self.new.mapping ≡ self.old.mapping }
+        ensures goes_on { (bytes : List ℕ) (findings : List Finding) → Watched self.old bytes findings
+            → (more : List Finding) × Watched self.new (bytes ++ piece.now) (findings ++ more)
+            × (self.new.text ≡ found_text self.old.mapping more) }
+    {
         self.text.clear();
         self.look_at(piece);
-        write_all(sink, self.text.as_slice())
+    }
+
+    /// What was found of the last piece, or at the end of the log.
+    pub fn text(&self) -> &[u8]
+        ensures { result.now ≡ self.now.text }
+    {
+        self.text.as_slice()
     }
 
     /// The end of the log: what stands after the last line feed is a line, too. Prints what is found of it, then a line
@@ -123,10 +149,23 @@ impl Watch {
             (found_text self.old.mapping more ++ totals_text self.old.mapping (findings ++ more))
             (watch_status self.old.mapping (findings ++ more)) result }
     {
+        let status = self.end();
+        tell(sink, self.text(), status)
+    }
+
+    /// The end of the log: the text is then what is found of the line after the last line feed, a line for each line of
+    /// the map, and the five numbers. It gives the status that the program ends with, and takes no memory.
+    pub fn end(&mut self) -> u8
+        ensures mapping { self.new.mapping ≡ self.old.mapping }
+        ensures ends { (bytes : List ℕ) (findings : List Finding) → Watched self.old bytes findings
+            → (more : List Finding) × FindsAll self.old.mapping.lines bytes (findings ++ more)
+            × (self.new.text ≡ found_text self.old.mapping more ++ totals_text self.old.mapping (findings ++ more))
+            × (result ≡ watch_status self.old.mapping (findings ++ more)) }
+    {
         self.text.clear();
         self.end_line();
         self.push_totals();
-        tell(sink, self.text.as_slice(), self.status())
+        self.status()
     }
 
     /// The status at the end of the log: 1 if a mapped frame wasn't accepted, 3 if a line of the map that isn't
@@ -176,10 +215,10 @@ impl Watch {
     /// Takes these bytes up to the first line feed, or all if there is none, and gives their number.
     fn look_at_front(&mut self, bytes: &[u8]) -> usize
         requires some { 0 < length bytes.now }
-        requires room { length self.old.text + 232 ≤ 950504 }
+        requires room { length self.old.text + 320 ≤ 1311040 }
         ensures some { 0 < result }
         ensures within { result ≤ length bytes.now }
-        ensures few { length self.new.text ≤ length self.old.text + 232 }
+        ensures few { length self.new.text ≤ length self.old.text + 320 }
         ensures mapping { self.new.mapping ≡ self.old.mapping }
         ensures goes_on { FindsMore self.old self.new (take result bytes.now) }
     {
@@ -204,8 +243,8 @@ impl Watch {
 
     /// A line feed came: adds what is found of the line, and counts it.
     fn end_line(&mut self)
-        requires { length self.old.text + 232 ≤ 950504 }
-        ensures few { length self.new.text ≤ length self.old.text + 232 }
+        requires { length self.old.text + 320 ≤ 1311040 }
+        ensures few { length self.new.text ≤ length self.old.text + 320 }
         ensures mapping { self.new.mapping ≡ self.old.mapping }
         ensures goes_on { FindsMore self.old self.new (10 ∷ []) }
     {
@@ -238,8 +277,8 @@ impl Watch {
 
     /// Adds what is found of the line, and tells what it counts as; `None` if it is skipped.
     fn judge_line(&mut self) -> Option<FrameTally>
-        requires { length self.old.text + 232 ≤ 950504 }
-        ensures few { length self.new.text ≤ length self.old.text + 232 }
+        requires { length self.old.text + 320 ≤ 1311040 }
+        ensures few { length self.new.text ≤ length self.old.text + 320 }
         ensures judges { JudgesLine self.old self.new result }
         ensures placed { IfSome result (IsPlaced (length self.old.mapping.lines)) }
     {
@@ -251,39 +290,45 @@ impl Watch {
         if words.is_skipped() {
             return None;
         }
-        let before = self.text.len();
+        self.answer.clear();
         let tally = push_finding(
             self.map.lines(),
             self.counters.as_mut_slice(),
             self.lines,
             &words,
-            &mut self.text,
+            &mut self.answer,
         )
         .unwrap();
-        leave_out(&mut self.text, before, self.map.is_quiet(), tally);
+        add_answer(
+            &mut self.text,
+            &self.map,
+            self.lines,
+            tally,
+            self.answer.as_slice(),
+        );
         Some(tally)
     }
 
     /// Adds a line for each line of the map, and one for each number.
     fn push_totals(&mut self)
-        requires { length self.old.text ≤ 232 }
+        requires { length self.old.text ≤ 320 }
         ensures { self.new ≡ record self.old { text = self.old.text ++ end_text self.old } }
     {
         let size = self.map.lines().len();
         for place in 0..size {
             self.push_line_counts(place);
         }
-        add_counts(&mut self.text, &self.counts);
+        add_counts(&mut self.text, self.map.options().json, &self.counts);
     }
 
     /// Adds the line of the map's line at a place.
     fn push_line_counts(&mut self, place: usize)
         requires place { place < length self.old.mapping.lines }
-        requires room { length self.old.text + 310 ≤ 950504 }
+        requires room { length self.old.text + 320 ≤ 1311040 }
         ensures text { self.new ≡ record self.old {
           text = self.old.text ++ total_line_at self.old.mapping (totals_in self.old) place;
         } }
-        ensures few { length self.new.text ≤ length self.old.text + 310 }
+        ensures few { length self.new.text ≤ length self.old.text + 320 }
     {
         let counts = LineCounts {
             number: self.map.numbers()[place],
@@ -291,19 +336,8 @@ impl Watch {
             failed: self.failed[place],
             last: self.counters[place],
         };
-        add_line_counts(&mut self.text, &self.map.lines()[place], &counts);
-    }
-}
-
-/// Leaves out what follows the first bytes if it is told of an accepted frame, and these aren't printed.
-fn leave_out(text: &mut Vec<u8>, before: usize, quiet: bool, tally: FrameTally)
-    ensures text { text.new.items
-        ≡ (if is_accepted_tally tally && quiet then take before text.old.items else text.old.items) }
-    ensures len { vec_len text.new ≤ vec_len text.old }
-    ensures capacity { vec_capacity text.new ≡ vec_capacity text.old }
-{
-    if tally.is_accepted() && quiet {
-        text.truncate(before);
+        let json = self.map.options().json;
+        add_line_counts(&mut self.text, json, &self.map.lines()[place], &counts);
     }
 }
 

@@ -10,5 +10,6 @@ returns c =
       are_authentic = c.runs_are_authentic.ensures;
       are_single = c.no_freshness_is_sent_twice.ensures;
       keep_keys = c.keys_are_kept.ensures;
+      determine = c.events_determine_lines.ensures;
     } in
     one_run laws

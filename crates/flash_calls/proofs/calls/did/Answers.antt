@@ -1,16 +1,19 @@
 -- The plan stands where the operation leads that was performed.
-use Rattle.std.proofs.Common.{◌≡◌, ◌<◌, ℕ, Some, None, length, subst, sym, ap, ◌∙◌}
+use Rattle.std.proofs.Common.{◌≡◌, ◌≢◌, ◌⊎◌, ◌<◌, ℕ, Some, None, length, subst, sym, ap, ◌∙◌}
 use Rattle.std.specs.Prelude.{IfSome}
 use Rattle.std.proofs.lemmas.Option.{none-some}
 use Rattle.flash_lines.specs.Lines.{line_length}
+use Rattle.flash_plan.specs.declared.plans.PlanEnd.TheVariants.{Failed as end_failed}
+use Rattle.flash_plan.specs.declared.plans.PlanStep.TheVariants.{Ended}
 use Rattle.flash_plan.specs.declared.plans.FlashPlan.{FlashPlan}
 use Rattle.flash_plan.specs.Performing.{Performs}
-use Rattle.flash_plan.specs.Plans.{ReadsAt, SameSizes, operation_of, operations_left, put_in}
+use Rattle.flash_plan.specs.Plans.{ReadsAt, SameSizes, IsFailure, failed_plan, operation_of, operations_left, put_in}
 use Rattle.flash_plan.specs.Formatting.{FormatsAt}
 use Rattle.flash_plan.specs.Standing.{plan_layout, StandsAt, PlanMovesOn}
 use Rattle.flash_calls.specs.Numbers.{plan_in}
 use Rattle.flash_calls.specs.Operations.{PerformsBytes}
 use Rattle.flash_calls.proofs.CallLaws.{still_call}
+use Rattle.flash_calls.proofs.PutMoves.{put_moves, fails_exactly}
 use Rattle.flash_calls.proofs.MoveLaws.{moves_so, holds_so, also_holds, format_keeps}
 use Rattle.flash_calls.proofs.calls.did.Goals as goal
 
@@ -78,6 +81,31 @@ returns-clause-answer c =
           formats))
           (subst (λ (p : FlashPlan). (ReadsAt p.step → ⊥) → put_in p ≡ None → c.did.new.cells ≡ c.args.cells.now) was
           c.did.ensures.kept keeps.0 keeps.1);
+      put = λ some.
+          put_moves (plan_in old) (plan_in new) c.args.cells.now c.in-Some-next.operation c.args.outcome c.outcome_of.result
+          (subst (λ (p : FlashPlan). operation_of p c.args.cells.now ≡ Some c.in-Some-next.operation) was (sym c.in-Some-next.ensures.is))
+          c.outcome_of.ensures.comes
+          (λ fails. is ∙ (subst
+          (λ (p : FlashPlan). IsFailure (operation_of p c.args.cells.now) c.outcome_of.result → now ≡ failed_plan p) was
+          c.did.ensures.fails fails))
+          (λ none well. ap (λ (p : FlashPlan). p.put) is ∙ (subst
+          (λ (p : FlashPlan). put_in p ≡ None → (IsFailure (operation_of p c.args.cells.now) c.outcome_of.result → ⊥) → now.put ≡ p.put) was
+          c.did.ensures.waits none well))
+          (λ it. ap (λ (p : FlashPlan). p.put) is ∙ (subst (λ (p : FlashPlan). put_in p ≢ None → now.put ≡ None) was c.did.ensures.taken it));
+      fails =
+          fails_exactly (plan_in old) (plan_in new) c.args.cells.now c.in-Some-next.operation c.args.outcome c.outcome_of.result
+          (subst (λ (p : FlashPlan). operation_of p c.args.cells.now ≡ Some c.in-Some-next.operation) was (sym c.in-Some-next.ensures.is))
+          c.outcome_of.ensures.comes
+          (λ fails. is ∙ (subst
+          (λ (p : FlashPlan). IsFailure (operation_of p c.args.cells.now) c.outcome_of.result → now ≡ failed_plan p) was
+          c.did.ensures.fails fails))
+          (λ none well. ap (λ (p : FlashPlan). p.put) is ∙ (subst
+          (λ (p : FlashPlan). put_in p ≡ None → (IsFailure (operation_of p c.args.cells.now) c.outcome_of.result → ⊥) → now.put ≡ p.put) was
+          c.did.ensures.waits none well))
+          (λ it. ap (λ (p : FlashPlan). p.put) is ∙ (subst (λ (p : FlashPlan). put_in p ≢ None → now.put ≡ None) was c.did.ensures.taken it))
+          (λ ended. subst
+          (λ (p : FlashPlan). (p.step ≡ Ended end_failed) ⊎ IsFailure (operation_of p c.args.cells.now) c.outcome_of.result) was
+          (c.did.ensures.failed (ap (λ (p : FlashPlan). p.step) (sym is) ∙ ended)));
       less = subst
           (λ (p : FlashPlan). (operation_of p c.args.cells.now ≡ None → ⊥) → operations_left n (plan_in new) < operations_left n p)
           was

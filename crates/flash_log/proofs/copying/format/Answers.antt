@@ -1,4 +1,4 @@
-use Rattle.std.proofs.Common.{◌-◌, length, refl, arith}
+use Rattle.std.proofs.Common.{length, refl, arith}
 use Rattle.flash_log.specs.Going.{layout_on}
 use Rattle.flash_log.proofs.GoingLaws.{OnOk-map}
 use Rattle.flash_log.proofs.CopyingLaws.{is_formatted}

@@ -1,7 +1,6 @@
 use Rattle.std.proofs.Common.{length, subst, ◌∙◌}
 use Rattle.basics.specs.FaultCount.{Rose}
 use Rattle.flash_places.specs.Places.{SameOthers}
-use Rattle.flash_laws.specs.Lives.{next_bank}
 use Rattle.flash_log.proofs.GoingLaws.{OnOk-map, OnErr-map, OnErr-from, renew_done, renew_cut, renew_erase_cut, renew_others, renew_copy, renew_blank, runs_then}
 use Rattle.flash_log.proofs.CopyingLaws.{spare_is}
 use Rattle.flash_log.proofs.copying.renew.Goals as goal

@@ -1,8 +1,7 @@
-use Rattle.std.proofs.Common.{◌≡◌, ◌+◌, refl, ap, subst, ◌∙◌, arith}
-use Rattle.basics.specs.FaultCount.{Rose}
+use Rattle.std.proofs.Common.{◌+◌, refl, ap, ◌∙◌, arith}
 use Rattle.flash_places.specs.declared.Answer.{Answer}
 use Rattle.flash_places.specs.Places.{line_in}
-use Rattle.flash_log.proofs.GoingLaws.{OnErr-from, runs_then}
+use Rattle.flash_log.proofs.GoingLaws.{runs_then}
 use Rattle.flash_log.proofs.FreeLaws.{not_not, one_look, look_others, look_before, look_same, same_part, blank_more, blank_to_end}
 use Rattle.flash_log.proofs.reading.read_free.Goals as goal
 

@@ -1,5 +1,4 @@
-use Rattle.std.proofs.Common.{◌≡◌, ◌+◌, suc, length, refl, sym, ap, subst, ◌∙◌, arith}
-use Rattle.flash_places.specs.State.{FlashRuns}
+use Rattle.std.proofs.Common.{◌≡◌, ◌+◌, suc, length, refl, sym, subst, ◌∙◌, arith}
 use Rattle.flash_log.specs.Going.{layout_on}
 use Rattle.flash_log.specs.Scanned.{ScannedTo, FreeBest, NoLaterHeads}
 use Rattle.flash_log.specs.declared.scanning.Best.{Best}

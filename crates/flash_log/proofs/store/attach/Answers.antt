@@ -1,5 +1,5 @@
-use Rattle.std.proofs.Common.{◌≡◌, ◌+◌, ◌<◌, true, length, refl, ap, ◌∙◌, arith}
-use Rattle.flash_laws.specs.Lives.{off, found, was_found, next_bank}
+use Rattle.std.proofs.Common.{◌≡◌, ◌+◌, ◌<◌, true, length, refl, ◌∙◌, arith}
+use Rattle.flash_laws.specs.Lives.{off, found, was_found}
 use Rattle.flash_log.specs.Going.{Goes, BlankFrom, machine, layout_on}
 use Rattle.flash_log.specs.declared.scanning.FoundLog.{FoundLog}
 use Rattle.flash_log.proofs.GoingLaws.{goes_then, in_some}

@@ -1,5 +1,4 @@
-use Rattle.std.proofs.Common.{List, map, ap, subst, refl, inl, inr}
-use Rattle.std.specs.Prelude.{string_bytes}
+use Rattle.std.proofs.Common.{map, ap, subst, refl, inl, inr}
 use Rattle.key_commands.specs.declared.example.TheConstants.{EXAMPLE}
 use Rattle.key_commands.specs.Files.{RunsWords}
 use Rattle.key_commands.proofs.LoadAlone.{load_alone, example_alone}
@@ -19,7 +18,7 @@ returns-then-is_empty-clause-load_alone g c = λ high. absurd (example_alone _ _
 pub returns-in-Ok-clause-named : goal.returns-in-Ok-clause-named
 returns-in-Ok-clause-named g c = λ some. inl (record {
   disks = c.in-Ok.opened.items;
-  named = rw c.file_word.ensures at c.in-Ok.ensures.named;
+  named = c.in-Ok.ensures.named;
   runs = c.run_asked-status.ensures;
 })
 
@@ -28,7 +27,7 @@ returns-in-Ok-clause-load_alone g c = λ high. load_alone _ _ c.run_asked-status
 
 pub returns-in-Err-clause-named : goal.returns-in-Err-clause-named
 returns-in-Err-clause-named g c = λ some. inr (record {
-  names = rw c.file_word.ensures at c.in-Err.ensures.wanted;
+  asks = c.in-Err.ensures.asks;
   status_is = refl;
   unwritten = refl;
   unread = refl;

@@ -6,7 +6,7 @@ use Rattle.watch_commands.proofs.maps.read_watch_map.Goals as goal
 pub returns-in-Ok : goal.returns-in-Ok
 returns-in-Ok g c =
     let mapped = c.map_of_text.ensures in
-    ReadsWatchSource-read c.args.quiet _ c.in-Ok.input.items c.map_of_text.result c.in-Ok.ensures.ok
+    ReadsWatchSource-read c.args.options _ c.in-Ok.input.items c.map_of_text.result c.in-Ok.ensures.ok
     (rw (← c.as_slice.ensures.value) mapped.ok) (rw (← c.as_slice.ensures.value) mapped.err)
 
 pub returns-in-Err : goal.returns-in-Err

@@ -1,5 +1,5 @@
-use Rattle.std.proofs.Common.{◌+◌, length, refl, ap, ◌∙◌, arith}
-use Rattle.flash_laws.specs.Lives.{was_ready, next_bank}
+use Rattle.std.proofs.Common.{◌+◌, length, refl, ◌∙◌, arith}
+use Rattle.flash_laws.specs.Lives.{was_ready}
 use Rattle.flash_log.specs.Stores.{stage_of}
 use Rattle.flash_log.proofs.CopyingLaws.{spare_is}
 use Rattle.flash_log.proofs.StoreLaws.{renewed, renewed_cut}

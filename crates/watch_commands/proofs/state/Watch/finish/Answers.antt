@@ -1,38 +1,19 @@
-use Rattle.std.proofs.Common.{◌≡◌, List, [], ◌∷◌, ◌++◌, sym, ap, ◌∙◌, subst}
+use Rattle.std.proofs.Common.{◌≡◌, List, ◌++◌, ◌∙◌, subst}
 use Rattle.program_edge.specs.Told.{EndingTold}
-use Rattle.watch_commands.specs.WatchMaps.{NumberedMap}
 use Rattle.trace_audit.specs.Auditing.{Finding}
-use Rattle.watch_commands.specs.States.{WatchState, Watched, end_text}
+use Rattle.watch_commands.specs.WatchMaps.{NumberedMap}
 use Rattle.watch_commands.specs.Watching.{found_text}
-use Rattle.watch_commands.specs.WatchTotals.{totals_text, watch_status}
-use Rattle.watch_commands.specs.contracts.state.Watch.{the_view}
-use Rattle.watch_commands.proofs.Going.{Watched-text, FindsAll-ended, end_text_is, end_status_is}
+use Rattle.watch_commands.specs.WatchTotals.{totals_text}
 use Rattle.watch_commands.proofs.state.Watch.finish.Goals as goal
 
 pub returns-clause-ends : goal.returns-clause-ends
 returns-clause-ends g c = λ bytes findings w.
-    let w_old = subst (λ (s : WatchState). Watched s bytes findings) (sym c.self.view_is) w in
-    let (more, watched, text) = c.end_line.ensures.goes_on bytes findings (Watched-text (the_view c.self.inside) c.clear.new.self.items bytes findings w_old) in
-    let ended : WatchState = c.end_line.new.self in
-    let last : WatchState = c.push_totals.new.self in
-    let all : List Finding = findings ++ more in
+    let (more, finds, text, status_is) = c.end-status.ensures.ends bytes findings w in
     let mapping : NumberedMap = c.args.self.now.mapping in
-    let same : ended.mapping ≡ mapping = c.end_line.ensures.mapping ∙ ap (λ (s : WatchState). s.mapping) c.self.view_is in
-    let watched_last : Watched last (bytes ++ 10 ∷ []) all =
-    subst (λ (s : WatchState). Watched s (bytes ++ 10 ∷ []) all) (sym c.push_totals.ensures)
-    (Watched-text ended (ended.text ++ end_text ended) (bytes ++ 10 ∷ []) all watched) in
-    let last_same : last.mapping ≡ mapping = ap (λ (s : WatchState). s.mapping) c.push_totals.ensures ∙ same in
-    let told : c.end_line.new.self.text ≡ found_text mapping more =
-    text ∙ ap (λ t. t ++ found_text (the_view c.self.inside).mapping more) c.clear.ensures.items ∙ ap (λ (s : WatchState). found_text s.mapping more) c.self.view_is in
-    let text_is : c.as_slice.result.now ≡ found_text mapping more ++ totals_text mapping all =
-    c.as_slice.ensures.value ∙ ap (λ (s : WatchState). s.text) (c.self-2.view_is ∙ c.push_totals.ensures)
-    ∙ ap (λ t. t ++ end_text ended) told
-    ∙ ap (λ t. found_text mapping more ++ t) (end_text_is ended (bytes ++ 10 ∷ []) all watched)
-    ∙ ap (λ (m : NumberedMap). found_text mapping more ++ totals_text m all) same in
-    let status_is : c.status.result ≡ watch_status mapping all =
-    c.status.ensures ∙ end_status_is last (bytes ++ 10 ∷ []) all watched_last ∙ ap (λ (m : NumberedMap). watch_status m all) last_same in (
+    let all : List Finding = findings ++ more in
+    let text_is : c.text.result.now ≡ found_text mapping more ++ totals_text mapping all = c.text.ensures ∙ text in (
       more,
-      FindsAll-ended ended mapping bytes all same watched,
+      finds,
       subst (λ status. EndingTold (g.K.Sink.state c.args.sink.now) (g.K.Sink.state c.tell.new.sink) (found_text mapping more ++ totals_text mapping all) status c.tell.result) status_is
-          (subst (λ t. EndingTold (g.K.Sink.state c.args.sink.now) (g.K.Sink.state c.tell.new.sink) t c.status.result c.tell.result) text_is c.tell.ensures),
+          (subst (λ t. EndingTold (g.K.Sink.state c.args.sink.now) (g.K.Sink.state c.tell.new.sink) t c.end-status.result c.tell.result) text_is c.tell.ensures),
     )

@@ -18,6 +18,7 @@ invariant_of-self c =
       omega (arith, c.add_bytes.ensures.capacity, c.self.invariant.5),
       c.self.invariant.6,
       c.self.invariant.7,
+      c.self.invariant.8,
     )
 
 pub returns : goal.returns

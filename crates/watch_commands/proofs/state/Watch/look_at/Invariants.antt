@@ -6,7 +6,7 @@ use Rattle.watch_commands.proofs.state.Watch.look_at.Given as goal
 abbrev pub invariant-loop-at : goal.invariant-loop-at
 invariant-loop-at l = record {
   in_range : l.at ≤ length l.piece;
-  room : length l.self.text ≤ 232 * l.at;
+  room : length l.self.text ≤ 320 * l.at;
   mapping : l.self.mapping ≡ l.initial.self.mapping;
   goes_on : FindsMore l.initial.self l.self (take l.at l.piece);
 }

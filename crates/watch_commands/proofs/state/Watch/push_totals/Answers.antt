@@ -1,5 +1,6 @@
-use Rattle.std.proofs.Common.{◌≡◌, ℕ, ◌++◌, List, length, sym, ap, ◌∙◌, arith, append_assoc}
+use Rattle.std.proofs.Common.{◌≡◌, ℕ, Bool, ◌++◌, List, length, sym, ap, ◌∙◌, arith, append_assoc}
 use Rattle.std.specs.List.{flat_map, range_with_len}
+use Rattle.watch_commands.specs.declared.options.WatchOptions.{WatchOptions}
 use Rattle.watch_commands.specs.WatchTotals.{total_line_at, counts_text}
 use Rattle.watch_commands.specs.States.{WatchState, totals_in}
 use Rattle.watch_commands.specs.contracts.state.Watch.{the_view}
@@ -27,8 +28,10 @@ returns c =
     let size : length c.lines-size.result.now ≡ length old.mapping.lines =
     ap length c.lines-size.ensures.value ∙ ap (λ (s : WatchState). length s.mapping.lines) c.self.view_is in
     let whole : place ≡ length old.mapping.lines = omega (arith, c.loop-place-test.false, c.loop-place.auto.place-end, size) in
-    ap (λ (t : List ℕ). record (the_view c.self-2.inside) { text = t }) c.add_counts.ensures.lines
-    ∙ ap (λ (v : WatchState). record v { text = v.text ++ counts_text v.counts }) (c.self-2.view_is ∙ c.loop-place.invariant.so_far)
+    let json : Bool = old.mapping.options.json in
+    ap (λ (t : List ℕ). record (the_view c.self-2.inside) { text = t })
+    (c.add_counts.ensures.lines ∙ ap (λ (o : WatchOptions). (the_view c.self-2.inside).text ++ counts_text o.json (the_view c.self-2.inside).counts) c.options.ensures)
+    ∙ ap (λ (v : WatchState). record v { text = v.text ++ counts_text v.mapping.options.json v.counts }) (c.self-2.view_is ∙ c.loop-place.invariant.so_far)
     ∙ ap (λ (t : List ℕ). record old { text = t })
-    (append_assoc old.text (flat_map text (range_with_len 0 place)) (counts_text old.counts)
-    ∙ ap (λ (n : ℕ). old.text ++ (flat_map text (range_with_len 0 n) ++ counts_text old.counts)) whole)
+    (append_assoc old.text (flat_map text (range_with_len 0 place)) (counts_text json old.counts)
+    ∙ ap (λ (n : ℕ). old.text ++ (flat_map text (range_with_len 0 n) ++ counts_text json old.counts)) whole)

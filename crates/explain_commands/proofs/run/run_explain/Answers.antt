@@ -1,0 +1,31 @@
+use Rattle.std.proofs.Common.{inr, map}
+use Rattle.std.specs.Prelude.{string_bytes}
+use Rattle.trace_audit.specs.Rows.{AuditInputs}
+use Rattle.watch_commands.specs.WatchRows.{Writing, WatchEnding}
+use Rattle.explain_commands.proofs.ExplainPhases.{Ends-untold}
+use Rattle.explain_commands.proofs.ExplainPromises.{Explains-ends}
+use Rattle.explain_commands.proofs.run.run_explain.Goals as goal
+
+pub returns-in-Ok : goal.returns-in-Ok
+returns-in-Ok g c =
+    let i : AuditInputs = record {
+      words = map string_bytes c.args.words.now;
+      map = record { before = g.S.Source.state c.args.map.now; after = g.S.Source.state c.run_untold.new.map };
+      log = record { before = g.T.Source.state c.args.log.now; after = g.T.Source.state c.run_untold.new.log };
+    } in
+    let output : Writing = record { before = g.K.Sink.state c.args.sink.now; after = g.K.Sink.state c.run_untold.new.sink } in
+    Explains-ends i _ (Ends-untold i output (g.E.Sink.state c.args.errors.now) c.in-Ok.status c.in-Ok.ensures)
+
+pub returns-in-Err : goal.returns-in-Err
+returns-in-Err g c =
+    let i : AuditInputs = record {
+      words = map string_bytes c.args.words.now;
+      map = record { before = g.S.Source.state c.args.map.now; after = g.S.Source.state c.run_untold.new.map };
+      log = record { before = g.T.Source.state c.args.log.now; after = g.T.Source.state c.run_untold.new.log };
+    } in
+    let e : WatchEnding = record {
+      output = record { before = g.K.Sink.state c.args.sink.now; after = g.K.Sink.state c.run_untold.new.sink };
+      errors = record { before = g.E.Sink.state c.args.errors.now; after = g.E.Sink.state c.tell_refusal.new.sink };
+      status = c.tell_refusal.result;
+    } in
+    Explains-ends i e (inr (inr (record { row = c.in-Err.refusal; comes = c.in-Err.ensures; told = c.tell_refusal.ensures })))

@@ -1,0 +1,362 @@
+//! The kinds of reasons for which a frame fails, and the tries of each.
+ghost use Rattle.std.specs.Prelude.{◌≡◌, ◌<◌, ◌≤◌, ◌^◌, length, slice_get, option_map, unwrap_or, IfSome};
+ghost use Rattle.explain_commands.specs.declared.kinds.ReasonKind.TheVariants as kind;
+ghost use Rattle.explain_commands.specs.Trials.{accepted_freshness};
+ghost use Rattle.explain_commands.specs.Explaining.{frame_at};
+ghost use Rattle.explain_commands.specs.Reasons.{receiver_of, trial_of, number_of_tries, reason_at, last_reason, beyond};
+ghost use Rattle.explain_commands.specs.Reasons.{flipped};
+
+use crate::recent::{Accepted, Recent};
+use crate::trials::{
+    Comparison, KnownReceiver, Making, accepted_freshness, trial_ahead, trial_with, trial_within,
+};
+use std::marker::Model;
+use trace_audit::MapLine;
+use watch_commands::WatchMap;
+
+/// How far beyond the window a freshness is looked for.
+const FAR: usize = 65536;
+
+/// The most bytes of a frame, of CAN FD.
+const MOST_BYTES: usize = 64;
+
+/// A kind of reason. The kinds are looked for in this order.
+#[derive(Clone, Copy)]
+pub enum ReasonKind {
+    /// The freshness of a frame that was accepted.
+    Replay,
+    /// A freshness beyond the window.
+    FarAhead,
+    /// Another length of the payload.
+    OtherLength,
+    /// Another line of the map, with its key, Data ID, counter, window and length.
+    OtherLine,
+    /// The key of another line of the map.
+    OtherKey,
+    /// The Data ID of another line of the map.
+    OtherId,
+    /// The bytes of the Data ID in the other order.
+    SwappedId,
+    /// The bytes of the freshness in the other order.
+    SwappedFreshness,
+    /// The last bytes of the CMAC in place of the first.
+    LastBytes,
+    /// One bit of the PDU is another.
+    FlippedBit,
+}
+
+/// Why a frame fails.
+#[derive(Clone, Copy)]
+pub enum Reason {
+    /// Its freshness was accepted before, with the frame of this line of the log.
+    Replay(u64),
+    /// Its freshness is so far ahead of the counter, which is beyond this window.
+    FarAhead(usize, u16),
+    /// It verifies with a payload of so many bytes.
+    OtherLength(usize),
+    /// It verifies as this line of the map.
+    OtherLine(u64),
+    /// It verifies with the key of this line of the map.
+    OtherKey(u64),
+    /// It verifies with the Data ID of this line of the map.
+    OtherId(u64),
+    /// It verifies with the bytes of the Data ID in the other order.
+    SwappedId,
+    /// It verifies with the bytes of the freshness in the other order.
+    SwappedFreshness,
+    /// It carries the last bytes of the CMAC in place of the first.
+    LastBytes,
+    /// It verifies if this bit of this byte is flipped. Both are counted from 0, the bits from the lowest.
+    FlippedBit(usize, usize),
+    /// None of these: it has too few bytes for a payload of so many.
+    TooShort(usize),
+    /// None of these, and it is long enough.
+    NoReason,
+}
+
+/// Why a frame fails, and how many authenticators were computed to find it.
+#[derive(Clone, Copy)]
+pub struct Explained {
+    /// The reason.
+    pub reason: Reason,
+    /// The authenticators that were computed.
+    pub tries: usize,
+}
+
+/// A frame that failed, and what is known before it.
+#[derive(Drop)]
+pub struct Case<'a> {
+    lines: &'a [MapLine],
+    numbers: &'a [u64],
+    counters: &'a [u64],
+    recent: &'a Recent,
+    place: usize,
+    receiver: KnownReceiver,
+    bytes: &'a [u8],
+}
+
+impl<'a> Model for Case<'a> {
+    ghost use Rattle.std.specs.Prelude.{◌≡◌, ◌≤◌, length};
+    ghost use Rattle.secured_pdu.specs.Frame.{IsWindow};
+    ghost use Rattle.explain_commands.specs.Reasons.{Failing};
+
+    ghost Value = { Failing };
+
+    ghost view = { λ c. record {
+      lines = c.lines.now;
+      numbers = c.numbers.now;
+      counters = c.counters.now;
+      recent = c.recent.now;
+      place = c.place;
+      receiver = c.receiver;
+      bytes = c.bytes.now;
+    } };
+
+    ghost invariant = { λ c. (length c.numbers.now ≡ length c.lines.now) × (length c.counters.now ≡ length c.lines.now)
+        × (length c.lines.now ≤ 256) × (length c.bytes.now ≤ 64)
+        × (c.receiver.size ≤ 60) × (c.receiver.window ≤ 256) };
+}
+
+/// What a receiver of a line of the map knows that accepted this freshness last.
+pub fn receiver_of(line: &MapLine, counter: u64) -> KnownReceiver
+    ensures value { result ≡ receiver_of line.now counter }
+    ensures size { result.size ≤ 60 }
+    ensures window { result.window ≤ 256 }
+{
+    KnownReceiver {
+        key: line.key,
+        id: line.id,
+        counter,
+        window: line.window.get(),
+        size: line.size.get(),
+    }
+}
+
+impl<'a> Case<'a> {
+    /// A frame that the line of the map at a place hears, and what is known before it.
+    pub fn of(
+        map: &'a WatchMap,
+        counters: &'a [u64],
+        recent: &'a Recent,
+        place: usize,
+        bytes: &'a [u8],
+    ) -> Case<'a>
+        requires as_many { length counters.now ≡ length map.now.lines }
+        requires place { place < length map.now.lines }
+        requires few { length bytes.now ≤ 64 }
+        ensures { IfSome (slice_get map.now.lines place) (λ line. result
+            ≡ frame_at (record { mapping = map.now; counters = counters.now; recent = recent.now })
+            place bytes.now line) }
+    {
+        let lines = map.lines();
+        Case {
+            lines,
+            numbers: map.numbers(),
+            counters,
+            recent,
+            place,
+            receiver: receiver_of(&lines[place], counters[place]),
+            bytes,
+        }
+    }
+
+    /// The place of the line of the map that hears it.
+    pub fn place(&self) -> usize
+        ensures { result ≡ self.now.place }
+    {
+        self.place
+    }
+
+    /// The freshness with which that line accepts it.
+    pub fn accepted(&self) -> Option<u64>
+        ensures { result ≡ accepted_freshness self.now.receiver self.now.bytes }
+    {
+        accepted_freshness(&self.receiver, self.bytes)
+    }
+
+    /// A try of a kind, counted from 0.
+    pub fn trial(&self, kind: ReasonKind, at: usize) -> Comparison
+        requires { at < number_of_tries self.now kind }
+        ensures { result ≡ trial_of self.now kind at }
+    {
+        match kind {
+            ReasonKind::Replay => self.replay(at),
+            ReasonKind::FarAhead => self.far_ahead(at),
+            ReasonKind::OtherLength => self.other_length(at),
+            ReasonKind::OtherLine => self.other_line(at),
+            ReasonKind::OtherKey => self.other_key(at),
+            ReasonKind::OtherId => self.other_id(at),
+            ReasonKind::SwappedId => trial_within(Making::SwappedId, &self.receiver, self.bytes),
+            ReasonKind::SwappedFreshness => {
+                trial_within(Making::SwappedFreshness, &self.receiver, self.bytes)
+            }
+            ReasonKind::LastBytes => trial_within(Making::LastBytes, &self.receiver, self.bytes),
+            ReasonKind::FlippedBit => self.flipped_bit(at),
+        }
+    }
+
+    /// How many tries of a kind there are.
+    pub fn count(&self, kind: ReasonKind) -> usize
+        ensures value { result ≡ number_of_tries self.now kind }
+        ensures few { result ≤ 65536 }
+    {
+        match kind {
+            ReasonKind::Replay => self.recent.len(),
+            ReasonKind::FarAhead => FAR,
+            ReasonKind::OtherLength => 60,
+            ReasonKind::OtherLine | ReasonKind::OtherKey | ReasonKind::OtherId => self.lines.len(),
+            ReasonKind::SwappedId | ReasonKind::SwappedFreshness | ReasonKind::LastBytes => 1,
+            ReasonKind::FlippedBit => 8 * (self.receiver.size + 4),
+        }
+    }
+
+    /// The reason that a try gives if it agrees.
+    pub fn reason(&self, kind: ReasonKind, at: usize) -> Reason
+        requires { at < number_of_tries self.now kind }
+        ensures { result ≡ reason_at self.now kind at }
+    {
+        match kind {
+            ReasonKind::Replay => Reason::Replay(self.number_of_accepted(at)),
+            ReasonKind::FarAhead => Reason::FarAhead(self.beyond() + at, self.receiver.window),
+            ReasonKind::OtherLength => Reason::OtherLength(at + 1),
+            ReasonKind::OtherLine => Reason::OtherLine(self.numbers[at]),
+            ReasonKind::OtherKey => Reason::OtherKey(self.numbers[at]),
+            ReasonKind::OtherId => Reason::OtherId(self.numbers[at]),
+            ReasonKind::SwappedId => Reason::SwappedId,
+            ReasonKind::SwappedFreshness => Reason::SwappedFreshness,
+            ReasonKind::LastBytes => Reason::LastBytes,
+            ReasonKind::FlippedBit => Reason::FlippedBit(at / 8, at % 8),
+        }
+    }
+
+    /// The reason if no try agrees.
+    pub fn last_reason(&self) -> Reason
+        ensures { result ≡ last_reason self.now }
+    {
+        if self.bytes.len() < self.receiver.size + 4 {
+            Reason::TooShort(self.receiver.size)
+        } else {
+            Reason::NoReason
+        }
+    }
+
+    /// How far ahead of the counter the first freshness beyond the window is.
+    fn beyond(&self) -> usize
+        ensures value { result ≡ beyond self.now.receiver }
+        ensures few { result ≤ 257 }
+    {
+        usize::from(self.receiver.window) + 1
+    }
+
+    /// The number of the log's line of an accepted frame.
+    fn number_of_accepted(&self, at: usize) -> u64
+        ensures { result ≡ unwrap_or (option_map (λ a. a.number) (slice_get self.now.recent at)) 0 }
+    {
+        match self.recent.get(at) {
+            Some(accepted) => accepted.number,
+            None => 0,
+        }
+    }
+
+    /// The freshness of an accepted frame.
+    fn replay(&self, at: usize) -> Comparison
+        ensures { result ≡ trial_of self.now kind.Replay at }
+    {
+        let Some(accepted) = self.recent.get(at) else {
+            return Comparison::Skipped;
+        };
+        if accepted.place != self.place {
+            return Comparison::Skipped;
+        }
+        trial_with(&self.receiver, self.bytes, accepted.freshness)
+    }
+
+    /// A freshness beyond the window.
+    fn far_ahead(&self, at: usize) -> Comparison
+        requires { at < 65536 }
+        ensures { result ≡ trial_of self.now kind.FarAhead at }
+    {
+        trial_ahead(&self.receiver, self.bytes, (self.beyond() + at) as u64)
+    }
+
+    /// Another length of the payload.
+    fn other_length(&self, at: usize) -> Comparison
+        requires { at < 60 }
+        ensures { result ≡ trial_of self.now kind.OtherLength at }
+    {
+        let size = at + 1;
+        if size == self.receiver.size {
+            return Comparison::Skipped;
+        }
+        let mut other = self.receiver;
+        other.size = size;
+        trial_within(Making::Standard, &other, self.bytes)
+    }
+
+    /// Another line of the map.
+    fn other_line(&self, at: usize) -> Comparison
+        requires { at < length self.now.lines }
+        ensures { result ≡ trial_of self.now kind.OtherLine at }
+    {
+        if at == self.place {
+            return Comparison::Skipped;
+        }
+        let other = receiver_of(&self.lines[at], self.counters[at]);
+        trial_within(Making::Standard, &other, self.bytes)
+    }
+
+    /// The key of another line of the map.
+    fn other_key(&self, at: usize) -> Comparison
+        requires { at < length self.now.lines }
+        ensures { result ≡ trial_of self.now kind.OtherKey at }
+    {
+        if at == self.place {
+            return Comparison::Skipped;
+        }
+        let mut other = self.receiver;
+        other.key = self.lines[at].key;
+        trial_within(Making::Standard, &other, self.bytes)
+    }
+
+    /// The Data ID of another line of the map.
+    fn other_id(&self, at: usize) -> Comparison
+        requires { at < length self.now.lines }
+        ensures { result ≡ trial_of self.now kind.OtherId at }
+    {
+        if at == self.place {
+            return Comparison::Skipped;
+        }
+        let mut other = self.receiver;
+        other.id = self.lines[at].id;
+        trial_within(Making::Standard, &other, self.bytes)
+    }
+
+    /// One bit flipped.
+    fn flipped_bit(&self, bit: usize) -> Comparison
+        ensures { result ≡ trial_of self.now kind.FlippedBit bit }
+    {
+        let mut room = [0u8; MOST_BYTES];
+        let bytes = &mut room[..self.bytes.len()];
+        bytes.copy_from_slice(self.bytes);
+        flip(bit, bytes);
+        trial_within(Making::Standard, &self.receiver, bytes)
+    }
+}
+
+/// Flips one bit. Bits are counted from the first byte on, and in a byte from the lowest.
+fn flip(bit: usize, bytes: &mut [u8])
+    ensures { bytes.new ≡ flipped bit bytes.old }
+{
+    let place = bit / 8;
+    if place < bytes.len() {
+        bytes[place] ^= mask(bit % 8);
+    }
+}
+
+/// The byte of which one bit is set.
+fn mask(bit: usize) -> u8
+    requires { bit < 8 }
+    ensures { result ≡ 2 ^ bit }
+{
+    1 << bit
+}

@@ -1,0 +1,3 @@
+pub mod Comparing
+pub mod Expects
+pub mod CompareSteps

@@ -1,0 +1,170 @@
+//! A run whose output is compared.
+ghost use Rattle.std.specs.Prelude.{◌≡◌, ◌≤◌, ◌<◌, ◌^◌, ℕ, List, [], length, map as each, string_bytes, IfOk, IfErr};
+ghost use Rattle.std.specs.Prelude.{vec_capacity};
+ghost use Rattle.bus_port.specs.Source.{SourceState};
+ghost use Rattle.program_edge.specs.Inputs.{ReadsWhole};
+ghost use Rattle.program_edge.specs.Told.{EndingTold};
+ghost use Rattle.trace_audit.specs.Auditing.{Finding};
+ghost use Rattle.watch_commands.specs.States.{Watched};
+ghost use Rattle.watch_commands.specs.Words.{AsksWatch};
+ghost use Rattle.watch_commands.specs.WatchSteps.{SoFar};
+ghost use Rattle.watch_expect.specs.Comparing.{difference_text};
+ghost use Rattle.watch_expect.specs.Expects.{kept_row, Expects};
+ghost use Rattle.watch_expect.specs.CompareSteps.{IsKeptRow, ports_at, ComparesLog, ComparesPiece};
+
+use crate::texts::{follow, follow_to_end, line_at};
+use bus_port::{PortFailed, Sink, Source};
+use itoa::Buffer;
+use program_edge::{DONE, InputFault, Refusal, read_input, tell, tell_refusal};
+use std::alloc::{AllocError, Global};
+use trace_audit::{PIECE, add_bytes};
+use watch_commands::{Watch, prepare};
+
+/// The status if the output isn't the kept text.
+const DIFFERS: u8 = 1;
+
+/// The most bytes that tell a difference.
+const DIFFERENCE_ROOM: usize = 54;
+
+/// A kept text of at most 1,048,576 bytes, and room for the line that tells its first difference.
+#[derive(Drop)]
+struct Kept {
+    text: Vec<u8>,
+    line: Vec<u8>,
+}
+
+/// Watches a log, and ends with 0 exactly if `watch` prints the kept text, of at most 1,048,576 bytes. Nothing is
+/// printed on standard output. The kept text is read whole, then the map. Each piece of the log is compared before the
+/// log is read again. At the first difference the run ends with 1, and its line is told on `errors`; so, too, if the
+/// output ends before the text. The rows of faults are those of `run_watch`, and of the kept text 5, 8 and 7. Out of
+/// memory comes only before the log.
+pub fn run_expected<F: Source, S: Source, T: Source, E: Sink>(
+    alloc: Global,
+    words: &[String],
+    kept: &mut F,
+    map: &mut S,
+    log: &mut T,
+    errors: &mut E,
+) -> u8
+    requires { AsksWatch (each string_bytes words.now) }
+    ensures { Expects
+        (record {
+          words = each string_bytes words.now;
+          kept = record { before = F.state kept.old; after = F.state kept.new };
+          map = record { before = S.state map.old; after = S.state map.new };
+          log = record { before = T.state log.old; after = T.state log.new };
+        })
+        (record { errors = record { before = E.state errors.old; after = E.state errors.new }; status = result }) }
+{
+    let mut kept = match read_kept(alloc, kept) {
+        Ok(kept) => kept,
+        Err(refusal) => return tell_refusal(errors, &refusal),
+    };
+    let mut watch = match prepare(alloc, words, map) {
+        Ok(watch) => watch,
+        Err(refusal) => return tell_refusal(errors, &refusal),
+    };
+    match compare_log(&mut watch, kept.text.as_slice(), log) {
+        Ok(None) => DONE,
+        Ok(Some(count)) => tell_difference(&mut kept, count, errors),
+        Err(refusal) => tell_refusal(errors, &refusal),
+    }
+}
+
+/// The text that a source gives, and room for the line that tells a difference; or the row of the fault.
+fn read_kept<F: Source>(alloc: Global, kept: &mut F) -> Result<Kept, Refusal>
+    ensures ok { IfOk result (λ k. (54 ≤ vec_capacity k.line)
+        × ReadsWhole (record { before = F.state kept.old; after = F.state kept.new }) k.text.items) }
+    ensures err { IfErr result (IsKeptRow (record { before = F.state kept.old; after = F.state kept.new })) }
+{
+    let text = match read_input(alloc, kept) {
+        Ok(text) => text,
+        Err(fault) => return Err(kept_refusal(fault)),
+    };
+    match Vec::with_capacity(alloc, DIFFERENCE_ROOM) {
+        Ok(line) => Ok(Kept { text, line }),
+        Err(AllocError) => Err(Refusal::no_memory()),
+    }
+}
+
+/// The refusal if a source gives no kept text.
+fn kept_refusal(fault: InputFault) -> Refusal
+    ensures { result ≡ kept_row fault }
+{
+    match fault {
+        InputFault::ReadFault => Refusal::fixed(5, "expect: read fault\n"),
+        InputFault::TooLong => Refusal::fixed(8, "expect: input too long\n"),
+        InputFault::Memory => Refusal::no_memory(),
+    }
+}
+
+/// Tells the line of a text that goes on behind its first bytes.
+fn tell_difference<E: Sink>(kept: &mut Kept, count: usize, errors: &mut E) -> u8
+    requires room { 54 ≤ vec_capacity kept.old.line }
+    requires within { count ≤ length kept.old.text.items }
+    requires short { length kept.old.text.items < 2 ^ 32 }
+    ensures { EndingTold (E.state errors.old) (E.state errors.new) (difference_text kept.old.text.items count) 1 result }
+{
+    let mut digits = Buffer::new();
+    let line = line_at(kept.text.as_slice(), count);
+    kept.line.clear();
+    add_bytes(&mut kept.line, b"expect: line ");
+    add_bytes(&mut kept.line, digits.format(line).as_bytes());
+    add_bytes(&mut kept.line, b"\n");
+    tell(errors, kept.line.as_slice(), DIFFERS)
+}
+
+/// Compares what is found of a log with a text: where they part, if they do, or the row of the log's fault.
+fn compare_log<T: Source>(
+    watch: &mut Watch,
+    text: &[u8],
+    log: &mut T,
+) -> Result<Option<usize>, Refusal>
+    requires { Watched watch.old [] [] }
+    ensures { ComparesLog watch.old.mapping (record { before = T.state log.old; after = T.state log.new }) text.now result }
+{
+    let mut piece = [0u8; PIECE];
+    let mut at = 0;
+    for _ in 0..u64::MAX {
+        match compare_piece(watch, text, &mut at, log, &mut piece) {
+            Some(end) => return end,
+            None => (),
+        }
+    }
+    Err(Refusal::fixed(8, "log: input too long\n"))
+}
+
+/// Compares what is found of the next piece of the log. Where the texts part or a row if they do, the log ended or
+/// failed.
+fn compare_piece<T: Source>(
+    watch: &mut Watch,
+    text: &[u8],
+    at: &mut usize,
+    log: &mut T,
+    piece: &mut [u8; PIECE],
+) -> Option<Result<Option<usize>, Refusal>>
+    requires { at.old ≤ length text.now }
+    ensures within { at.new ≤ length text.now }
+    ensures mapping { watch.new.mapping ≡ watch.old.mapping }
+    ensures turns { (first : SourceState) (bytes : List ℕ) (findings : List Finding)
+        → SoFar (ports_at (record { before = first; after = T.state log.old }) text.now at.old) watch.old bytes findings
+        → ComparesPiece watch.old.mapping (record { before = first; after = T.state log.new }) text.now at.new
+        watch.new bytes findings result }
+{
+    let count = match log.read(piece) {
+        Ok(count) => count,
+        Err(PortFailed) => return Some(Err(Refusal::fixed(5, "log: read fault\n"))),
+    };
+    if count == 0 {
+        watch.end();
+        return Some(Ok(follow_to_end(text, *at, watch.text())));
+    }
+    watch.find(&piece[..count]);
+    match follow(text, *at, watch.text()) {
+        Ok(next) => {
+            *at = next;
+            None
+        }
+        Err(place) => Some(Ok(Some(place))),
+    }
+}
