@@ -24,7 +24,7 @@ use Rattle.watch_commands.specs.WatchSteps.{SoFar}
 use Rattle.watch_commands.proofs.CallerLemmas.{asks_no_text, complete_of, SoFar-more, at_end}
 use Rattle.watch_expect.specs.Comparing.{difference_text, LeavesAt, PrintsAll, DiffersIn, goes_on, ends, holds_bytes, writes_bytes}
 use Rattle.watch_expect.specs.Comparing as differs
-use Rattle.watch_expect.specs.CompareSteps.{EndsAs, ComparesLog, ports_at}
+use Rattle.watch_expect.specs.CompareSteps.{EndsAsKept, ComparesLog, ports_at}
 use Rattle.watch_expect.specs.Expects.{ExpectInputs, ExpectEnding, watched_of, kept_row, ComesExpected, Expects}
 use Rattle.watch_expect.specs.Expects as row
 
@@ -52,7 +52,7 @@ well_is all text well = same_Some all text (well.1.grown [] refl)
 
 -- what is printed of the whole log, and the text
 ended_as : (mapping : NumberedMap) (log : Reading) (text : List ℕ) (at : ℕ) (found : List ℕ) (end : Option ℕ)
-    → ((t : List ℕ) → t ≡ take at text ++ found → PrintsAll mapping log t) → EndsAs text at found end → ComparesLog mapping log text (Ok end)
+    → ((t : List ℕ) → t ≡ take at text ++ found → PrintsAll mapping log t) → EndsAsKept text at found end → ComparesLog mapping log text (Ok end)
 ended_as mapping log text at found None prints is = prints text is
 ended_as mapping log text at found (Some n) prints (few, inl leaves) = (few, differs.at_end (take at text ++ found) (prints (take at text ++ found) refl) leaves)
 ended_as mapping log text at found (Some n) prints (few, inr (less, is)) = (few, ends (prints (take n text) is) less)
@@ -89,7 +89,7 @@ module _ (first log later : SourceState) (text : List ℕ) (at : ℕ) (old new :
   pub log_ends : (room left : List ℕ) (more : List Finding) (found : List ℕ) (end : Option ℕ) → HandsOut log later room left 0 → 0 < length room
       → FindsAll old.mapping.lines bytes (findings ++ more)
       → found ≡ found_text old.mapping more ++ totals_text old.mapping (findings ++ more)
-      → EndsAs text at found end → ComparesLog old.mapping reading text (Ok end)
+      → EndsAsKept text at found end → ComparesLog old.mapping reading text (Ok end)
   log_ends room left more found end hands some finds found_is so =
       let all : List Finding = findings ++ more in
       let to_end : ReadsToEnd reading bytes =

@@ -16,14 +16,14 @@ abbrev pub IsKeptRow : Reading → Row → Type 0
 IsKeptRow kept row = (fault : InputFault) × Lacks kept fault × (row ≡ kept_row fault)
 
 -- what goes on behind the first bytes of a text: all of it is the text's next bytes, which end there; or both texts part
-abbrev pub Follows : List ℕ → ℕ → List ℕ → Result ℕ ℕ → Type 0
-Follows text at found (Ok n) = (n ≤ length text) × (take n text ≡ take at text ++ found)
-Follows text at found (Err n) = (n ≤ length text) × LeavesAt text (take at text ++ found) n
+abbrev pub FollowsKept : List ℕ → ℕ → List ℕ → Result ℕ ℕ → Type 0
+FollowsKept text at found (Ok n) = (n ≤ length text) × (take n text ≡ take at text ++ found)
+FollowsKept text at found (Err n) = (n ≤ length text) × LeavesAt text (take at text ++ found) n
 
 -- the same if nothing goes on behind it
-abbrev pub EndsAs : List ℕ → ℕ → List ℕ → Option ℕ → Type 0
-EndsAs text at found None = text ≡ take at text ++ found
-EndsAs text at found (Some n) = (n ≤ length text)
+abbrev pub EndsAsKept : List ℕ → ℕ → List ℕ → Option ℕ → Type 0
+EndsAsKept text at found None = text ≡ take at text ++ found
+EndsAsKept text at found (Some n) = (n ≤ length text)
     × (LeavesAt text (take at text ++ found) n ⊎ ((n < length text) × (take n text ≡ take at text ++ found)))
 
 -- how a comparison ends: what is printed of the log is the text, or it differs; or the log failed

@@ -2,7 +2,7 @@
 ghost use Rattle.std.specs.Prelude.{◌≡◌, ◌≤◌, ◌<◌, ◌^◌, length, take};
 ghost use Rattle.std.specs.List.{slice_get};
 ghost use Rattle.watch_expect.specs.Comparing.{Parts, line_number};
-ghost use Rattle.watch_expect.specs.CompareSteps.{Follows, EndsAs};
+ghost use Rattle.watch_expect.specs.CompareSteps.{FollowsKept, EndsAsKept};
 
 /// How many first bytes two texts have in common.
 fn count_same(text: &[u8], other: &[u8]) -> usize
@@ -24,7 +24,7 @@ fn count_same(text: &[u8], other: &[u8]) -> usize
 /// the texts part.
 pub fn follow(text: &[u8], at: usize, found: &[u8]) -> Result<usize, usize>
     requires { at ≤ length text.now }
-    ensures { Follows text.now at found.now result }
+    ensures { FollowsKept text.now at found.now result }
 {
     let count = count_same(&text[at..], found);
     if count < found.len() {
@@ -36,7 +36,7 @@ pub fn follow(text: &[u8], at: usize, found: &[u8]) -> Result<usize, usize>
 /// The same if nothing is found behind it: where the texts part, if they do.
 pub fn follow_to_end(text: &[u8], at: usize, found: &[u8]) -> Option<usize>
     requires { at ≤ length text.now }
-    ensures { EndsAs text.now at found.now result }
+    ensures { EndsAsKept text.now at found.now result }
 {
     match follow(text, at, found) {
         Ok(next) => {
