@@ -1,0 +1,207 @@
+#!/usr/bin/env python3
+"""station_model: what `station slots` and `station ledger` are to print, from docs/formats.md alone.
+
+station_model slots list|check FILE, slots reply FILE UID ID AUTH, ledger list|open FILE.., ledger export FILE, ledger
+show FILE UID SLOT: prints the text, and ends with the status. Replies are made by bus_model (python3-cryptography).
+"""
+import sys
+
+FLAGS = ("WRITE_PROTECTION", "BOOT_PROTECTION", "DEBUGGER_PROTECTION", "KEY_USAGE", "WILDCARD")
+LIVE = 0xA7
+
+
+class No(Exception):
+    """A status and a text."""
+
+
+def counting(first, second):
+    """Which of two things, each a gate and a mark, counts: 0, 1 or None."""
+    live = [thing[0] == LIVE for thing in (first, second)]
+    if any(alive and thing[1] > 2 for alive, thing in zip(live, (first, second))) or not any(live):
+        return None
+    if all(live):
+        if first[1] == second[1]:
+            return None
+        return 0 if first[1] == (second[1] + 1) % 3 else 1
+    return 0 if live[0] else 1
+
+
+def header(data, version):
+    """Kind and number of cells of the store of this version, or None."""
+    head = data[32768 * (version - 1):][:32]
+    if len(head) == 32 and head[:8] == b"SECOCST1" and head[8] in (1, 2) and head[9] == version and not any(head[12:]):
+        cells = int.from_bytes(head[10:12], "big")
+        return (head[8], cells) if 1 <= cells <= 1024 else None
+    return None
+
+
+def twin_cells(store, count):
+    """The cells of a twin store; None for a damaged one."""
+    cells = []
+    for cell in range(count):
+        copies = [store[at:at + 34] for at in (32 + 68 * cell, 66 + 68 * cell)]
+        side = counting(*copies)
+        cells.append(None if side is None else copies[side][2:])
+    return cells
+
+
+def log_cells(store, count):
+    """The cells of a log store, or the number of what is damaged."""
+    size = 2242 + 32 * count
+    banks = [store[at:at + size] for at in (32, 32 + size)]
+    side = counting(*banks)
+    if side is None:
+        return None, 0
+    bank = banks[side]
+    cells = [bank[2 + 32 * cell:34 + 32 * cell] for cell in range(count)]
+    closed = False
+    for place in range(64):
+        record = bank[2 + 32 * count + 35 * place:][:35]
+        if record[0] != LIVE:
+            closed = True
+            continue
+        number = int.from_bytes(record[1:3], "big")
+        if closed or number >= count:
+            return None, place + 1
+        cells[number] = record[3:]
+    return cells, None
+
+
+def found(data):
+    """Kind, version, number of cells and bytes from the base on of the store that counts."""
+    if len(data) < 32:
+        raise No(9, "store: TooSmall\n")
+    low, high = header(data, 1), header(data, 2)
+    if high and (high == low or not low):
+        kind, version, cells = high[0], 2, high[1]
+    elif low:
+        kind, version, cells = low[0], 1, low[1]
+    else:
+        raise No(9, "store: NotFormatted\n")
+    if cells < 14:
+        raise No(9, "store: too few cells\n")
+    store = data[32768 * (version - 1):]
+    if len(store) < (32 + 68 * cells if kind == 1 else 4516 + 64 * cells):
+        raise No(9, "store: TooSmall\n")
+    return kind, version, cells, store
+
+
+def cells_of(kind, count, store):
+    """The cells, None for a damaged one, and the first damaged number."""
+    if kind == 2:
+        return log_cells(store, count)
+    cells = twin_cells(store, count)
+    return cells, cells.index(None) if None in cells else None
+
+
+def slot_of(cell):
+    """None if it is no slot; () if it is empty; else flags, counter and key."""
+    if not any(cell):
+        return ()
+    counter = int.from_bytes(cell[2:6], "big")
+    if cell[0] != 1 or cell[1] >= 32 or counter >= 1 << 28 or any(cell[22:]):
+        return None
+    return cell[1], counter, cell[6:22]
+
+
+def line_of(place, cell):
+    """The line of a cell, and whether it holds what its place may."""
+    if place < 14:
+        slot = slot_of(cell)
+        if slot is None:
+            return f"cell {place} BadSlot\n", False
+        if not slot:
+            return f"slot {place} empty\n", True
+        names = [name for bit, name in enumerate(FLAGS) if slot[0] >> (4 - bit) & 1]
+        return " ".join([f"slot {place} filled {slot[1]}"] + names) + "\n", True
+    if cell[0] != 2 or cell[1] not in (1, 2) or any(cell[12:]):
+        return f"cell {place} BadBound\n", False
+    return f"bound {place} {cell[2:4].hex()} {'sends' if cell[1] == 1 else 'receives'} {cell[4:12].hex()}\n", True
+
+
+def slots(name, data, values):
+    """What `slots NAME` prints of these bytes, and the status."""
+    if name == "reply":
+        uid, slot, auth = bytes.fromhex(values[0]), int(values[1]), int(values[2])
+        if slot == 0 or not (auth == 1 or (auth == 2 if slot == 3 else auth == slot)):
+            raise No(1, "refused BadPair\n")
+    kind, version, count, store = found(data)
+    cells, damaged = cells_of(kind, count, store)
+    head = f"store {('twin', 'log')[kind - 1]} {version} {count}\n"
+    if name == "check":
+        if cells is None:
+            return 1, f"{head}cell {damaged} Damaged\n"
+        lines = []
+        for place, cell in enumerate(cells):
+            line, good = (f"cell {place} Damaged\n", False) if cell is None else line_of(place, cell)
+            lines += [] if good else [line]
+        return (1 if lines else 0), head + "".join(lines)
+    if damaged is not None:
+        raise No(9, f"store: Damaged {damaged}\n")
+    if name == "list":
+        return 0, head + "".join(line_of(place, cell)[0] for place, cell in enumerate(cells))
+    held = slot_of(cells[slot])
+    if held is None:
+        raise No(9, f"store: BadSlot {slot}\n")
+    if not held:
+        raise No(1, "refused KEY_EMPTY\n")
+    import bus_model
+    m4, m5 = bus_model.reply(uid, slot, auth, held[1], held[2])
+    return 0, f"loaded {m4.hex()} {m5.hex()}\n"
+
+
+def entries_of(data):
+    """The entries of the ledger of these bytes, in the order of their places: UID, slot, counter, whether confirmed."""
+    if len(data) < 32 + 68 * 256:
+        raise No(9, "store: TooSmall\n")
+    if header(data, 1) != (1, 256):
+        raise No(9, "store: NotFormatted\n")
+    cells = twin_cells(data, 256)
+    if None in cells:
+        raise No(9, f"store: Damaged {cells.index(None)}\n")
+    entries, seen = [], set()
+    for place, cell in enumerate(cells):
+        if not any(cell):
+            continue
+        uid, slot, counter = cell[1:16], cell[16], int.from_bytes(cell[17:21], "big")
+        if (cell[0] != 3 or not any(uid) or not 1 <= slot <= 13 or not 1 <= counter < 1 << 28 or cell[21] > 1
+                or any(cell[22:]) or (uid, slot) in seen):
+            raise No(9, f"store: BadEntry {place}\n")
+        seen.add((uid, slot))
+        entries.append((uid, slot, counter, bool(cell[21])))
+    return entries
+
+
+def ledger(name, files, values):
+    """What `ledger NAME` prints of the bytes of these files, and the status."""
+    state = {False: "issued", True: "confirmed"}
+    entries = [entry for data in files for entry in entries_of(data)]
+    if name == "show":
+        unit = bytes.fromhex(values[0]), int(values[1])
+        held = [entry for entry in entries if entry[:2] == unit]
+        return (0, f"{state[held[0][3]]} {held[0][2]}\n") if held else (1, "none\n")
+    lines = [f"{uid.hex()} {slot} {counter} {state[confirmed]}\n" for uid, slot, counter, confirmed in entries
+             if name != "open" or not confirmed]
+    return 0, "".join(lines) + (f"end {len(lines)}\n" if name == "export" else "")
+
+
+def read(name):
+    """The bytes of a file."""
+    with open(name, "rb") as file:
+        return file.read()
+
+
+def main(words):
+    several = words[:1] == ["ledger"] and words[1] in ("list", "open")
+    files = [read(name) for name in (words[2:] if several else words[2:3])]
+    try:
+        status, text = (slots(words[1], files[0], words[3:]) if words[0] == "slots"
+                        else ledger(words[1], files, words[3:]))
+    except No as no:
+        status, text = no.args
+    sys.stdout.write(text)
+    return status
+
+
+if __name__ == "__main__":
+    sys.exit(main(sys.argv[1:]))
