@@ -50,7 +50,8 @@
  *         return status;
  *     }
  *
- *     // at power-up, and when all begins again: in place of read_device
+ *     // at power-up, and when all begins again: in place of read_device. The driver waits first,
+ *     // until the part rests.
  *     if (rathonsi_flash_begin(&flash, 8u, 2u, 4096u, n) != RATHONSI_OK || work() != RATHONSI_OK
  *         || rathonsi_flash_image(&flash, cells, n, image, sizeof image) != RATHONSI_OK)
  *         stop();

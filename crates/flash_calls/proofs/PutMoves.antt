@@ -62,7 +62,7 @@ fails_so : (operation : Operation) (outcome : ℕ) (came : FlashOutcome) → Com
 fails_so (Read bank place) outcome came comes = (
   (λ f. elim (cases_lt 2 outcome) [
     | inl over ↦ over
-    | inr most ↦ absurd (comes.1 (omega (arith, most)) f)
+    | inr most ↦ absurd (comes.1.1 (omega (arith, most)) f)
   ]),
   (λ over. subst (Fails (Read bank place)) (sym (comes.0 over)) tt),
 )

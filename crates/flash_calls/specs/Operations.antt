@@ -11,7 +11,7 @@ use Rattle.flash_lines.specs.Units.{unit_bytes}
 use Rattle.flash_plan.specs.declared.operations.Operation.{Operation}
 use Rattle.flash_plan.specs.declared.operations.Operation.TheVariants.{Read, Erase, Program}
 use Rattle.flash_plan.specs.declared.operations.FlashOutcome.{FlashOutcome}
-use Rattle.flash_plan.specs.declared.operations.FlashOutcome.TheVariants.{Done, Failed}
+use Rattle.flash_plan.specs.declared.operations.FlashOutcome.TheVariants.{Answered, Done, Failed}
 use Rattle.flash_plan.specs.Plans.{IsPlanOf, Fails}
 use Rattle.flash_calls.specs.declared.numbers.FlashNumbers.{FlashNumbers}
 use Rattle.flash_calls.specs.declared.operations.FlashOperation.{FlashOperation}
@@ -72,10 +72,12 @@ pub record PerformsBytes (places size : ℕ) (operation : Operation) (outcome : 
   pub does : DoesBytes operation outcome (take size bytes) f g
   pub behind : BlankBehind places g
 
--- The outcome of an operation, as a plan takes it. A read has failed only if the number is none of its own.
+-- The outcome of an operation, as a plan takes it. A read has failed only if the number is none of its own, and what is
+-- told blank counts as blank.
 abbrev pub Comes : Operation → ℕ → FlashOutcome → Type 0
 Comes (Read bank place) outcome came =
-    (2 < outcome → came ≡ Failed) × (outcome ≤ 2 → Fails (Read bank place) came → ⊥)
+    (2 < outcome → came ≡ Failed) × ((outcome ≡ 1 → came ≡ Answered Blank)
+    × (outcome ≤ 2 → Fails (Read bank place) came → ⊥))
 Comes (Erase bank) outcome came = came ≡ (if nat_eq outcome 0 then Done else Failed)
 Comes (Program bank place line) outcome came = came ≡ (if nat_eq outcome 0 then Done else Failed)
 

@@ -2,7 +2,8 @@
 ghost use Rattle.std.specs.Prelude.{◌≡◌, ◌≤◌, ◌<◌, ◌*◌, ◌^◌, ℕ, length, IfSome};
 ghost use Rattle.flash_places.specs.Places.{Flash};
 ghost use Rattle.flash_plan.specs.declared.operations.Operation.TheVariants.{Read};
-ghost use Rattle.flash_plan.specs.declared.operations.FlashOutcome.TheVariants.{Failed};
+ghost use Rattle.flash_places.specs.declared.Answer.TheVariants.{Blank};
+ghost use Rattle.flash_plan.specs.declared.operations.FlashOutcome.TheVariants.{Answered, Failed};
 ghost use Rattle.flash_plan.specs.Performing.{DoesOperation};
 ghost use Rattle.flash_plan.specs.Plans.{Fails};
 ghost use Rattle.flash_calls.specs.Operations.{SaysOperation, IsPlaceBelow, GaveRead, DoesBytes, Comes};
@@ -80,6 +81,7 @@ fn answer_of(outcome: u32, bytes: &[u8]) -> FlashOutcome
     ensures does { (bank place : ℕ) (f g : Flash) → GaveRead bank place outcome bytes.now f g
         → DoesOperation (Read bank place) result f g }
     ensures fails { 2 < outcome → result ≡ Failed }
+    ensures blank { outcome ≡ 1 → result ≡ Answered Blank }
     ensures well { (bank place : ℕ) → outcome ≤ 2 → Fails (Read bank place) result → ⊥ }
 {
     match outcome {
