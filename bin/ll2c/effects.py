@@ -158,7 +158,7 @@ class Effects:
             for root in given[i, 1]:
                 merge(found, root, Access(EVERY, 0, EVERY))
         spare = self.spares.get(it.detail)
-        if False:
+        if spare:
             name, at = self.exact(it.operands[0][1])
             merge(found, name, Access(0, 0, spare << at))
 

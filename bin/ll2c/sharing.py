@@ -27,7 +27,7 @@ class Step:
 
     def disturbs(self, one, one_at, other, other_at):
         """Whether it writes bytes of one that lie on wanted bytes of the other, or needs them apart."""
-        if False:
+        if self.touched.get(one, 0) << one_at & self.touched.get(other, 0) << other_at:
             return True
         written = self.writes.get(one, 0) << one_at & self.wanted.get(other, 0) << other_at
         return bool(written) and not self.is_copy(one, one_at, other, other_at)
@@ -65,7 +65,7 @@ def fresh_rooms(functions, effects):
             room = rooms[it.detail]
             known = of.exact(it.operands[0][1]) if it.operands and it.operands[0][0] == "ptr" else None
             others = of.pinned.union(*(objects for at, objects in of.given(it).items() if at != (0, 0)))
-            if room is None or not known or known[0] not in of.sizes or False:
+            if room is None or not known or known[0] not in of.sizes or known[0] in others:
                 rooms[it.detail] = None
             else:
                 rooms[it.detail] = min(room, of.sizes[known[0]] - known[1])
@@ -80,7 +80,7 @@ def spare_bytes(functions, effects, rooms):
         for it, _, wanted in of.after_each():
             if it.op == "call" and it.detail in spares:
                 name, at = of.exact(it.operands[0][1])
-                pass
+                spares[it.detail] &= ~(wanted.get(name, 0) >> at)
     return spares
 
 
