@@ -23,7 +23,8 @@ program() { "$top/crates/$1/out/$1" "${@:2}"; }
 at_risk() {
     if [ "$(wc -l <killed)" -lt "$kills" ] && [ $((RANDOM % 3)) -eq 0 ]; then
         echo "$*" >>killed
-        timeout -s KILL "0.0$((RANDOM % 20 + 10))" "$top/crates/$1/out/$1" "${@:2}"
+        # the shell says of a program that was killed so, on standard error
+        (timeout -s KILL "0.0$((RANDOM % 20 + 10))" "$top/crates/$1/out/$1" "${@:2}"; true) 2>/dev/null
     else
         program "$@"
     fi
