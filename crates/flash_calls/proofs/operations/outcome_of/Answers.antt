@@ -6,6 +6,7 @@ use Rattle.flash_calls.proofs.operations.outcome_of.Goals as goal
 
 pub returns-in-Read-clause-comes : goal.returns-in-Read-clause-comes
 returns-in-Read-clause-comes c =
-    subst (λ (o : Operation). Comes o c.args.outcome c.answer_of.result) (sym c.in-Read.is)
-    (c.answer_of.ensures.fails,
-    (c.answer_of.ensures.blank, (λ most. c.answer_of.ensures.well c.in-Read.field-0 c.in-Read.field-1 most)))
+    subst (λ (o : Operation). Comes o c.args.outcome c.answer_of.result) (sym c.in-Read.is) (
+      c.answer_of.ensures.fails,
+      (c.answer_of.ensures.blank, (λ most. c.answer_of.ensures.well c.in-Read.field-0 c.in-Read.field-1 most)),
+    )
