@@ -2,8 +2,8 @@
 # A key campaign for 20 units that goes through power losses: issue, load and confirm, and what is repeated after each
 # loss. At the end every slot is confirmed, and no counter was issued twice. The programs are those that bin/NAME built.
 #
-#   examples/station.sh FOLDER [KILLS]   works in FOLDER, which is made; of the calls of the programs that write, this
-#                                        many are killed at a random moment (default: 0)
+#   examples/station.sh FOLDER [KILLS]   works in FOLDER, which is made; at most so many calls of the programs that write
+#                                        are killed, each at a random moment of its work (default: 0)
 #
 # Each step looks first at what was done, so the whole script may be started again in the same folder at any time.
 set -u
@@ -12,6 +12,7 @@ top="$(cd "$(dirname "$(readlink -f "${BASH_SOURCE[0]}")")/.." && pwd)"
 folder="${1:?usage: station.sh FOLDER [KILLS]}"
 kills="${2:-0}"
 units=20
+slots=0
 master=000102030405060708090a0b0c0d0e0f
 empty=ffffffffffffffffffffffffffffffff
 mkdir -p "$folder" && cd "$folder" || exit 2
@@ -19,15 +20,22 @@ touch killed
 
 program() { "$top/crates/$1/out/$1" "${@:2}"; }
 
-# at_risk NAME WORD..: runs a program that writes; until so many were killed, one call in three is, within 30 ms
+# at_risk NAME WORD..: runs a program that writes. If not yet as many kills are done as are due by this slot, it is killed
+# at a random moment of five quarters of the time that the last whole call took. One that ends sooner is no kill
 at_risk() {
-    if [ "$(wc -l <killed)" -lt "$kills" ] && [ $((RANDOM % 3)) -eq 0 ]; then
-        echo "$*" >>killed
+    local began=${EPOCHREALTIME/./} due=$((kills * slots / (2 * units))) status
+    if [ -s span ] && [ "$(wc -l <killed)" -lt "$due" ]; then
         # the shell says of a program that was killed so, on standard error
-        (timeout -s KILL "0.0$((RANDOM % 20 + 10))" "$top/crates/$1/out/$1" "${@:2}"; true) 2>/dev/null
+        (timeout -s KILL "$(printf '0.%06d' $(((RANDOM * 32768 + RANDOM) % ($(cat span) * 5 / 4) + 1)))" \
+            "$top/crates/$1/out/$1" "${@:2}"; exit $?) 2>/dev/null
+        status=$?
+        [ "$status" -ne 137 ] || echo "$*" >>killed
     else
         program "$@"
+        status=$?
+        echo $((${EPOCHREALTIME/./} - began)) >span
     fi
+    return "$status"
 }
 
 # key UNIT SLOT: the key that the unit's slot is to have. Here it is made up; a station takes it from its key server
@@ -55,7 +63,7 @@ one() {
     store="unit$1.store"
     until confirmed "$uid" "$2"; do
         tries=$((tries + 1))
-        [ "$tries" -le 50 ] || { echo "unit $1 slot $2: no end after 50 tries" >&2; exit 1; }
+        [ "$tries" -le 500 ] || { echo "unit $1 slot $2: no end after 500 tries" >&2; exit 1; }
         if ! reply="$(loaded "$store" "$uid" "$2")"; then
             # nothing of the last issue is in the unit: issue again, with the next counter, and load
             request="$(printf 'issue %s %s 1 %s %s %s\n' "$uid" "$2" "$3" "$(key "$1" "$2")" "$(authkey "$store")" \
@@ -77,8 +85,10 @@ for unit in $(seq "$units"); do
     store="unit$unit.store"
     [ -s "$store" ] || cp "$top/examples/empty_slots.store" "$store"
     # slot 1 first: it authorises itself, and then every other slot
-    one "$unit" 1 00010
-    one "$unit" 4 00010
+    for slot in 1 4; do
+        slots=$((slots + 1))
+        one "$unit" "$slot" 00010
+    done
 done
 
 program station ledger export ledger >backup || exit 1
