@@ -34,8 +34,8 @@ pub data EndsInto (opens : List ℕ → DiskState → Type 0) (before after : Li
       → EndsOverLedgers strict entries e disks left → EndsInto opens before after word strict entries left e
 
 -- how a task ends over the files that it names: in a row, and no disk was opened; or over the disk
-pub data EndsAdoptTask (opens : List ℕ → DiskState → Type 0) (o : OpenedByWords) (words : List (List ℕ)) (asked : AdoptTask)
-    (left : List DiskState) (e : Ending) (files : List Reading) : Type 0 where
+pub data EndsAdoptTask (opens : List ℕ → DiskState → Type 0) (o : OpenedByWords) (words : List (List ℕ))
+    (asked : AdoptTask) (left : List DiskState) (e : Ending) (files : List Reading) : Type 0 where
   in_row : EndsInRow (LacksEntries asked files) e → o.disks_after ≡ o.disks_before → left ≡ []
       → EndsAdoptTask opens o words asked left e files
   with_entries : (entries : List LedgerEntry) → GivesEntries asked files entries
@@ -49,5 +49,6 @@ pub data EndsAdoptWords (opens : List ℕ → SourceState → Type 0) (disk_open
   asks_nothing : EndsInRow (AsksNoAdoption (adoption_asked words)) e → o.after ≡ o.before → left ≡ []
       → o.disks_after ≡ o.disks_before → disks ≡ [] → EndsAdoptWords opens disk_opens o words left disks e
   asks_it : (asked : AdoptTask) → adoption_asked words ≡ Some (Ok asked)
-      → OverAllNamed opens o.before o.after (files_asked asked words) left (EndsAdoptTask disk_opens o words asked disks e)
+      → OverAllNamed opens o.before o.after (files_asked asked words) left
+      (EndsAdoptTask disk_opens o words asked disks e)
       → EndsAdoptWords opens disk_opens o words left disks e

@@ -21,8 +21,8 @@ entry_slot_form word = if_some (slot_form word)
 abbrev pub entry_counter_form : List ℕ → Option ℕ
 entry_counter_form word = if_some (counter_form word)
 
--- `UID SLOT COUNTER` after the ledger, which is value 1: the entry, which is confirmed, or the number of the first value
--- that isn't of its form
+-- `UID SLOT COUNTER` after the ledger, which is value 1: the entry, which is confirmed, or the number of the first
+-- value that isn't of its form
 abbrev pub one_asked : List ℕ → List ℕ → List ℕ → Result AdoptTask ℕ
 one_asked uid id counter = do
   unit ← ok_or (engine_uid_form uid) 2

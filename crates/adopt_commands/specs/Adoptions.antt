@@ -50,8 +50,8 @@ pub record AllAdopted (before : KeeperState) (entries : List LedgerEntry) (lines
   pub calm : after.ledger.store.disk.faults ≡ before.ledger.store.disk.faults
   pub fits : FitsLedger before.ledger → FitsLedger after.ledger
 
--- These entries were answered so, and none found the disk failing. Then it failed as this one was put: it is pending, so
--- that after the next power-up it is there whole or not at all.
+-- These entries were answered so, and none found the disk failing. Then it failed as this one was put: it is pending,
+-- so that after the next power-up it is there whole or not at all.
 pub record LastNotPut (before : KeeperState) (entries : List LedgerEntry) (lines : List AdoptLine) (entry : LedgerEntry)
     (after : KeeperState) : Type 0 where
   pub mid : KeeperState

@@ -26,11 +26,11 @@ const REFUSED: u8 = 1;
 const DISK_FAILED: u8 = 10;
 
 /// The ledger on the first disk takes over these entries, one after another; what comes of each is written before the
-/// next. A disk whose first 32 bytes are zero is formatted as a ledger without entries. The disk is back in its place at
-/// every return.
+/// next. A disk whose first 32 bytes are zero is formatted as a ledger without entries. The disk is back in its place
+/// at every return.
 ///
-/// The statuses: 9 if there is no disk or no ledger; 10 if the disk failed; 1 if an entry was refused: `Full`, or, if it
-/// is strict, the ledger is ahead; else 0. A sink that fails makes it 6, out of memory is 7.
+/// The statuses: 9 if there is no disk or no ledger; 10 if the disk failed; 1 if an entry was refused: `Full`, or, if
+/// it is strict, the ledger is ahead; else 0. A sink that fails makes it 6, out of memory is 7.
 pub fn adopt_over<K: Sink, D: CutDisk>(
     alloc: Global,
     entries: &[LedgerEntry],

@@ -16,9 +16,9 @@ use key_campaign::LedgerEntry;
 use program_edge::{Opener, Refusal, WordSource, open_word, tell_refusal};
 use std::alloc::{AllocError, Global};
 
-/// Lets the ledger that the second argument names take over what the arguments say. It gives the status that the program
-/// ends with, and the source of the file and the disk as they were left. `-` names the input, which is taken then. The
-/// file is read whole before the disk is opened, so that one that is refused makes no file.
+/// Lets the ledger that the second argument names take over what the arguments say. It gives the status that the
+/// program ends with, and the source of the file and the disk as they were left. `-` names the input, which is taken
+/// then. The file is read whole before the disk is opened, so that one that is refused makes no file.
 ///
 /// The statuses are looked for in the order 2, 3, then 5, 8 and 9 of the file, 9 and 10 of the disk, 1.
 pub fn adopts_words<O: Opener, P: DiskOpener, I: Source + Drop, K: Sink>(
