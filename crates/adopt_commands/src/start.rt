@@ -9,10 +9,11 @@ ghost use Rattle.adopt_commands.specs.AdoptFiles.{EndsAdoptWords, EndsAdoptTask,
 
 use crate::adopting::adopt_over;
 use crate::entries::{entries_of, one_entry};
-use crate::tasks::{AdoptTask, task_in, word_of};
+use crate::tasks::{AdoptTask, task_in};
 use bus_port::{Sink, Source};
 use file_disk::{DiskOpener, open_disk};
 use key_campaign::LedgerEntry;
+use ledger_commands::word_at;
 use program_edge::{Opener, Refusal, WordSource, open_word, tell_refusal};
 use std::alloc::{AllocError, Global};
 
@@ -70,7 +71,7 @@ fn adopt_one<P: DiskOpener, K: Sink>(
 {
     match one_entry(alloc, entry) {
         Ok(entries) => {
-            let ledger = word_of(words, 2);
+            let ledger = word_at(words, 2);
             adopt_into(alloc, disk_opener, ledger, entries.as_slice(), true, sink)
         }
         Err(refusal) => {
@@ -113,12 +114,12 @@ fn merge_other<O: Opener, P: DiskOpener, I: Source + Drop, K: Sink>(
             return (tell_refusal(sink, &refusal), unopened, no_disk);
         }
     };
-    let mut file = open_word(opener, input, Some(word_of(words, 3)));
+    let mut file = open_word(opener, input, Some(word_at(words, 3)));
     let entries = entries_of(alloc, &mut file);
     files.push_reserved(file);
     match entries {
         Ok(entries) => {
-            let ledger = word_of(words, 2);
+            let ledger = word_at(words, 2);
             let (status, disks) = adopt_into(
                 alloc,
                 disk_opener,

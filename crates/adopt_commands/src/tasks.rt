@@ -1,6 +1,5 @@
 //! What the arguments after `ledger` ask for, if entries are to be taken over.
-ghost use Rattle.std.specs.Prelude.{◌≡◌, ◌≤◌, map as each, string_bytes, Some, Ok, IfOk, IfErr, length};
-ghost use Rattle.text_lines.specs.Readings.{nth_word};
+ghost use Rattle.std.specs.Prelude.{◌≡◌, map as each, string_bytes, Some, Ok, IfOk, IfErr};
 ghost use Rattle.adopt_commands.specs.AdoptTasks.{adoption_asked, asks_of, entry_slot_form, entry_counter_form};
 ghost use Rattle.adopt_commands.specs.AdoptTasks.{one_asked, IsOneEntry};
 ghost use Rattle.adopt_commands.specs.AdoptRows.{AsksNoAdoption, GivesOne};
@@ -8,6 +7,7 @@ ghost use Rattle.adopt_commands.specs.AdoptRows.{AsksNoAdoption, GivesOne};
 use crate::refusals::{counter_refusal, slot_refusal, unit_refusal, usage_refusal};
 use key_campaign::LedgerEntry;
 use key_slots::{Counter28, SlotId};
+use ledger_commands::word_at;
 use program_edge::Refusal;
 
 /// Which entries a ledger is to take over.
@@ -31,7 +31,7 @@ pub fn task_in(words: &[String]) -> Result<AdoptTask, Refusal>
         return Ok(AdoptTask::Merge);
     }
     if asks_of(words, "adopt", 5) {
-        return one_in(word_of(words, 3), word_of(words, 4), word_of(words, 5));
+        return one_in(word_at(words, 3), word_at(words, 4), word_at(words, 5));
     }
     Err(usage_refusal())
 }
@@ -40,18 +40,7 @@ pub fn task_in(words: &[String]) -> Result<AdoptTask, Refusal>
 fn asks_of(words: &[String], name: &str, count: usize) -> bool
     ensures { result ≡ asks_of (each string_bytes words.now) name.now count }
 {
-    words.len() == count && word_of(words, 1) == name
-}
-
-/// The argument with this number, from 1; empty if there are fewer.
-pub fn word_of(words: &[String], number: usize) -> &str
-    requires { 1 ≤ number }
-    ensures { result.now ≡ nth_word (each string_bytes words.now) number }
-{
-    if number > words.len() {
-        return "";
-    }
-    words[number - 1].as_str()
+    words.len() == count && word_at(words, 1) == name
 }
 
 fn one_in(uid: &str, id: &str, counter: &str) -> Result<AdoptTask, Refusal>

@@ -22,16 +22,16 @@ pub returns-in-Ok-entries : goal.returns-in-Ok-entries
 returns-in-Ok-entries g c =
     let state = word_source g.O.Opened.Source.state g.I.Source.state in
     let r : Reading = record { before = state c.open_word-file.result; after = state c.entries_of-entries.new.file } in
-    over_one_named _ _ _ c.word_of.result.now _ _ _ r c.word_of.ensures c.open_word-file.ensures.named c.open_word-file.ensures.left
+    over_one_named _ _ _ c.word_at.result.now _ _ _ r c.word_at.ensures c.open_word-file.ensures.named c.open_word-file.ensures.left
     (ap (map state) (c.push_reserved.ensures.items ∙ ap (λ l. l ++ c.entries_of-entries.new.file ∷ []) c.in-Ok.ensures.items))
     (with_entries c.in-Ok-entries.entries.items (r, refl, c.in-Ok-entries.ensures.gives)
-    (rw (c.as_slice.ensures.value, c.word_of-ledger.ensures) at c.adopt_into-status.ensures))
+    (rw (c.as_slice.ensures.value, c.word_at-ledger.ensures) at c.adopt_into-status.ensures))
 
 pub returns-in-Err-entries : goal.returns-in-Err-entries
 returns-in-Err-entries g c =
     let state = word_source g.O.Opened.Source.state g.I.Source.state in
     let r : Reading = record { before = state c.open_word-file.result; after = state c.entries_of-entries.new.file } in
-    over_one_named _ _ _ c.word_of.result.now _ _ _ r c.word_of.ensures c.open_word-file.ensures.named c.open_word-file.ensures.left
+    over_one_named _ _ _ c.word_at.result.now _ _ _ r c.word_at.ensures c.open_word-file.ensures.named c.open_word-file.ensures.left
     (ap (map state) (c.push_reserved.ensures.items ∙ ap (λ l. l ++ c.entries_of-entries.new.file ∷ []) c.in-Ok.ensures.items))
     (in_row (record { row = c.in-Err-entries.refusal; comes = no_other r c.in-Err-entries.refusal refl refl c.in-Err-entries.ensures.refused; told = c.tell_refusal-in-Err-entries.ensures })
     refl (ap (map g.P.Opened.Disk.state) c.new-no_disk-in-Err-entries.ensures.items))
