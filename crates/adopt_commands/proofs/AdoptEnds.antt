@@ -55,23 +55,26 @@ module _ (s t : KeeperState) (entries : List LedgerEntry) (before after : SinkSt
     front_are : All IsEntry (commands_in front)
     front_are = (All-pop IsEntry (commands_in (front ++ m ∷ [])) (commands_in front) (Some m.command) (adopt_commands_are front m) all_are).0
 
+    last_is : IsEntry m.command
+    last_is = (All-pop IsEntry (commands_in (front ++ m ∷ [])) (commands_in front) (Some m.command) (adopt_commands_are front m) all_are).1
+
     stopped_last : AppendedWell before after (adopt_texts (lines_in front) ++ adopt_text 0 m.line) → is_last_adoption m.line ≡ true
         → EndsAdopting s entries t (ending before after 10)
     stopped_last written is =
         not_put (commands_in front) m.command (drop k entries) (lines_in front) refl (entries_are entries front m k first)
-        (last_not_put s front m t sound up front_are run none is)
+        (last_not_put s front m t sound up front_are last_is run none is)
         (subst (λ told. AppendedWell before after (adopt_texts (lines_in front) ++ adopt_text 0 told)) (failed_line m.line is) written)
 
     stopped_short : (status : ℕ) → WritesBefore (ending before after status) (lines_in front) m.line → EndsAdopting s entries t (ending before after status)
     stopped_short status written = elim (cases_Bool (is_last_adoption m.line)) [
       | inl is ↦
           cut_and_not_put (commands_in front) m.command (drop k entries) (lines_in front) (entries_are entries front m k first)
-          (last_not_put s front m t sound up front_are run none is)
+          (last_not_put s front m t sound up front_are last_is run none is)
           (subst (WritesBefore (ending before after status) (lines_in front)) (failed_line m.line is) written)
       | inr isnt ↦
           let all : NoneLast (lines_in (front ++ m ∷ [])) =
           subst NoneLast (sym (adopt_lines_are front m)) (All-append (λ told. is_last_adoption told ≡ false) (lines_in front) (m.line ∷ []) none (one_line m.line isnt)) in
-          let adopted = (all_adopted_run s (front ++ m ∷ []) t sound up all_are run all).0 in
+          let adopted = all_adopted_run s (front ++ m ∷ []) t sound up all_are run all in
           cut_short (commands_in front) m.command (drop k entries) (lines_in front) m.line (entries_are entries front m k first)
           (subst (λ lines. AllAdopted s (commands_in front ++ m.command ∷ []) lines t) (adopt_lines_are front m)
           (subst (λ commands. AllAdopted s commands (lines_in (front ++ m ∷ [])) t) (adopt_commands_are front m) adopted))
@@ -92,7 +95,7 @@ module _ (s t : KeeperState) (entries : List LedgerEntry) (before after : SinkSt
   ends_adopting (Ok _) printed =
       let (many, none, written) = printed.holds in
       let all : commands_in printed.moments ≡ entries = printed.first ∙ ap (λ n. take n entries) many ∙ take-length entries in
-      let adopted = (all_adopted_run s printed.moments t sound up (subst (All IsEntry) (sym all) are) printed.run none).0 in
+      let adopted = all_adopted_run s printed.moments t sound up (subst (All IsEntry) (sym all) are) printed.run none in
       all_adopted (lines_in printed.moments) refl (subst (λ done. AllAdopted s done (lines_in printed.moments) t) all adopted)
       (subst (AppendedWell before after) (adopt_texts_is 1 (lines_in printed.moments)) written)
   ends_adopting (Err cause) printed =

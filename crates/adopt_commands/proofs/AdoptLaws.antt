@@ -70,14 +70,15 @@ calm_after old new entry (Err fault.NotConfirmed) serves untouched isnt = absurd
 
 -- ---- entries none of which finds it failing
 
-pub all_none : (s : KeeperState) → s.ledger.campaign.up ≡ true → AllAdopted s [] [] s
-all_none s up = record {
+pub all_none : (s : KeeperState) → SoundLedger s.ledger.campaign → s.ledger.campaign.up ≡ true → AllAdopted s [] [] s
+all_none s sound up = record {
   answers = no_entries s.ledger.campaign;
   none_failed = λ k d inside. absurd (omega (arith, inside));
   strict_is = refl;
   refused_is = sym (or_false s.refused);
   keeps = keeps_same s.ledger.campaign;
   up = up;
+  sound = sound;
   layout = refl;
   runs = runs_none s.ledger.store.disk;
   calm = refl;
@@ -93,9 +94,9 @@ or_assoc true b c = refl
 or_assoc false b c = refl
 
 pub all_adopted_run : (s : KeeperState) (ms : Moments) (t : KeeperState) → SoundLedger s.ledger.campaign → s.ledger.campaign.up ≡ true → All IsEntry (commands_in ms)
-    → Run AdoptTurn s ms t → NoneLast (lines_in ms) → AllAdopted s (commands_in ms) (lines_in ms) t × SoundLedger t.ledger.campaign
+    → Run AdoptTurn s ms t → NoneLast (lines_in ms) → AllAdopted s (commands_in ms) (lines_in ms) t
 all_adopted_run s [] t sound up are run none =
-    subst (λ (k : KeeperState). AllAdopted s [] [] k × SoundLedger k.ledger.campaign) (sym run) (all_none s up, sound)
+    subst (λ (k : KeeperState). AllAdopted s [] [] k) (sym run) (all_none s sound up)
 all_adopted_run s (m ∷ ms) t sound up are (turn, run) none =
     let isnt : is_last_adoption (adopt_line m.command turn.result) ≡ false = ap is_last_adoption (sym turn.line_is) ∙ none 0 m.line (omega arith) in
     let is : IsEntry m.command = are 0 m.command (omega arith) in
@@ -104,11 +105,10 @@ all_adopted_run s (m ∷ ms) t sound up are (turn, run) none =
     let c = s.ledger.campaign in
     let mid = m.after.ledger.campaign in
     let sound_mid = adopted_sound c m.command turn.result mid sound is turn.step in
-    let both = all_adopted_run m.after ms t sound_mid (up_after c m.command turn.result mid turn.step up isnt) more run later in
-    let rest = both.0 in
+    let rest = all_adopted_run m.after ms t sound_mid (up_after c m.command turn.result mid turn.step up isnt) more run later in
     let six_more : 6 + 6 * length (commands_in ms) ≡ 6 * suc (length (commands_in ms)) = omega arith in
     let lines_is : list_any (is_refused m.after.strict) (lines_in ms) ≡ list_any (is_refused s.strict) (lines_in ms) =
-    ap (λ b. list_any (is_refused b) (lines_in ms)) turn.strict_is in (
+    ap (λ b. list_any (is_refused b) (lines_in ms)) turn.strict_is in
       record {
         answers = subst (λ (l : AdoptLine). AdoptsEach c (m.command ∷ commands_in ms) (l ∷ lines_in ms) t.ledger.campaign) (sym turn.line_is)
             (one_adopted c mid t.ledger.campaign m.command (commands_in ms) turn.result (lines_in ms) turn.step rest.answers);
@@ -119,13 +119,12 @@ all_adopted_run s (m ∷ ms) t sound up are (turn, run) none =
             ∙ or_assoc s.refused (is_refused s.strict m.line) (list_any (is_refused s.strict) (lines_in ms));
         keeps = keeps_then c mid t.ledger.campaign (adopted_keeps c m.command turn.result mid sound is turn.step).0 rest.keeps;
         up = rest.up;
+        sound = rest.sound;
         layout = rest.layout ∙ turn.serves.layout;
         runs = runs_more (6 * suc (length (commands_in ms))) (omega (arith, six_more)) (runs_join turn.serves.runs rest.runs);
         calm = rest.calm ∙ calm_after s.ledger m.after.ledger m.command turn.result turn.serves turn.untouched isnt;
         fits = λ h. rest.fits (turn.serves.fits h);
-      },
-      both.1,
-    )
+      }
 
 -- ---- an entry that finds it failing, after others that didn't
 
@@ -140,11 +139,11 @@ failed_of s entry (Err fault.Faulted) t step up is = refl
 failed_of s entry (Err _) t step up is = absurd step.1
 
 pub last_not_put : (s : KeeperState) (front : Moments) (m : Moment LedgerEntry AdoptLine KeeperState) (t : KeeperState) → SoundLedger s.ledger.campaign → s.ledger.campaign.up ≡ true
-    → All IsEntry (commands_in front) → Run AdoptTurn s (front ++ m ∷ []) t → NoneLast (lines_in front) → is_last_adoption m.line ≡ true
+    → All IsEntry (commands_in front) → IsEntry m.command → Run AdoptTurn s (front ++ m ∷ []) t → NoneLast (lines_in front) → is_last_adoption m.line ≡ true
     → LastNotPut s (commands_in front) (lines_in front) m.command t
-last_not_put s front m t sound up are run none is =
+last_not_put s front m t sound up are entry_is run none is =
     let (mid, first, (turn, now)) = Run-split AdoptTurn s front (m ∷ []) t run in
-    let earlier = (all_adopted_run s front mid sound up are first none).0 in
+    let earlier = all_adopted_run s front mid sound up are first none in
     let result_is : turn.result ≡ Err fault.Faulted =
     failed_of mid m.command turn.result m.after.ledger turn.step earlier.up (ap is_last_adoption (sym turn.line_is) ∙ is) in
     let step = subst (λ (r : Result Adoption LedgerFault). AdoptStep mid.ledger.campaign m.command r m.after.ledger.campaign) result_is turn.step in
@@ -154,6 +153,8 @@ last_not_put s front m t sound up are run none is =
       change = step.0;
       makes = step.1;
       failed = step.2;
+      keeps = λ powered power. keeps_then s.ledger.campaign mid.ledger.campaign powered earlier.keeps
+          ((adopted_keeps mid.ledger.campaign m.command turn.result m.after.ledger.campaign earlier.sound entry_is turn.step).1 powered power);
       layout = turn.serves.layout ∙ earlier.layout;
       runs = turn.serves.runs;
       rose = turn.serves.faulted result_is;

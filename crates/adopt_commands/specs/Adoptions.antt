@@ -13,8 +13,9 @@ use Rattle.key_campaign.specs.declared.adoption.Adoption.{Adoption}
 use Rattle.key_campaign.specs.declared.entries.LedgerEntry.{LedgerEntry}
 use Rattle.key_campaign.specs.declared.entries.PendingEntry.{PendingEntry}
 use Rattle.key_campaign.specs.declared.faults.LedgerFault.{LedgerFault}
-use Rattle.key_campaign.specs.Campaign.{Campaign, failed_change}
+use Rattle.key_campaign.specs.Campaign.{Campaign, SoundLedger, failed_change}
 use Rattle.key_campaign.specs.Claims.{KeepsEntries}
+use Rattle.key_campaign.specs.Steps.{PowersLedger}
 use Rattle.key_campaign.specs.Adopting.{MakesAdopt, AdoptStep}
 use Rattle.key_campaign.specs.State.{FitsLedger}
 use Rattle.adopt_commands.specs.declared.lines.AdoptLine.{AdoptLine}
@@ -45,13 +46,14 @@ pub record AllAdopted (before : KeeperState) (entries : List LedgerEntry) (lines
   pub refused_is : after.refused ≡ (before.refused || list_any (is_refused before.strict) lines)
   pub keeps : KeepsEntries before.ledger.campaign after.ledger.campaign
   pub up : after.ledger.campaign.up ≡ true
+  pub sound : SoundLedger after.ledger.campaign
   pub layout : after.ledger.store.layout ≡ before.ledger.store.layout
   pub runs : Runs [] (6 * length entries) before.ledger.store.disk after.ledger.store.disk
   pub calm : after.ledger.store.disk.faults ≡ before.ledger.store.disk.faults
   pub fits : FitsLedger before.ledger → FitsLedger after.ledger
 
 -- These entries were answered so, and none found the disk failing. Then it failed as this one was put: it is pending,
--- so that after the next power-up it is there whole or not at all.
+-- so that after the next power-up it is there whole or not at all. No entry went and no counter fell then.
 pub record LastNotPut (before : KeeperState) (entries : List LedgerEntry) (lines : List AdoptLine) (entry : LedgerEntry)
     (after : KeeperState) : Type 0 where
   pub mid : KeeperState
@@ -59,6 +61,8 @@ pub record LastNotPut (before : KeeperState) (entries : List LedgerEntry) (lines
   pub change : PendingEntry
   pub makes : MakesAdopt mid.ledger.campaign entry change
   pub failed : after.ledger.campaign ≡ failed_change change mid.ledger.campaign
+  pub keeps : (powered : Campaign) → PowersLedger after.ledger.campaign powered
+      → KeepsEntries before.ledger.campaign powered
   pub layout : after.ledger.store.layout ≡ before.ledger.store.layout
   pub runs : Runs [] 6 mid.ledger.store.disk after.ledger.store.disk
   pub rose : Rose mid.ledger.store.disk.faults after.ledger.store.disk.faults
