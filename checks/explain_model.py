@@ -138,7 +138,8 @@ class Search:
 
 def frame_of(line):
     """The identifier, channel and data of a line of a log; nothing if it has no data frame."""
-    words = line.replace(b"\r", b" ").split()
+    # space and tab stand between words, and one carriage return at the end of a line isn't looked at
+    words = re.split(rb"[ \t]+", (line[:-1] if line.endswith(b"\r") else line).strip(b" \t"))
     if len(line) > 4096 or len(words) < 3 or not (words[0].startswith(b"(") and words[0].endswith(b")")):
         return None
     frame = FRAME.fullmatch(words[2])
