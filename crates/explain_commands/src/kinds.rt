@@ -12,7 +12,7 @@ use crate::trials::{
 };
 use std::marker::Model;
 use trace_audit::MapLine;
-use watch_commands::WatchMap;
+use watch_maps::WatchMap;
 
 /// How far beyond the window a freshness is looked for.
 const FAR: usize = 65536;

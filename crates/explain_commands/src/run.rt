@@ -13,7 +13,7 @@ use bus_port::{PortFailed, Sink, Source};
 use program_edge::{DONE, Refusal, WRITE_FAULT, tell, tell_refusal};
 use std::alloc::{AllocError, Global};
 use trace_audit::{PIECE, names_inputs};
-use watch_commands::{WatchOptions, is_only, read_watch_map};
+use watch_maps::{WatchOptions, is_only, read_watch_map};
 
 const USAGE: &str = "usage: explain MAP LOG\n";
 
@@ -114,11 +114,7 @@ fn prepare<S: Source>(alloc: Global, words: &[String], map: &mut S) -> Result<Ex
     if !names_inputs(words) {
         return Err(Refusal::fixed(2, USAGE));
     }
-    let options = WatchOptions {
-        quiet: false,
-        json: false,
-    };
-    let map = read_watch_map(alloc, map, options)?;
+    let map = read_watch_map(alloc, map, WatchOptions::none())?;
     match Explainer::new(alloc, map) {
         Ok(explainer) => Ok(explainer),
         Err(AllocError) => Err(Refusal::no_memory()),

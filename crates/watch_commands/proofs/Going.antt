@@ -18,7 +18,7 @@ use Rattle.trace_audit.specs.declared.frames.OtherLine.TheVariants as kind
 use Rattle.trace_audit.specs.declared.auditing.FrameTally.{FrameTally}
 use Rattle.trace_audit.specs.declared.auditing.FrameTally.TheVariants as tally
 use Rattle.watch_commands.specs.declared.counts.WatchCounts.{WatchCounts}
-use Rattle.watch_commands.specs.WatchMaps.{NumberedMap}
+use Rattle.watch_maps.specs.WatchMaps.{NumberedMap}
 use Rattle.trace_audit.specs.Auditing.{Finding, other, too_short, verdict, tally_of, finding_accepts, first_counters, counter_of_place, AuditsLine, is_accepted_tally}
 use Rattle.trace_audit.proofs.CallerLemmas.{AuditsLine-same, HasNoFeed, one_line, cut_more, take_twice, kept_whole, kept_long, one_more_line}
 use Rattle.trace_audit.specs.Pieces.{line_limit, log_lines, in_64_bits}

@@ -10,7 +10,7 @@ use Rattle.secured_pdu.specs.Verdict.{Outcome, Accepted, FreshnessFailure, Verif
 use Rattle.text_lines.specs.Texts.{line}
 use Rattle.trace_audit.specs.Auditing.{Finding, other, too_short, verdict, front_text, finding_text, tally_of, is_accepted_tally}
 use Rattle.basics.proofs.CallerLemmas.{length-bytes_of}
-use Rattle.watch_commands.specs.declared.options.WatchOptions.{WatchOptions}
+use Rattle.watch_maps.specs.declared.options.WatchOptions.{WatchOptions}
 use Rattle.watch_commands.specs.Watching.{told_text}
 use Rattle.watch_commands.specs.Objects.{finding_object}
 use Rattle.watch_commands.specs.Answers.{IsAnswerTo, front_object, said_object}

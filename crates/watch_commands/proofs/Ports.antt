@@ -1,12 +1,11 @@
 -- What comes of a log, and what is printed of it, from turn to turn
-use Rattle.std.proofs.Common.{◌≡◌, ℕ, ◌+◌, ◌<◌, ◌≤◌, List, [], ◌++◌, length, refl, sym, ◌∙◌, ap, subst, inl, inr, arith, append-nil, append_assoc, length-append}
-use Rattle.std.specs.Prelude.{Some, Result, Ok, Err, OnOk, OnErr}
+use Rattle.std.proofs.Common.{◌≡◌, ℕ, ◌+◌, ◌<◌, ◌≤◌, List, [], ◌++◌, length, refl, sym, ◌∙◌, ap, subst, inl, inr, arith, append-nil, append_assoc}
+use Rattle.std.specs.Prelude.{Some, Ok}
 use Rattle.std.proofs.lemmas.Grind.{flat_map-append}
-use Rattle.std.proofs.Math.Seq.{take-append-add}
 use Rattle.bus_port.specs.Fault.{Rose}
 use Rattle.basics.proofs.CallerLemmas.{rose_after}
 use Rattle.bus_port.specs.Source.{SourceState, Came, HandsOut, ReadFails}
-use Rattle.bus_port.specs.Sink.{SinkState, Appended}
+use Rattle.bus_port.specs.Sink.{SinkState}
 use Rattle.bus_port.proofs.CallerLemmas.{Came-nothing, Came-more, Appended-more, Appended-nothing}
 use Rattle.bus_port.specs.Whole.{AppendedPart}
 use Rattle.program_edge.specs.Told.{AppendedWell, EndingTold}
@@ -14,44 +13,17 @@ use Rattle.program_edge.proofs.CallerLemmas.{AppendedWell-more}
 use Rattle.program_edge.specs.Rows.{row_of}
 use Rattle.program_edge.specs.Inputs.{Reading}
 use Rattle.trace_audit.specs.Auditing.{Finding}
-use Rattle.watch_commands.specs.WatchMaps.{NumberedMap}
+use Rattle.watch_maps.specs.WatchMaps.{NumberedMap}
 use Rattle.watch_commands.specs.Watching.{told_text, found_text, FindsComplete, FindsAll}
 use Rattle.watch_commands.specs.WatchTotals.{totals_text, watch_status}
-use Rattle.trace_audit.specs.Pieces.{PutsPiece}
 use Rattle.watch_commands.specs.States.{WatchState, Watched}
-use Rattle.watch_commands.specs.WatchRows.{Writing, ReadsToEnd, done, FailsOfLog, failed, too_long, log_failed_text, log_too_long_text, EndsLog}
-use Rattle.watch_commands.specs.WatchSteps.{Ports, SoFar}
-
--- if no fault of the log was counted, its count didn't rise
-pub never_counted : {A : Type 0} (first later : SourceState) → later.faults ≡ first.faults → first.faults < later.faults → A
-never_counted first later still counts = absurd (omega (arith, still, counts))
+use Rattle.watch_maps.specs.LogRuns.{Writing, ReadsToEnd, log_failed_text, log_too_long_text, Ports}
+use Rattle.watch_commands.specs.WatchRows.{done, FailsOfLog, failed, too_long, EndsLog}
+use Rattle.watch_commands.specs.WatchSteps.{SoFar}
 
 -- what is found of the complete lines, of a state
 pub complete_of : (watch : WatchState) (bytes : List ℕ) (findings : List Finding) → Watched watch bytes findings → FindsComplete watch.mapping.lines bytes findings
 complete_of watch bytes findings w = record { lines = w.lines; rest = w.rest; cut = w.cut; finds = w.finds }
-
--- ---- what is printed after what was printed well
-
-part_more : (first before after : SinkState) (some more : List ℕ) → Appended first before some → AppendedPart before after more
-    → AppendedPart first after (some ++ more)
-part_more first before after some more one (n, less, two) = (
-  length some + n,
-  omega (arith, less, length-append some more),
-  subst (Appended first after) (sym (take-append-add some more n)) (Appended-more one two),
-)
-
-pub told_more : (first before after : SinkState) (some text : List ℕ) (status answer : ℕ) → AppendedWell first before some
-    → EndingTold before after text status answer → EndingTold first after (some ++ text) status answer
-told_more first before after some text status answer well (inl (is, told)) = inl (is, AppendedWell-more first before after some text well told)
-told_more first before after some text status answer well (inr (six, rose, part)) =
-    inr (six, rose_after first.faults before.faults after.faults well.1.later rose, part_more first before after some text well.1 part)
-
--- what was written of a text, as it is told
-pub puts : {A E : Type 0} (before after : SinkState) (text : List ℕ) (result : Result A E) → OnOk result (Appended before after text)
-    → OnOk result (after.faults ≡ before.faults) → OnErr result (Rose before.faults after.faults)
-    → OnErr result (AppendedPart before after text) → PutsPiece before after text result
-puts before after text (Ok _) appended calm rose part = (calm, appended)
-puts before after text (Err e) appended calm rose part = (rose, part)
 
 -- ---- a turn
 

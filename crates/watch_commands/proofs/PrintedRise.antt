@@ -9,12 +9,13 @@ use Rattle.program_edge.specs.Rows.{Row}
 use Rattle.program_edge.specs.Inputs.{IsUnread}
 use Rattle.trace_audit.specs.Auditing.{Finding}
 use Rattle.trace_audit.specs.Rows.{AuditInputs}
-use Rattle.watch_commands.specs.WatchMaps.{NumberedMap}
+use Rattle.watch_maps.specs.WatchMaps.{NumberedMap}
 use Rattle.trace_audit.specs.Pieces.{log_lines}
 use Rattle.watch_commands.specs.Watching.{FindsComplete, told_text, found_text}
 use Rattle.watch_commands.specs.WatchTotals.{totals_text}
 use Rattle.watch_commands.specs.Words.{AsksWatch}
-use Rattle.watch_commands.specs.WatchRows.{ReadsWatchMap, HasCome, Writing, WritesWhole, ending_of, WatchEnding, ComesOfLog, done, FailsOfLog, failed, too_long, Stops, OverMap, ComesOnOutput, asked, of_log, ComesOnErrors, no_form, no_map, map_fault, no_log, EndsWatch}
+use Rattle.watch_maps.specs.LogRuns.{HasCome, Writing, WritesWhole, ending_of, WatchEnding}
+use Rattle.watch_commands.specs.WatchRows.{ReadsWatchMap, ComesOfLog, done, FailsOfLog, failed, too_long, Stops, OverMap, ComesOnOutput, asked, of_log, ComesOnErrors, no_form, no_map, map_fault, no_log, EndsWatch}
 use Rattle.watch_commands.specs.Watches.{PrintsRising}
 use Rattle.watch_commands.proofs.WatchRising.{all_rise}
 

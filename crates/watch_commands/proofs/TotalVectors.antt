@@ -1,11 +1,11 @@
 -- The definitions of what stands behind the answers of a log, tried on written-out maps and lines
 use Rattle.std.proofs.Common.{◌≡◌, Bool, true, false, List, [], ◌∷◌, refl}
-use Rattle.std.specs.Prelude.{codes, None, Some}
+use Rattle.std.specs.Prelude.{codes, None}
 use Rattle.secured_pdu.specs.Verdict.{Accepted, VerificationFailure}
 use Rattle.trace_audit.specs.declared.map_lines.MapLine.{MapLine}
 use Rattle.trace_audit.specs.declared.frames.OtherLine.TheVariants as kind
 use Rattle.trace_audit.specs.Frames.{unheard_kind, is_dataless_word}
-use Rattle.watch_commands.specs.WatchMaps.{NumberedMap, words_to, line_name_form}
+use Rattle.watch_maps.specs.WatchMaps.{NumberedMap}
 use Rattle.trace_audit.specs.Auditing.{Finding, other, too_short, verdict}
 use Rattle.watch_commands.specs.WatchTotals.{totals_of, counts_of, watch_status}
 
@@ -37,32 +37,6 @@ four_digits = refl
 
 no_number_sign : is_dataless_word (codes "00123") ≡ false
 no_number_sign = refl
-
--- ---- the words of a line of a map
-
-with_a_comment : words_to false (codes "a" ∷ codes "b" ∷ codes "#c" ∷ codes "optional" ∷ []) ≡ 2
-with_a_comment = refl
-
-no_mark : words_to true (codes "a" ∷ codes "b" ∷ codes "#c" ∷ codes "optional" ∷ []) ≡ 2
-no_mark = refl
-
-before_the_marks : words_to true (codes "a" ∷ codes "name=b" ∷ codes "optional" ∷ codes "#" ∷ []) ≡ 1
-before_the_marks = refl
-
-before_the_comment : words_to false (codes "a" ∷ codes "name=b" ∷ codes "optional" ∷ codes "#" ∷ []) ≡ 3
-before_the_comment = refl
-
-a_name : line_name_form (codes "name=brake_request-1.a") ≡ Some (codes "brake_request-1.a")
-unfolding line_name_form
-a_name = refl
-
-no_name : line_name_form (codes "name=") ≡ None
-unfolding line_name_form
-no_name = refl
-
-another_byte : line_name_form (codes "name=brake/request") ≡ None
-unfolding line_name_form
-another_byte = refl
 
 -- ---- the totals
 

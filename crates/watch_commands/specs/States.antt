@@ -6,7 +6,7 @@ use Rattle.trace_audit.specs.declared.auditing.FrameTally.{FrameTally}
 use Rattle.trace_audit.specs.declared.auditing.FrameTally.TheVariants as tally
 use Rattle.watch_commands.specs.declared.counts.WatchCounts.{WatchCounts}
 use Rattle.secoc_words.specs.Counting.{last_accepted}
-use Rattle.watch_commands.specs.WatchMaps.{NumberedMap}
+use Rattle.watch_maps.specs.WatchMaps.{NumberedMap}
 use Rattle.trace_audit.specs.Auditing.{Finding, tally_of, finding_accepts, counter_of_place, is_accepted_tally}
 use Rattle.trace_audit.specs.Pieces.{line_limit, log_lines, in_64_bits}
 use Rattle.watch_commands.specs.Watching.{WatchesLine, WatchesEach, found_text}

@@ -12,19 +12,15 @@ use Rattle.program_edge.specs.Endings.{EndsIn, MayEndIn, PrintsFront, SinkFailed
 use Rattle.trace_audit.specs.declared.map_lines.MapLine.{MapLine}
 use Rattle.trace_audit.specs.Auditing.{Finding, finding_accepts}
 use Rattle.trace_audit.specs.Rows.{AuditInputs}
-use Rattle.watch_commands.specs.MapFaults.{map_fault_text, map_input_text}
+use Rattle.watch_maps.specs.MapFaults.{map_fault_text, map_input_text}
 use Rattle.watch_commands.specs.Words.{watch_usage, AsksWatch, text_asked}
-use Rattle.watch_commands.specs.WatchMaps.{NumberedMap, watch_map_of}
+use Rattle.watch_maps.specs.WatchMaps.{NumberedMap, watch_map_of}
 use Rattle.watch_commands.specs.Watching.{FindsComplete, FindsAll, found_text}
 use Rattle.watch_commands.specs.WatchTotals.{totals_text, watch_status}
-use Rattle.watch_commands.specs.WatchRows.{IsWatchMapFault, ReadsToEnd, HasCome}
-use Rattle.watch_commands.specs.WatchRows.{Writing, IsUnwritten, WritesWhole, WatchEnding, on_output, on_errors}
-use Rattle.watch_commands.specs.WatchRows.{log_failed_text, log_too_long_text, Stops, FailsBoth, OverMap}
+use Rattle.watch_maps.specs.LogRuns.{IsWatchMapFault, ReadsToEnd, HasCome, log_failed_text, log_too_long_text}
+use Rattle.watch_maps.specs.LogRuns.{Writing, IsUnwritten, WritesWhole, WatchEnding, on_output, on_errors}
+use Rattle.watch_commands.specs.WatchRows.{Stops, FailsBoth, OverMap}
 use Rattle.watch_commands.specs.WatchRows.{ComesOnOutput, ComesOnErrors, EndsWatch}
-
--- the status of a log that was read to its end
-abbrev pub IsAnswer : ℕ → Type 0
-IsAnswer status = (status ≡ 0) ⊎ (status ≡ 1) ⊎ (status ≡ 3)
 
 -- the whole log was read, exactly what is found of its lines and the totals were printed, and these findings give the
 -- status

@@ -5,9 +5,9 @@ use Rattle.std.specs.List.{flat_map}
 use Rattle.text_lines.specs.Lines.{words_of, is_skipped}
 use Rattle.trace_audit.specs.declared.map_lines.MapLine.{MapLine}
 use Rattle.trace_audit.specs.declared.frames.OtherLine.TheVariants as kind
-use Rattle.watch_commands.specs.declared.options.WatchOptions.{WatchOptions}
+use Rattle.watch_maps.specs.declared.options.WatchOptions.{WatchOptions}
 use Rattle.watch_commands.specs.Objects.{finding_object}
-use Rattle.watch_commands.specs.WatchMaps.{NumberedMap}
+use Rattle.watch_maps.specs.WatchMaps.{NumberedMap}
 use Rattle.trace_audit.specs.Auditing.{Finding, other, finding_text, tally_of}
 use Rattle.trace_audit.specs.Auditing.{counter_of_place, AuditsLine, is_accepted_tally}
 use Rattle.trace_audit.specs.Pieces.{line_limit, log_lines, in_64_bits}

@@ -5,10 +5,9 @@ ghost use Rattle.watch_commands.specs.Watching.{told_text};
 ghost use Rattle.watch_commands.specs.Answers.{IsAnswerTo, IsAnswerIn, judged_place};
 ghost use Rattle.watch_commands.specs.Answers.{front_object, said_object, said_values, accepted_values};
 
-use crate::maps::WatchMap;
-use crate::options::WatchOptions;
 use itoa::Buffer;
 use trace_audit::{FrameTally, add_bytes};
+use watch_maps::{WatchMap, WatchOptions};
 
 /// Adds what is printed of the answer to the line with this number of the log, in room for 320 bytes. The answer is
 /// empty if no line of the map judged it. It takes no memory.

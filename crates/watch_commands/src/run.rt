@@ -5,17 +5,16 @@ ghost use Rattle.bus_port.specs.Sink.{SinkState};
 ghost use Rattle.trace_audit.specs.Auditing.{Finding};
 ghost use Rattle.watch_commands.specs.States.{Watched};
 ghost use Rattle.watch_commands.specs.WatchRows.{EndsLog, EndsUntold};
-ghost use Rattle.watch_commands.specs.Words.{is_only_word, text_asked};
+ghost use Rattle.watch_commands.specs.Words.{text_asked};
 ghost use Rattle.watch_commands.specs.Watches.{Watches};
 ghost use Rattle.watch_commands.specs.WatchSteps.{PreparesWatch, SoFar, Turns};
 
-use crate::maps::read_watch_map;
-use crate::options::{WatchOptions, inputs_of};
 use crate::state::Watch;
 use bus_port::{PortFailed, Sink, Source};
 use program_edge::{DONE, Refusal, WRITE_FAULT, tell, tell_refusal};
 use std::alloc::{AllocError, Global};
 use trace_audit::{PIECE, names_inputs};
+use watch_maps::{WatchOptions, inputs_of, is_only, read_watch_map};
 
 const USAGE: &str = "usage: watch [--quiet] [--json] [--expect FILE] MAP LOG\n";
 
@@ -41,7 +40,7 @@ const LOG_TOO_LONG: &str = "log: input too long\n";
 
 /// Judges the frames of a log by a map while they come, and gives the status that the program ends with. Two words,
 /// which name the map and the log and may be any text, are the form of the words, the program's name left out; options
-/// may stand before them ([`WatchOptions`](crate::options::WatchOptions)). The map is read whole before the log is
+/// may stand before them ([`WatchOptions`](watch_maps::WatchOptions)). The map is read whole before the log is
 /// asked for. Each complete line of the log is answered on `sink` before the log is read again. Faults are told on
 /// `errors`. Every text that is printed ends with a line feed. `--help` or `--version` alone print a text, with status
 /// 0.
@@ -102,16 +101,6 @@ fn run_untold<S: Source, T: Source, K: Sink>(
     match prepare(alloc, words, map) {
         Ok(mut watch) => watch_log(&mut watch, log, sink),
         Err(refusal) => Err(refusal),
-    }
-}
-
-/// Whether there is one word, and it is this.
-pub fn is_only(words: &[String], word: &str) -> bool
-    ensures { result ≡ is_only_word word.now (each string_bytes words.now) }
-{
-    match words {
-        [only] => only.as_str() == word,
-        _ => false,
     }
 }
 

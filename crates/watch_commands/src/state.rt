@@ -13,7 +13,6 @@ ghost use Rattle.watch_commands.specs.States.{raised_at, accepted_place, failed_
 
 use crate::answers::add_answer;
 use crate::counts::{LineCounts, WatchCounts, add_counts, add_line_counts};
-use crate::maps::WatchMap;
 use bus_port::{PortFailed, Sink, write_all};
 use program_edge::tell;
 use std::alloc::{AllocError, Global};
@@ -21,6 +20,7 @@ use std::marker::Model;
 use text_lines::span::Span;
 use text_lines::words::{Words, put_words};
 use trace_audit::{FrameTally, OtherLine, PIECE, add_bytes, counters_of, push_finding, until_feed};
+use watch_maps::WatchMap;
 
 /// The most bytes of a line that is looked at, its line feed not counted.
 const LINE_LIMIT: usize = 4096;

@@ -14,12 +14,13 @@ use Rattle.program_edge.specs.Rows.{Row}
 use Rattle.bus_port.specs.Sink.{SinkState}
 use Rattle.trace_audit.specs.Auditing.{Finding}
 use Rattle.trace_audit.specs.Rows.{AuditInputs}
-use Rattle.watch_commands.specs.WatchMaps.{NumberedMap}
+use Rattle.watch_maps.specs.WatchMaps.{NumberedMap}
 use Rattle.watch_commands.specs.States.{WatchState, Watched}
 use Rattle.watch_commands.specs.Watching.{FindsComplete, FindsAll, found_text, told_text}
 use Rattle.watch_commands.specs.WatchTotals.{totals_text}
 use Rattle.watch_commands.specs.Words.{AsksWatch, text_asked}
-use Rattle.watch_commands.specs.WatchRows.{Writing, WritesWhole, OverMap, ComesOnErrors, no_form, no_map, map_fault, no_log, FailsOfLog, failed, too_long, ReadsToEnd}
+use Rattle.watch_maps.specs.LogRuns.{Writing, WritesWhole, ReadsToEnd}
+use Rattle.watch_commands.specs.WatchRows.{OverMap, ComesOnErrors, no_form, no_map, map_fault, no_log, FailsOfLog, failed, too_long}
 use Rattle.watch_commands.specs.WatchSteps.{SoFar}
 use Rattle.watch_commands.proofs.CallerLemmas.{asks_no_text, complete_of, SoFar-more, at_end}
 use Rattle.watch_expect.specs.Comparing.{difference_text, LeavesAt, PrintsAll, DiffersIn, goes_on, ends, holds_bytes, writes_bytes}

@@ -4,10 +4,11 @@ use Rattle.program_edge.specs.declared.input.InputFault.{InputFault}
 use Rattle.program_edge.specs.Inputs.{Reading, Lacks}
 use Rattle.program_edge.specs.Rows.{Row}
 use Rattle.trace_audit.specs.Auditing.{Finding}
-use Rattle.watch_commands.specs.WatchMaps.{NumberedMap}
+use Rattle.watch_maps.specs.WatchMaps.{NumberedMap}
 use Rattle.watch_commands.specs.States.{WatchState}
 use Rattle.watch_commands.specs.WatchRows.{FailsOfLog}
-use Rattle.watch_commands.specs.WatchSteps.{Ports, SoFar}
+use Rattle.watch_maps.specs.LogRuns.{Ports}
+use Rattle.watch_commands.specs.WatchSteps.{SoFar}
 use Rattle.watch_expect.specs.Comparing.{LeavesAt, PrintsAll, DiffersIn, holds_bytes, writes_bytes}
 use Rattle.watch_expect.specs.Expects.{kept_row}
 

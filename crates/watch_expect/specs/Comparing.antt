@@ -7,10 +7,10 @@ use Rattle.text_lines.specs.Lines.{is_line_feed}
 use Rattle.text_lines.specs.Texts.{line}
 use Rattle.program_edge.specs.Inputs.{Reading}
 use Rattle.trace_audit.specs.Auditing.{Finding}
-use Rattle.watch_commands.specs.WatchMaps.{NumberedMap}
+use Rattle.watch_maps.specs.WatchMaps.{NumberedMap}
 use Rattle.watch_commands.specs.Watching.{FindsComplete, FindsAll, found_text}
 use Rattle.watch_commands.specs.WatchTotals.{totals_text}
-use Rattle.watch_commands.specs.WatchRows.{Writing, ReadsToEnd, HasCome}
+use Rattle.watch_maps.specs.LogRuns.{Writing, ReadsToEnd, HasCome}
 
 -- two texts go on in different ways
 abbrev pub Parts : Option ℕ → Option ℕ → Type 0

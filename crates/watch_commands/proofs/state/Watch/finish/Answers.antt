@@ -1,7 +1,7 @@
 use Rattle.std.proofs.Common.{◌≡◌, List, ◌++◌, ◌∙◌, subst}
 use Rattle.program_edge.specs.Told.{EndingTold}
 use Rattle.trace_audit.specs.Auditing.{Finding}
-use Rattle.watch_commands.specs.WatchMaps.{NumberedMap}
+use Rattle.watch_maps.specs.WatchMaps.{NumberedMap}
 use Rattle.watch_commands.specs.Watching.{found_text}
 use Rattle.watch_commands.specs.WatchTotals.{totals_text}
 use Rattle.watch_commands.proofs.state.Watch.finish.Goals as goal
