@@ -20,6 +20,7 @@ use Rattle.watch_commands.specs.States.{WatchState, Watched}
 use Rattle.watch_maps.specs.LogRuns.{Writing, ReadsToEnd, log_failed_text, log_too_long_text, Ports}
 use Rattle.watch_commands.specs.WatchRows.{done, FailsOfLog, failed, too_long, EndsLog}
 use Rattle.watch_commands.specs.WatchSteps.{SoFar}
+use Rattle.watch_maps.proofs.CallerLemmas.{told_more}
 
 -- what is found of the complete lines, of a state
 pub complete_of : (watch : WatchState) (bytes : List ℕ) (findings : List Finding) → Watched watch bytes findings → FindsComplete watch.mapping.lines bytes findings

@@ -15,6 +15,8 @@ use Rattle.watch_maps.specs.MapFaults.{map_input_row, map_line_row}
 use Rattle.watch_maps.specs.OptionWords.{watch_options}
 use Rattle.watch_commands.specs.Words.{watch_usage, AsksWatch, text_asked}
 use Rattle.watch_maps.specs.WatchMaps.{NumberedMap, IsMapOf}
+use Rattle.watch_maps.specs.LogRuns.{IsWatchMapFault, ReadsToEnd, HasCome, log_failed_text, log_too_long_text}
+use Rattle.watch_maps.specs.LogRuns.{Writing, IsUnwritten, WritesWhole, ending_of, WatchEnding, on_output, on_errors}
 use Rattle.watch_commands.specs.Watching.{found_text, FindsComplete, FindsAll}
 use Rattle.watch_commands.specs.WatchTotals.{totals_text, watch_status}
 

@@ -7,7 +7,7 @@ use Rattle.trace_audit.specs.Auditing.{Finding}
 use Rattle.trace_audit.specs.Rows.{AuditInputs}
 use Rattle.watch_commands.specs.Watching.{found_text}
 use Rattle.watch_commands.specs.States.{WatchState, Watched}
-use Rattle.watch_maps.specs.LogRuns.{Writing}
+use Rattle.watch_maps.specs.LogRuns.{Writing, Ports}
 use Rattle.watch_commands.specs.WatchRows.{EndsLog, OverMap, ComesOnErrors}
 
 -- how the words and the map end: in the watch of this map before the log, or in a row that comes on standard error, if

@@ -17,7 +17,7 @@ use Rattle.watch_commands.specs.Words.{watch_usage, AsksWatch, text_asked}
 use Rattle.watch_maps.specs.WatchMaps.{NumberedMap, watch_map_of}
 use Rattle.watch_commands.specs.Watching.{FindsComplete, FindsAll, found_text}
 use Rattle.watch_commands.specs.WatchTotals.{totals_text, watch_status}
-use Rattle.watch_maps.specs.LogRuns.{IsWatchMapFault, ReadsToEnd, HasCome, log_failed_text, log_too_long_text}
+use Rattle.watch_maps.specs.LogRuns.{IsAnswer, IsWatchMapFault, ReadsToEnd, HasCome, log_failed_text, log_too_long_text}
 use Rattle.watch_maps.specs.LogRuns.{Writing, IsUnwritten, WritesWhole, WatchEnding, on_output, on_errors}
 use Rattle.watch_commands.specs.WatchRows.{Stops, FailsBoth, OverMap}
 use Rattle.watch_commands.specs.WatchRows.{ComesOnOutput, ComesOnErrors, EndsWatch}
