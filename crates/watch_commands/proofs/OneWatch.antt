@@ -5,7 +5,7 @@ use Rattle.text_lines.specs.Lines.{words_of, is_skipped}
 use Rattle.trace_audit.specs.declared.map_lines.MapLine.{MapLine}
 use Rattle.trace_audit.specs.Auditing.{Finding, counter_of_place}
 use Rattle.trace_audit.proofs.CallerLemmas.{HaveWindows, same_finding}
-use Rattle.watch_commands.specs.Watching.{WatchesLine, WatchesEach, none, more}
+use Rattle.watch_commands.specs.Watching.{Found, stamped, findings_of, WatchesLine, WatchesEach, none, more}
 use Rattle.trace_audit.specs.Pieces.{in_64_bits}
 
 -- ---- what is found of a line
@@ -38,7 +38,7 @@ none_pushed lines bytes same =
     let as_many : 0 ≡ length (lines ++ bytes ∷ []) = ap (λ (ls : List (List ℕ)). length ls) same in
     omega (arith, as_many, length_push lines bytes)
 
-same_each : (mapping : List MapLine) (one two : List (List ℕ)) (findings others : List Finding) → HaveWindows mapping
+same_each : (mapping : List MapLine) (one two : List (List ℕ)) (findings others : List Found) → HaveWindows mapping
     → WatchesEach mapping one findings → WatchesEach mapping two others → one ≡ two → findings ≡ others
 same_each mapping one two findings others windows none none same = refl
 same_each mapping one two findings others windows none (more lines so_far bytes found each finds) same = absurd (none_pushed lines bytes same)
@@ -47,13 +47,15 @@ same_each mapping one two findings others windows (more lines so_far bytes found
     let parts = same_from_push lines lines2 bytes bytes2 same in
     let front : so_far ≡ so_far2 = same_each mapping lines lines2 so_far so_far2 windows each each2 parts.0 in
     let number : ℕ = in_64_bits (length lines + 1) in
-    let here : WatchesLine mapping (counter_of_place mapping so_far) number bytes found2 =
-    subst (λ (fs : List Finding). WatchesLine mapping (counter_of_place mapping fs) number bytes found2) (sym front)
-    (subst (λ (ls : List (List ℕ)). WatchesLine mapping (counter_of_place mapping so_far2) (in_64_bits (length ls + 1)) bytes found2) (sym parts.0)
-    (subst (λ (line : List ℕ). WatchesLine mapping (counter_of_place mapping so_far2) (in_64_bits (length lines2 + 1)) line found2) (sym parts.1) finds2)) in
-    ap (λ (fs : List Finding). fs ++ found) front
-    ∙ ap (λ (fs : List Finding). so_far2 ++ fs) (same_found mapping (counter_of_place mapping so_far) number bytes windows found found2 finds here)
+    let here : WatchesLine mapping (counter_of_place mapping (findings_of so_far)) number bytes found2 =
+    subst (λ (fs : List Found). WatchesLine mapping (counter_of_place mapping (findings_of fs)) number bytes found2) (sym front)
+    (subst (λ (ls : List (List ℕ)). WatchesLine mapping (counter_of_place mapping (findings_of so_far2)) (in_64_bits (length ls + 1)) bytes found2) (sym parts.0)
+    (subst (λ (line : List ℕ). WatchesLine mapping (counter_of_place mapping (findings_of so_far2)) (in_64_bits (length lines2 + 1)) line found2) (sym parts.1) finds2)) in
+    ap (λ (fs : List Found). fs ++ stamped bytes found) front
+    ∙ ap (λ (fs : List Finding). so_far2 ++ stamped bytes fs)
+    (same_found mapping (counter_of_place mapping (findings_of so_far)) number bytes windows found found2 finds here)
+    ∙ ap (λ (line : List ℕ). so_far2 ++ stamped line found2) parts.1
 
-pub same_findings : (mapping : List MapLine) (lines : List (List ℕ)) (findings others : List Finding) → HaveWindows mapping
+pub same_findings : (mapping : List MapLine) (lines : List (List ℕ)) (findings others : List Found) → HaveWindows mapping
     → WatchesEach mapping lines findings → WatchesEach mapping lines others → findings ≡ others
 same_findings mapping lines findings others windows one two = same_each mapping lines lines findings others windows one two refl

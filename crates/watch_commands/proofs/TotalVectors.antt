@@ -5,6 +5,7 @@ use Rattle.secured_pdu.specs.Verdict.{Accepted, VerificationFailure}
 use Rattle.trace_audit.specs.declared.map_lines.MapLine.{MapLine}
 use Rattle.trace_audit.specs.declared.frames.OtherLine.TheVariants as kind
 use Rattle.trace_audit.specs.Frames.{unheard_kind, is_dataless_word}
+use Rattle.watch_maps.specs.OptionWords.{no_options}
 use Rattle.watch_maps.specs.WatchMaps.{NumberedMap}
 use Rattle.trace_audit.specs.Auditing.{Finding, other, too_short, verdict}
 use Rattle.watch_commands.specs.WatchTotals.{totals_of, counts_of, watch_status}
@@ -55,7 +56,7 @@ entry optional = record {
 
 -- two lines, at 3 and 5 of the map's text
 mapping : Bool → Bool → NumberedMap
-mapping first second = record { lines = entry first ∷ entry second ∷ []; numbers = 3 ∷ 5 ∷ []; options = record { quiet = false; json = false } }
+mapping first second = record { lines = entry first ∷ entry second ∷ []; numbers = 3 ∷ 5 ∷ []; options = no_options }
 
 -- freshness 12 and 15 for the first line, a failure, a frame that is too short, and a remote frame
 found : List Finding
@@ -92,5 +93,5 @@ a_failure_comes_first : watch_status (mapping false false) found ≡ 1
 unfolding mapping found entry
 a_failure_comes_first = refl
 
-no_lines : watch_status (record { lines = []; numbers = []; options = record { quiet = false; json = false } }) [] ≡ 3
+no_lines : watch_status (record { lines = []; numbers = []; options = no_options }) [] ≡ 3
 no_lines = refl

@@ -23,6 +23,7 @@ use Rattle.watch_maps.specs.MapFaults.{map_fault_text, map_input_text}
 use Rattle.watch_maps.specs.OptionWords.{flags_before, behind_flags, kept_first, behind_kept, watch_inputs}
 use Rattle.watch_commands.specs.Words.{watch_usage, AsksWatch, text_asked}
 use Rattle.watch_maps.specs.WatchMaps.{NumberedMap, watch_map_of}
+use Rattle.watch_commands.specs.Watching.{findings_of}
 use Rattle.watch_commands.specs.WatchTotals.{is_failed_tally, is_accepted_at, count_of, are_heard, watch_status}
 use Rattle.watch_maps.specs.LogRuns.{IsWatchMapFault, IsUnwritten, WritesWhole, WatchEnding, on_output, on_errors, log_failed_text, log_too_long_text, IsAnswer}
 use Rattle.watch_commands.specs.WatchRows.{ReadsWatchMap}
@@ -73,7 +74,7 @@ module _ (i : AuditInputs) (e : WatchEnding) where
   -- ---- rows by their status
 
   of_log_status : (mapping : NumberedMap) (row : Row) → ComesOfLog mapping i.log row → IsAnswer row.status
-  of_log_status mapping row (done log findings whole finds) = status_answers mapping findings
+  of_log_status mapping row (done log findings whole finds) = status_answers mapping (findings_of findings)
 
   output_status : (row : Row) → ComesOnOutput i row → IsAnswer row.status
   output_status row (asked text is map log) = inl refl

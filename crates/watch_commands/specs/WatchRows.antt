@@ -9,7 +9,6 @@ use Rattle.program_edge.specs.declared.input.InputFault.{InputFault}
 use Rattle.program_edge.specs.Rows.{Row, row_of}
 use Rattle.program_edge.specs.Inputs.{Reading, IsUnread, ReadsWhole, Lacks, SourceFailed}
 use Rattle.program_edge.specs.Endings.{Ending, EndsInRow, SinkFailed}
-use Rattle.trace_audit.specs.Auditing.{Finding}
 use Rattle.trace_audit.specs.Rows.{AuditInputs}
 use Rattle.watch_maps.specs.MapFaults.{map_input_row, map_line_row}
 use Rattle.watch_maps.specs.OptionWords.{watch_options}
@@ -17,7 +16,7 @@ use Rattle.watch_commands.specs.Words.{watch_usage, AsksWatch, text_asked}
 use Rattle.watch_maps.specs.WatchMaps.{NumberedMap, IsMapOf}
 use Rattle.watch_maps.specs.LogRuns.{IsWatchMapFault, ReadsToEnd, HasCome, log_failed_text, log_too_long_text}
 use Rattle.watch_maps.specs.LogRuns.{Writing, IsUnwritten, WritesWhole, ending_of, WatchEnding, on_output, on_errors}
-use Rattle.watch_commands.specs.Watching.{found_text, FindsComplete, FindsAll}
+use Rattle.watch_commands.specs.Watching.{Found, findings_of, found_text, FindsComplete, FindsAll}
 use Rattle.watch_commands.specs.WatchTotals.{totals_text, watch_status}
 
 -- the map was read whole, and has these lines with these numbers; what is found is printed as the
@@ -30,17 +29,18 @@ ReadsWatchMap i mapping =
 
 -- the row of a log that was read to its end: what is found of all its lines, and the totals
 pub data ComesOfLog (mapping : NumberedMap) (log : Reading) : Row → Type 0 where
-  done : (bytes : List ℕ) (findings : List Finding) → ReadsToEnd log bytes → FindsAll mapping.lines bytes findings
+  done : (bytes : List ℕ) (findings : List Found) → ReadsToEnd log bytes → FindsAll mapping.lines bytes findings
       → ComesOfLog mapping log
-      (row_of (watch_status mapping findings) (found_text mapping findings ++ totals_text mapping findings))
+      (row_of (watch_status mapping (findings_of findings))
+      (found_text mapping findings ++ totals_text mapping (findings_of findings)))
 
 -- the rows of a log that failed, or of which 2^64 - 1 bytes and more came: what is found of the complete lines of all
 -- that came stands on standard output
 pub data FailsOfLog (mapping : NumberedMap) (log : Reading) (output : Writing) : Row → Type 0 where
-  failed : (bytes : List ℕ) (findings : List Finding) → HasCome log bytes → FindsComplete mapping.lines bytes findings
+  failed : (bytes : List ℕ) (findings : List Found) → HasCome log bytes → FindsComplete mapping.lines bytes findings
       → SourceFailed log → WritesWhole output (found_text mapping findings)
       → FailsOfLog mapping log output (row_of 5 log_failed_text)
-  too_long : (bytes : List ℕ) (findings : List Finding) → HasCome log bytes → FindsComplete mapping.lines bytes findings
+  too_long : (bytes : List ℕ) (findings : List Found) → HasCome log bytes → FindsComplete mapping.lines bytes findings
       → log.after.faults ≡ log.before.faults → last_count ≤ length bytes
       → WritesWhole output (found_text mapping findings)
       → FailsOfLog mapping log output (row_of 8 log_too_long_text)
@@ -51,9 +51,9 @@ pub record Stops (mapping : NumberedMap) (log : Reading) (e : Ending) : Type 0 w
   pub status_is : e.status ≡ 6
   pub fails : SinkFailed e
   pub bytes : List ℕ
-  pub findings : List Finding
+  pub findings : List Found
   pub piece : List ℕ
-  pub more : List Finding
+  pub more : List Found
   pub came : HasCome log (bytes ++ piece)
   pub calm : log.after.faults ≡ log.before.faults
   pub short : length piece ≤ 4096
@@ -109,7 +109,7 @@ EndsUntold i output (Err row) = ComesOnErrors i output row
 -- a proper prefix of the text that tells it
 pub record FailsBoth (mapping : NumberedMap) (log : Reading) (e : WatchEnding) : Type 0 where
   pub bytes : List ℕ
-  pub findings : List Finding
+  pub findings : List Found
   pub came : HasCome log bytes
   pub finds : FindsComplete mapping.lines bytes findings
   pub output : WritesWhole e.output (found_text mapping findings)

@@ -3,9 +3,8 @@ use Rattle.std.specs.Prelude.{◌≡◌, ℕ, ◌<◌, List, [], ◌++◌, lengt
 use Rattle.bus_port.specs.Source.{Came}
 use Rattle.program_edge.specs.Told.{AppendedWell}
 use Rattle.program_edge.specs.Rows.{Row}
-use Rattle.trace_audit.specs.Auditing.{Finding}
 use Rattle.trace_audit.specs.Rows.{AuditInputs}
-use Rattle.watch_commands.specs.Watching.{found_text}
+use Rattle.watch_commands.specs.Watching.{Found, found_text}
 use Rattle.watch_commands.specs.States.{WatchState, Watched}
 use Rattle.watch_maps.specs.LogRuns.{Writing, Ports}
 use Rattle.watch_commands.specs.WatchRows.{EndsLog, OverMap, ComesOnErrors}
@@ -17,15 +16,15 @@ PreparesWatch i output (Ok watch) = OverMap i (λ mapping. watch.mapping ≡ map
 PreparesWatch i output (Err row) = ComesOnErrors i output row
 
 -- these bytes came of the log without a fault, and what is found of their complete lines was printed
-pub record SoFar (ports : Ports) (watch : WatchState) (bytes : List ℕ) (findings : List Finding) : Type 0 where
+pub record SoFar (ports : Ports) (watch : WatchState) (bytes : List ℕ) (findings : List Found) : Type 0 where
   pub came : Came ports.log.before ports.log.after bytes
   pub calm : ports.log.after.faults ≡ ports.log.before.faults
   pub watched : Watched watch bytes findings
   pub prints : AppendedWell ports.before ports.after (found_text watch.mapping findings)
 
 -- what a turn of the loop leaves: one more byte at least came and was taken; or the log ended
-abbrev pub Turns : Ports → WatchState → List ℕ → List Finding → Option (Result ℕ Row) → Type 0
-Turns ports watch bytes findings None = (piece : List ℕ) × (more : List Finding) × (0 < length piece)
+abbrev pub Turns : Ports → WatchState → List ℕ → List Found → Option (Result ℕ Row) → Type 0
+Turns ports watch bytes findings None = (piece : List ℕ) × (more : List Found) × (0 < length piece)
     × SoFar ports watch (bytes ++ piece) (findings ++ more)
 Turns ports watch bytes findings (Some end) =
     EndsLog watch.mapping ports.log (record { before = ports.before; after = ports.after }) end

@@ -13,6 +13,7 @@ mod answers;
 mod counts;
 pub mod laws;
 mod run;
+mod stamps;
 mod start;
 mod state;
 

@@ -2,7 +2,7 @@
 ghost use Rattle.std.specs.Prelude.{◌≡◌, [], map as each, List, ℕ, None, string_bytes};
 ghost use Rattle.bus_port.specs.Source.{SourceState};
 ghost use Rattle.bus_port.specs.Sink.{SinkState};
-ghost use Rattle.trace_audit.specs.Auditing.{Finding};
+ghost use Rattle.watch_commands.specs.Watching.{Found};
 ghost use Rattle.watch_commands.specs.States.{Watched};
 ghost use Rattle.watch_commands.specs.WatchRows.{EndsLog, EndsUntold};
 ghost use Rattle.watch_commands.specs.Words.{text_asked};
@@ -16,13 +16,14 @@ use std::alloc::{AllocError, Global};
 use trace_audit::{PIECE, names_inputs};
 use watch_maps::{WatchOptions, inputs_of, is_only, read_watch_map};
 
-const USAGE: &str = "usage: watch [--quiet] [--json] [--expect FILE] MAP LOG\n";
+const USAGE: &str = "usage: watch [--quiet] [--json] [--time] [--expect FILE] MAP LOG\n";
 
 /// What is printed for `--help`.
-const HELP: &str = "usage: watch [--quiet] [--json] [--expect FILE] MAP LOG
+const HELP: &str = "usage: watch [--quiet] [--json] [--time] [--expect FILE] MAP LOG
 Says of each frame of LOG that MAP names whether its Secured I-PDU verifies (AUTOSAR SecOC, profile 1).
 LOG is a log of candump -L; - is standard input.
 --quiet leaves the answers to accepted frames out. --json prints an object of JSON a line.
+--time prints the time and the channel of the log before each answer.
 --expect compares the output with FILE and prints none: 0 if it is the same, else 1 and the line that differs.
 A line of MAP: CANID ID KEY FRESH LEN [WINDOW [CHANNEL]] [optional] [name=NAME] [# COMMENT]
 Status 0: each mapped frame was accepted, and one at least for each line of MAP that isn't optional.
@@ -153,7 +154,7 @@ fn next_piece<T: Source, K: Sink>(
     sink: &mut K,
 ) -> Option<Result<u8, Refusal>>
     ensures mapping { watch.new.mapping ≡ watch.old.mapping }
-    ensures turns { (first : SourceState) (start : SinkState) (bytes : List ℕ) (findings : List Finding)
+    ensures turns { (first : SourceState) (start : SinkState) (bytes : List ℕ) (findings : List Found)
         → SoFar (record {
           log = record { before = first; after = T.state log.old };
           before = start;

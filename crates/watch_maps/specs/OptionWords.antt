@@ -12,7 +12,8 @@ is_only_word word (only ∷ next ∷ rest) = false
 
 -- the options of one word
 abbrev pub is_watch_flag : List ℕ → Bool
-is_watch_flag word = bytes_eq word (codes "--quiet") || bytes_eq word (codes "--json")
+is_watch_flag word =
+    bytes_eq word (codes "--quiet") || bytes_eq word (codes "--json") || bytes_eq word (codes "--time")
 
 -- how many of them stand at the beginning, whether this one is among them, and the words behind them
 abbrev pub flags_before : List (List ℕ) → ℕ
@@ -38,8 +39,11 @@ abbrev pub says_option : List ℕ → List (List ℕ) → Bool
 says_option option words = says_flag option words || says_flag option (behind_kept (behind_flags words))
 
 abbrev pub watch_options : List (List ℕ) → WatchOptions
-watch_options words =
-    record { quiet = says_option (codes "--quiet") words; json = says_option (codes "--json") words }
+watch_options words = record {
+  quiet = says_option (codes "--quiet") words;
+  json = says_option (codes "--json") words;
+  time = says_option (codes "--time") words;
+}
 
 -- the words behind the options
 abbrev pub watch_inputs : List (List ℕ) → List (List ℕ)
@@ -47,7 +51,7 @@ watch_inputs words = behind_flags (behind_kept (behind_flags words))
 
 -- no option
 abbrev pub no_options : WatchOptions
-no_options = record { quiet = false; json = false }
+no_options = record { quiet = false; json = false; time = false }
 
 -- the file that is to be compared with what is found, if two words name the map and the log
 abbrev pub kept_file : List (List ℕ) → Option (List ℕ)

@@ -11,6 +11,8 @@ pub struct WatchOptions {
     pub quiet: bool,
     /// Whether each line is an object of JSON.
     pub json: bool,
+    /// Whether the log's time and channel stand before each answer.
+    pub time: bool,
 }
 
 impl WatchOptions {
@@ -21,6 +23,7 @@ impl WatchOptions {
         WatchOptions {
             quiet: says(words, "--quiet"),
             json: says(words, "--json"),
+            time: says(words, "--time"),
         }
     }
 
@@ -31,6 +34,7 @@ impl WatchOptions {
         WatchOptions {
             quiet: false,
             json: false,
+            time: false,
         }
     }
 }
@@ -49,7 +53,7 @@ pub fn is_only(words: &[String], word: &str) -> bool
 fn is_flag(word: &str) -> bool
     ensures { result ≡ is_watch_flag word.now }
 {
-    word == "--quiet" || word == "--json"
+    word == "--quiet" || word == "--json" || word == "--time"
 }
 
 /// How many such options stand at the beginning.
