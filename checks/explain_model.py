@@ -1,7 +1,7 @@
 #!/usr/bin/env python3
 """explain_model.py MAP LOG: what `explain` prints, and its status in the last line; by the CMAC of Python's `cryptography`.
 
-It looks for no fault of the map. As a module it draws maps and logs, too (checks/explain_rows).
+It looks for no fault of the map. As a module it makes PDUs, too (checks/explain_rows, checks/explain_trial).
 """
 import re
 import sys
@@ -27,6 +27,19 @@ def covered(data_id, payload, freshness, swap_id=False, swap_freshness=False):
         + payload
         + freshness.to_bytes(8, "little" if swap_freshness else "big")
     )
+
+
+def pdu(key, data_id, payload, freshness, last=False, **swaps):
+    """A Secured PDU, made as the standard says or otherwise."""
+    mac = cmac(key, covered(data_id, payload, freshness, **swaps))
+    return payload + bytes([freshness & 0xFF]) + (mac[-3:] if last else mac[:3])
+
+
+def inverted(data, bit):
+    """The data with one bit inverted."""
+    data = bytearray(data)
+    data[bit // 8] ^= 1 << bit % 8
+    return bytes(data)
 
 
 class Line:
@@ -110,9 +123,7 @@ class Search:
         self.within("authenticator is the CMAC's last bytes", own, last=True)
         for bit in range(8 * (own.size + 4)):
             if bit // 8 < len(data):
-                flipped = bytearray(data)
-                flipped[bit // 8] ^= 1 << bit % 8
-                self.within(f"bit {bit % 8} of byte {bit // 8} is flipped", own, data=bytes(flipped))
+                self.within(f"bit {bit % 8} of byte {bit // 8} is flipped", own, data=inverted(data, bit))
 
     def reason(self):
         try:
