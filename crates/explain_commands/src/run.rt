@@ -21,6 +21,7 @@ const USAGE: &str = "usage: explain MAP LOG\n";
 const HELP: &str = "usage: explain MAP LOG
 Says why frames of LOG that MAP names aren't accepted: the first reason that holds (AUTOSAR SecOC, profile 1).
 LOG is a log of candump -L; - is standard input. MAP is a map of watch.
+explain --locate [--from N] [--to N] MAP LOG finds each FRESH of MAP that is ?, and prints MAP with it.
 Status 0: each mapped frame was accepted, and one at least for each line of MAP that isn't optional.
 1: a mapped frame wasn't accepted. 3: a line of MAP accepted none. 2: usage. 4: MAP. 5, 8: input. 6: output. 7: memory.
 ";
